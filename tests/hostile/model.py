@@ -67,10 +67,10 @@ class Model:
     def __init__(self, play, simulate):
         self.play, self.simulate_script = play, simulate
 
-    def answer(self, command, files, limit=MAX_CHIPS, large=False, ring=1, rounds=0, fed=False, **_):
+    def answer(self, command, files, limit=MAX_CHIPS, large=False, ring=1, rounds=0, fed=False, complete=False, **_):
         """What the program must answer to a command and its files, each some bytes; threads change nothing.
 
-        A third file of `run` is the one of its feeds.
+        A third file of `run` is the one of its feeds, and one of `plain` a guess, which changes nothing either.
         """
         limits = LARGE if large else STANDARD
         try:
@@ -82,13 +82,17 @@ class Model:
             chips = read_chips(files[1], graph, limits)
             if command == "run" and len(files) > 2:
                 chips = with_feeds(chips, read_chips(files[2], graph))
+            if command == "avalanches":
+                return dropped(graph, chips, read_pairs(files[2], graph, b"chips", limits, may_repeat=True))
+            if command == "plain" and len(files) > 2:
+                read_guess(files[2], graph, limits)
             if command == "verify":
                 return verified(graph, chips, files[2], limit, limits)
             if command in ("plain", "run"):
                 return report_answer(graph, chips, limit)
             if command == "simulate":
                 return self.simulated(graph, chips, read_schedule(files[2], graph), limit, ring, rounds, fed)
-            return replayed(graph, chips, read_traces(files[2], graph), limit)
+            return replayed(graph, chips, read_traces(files[2], graph), limit, complete)
         except Fault as fault:
             return Answer(fault=str(fault), status=1)
 
@@ -293,18 +297,33 @@ def numbers(i, *fields):
     return [int(field) for field in fields]
 
 
-def read_chips(text, graph, limits=STANDARD):
-    found = {}
-    for i, row in read_rows(text, [b"vertex", b"chips"], limits):
-        vertex, chips = numbers(i, *row)
+def read_pairs(text, graph, name, limits=STANDARD, may_repeat=False):
+    """The vertices that rows name with their numbers of this name, in order."""
+    found, named = [], set()
+    for i, row in read_rows(text, [b"vertex", name], limits):
+        vertex, number = numbers(i, *row)
         if vertex >= graph["vertices"]:
             raise Fault(f"26 Vertex {i}")
-        if vertex in found:
+        if vertex in named and not may_repeat:
             raise Fault(f"27 Repeated {i}")
-        found[vertex] = chips
+        named.add(vertex)
+        found.append((vertex, number))
+    return found
+
+
+def read_chips(text, graph, limits=STANDARD):
+    found = dict(read_pairs(text, graph, b"chips", limits))
     if sum(found.values()) > MAX_CHIPS:
         raise Fault("10 Total")
     return [found.get(v, 0) for v in range(graph["vertices"])]
+
+
+def read_guess(text, graph, limits):
+    """Looks whether a guess is one: a report, or rows."""
+    if not whole(text, limits).startswith(b"{"):
+        read_pairs(text, graph, b"fired", limits)
+    elif len(read_report(text, limits)[0]) != graph["vertices"]:
+        raise Fault("52 Mismatch")
 
 
 def with_feeds(chips, feeds):
@@ -349,13 +368,14 @@ def degrees(graph):
     return found
 
 
-def play(graph, chips, limit):
-    """Fires until no vertex may; the chips are changed, and the counts and the vertices at the limit come back."""
+def play(graph, chips, limit, before=None):
+    """Fires until no vertex may, beyond the counts before; the chips are changed, and the counts and the vertices at the
+    limit come back."""
     degree, sink = degrees(graph), graph["sink"]
     out = [[] for _ in chips]
     for tail, head, mult in graph["edges"]:
         out[tail].append((head, mult))
-    fired = [0] * len(chips)
+    fired = list(before or [0] * len(chips))
     movers = [v for v in range(len(chips)) if v != sink]
     for _ in range(MAX_ROUNDS):
         is_still = True
@@ -370,6 +390,24 @@ def play(graph, chips, limit):
         if is_still:
             return fired, [v for v in movers if chips[v] >= degree[v]]
     raise Unjudged
+
+
+def dropped(graph, chips, drops):
+    """The rows of drops, until the limit stops one."""
+    if sum(chips) + sum(count for _, count in drops) > MAX_CHIPS:
+        raise Fault("10 Total")
+    lines = ["vertex,chips,size,extent,lost"]
+    fired, over = play(graph, chips, MAX_CHIPS)
+    for vertex, count in drops:
+        if over:
+            break
+        chips[vertex] += count
+        lost, before = -chips[graph["sink"]], fired
+        fired, over = play(graph, chips, MAX_CHIPS, before)
+        more = [after - first for first, after in zip(before, fired)]
+        row = vertex, count, sum(more), sum(it > 0 for it in more), lost + chips[graph["sink"]]
+        lines += [] if over else [",".join(map(str, row))]
+    return Answer("".join(f"{line}\n" for line in lines).encode(), status=2 if over else 0)
 
 
 def report_answer(graph, chips, limit, prior=None):
@@ -496,20 +534,34 @@ class Replay:
                 if self.next_of(v) == state:
                     raise Fault(f"70 Stuck {v} {self.used[v]}")
 
+    def left(self):
+        """The lines of what is left: messages that were not taken, and vertices that have the chips to fire."""
+        waiting = [len(sent) - taken for sent, taken in zip(self.messages, self.taken)]
+        lines = [f"left: edge {e} has {count} messages\n" for e, count in enumerate(waiting) if count]
+        for v, chips in enumerate(self.chips):
+            if v != self.graph["sink"] and chips >= self.degree[v]:
+                lines.append(f"left: vertex {v} {'can fire' if self.fired[v] < self.limit else 'is at its limit'}\n")
+        return "".join(lines).encode()
+
     def use_until_fire(self, v):
         """Takes the rows of a vertex before its next firing, as far as they fit."""
         while self.next_of(v) == "fits" and self.traces[v][self.used[v]][0] == "take":
             self.use(v)
 
 
-def replayed(graph, chips, traces, limit):
-    Replay(graph, chips, traces, limit).use_all()
-    return Answer(lambda out: faults_of_firings(Replay(graph, chips, traces, limit), out))
+def replayed(graph, chips, traces, limit, complete):
+    used = Replay(graph, chips, traces, limit)
+    used.use_all()
+    left = used.left() if complete else b""
+    return Answer(lambda out: faults_of_firings(Replay(graph, chips, traces, limit), out, left), status=2 if left else 0)
 
 
-def faults_of_firings(replay, out):
-    """What is wrong with the lines of a replay: each must be the next firing of its vertex, when it may come."""
-    for line in out.splitlines(keepends=True):
+def faults_of_firings(replay, out, left):
+    """What is wrong with the lines of a replay: each must be the next firing of its vertex, when it may come, before the
+    lines of what is left."""
+    if not out.endswith(left):
+        return [f"expected {left!r} at the end of {out!r}"]
+    for line in out[: len(out) - len(left)].splitlines(keepends=True):
         found = re.fullmatch(rb"fire (%b) (%b)\n" % (NUMBER, NUMBER), line)
         v, count = (int(found[1]), int(found[2])) if found else (0, 0)
         if not found or v >= len(replay.traces):

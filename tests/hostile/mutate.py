@@ -2,7 +2,7 @@
 import json
 
 EVENTS = ["take", "ack", "fire", "clear", "claim", "put", "halt", "settle", "seal", "read", "feed", "end"]
-COMMANDS = ["check", "plain", "simulate", "run", "replay", "resume", "verify"]
+COMMANDS = ["check", "plain", "avalanches", "simulate", "run", "replay", "resume", "verify"]
 NUMBERS = [
     b"0", b"1", b"2", b"3", b"00", b"01", b"-0", b"-1", b"+1", b"1.0", b"1.5", b"1e0", b"1e400", b"4096", b"4097",
     b"65536", b"1048576", b"1048577", b"1099511627776", b"1099511627777", b"1152921504606846976",
@@ -14,7 +14,7 @@ PIECES = NUMBERS + [
     b"\x1f", b"\x7f", b"\xc3", b"\xc3\xa4", b"\xed\xa0\x80", b"\xef\xbb\xbf", b"{}", b"[]", b"[" * 130, b"[0,1,1],",
     b"null", b"true", b"false", b"NaN", b"Infinity", b"\\u0041", b"\\ud800", b"\\udc00\\ud800", b"\\ud83d\\ude00",
     b'"x":0', b',"version":2', b'"prior":[0]', b'"over":[]', b"vertex,chips\n", b"event,at,count\n",
-    b"vertex,kind,edge,count\n", b"take", b"fire", b"feed", b"end", b"0,0\n", b"1,5\n",
+    b"vertex,kind,edge,count\n", b"vertex,fired\n", b"take", b"fire", b"feed", b"end", b"0,0\n", b"1,5\n",
 ]
 
 
@@ -44,6 +44,23 @@ def chips_text(chips, draw):
     listed = [(v, count) for v, count in enumerate(chips) if count or draw.random() < 0.5]
     draw.shuffle(listed)
     return rows("vertex,chips", listed)
+
+
+def drops_text(graph, draw):
+    """Drops on vertices at random, of few chips and of many."""
+    most = draw.choice([1, 1, 3, 60])
+    return rows("vertex,chips", [(draw.randrange(graph["vertices"]), draw.randint(0, most)) for _ in range(draw.randint(0, 20))])
+
+
+def guess_text(graph, chips, draw, played):
+    """A guess, of a report or of rows; it may be right."""
+    told = json.loads(played(graph, chips)) if draw.random() < 0.5 else {}
+    fired = told.get("fired", [draw.choice([0, 1, 9, 1 << 63]) for _ in chips])
+    if draw.random() < 0.3:
+        fired[draw.randrange(len(fired))] += 1
+    if draw.random() < 0.3:
+        return report_text(graph, chips, draw)
+    return rows("vertex,fired", draw.sample([*enumerate(fired)], len(fired)))
 
 
 def schedule_text(graph, draw):
@@ -100,7 +117,8 @@ def report_text(graph, chips, draw):
 
 
 def random_files(command, draw, replay, played):
-    """The files of a command, as bytes; `run` may have a third one, of feeds. `played` tells the report of a game."""
+    """The files of a command, as bytes; `run` may have a third one, of feeds, and `plain` one, a guess. `played` tells
+    the report of a game."""
     graph = random_graph(draw)
     chips = chips_of(graph, draw)
     texts = [json.dumps(graph, separators=draw.choice([(",", ":"), (", ", ": ")]))]
@@ -115,6 +133,10 @@ def random_files(command, draw, replay, played):
     elif command == "verify":
         told = played(graph, chips) if draw.random() < 0.5 else None
         texts.append(told or report_text(graph, chips, draw))
+    elif command == "avalanches":
+        texts.append(drops_text(graph, draw))
+    elif command == "plain" and draw.random() < 0.5:
+        texts.append(guess_text(graph, chips, draw, played))
     elif command == "run" and draw.random() < 0.6:
         texts.append(chips_text(chips_of(graph, draw), draw))
     return [text.encode() for text in texts]

@@ -9,7 +9,8 @@ import mutate
 
 NAMES = {
     "check": ["graph.json"],
-    "plain": ["graph.json", "chips.csv"],
+    "plain": ["graph.json", "chips.csv", "guess.csv"],
+    "avalanches": ["graph.json", "chips.csv", "drops.csv"],
     "simulate": ["graph.json", "chips.csv", "schedule.csv"],
     "run": ["graph.json", "chips.csv", "feed.csv"],
     "replay": ["graph.json", "chips.csv", "trace.csv"],
@@ -21,13 +22,15 @@ NAMES = {
 def options_of(command, draw):
     """Options of a command at random, by their names."""
     options = {}
-    if command != "check" and draw.random() < 0.5:
+    if command not in ("check", "avalanches") and draw.random() < 0.5:
         options["limit"] = draw.choice([0, 1, 2, 5, 1 << 40])
-    if command in ("check", "plain", "resume", "verify"):
+    if command in ("check", "plain", "avalanches", "resume", "verify"):
         options.update(large=draw.random() < 0.5)
     if command == "simulate":
         options.update(ring=draw.choice([1, 1, 2, 3, 64]), rounds=draw.choice([0, 1, 3, 50]))
         options.update(fed=draw.random() < 0.5)
+    if command == "replay":
+        options.update(complete=draw.random() < 0.5)
     if command == "run":
         options.update(ring=draw.choice([1, 1, 2, 3, 64]), workers=draw.choice([1, 2, 3, 8]))
         options.update(dealt=draw.random() < 0.5)
@@ -42,11 +45,12 @@ def words_of(name, value):
 
 
 def placed(command, paths, draw):
-    """The files of a command as words; that of feeds belongs to an option, which may stand anywhere among them."""
-    if command != "run" or len(paths) < 3:
+    """The files of a command as words; feeds and a guess belong to an option, which may stand anywhere among them."""
+    option = {"run": "--feed", "plain": "--guess"}.get(command)
+    if option is None or len(paths) < 3:
         return paths
     at = draw.randrange(3)
-    return [*paths[:at], "--feed", paths[2], *paths[at:2]]
+    return [*paths[:at], option, paths[2], *paths[at:2]]
 
 
 def played(graph, chips):
@@ -57,7 +61,7 @@ def played(graph, chips):
 def judged(reference, draw):
     """A command at random, its files, mutated, its options, and the answer that must come.
 
-    A third file of `run` is the one of its feeds.
+    A third file of `run` is the one of its feeds, and one of `plain` a guess.
     """
     while True:
         command = draw.choice(mutate.COMMANDS)

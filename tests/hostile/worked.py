@@ -12,6 +12,8 @@ FILE_ENDS = (".json", ".csv")
 TRACE = "{trace}"
 TRACE_HEADER = b"vertex,kind,edge,count\n"
 CHIPS_HEADER = b"vertex,chips\n"
+# Five more chips on vertex 0 of the triangle, after four: 6,0,3 fires three times at 0 and once at 1.
+DROPPED = b"vertex,chips,size,extent,lost\n0,5,4,2,4\n"
 
 
 @dataclasses.dataclass
@@ -140,8 +142,12 @@ def worked_runs(examples):
             "path/report.json",
             near_limit="1000",
         ),
+        run("guessed by a report", f"plain {triangle} --guess triangle/report.json", "triangle/report.json"),
+        run("a guess that is chips", f"plain {triangle} --guess triangle/chips.csv", fault="23 Header", status=1),
         run("small triangle, large", f"plain {triangle} --large", "triangle/report.json"),
         run("no words", "", "triangle/report.json"),
+        run("dropped", f"avalanches {triangle} sittings/chips.csv", out=DROPPED),
+        run("drops that are a graph", f"avalanches {triangle} triangle/graph.json", fault="23 Header", status=1),
         run("graph of the chain", "check chain/graph.json", "chain/check.txt"),
         run("graph of the chain, large", "check --large chain/graph.json", "chain/check.txt"),
         run("first sitting", "plain triangle/graph.json sittings/chips.csv --limit 1", "sittings/first.json", status=2),
@@ -156,6 +162,7 @@ def worked_runs(examples):
             status=2,
         ),
         run("left open", f"simulate {triangle} detector/left-open.csv", "detector/left-open.txt", status=3),
+        run("replayed to its end", f"replay --complete {triangle} triangle/trace.csv", out=b"fire 0 2\nfire 1 1\n"),
         run("replayed run", f"replay {triangle} triangle/trace.csv", out=b"fire 0 2\nfire 1 1\n"),
         run(
             "on two threads",

@@ -62,7 +62,7 @@ from chipfire.pictures import PALETTES, Picture
 from chipfire.process import Fault, ProgramNotFound, TraceCut, version
 from chipfire.process import find_program as find_program, start_program as start_program
 from chipfire.program import (
-    Check, Program, check, explain, identity, plain, read_chips, replay, resume, run, simulate, write_chips,
+    Check, Program, check, explain, identity, plain, read_chips, replay, resume, run, simulate, verify, write_chips,
 )
 from chipfire.reports import Report
 from chipfire.sandpiles import (
@@ -91,7 +91,7 @@ __all__ = [
     "recurrent_representative", "recurrents", "reduced_laplacian", "stabilize", "superstable_representative",
     "superstables",
     # the program
-    "Check", "Fault", "Program", "ProgramNotFound", "check", "explain", "plain", "resume",
+    "Check", "Fault", "Program", "ProgramNotFound", "check", "explain", "plain", "resume", "verify",
     # the machine; its words are in chipfire.machine, and here too
     "TraceCut", "machine", "page", "recorded", "replay", "run", "simulate",
     # schedules, on a model that is not proved

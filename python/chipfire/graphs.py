@@ -221,6 +221,13 @@ class Graph:
             into[head] += mult
         return tuple(out), tuple(into)
 
+    def position_after(self, chips: Sequence[int], counts: Sequence[int]) -> list[int]:
+        """The chips of each vertex after so many firings of each, legal or not; counts below 0 take firings back."""
+        found = [there - count * degree for there, count, degree in zip(chips, counts, self.degrees())]
+        for tail, head, mult in zip(*self.columns):
+            found[head] += mult * counts[tail]
+        return found
+
     def outs(self, vertex: int) -> list[int]:
         """The numbers of the edges out of a vertex, ascending."""
         return [edge for edge, tail in enumerate(self.columns.tails) if tail == vertex]

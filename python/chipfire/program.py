@@ -15,9 +15,9 @@ from chipfire.graphs import Graph
 from chipfire.machine import (
     Event, Firing, Schedule, Setting, Simulation, has_notes, read_schedule, schedule_text, trace_text,
 )
-from chipfire.process import Input, Kept, ask, find_program
+from chipfire.process import Fault, Input, Kept, ask, find_program
 from chipfire.reports import Report
-from chipfire.values import FILE, MAX_LIMIT, FileName, whole, write
+from chipfire.values import FILE, MAX_CHIPS, MAX_LIMIT, FileName, whole, write
 
 if TYPE_CHECKING:
     from typing_extensions import Concatenate, ParamSpec
@@ -108,6 +108,34 @@ def plain(
     question = _Question(graph, program)
     options = {**_numbers(limit=(limit, 0, MAX_LIMIT)), "progress": progress}
     return Report.parse(question.ask("plain", [question.chips(chips)], options), question.graph)
+
+
+def verify(
+    graph: AnyGraph, chips: Chips, report: Report | Chips, *, limit: int | None = None, large: bool = False,
+    progress: bool = False, program: AnyProgram = None,
+) -> bool:
+    """Whether a report is what `plain` finds for this game and limit; or, in a form of chips, whether counts are those.
+
+    A name is that of the file of a report. One that was stopped by a smaller limit may be honest, and is not verified.
+    Proved: the verdict on a report. Not proved: the chips that counts alone leave, which Python computes.
+    """
+    question = _Question(graph, program)
+    if not isinstance(report, (Report, *FILE)):
+        counts = question.graph.numbers(report)
+        left = question.graph.position_after(known_chips(question.graph, chips, program), counts)
+        over = [vertex for vertex, degree in enumerate(question.graph.degrees()) if 0 < degree <= left[vertex]]
+        if min(*left, *counts) < 0 or max(*left, *counts) > MAX_CHIPS or counts[question.graph.sink]:
+            return False
+        report = Report(tuple(left), counts, tuple(over))
+    file = Kept([report.text().encode()]) if isinstance(report, Report) else report
+    options = {**_numbers(limit=(limit, 0, MAX_LIMIT)), "progress": progress}
+    try:
+        question.ask("verify", [question.chips(chips), ("report", file)], options, "verified\n")
+    except Fault as fault:
+        if fault.name == "Differs":
+            return False
+        raise
+    return True
 
 
 def run(
@@ -238,6 +266,7 @@ class Program:
 
     check = _method(check)
     plain = _method(plain)
+    verify = _method(verify)
     run = _method(run)
     simulate = _method(simulate)
     replay = _method(replay)

@@ -113,10 +113,7 @@ class Report(Drawn):
         """Whether some play on the graph, from no less than 0 chips anywhere, could have ended as the report says."""
         if graph.vertices != len(self.chips):
             return False
-        total, degrees = self.total, graph.degrees()
-        start = [count + times * degree for count, times, degree in zip(self.chips, total, degrees)]
-        for tail, head, mult in zip(*graph.columns):
-            start[head] -= mult * total[tail]
+        degrees, start = graph.degrees(), graph.position_after(self.chips, [-count for count in self.total])
         # (what a sealed edge held back lies where it would have gone, and may make a vertex legal that never stopped)
         legal = {vertex for vertex, count in enumerate(self.chips) if count >= degrees[vertex] and not self.sealed}
         return min(start) >= 0 and legal <= {*self.over, graph.sink}

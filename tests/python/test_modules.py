@@ -13,7 +13,7 @@ import chipfire
 
 PACKAGE = os.path.dirname(chipfire.__file__)
 MODULES = sorted(name[:-3] for name in os.listdir(PACKAGE) if name.endswith(".py"))
-COMMANDS = ("check", "plain", "run", "simulate", "replay", "resume", "explain", "identity")
+COMMANDS = ("check", "plain", "run", "simulate", "replay", "resume", "explain", "identity", "verify")
 
 #: What somebody writes who has his own code checked.
 USE = """
@@ -27,7 +27,7 @@ chips: dict[int, int] = {4: 9}
 report = chipfire.plain(grid, chips, limit=3, large=True)
 left: tuple[int, ...] = report.chips
 sum_: chipfire.Configuration = report.configuration + grid.max_stable() - 2 * chipfire.identity(grid)
-print(sum_[0] + 1, chipfire.Program().resume(grid, report).total, chipfire.machine.Schedule().take(4).fire(0, 2))
+print(sum_[0] + 1, chipfire.Program().verify(grid, chips, report), chipfire.machine.Schedule().take(4).fire(0, 2))
 setting = chipfire.Setting(grid, (4,) * grid.vertices)
 found: Optional[chipfire.Schedule] = chipfire.explore(setting, "at-once", most=10_000).schedule
 class Own(chipfire.model.Core):

@@ -17,14 +17,15 @@ if TYPE_CHECKING:
 
 Numbers = Sequence[int]
 CHIPS_HEADER = ("vertex", "chips")
+GUESS_HEADER = ("vertex", "fired")
 
 
-def chips_parts(chips: Numbers) -> list[bytes]:
-    """The text of a chips file. (What are too many chips anyway has a number that the program reads.)"""
+def chips_parts(chips: Numbers, header: Sequence[str] = CHIPS_HEADER) -> list[bytes]:
+    """The text of a chips file, or of a guess. (What is too much anyway has a number that the program reads.)"""
     if max(chips, default=0) > MAX_CHIPS:
         chips = [min(count, MAX_CHIPS + 1) for count in chips]
     rows = [f"{vertex},{count}\n" for vertex, count in enumerate(chips) if count]
-    return ["".join([",".join(CHIPS_HEADER), "\n", *rows]).encode()]
+    return ["".join([",".join(header), "\n", *rows]).encode()]
 
 
 def stabilized(graph: Graph, chips: Numbers, program: FileName | None = None) -> tuple[list[int], list[int]]:

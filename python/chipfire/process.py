@@ -82,7 +82,7 @@ class Kept:
         weakref.finalize(self, file.close)
 
 
-#: What is meant by a file, and the file, by its name or as it is kept here.
+#: What is meant by a file, or the option that names it, and the file, by its name or as it is kept here.
 Input = tuple[str, Union[FileName, Kept]]
 
 
@@ -149,7 +149,7 @@ def ask(
     path = find_program() if program is None else os.fspath(program)
     options = {"large": graph is None or graph.is_large, **(options or {})}
     given = {name: value for name, value in options.items() if value is not None and value is not False}
-    words = [command, *(f"--feed={_word(file)}" if kind == "feed" else _word(file) for kind, file in inputs)]
+    words = [command, *(f"{kind}=" * kind.startswith("--") + _word(file) for kind, file in inputs)]
     words += [f"--{name}" if value is True else f"--{name}={value}" for name, value in given.items()]
     kept = [file.number for _, file in inputs if isinstance(file, Kept)]
     status, output, errors = _started([path, *words], kept)
@@ -182,7 +182,7 @@ def _meant(
     if number in (1, 3, 30):
         return f"{words[0]} takes 1 to {vertices} vertices, up to {edges} edges, and files of up to {size} bytes."
     if number == 92:
-        return f"{words[place[0]].removeprefix('--feed=')} cannot be opened, or is also written"
+        return f"{re.sub('^--[a-z]+=', '', words[place[0]])} cannot be opened, or is also written"
     kinds = {kind: file for kind, file in inputs if not isinstance(file, Kept) or kind in ("schedule", "trace")}
     if number in (*_OF_GRAPH, *_OF_ROWS):
         kinds = {kind: file for kind, file in kinds.items() if (kind == "graph") == (number in _OF_GRAPH)}

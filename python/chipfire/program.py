@@ -72,8 +72,8 @@ class _Question:
     def graph(self) -> Graph:
         return known_graph(self.given, self.program)
 
-    def chips(self, chips: Chips, kind: str = "chips") -> Input:
-        return kind, chips if isinstance(chips, FILE) else Kept(burning.chips_parts(self.graph.chips(chips)))
+    def chips(self, chips: Chips, kind: str = "chips", header: Sequence[str] = burning.CHIPS_HEADER) -> Input:
+        return kind, chips if isinstance(chips, FILE) else Kept(burning.chips_parts(self.graph.chips(chips), header))
 
     def ask(self, command: str, inputs: Sequence[Input], options: dict[str, Any], *begins: str) -> str:
         return ask(self.program, command, [self.file, *inputs], options, self.own, *begins)
@@ -97,17 +97,23 @@ def check(graph: AnyGraph, *, large: bool = False, program: AnyProgram = None) -
 
 
 def plain(
-    graph: AnyGraph, chips: Chips, *, limit: int | None = None, large: bool = False, progress: bool = False,
-    program: AnyProgram = None,
+    graph: AnyGraph, chips: Chips, *, limit: int | None = None, guess: Chips | Report | None = None,
+    large: bool = False, progress: bool = False, program: AnyProgram = None,
 ) -> Report:
     """Stabilizes: plays on one thread until no vertex is legal, or all that are have fired `limit` times.
 
-    With `progress` there is a line on `sys.stderr`, once a second at most, that tells how the play goes on. `large` is
-    not needed: a graph may have up to 1,048,576 vertices and 8,388,608 edges.
+    `guess` says how often each vertex may have fired in the end, in one of the forms of chips, or by a report. It
+    changes no answer; one that is true or nearly so saves the most of the play. With `progress` there is a line on
+    `sys.stderr`, once a second at most, that tells how the play goes on. `large` is not needed: a graph may have up to
+    1,048,576 vertices and 8,388,608 edges.
     """
     question = _Question(graph, program)
     options = {**_numbers(limit=(limit, 0, MAX_LIMIT)), "progress": progress}
-    return Report.parse(question.ask("plain", [question.chips(chips)], options), question.graph)
+    counts = guess.total if isinstance(guess, Report) else guess
+    files = [question.chips(chips)]
+    if counts is not None:
+        files.append(question.chips(counts, "--guess", burning.GUESS_HEADER))
+    return Report.parse(question.ask("plain", files, options), question.graph)
 
 
 def verify(
@@ -155,7 +161,7 @@ def run(
     options = _numbers(limit=(limit, 0, MAX_LIMIT), ring=(ring, 1, 64), workers=(workers, 1, 64))
     options |= _numbers(turns=(turns, 1, 2**40), trace_rows=(trace_rows, 0, 2**20))
     options |= {"dealt": dealt, "progress": progress, "trace": None if trace is None else os.path.abspath(trace)}
-    files = [question.chips(chips), *([] if feed is None else [question.chips(feed, "feed")])]
+    files = [question.chips(chips), *([] if feed is None else [question.chips(feed, "--feed")])]
     return Report.parse(question.ask("run", files, options), question.graph)
 
 

@@ -1,11 +1,12 @@
-"""Counts of firings from anywhere, which are verified: against the slow player of examples/play.py."""
+"""Counts of firings from anywhere, which are verified or begin a play: against the slow player of examples/play.py."""
 import itertools
+import os
 import random
 import unittest
 
 import chipfire
 import play
-from test_package import CHIPS_FILE, EXAMPLES, TRIANGLE, TRIANGLE_FILE
+from test_package import CHIPS_FILE, EXAMPLES, TRIANGLE, TRIANGLE_FILE, WithFolder, text_of
 from test_sandpile_words import DIRECTED, random_graph
 from test_sandpiles import has
 
@@ -81,6 +82,41 @@ class Verify(unittest.TestCase):
         counts = numpy.array(slow_report(grid, [7] * 6 + [0]).fired[:6]).reshape(2, 3)
         self.assertTrue(chipfire.verify(grid, 7, counts.astype(float)))
         self.assertFalse(chipfire.verify(grid, 7, counts + 1))
+
+
+class Guesses(WithFolder):
+    def test_a_guess_changes_no_answer(self):
+        for graph, chips, report in games():
+            draw, inner = random.Random(1), [int(at != graph.sink) for at in range(graph.vertices)]
+            more, less = ([max(count + by * it, 0) for count, it in zip(report.fired, inner)] for by in (1, -1))
+            drawn, great = ([it * draw.choice(range(0, most, most // 8)) for it in inner] for most in (8, 2**63))
+            for guess in (report, report.fired, report.odometer, more, less, drawn, great, 2**64 + 1, {}):
+                with self.subTest(graph=graph, chips=chips, guess=guess):
+                    self.assertEqual(chipfire.plain(graph, chips, guess=guess), report)
+            first = slow_report(graph, chips, 2)
+            self.assertEqual(chipfire.plain(graph, chips, limit=2, guess=report), first)
+
+    def test_a_guess_is_handed_on_in_rows_or_by_its_name(self):
+        line = 'for it; do case $it in --guess=*) cat "${it#--guess=}" >' + self.file("handed") + "; esac; done"
+        program = self.program(line)
+        last = chipfire.Report((1, 1, 3), (1, 0, 0), prior=(1, 1, 0))
+        for guess in ([2, 1, 0], {0: 2, 1: 1}, last, self.file("guess.csv", "vertex,fired\n0,2\n1,1\n")):
+            chipfire.plain(TRIANGLE, [4, 0, 0], guess=guess, program=program)
+            self.assertEqual(text_of(self.file("handed")), "vertex,fired\n0,2\n1,1\n")
+            os.remove(self.file("handed"))
+
+    def test_a_guess_of_a_file_that_is_a_report(self):
+        chipfire.plain(TRIANGLE, [9, 0, 0]).write(self.file("report.json"))
+        self.assertEqual(chipfire.plain(TRIANGLE, [4, 0, 0], guess=self.file("report.json")).fired, (2, 1, 0))
+
+    def test_what_is_no_guess_of_the_graph(self):
+        for guess in ([1], [1, 2, 3, 4], [-1, 0, 0], chipfire.plain(chipfire.path(5), 1)):
+            with self.assertRaises(ValueError):
+                chipfire.plain(TRIANGLE, [5, 0, 0], guess=guess)
+        with self.assertRaises(chipfire.Fault) as raised:
+            chipfire.plain(TRIANGLE, [5, 0, 0], guess=self.file("guess.csv", "vertex,fired\n0,1\n7,1\n"))
+        self.assertEqual((raised.exception.number, raised.exception.place), (26, (1,)))
+        self.assertIn("guess.csv", str(raised.exception))
 
 
 if __name__ == "__main__":

@@ -31,7 +31,8 @@ Who comes from sandpiles finds the usual words under these names:
     equivalent, q-reduced      recurrent_representative(graph, chips), superstable_representative(graph, chips)
     sandpile group             order(graph), invariant_factors(graph), Configuration.order()
     Laplacian                  laplacian(graph), reduced_laplacian(graph)
-    avalanche                  avalanche(graph, chips, vertex), avalanches(graph, chips, vertices)
+    avalanche                  avalanche(graph, chips, vertex), avalanches(graph, chips, vertices); by the million:
+                               drops(graph, chips, vertices), with random_drops(graph, count, seed)
 
 Reports and configurations are drawn by `image` and `show`, plays by `frames`. The words of the distributed machine
 (schedules, replies, books, traces) are told of in `chipfire.machine`.
@@ -48,6 +49,7 @@ from chipfire import machine
 from chipfire.animation import Frames, frames, frames_by_chips
 from chipfire.burning import CHIPS_HEADER as CHIPS_HEADER
 from chipfire.chips import Chips, Configuration
+from chipfire.dropped import Drops
 from chipfire.graphs import (
     Graph, aztec, complete, cycle, from_networkx, from_sage, grid, path, region, torus, wheel,
 )
@@ -62,13 +64,14 @@ from chipfire.pictures import PALETTES, Picture
 from chipfire.process import Fault, ProgramNotFound, TraceCut, version
 from chipfire.process import find_program as find_program, start_program as start_program
 from chipfire.program import (
-    Check, Program, check, explain, identity, plain, read_chips, replay, resume, run, simulate, verify, write_chips,
+    Check, Program, check, drops, explain, identity, plain, read_chips, replay, resume, run, simulate, verify,
+    write_chips,
 )
 from chipfire.reports import Report
 from chipfire.sandpiles import (
     Avalanche, add, avalanche, avalanches, burning_configuration, burning_script, invariant_factors, is_recurrent,
-    is_stable, is_superstable, laplacian, order, recurrent_representative, recurrents, reduced_laplacian, stabilize,
-    superstable_representative, superstables,
+    is_stable, is_superstable, laplacian, order, random_drops, recurrent_representative, recurrents, reduced_laplacian,
+    stabilize, superstable_representative, superstables,
 )
 from chipfire.schedules import explore, judge, random_schedule, shiviz, shrink
 from chipfire.values import (
@@ -86,10 +89,10 @@ __all__ = [
     "frames", "frames_by_chips", "from_networkx", "from_sage", "grid", "path", "read_chips", "region", "torus",
     "wheel", "write_chips",
     # the words of sandpiles
-    "Avalanche", "add", "avalanche", "avalanches", "burning_configuration", "burning_script", "identity",
-    "invariant_factors", "is_recurrent", "is_stable", "is_superstable", "laplacian", "order",
-    "recurrent_representative", "recurrents", "reduced_laplacian", "stabilize", "superstable_representative",
-    "superstables",
+    "Avalanche", "Drops", "add", "avalanche", "avalanches", "burning_configuration", "burning_script", "drops",
+    "identity", "invariant_factors", "is_recurrent", "is_stable", "is_superstable", "laplacian", "order",
+    "random_drops", "recurrent_representative", "recurrents", "reduced_laplacian", "stabilize",
+    "superstable_representative", "superstables",
     # the program
     "Check", "Fault", "Program", "ProgramNotFound", "check", "explain", "plain", "resume", "verify",
     # the machine; its words are in chipfire.machine, and here too

@@ -72,7 +72,7 @@ class Fault(ValueError):
 
 
 class Kept:
-    """A file without a name that the program reads. It goes with this object, and with Python at the latest."""
+    """A file without a name that the program reads or writes. It goes with this object, at the latest with Python."""
 
     def __init__(self, parts: Iterable[bytes]) -> None:
         file = tempfile.TemporaryFile()
@@ -80,6 +80,11 @@ class Kept:
         file.flush()
         self.number = file.fileno()
         weakref.finalize(self, file.close)
+
+    def text(self) -> str:
+        """What stands in it, which the program may have written."""
+        with open(f"/dev/fd/{self.number}", encoding="utf-8", newline="") as file:
+            return file.read()
 
 
 #: What is meant by a file, or the option that names it, and the file, by its name or as it is kept here.

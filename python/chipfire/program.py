@@ -5,12 +5,13 @@ from __future__ import annotations
 import functools
 import inspect
 import os
-from collections.abc import Callable, Iterable, Sequence
+from collections.abc import Callable, Hashable, Iterable, Sequence
 from dataclasses import dataclass, replace
 from typing import TYPE_CHECKING, Any, TypeVar, Union
 
 from chipfire import burning
 from chipfire.chips import Chips, Configuration
+from chipfire.dropped import ROWS_HEADER, Drops, columns_of, parts_of
 from chipfire.graphs import Graph
 from chipfire.machine import (
     Event, Firing, Schedule, Setting, Simulation, has_notes, read_schedule, schedule_text, trace_text,
@@ -144,6 +145,24 @@ def verify(
     return True
 
 
+def drops(
+    graph: AnyGraph, chips: Chips, vertices: Iterable[Hashable] | FileName, *, large: bool = False,
+    progress: bool = False, program: AnyProgram = None,
+) -> Drops:
+    """Drops one chip after another, each on what the play of the one before it left, by one start of the program.
+
+    Before the first the chips are played to their end, if they are not stable. `vertices` are the names of the vertices
+    in the order of the drops, from anything that can be gone through once, as `random_drops`; or the name of a file of
+    rows `vertex,chips`, by which several chips may be dropped at once.
+    Proved: each row, and the report. Not proved: that Python reads them, and the histogram.
+    """
+    question, report = _Question(graph, program), Kept([])
+    file = vertices if isinstance(vertices, FILE) else Kept(parts_of(question.graph, vertices))
+    files: list[Input] = [question.chips(chips), ("drops", file), ("--report", report)]
+    size, extent, lost = columns_of(question.ask("avalanches", files, {"progress": progress}, ROWS_HEADER))
+    return Drops(size, extent, lost, Report.parse(report.text(), question.graph))
+
+
 def run(
     graph: AnyGraph, chips: Chips, *, limit: int | None = None, ring: int | None = None, workers: int | None = None,
     dealt: bool = False, turns: int | None = None, feed: Chips | None = None, trace: FileName | None = None,
@@ -273,6 +292,7 @@ class Program:
     check = _method(check)
     plain = _method(plain)
     verify = _method(verify)
+    drops = _method(drops)
     run = _method(run)
     simulate = _method(simulate)
     replay = _method(replay)

@@ -9,14 +9,19 @@ that comes to its end. What is not: all that stands here, which says what to ask
 
 from __future__ import annotations
 
-from collections.abc import Hashable, Iterable, Iterator
-from dataclasses import dataclass
+import functools
+import itertools
+import random
+from collections import Counter
+from collections.abc import Hashable, Iterable, Iterator, Sequence
+from dataclasses import dataclass, field
 from typing import Any
 
 from chipfire import burning, smith
 from chipfire.chips import Chips, Configuration
-from chipfire.program import AnyGraph, AnyProgram, known_chips, known_graph
-from chipfire.values import library
+from chipfire.dropped import PART
+from chipfire.program import AnyGraph, AnyProgram, drops, known_chips, known_graph
+from chipfire.values import library, whole
 
 
 def _held(graph: AnyGraph, chips: Chips, program: AnyProgram) -> Configuration:
@@ -186,30 +191,49 @@ def order(graph: AnyGraph) -> int:
     return smith.order(smith.reduced(known_graph(graph)))
 
 
-@dataclass(frozen=True)
+def random_drops(graph: AnyGraph, count: int, seed: Any, *, program: AnyProgram = None) -> Iterator[Hashable]:
+    """The names of so many vertices but the sink, drawn evenly by `random.Random(seed)`, one after the other."""
+    known, draw, count = known_graph(graph, program), random.Random(seed), whole(count, "the number of drops")
+    inner = [name for vertex, name in enumerate(known.names) if vertex != known.sink]
+    parts = (draw.choices(inner, k=min(PART, count - done)) for done in range(0, count, PART))
+    return itertools.chain.from_iterable(parts)
+
+
+@dataclass(frozen=True, eq=False)
 class Avalanche:
     """What one chip causes that is dropped on a stable configuration.
 
     vertex         where it was dropped, by name
+    size           how many firings it has
+    extent         how many vertices fired
+    lost           how many chips the firings brought to the sink
     fired          how often each vertex fired, of those that did, by names
     configuration  the chips that lie there after it
-    lost           how many chips went to the sink
+
+    The program is asked for the last two when they are wanted.
     """
 
     vertex: Hashable
-    fired: dict[Hashable, int]
-    configuration: Configuration
+    size: int
+    extent: int
     lost: int
+    #: A configuration before it, the drops on that, how many of them are before this one, and the program.
+    _known: tuple[Configuration, Sequence[Hashable], int, AnyProgram] = field(repr=False)
 
-    @property
-    def size(self) -> int:
-        """How many firings it has."""
-        return sum(self.fired.values())
+    def _after(self, more: int) -> tuple[list[int], list[int]]:
+        """The chips after the drops before this one and so many more, and the firings of all of them together."""
+        held, names, count, program = self._known
+        held += Counter(names[: count + more])
+        return burning.stabilized(held.graph, held.numbers, program)
 
-    @property
-    def extent(self) -> int:
-        """How many vertices fired."""
-        return len(self.fired)
+    @functools.cached_property
+    def configuration(self) -> Configuration:
+        return Configuration(self._known[0].graph, self._after(1)[0])
+
+    @functools.cached_property
+    def fired(self) -> dict[Hashable, int]:
+        names, counts = self._known[0].graph.names, zip(self._after(0)[1], self._after(1)[1])
+        return {name: after - before for name, (before, after) in zip(names, counts) if after > before}
 
 
 def avalanche(
@@ -217,7 +241,7 @@ def avalanche(
 ) -> Avalanche:
     """What happens when one chip is dropped on a vertex of a stable configuration.
 
-    Proved: how often each vertex fires, and the chips that are left. Not proved: the sums, `size` and `extent`.
+    Proved: `size`, `extent` and `lost`, and the plays of which `fired` and `configuration` come. Not proved: the rest.
     """
     return next(avalanches(graph, chips, [vertex], program=program))
 
@@ -227,22 +251,24 @@ def avalanches(
 ) -> Iterator[Avalanche]:
     """The avalanches of one chip after another: each is dropped on a vertex of what the one before it left.
 
-    They come as they are found, and each starts the program once.
-    Proved: how often each vertex fires, and the chips that are left. Not proved: the sums, `size` and `extent`.
+    They come as they are found: the program finds one first, and each time twice as many as before, up to 1,024.
+    `drops` has the numbers of all of them in columns.
+    Proved: `size`, `extent` and `lost`, and the plays of which `fired` and `configuration` come. Not proved: the rest.
     """
     held = _held(graph, chips, program)
     if not held.is_stable():
         raise ValueError("the chips are not stable: stabilize them first")
-    return _dropped(held, vertices, program)
+    return _dropped(held, iter(vertices), program)
 
 
-def _dropped(held: Configuration, vertices: Iterable[Hashable], program: AnyProgram) -> Iterator[Avalanche]:
+def _dropped(held: Configuration, vertices: Iterator[Hashable], program: AnyProgram) -> Iterator[Avalanche]:
     """The avalanches from a stable configuration on."""
-    graph = held.graph
-    for name in vertices:
-        chips = list(held.numbers)
-        chips[graph.number(name)] += 1
-        left, counts = burning.stabilized(graph, chips, program)
-        held = Configuration(graph, left)
-        fired = {graph.names[vertex]: count for vertex, count in enumerate(counts) if count}
-        yield Avalanche(name, fired, held, left[graph.sink])
+    some = 1
+    while names := list(itertools.islice(vertices, some)):
+        found = drops(held.graph, held, names, program=program)
+        columns = (column.tolist() for column in (found.size, found.extent, found.lost))
+        for place, (name, size, extent, lost) in enumerate(zip(names, *columns)):
+            yield Avalanche(name, size, extent, lost, (held, names, place, program))
+        if not found.report.closed:
+            raise ValueError("a vertex fired 2^40 times, and the chips are not stable then")
+        held, some = found.configuration, min(2 * some, 1024)

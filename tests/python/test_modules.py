@@ -13,7 +13,7 @@ import chipfire
 
 PACKAGE = os.path.dirname(chipfire.__file__)
 MODULES = sorted(name[:-3] for name in os.listdir(PACKAGE) if name.endswith(".py"))
-COMMANDS = ("check", "plain", "run", "simulate", "replay", "resume", "explain", "identity", "verify")
+COMMANDS = ("check", "plain", "run", "simulate", "replay", "resume", "explain", "identity", "verify", "drops")
 
 #: What somebody writes who has his own code checked.
 USE = """
@@ -34,6 +34,7 @@ class Own(chipfire.model.Core):
     def is_closed(self) -> bool:
         return super().is_closed()
 print(chipfire.random_schedule(setting, 1, Own).note("last"), chipfire.judge(setting, []).is_true, found)
+print(chipfire.drops(grid, chips, chipfire.random_drops(grid, 9, 1)).histogram()[0], setting)
 print(chipfire.Schedule().take(4), chipfire.MAX_CHIPS, chipfire.find_program(), chipfire.CHIPS_HEADER, chipfire.RULES)
 """
 

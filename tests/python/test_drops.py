@@ -1,0 +1,132 @@
+"""Chips dropped one after another: against the slow player of examples/play.py, and by hand."""
+import array
+import itertools
+import random
+import unittest
+from unittest import mock
+
+import chipfire
+from chipfire import dropped
+from test_counts import GRAPHS, slow_report
+from test_package import CHIPS_FILE, TRIANGLE, TRIANGLE_FILE, WithFolder
+from test_sandpiles import has
+
+
+def slow_rows(graph, chips, drops):
+    """Size, extent and chips lost of each drop (vertex, chips), and what lies there in the end, by the slow player."""
+    left = slow_report(graph, chips).chips
+    for vertex, count in drops:
+        more = [there + count * (vertex == at) for at, there in enumerate(left)]
+        report = slow_report(graph, more)
+        left = report.chips
+        lost = left[graph.sink] - more[graph.sink]
+        yield sum(report.fired), sum(map(bool, report.fired)), lost
+
+
+def rows_of(found):
+    """The rows of what was dropped."""
+    return list(zip(found.size.tolist(), found.extent.tolist(), found.lost.tolist()))
+
+
+class Rows(WithFolder):
+    def test_the_triangle_by_hand(self):
+        """From 1 and no chip: 2 and 0 fires 0, as 1 and 0 does after it; then 0 and 2 fires 1; at last both fire."""
+        for graph, chips in itertools.product((TRIANGLE, TRIANGLE_FILE), ([4, 0, 0], {0: 4}, CHIPS_FILE)):
+            found = chipfire.drops(graph, chips, [0, 1, 2, 1, 1])
+            self.assertEqual(rows_of(found), [(1, 1, 1), (1, 1, 1), (0, 0, 0), (0, 0, 0), (2, 2, 2)])
+            self.assertEqual((found.configuration, len(found)), ({0: 0, 1: 1}, 5))
+            self.assertEqual(found.report, slow_report(TRIANGLE, [5, 3, 1]))
+
+    def test_rows_are_those_of_the_slow_player(self):
+        for number, graph in enumerate(GRAPHS):
+            draw = random.Random(number)
+            chips = [draw.randint(0, 9) for _ in range(graph.vertices)]
+            drops = [(draw.randrange(graph.vertices), draw.choice([0, 1, 1, 1, 20])) for _ in range(30)]
+            for some in (drops, [(vertex, 1) for vertex, _ in drops]):
+                text = "".join(f"{vertex},{count}\n" for vertex, count in some)
+                given = self.file("drops.csv", f"vertex,chips\n{text}") if some is drops else [it for it, _ in some]
+                together = list(chips)
+                for vertex, count in some:
+                    together[vertex] += count
+                with self.subTest(graph=graph, chips=chips, drops=some):
+                    found = chipfire.drops(graph, chips, given)
+                    self.assertEqual(rows_of(found), list(slow_rows(graph, chips, some)))
+                    self.assertEqual(found.report, slow_report(graph, together))
+
+    def test_vertices_come_by_name_from_whatever_has_them(self):
+        named = chipfire.Graph(3, 2, TRIANGLE.edges, ["left", (1, 1), "out"])
+        found = chipfire.drops(named, {"left": 4}, iter(["left", (1, 1), "out", (1, 1), (1, 1)]))
+        self.assertEqual(rows_of(found), [(1, 1, 1), (1, 1, 1), (0, 0, 0), (0, 0, 0), (2, 2, 2)])
+        for vertices in (range(2), array.array("i", [0, 1]), (it for it in (0, 1)), {0: "a", 1: "b"}):
+            self.assertEqual(rows_of(chipfire.drops(TRIANGLE, [4, 0, 0], vertices)), [(1, 1, 1), (1, 1, 1)])
+        self.assertEqual(rows_of(chipfire.Program().drops(TRIANGLE, 0, [], progress=True)), [])
+
+    @unittest.skipUnless(has("numpy"), "NumPy is not here")
+    def test_arrays_of_numpy(self):
+        import numpy
+
+        found = chipfire.drops(TRIANGLE, [4, 0, 0], numpy.array([0, 1], "u1"))
+        self.assertEqual((type(found.lost), found.lost.dtype, rows_of(found)), (numpy.ndarray, "q", [(1, 1, 1)] * 2))
+        with mock.patch("chipfire.dropped.library", return_value=None):
+            found = chipfire.drops(TRIANGLE, [4, 0, 0], numpy.array([0, 1]))
+        self.assertEqual((type(found.lost), rows_of(found)), (array.array, [(1, 1, 1)] * 2))
+
+    def test_many_rows_are_read_and_written_in_parts(self):
+        with mock.patch("chipfire.dropped._BYTES", 20), mock.patch("chipfire.dropped.PART", 3):
+            self.assertEqual(rows_of(chipfire.drops(TRIANGLE, [4, 0, 0], [0, 1] * 20)), [(1, 1, 1)] * 40)
+        names = itertools.cycle([0, 1])
+        parts = dropped.parts_of(TRIANGLE, names)
+        self.assertEqual([next(parts), len(next(parts))], [b"vertex,chips\n", 4 * dropped.PART])
+
+    def test_a_drop_that_a_limit_stops_has_no_row(self):
+        # each firing of vertex 0 takes one chip off it that comes back, but for one in 2^20
+        graph = chipfire.Graph(3, 2, [(0, 1, 2**20), (0, 2), (1, 0)])
+        drops = self.file("drops.csv", f"vertex,chips\n0,1\n2,1\n0,{2**39}\n1,1\n")
+        found = chipfire.drops(graph, {}, drops)
+        self.assertEqual((rows_of(found), found.report.closed), ([(0, 0, 0), (0, 0, 0)], False))
+        self.assertEqual(sum(found.report.chips), 2**39 + 2)
+        # here they are almost 2^36, and vertex 1 sends each of them back by a firing of its own
+        graph = chipfire.Graph(4, 3, [*[(0, 1, 2**20)] * 65530, (0, 3), (1, 0), (2, 0, 2**20)])
+        found = chipfire.drops(graph, graph.max_stable(), [3, 2, 3])
+        self.assertEqual((rows_of(found), found.report.over, found.report.fired[1]), ([(0, 0, 0)], (1,), 2**40))
+        with self.assertRaises(ValueError):
+            list(chipfire.avalanches(graph, graph.max_stable(), [2]))
+
+    def test_what_is_refused(self):
+        with self.assertRaisesRegex(KeyError, "no vertex 7"):
+            chipfire.drops(TRIANGLE, {}, [0, 7])
+        for text, number, place in [("0,1\n3,1\n", 26, (1,)), ("0\n", 24, (0,)), (f"0,{2**40}\n0,1\n", 10, ())]:
+            with self.assertRaises(chipfire.Fault) as raised:
+                chipfire.drops(TRIANGLE, {}, self.file("drops.csv", f"vertex,chips\n{text}"))
+            self.assertEqual((raised.exception.number, raised.exception.place), (number, place))
+            self.assertIn("drops.csv", str(raised.exception))
+
+    def test_a_histogram(self):
+        found = chipfire.drops(TRIANGLE, [4, 0, 0], [0, 1, 2, 1, 1])
+        self.assertEqual((found.histogram(), found.histogram("lost")), ({0: 2, 1: 2, 2: 1}, {0: 2, 1: 2, 2: 1}))
+        self.assertEqual(list(found.histogram("extent")), [0, 1, 2])
+        self.assertEqual(repr(found), "<Drops: 5 avalanches, 4 firings>")
+        with self.assertRaises(ValueError):
+            found.histogram("duration")
+
+
+class Random(unittest.TestCase):
+    def test_the_same_seed_draws_the_same(self):
+        grid = chipfire.grid(4, 3)
+        first, again, other = (list(chipfire.random_drops(grid, 9999, seed)) for seed in (1, 1, 2))
+        self.assertEqual((first, len(first), {*first}), (again, 9999, {*range(12)}))
+        self.assertNotEqual(first, other)
+        self.assertEqual(first, random.Random(1).choices(range(12), k=9999))
+
+    def test_the_sink_is_never_drawn_and_nothing_more_than_is_wanted(self):
+        graph = chipfire.Graph(3, 0, [(1, 0), (2, 0)], ["out", "left", "right"])
+        some = itertools.islice(chipfire.random_drops(graph, 10**12, 1), 100)
+        self.assertEqual({*some}, {"left", "right"})
+        self.assertEqual(list(chipfire.random_drops(TRIANGLE_FILE, 0, 1)), [])
+        for count in (-1, 0.5):
+            with self.assertRaises((TypeError, ValueError)):
+                chipfire.random_drops(graph, count, 1)
+
+
+if __name__ == "__main__":
+    unittest.main()

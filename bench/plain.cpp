@@ -1,12 +1,16 @@
 // The plain player once more, in C++, on one thread: the yardstick of bench/run. It reads the same files and writes the
 // same bytes as `chipfire plain GRAPH CHIPS`, for files that are right; of wrong ones it only says that they are wrong.
+// With `drops` it is that of bench/drops, and writes the rows of `chipfire avalanches GRAPH CHIPS DROPS`.
 //
 //     plain list|passes|rounds GRAPH CHIPS [LIMIT]
+//     plain drops GRAPH CHIPS DROPS
 //
 // `list` keeps the vertices that got chips in a first-in-first-out list. `passes` goes over all vertices in ascending
 // order until a pass fires nothing, and divides by 64 bits only where it must; `rounds` does so first over those with
-// even numbers and then over those with odd ones. All fire in batches.
+// even numbers and then over those with odd ones. `drops` keeps the vertices that may fire in a last-in-first-out list.
+// All fire in batches.
 
+#include <charconv>
 #include <cstdint>
 #include <cstdlib>
 #include <limits>
@@ -118,15 +122,69 @@ void play_by_rounds(Game& game) {
     }
 }
 
+// Drops the chips of each row of a file, plays them, and writes what came.
+void drop_all(Game& game, const char* path) {
+    constexpr std::string_view header = "vertex,chips\n";
+    const std::string text = read_file(path);
+    if (text.compare(0, header.size(), header) != 0) stop("the drops have another header");
+    std::vector<std::uint32_t> list, fired_at(game.vertices(), 0);
+    std::string rows = "vertex,chips,size,extent,lost\n";
+    std::uint32_t drop = 0;
+    Cursor cursor(text);
+    for (cursor.at += header.size(); !cursor.is_at_end(); cursor.expect('\n')) {
+        const std::uint64_t vertex = cursor.number();
+        cursor.expect(',');
+        const std::uint64_t count = cursor.number();
+        if (vertex >= game.vertices()) stop("a bad drop");
+        game.chips[vertex] += count;
+        const std::uint64_t before = game.chips[game.sink];
+        std::uint64_t size = 0, extent = 0;
+        ++drop;
+        if (game.is_legal(vertex)) list.push_back(static_cast<std::uint32_t>(vertex));
+        while (!list.empty()) {
+            const std::uint32_t v = list.back();
+            list.pop_back();
+            const std::uint64_t batch = quotient(game.chips[v], game.degree[v]);
+            game.chips[v] -= batch * game.degree[v];
+            game.fired[v] += batch;
+            size += batch;
+            extent += fired_at[v] != drop;
+            fired_at[v] = drop;
+            for (std::uint32_t e = game.first[v]; e < game.first[v + 1]; ++e) {
+                const Out out = game.outs[e];
+                const bool was_legal = game.is_legal(out.head);
+                game.chips[out.head] += batch * out.mult;
+                if (!was_legal && game.is_legal(out.head)) list.push_back(out.head);
+            }
+        }
+        char digits[5 * 21];
+        char* end = digits;
+        for (const std::uint64_t number : {vertex, count, size, extent, game.chips[game.sink] - before}) {
+            end = std::to_chars(end, digits + sizeof digits, number).ptr;
+            *end++ = ',';
+        }
+        end[-1] = '\n';
+        rows.append(digits, end);
+        if (rows.size() > 65536) write_all(rows), rows.clear();
+    }
+    write_all(rows);
+}
+
 }  // namespace
 
 int main(int count, char** words) {
     const std::string_view way = count > 1 ? words[1] : "";
-    if (count < 4 || count > 5 || (way != "list" && way != "passes" && way != "rounds"))
-        stop("plain list|passes|rounds GRAPH CHIPS [LIMIT]");
-    const std::uint64_t limit = count == 5 ? std::strtoull(words[4], nullptr, 10) : greatest_total;
+    const bool is_dropping = way == "drops" && count == 5;
+    if (count < 4 || count > 5 || (way != "list" && way != "passes" && way != "rounds" && !is_dropping))
+        stop("plain list|passes|rounds GRAPH CHIPS [LIMIT], or plain drops GRAPH CHIPS DROPS");
+    const std::uint64_t limit = count == 5 && !is_dropping ? std::strtoull(words[4], nullptr, 10) : greatest_total;
     const Graph graph = read_graph(words[2]);
     Game game(graph, read_chips(words[3], graph.vertices), limit);
+    if (is_dropping) {
+        play_by_passes(game);
+        drop_all(game, words[4]);
+        return 0;
+    }
     if (way == "list") play_by_list(game);
     else if (way == "passes") play_by_passes(game);
     else play_by_rounds(game);

@@ -192,7 +192,10 @@ def order(graph: AnyGraph) -> int:
 
 
 def random_drops(graph: AnyGraph, count: int, seed: Any, *, program: AnyProgram = None) -> Iterator[Hashable]:
-    """The names of so many vertices but the sink, drawn evenly by `random.Random(seed)`, one after the other."""
+    """The names of so many vertices but the sink, drawn evenly by `random.Random(seed)`, one after the other.
+
+    Nothing of this is proved, and the program is not asked.
+    """
     known, draw, count = known_graph(graph, program), random.Random(seed), whole(count, "the number of drops")
     inner = [name for vertex, name in enumerate(known.names) if vertex != known.sink]
     parts = (draw.choices(inner, k=min(PART, count - done)) for done in range(0, count, PART))

@@ -6,22 +6,15 @@
 
 ghost use Rattle.std.specs.Prelude.{◌≡◌, None};
 
-use chip_arguments::{
-    ArgumentsFault, CheckArguments, GameArguments, PlayArguments, ReplayArguments, Request,
-    RunArguments, SimulationArguments, VerifyArguments, limits, parse,
-};
+use chip_arguments::{ArgumentsFault, Request, RunArguments, limits, parse};
 use chip_command::{Ended, Fault, Status, conclude, explanations, rules};
+use chip_console::commands::{check, limits_of, open_game, play, replay, resume, simulate, verify};
+use chip_console::{Console, tell_more};
 use chip_crew::{MAX_TRACE_ROWS, MAX_TURNS, MAX_WORKERS, Plan, Sharing};
-use chip_engine::{
-    PlayOptions, SimulateOptions, check_engine_with, explain_engine, plain_engine,
-    plain_engine_with, replay_engine_with, resume_engine_with, simulate_engine_with,
-    verify_engine_with,
-};
-use chip_graph::{Limits, MAX_LIMIT};
-use chip_link::{MAX_RING, Ring};
+use chip_engine::{explain_engine, plain_engine};
+use chip_graph::MAX_LIMIT;
+use chip_link::MAX_RING;
 use chip_run::{RunOptions, run_engine_with};
-use console::{Console, Reader};
-use progress::{RoundProgress, TurnProgress};
 use std::fs::File;
 use std::io::{Input, IsTerminal};
 use std::process::ExitCode;
@@ -29,11 +22,9 @@ use std::rt::{Clock, Env, Files};
 use std::sync::Wait;
 use std::thread::Threads;
 use std::{env, io};
-use terminal::tell_more;
+use turns::TurnProgress;
 
-mod console;
-mod progress;
-mod terminal;
+mod turns;
 
 // What the arguments may ask for is what the engines take.
 const _: () = prove!(limits::MAX_LIMIT == MAX_LIMIT);
@@ -139,38 +130,6 @@ fn serve<
     }
 }
 
-/// Looks whether a graph is one.
-fn check<R: Files<File = File> + Input + Clock + Eprint + AllocGlobal, W: io::Write>(
-    console: &Console<'_, R>,
-    asked: &CheckArguments<'_>,
-    output: &mut W,
-) -> Result<Ended, Fault> {
-    let mut graph = console.open(&asked.graph)?;
-    check_engine_with(
-        console.rt.alloc(),
-        &mut graph,
-        limits_of(asked.large),
-        output,
-    )
-}
-
-/// Plays a game on one thread.
-fn play<R: Files<File = File> + Input + Clock + Eprint + AllocGlobal, W: io::Write>(
-    console: &Console<'_, R>,
-    asked: &PlayArguments<'_>,
-    output: &mut W,
-) -> Result<Ended, Fault> {
-    let (mut graph, mut chips) = open_game(console, &asked.game)?;
-    plain_engine_with(
-        console.rt.alloc(),
-        &mut graph,
-        &mut chips,
-        play_options(&asked.game),
-        &mut RoundProgress::start(console),
-        output,
-    )
-}
-
 /// Plays a game on threads.
 fn play_on_threads<
     R: Files<File = File> + Input + Clock + Eprint + AllocGlobal + Threads + Wait + Sync,
@@ -218,112 +177,6 @@ fn options_of(asked: &RunArguments<'_>) -> RunOptions
             Sharing::Queue
         },
     }
-}
-
-/// Runs a schedule.
-fn simulate<R: Files<File = File> + Input + Clock + Eprint + AllocGlobal, W: io::Write>(
-    console: &Console<'_, R>,
-    asked: &SimulationArguments<'_>,
-    output: &mut W,
-) -> Result<Ended, Fault> {
-    let ring = Ring::new(asked.ring).ok_or(Fault::Usage)?;
-    let (mut graph, mut chips) = open_game(console, &asked.game)?;
-    let mut schedule = console.open(&asked.schedule)?;
-    let options = SimulateOptions {
-        play: play_options(&asked.game),
-        ring,
-        rounds: asked.rounds,
-        books: asked.books,
-        fed: asked.fed,
-    };
-    simulate_engine_with(
-        console.rt.alloc(),
-        &mut graph,
-        &mut chips,
-        &mut schedule,
-        options,
-        output,
-    )
-}
-
-/// Replays a recorded run.
-fn replay<R: Files<File = File> + Input + Clock + Eprint + AllocGlobal, W: io::Write>(
-    console: &Console<'_, R>,
-    asked: &ReplayArguments<'_>,
-    output: &mut W,
-) -> Result<Ended, Fault> {
-    let (mut graph, mut chips) = open_game(console, &asked.game)?;
-    let mut trace = console.open(&asked.trace)?;
-    replay_engine_with(
-        console.rt.alloc(),
-        &mut graph,
-        &mut chips,
-        &mut trace,
-        play_options(&asked.game),
-        output,
-    )
-}
-
-/// Goes on with a play.
-fn resume<R: Files<File = File> + Input + Clock + Eprint + AllocGlobal, W: io::Write>(
-    console: &Console<'_, R>,
-    asked: &PlayArguments<'_>,
-    output: &mut W,
-) -> Result<Ended, Fault> {
-    let (mut graph, mut report) = open_game(console, &asked.game)?;
-    resume_engine_with(
-        console.rt.alloc(),
-        &mut graph,
-        &mut report,
-        play_options(&asked.game),
-        &mut RoundProgress::start(console),
-        output,
-    )
-}
-
-/// Tells whether a report is that of a game.
-fn verify<R: Files<File = File> + Input + Clock + Eprint + AllocGlobal, W: io::Write>(
-    console: &Console<'_, R>,
-    asked: &VerifyArguments<'_>,
-    output: &mut W,
-) -> Result<Ended, Fault> {
-    let game = &asked.play.game;
-    let (mut graph, mut chips) = open_game(console, game)?;
-    let mut report = console.open(&asked.report)?;
-    verify_engine_with(
-        console.rt.alloc(),
-        &mut graph,
-        &mut chips,
-        &mut report,
-        play_options(game),
-        &mut RoundProgress::start(console),
-        output,
-    )
-}
-
-/// How large a game may be, and how often a vertex may fire.
-fn play_options(game: &GameArguments<'_>) -> PlayOptions {
-    PlayOptions {
-        limits: limits_of(game.large),
-        limit: game.limit,
-    }
-}
-
-/// How large a graph may be, and the files of its game.
-fn limits_of(large: bool) -> Limits {
-    if large {
-        Limits::large()
-    } else {
-        Limits::standard()
-    }
-}
-
-/// Opens the graph of a game, and then what the game starts with.
-fn open_game<'a, R: Files<File = File> + Input + Clock + Eprint>(
-    console: &'a Console<'_, R>,
-    game: &GameArguments<'_>,
-) -> Result<(Reader<'a, R>, Reader<'a, R>), Fault> {
-    Ok((console.open(&game.graph)?, console.open(&game.start)?))
 }
 
 /// Why there are no arguments: there is no memory for them, or one is no UTF-8.

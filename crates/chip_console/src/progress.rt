@@ -4,7 +4,6 @@
 //! cannot be written is left out.
 
 use crate::console::Console;
-use chip_crew::Gate;
 use chip_fire::{Search, Watch};
 use chip_graph::Game;
 use std::rt::Clock;
@@ -69,37 +68,4 @@ fn sum_of(numbers: &[u64]) -> u64 {
         sum = sum.saturating_add(*number);
     }
     sum
-}
-
-/// Lets every worker pass, and tells how many turns worker 0 has made and how many of the root's messages aren't
-/// acknowledged.
-#[derive(Drop)]
-pub struct TurnProgress<'a, R: Clock + Eprint> {
-    console: &'a Console<'a, R>,
-}
-
-impl<'a, R: Clock + Eprint> TurnProgress<'a, R> {
-    /// Of a play that begins.
-    pub fn start(console: &'a Console<'a, R>) -> TurnProgress<'a, R> {
-        TurnProgress { console }
-    }
-}
-
-impl<R: Clock + Eprint> Gate for TurnProgress<'_, R> {
-    ghost use Rattle.std.specs.Prelude.{◌≡◌, true};
-
-    ghost may_answer = { λ _ _ _ answer. answer ≡ true };
-
-    fn pass(&self, _worker: u64, _turn: u64) -> bool {
-        true
-    }
-
-    fn polled(&self, turn: u64, deficit: u64) {
-        if self.console.is_due() {
-            let turns = turn.saturating_add(1);
-            let _ = eprintln!(self.console.rt;
-                "chipfire: progress: {turns} turns of worker 0, the root's deficit is {deficit}"
-            );
-        }
-    }
 }

@@ -1,0 +1,157 @@
+//! The commands of one thread: each opens the files that its arguments name and calls its engine.
+
+use crate::console::{Console, Reader};
+use crate::progress::RoundProgress;
+use chip_arguments::{
+    CheckArguments, GameArguments, PlayArguments, ReplayArguments, SimulationArguments,
+    VerifyArguments,
+};
+use chip_command::{Ended, Fault};
+use chip_engine::{
+    PlayOptions, SimulateOptions, check_engine_with, plain_engine_with, replay_engine_with,
+    resume_engine_with, simulate_engine_with, verify_engine_with,
+};
+use chip_graph::Limits;
+use chip_link::Ring;
+use std::fs::File;
+use std::io;
+use std::io::Input;
+use std::rt::{Clock, Files};
+
+/// Looks whether a graph is one.
+pub fn check<R: Files<File = File> + Input + Clock + Eprint + AllocGlobal, W: io::Write>(
+    console: &Console<'_, R>,
+    asked: &CheckArguments<'_>,
+    output: &mut W,
+) -> Result<Ended, Fault> {
+    let mut graph = console.open(&asked.graph)?;
+    check_engine_with(
+        console.rt.alloc(),
+        &mut graph,
+        limits_of(asked.large),
+        output,
+    )
+}
+
+/// Plays a game on one thread.
+pub fn play<R: Files<File = File> + Input + Clock + Eprint + AllocGlobal, W: io::Write>(
+    console: &Console<'_, R>,
+    asked: &PlayArguments<'_>,
+    output: &mut W,
+) -> Result<Ended, Fault> {
+    let (mut graph, mut chips) = open_game(console, &asked.game)?;
+    plain_engine_with(
+        console.rt.alloc(),
+        &mut graph,
+        &mut chips,
+        play_options(&asked.game),
+        &mut RoundProgress::start(console),
+        output,
+    )
+}
+
+/// Runs a schedule.
+pub fn simulate<R: Files<File = File> + Input + Clock + Eprint + AllocGlobal, W: io::Write>(
+    console: &Console<'_, R>,
+    asked: &SimulationArguments<'_>,
+    output: &mut W,
+) -> Result<Ended, Fault> {
+    let ring = Ring::new(asked.ring).ok_or(Fault::Usage)?;
+    let (mut graph, mut chips) = open_game(console, &asked.game)?;
+    let mut schedule = console.open(&asked.schedule)?;
+    let options = SimulateOptions {
+        play: play_options(&asked.game),
+        ring,
+        rounds: asked.rounds,
+        books: asked.books,
+        fed: asked.fed,
+    };
+    simulate_engine_with(
+        console.rt.alloc(),
+        &mut graph,
+        &mut chips,
+        &mut schedule,
+        options,
+        output,
+    )
+}
+
+/// Replays a recorded run.
+pub fn replay<R: Files<File = File> + Input + Clock + Eprint + AllocGlobal, W: io::Write>(
+    console: &Console<'_, R>,
+    asked: &ReplayArguments<'_>,
+    output: &mut W,
+) -> Result<Ended, Fault> {
+    let (mut graph, mut chips) = open_game(console, &asked.game)?;
+    let mut trace = console.open(&asked.trace)?;
+    replay_engine_with(
+        console.rt.alloc(),
+        &mut graph,
+        &mut chips,
+        &mut trace,
+        play_options(&asked.game),
+        output,
+    )
+}
+
+/// Goes on with a play.
+pub fn resume<R: Files<File = File> + Input + Clock + Eprint + AllocGlobal, W: io::Write>(
+    console: &Console<'_, R>,
+    asked: &PlayArguments<'_>,
+    output: &mut W,
+) -> Result<Ended, Fault> {
+    let (mut graph, mut report) = open_game(console, &asked.game)?;
+    resume_engine_with(
+        console.rt.alloc(),
+        &mut graph,
+        &mut report,
+        play_options(&asked.game),
+        &mut RoundProgress::start(console),
+        output,
+    )
+}
+
+/// Tells whether a report is that of a game.
+pub fn verify<R: Files<File = File> + Input + Clock + Eprint + AllocGlobal, W: io::Write>(
+    console: &Console<'_, R>,
+    asked: &VerifyArguments<'_>,
+    output: &mut W,
+) -> Result<Ended, Fault> {
+    let game = &asked.play.game;
+    let (mut graph, mut chips) = open_game(console, game)?;
+    let mut report = console.open(&asked.report)?;
+    verify_engine_with(
+        console.rt.alloc(),
+        &mut graph,
+        &mut chips,
+        &mut report,
+        play_options(game),
+        &mut RoundProgress::start(console),
+        output,
+    )
+}
+
+/// How large a game may be, and how often a vertex may fire.
+fn play_options(game: &GameArguments<'_>) -> PlayOptions {
+    PlayOptions {
+        limits: limits_of(game.large),
+        limit: game.limit,
+    }
+}
+
+/// How large a graph may be, and the files of its game.
+pub fn limits_of(large: bool) -> Limits {
+    if large {
+        Limits::large()
+    } else {
+        Limits::standard()
+    }
+}
+
+/// Opens the graph of a game, and then what the game starts with.
+pub fn open_game<'a, R: Files<File = File> + Input + Clock + Eprint>(
+    console: &'a Console<'_, R>,
+    game: &GameArguments<'_>,
+) -> Result<(Reader<'a, R>, Reader<'a, R>), Fault> {
+    Ok((console.open(&game.graph)?, console.open(&game.start)?))
+}

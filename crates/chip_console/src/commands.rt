@@ -3,13 +3,13 @@
 use crate::console::{Console, Reader};
 use crate::progress::RoundProgress;
 use chip_arguments::{
-    CheckArguments, GameArguments, PlayArguments, ReplayArguments, SimulationArguments,
-    VerifyArguments,
+    CheckArguments, GameArguments, PlainArguments, PlayArguments, ReplayArguments,
+    SimulationArguments, VerifyArguments,
 };
 use chip_command::{Ended, Fault};
 use chip_engine::{
-    PlayOptions, SimulateOptions, check_engine_with, plain_engine_with, replay_engine_with,
-    resume_engine_with, simulate_engine_with, verify_engine_with,
+    PlayOptions, SimulateOptions, check_engine_with, plain_engine_with, plain_guess_engine_with,
+    replay_engine_with, resume_engine_with, simulate_engine_with, verify_engine_with,
 };
 use chip_graph::Limits;
 use chip_link::Ring;
@@ -33,21 +33,35 @@ pub fn check<R: Files<File = File> + Input + Clock + Eprint + AllocGlobal, W: io
     )
 }
 
-/// Plays a game on one thread.
+/// Plays a game on one thread, with a guess if one is named.
 pub fn play<R: Files<File = File> + Input + Clock + Eprint + AllocGlobal, W: io::Write>(
     console: &Console<'_, R>,
-    asked: &PlayArguments<'_>,
+    asked: &PlainArguments<'_>,
     output: &mut W,
 ) -> Result<Ended, Fault> {
-    let (mut graph, mut chips) = open_game(console, &asked.game)?;
-    plain_engine_with(
-        console.rt.alloc(),
-        &mut graph,
-        &mut chips,
-        play_options(&asked.game),
-        &mut RoundProgress::start(console),
-        output,
-    )
+    let game = &asked.play.game;
+    let (mut graph, mut chips) = open_game(console, game)?;
+    let (alloc, options) = (console.rt.alloc(), play_options(game));
+    let mut progress = RoundProgress::start(console);
+    match &asked.guess {
+        Some(file) => plain_guess_engine_with(
+            alloc,
+            &mut graph,
+            &mut chips,
+            &mut console.open(file)?,
+            options,
+            &mut progress,
+            output,
+        ),
+        None => plain_engine_with(
+            alloc,
+            &mut graph,
+            &mut chips,
+            options,
+            &mut progress,
+            output,
+        ),
+    }
 }
 
 /// Runs a schedule.

@@ -75,6 +75,11 @@ impl<'a, R: Clock + Eprint> Console<'a, R> {
         }
     }
 
+    /// Whether lines of progress are asked for.
+    pub fn has_progress(&self) -> bool {
+        self.pace.is_some()
+    }
+
     /// Whether a line of progress is to be written now.
     pub fn is_due(&self) -> bool {
         match &self.pace {

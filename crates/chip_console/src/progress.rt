@@ -4,7 +4,7 @@
 //! cannot be written is left out.
 
 use crate::console::Console;
-use chip_fire::{Search, Watch};
+use chip_fire::{GivenUse, Search, Watch};
 use chip_graph::Game;
 use std::rt::Clock;
 
@@ -30,6 +30,25 @@ impl<R: Clock + Eprint> Watch for RoundProgress<'_, R> {
             let _ = eprintln!(self.console.rt;
                 "chipfire: progress: read {vertices} vertices, {edges} edges"
             );
+        }
+    }
+
+    fn used(
+        &mut self,
+        _game: &Game,
+        _given: &[u64],
+        _chips: &[u64],
+        _fired: &[u64],
+        given_use: GivenUse,
+    ) {
+        if self.console.has_progress() {
+            let done = match given_use {
+                GivenUse::Certified => "certified",
+                GivenUse::PlayedOn => "played on",
+                GivenUse::Lowered => "lowered",
+                GivenUse::Dropped => "dropped",
+            };
+            let _ = eprintln!(self.console.rt; "chipfire: progress: guess {done}");
         }
     }
 

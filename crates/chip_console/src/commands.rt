@@ -8,8 +8,9 @@ use chip_arguments::{
 };
 use chip_command::{Ended, Fault};
 use chip_engine::{
-    PlayOptions, SimulateOptions, check_engine_with, plain_engine_with, plain_guess_engine_with,
-    replay_engine_with, resume_engine_with, simulate_engine_with, verify_engine_with,
+    PlayOptions, ReplayOptions, SimulateOptions, check_engine_with, plain_engine_with,
+    plain_guess_engine_with, replay_engine_with, resume_engine_with, simulate_engine_with,
+    verify_engine_with,
 };
 use chip_graph::Limits;
 use chip_link::Ring;
@@ -103,7 +104,10 @@ pub fn replay<R: Files<File = File> + Input + Clock + Eprint + AllocGlobal, W: i
         &mut graph,
         &mut chips,
         &mut trace,
-        play_options(&asked.game),
+        ReplayOptions {
+            play: play_options(&asked.game),
+            complete: asked.complete,
+        },
         output,
     )
 }

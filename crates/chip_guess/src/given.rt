@@ -1,13 +1,13 @@
 //! Counts that were not searched for but given.
 
-ghost use Rattle.std.specs.Prelude.{◌≡◌, length, IfSome};
+ghost use Rattle.std.specs.Prelude.{◌≡◌, length, IfOk, IfSome};
 
 use crate::burning::Burning;
 use crate::hierarchy::Hierarchy;
 use crate::search::{GuessedCounts, up_to};
 use crate::solver::{Progress, Target};
 use crate::tuning::AHEAD;
-use chip_graph::Game;
+use chip_graph::{Edge, Game, Graph};
 use std::alloc::{AllocError, Global};
 use std::num::nearest_u64_to_f64;
 
@@ -41,6 +41,70 @@ pub fn lower_counts(alloc: Global, game: &Game, given: &[u64]) -> Option<Guessed
         }
     }
     None
+}
+
+/// An order in which the vertices burn that fire by these counts and have these chips left: ranks from 1 on, and 0 for one
+/// that does not fire or does not burn. It looks about once at each vertex and at each edge whose tail fires.
+pub fn burning_order(
+    alloc: Global,
+    graph: &Graph,
+    counts: &[u64],
+    chips: &[u64],
+) -> Result<Vec<u64>, AllocError>
+    ensures { IfOk result (λ order. length order.items ≡ graph.now.vertices) }
+{
+    let mut comes = what_comes(alloc, graph, counts)?;
+    let mut waiting = Vec::new(alloc);
+    for (vertex, (sum, (times, left))) in comes.iter().zip(counts.iter().zip(chips)).enumerate() {
+        if *times > 0 && *sum <= *left {
+            waiting.push(vertex as u64)?;
+        }
+    }
+    let mut order = vec![in alloc; 0; graph.vertices() as usize]?;
+    for rank in 1..u64::MAX {
+        let Some(vertex) = waiting.pop() else {
+            break;
+        };
+        if let Some(own) = order.get_mut(vertex as usize) {
+            *own = rank;
+        }
+        for edge in links_of(graph, vertex) {
+            let head = edge.head as usize;
+            let fires = counts.get(head).is_some_and(|times| *times > 0);
+            if let (Some(sum), Some(left)) = (comes.get_mut(head), chips.get(head)) {
+                let before = *sum;
+                *sum = before.wrapping_sub(edge.mult);
+                if fires && before > *left && *sum <= *left {
+                    waiting.push(edge.head)?;
+                }
+            }
+        }
+    }
+    Ok(order)
+}
+
+/// What comes into each vertex where each that fires by these counts fires once.
+fn what_comes(alloc: Global, graph: &Graph, counts: &[u64]) -> Result<Vec<u64>, AllocError> {
+    let mut comes = vec![in alloc; 0u64; graph.vertices() as usize]?;
+    for (vertex, times) in counts.iter().enumerate() {
+        if *times > 0 {
+            for edge in links_of(graph, vertex as u64) {
+                if let Some(sum) = comes.get_mut(edge.head as usize) {
+                    *sum = sum.wrapping_add(edge.mult);
+                }
+            }
+        }
+    }
+    Ok(comes)
+}
+
+/// The edges out of a vertex, if it is there.
+fn links_of(graph: &Graph, vertex: u64) -> &[Edge] {
+    if vertex < graph.vertices() {
+        graph.links(vertex)
+    } else {
+        &[]
+    }
 }
 
 /// A count for each vertex of a game, up to its limit.

@@ -9,7 +9,7 @@
 //! what it found.
 #![tactic(auto)]
 
-pub use given::lower_counts;
+pub use given::{burning_order, lower_counts};
 pub use hierarchy::Hierarchy;
 pub use search::{GuessedCounts, Search};
 

@@ -43,13 +43,36 @@ pub(crate) fn certify(
         Err(AfterFault::Negative(_)) => return Ok(None),
         Err(AfterFault::NoMemory) => return Err(AllocError),
     };
-    if are_earned(game, fired, counts, &chips) {
-        return Ok(Some(chips));
-    }
-    if are_burnt(game, fired, counts, order, &chips) {
+    if are_certified(game, fired, counts, order, &chips) {
         return Ok(Some(chips));
     }
     Ok(None)
+}
+
+/// Whether counts pass one of these tests, by the chips that they leave: a play may begin there if they do.
+pub(crate) fn are_certified(
+    game: &Game,
+    fired: &[u64],
+    counts: &[u64],
+    order: &[u64],
+    chips: &[u64],
+) -> bool
+    requires fired_each { length fired.now ≡ game.now.graph.vertices }
+    requires counts_each { length counts.now ≡ game.now.graph.vertices }
+    requires order_each { length order.now ≡ game.now.graph.vertices }
+    requires within { (v : ℕ) → slice_index fired.now v ≤ game.now.limit }
+    requires forced { AreForced game.now.graph (slice_index game.now.start) game.now.limit (slice_index fired.now) }
+    requires after { IsAfter game.now counts.now chips.now }
+    ensures begun { IsTrue result → IsBegun game.now chips.now counts.now }
+    ensures earned { IsCertified game.now.graph (slice_index game.now.start) game.now.limit
+        (slice_index fired.now) (slice_index counts.now) → IsTrue result }
+    ensures burnt { AreBurnt game.now.graph (slice_index game.now.start) game.now.limit
+        (slice_index fired.now) (slice_index counts.now) (slice_index order.now) → IsTrue result }
+{
+    if are_earned(game, fired, counts, chips) {
+        return true;
+    }
+    are_burnt(game, fired, counts, order, chips)
 }
 
 /// Whether each vertex that fires more often by the counts than it has fired lacks at most one chip

@@ -185,7 +185,7 @@ pub(crate) fn jump(
 }
 
 /// Raises numbers that are below others to these.
-fn raise(numbers: &mut [u64], others: &[u64]) {
+pub(crate) fn raise(numbers: &mut [u64], others: &[u64]) {
     for (number, other) in numbers.iter_mut().zip(others) {
         *number = (*number).max(*other);
     }

@@ -1,14 +1,14 @@
 use Rattle.chip_fire.proofs.PlayLemmas.{begun_certified, begun_burnt}
-use Rattle.chip_fire.proofs.certificate.certify.Goals as goal
+use Rattle.chip_fire.proofs.certificate.are_certified.Goals as goal
 
-pub returns-then-are_earned : goal.returns-then-are_earned
-returns-then-are_earned c =
-    begun_certified c.args.game.now c.are_earned.ensures.game c.in-Ok.chips.items c.args.fired.now c.args.counts.now
-    c.requires.counts_each c.requires.within c.requires.forced c.in-Ok.ensures
+pub returns-then-are_earned-clause-begun : goal.returns-then-are_earned-clause-begun
+returns-then-are_earned-clause-begun c is =
+    begun_certified c.args.game.now c.are_earned.ensures.game c.args.chips.now c.args.fired.now c.args.counts.now
+    c.requires.counts_each c.requires.within c.requires.forced c.requires.after
     (c.are_earned.ensures.earned.0 c.if-are_earned.true)
 
-pub returns-then-are_burnt : goal.returns-then-are_burnt
-returns-then-are_burnt c =
-    begun_burnt c.args.game.now c.are_burnt.ensures.game c.in-Ok.chips.items c.args.fired.now c.args.counts.now
-    c.requires.counts_each c.requires.within c.requires.forced c.in-Ok.ensures c.args.order.now
-    (c.are_burnt.ensures.burnt.0 c.if-are_burnt.true)
+pub returns-clause-begun : goal.returns-clause-begun
+returns-clause-begun c is =
+    begun_burnt c.args.game.now c.are_burnt.ensures.game c.args.chips.now c.args.fired.now c.args.counts.now
+    c.requires.counts_each c.requires.within c.requires.forced c.requires.after c.args.order.now
+    (c.are_burnt.ensures.burnt.0 is)

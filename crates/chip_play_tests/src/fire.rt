@@ -130,7 +130,7 @@ fn long_path(rt: &(impl AllocGlobal + Abort)) -> Box<Graph> {
 }
 
 /// 2^20 chips in the middle of the path: firing alone would take minutes.
-fn long_game(rt: &(impl AllocGlobal + Abort), limit: u64) -> Box<Game> {
+pub(crate) fn long_game(rt: &(impl AllocGlobal + Abort), limit: u64) -> Box<Game> {
     let mut start = vec![in rt.alloc(); 0; 4_096].expect(rt, "memory");
     if let Some(chips) = start.get_mut(2_047) {
         *chips = 1 << 20;
@@ -140,7 +140,7 @@ fn long_game(rt: &(impl AllocGlobal + Abort), limit: u64) -> Box<Game> {
 }
 
 /// The chips in the middle, at the first vertex and on the sink, once nothing may fire.
-fn long_path_ends(rt: &impl Abort, outcome: &Outcome) {
+pub(crate) fn long_path_ends(rt: &impl Abort, outcome: &Outcome) {
     assert!(rt; outcome.chips.get(2_047).copied() == Some(0));
     assert!(rt; outcome.chips.get(0).copied() == Some(1));
     assert!(rt; outcome.chips.get(4_095).copied() == Some(1_044_482));
@@ -218,7 +218,7 @@ fn all_firings(fired: &[u64]) -> u64 {
 }
 
 /// Whether two outcomes are the same.
-fn is_same(outcome: &Outcome, other: &Outcome) -> bool {
+pub(crate) fn is_same(outcome: &Outcome, other: &Outcome) -> bool {
     outcome.fired.as_slice() == other.fired.as_slice()
         && outcome.chips.as_slice() == other.chips.as_slice()
         && outcome.over.as_slice() == other.over.as_slice()

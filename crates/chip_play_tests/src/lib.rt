@@ -6,6 +6,8 @@ mod fire;
 #[cfg(test)]
 mod games;
 #[cfg(test)]
+mod given;
+#[cfg(test)]
 mod graph;
 #[cfg(test)]
 mod sequence;

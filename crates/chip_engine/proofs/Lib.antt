@@ -4,6 +4,7 @@ pub mod EngineLemmas
 pub mod LineLemmas
 pub mod ExplainLemmas
 pub mod SittingLemmas
+pub mod GuessLemmas
 pub mod VerifyLemmas
 pub mod BoardLemmas
 pub mod AnswerLemmas

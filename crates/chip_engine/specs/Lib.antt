@@ -6,6 +6,7 @@ pub mod ReplayCommand
 pub mod SimulateCommand
 pub mod ResumeCommand
 pub mod VerifyCommand
+pub mod GuessCommand
 pub mod Sittings
 pub mod Worked
 pub mod SimulatedBytes

@@ -7,7 +7,7 @@
 pub use check::{check_engine, check_engine_with};
 pub use explain::explain_engine;
 pub use options::PlayOptions;
-pub use plain::{plain_engine, plain_engine_with};
+pub use plain::{plain_engine, plain_engine_with, plain_guess_engine_with};
 pub use replay::{ReplayOptions, replay_engine, replay_engine_with};
 pub use resume::{resume_engine, resume_engine_with};
 pub use simulate::{SimulateOptions, simulate_engine, simulate_engine_with};
@@ -16,6 +16,7 @@ pub use verify::{verify_engine, verify_engine_with};
 mod board;
 mod check;
 mod explain;
+mod guess;
 pub mod laws;
 mod options;
 mod plain;

@@ -1,12 +1,18 @@
 //! `plain`: the report of a game played on one thread.
 
+ghost use Rattle.std.specs.Prelude.{◌≡◌};
 ghost use Rattle.chip_graph.specs.Limits.{standard};
 ghost use Rattle.chip_command.specs.CommandAnswers.{Gives};
 ghost use Rattle.chip_command.specs.PlainCommand.{PlainAnswers, PlainRefuses, PlainWrites};
+ghost use Rattle.chip_command.specs.Reports.{Reports};
+ghost use Rattle.chip_command.specs.declared.fault.Fault.TheVariants.{NoMemory};
+ghost use Rattle.chip_engine.specs.GuessCommand.{GuessAnswers, GuessRefuses, GuessWrites};
 
+use crate::guess::read_guess;
 use crate::options::PlayOptions;
 use chip_command::{Answer, Ended, Fault, deliver, read_game};
-use chip_fire::{Unwatched, Watch, plain_watched};
+use chip_fire::{Unwatched, Watch, plain_given};
+use chip_graph::Game;
 use std::alloc::Global;
 use std::io::{Read, Write};
 
@@ -61,8 +67,53 @@ fn answer<G: Read, C: Read, P: Watch>(
         (PlainRefuses options.limits (G.remaining graph.old) (C.remaining chips.old) options.limit) result }
 {
     let game = read_game(alloc, options.limits, graph, chips, options.limit)?;
-    watch.plays(&game);
-    let outcome = plain_watched(alloc, &game, watch)?;
+    play(alloc, &game, &[], watch)
+}
+
+/// Does what `plain_engine_with` does, and reads a third text: a guess of how often each vertex fires, which may make the
+/// play shorter. A guess changes nothing of what is written, but a text that is none is refused.
+pub fn plain_guess_engine_with<G: Read, C: Read, Q: Read, P: Watch, W: Write>(
+    alloc: Global,
+    graph: &mut G,
+    chips: &mut C,
+    guess: &mut Q,
+    options: PlayOptions,
+    watch: &mut P,
+    output: &mut W,
+) -> Result<Ended, Fault>
+    ensures { GuessAnswers options.limits (G.remaining graph.old) (C.remaining chips.old) (Q.remaining guess.old)
+        options.limit (W.contents output.old) (W.contents output.new) result }
+{
+    deliver(
+        output,
+        guess_answer(alloc, graph, chips, guess, options, watch),
+    )
+}
+
+/// What `plain` has to say of a game and a guess.
+fn guess_answer<G: Read, C: Read, Q: Read, P: Watch>(
+    alloc: Global,
+    graph: &mut G,
+    chips: &mut C,
+    guess: &mut Q,
+    options: PlayOptions,
+    watch: &mut P,
+) -> Result<Answer, Fault>
+    ensures { let graph = G.remaining graph.old in let chips = C.remaining chips.old in let guess = Q.remaining guess.old in
+        Gives (GuessWrites options.limits graph chips guess options.limit)
+        (GuessRefuses options.limits graph chips guess options.limit) result }
+{
+    let game = read_game(alloc, options.limits, graph, chips, options.limit)?;
+    let counts = read_guess(alloc, options.limits, guess, game.graph().vertices())?;
+    play(alloc, &game, &counts, watch)
+}
+
+/// The report of a game, which is played from given counts.
+fn play<P: Watch>(alloc: Global, game: &Game, given: &[u64], watch: &mut P) -> Result<Answer, Fault>
+    ensures { Gives (Reports game.now) (λ fault. fault ≡ NoMemory) result }
+{
+    watch.plays(game);
+    let outcome = plain_given(alloc, game, given, watch)?;
     let answer = Answer::of_outcome(alloc, &outcome)?;
     watch.writes(answer.text.len() as u64);
     Ok(answer)

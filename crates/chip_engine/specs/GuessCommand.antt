@@ -1,0 +1,81 @@
+-- From the bytes of a graph file, a chips file and a guess of the counts to those of the report of the game.
+use Rattle.std.specs.Prelude.{◌≡◌, ◌≢◌, ◌⊎◌, ℕ, ◌<◌, ◌==◌, Bool, true, false, List, length, slice_index, Option, Some}
+use Rattle.std.specs.Prelude.{Result, Ok, Err}
+use Rattle.std.specs.Global.{Vec}
+use Rattle.std.specs.Option.{ForSome}
+use Rattle.chip_graph.specs.Limits.{SizeLimits}
+use Rattle.chip_graph.specs.ChipGame.{ChipGame}
+use Rattle.chip_file.specs.GuessText.{guess_of_text, guess_text_fault}
+use Rattle.chip_sequence.specs.Sittings.{fired_in_all}
+use Rattle.chip_sequence.specs.declared.resumed.Resumed.{Resumed}
+use Rattle.chip_fire.specs.declared.sitting.ResumeFault.TheVariants.{Mismatch}
+use Rattle.chip_report.specs.ReportTwo.{IsAnyReportWithin, IsNoReportAtAllWithin}
+use Rattle.chip_command.specs.CommandAnswers.{CommandAnswers, OrMemory}
+use Rattle.chip_command.specs.Inputs.{Reads, RefusesText, GaveGame, GaveNoGame}
+use Rattle.chip_command.specs.Reports.{Reports}
+use Rattle.chip_command.specs.declared.ended.Ended.{Ended}
+use Rattle.chip_command.specs.declared.fault.Fault.{Fault}
+use Rattle.chip_command.specs.declared.fault.Fault.TheVariants.{NotReport, Resume}
+
+-- the first byte of a text is a brace, as that of a report
+abbrev pub has_brace : List ℕ → Bool
+has_brace text = slice_index text 0 == 123
+
+-- a report of so many vertices tells these counts, in all its sittings
+pub record TellsCounts (limits : SizeLimits) (vertices : ℕ) (text counts : List ℕ) : Type 0 where
+  pub told : Resumed
+  pub report : IsAnyReportWithin limits text told
+  pub as_many : length told.outcome.fired.items ≡ vertices
+  pub counts_each : length counts ≡ vertices
+  pub counted : (v : ℕ) → v < vertices → slice_index counts v ≡ fired_in_all told v
+
+-- a text means these counts of so many vertices: a report where it has a brace, else rows
+pub record MeansGuess (limits : SizeLimits) (vertices : ℕ) (text counts : List ℕ) : Type 0 where
+  pub report : has_brace text ≡ true → TellsCounts limits vertices text counts
+  pub rows : has_brace text ≡ false → guess_of_text vertices text ≡ Some counts
+
+-- a text is a report of another number of vertices
+abbrev pub IsOfOthers : SizeLimits → ℕ → List ℕ → Type 0
+IsOfOthers limits vertices text =
+    (told : Resumed) × IsAnyReportWithin limits text told × (length told.outcome.fired.items ≢ vertices)
+
+-- taking the counts of a text with a brace failed by this fault: it is no report, or one of another number of vertices, or
+-- there is no memory
+abbrev pub RefusesTold : SizeLimits → ℕ → List ℕ → Fault → Type 0
+RefusesTold limits vertices text = OrMemory (λ fault. (IsNoReportAtAllWithin limits text × (fault ≡ NotReport))
+    ⊎ (IsOfOthers limits vertices text × (fault ≡ Resume Mismatch)))
+
+-- reading a guess failed by this fault: the input could not be taken whole, or something is wrong with its rows, or with
+-- its report
+abbrev pub RefusesGuess : SizeLimits → ℕ → List ℕ → Fault → Type 0
+RefusesGuess limits vertices text fault =
+    RefusesText limits text (λ f. (has_brace text ≡ false) × (guess_text_fault vertices text ≡ Some f)) fault
+    ⊎ Reads limits text ((has_brace text ≡ true) × RefusesTold limits vertices text fault)
+
+-- what reading a guess for so many vertices answers
+abbrev pub GivesGuess : SizeLimits → ℕ → Option (List ℕ) → Result (Vec ℕ) Fault → Type 0
+GivesGuess limits vertices guess (Ok counts) =
+    ForSome guess (λ text. Reads limits text (MeansGuess limits vertices text counts.items))
+GivesGuess limits vertices guess (Err fault) = ForSome guess (λ text. RefusesGuess limits vertices text fault)
+
+-- a reader gave a guess for so many vertices
+abbrev pub GaveGuess : SizeLimits → ℕ → Option (List ℕ) → Type 0
+GaveGuess limits vertices guess =
+    (counts : List ℕ) × ForSome guess (λ text. Reads limits text (MeansGuess limits vertices text counts))
+
+-- what `plain` writes with a guess: what it writes without one, where the guess is one
+abbrev pub GuessWrites : SizeLimits → (graph chips guess : Option (List ℕ)) → ℕ → List ℕ → ℕ → Type 0
+GuessWrites limits graph chips guess limit text status = (g : ChipGame) × GaveGame limits graph chips limit g
+    × GaveGuess limits g.graph.vertices guess × Reports g text status
+
+-- why it writes nothing: the inputs make no game, or the guess is none, or there is no memory
+abbrev pub GuessRefuses : SizeLimits → (graph chips guess : Option (List ℕ)) → ℕ → Fault → Type 0
+GuessRefuses limits graph chips guess limit = OrMemory (λ fault. GaveNoGame limits graph chips limit fault
+    ⊎ ((g : ChipGame) × GaveGame limits graph chips limit g
+    × ForSome guess (λ text. RefusesGuess limits g.graph.vertices text fault)))
+
+-- what `plain` answers with a guess by these limits
+abbrev pub GuessAnswers : SizeLimits → (graph chips guess : Option (List ℕ)) → ℕ → Option (List ℕ) → Option (List ℕ)
+    → Result Ended Fault → Type 0
+GuessAnswers limits graph chips guess limit old new result =
+    CommandAnswers (GuessWrites limits graph chips guess limit) (GuessRefuses limits graph chips guess limit) old new result

@@ -9,10 +9,11 @@ ghost use Rattle.chip_command.specs.CommandAnswers.{Gives, OrMemory};
 ghost use Rattle.chip_engine.specs.VerifyCommand.{AgreesAt, IsDifference, RefusesToVerify, Verifies};
 ghost use Rattle.chip_engine.specs.VerifyCommand.{VerifyAnswers, VerifyRefuses, VerifyWrites};
 
+use crate::guess::counts_in_all;
 use crate::options::PlayOptions;
 use crate::resume::read_sitting;
 use chip_command::{Answer, Ended, Fault, deliver, read_game};
-use chip_fire::{ResumeFault, Unwatched, Watch, plain_watched};
+use chip_fire::{ResumeFault, Unwatched, Watch, plain_given};
 use chip_graph::Game;
 use chip_report::is_in;
 use chip_sequence::{Outcome, Resumed};
@@ -92,7 +93,8 @@ fn verify<P: Watch>(
         return Err(Fault::Resume(ResumeFault::Mismatch));
     }
     watch.plays(game);
-    let outcome = plain_watched(alloc, game, watch)?;
+    let counts = counts_in_all(alloc, told)?;
+    let outcome = plain_given(alloc, game, &counts, watch)?;
     match first_difference(told, &outcome) {
         Some(vertex) => Err(Fault::Differs(vertex)),
         None => Ok(Answer::of_lines(String::from_str(alloc, "verified\n")?)),

@@ -3,7 +3,8 @@
 use chip_command::{Ended, Fault};
 use chip_engine::{
     PlayOptions, ReplayOptions, check_engine, check_engine_with, plain_engine, plain_engine_with,
-    replay_engine, replay_engine_with, resume_engine, resume_engine_with, simulate_engine,
+    plain_guess_engine_with, replay_engine, replay_engine_with, resume_engine, resume_engine_with,
+    simulate_engine,
     verify_engine,
 };
 use chip_file::{FileFault, read_graph, read_trace};
@@ -51,6 +52,69 @@ fn plays_the_triangle(rt: HostRuntime) {
     let (ended, output) = play(rt.alloc(), TRIANGLE, "vertex,chips\n0,5\n", 2);
     assert!(rt; ended == closed(2));
     assert!(rt; output.as_slice() == STOPPED.as_bytes());
+}
+
+/// What `plain` answers and writes of four chips on vertex 0 of the triangle, with a guess.
+fn play_guess(alloc: Global, chips: &str, guess: &str) -> (Result<Ended, Fault>, Vec<u8>) {
+    let mut output = Vec::new(alloc);
+    let ended = plain_guess_engine_with(
+        alloc,
+        &mut TRIANGLE.as_bytes(),
+        &mut chips.as_bytes(),
+        &mut guess.as_bytes(),
+        PlayOptions::standard(NO_LIMIT),
+        &mut Unwatched,
+        &mut output,
+    );
+    (ended, output)
+}
+
+/// Guesses of four chips on vertex 0: the counts of the end as rows and as a report, none, and too many.
+const GUESSES: [&str; 5] = [
+    "vertex,fired\n0,2\n1,1\n",
+    PLAYED,
+    "vertex,fired\n",
+    "vertex,fired\n0,3\n1,2\n",
+    "vertex,fired\n0,18446744073709551615\n1,1\n",
+];
+
+#[test]
+fn plays_with_a_guess(rt: HostRuntime) {
+    for guess in GUESSES {
+        let (ended, output) = play_guess(rt.alloc(), "vertex,chips\n0,4\n", guess);
+        assert!(rt; ended == closed(0));
+        assert!(rt; output.as_slice() == PLAYED.as_bytes());
+    }
+}
+
+/// Texts that are no guess for the triangle, and their faults.
+const NO_GUESSES: [(&str, Fault); 6] = [
+    ("", Fault::File(FileFault::Header)),
+    ("vertex,chips\n0,2\n", Fault::File(FileFault::Header)),
+    (
+        "vertex,fired\n0,2\n3,1\n",
+        Fault::File(FileFault::Vertex(1)),
+    ),
+    ("{", Fault::NotReport),
+    (" {", Fault::File(FileFault::Header)),
+    (
+        "{\"chips\":[1,0],\"closed\":true,\"fired\":[2,0],\"over\":[],\"sealed\":[],\"version\":1}\n",
+        Fault::Resume(ResumeFault::Mismatch),
+    ),
+];
+
+#[test]
+fn refuses_what_is_no_guess(rt: HostRuntime) {
+    for (guess, fault) in NO_GUESSES {
+        let (ended, output) = play_guess(rt.alloc(), "vertex,chips\n0,4\n", guess);
+        assert!(rt; ended == Err(fault));
+        assert!(rt; output.is_empty());
+    }
+    let (ended, _) = play_guess(rt.alloc(), "vertex,chips\n3,4\n", "{");
+    assert!(rt;
+        ended == Err(Fault::File(FileFault::Vertex(0))),
+        "the chips come first"
+    );
 }
 
 /// How often the vertices had fired when it was last told of a play.

@@ -1,7 +1,8 @@
 """Guesses of all kinds, which change no answer of `plain`.
 
 The games are small and drawn at random, as they are or with each edge both ways, and with a limit or without. What must
-come is known from examples/play.py, whatever the guess: true counts, others, and the reports of verdicts.py.
+come is known from examples/play.py, whatever the guess: true counts, others, and the reports of verdicts.py. True counts
+must be certified if no vertex but the sink has a greater in-degree than out-degree, as on every undirected graph.
 """
 import json
 import random
@@ -79,6 +80,15 @@ def refusals(game):
     yield "{", "50 NotReport"
 
 
+def is_certain(graph):
+    """Whether no vertex but the sink has a greater in-degree than out-degree."""
+    more = [0] * graph["vertices"]
+    for tail, head, mult in graph["edges"]:
+        more[tail] += mult
+        more[head] -= mult
+    return all(it >= 0 for v, it in enumerate(more) if v != graph["sink"])
+
+
 def wrong_answers(program, game, is_refused):
     """What is wrong with the answers to the guesses of one game, and to what is none."""
     wanted = json.dumps(game.truth, separators=(",", ":")) + "\n"
@@ -90,6 +100,11 @@ def wrong_answers(program, game, is_refused):
             room.write("guess", guess)
             for fault in room.faults_of(arguments, wanted, status):
                 yield f"{game.graph()} with {game.chips}, guess {guess!r}: {fault}"
+        if game.truth["closed"] and is_certain(game.of_file):
+            room.write("guess", rows_of(COUNTS, enumerate(game.truth["fired"])))
+            came, expected = room.ran(f"{arguments} --progress"), (wanted, "chipfire: progress: guess certified\n", 0)
+            if came != expected:
+                yield f"{game.graph()} with {game.chips}, its true counts: expected {expected}, got {came}"
         for guess, fault in refusals(game) if is_refused else []:
             room.write("guess", guess)
             came, expected = room.ran(arguments), ("", f"chipfire: fault {fault}\n", 1)

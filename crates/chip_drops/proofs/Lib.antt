@@ -1,0 +1,3 @@
+pub mod AvalancheLemmas
+pub mod WorkLemmas
+pub mod AddUpLemmas

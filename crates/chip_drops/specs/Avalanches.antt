@@ -1,0 +1,35 @@
+-- Avalanches: what chips set off that are dropped on a position.
+use Rattle.std.specs.Prelude.{◌≡◌, ℕ, ◌+◌, ◌==◌, if◌then◌else◌, List, [], ◌∷◌, length}
+use Rattle.chip_graph.specs.Sums.{sum_below}
+use Rattle.chip_graph.specs.Multigraph.{Multigraph}
+use Rattle.chip_sequence.specs.Sequence.{position_after, IsFiringSequence, counts, HasEnded}
+use Rattle.chip_drops.specs.declared.avalanche.Avalanche.{Avalanche}
+
+-- the position x with so many chips more on v
+abbrev pub dropped : (ℕ → ℕ) → ℕ → ℕ → ℕ → ℕ
+dropped x v count u = x u + (if v == u then count else 0)
+
+-- how many different vertices fire in a list
+abbrev pub extent_of : Multigraph → List ℕ → ℕ
+extent_of G vs = sum_below G.vertices (λ v. if counts vs v == 0 then 0 else 1)
+
+-- a list that fires from x has so many firings, of so many vertices, and brings so many chips to the sink
+pub record Tells (G : Multigraph) (x : ℕ → ℕ) (a : Avalanche) (vs : List ℕ) : Type 0 where
+  pub size : a.size ≡ length vs
+  pub extent : a.extent ≡ extent_of G vs
+  pub lost : x G.sink + a.lost ≡ position_after G x vs G.sink
+
+-- some firing sequence from x ends, and each that does is told by these numbers and leaves y
+pub record IsAvalanche (G : Multigraph) (x : ℕ → ℕ) (a : Avalanche) (y : ℕ → ℕ) : Type 0 where
+  pub ends : (vs : List ℕ) × IsFiringSequence G x vs × HasEnded G x vs
+  pub tells : (vs : List ℕ) → IsFiringSequence G x vs → HasEnded G x vs → Tells G x a vs
+  pub leaves : (vs : List ℕ) → IsFiringSequence G x vs → HasEnded G x vs → (v : ℕ) → y v ≡ position_after G x vs v
+
+-- these are the avalanches of these drops, each a vertex and a count of chips: the first on x, each other one on what the
+-- one before it left; and the last leaves y
+abbrev pub AreAvalanches : Multigraph → (ℕ → ℕ) → List (ℕ × ℕ) → List Avalanche → (ℕ → ℕ) → Type 0
+AreAvalanches G x [] [] y = (v : ℕ) → y v ≡ x v
+AreAvalanches G x [] (a ∷ more) y = ⊥
+AreAvalanches G x (d ∷ ds) [] y = ⊥
+AreAvalanches G x (d ∷ ds) (a ∷ more) y =
+    (z : ℕ → ℕ) × IsAvalanche G (dropped x d.0 d.1) a z × AreAvalanches G z ds more y

@@ -1,0 +1,22 @@
+-- What a pile keeps from drop to drop.
+use Rattle.std.specs.Prelude.{◌≡◌, ℕ, ◌<◌, ◌≤◌, length, slice_index}
+use Rattle.chip_graph.specs.Multigraph.{Multigraph}
+use Rattle.chip_graph.specs.ChipGame.{IsGame}
+use Rattle.chip_sequence.specs.Firing.{IsLegal}
+use Rattle.chip_fire.specs.Rounds.{IsBegun, IsAtRest}
+use Rattle.chip_drops.specs.declared.pile.Pile.{Pile}
+
+-- no vertex is legal at x
+abbrev pub IsStable : Multigraph → (ℕ → ℕ) → Type 0
+IsStable G x = (v : ℕ) → IsLegal G x v → ⊥
+
+-- the play of the game, whose start has all chips that were dropped, has come to these chips and counts, and no vertex may
+-- fire within the limit
+pub record IsPile (p : Pile) : Type 0 where
+  pub game : IsGame p.game
+  pub begun : IsBegun p.game p.chips.items p.fired.items
+  pub at_rest : IsAtRest p.game.graph p.game.limit p.chips.items p.fired.items
+  pub before_each : length p.before.items ≡ p.game.graph.vertices
+  pub stamps_each : length p.stamps.items ≡ p.game.graph.vertices
+  pub list_room : 0 < length p.list.items
+  pub stamped : (v : ℕ) → slice_index p.stamps.items v ≤ p.drops

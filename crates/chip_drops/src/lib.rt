@@ -1,0 +1,13 @@
+//! Chips dropped one after another on a game that has come to rest, and the avalanche that each sets off.
+//!
+//! What is told of an avalanche is that of every order of firings (`specs/Avalanches.antt`).
+#![tactic(auto)]
+
+pub use avalanche::Avalanche;
+pub use pile::Pile;
+
+mod avalanche;
+pub mod laws;
+pub mod pile;
+mod play;
+mod work_list;

@@ -1,0 +1,154 @@
+//! A pile: a game that has come to rest, on which chips are dropped.
+
+ghost use Rattle.std.specs.Prelude.{◌≡◌, ℕ, ◌+◌, ◌^◌, ◌<◌, ◌≤◌, [], ◌∷◌, sum, slice_index, IfOk, MatchOption};
+ghost use Rattle.chip_graph.specs.Limits.{max_total};
+ghost use Rattle.chip_graph.specs.ChipGame.{IsGame};
+ghost use Rattle.chip_graph.specs.More.{HasMore};
+ghost use Rattle.chip_sequence.specs.Play.{IsPlayed};
+ghost use Rattle.chip_fire.specs.Player.{PlaysOut};
+ghost use Rattle.chip_drops.specs.Avalanches.{IsAvalanche, dropped};
+ghost use Rattle.chip_drops.specs.Pile.{IsPile, IsStable};
+
+use crate::avalanche::Avalanche;
+use crate::play::{PlayedOut, play_out};
+use chip_fire::outcome_at_rest;
+use chip_graph::Game;
+use chip_sequence::Outcome;
+use std::alloc::{AllocError, Global};
+
+/// A game with all chips at its start that were dropped, played to its end.
+#[derive(Drop)]
+pub struct Pile {
+    game: Game,
+    /// By vertex.
+    chips: Vec<u64>,
+    /// How often each vertex has fired in all.
+    fired: Vec<u64>,
+    /// Room for as many counts.
+    before: Vec<u64>,
+    /// The number of the last drop after which each vertex fired.
+    stamps: Vec<u64>,
+    /// Room for a work list.
+    list: Vec<u64>,
+    /// How many drops were made.
+    drops: u64,
+}
+
+impl Pile {
+    /// A pile on which nothing was dropped, of a game and its outcome. Drops take no more memory than it has then, but
+    /// for what a search takes where there is some.
+    pub fn new(alloc: Global, game: Game, outcome: Outcome) -> Result<Pile, AllocError>
+        requires game { IsGame game }
+        requires played { IsPlayed game outcome }
+        ensures pile { IfOk result IsPile }
+        ensures game { IfOk result (λ pile. pile.game ≡ game) }
+        ensures chips { IfOk result (λ pile. pile.chips.items ≡ outcome.chips.items) }
+        ensures drops { IfOk result (λ pile. pile.drops ≡ 0) }
+    {
+        let vertices = game.graph().vertices() as usize;
+        let before = vec![in alloc; 0; vertices]?;
+        let stamps = vec![in alloc; 0; vertices]?;
+        let list = vec![in alloc; 0; 2 * vertices]?;
+        let Outcome { fired, chips, .. } = outcome;
+        Ok(Pile {
+            game,
+            chips,
+            fired,
+            before,
+            stamps,
+            list,
+            drops: 0,
+        })
+    }
+
+    /// Drops so many chips on a vertex and plays to the end: the avalanche, or `None` where the limit has stopped it.
+    pub fn drop_chips(self, alloc: Global, vertex: u64, count: u64) -> (Pile, Option<Avalanche>)
+        requires pile { IsPile self }
+        requires stable { IsStable self.game.graph (slice_index self.chips.items) }
+        requires is_vertex { vertex < self.game.graph.vertices }
+        requires few_chips { sum self.game.start + count ≤ max_total }
+        requires few_drops { self.drops + 1 < 2 ^ 64 }
+        ensures pile { IsPile result.0 }
+        ensures game { HasMore self.game ((vertex, count) ∷ []) result.0.game }
+        ensures drops { result.0.drops ≡ self.drops + 1 }
+        ensures avalanche { MatchOption result.1
+            (IsStable result.0.game.graph (slice_index result.0.chips.items) → ⊥)
+            (λ avalanche. IsStable result.0.game.graph (slice_index result.0.chips.items)
+            × IsAvalanche self.game.graph (dropped (slice_index self.chips.items) vertex count) avalanche
+            (slice_index result.0.chips.items)) }
+    {
+        let Pile {
+            game,
+            mut chips,
+            fired,
+            mut before,
+            mut stamps,
+            mut list,
+            drops,
+        } = self;
+        let sink = game.graph().sink() as usize;
+        let game = with_drop(game, vertex, count);
+        chips[vertex as usize] += count;
+        let arrived = chips[sink];
+        let stamp = drops + 1;
+        let PlayedOut {
+            chips,
+            fired,
+            size,
+            extent,
+            stable,
+        } = play_out(
+            alloc,
+            &game,
+            stamp,
+            vertex,
+            chips,
+            fired,
+            &mut before,
+            &mut stamps,
+            &mut list,
+        );
+        let lost = chips[sink].saturating_sub(arrived);
+        let pile = Pile {
+            game,
+            chips,
+            fired,
+            before,
+            stamps,
+            list,
+            drops: stamp,
+        };
+        if stable {
+            (pile, Some(Avalanche { size, extent, lost }))
+        } else {
+            (pile, None)
+        }
+    }
+
+    /// The outcome of the game that has all chips at its start.
+    pub fn outcome(self, alloc: Global) -> Result<Outcome, AllocError>
+        requires { IsPile self }
+        ensures { IfOk result (PlaysOut self.game) }
+    {
+        let Pile {
+            game,
+            chips,
+            fired,
+            ..
+        } = self;
+        outcome_at_rest(alloc, &game, chips, fired)
+    }
+}
+
+/// The game with a drop on it.
+fn with_drop(game: Game, vertex: u64, count: u64) -> Game
+    requires is_game { IsGame game }
+    requires is_vertex { vertex < game.graph.vertices }
+    requires few_chips { sum game.start + count ≤ max_total }
+    ensures { HasMore game ((vertex, count) ∷ []) result }
+{
+    match game.with_more(&[(vertex, count)]) {
+        Ok(game) => game,
+        Err(_) => unreachable!(),
+    }
+}

@@ -4,8 +4,7 @@ use chip_command::{Ended, Fault};
 use chip_engine::{
     PlayOptions, ReplayOptions, check_engine, check_engine_with, plain_engine, plain_engine_with,
     plain_guess_engine_with, replay_engine, replay_engine_with, resume_engine, resume_engine_with,
-    simulate_engine,
-    verify_engine,
+    simulate_engine, verify_engine,
 };
 use chip_file::{FileFault, read_graph, read_trace};
 use chip_fire::{ResumeFault, Unwatched, Watch};

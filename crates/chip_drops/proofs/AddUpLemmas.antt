@@ -1,11 +1,9 @@
 -- Serves Laws.antt.
 -- The avalanches of drops are together the play of all chips at once.
-use Rattle.std.proofs.Common.{◌≡◌, ℕ, ◌+◌, ◌≤◌, cond, eqb, List, [], ◌∷◌, ◌++◌, length, sum_by}
+use Rattle.std.proofs.Common.{◌≡◌, ℕ, ◌+◌, cond, eqb, List, [], ◌∷◌}
 use Rattle.std.proofs.Common.{refl, sym, ap, ◌∙◌, subst, arith}
 use Rattle.std.proofs.lemmas.List.Sums.{sum_by-cons}
-use Rattle.chip_graph.specs.Sums.{sum_below}
-use Rattle.chip_graph.specs.Multigraph.{Multigraph, IsGraph, degree}
-use Rattle.chip_graph.specs.More.{brought_to}
+use Rattle.chip_graph.specs.Multigraph.{Multigraph}
 use Rattle.chip_graph.proofs.SumLemmas.{sum_below_add, sum_below_ext}
 use Rattle.chip_sequence.specs.Firing.{IsLegal}
 use Rattle.chip_sequence.specs.Sequence.{position_after, IsFiringSequence, counts, HasEnded}
@@ -13,8 +11,7 @@ use Rattle.chip_sequence.specs.Sittings.{Leads, LeadsTo}
 use Rattle.chip_sequence.proofs.FiringLemmas.{led_once, position_is, more_chips}
 use Rattle.chip_sequence.proofs.SittingLemmas.{leads_both, ends_alike}
 use Rattle.chip_drops.specs.declared.avalanche.Avalanche.{Avalanche}
-use Rattle.chip_drops.specs.Avalanches.{dropped, IsAvalanche, AreAvalanches}
-use Rattle.chip_drops.specs.Pile.{IsStable}
+use Rattle.chip_drops.specs.Avalanches.{dropped, IsAvalanche}
 use Rattle.chip_drops.specs.Laws.{all_dropped, DropsAddUp}
 use Rattle.chip_drops.proofs.AvalancheLemmas.{length_counts}
 

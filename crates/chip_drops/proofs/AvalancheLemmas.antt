@@ -1,6 +1,6 @@
 -- Serves Avalanches.antt, Pile.antt, Laws.antt.
 -- What a drop changes, and what the play after it comes to.
-use Rattle.std.proofs.Common.{◌≡◌, ◌≢◌, ℕ, zero, suc, ◌+◌, ◌-◌, ◌*◌, ◌<◌, ◌≤◌, cond, eqb, List, [], ◌∷◌, length, sum}
+use Rattle.std.proofs.Common.{◌≡◌, ℕ, ◌+◌, ◌-◌, ◌*◌, ◌<◌, ◌≤◌, cond, eqb, List, [], ◌∷◌, length, sum}
 use Rattle.std.proofs.Common.{get_or, set, slice_index, refl, sym, ap, ◌∙◌, subst, arith, get_or-set_same}
 use Rattle.std.proofs.Common.{get_or-set_other, length-set, mul-zero}
 use mathlib.Core.Logic.{dite}
@@ -19,7 +19,7 @@ use Rattle.chip_sequence.specs.Certificate.{AreForced, IsOnTheWay}
 use Rattle.chip_sequence.specs.Play.{IsPlayed}
 use Rattle.chip_sequence.specs.declared.outcome.Outcome.{Outcome}
 use Rattle.chip_sequence.specs.Sittings.{LeadsTo}
-use Rattle.chip_sequence.proofs.FiringLemmas.{counts_here, counts_else, IsLedTo, led_once, position_is, sink_never, more_chips}
+use Rattle.chip_sequence.proofs.FiringLemmas.{counts_here, counts_else, led_once, position_is, sink_never, more_chips}
 use Rattle.chip_sequence.proofs.EndLemmas.{least_action, continued}
 use Rattle.chip_sequence.proofs.BoundLemmas.{led_total, ends}
 use Rattle.chip_sequence.proofs.CertificateLemmas.{led, on_the_way, end_of_the_way, same_way, playing_on}
@@ -27,7 +27,7 @@ use Rattle.chip_sequence.proofs.CertificateLemmas.{start_on_the_way}
 use Rattle.chip_sequence.proofs.SittingLemmas.{ends_alike}
 use Rattle.chip_fire.specs.Rounds.{IsBegun, IsAtRest, IsInRange, StaysOnTheWay}
 use Rattle.chip_drops.specs.declared.avalanche.Avalanche.{Avalanche}
-use Rattle.chip_drops.specs.Avalanches.{dropped, extent_of, Tells, IsAvalanche}
+use Rattle.chip_drops.specs.Avalanches.{dropped, IsAvalanche}
 use Rattle.chip_drops.specs.Pile.{IsStable}
 use Rattle.chip_drops.specs.WorkList.{size_between, extent_between}
 

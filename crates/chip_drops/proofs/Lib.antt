@@ -1,3 +1,4 @@
 pub mod AvalancheLemmas
 pub mod WorkLemmas
 pub mod AddUpLemmas
+pub mod RowLemmas

@@ -12,5 +12,7 @@ pub mod Avalanches
 pub mod Pile
 pub mod WorkList
 pub mod PlayedOut
+pub mod Rows
+pub mod Out
 pub mod Laws
 pub mod Worked

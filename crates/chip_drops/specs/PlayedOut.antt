@@ -1,5 +1,5 @@
 -- What a play comes to that goes on after a drop.
-use Rattle.std.specs.Prelude.{◌≡◌, ◌↔◌, ℕ, ◌-◌, ◌≤◌, ◌==◌, if◌then◌else◌, true, List, slice_index}
+use Rattle.std.specs.Prelude.{◌≡◌, ◌↔◌, ℕ, ◌-◌, ◌==◌, if◌then◌else◌, true, List, slice_index}
 use Rattle.chip_graph.specs.Sums.{sum_below}
 use Rattle.chip_graph.specs.ChipGame.{ChipGame}
 use Rattle.chip_fire.specs.Rounds.{IsBegun, IsAtRest}

@@ -1,10 +1,9 @@
 -- Three drops on the triangle, by hand.
-use Rattle.std.specs.Prelude.{◌≡◌, ℕ, List, [], ◌∷◌}
+use Rattle.std.specs.Prelude.{◌≡◌, [], ◌∷◌}
 use Rattle.chip_graph.specs.Worked.{triangle}
 use Rattle.chip_sequence.specs.Firing.{legal_vertices}
 use Rattle.chip_sequence.specs.Sequence.{position_after, IsFiringSequence}
 use Rattle.chip_sequence.specs.Worked.{chips_on, on_each}
-use Rattle.chip_drops.specs.declared.avalanche.Avalanche.{Avalanche}
 use Rattle.chip_drops.specs.Avalanches.{dropped, Tells}
 
 -- with a chip on 0 and one on 1, one more on 0 lets 0 fire and then 1

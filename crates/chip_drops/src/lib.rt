@@ -5,9 +5,11 @@
 
 pub use avalanche::Avalanche;
 pub use pile::Pile;
+pub use rows::{Dropped, RowsFault, write_rows};
 
 mod avalanche;
 pub mod laws;
 pub mod pile;
 mod play;
+pub mod rows;
 mod work_list;

@@ -1,6 +1,5 @@
-use Rattle.std.proofs.Common.{◌≡◌, ℕ, ◌+◌, ◌<◌, ◌≤◌, List, length, slice_index, refl, ap, ◌∙◌, arith}
+use Rattle.std.proofs.Common.{◌≡◌, ℕ, List, length, slice_index, refl, ap, ◌∙◌, arith}
 use Rattle.std.proofs.lemmas.List.{with_items_is}
-use Rattle.chip_fire.specs.Rounds.{IsBegun}
 use Rattle.chip_drops.proofs.AvalancheLemmas.{begun_worked, played_more}
 use Rattle.chip_drops.proofs.WorkLemmas.{begun_items, played_out, rest_size, rest_extent, rest_fits, extent_small}
 use Rattle.chip_drops.proofs.play.play_out.Goals as goal

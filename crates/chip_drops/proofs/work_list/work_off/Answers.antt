@@ -1,4 +1,4 @@
-use Rattle.std.proofs.Common.{◌≡◌, ℕ, ◌+◌, ◌-◌, ◌<◌, ◌≤◌, cond, eqb, length, get_or, slice_index, refl, subst, arith}
+use Rattle.std.proofs.Common.{◌≡◌, ℕ, ◌-◌, ◌<◌, eqb, length, get_or, slice_index, refl, subst, arith}
 use Rattle.chip_drops.specs.WorkList.{IsBatch}
 use Rattle.chip_drops.proofs.WorkLemmas.{worked_none, worked_fires, worked_rests, size_small, extent_small, one_small}
 use Rattle.chip_drops.proofs.work_list.work_off.Goals as goal

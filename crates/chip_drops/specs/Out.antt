@@ -1,0 +1,19 @@
+-- Bytes that go out by and by.
+use Rattle.std.specs.Prelude.{◌≡◌, ℕ, List, ◌++◌, length, take, Option, Result, Ok, Err}
+use Rattle.std.specs.Io.KnownBytes.{Appends}
+use Rattle.chip_report.specs.Written.{WritesAll}
+use Rattle.chip_drops.specs.declared.rows.RowsFault.{RowsFault}
+use Rattle.chip_drops.specs.declared.rows.RowsFault.TheVariants.{Write, NoMemory}
+
+-- of all bytes so many were written, and the pending ones are still to be
+pub record IsOut (old now : Option (List ℕ)) (pending : List ℕ) (written : ℕ) (all : List ℕ) : Type 0 where
+  pub front : List ℕ
+  pub went : Appends old now front
+  pub whole : front ++ pending ≡ all
+  pub counted : length front ≡ written
+
+-- all bytes are written or pending; or a fault says how many were written, or there was no memory
+abbrev pub GoesOut : Option (List ℕ) → Option (List ℕ) → List ℕ → ℕ → List ℕ → Result (Unit {0}) RowsFault → Type 0
+GoesOut old now pending written all (Ok done) = IsOut old now pending written all
+GoesOut old now pending written all (Err (Write w)) = WritesAll old now all (Err w)
+GoesOut old now pending written all (Err NoMemory) = (k : ℕ) × Appends old now (take k all)

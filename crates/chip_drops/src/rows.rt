@@ -1,0 +1,148 @@
+//! The rows of drops.
+
+ghost use Rattle.std.specs.Prelude.{◌≡◌, ℕ, ◌+◌, ◌<◌, ◌≤◌, ◌++◌, [], IfOk, List, sum, slice_index};
+ghost use Rattle.std.specs.Prelude.{string_bytes, Option};
+ghost use Rattle.chip_graph.specs.Limits.{max_total};
+ghost use Rattle.chip_graph.specs.More.{AreOfVertices, all_brought};
+ghost use Rattle.chip_drops.specs.Pile.{IsPile, IsStable};
+ghost use Rattle.chip_drops.specs.Rows.{WritesRows, row_text};
+ghost use Rattle.chip_drops.specs.Out.{IsOut, GoesOut};
+
+use crate::avalanche::Avalanche;
+use crate::pile::Pile;
+use chip_report::{WriteFault, write_all_of};
+use std::alloc::{AllocError, Global};
+use std::io::Write;
+
+/// How many bytes are put together before they are written.
+const STRETCH: usize = 1 << 16;
+
+/// How many bytes a row has at most.
+const ROW: usize = 128;
+
+/// A pile after drops.
+#[derive(Drop)]
+pub struct Dropped {
+    pub pile: Pile,
+    /// Whether all drops were made, and the play of each has ended with no vertex legal.
+    pub all: bool,
+}
+
+/// Why not all rows were written.
+#[derive(Clone, Copy, Debug, PartialEq, Eq)]
+pub enum RowsFault {
+    /// The output, and how many bytes of it went out.
+    Write(WriteFault),
+    /// Memory ran out.
+    NoMemory,
+}
+
+impl From<AllocError> for RowsFault {
+    ghost use Rattle.std.specs.Prelude.{◌≡◌};
+    ghost use Rattle.chip_drops.specs.declared.rows.RowsFault.TheVariants.{NoMemory};
+
+    ghost from_gives = { λ _ fault. fault ≡ NoMemory };
+
+    fn from(_error: AllocError) -> RowsFault {
+        RowsFault::NoMemory
+    }
+}
+
+/// Rows that are put together until they are written.
+#[derive(Drop)]
+struct Rows {
+    text: String,
+    /// How many bytes were written.
+    written: u64,
+}
+
+impl Rows {
+    /// Writes what was put together.
+    fn write<W: Write>(&mut self, output: &mut W) -> Result<(), RowsFault>
+        ensures flushed { IfOk result (λ _. string_bytes self.new.text ≡ []) }
+        ensures bytes { (old : Option (List ℕ)) (all : List ℕ)
+            → IsOut old (W.contents output.old) (string_bytes self.old.text) self.old.written all
+            → GoesOut old (W.contents output.new) (string_bytes self.new.text) self.new.written all result }
+    {
+        let Some(written) = self.written.checked_add(self.text.len() as u64) else {
+            return Err(RowsFault::NoMemory);
+        };
+        match write_all_of(output, self.text.as_bytes()) {
+            Ok(()) => {
+                self.written = written;
+                self.text.clear();
+                Ok(())
+            }
+            Err(fault) => Err(RowsFault::Write(WriteFault {
+                written: self.written + fault.written,
+            })),
+        }
+    }
+
+    /// Puts a row to them, and writes them where there are enough.
+    fn push<W: Write>(
+        &mut self,
+        vertex: u64,
+        count: u64,
+        avalanche: Avalanche,
+        output: &mut W,
+    ) -> Result<(), RowsFault>
+        ensures { (old : Option (List ℕ)) (all : List ℕ)
+            → IsOut old (W.contents output.old) (string_bytes self.old.text) self.old.written all
+            → GoesOut old (W.contents output.new) (string_bytes self.new.text) self.new.written
+            (all ++ row_text (vertex, count) avalanche) result }
+    {
+        push_row(&mut self.text, vertex, count, avalanche)?;
+        if self.text.len() < STRETCH {
+            return Ok(());
+        }
+        self.write(output)
+    }
+}
+
+/// Appends the row of a drop.
+fn push_row(
+    text: &mut String,
+    vertex: u64,
+    count: u64,
+    avalanche: Avalanche,
+) -> Result<(), AllocError>
+    ensures { IfOk result
+        (λ _. string_bytes text.new ≡ string_bytes text.old ++ row_text (vertex, count) avalanche) }
+{
+    let Avalanche { size, extent, lost } = avalanche;
+    writeln!(text, "{vertex},{count},{size},{extent},{lost}")
+}
+
+/// Drops chips one after another on a pile, each a vertex and a count, and writes a row for each when its play has ended;
+/// the pile that they leave. Nothing is dropped after one whose play the limit has stopped, and it has no row.
+pub fn write_rows<W: Write>(
+    alloc: Global,
+    mut pile: Pile,
+    drops: &[(u64, u64)],
+    output: &mut W,
+) -> Result<Dropped, RowsFault>
+    requires pile { IsPile pile }
+    requires stable { IsStable pile.game.graph (slice_index pile.chips.items) }
+    requires vertices { AreOfVertices pile.game drops.now }
+    requires few_chips { sum pile.game.start + all_brought drops.now ≤ max_total }
+    requires first { pile.drops ≡ 0 }
+    ensures { WritesRows pile drops.now (W.contents output.old) (W.contents output.new) result }
+{
+    let mut text = String::with_capacity(alloc, STRETCH + ROW)?;
+    text.push_str("vertex,chips,size,extent,lost\n")?;
+    let mut rows = Rows { text, written: 0 };
+    'drops: for &(vertex, count) in drops {
+        let (next, avalanche) = pile.drop_chips(alloc, vertex, count);
+        pile = next;
+        match avalanche {
+            None => {
+                rows.write(output)?;
+                return Ok(Dropped { pile, all: false });
+            }
+            Some(avalanche) => rows.push(vertex, count, avalanche, output)?,
+        }
+    }
+    rows.write(output)?;
+    Ok(Dropped { pile, all: true })
+}

@@ -242,27 +242,27 @@ fn replays_the_triangle(rt: HostRuntime) {
 const BEGUN: &str = "vertex,kind,edge,count\n0,take,4,4\n0,fire,0,1\n1,take,0,1\n";
 
 /// A trace with its limit, and the text and the status of a replay that tells what is left.
-struct Replayed {
+struct Remainder {
     trace: &'static str,
     limit: u64,
     lines: &'static str,
     status: u8,
 }
 
-const REPLAYED: &[&Replayed] = &[
-    &Replayed {
+const REMAINDERS: &[&Remainder] = &[
+    &Remainder {
         trace: RUN,
         limit: NO_LIMIT,
         lines: "fire 0 2\nfire 1 1\n",
         status: 0,
     },
-    &Replayed {
+    &Remainder {
         trace: BEGUN,
         limit: 2,
         lines: "fire 0 1\nleft: edge 1 has 1 messages\nleft: vertex 0 can fire\n",
         status: 2,
     },
-    &Replayed {
+    &Remainder {
         trace: BEGUN,
         limit: 1,
         lines: "fire 0 1\nleft: edge 1 has 1 messages\nleft: vertex 0 is at its limit\n",
@@ -271,32 +271,32 @@ const REPLAYED: &[&Replayed] = &[
 ];
 
 /// A replay of the triangle tells what is left.
-fn replays(rt: &(impl AllocGlobal + Abort), replayed: &Replayed) {
+fn tells(rt: &(impl AllocGlobal + Abort), told: &Remainder) {
     let mut output = Vec::new(rt.alloc());
     let options = ReplayOptions {
-        play: PlayOptions::standard(replayed.limit),
+        play: PlayOptions::standard(told.limit),
         complete: true,
     };
     let ended = replay_engine_with(
         rt.alloc(),
         &mut TRIANGLE.as_bytes(),
         &mut "vertex,chips\n0,4\n".as_bytes(),
-        &mut replayed.trace.as_bytes(),
+        &mut told.trace.as_bytes(),
         options,
         &mut output,
     );
-    assert!(rt; ended == closed(replayed.status), "{}", replayed.trace);
+    assert!(rt; ended == closed(told.status), "{}", told.trace);
     assert!(rt;
-        output.as_slice() == replayed.lines.as_bytes(),
+        output.as_slice() == told.lines.as_bytes(),
         "{}",
-        replayed.trace
+        told.trace
     );
 }
 
 #[test]
 fn tells_what_is_left_of_the_triangle(rt: HostRuntime) {
-    for replayed in REPLAYED {
-        replays(&rt, replayed);
+    for told in REMAINDERS {
+        tells(&rt, told);
     }
 }
 

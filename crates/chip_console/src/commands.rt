@@ -3,14 +3,14 @@
 use crate::console::{Console, Reader};
 use crate::progress::RoundProgress;
 use chip_arguments::{
-    CheckArguments, GameArguments, PlainArguments, PlayArguments, ReplayArguments,
-    SimulationArguments, VerifyArguments,
+    AvalancheArguments, CheckArguments, GameArguments, PlainArguments, PlayArguments,
+    ReplayArguments, SimulationArguments, VerifyArguments,
 };
 use chip_command::{Ended, Fault};
 use chip_engine::{
-    PlayOptions, ReplayOptions, SimulateOptions, check_engine_with, plain_engine_with,
-    plain_guess_engine_with, replay_engine_with, resume_engine_with, simulate_engine_with,
-    verify_engine_with,
+    PlayOptions, ReplayOptions, SimulateOptions, avalanches_engine_with, check_engine_with,
+    plain_engine_with, plain_guess_engine_with, replay_engine_with, resume_engine_with,
+    simulate_engine_with, verify_engine_with,
 };
 use chip_graph::Limits;
 use chip_link::Ring;
@@ -63,6 +63,31 @@ pub fn play<R: Files<File = File> + Input + Clock + Eprint + AllocGlobal, W: io:
             output,
         ),
     }
+}
+
+/// Drops chips one after another.
+pub fn drop_chips<R: Files<File = File> + Input + Clock + Eprint + AllocGlobal, W: io::Write>(
+    console: &Console<'_, R>,
+    asked: &AvalancheArguments<'_>,
+    output: &mut W,
+) -> Result<Ended, Fault> {
+    let game = &asked.play.game;
+    let (mut graph, mut chips) = open_game(console, game)?;
+    let mut drops = console.open(&asked.drops)?;
+    let mut report = match &asked.report {
+        Some(file) => Some(console.create(file, &graph, &chips, Some(&drops))?),
+        None => None,
+    };
+    avalanches_engine_with(
+        console.rt.alloc(),
+        &mut graph,
+        &mut chips,
+        &mut drops,
+        play_options(game),
+        &mut RoundProgress::start(console),
+        output,
+        &mut report,
+    )
 }
 
 /// Runs a schedule.

@@ -124,16 +124,16 @@ impl<R: Files<File = File> + Input + Clock + Eprint> Console<'_, R> {
         file: &FileArgument<'_>,
         graph: &Reader<'_, R>,
         chips: &Reader<'_, R>,
-        feed: Option<&Reader<'_, R>>,
+        more: Option<&Reader<'_, R>>,
     ) -> Result<File, Fault> {
         self.last.store(file.number, SeqCst);
         let fault = Fault::Open(file.number);
         if let Ok(old) = fs::metadata(self.rt, file.path) {
-            let is_feed = match feed {
-                Some(feed) => feed.is_file(&old),
+            let is_more = match more {
+                Some(more) => more.is_file(&old),
                 None => false,
             };
-            if is_feed || graph.is_file(&old) || chips.is_file(&old) {
+            if is_more || graph.is_file(&old) || chips.is_file(&old) {
                 return Err(fault);
             }
         }

@@ -8,7 +8,9 @@ ghost use Rattle.std.specs.Prelude.{◌≡◌, None};
 
 use chip_arguments::{ArgumentsFault, Request, RunArguments, limits, parse};
 use chip_command::{Ended, Fault, Status, conclude, explanations, rules};
-use chip_console::commands::{check, limits_of, open_game, play, replay, resume, simulate, verify};
+use chip_console::commands::{
+    check, drop_chips, limits_of, open_game, play, replay, resume, simulate, verify,
+};
 use chip_console::{Console, tell_more};
 use chip_crew::{MAX_TRACE_ROWS, MAX_TURNS, MAX_WORKERS, Plan, Sharing};
 use chip_engine::{explain_engine, plain_engine};
@@ -114,6 +116,7 @@ fn serve<
         Request::Help(text) => conclude(output, text.as_bytes(), Ended::of(Status::Done)),
         Request::Check(asked) => check(console, asked, output),
         Request::Plain(asked) => play(console, asked, output),
+        Request::Avalanches(asked) => drop_chips(console, asked, output),
         Request::Simulate(asked) => simulate(console, asked, output),
         Request::Run(asked) => play_on_threads(console, asked, output),
         Request::Replay(asked) => replay(console, asked, output),

@@ -66,6 +66,11 @@ class Core:
         rows = [*graph["edges"], *((-1, vertex, 0) for vertex in range(graph["vertices"]))]
         self.edges = [Edge(number, *row) for number, row in enumerate(rows)]
         self.graph_edges = len(graph["edges"])
+        self._ins: list[list[int]] = [[] for _ in self.vertices]
+        self._outs: list[list[int]] = [[] for _ in [*self.vertices, None]]  # (the last one is the root's)
+        for e in self.edges:
+            self._ins[e.head].append(e.number)
+            self._outs[e.tail].append(e.number)
         for vertex, e in enumerate(self.edges[self.graph_edges :]):
             if chips[vertex]:
                 e.sent, e.put = (chips[vertex],), 1
@@ -83,10 +88,10 @@ class Core:
         return (*(tuple(vars(part).values()) for part in parts), self.ended, self.own)
 
     def ins(self, v: int) -> list[Edge]:
-        return [e for e in self.edges if e.head == v]
+        return [self.edges[number] for number in self._ins[v]]
 
     def outs(self, v: int) -> list[Edge]:
-        return [e for e in self.edges if e.tail == v]
+        return [self.edges[number] for number in self._outs[v]]
 
     def degree(self, v: int) -> int:
         return sum(e.mult for e in self.outs(v))
@@ -346,33 +351,43 @@ class Core:
     def turn(self, v: int) -> None:
         """One turn of a vertex, as docs/CORE.md tells it."""
         vertex = self.vertices[v]
-        ins, outs = [e.number for e in self.ins(v)], [e.number for e in self.outs(v)]
-        for e in ins:
-            self.take(e)
-        for e in outs:
-            self.settle(e)
+        for e in self.ins(v):
+            self.step("take", e.number)
+        for e in self.outs(v):
+            self.step("settle", e.number)
         idle = not self.is_pending(v) and not self.has_unput(v)
         if vertex.halt is None and idle and self.is_legal(v) and vertex.fired < self.limit:
-            self.fire(v, min(vertex.chips // self.degree(v), self.limit - vertex.fired))
-        if vertex.halt is None:
-            for e in outs:
-                if self.edges[e].put < len(self.edges[e].sent):
-                    self.put(e)
-            if any(self.edges[e].refused for e in outs):
-                self.halt(v)
-            for e in outs:
-                if vertex.halt is None and self.edges[e].pending and self.clear(e) != "full":
-                    if self.claim(e) == "sealed":
-                        self.halt(v)
-                    else:
-                        self.put(e)
+            self.step("fire", v, min(vertex.chips // self.degree(v), self.limit - vertex.fired))
+        self.send(v)
         if vertex.halt is None and self.cause(v) == "over":
-            self.halt(v)
-        for e in ins:
-            if self.may_ack(self.edges[e]):
-                self.ack(e)
-        if vertex.parent is not None and self.may_ack(self.edges[vertex.parent]):
-            self.ack(vertex.parent)
+            self.step("halt", v)
+        self.acknowledge(v)
+
+    def send(self, v: int) -> None:
+        """A vertex puts what it claimed and sends what is pending, as far as there is room; at a seal it halts."""
+        vertex = self.vertices[v]
+        if vertex.halt is not None:
+            return
+        for e in self.outs(v):
+            if e.put < len(e.sent):
+                self.step("put", e.number)
+        if any(e.refused for e in self.outs(v)):
+            self.step("halt", v)
+        for e in self.outs(v):
+            if vertex.halt is None and e.pending and self.step("clear", e.number) != "full":
+                if self.step("claim", e.number) == "sealed":
+                    self.step("halt", v)
+                else:
+                    self.step("put", e.number)
+
+    def acknowledge(self, v: int) -> None:
+        """A vertex acknowledges on each edge what it may, and then once more on its parent edge."""
+        for e in self.ins(v):
+            if self.may_ack(e):
+                self.step("ack", e.number)
+        parent = self.vertices[v].parent
+        if parent is not None and self.may_ack(self.edges[parent]):
+            self.step("ack", parent)
 
     def drive(self, rounds: int) -> None:
         for _ in range(rounds):
@@ -381,7 +396,7 @@ class Core:
             for v in range(len(self.vertices)):
                 self.turn(v)
             for e in range(self.graph_edges, len(self.edges)):
-                self.settle(e)
+                self.step("settle", e)
 
     def board(self) -> str:
         """The books: the root's deficit, and of each engaged vertex its parent, its deficit and what it owes."""

@@ -1,8 +1,9 @@
 """A page that shows a run of the machine event by event: one file of HTML, which asks for nothing else.
 
 `page(simulation, file)` writes it, `recorded(graph, chips, trace)` makes a simulation of a run that was recorded.
-Replies and books are the program's; a `Ledger` adds up from them what stands where, and is held against the books at
-each event and against the report at the end. The page simulates nothing: it gets the facts that each event changed.
+Replies and books are the program's. What stands where is the model's, and so are the events of rounds and of recorded
+runs that nobody wrote down: a `Ledger` is held against each reply, the books after each event, and the report at the
+end. The page simulates nothing: it gets the facts that each event changed.
 """
 
 from __future__ import annotations
@@ -10,6 +11,7 @@ from __future__ import annotations
 import html
 import json
 import string
+from collections import deque
 from collections.abc import Iterable, Iterator, Mapping, Sequence
 from dataclasses import replace
 from typing import Any
@@ -17,11 +19,16 @@ from typing import Any
 from chipfire.chips import Chips
 from chipfire.layout import Point, places_of
 from chipfire.ledger import Disagreement, Ledger
-from chipfire.machine import Event, Reply, Setting, Simulation, TraceRow, read_trace
+from chipfire.machine import Event, Reply, Schedule, Setting, Simulation, TraceRow, read_trace
+from chipfire.model import Core
 from chipfire.program import AnyGraph, AnyProgram, known_chips, known_graph, replay, simulate
+from chipfire.schedules import opening
 from chipfire.sentences import Sentences
-from chipfire.spelling import RINGS, spell_rounds, spell_trace
 from chipfire.values import FILE, MAX_LIMIT, FileName, counted, own_text, write
+
+#: The sizes of rings that are tried for a trace, which does not tell its own.
+RINGS = (1, 2, 4, 8, 16, 32, 64)
+
 
 def page(
     simulation: Simulation, file: FileName, *, title: str = "A run of chipfire",
@@ -82,9 +89,9 @@ def _end(told: Simulation, ledger: Ledger) -> str:
     if told.report is not None:
         stopped = " A limit or a seal stopped a vertex." if not told.report.closed else ""
         return f"The root is closed: all is over.{stopped}"
-    if not ledger.root["ended"]:
+    if not ledger.core.ended:
         return "The root is open: it has not noted the end of feeding."
-    return f"The root is open: it waits for {counted(ledger.root['deficit'], 'acknowledgement')}."
+    return f"The root is open: it waits for {counted(ledger.facts['root'][0]['deficit'], 'acknowledgement')}."
 
 
 def recorded(
@@ -110,6 +117,74 @@ def recorded(
     raise ValueError(f"the rows of the trace cannot be played over rings of {cells} cells: which ring had the run?")
 
 
+class _Spelled(Core):
+    """A game that writes its events down, but for looks that find nothing."""
+
+    def __init__(self, *words: Any) -> None:
+        super().__init__(*words)
+        self.events = Schedule()
+
+    def step(self, kind: str, at: int, count: int = 0) -> str:
+        reply = super().step(kind, at, count)
+        if reply not in ("empty", "full") and (kind, reply) != ("settle", "done 0"):
+            self.events.append(Event(kind, at, count))
+        return reply
+
+
+def spell_rounds(setting: Setting, schedule: Sequence[Event], rounds: int) -> tuple[Event, ...]:
+    """A schedule, and after it the events of so many rounds of turns, or of those until the root is closed."""
+    core = opening(setting, _Spelled)
+    for event in schedule:
+        core.step(*event)
+    core.events = Schedule()
+    core.drive(rounds)
+    return (*schedule, *core.events)
+
+
+class _Recorded(_Spelled):
+    """Plays the rows of a trace, each vertex its own in their order."""
+
+    rows: list[deque[TraceRow]]
+
+    def turn(self, v: int) -> None:
+        """Takes and fires as long as the next rows fit, sends, and acknowledges."""
+        rows = self.rows[v]
+        for e in self.outs(v):
+            self.step("settle", e.number)
+        while rows and self._fits(rows[0]):
+            row = rows.popleft()
+            if row.kind == "take":
+                self.step("take", row.edge)
+            else:
+                self.step("fire", v, row.count)
+                self.send(v)
+        self.send(v)
+        if not rows and self.vertices[v].halt is None and self.cause(v):
+            self.step("halt", v)
+        self.acknowledge(v)
+
+    def _fits(self, row: TraceRow) -> bool:
+        if row.kind == "take":
+            return self.edges[row.edge].delivered < self.edges[row.edge].put
+        return not self.is_pending(row.vertex) and not self.has_unput(row.vertex)
+
+
+def spell_trace(setting: Setting, trace: Sequence[TraceRow]) -> tuple[Event, ...] | None:
+    """Events in which each vertex takes and fires what its rows in a trace say, and in their order.
+
+    Sends come as soon as there is room in the rings, acknowledgements as soon as they are allowed. The rows of a run
+    are all played, if the rings of the setting have as many cells as those of the run had; else it may be None.
+    """
+    core, made = opening(setting, _Recorded), -1
+    core.rows = [deque() for _ in core.vertices]
+    for row in trace:
+        core.rows[row.vertex].append(row)
+    while made < len(core.events):
+        made = len(core.events)
+        core.drive(1)
+    return None if any(core.rows) else tuple(core.events)
+
+
 def _made_up(rows: Sequence[TraceRow], cells: int) -> str:
     return (
         f"The run was recorded, in a trace of {counted(len(rows), 'row')} which the program can replay. Here each "
@@ -127,7 +202,7 @@ def spelled_out(simulation: Simulation, program: AnyProgram = None) -> Simulatio
     """
     setting, schedule, made_up = simulation.game, simulation.schedule, simulation.made_up
     if simulation.rounds:
-        schedule = spell_rounds(setting, schedule, simulation.replies, simulation.rounds)
+        schedule = spell_rounds(setting, schedule, simulation.rounds)
         made_up = (
             f"The schedule has {counted(len(simulation.schedule), 'event')}. Those behind it are the rounds of turns "
             "that followed, spelled out without the looks that would find nothing. The program was asked both ways, "
@@ -196,7 +271,7 @@ class Words:
         says = self.sentences
         step: dict[str, Any] = {"kind": event.kind, "at": event.at, "done": reply.is_done}
         step["event"] = self.number(says.event(event, reply))
-        step["reply"] = self.number(says.reply(event, reply, ledger))
+        step["reply"] = self.number(says.reply(event, reply, ledger.core))
         question = says.ask(event)
         if question is not None:
             is_vain = reply.kind in ("empty", "full") or event.kind == "settle" and reply.numbers == (0,)

@@ -14,7 +14,7 @@ import random
 from collections import deque
 from collections.abc import Callable, Iterable, Iterator, Sequence
 from dataclasses import dataclass
-from typing import Any, Union
+from typing import Any, TypeVar, Union
 
 from chipfire.detectors import known_detector
 from chipfire.machine import Event, Schedule, Setting
@@ -23,6 +23,7 @@ from chipfire.values import FILE, FileName, counted
 
 #: A name of DETECTORS, or a class.
 Detector = Union[str, type[Core]]
+AnyCore = TypeVar("AnyCore", bound=Core)
 #: The header of a log, and what its last row may name: the root, with the reply `closed` or `open`.
 LOG_HEADER = ("event", "at", "count", "reply")
 CLAIM = "root"
@@ -34,7 +35,11 @@ _SEND = ("clear", "claim", "put")
 
 def opened(setting: Setting, detector: Detector = "right") -> Core:
     """A game at its start, on the model."""
-    make = known_detector(detector).make if isinstance(detector, str) else detector
+    return opening(setting, known_detector(detector).make if isinstance(detector, str) else detector)
+
+
+def opening(setting: Setting, make: type[AnyCore]) -> AnyCore:
+    """The same of a class."""
     graph = {"vertices": setting.graph.vertices, "sink": setting.graph.sink, "edges": setting.graph.edges}
     return make(graph, setting.chips, setting.limit, setting.ring, setting.fed)
 

@@ -6,8 +6,9 @@ import json
 from typing import Any
 
 from chipfire.graphs import Graph
-from chipfire.ledger import HALTS, Change, Ledger
+from chipfire.ledger import Change
 from chipfire.machine import Event, Reply
+from chipfire.model import Core
 from chipfire.values import counted, own_text
 
 _COUNTED = ("chip", "firing", "message", "acknowledgement")
@@ -65,32 +66,30 @@ class Sentences:
         said = words.format(**facts)
         return f"{said[0].upper()}{said[1:]}"
 
-    def reply(self, event: Event, reply: Reply, ledger: Ledger | None = None) -> str:
-        """What the reply to an event was; with what stands where, also why exactly it was refused."""
+    def reply(self, event: Event, reply: Reply, core: Core | None = None) -> str:
+        """What the reply to an event was; with the game before it, also why exactly it was refused."""
         kind = event.kind if reply.kind == "done" else reply.kind
         last = reply.numbers[-1] if reply.numbers else 0
-        why = self._why_engaged(event.at, ledger) if ledger is not None and reply.name == "Engaged" else ""
+        why = self._why_engaged(event.at, core) if core is not None and reply.name == "Engaged" else ""
         place = str([*reply.numbers, 0][0])
         words = {"number": str(last), "why": why or str(reply.why), "place": place, **_numbers(last)}
         if event.kind in ("settle", "end"):
             words["acknowledgements"] = counted(last, "new acknowledgement")
-        return self.words["replies"][f"halt {HALTS[last]}" if kind == "halt" else kind].format(**words)
+        return self.words["replies"][f"halt {last}" if kind == "halt" else kind].format(**words)
 
-    def _why_engaged(self, edge: int, ledger: Ledger) -> str:
+    def _why_engaged(self, edge: int, core: Core) -> str:
         """What a vertex has still to do, or to wait for, before it may acknowledge the message that engaged it."""
-        vertex, waits = ledger.heads[edge], self.words["waits"]
-        facts, outs = ledger.vertices[vertex], {out: ledger.edges[out] for out in ledger.outs[vertex]}
-        pending = sum(its["pending"] for its in outs.values()) if facts["halted"] is None else 0
-        can_fire = facts["halted"] is None and not pending and ledger.is_legal(vertex)
-        heads = dict.fromkeys(self.ends(out)[1] for out, its in outs.items() if its["sent"] > its["settled"])
-        found = [waits["chips"]] if can_fire else []
+        vertex, waits = core.edges[edge].head, self.words["waits"]
+        outs, runs = core.outs(vertex), core.vertices[vertex].halt is None
+        pending, deficit = sum(out.pending for out in outs) if runs else 0, core.deficit(outs)
+        heads = dict.fromkeys(self.ends(out.number)[1] for out in outs if len(out.sent) > out.settled)
+        found = [waits["chips"]] if runs and not pending and core.is_legal(vertex) else []
         found += [waits["pending"].format(**_numbers(pending))] if pending else []
-        found += [waits["claimed"]] if any(its["claimed"] for its in outs.values()) else []
-        if facts["deficit"]:
-            found.append(waits["deficit"].format(heads=" and ".join(heads), **_numbers(facts["deficit"])))
-        for other in ledger.ins[vertex]:
-            owed = ledger.edges[other]["owed"]
-            found += [waits["owed"].format(at=other, **_numbers(owed))] if owed and other != edge else []
+        found += [waits["claimed"]] if core.has_unput(vertex) else []
+        found += [waits["deficit"].format(heads=" and ".join(heads), **_numbers(deficit))] if deficit else []
+        for other in core.ins(vertex):
+            owed = other.delivered - other.acked
+            found += [waits["owed"].format(at=other.number, **_numbers(owed))] if owed and other.number != edge else []
         return "; ".join(found)
 
     def change(self, change: Change) -> str:

@@ -8,8 +8,7 @@ from typing import Any
 from chipfire.detectors import known_detector
 from chipfire.layout import Point
 from chipfire.ledger import Ledger
-from chipfire.machine import Reply, Setting, Simulation
-from chipfire.model import Core
+from chipfire.machine import Setting, Simulation
 from chipfire.pages import Words, asked, compared, filled, page_data
 from chipfire.program import AnyProgram
 from chipfire.schedules import EVENTS, explore, opened
@@ -22,17 +21,6 @@ _BESIDE = """<div id="two">
 <svg id="drawing" role="img" aria-label="The graph after this event, with the wrong detector"></svg>
 <svg id="drawing-beside" role="img" aria-label="The graph after this event, with the right detector"></svg>
 </div>"""
-
-
-class _Ledger(Ledger):
-    """What stands where in a game of a model, whose root may close by a rule of its own."""
-
-    def __init__(self, setting: Setting, core: Core) -> None:
-        self.core = core
-        super().__init__(setting)
-
-    def is_closed(self) -> bool:
-        return self.core.is_closed()
 
 
 def wrong_page(
@@ -60,11 +48,9 @@ def wrong_page_text(
     if any(event.kind not in EVENTS for event in found.schedule):
         raise ValueError(f"{name} has events of its own, which no page shows; chipfire.explore tells the schedule")
     right = asked(setting, found.schedule, program)
-    words, core, ledger = Words(setting), opened(setting, name), Ledger(setting)
-    held, steps = _Ledger(setting, core), []
-    for event in found.schedule:
-        kind, *numbers = core.step(*event).split()
-        steps.append(words.step(held, event, Reply(kind, tuple(map(int, numbers)))))
+    words, core, held, ledger = Words(setting), opened(setting, name), Ledger(setting, name), Ledger(setting)
+    told = Simulation.parse("\n".join([*(core.step(*event) for event in found.schedule), "root open"]))
+    steps = [words.step(held, *row) for row in zip(found.schedule, told.replies)]
     beside = [words.step(ledger, *row) for row in compared(right, ledger)]
     ledger.close(right.report)
     left = " and ".join(it.replace(" can ", " can still ") for it in found.left)

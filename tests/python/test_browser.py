@@ -11,7 +11,8 @@ import unittest
 
 import browser
 import chipfire
-from test_pages import EXAMPLES, DETECTOR, core_of, detector
+from chipfire.schedules import opened
+from test_pages import EXAMPLES, DETECTOR, detector
 
 #: Reads off the page what its tables and its drawing show.
 SHOWN = """(() => {
@@ -178,7 +179,7 @@ class EachEvent(InBrowser):
         for name in DETECTOR:
             with self.subTest(name):
                 told = self.open(detector(name))
-                books, core = books_of(told), core_of(told.setting)
+                books, core = books_of(told), opened(told.setting)
                 self.shown(core, 0)
                 for step, (event, reply, lines) in enumerate(zip(told.schedule, told.replies, books), 1):
                     self.assertEqual(core.step(*event), str(reply))
@@ -202,9 +203,9 @@ class EachEvent(InBrowser):
         told = self.open(detector("deficit"))
         self.browser.press("End")
         self.assertEqual(self.browser.value(COUNTER), "event 32 of 32")
-        cores = [core_of(told.setting)]
+        cores = [opened(told.setting)]
         for count in range(1, 33):
-            cores.append(core_of(told.setting))
+            cores.append(opened(told.setting))
             for event in told.schedule[:count]:
                 cores[-1].step(*event)
         for step in range(32, 0, -1):
@@ -217,7 +218,7 @@ class EachEvent(InBrowser):
         chipfire.run(*files, workers=4, trace=f"{self.folder}/trace.csv", trace_rows=2**20)
         told = self.open(chipfire.recorded(*files, f"{self.folder}/trace.csv"), size=(1920, 1080))
         self.assertEqual(told.report, chipfire.Report.read(f"{EXAMPLES}/grid/report.json"))
-        books, core, looked = books_of(told), core_of(told.setting), range(0, len(told.schedule) + 1, 500)
+        books, core, looked = books_of(told), opened(told.setting), range(0, len(told.schedule) + 1, 500)
         for step, event in enumerate(told.schedule, 1):
             core.step(*event)
             if step in looked or step == len(told.schedule):
@@ -495,7 +496,7 @@ class Lessons(InBrowser):
             self.picture(f"diagram-{step}")
         # All messages, acknowledgements and spells of engagement, found once more from the replies.
         story = self.browser.value("story")
-        core, messages, answers, bands, engaged = core_of(told.setting), [[4, 0, 1]], [], [], {}
+        core, messages, answers, bands, engaged = opened(told.setting), [[4, 0, 1]], [], [], {}
         cells, given = {4: [messages[0]]}, {}
         for step, event in enumerate(told.schedule, 1):
             before = [vertex.parent for vertex in core.vertices]

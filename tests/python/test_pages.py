@@ -1,7 +1,7 @@
 """Pages of runs: what stands where after each event, how rounds and traces are spelled out, and the text of a page.
 
-What stands where is held against `chipfire.model`, which shares nothing with the rest of the package or the program,
-on the schedules of examples/detector and on random ones.
+What stands where is held against the program's replies, books and reports, and against what the replies come to when
+they are added up, on the schedules of examples/detector and on random ones.
 """
 import dataclasses
 import html
@@ -15,7 +15,7 @@ import tempfile
 import unittest
 
 import chipfire
-from chipfire import layout, ledger, model as plain_rules, sentences, spelling, wrong
+from chipfire import layout, ledger, sentences, wrong
 
 HERE = os.path.dirname(os.path.realpath(__file__))
 ROOT = os.path.dirname(os.path.dirname(HERE))
@@ -41,59 +41,82 @@ def detector(name, **more):
     return chipfire.simulate(*files, **options, **more)
 
 
-def core_of(setting):
-    """The opening by the plain rules."""
-    graph = {"vertices": setting.graph.vertices, "sink": setting.graph.sink, "edges": setting.graph.edges}
-    return plain_rules.Core(graph, setting.chips, setting.limit, setting.ring, setting.fed)
+class Tally:
+    """What stands where, added up from the replies alone."""
 
+    def __init__(self, setting):
+        graph, self.setting = setting.graph, setting
+        self.rows = [*graph.edges, *((None, vertex, 0) for vertex in range(graph.vertices))]
+        counts = dict.fromkeys(("pending", "claimed", "sent", "taken", "acknowledged", "settled"), 0)
+        self.edges = [dict(counts) for _ in self.rows]
+        for edge in self.edges:
+            edge.update(cells=[], clear=False, refused=False, sealed=False)
+        self.vertices = [{"chips": 0, "fired": 0, "halted": None, "parent": None} for _ in range(graph.vertices)]
+        self.ended = not setting.fed
+        for vertex, count in enumerate(setting.chips):
+            if count:
+                self.edges[graph.root_edge(vertex)].update(sent=1, cells=[(0, count)])
 
-def state_by_plain_rules(core):
-    """What stands where by the plain rules, in the words of the ledger."""
-    root = {
-        "deficit": core.deficit(core.edges[core.graph_edges:]), "ended": core.ended, "closed": core.is_closed()
-    }
-    halts = {None: None, "sealed": "seal", "over": "limit"}
-    vertices = [
-        {
-            "chips": it.chips, "fired": it.fired, "halted": halts[it.halt], "deficit": core.deficit(core.outs(number)),
-            "parent": it.parent,
-        }
-        for number, it in enumerate(core.vertices)
-    ]
-    return {"root": [root], "vertices": vertices, "edges": [edge_by_plain_rules(edge) for edge in core.edges]}
+    def outs(self, vertex):
+        return [edge for edge, (tail, _, _) in zip(self.edges, self.rows) if tail == vertex]
 
+    def state(self):
+        deficits = {vertex: sum(it["sent"] - it["settled"] for it in self.outs(vertex))
+                    for vertex in (None, *range(len(self.vertices)))}
+        root = {"deficit": deficits[None], "ended": self.ended, "closed": self.ended and not deficits[None]}
+        vertices = [{**it, "deficit": deficits[vertex]} for vertex, it in enumerate(self.vertices)]
+        edges = [{**it, "owed": it["taken"] - it["acknowledged"]} for it in self.edges]
+        return {"root": [root], "vertices": vertices, "edges": edges}
 
-def edge_by_plain_rules(edge):
-    return {
-        "pending": edge.pending,
-        "claimed": sum(edge.sent[edge.put:]),
-        "cells": [(place, edge.sent[place]) for place in range(edge.delivered, edge.put)],
-        "clear": edge.clear, "refused": edge.refused, "sealed": edge.sealed,
-        "sent": len(edge.sent), "taken": edge.delivered, "acknowledged": edge.acked, "settled": edge.settled,
-        "owed": edge.delivered - edge.acked,
-    }
+    def note(self, event, reply):
+        if not reply.is_done or event.kind == "read":
+            return
+        number, numbers = event.at, reply.numbers
+        if event.kind in ("fire", "halt"):
+            vertex = self.vertices[number]
+            if event.kind == "halt":
+                vertex["halted"] = ("seal", "limit")[numbers[0]]
+                return
+            vertex["fired"] = numbers[0]
+            vertex["chips"] -= event.count * self.setting.graph.degrees()[number]
+            for edge, (tail, _, mult) in zip(self.edges, self.rows):
+                edge.update({"pending": event.count * mult} if tail == number else {})
+            return
+        if event.kind == "end":
+            self.ended, number = True, len(self.setting.graph.edges)
+        edge, vertex = self.edges[number], self.vertices[self.rows[number][1]]
+        if reply.kind == "got":
+            self.assert_next(edge, numbers)
+            edge["cells"], edge["taken"] = edge["cells"][1:], edge["taken"] + 1
+            vertex["chips"] += numbers[1]
+            vertex["parent"] = number if vertex["parent"] is None else vertex["parent"]
+        elif event.kind == "ack":
+            edge["acknowledged"] += numbers[0]
+            if vertex["parent"] == number and edge["acknowledged"] == edge["taken"]:
+                vertex["parent"] = None
+        elif event.kind == "clear":
+            edge["clear"] = reply.kind == "done"
+        elif reply.kind == "sealed":
+            edge.update(clear=False, refused=True)
+        elif reply.kind == "sent":
+            edge.update(pending=0, clear=False, sent=numbers[0] + 1, claimed=numbers[1])
+        elif event.kind == "put":
+            edge.update(claimed=0, cells=[*edge["cells"], (edge["sent"] - 1, numbers[0])])
+        elif event.kind in ("settle", "end"):
+            edge["settled"] += numbers[0]
+        elif event.kind == "seal":
+            edge["sealed"] = True
 
+    @staticmethod
+    def assert_next(edge, numbers):
+        assert edge["cells"][0] == numbers, (edge, numbers)
 
-class Listening(plain_rules.Core):
-    """The plain rules, with a list of the events that found or changed something."""
-
-    def __init__(self, *words):
-        super().__init__(*words)
-        self.heard = []
-
-
-def _heard(kind):
-    def call(self, at, *count):
-        reply = getattr(plain_rules.Core, kind)(self, at, *count)
-        if reply not in ("empty", "full") and (kind, reply) != ("settle", "done 0"):
-            self.heard.append((kind, at, *(count or (0,))))
-        return reply
-
-    return call
-
-
-for _kind in ("take", "ack", "fire", "clear", "claim", "put", "halt", "settle"):
-    setattr(Listening, _kind, _heard(_kind))
+    def position(self):
+        """The chips of each vertex, with all that is on its way to it."""
+        found = [it["chips"] for it in self.vertices]
+        for edge, (_, head, _) in zip(self.edges, self.rows):
+            found[head] += edge["pending"] + edge["claimed"] + sum(count for _, count in edge["cells"])
+        return tuple(found)
 
 
 def random_graph(numbers):
@@ -140,28 +163,28 @@ def data_of(text):
 
 
 class States(unittest.TestCase):
-    """A ledger is told the program's replies, and what it has then is what the plain rules say."""
+    """A ledger is told the program's replies, and what it has then is what these come to."""
 
     def follow(self, simulation):
-        book, core = ledger.Ledger(simulation.setting), core_of(simulation.setting)
+        book, tally = ledger.Ledger(simulation.setting), Tally(simulation.setting)
         shown = book.state()
-        self.assertEqual(shown, state_by_plain_rules(core))
+        self.assertEqual(shown, tally.state())
         for event, reply, board in zip(simulation.schedule, simulation.replies, simulation.boards):
-            core.step(*event)
+            tally.note(event, reply)
             for kind, index, name, value in book.note(event, reply):
                 self.assertNotEqual(shown[kind][index][name], value)
-                shown[kind][index][name] = value
-            self.assertEqual(shown, state_by_plain_rules(core))
+                shown[kind][index] = {**shown[kind][index], name: value}
+            self.assertEqual(shown, tally.state())
             book.compare(board)
         book.close(simulation.report)
+        if simulation.root_closed:
+            self.assertEqual(tally.position(), simulation.report.chips)
 
     def test_the_schedules_of_the_examples(self):
         for name in DETECTOR:
             with self.subTest(name):
                 simulation = detector(name, books=True)
-                events = spelling.spell_rounds(
-                    simulation.setting, simulation.schedule, simulation.replies, simulation.rounds
-                )
+                events = chipfire.pages.spell_rounds(simulation.setting, simulation.schedule, simulation.rounds)
                 self.follow(asked(simulation.setting, events))
 
     def test_random_schedules(self):
@@ -211,11 +234,11 @@ class Disagreements(unittest.TestCase):
             self.refused("the books", boards=self.with_board(3, engaged={0: books}))
 
     def test_replies_that_are_others(self):
-        self.refused("taken from edge 4", replies=self.with_reply(0, "got", 0, 3))
-        self.refused("firings of vertex 0", replies=self.with_reply(1, "done", 3))
-        self.refused("sent on edge 0", replies=self.with_reply(3, "sent", 0, 3))
-        self.refused("place of the message on edge 0", replies=self.with_reply(3, "sent", 1, 2))
-        self.refused("put on edge 0", replies=self.with_reply(4, "done", 1))
+        for index, told, known in [(0, "got 0 3", "got 0 4"), (1, "done 3", "done 2"), (3, "sent 0 3", "sent 0 2"),
+                                   (3, "sent 1 2", "sent 0 2"), (4, "done 1", "done 2")]:
+            kind, *numbers = told.split()
+            replies = self.with_reply(index, kind, *map(int, numbers))
+            self.refused(f"the program tells {told}, and the model {known}", replies=replies)
 
     def test_a_page_tells_no_answers_but_the_programs(self):
         # What a hasty detector would answer is no answer of the program, whoever says so.
@@ -230,33 +253,34 @@ class Disagreements(unittest.TestCase):
 
     def test_a_report_that_is_another(self):
         report = self.simulation.report
-        self.refused("the chips", report=dataclasses.replace(report, chips=(0, 1, 3)))
-        self.refused("the firings", report=dataclasses.replace(report, fired=(2, 2, 0)))
-        self.refused("a limit halted", report=dataclasses.replace(report, over=(0,)))
-        self.refused("whether the root is closed", report=None)
+        for changed in ({"chips": (0, 1, 3)}, {"fired": (2, 2, 0)}, {"over": (0,)}, {"sealed": (1,)}):
+            self.refused("the end", report=dataclasses.replace(report, **changed))
+        self.refused("the end: the program tells None", report=None)
 
 
 class Spelled(unittest.TestCase):
     """Rounds and traces become the events that they stand for."""
 
-    def test_rounds_are_those_of_the_plain_rules(self):
-        halted = set()
+    def test_rounds_come_to_the_programs_end_by_events_that_do_something(self):
+        halts, closed = set(), 0
         for seed in range(60):
             numbers = random.Random(seed)
             setting = random_game(numbers, fed=False)
             begun = random_events(numbers, setting.graph, seed % 3 * 40)
-            simulation = asked(setting, begun, rounds=seed % 7)
-            core = Listening(*core_words(setting))
-            for event in begun:
-                core.step(*event)
-            core.heard.clear()
-            core.drive(seed % 7)
             with self.subTest(seed=seed):
-                spelled = spelling.spell_rounds(setting, simulation.schedule, simulation.replies, seed % 7)
-                self.assertEqual([tuple(event) for event in spelled[len(begun):]], core.heard)
-                self.assertEqual(asked(setting, spelled).report, simulation.report)
-            halted |= {vertex.halt for vertex in core.vertices}
-        self.assertEqual(halted, {None, "over", "sealed"})
+                for rounds in (seed % 7, seed % 7 + 1, 300):
+                    events = chipfire.pages.spell_rounds(setting, begun, rounds)
+                    self.assertEqual(list(events[: len(begun)]), begun)
+                    told, whole = asked(setting, events), asked(setting, begun, rounds=rounds)
+                    self.assertEqual((told.report, told.replies[: len(begun)]), (whole.report, whole.replies))
+                    answered = list(zip(events, told.replies))
+                    vain = [(event, reply) for event, reply in answered[len(begun):]
+                            if reply.kind in ("not-now", "empty", "full")
+                            or event.kind == "settle" and str(reply) == "done 0"]
+                    self.assertEqual(vain, [])
+                    halts |= {reply.numbers for event, reply in answered if event.kind == "halt" and reply.is_done}
+                    closed += told.root_closed
+        self.assertEqual((halts, closed > 60), ({(0,), (1,)}, True))
 
     def test_a_recorded_run_takes_and_fires_what_was_recorded(self):
         for seed in range(12):
@@ -292,11 +316,6 @@ class Spelled(unittest.TestCase):
         told = chipfire.recorded(TRIANGLE, {0: 4}, [(0, "take", 4, 4), (0, "fire", 0, 2), (1, "take", 0, 2)])
         self.assertFalse(told.root_closed)
         self.assertIn("that the root is open", chipfire.pages.page_text(told))
-
-
-def core_words(setting):
-    graph = {"vertices": setting.graph.vertices, "sink": setting.graph.sink, "edges": setting.graph.edges}
-    return graph, setting.chips, setting.limit, setting.ring, setting.fed
 
 
 def rows_of(simulation):

@@ -1,8 +1,8 @@
 """Guesses of all kinds, which change no answer of `plain`.
 
 The games are small and drawn at random, as they are or with each edge both ways, and with a limit or without. What must
-come is known from examples/play.py, whatever the guess: true counts, others, and the reports of verdicts.py. True counts
-must be certified if no vertex but the sink has a greater in-degree than out-degree, as on every undirected graph.
+come is known from examples/play.py, whatever the guess: true counts, others, and the reports of verdicts.py. True
+counts must be certified if no vertex but the sink has a greater in-degree than out-degree, as on every undirected graph.
 """
 import json
 import random

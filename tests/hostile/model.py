@@ -369,8 +369,8 @@ def degrees(graph):
 
 
 def play(graph, chips, limit, before=None):
-    """Fires until no vertex may, beyond the counts before; the chips are changed, and the counts and the vertices at the
-    limit come back."""
+    """Fires until no vertex may, beyond the counts before; the chips are changed, and the counts and the vertices at
+    the limit come back."""
     degree, sink = degrees(graph), graph["sink"]
     out = [[] for _ in chips]
     for tail, head, mult in graph["edges"]:
@@ -553,12 +553,13 @@ def replayed(graph, chips, traces, limit, complete):
     used = Replay(graph, chips, traces, limit)
     used.use_all()
     left = used.left() if complete else b""
-    return Answer(lambda out: faults_of_firings(Replay(graph, chips, traces, limit), out, left), status=2 if left else 0)
+    status = 2 if left else 0
+    return Answer(lambda out: faults_of_firings(Replay(graph, chips, traces, limit), out, left), status=status)
 
 
 def faults_of_firings(replay, out, left):
-    """What is wrong with the lines of a replay: each must be the next firing of its vertex, when it may come, before the
-    lines of what is left."""
+    """What is wrong with the lines of a replay: each must be the next firing of its vertex, when it may come, before
+    the lines of what is left."""
     if not out.endswith(left):
         return [f"expected {left!r} at the end of {out!r}"]
     for line in out[: len(out) - len(left)].splitlines(keepends=True):

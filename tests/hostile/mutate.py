@@ -48,8 +48,8 @@ def chips_text(chips, draw):
 
 def drops_text(graph, draw):
     """Drops on vertices at random, of few chips and of many."""
-    most = draw.choice([1, 1, 3, 60])
-    return rows("vertex,chips", [(draw.randrange(graph["vertices"]), draw.randint(0, most)) for _ in range(draw.randint(0, 20))])
+    most, vertices = draw.choice([1, 1, 3, 60]), range(graph["vertices"])
+    return rows("vertex,chips", [(v, draw.randint(0, most)) for v in draw.choices(vertices, k=draw.randint(0, 20))])
 
 
 def guess_text(graph, chips, draw, played):

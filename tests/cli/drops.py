@@ -122,9 +122,9 @@ def stopped(program):
     and faults.
 
     For each chip that vertex 0 sends to the sink it sends 2^20 to vertex 1, which sends each back by a firing of its
-    own: of 2^39 chips it has soon fired 2^40 times.
+    own: of 2^38 chips it has soon fired 2^40 times.
     """
-    edges, drops = [[0, 1, 2**20], [0, 2, 1], [1, 0, 1]], [(2, 1), (1, 1), (0, 2**39), (0, 1)]
+    edges, drops = [[0, 1, 2**20], [0, 2, 1], [1, 0, 1]], [(2, 1), (1, 1), (0, 2**38), (0, 1)]
     with tempfile.TemporaryDirectory(prefix="chipfire-drops-") as folder:
         player = large.built(folder)
         for chips, rows, done in [([0] * 3, [(2, 1, 0, 0, 0), (1, 1, 1, 1, 0)], 3), ([2**39, 0, 0], [], 0)]:

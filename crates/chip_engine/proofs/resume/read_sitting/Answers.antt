@@ -1,6 +1,6 @@
-use Rattle.std.proofs.Common.{List, ℕ, ◌∙◌}
+use Rattle.std.proofs.Common.{◌∙◌}
 use Rattle.chip_command.proofs.InputLemmas.{at_some}
-use Rattle.chip_engine.proofs.SittingLemmas.{resumed_of_report, refused_sitting, refused_report}
+use Rattle.chip_engine.proofs.SittingLemmas.{refused_sitting, refused_report}
 use Rattle.chip_engine.proofs.resume.read_sitting.Goals as goal
 
 pub returns-in_err-read_any_within : goal.returns-in_err-read_any_within

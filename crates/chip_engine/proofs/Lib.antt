@@ -8,4 +8,5 @@ pub mod GuessLemmas
 pub mod VerifyLemmas
 pub mod BoardLemmas
 pub mod AnswerLemmas
+pub mod DropLemmas
 pub mod SameLemmas

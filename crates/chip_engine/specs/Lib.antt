@@ -7,6 +7,7 @@ pub mod SimulateCommand
 pub mod ResumeCommand
 pub mod VerifyCommand
 pub mod GuessCommand
+pub mod AvalanchesCommand
 pub mod Sittings
 pub mod Worked
 pub mod SimulatedBytes

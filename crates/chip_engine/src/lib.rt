@@ -4,6 +4,7 @@
 //! (`specs/`). It opens no file and knows no command line. What can go wrong is a `Fault` of `chip_command`.
 #![tactic(auto)]
 
+pub use avalanches::{avalanches_engine, avalanches_engine_with};
 pub use check::{check_engine, check_engine_with};
 pub use explain::explain_engine;
 pub use options::PlayOptions;
@@ -13,6 +14,7 @@ pub use resume::{resume_engine, resume_engine_with};
 pub use simulate::{SimulateOptions, simulate_engine, simulate_engine_with};
 pub use verify::{verify_engine, verify_engine_with};
 
+mod avalanches;
 mod board;
 mod check;
 mod explain;

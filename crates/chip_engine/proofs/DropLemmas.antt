@@ -1,0 +1,162 @@
+-- Serves AvalanchesCommand.antt.
+-- Drops that a file names, and what playing them comes to.
+use Rattle.std.proofs.Common.{◌≡◌, ◌⊎◌, ℕ, ◌+◌, ◌<◌, ◌≤◌, Bool, true, false, List, [], ◌∷◌, ◌++◌, length, map, take, sum}
+use Rattle.std.proofs.Common.{slice_index, Option, None, Some, Result, Ok, Err, refl, sym, ap, ◌∙◌, subst, arith, inl, inr}
+use Rattle.std.proofs.Common.{ltb, ltb-true}
+use Rattle.std.specs.Prelude.{All, is_none, if◌then◌else◌}
+use Rattle.std.specs.Result.{IsErrAnd}
+use Rattle.std.specs.Io.KnownBytes.{Appends, Keeps}
+use Rattle.std.proofs.lemmas.List.{take_all}
+use Rattle.std.proofs.lemmas.List.Elements.{All-nil, All-cons}
+use Rattle.chip_graph.specs.Limits.{SizeLimits}
+use Rattle.chip_graph.specs.ChipGame.{ChipGame}
+use Rattle.chip_graph.specs.Multigraph.{Multigraph}
+use Rattle.chip_graph.specs.More.{HasMore}
+use Rattle.chip_graph.specs.Faults.{first_of_faults, fault_unless}
+use Rattle.chip_file.specs.declared.fault.FileFault.{FileFault}
+use Rattle.chip_file.specs.DropsText.{drop_in, drops_of_text, drops_text_fault}
+use Rattle.chip_file.specs.Rows.{Row, records_of, rows_under_header, by_index, first_row_fault}
+use Rattle.chip_file.specs.VertexRows.{vertex_in, vertex_row_fault}
+use Rattle.chip_sequence.specs.Play.{IsPlayed}
+use Rattle.chip_sequence.specs.declared.outcome.Outcome.{Outcome}
+use Rattle.chip_drops.specs.declared.avalanche.Avalanche.{Avalanche}
+use Rattle.chip_drops.specs.declared.pile.Pile.{Pile}
+use Rattle.chip_drops.specs.Avalanches.{AreAvalanches}
+use Rattle.chip_drops.specs.Rows.{rows_text, IsAfter, IsStoppedAt, AreRows, EndsRows, FailsRows}
+use Rattle.chip_drops.specs.declared.rows.RowsFault.{RowsFault}
+use Rattle.chip_drops.specs.declared.rows.RowsFault.TheVariants as rows_fault
+use Rattle.chip_report.specs.Written.{WritesAll}
+use Rattle.chip_report.specs.declared.write.WriteFault.{WriteFault}
+use Rattle.chip_command.specs.declared.ended.Ended.{Ended}
+use Rattle.chip_command.specs.declared.fault.Fault.{Fault}
+use Rattle.chip_command.specs.declared.fault.Fault.TheVariants.{Write, NoMemory}
+use Rattle.chip_engine.specs.AvalanchesCommand.{TellsDrops, ComesTo, FailsDrops, PlaysDrops, Outputs}
+use Rattle.chip_engine.specs.AvalanchesCommand.{AvalanchesAnswers, fault_of_rows}
+
+-- ---- the vertices of drops
+
+none_of : {F : Type 0} (fault later : Option F) → first_of_faults fault later ≡ None → (fault ≡ None) × (later ≡ None)
+none_of None later is = (refl, is)
+none_of (Some f) later is = cc
+
+passed : {F : Type 0} (b : Bool) (f : F) → fault_unless b f ≡ None → b ≡ true
+passed true f is = refl
+passed false f is = cc
+
+rows_vertices : (n : ℕ) (before rows : List Row) → first_row_fault (by_index (vertex_row_fault n)) before rows ≡ None
+    → All (λ (d : ℕ × ℕ). d.0 < n) (map drop_in rows)
+rows_vertices n before [] is = All-nil (λ (d : ℕ × ℕ). d.0 < n)
+rows_vertices n before (row ∷ rows) is =
+    let both = none_of (vertex_row_fault n (length before) row)
+    (first_row_fault (by_index (vertex_row_fault n)) (before ++ row ∷ []) rows) is in
+    let last = (none_of _ _ (none_of _ _ both.0).1).1 in
+    All-cons (λ (d : ℕ × ℕ). d.0 < n) (drop_in row) (map drop_in rows)
+    (ltb-true (vertex_in row) n (passed (ltb (vertex_in row) n) _ last))
+    (rows_vertices n (before ++ row ∷ []) rows both.1)
+
+chosen : {X : Type 0} (fault : Option FileFault) (xs ds : List X) → (if is_none fault then Some xs else None) ≡ Some ds
+    → (fault ≡ None) × (xs ≡ ds)
+chosen None xs ds is = (refl, cc)
+chosen (Some f) xs ds is = cc
+
+-- drops that a text means are on vertices
+pub drops_vertices : (n : ℕ) (text : List ℕ) (ds : List (ℕ × ℕ)) → drops_of_text n text ≡ Some ds
+    → All (λ (d : ℕ × ℕ). d.0 < n) ds
+drops_vertices n text ds is =
+    let both = chosen (drops_text_fault n text) (map drop_in (rows_under_header (records_of text))) ds is in
+    subst (All (λ (d : ℕ × ℕ). d.0 < n)) both.1
+    (rows_vertices n [] (rows_under_header (records_of text)) (none_of _ _ both.0).1)
+
+-- ---- what the rows come to
+
+-- no rows
+pub tells_none : (g : ChipGame) (ds : List (ℕ × ℕ)) (o : Outcome) → IsPlayed g o → TellsDrops g ds 0 (rows_text [] [])
+tells_none g ds o played = record {
+  outcome = o;
+  played = played;
+  told = [];
+  left = slice_index o.chips.items;
+  avalanches = λ v. refl;
+  text_is = refl;
+}
+
+-- all of a text
+pub all_out : (old new : Option (List ℕ)) (text : List ℕ) → Appends old new text → Appends old new (take (length text) text)
+all_out old new text went = subst (Appends old new) (sym (take_all (length text) text (omega arith))) went
+
+module _ (g : ChipGame) (ds : List (ℕ × ℕ)) (o : Outcome) (played : IsPlayed g o) (p : Pile) (game : p.game ≡ g)
+    (chips : p.chips.items ≡ o.chips.items) where
+  tells : (n : ℕ) (told : List Avalanche) (p' : Pile) → IsAfter p (take n ds) told p'
+      → TellsDrops g ds n (rows_text (take n ds) told)
+  tells n told p' after = record {
+    outcome = o;
+    played = played;
+    told = told;
+    left = slice_index p'.chips.items;
+    avalanches = subst (λ (G : Multigraph). AreAvalanches G (slice_index o.chips.items) (take n ds) told
+        (slice_index p'.chips.items)) (ap (λ (h : ChipGame). h.graph) game)
+        (subst (λ (l : List ℕ). AreAvalanches p.game.graph (slice_index l) (take n ds) told (slice_index p'.chips.items))
+        chips after.avalanches);
+    text_is = refl;
+  }
+
+  tells_rows : (n : ℕ) (text : List ℕ) → AreRows p ds n text → TellsDrops g ds n text
+  tells_rows n text are = subst (TellsDrops g ds n) (sym are.3) (tells n are.0 are.1 are.2)
+
+  -- the rows went out
+  pub ends_come : (old new : Option (List ℕ)) (p' : Pile) (all : Bool) → EndsRows p ds old new p' all
+      → (text : List ℕ) × ComesTo g ds text p'.game × (n : ℕ) × TellsDrops g ds n text × Appends old new text
+  ends_come old new p' true ends =
+      let whole : take (length ds) ds ≡ ds = take_all (length ds) ds (omega arith) in
+      let after : IsAfter p (take (length ds) ds) ends.0 p' =
+      subst (λ (l : List (ℕ × ℕ)). IsAfter p l ends.0 p') (sym whole) ends.1 in
+      let text : List ℕ = rows_text ds ends.0 in
+      let told : TellsDrops g ds (length ds) text =
+      subst (λ (l : List (ℕ × ℕ)). TellsDrops g ds (length ds) (rows_text l ends.0)) whole
+      (tells (length ds) ends.0 p' after) in (
+        text,
+        inl (told, subst (λ (h : ChipGame). HasMore h ds p'.game) game ends.1.game),
+        length ds,
+        told,
+        ends.2,
+      )
+  ends_come old new p' false ends =
+      let told = tells_rows ends.0 ends.2 ends.3 in (
+        ends.2,
+        inr (inl (
+          ends.0,
+          ends.1.inside,
+          told,
+          subst (λ (h : ChipGame). HasMore h (take (ends.0 + 1) ds) p'.game) game ends.1.game,
+        )),
+        ends.0,
+        told,
+        ends.4,
+      )
+
+  -- or not all of them did
+  pub fails_come : (old new : Option (List ℕ)) (fault : RowsFault) (f : Fault) → FailsRows p ds old new fault
+      → f ≡ fault_of_rows fault → FailsDrops g ds old new f
+  fails_come old new (rows_fault.Write w) f fails is =
+      inr (inl (fails.0, fails.1, tells_rows fails.0 fails.1 fails.2, w, is, fails.3))
+  fails_come old new rows_fault.NoMemory f fails is =
+      inr (inr (fails.0, fails.1, tells_rows fails.0 fails.1 fails.2, is, fails.3, fails.4))
+
+-- who fails so answers so
+pub plays_failed : (g : ChipGame) (ds : List (ℕ × ℕ)) (old new : Option (List ℕ)) (result : Result Outcome Fault)
+    (P : Fault → Type 0) → IsErrAnd result P → ((f : Fault) → P f → FailsDrops g ds old new f)
+    → PlaysDrops g ds old new result
+plays_failed g ds old new (Ok o) P err why = absurd err
+plays_failed g ds old new (Err f) P err why = why f err
+
+pub answers_failed : (limits : SizeLimits) (graph chips drops : Option (List ℕ)) (limit : ℕ) (old new : Outputs)
+    (result : Result Ended Fault) (P : Fault → Type 0) → IsErrAnd result P
+    → ((f : Fault) → P f → AvalanchesAnswers limits graph chips drops limit old new (Err f))
+    → AvalanchesAnswers limits graph chips drops limit old new result
+answers_failed limits graph chips drops limit old new (Ok ended) P err why = absurd err
+answers_failed limits graph chips drops limit old new (Err f) P err why = why f err
+
+-- known bytes that stay are kept
+pub keeps : (known : Option (List ℕ)) → Keeps known known
+keeps None = tt
+keeps (Some l) = refl

@@ -1,0 +1,129 @@
+-- From the bytes of a graph file, a chips file and a file of drops to the rows of the drops, and to a report.
+use Rattle.std.specs.Prelude.{◌≡◌, ◌⊎◌, ℕ, ◌+◌, ◌<◌, ◌≤◌, false, List, [], length, take, sum, slice_index, Option, None, Some}
+use Rattle.std.specs.Prelude.{Result, Ok, Err}
+use Rattle.std.specs.Io.KnownBytes.{Appends, Keeps}
+use Rattle.std.specs.Option.{ForSome}
+use Rattle.chip_graph.specs.Limits.{SizeLimits, max_total}
+use Rattle.chip_graph.specs.ChipGame.{ChipGame}
+use Rattle.chip_graph.specs.More.{HasMore, AreOfVertices, all_brought}
+use Rattle.chip_graph.specs.declared.fault.GameFault.TheVariants.{Total}
+use Rattle.chip_file.specs.DropsText.{drops_of_text, drops_text_fault}
+use Rattle.chip_sequence.specs.Play.{IsPlayed}
+use Rattle.chip_sequence.specs.declared.outcome.Outcome.{Outcome}
+use Rattle.chip_drops.specs.declared.avalanche.Avalanche.{Avalanche}
+use Rattle.chip_drops.specs.Avalanches.{AreAvalanches}
+use Rattle.chip_drops.specs.Rows.{rows_text}
+use Rattle.chip_drops.specs.declared.rows.RowsFault.{RowsFault}
+use Rattle.chip_drops.specs.declared.rows.RowsFault.TheVariants as rows_fault
+use Rattle.chip_report.specs.ReportText.{report_text}
+use Rattle.chip_report.specs.Written.{WritesAll}
+use Rattle.chip_report.specs.declared.write.WriteFault.{WriteFault}
+use Rattle.chip_command.specs.CommandAnswers.{OrMemory}
+use Rattle.chip_command.specs.Inputs.{Reads, RefusesText, GaveGame, GaveNoGame}
+use Rattle.chip_command.specs.Reports.{plain_status}
+use Rattle.chip_command.specs.declared.ended.Ended.{Ended}
+use Rattle.chip_command.specs.declared.fault.Fault.{Fault}
+use Rattle.chip_command.specs.declared.fault.Fault.TheVariants.{Game, Write, NoMemory}
+
+-- a reader gave these drops for the game
+abbrev pub NamesDrops : SizeLimits → Option (List ℕ) → ChipGame → List (ℕ × ℕ) → Type 0
+NamesDrops limits drops g ds =
+    ForSome drops (λ text. Reads limits text (drops_of_text g.graph.vertices text ≡ Some ds))
+    × AreOfVertices g ds × (sum g.start + all_brought ds ≤ max_total)
+
+-- it gave none: they have a fault, or there are too many chips with them
+abbrev pub NamesNone : SizeLimits → Option (List ℕ) → ChipGame → Fault → Type 0
+NamesNone limits drops g fault =
+    ForSome drops (λ text. RefusesText limits text (λ f. drops_text_fault g.graph.vertices text ≡ Some f) fault)
+    ⊎ ((ds : List (ℕ × ℕ)) × ForSome drops (λ text. Reads limits text (drops_of_text g.graph.vertices text ≡ Some ds))
+    × (max_total < sum g.start + all_brought ds) × (fault ≡ Game Total))
+
+-- three readers gave this game and these drops: where they tell their texts, these mean them
+pub record GaveDrops (limits : SizeLimits) (graph chips drops : Option (List ℕ)) (limit : ℕ) (g : ChipGame)
+    (ds : List (ℕ × ℕ)) : Type 0 where
+  pub game : GaveGame limits graph chips limit g
+  pub drops_are : NamesDrops limits drops g ds
+
+-- why nothing is dropped: the inputs make no game, or the drops have a fault, or there are too many chips with them
+abbrev pub RefusesDrops : SizeLimits → (graph chips drops : Option (List ℕ)) → ℕ → Fault → Type 0
+RefusesDrops limits graph chips drops limit fault =
+    GaveNoGame limits graph chips limit fault
+    ⊎ ((g : ChipGame) × GaveGame limits graph chips limit g × NamesNone limits drops g fault)
+
+-- a fault of the rows, among those of commands
+abbrev pub fault_of_rows : RowsFault → Fault
+fault_of_rows (rows_fault.Write w) = Write w
+fault_of_rows rows_fault.NoMemory = NoMemory
+
+-- a text has the rows of the first n drops on the game, each the avalanche on what the drop before it left
+pub record TellsDrops (g : ChipGame) (ds : List (ℕ × ℕ)) (n : ℕ) (text : List ℕ) : Type 0 where
+  pub outcome : Outcome
+  pub played : IsPlayed g outcome
+  pub told : List Avalanche
+  pub left : ℕ → ℕ
+  pub avalanches : AreAvalanches g.graph (slice_index outcome.chips.items) (take n ds) told left
+  pub text_is : text ≡ rows_text (take n ds) told
+
+-- what the drops come to: a text with a row for each, and the game with all their chips; or the play of the drop at i was
+-- stopped, the text has the rows before it, and the game the chips up to it; or the game itself was stopped
+abbrev pub ComesTo : ChipGame → List (ℕ × ℕ) → List ℕ → ChipGame → Type 0
+ComesTo g ds text g' =
+    (TellsDrops g ds (length ds) text × HasMore g ds g')
+    ⊎ ((i : ℕ) × (i < length ds) × TellsDrops g ds i text × HasMore g (take (i + 1) ds) g')
+    ⊎ (TellsDrops g ds 0 text × (g' ≡ g))
+
+-- what two outputs hold: that of the rows, and that of the report where there is one
+pub record Outputs : Type 0 where
+  pub rows : Option (List ℕ)
+  pub report : Option (Option (List ℕ))
+
+-- a report went out where one was asked for
+abbrev pub AppendsReport : Option (Option (List ℕ)) → Option (Option (List ℕ)) → List ℕ → Type 0
+AppendsReport None None text = Unit {0}
+AppendsReport None (Some new) text = ⊥
+AppendsReport (Some old) None text = ⊥
+AppendsReport (Some old) (Some new) text = Appends old new text
+
+-- the report of an outcome failed: there was no memory for it, or its output failed
+abbrev pub FailsReport : Option (Option (List ℕ)) → Option (Option (List ℕ)) → List ℕ → Fault → Type 0
+FailsReport (Some old) (Some new) text fault =
+    ((fault ≡ NoMemory) × Keeps old new) ⊎ ((w : WriteFault) × (fault ≡ Write w) × WritesAll old new text (Err w))
+FailsReport (Some old) None text fault = ⊥
+FailsReport None new text fault = ⊥
+
+-- the rows failed: there was no memory for the play, or the output failed or there was no memory after a front of the rows of
+-- some drops
+abbrev pub FailsDrops : ChipGame → List (ℕ × ℕ) → Option (List ℕ) → Option (List ℕ) → Fault → Type 0
+FailsDrops g ds old new fault =
+    ((fault ≡ NoMemory) × Keeps old new)
+    ⊎ ((n : ℕ) × (text : List ℕ) × TellsDrops g ds n text
+    × (w : WriteFault) × (fault ≡ Write w) × WritesAll old new text (Err w))
+    ⊎ ((n : ℕ) × (text : List ℕ) × TellsDrops g ds n text × (fault ≡ NoMemory) × (k : ℕ) × Appends old new (take k text))
+
+-- what playing the game and then the drops answers: the outcome of the game with the chips that were dropped
+abbrev pub PlaysDrops : ChipGame → List (ℕ × ℕ) → Option (List ℕ) → Option (List ℕ) → Result Outcome Fault → Type 0
+PlaysDrops g ds old new (Ok outcome) = (text : List ℕ) × (g' : ChipGame) × ComesTo g ds text g' × IsPlayed g' outcome
+    × Appends old new text
+PlaysDrops g ds old new (Err fault) = FailsDrops g ds old new fault
+
+-- what writing the report answers
+abbrev pub WritesReport : Option (Option (List ℕ)) → Option (Option (List ℕ)) → List ℕ → Result (Unit {0}) Fault → Type 0
+WritesReport old new text (Ok done) = AppendsReport old new text
+WritesReport old new text (Err fault) = FailsReport old new text fault
+
+-- what `avalanches` answers by these limits: the rows went out and then the report; or nothing did, and this is why; or the
+-- rows failed; or they went out, and the report failed
+abbrev pub AvalanchesAnswers : SizeLimits → (graph chips drops : Option (List ℕ)) → ℕ → Outputs → Outputs
+    → Result Ended Fault → Type 0
+AvalanchesAnswers limits graph chips drops limit old new (Ok ended) =
+    (g : ChipGame) × (ds : List (ℕ × ℕ)) × GaveDrops limits graph chips drops limit g ds
+    × (text : List ℕ) × (g' : ChipGame) × ComesTo g ds text g' × (outcome : Outcome) × IsPlayed g' outcome
+    × Appends old.rows new.rows text × AppendsReport old.report new.report (report_text outcome)
+    × (ended.status ≡ plain_status outcome) × (ended.cut ≡ false)
+AvalanchesAnswers limits graph chips drops limit old new (Err fault) =
+    (OrMemory (RefusesDrops limits graph chips drops limit) fault × Keeps old.rows new.rows × (new.report ≡ old.report))
+    ⊎ ((g : ChipGame) × (ds : List (ℕ × ℕ)) × GaveDrops limits graph chips drops limit g ds
+    × FailsDrops g ds old.rows new.rows fault × (new.report ≡ old.report))
+    ⊎ ((g : ChipGame) × (ds : List (ℕ × ℕ)) × GaveDrops limits graph chips drops limit g ds
+    × (text : List ℕ) × (g' : ChipGame) × ComesTo g ds text g' × (outcome : Outcome) × IsPlayed g' outcome
+    × Appends old.rows new.rows text × FailsReport old.report new.report (report_text outcome) fault)

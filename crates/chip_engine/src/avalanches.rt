@@ -1,0 +1,164 @@
+//! `avalanches`: chips dropped one after another, and the avalanche that each sets off.
+
+ghost use Rattle.std.specs.Prelude.{◌≡◌, ◌↔◌, ◌+◌, ◌≤◌, true, MatchResult, option_map, sum};
+ghost use Rattle.chip_graph.specs.Limits.{standard, max_total};
+ghost use Rattle.chip_graph.specs.ChipGame.{IsGame};
+ghost use Rattle.chip_graph.specs.More.{AreOfVertices, all_brought};
+ghost use Rattle.chip_report.specs.ReportText.{report_text};
+ghost use Rattle.chip_engine.specs.AvalanchesCommand.{AvalanchesAnswers, NamesDrops, NamesNone, PlaysDrops, WritesReport};
+ghost use Rattle.chip_engine.specs.AvalanchesCommand.{fault_of_rows};
+
+use crate::options::PlayOptions;
+use chip_command::{Ended, Fault, read_game, status_of};
+use chip_drops::{Pile, RowsFault, write_rows};
+use chip_file::{drops_of_text, read_whole_within};
+use chip_fire::{Unwatched, Watch, plain_watched};
+use chip_graph::game::MAX_TOTAL;
+use chip_graph::{Game, GameFault, Limits};
+use chip_report::{is_closed, report, write_all_of};
+use chip_sequence::Outcome;
+use std::alloc::Global;
+use std::io::{Read, Write};
+
+/// The first line of the rows.
+const HEADER: &[u8] = b"vertex,chips,size,extent,lost\n";
+
+/// Plays the game of a graph file, a chips file and a firing limit to its end, within the standard limits, and then drops
+/// the chips of a third file on it, one row after another, each played to its end. The rows of the avalanches go out as
+/// they come, and then, where one is asked for, the report of the game that has all these chips at the start.
+///
+/// All files are read before the first byte is written. The limit counts all firings of a vertex. A drop whose play it
+/// stops has no row, and nothing is dropped after it.
+pub fn avalanches_engine<G: Read, C: Read, D: Read, W: Write, T: Write>(
+    alloc: Global,
+    graph: &mut G,
+    chips: &mut C,
+    drops: &mut D,
+    limit: u64,
+    output: &mut W,
+    report: &mut Option<T>,
+) -> Result<Ended, Fault>
+    ensures { AvalanchesAnswers standard (G.remaining graph.old) (C.remaining chips.old) (D.remaining drops.old) limit
+        (record { rows = W.contents output.old; report = option_map T.contents report.old })
+        (record { rows = W.contents output.new; report = option_map T.contents report.new }) result }
+{
+    avalanches_engine_with(
+        alloc,
+        graph,
+        chips,
+        drops,
+        PlayOptions::standard(limit),
+        &mut Unwatched,
+        output,
+        report,
+    )
+}
+
+/// Does what `avalanches_engine` does, by these options, and tells now and then how far the play before the drops has
+/// come. Its answer and its bytes are the same, whoever is told.
+pub fn avalanches_engine_with<G: Read, C: Read, D: Read, P: Watch, W: Write, T: Write>(
+    alloc: Global,
+    graph: &mut G,
+    chips: &mut C,
+    drops: &mut D,
+    options: PlayOptions,
+    watch: &mut P,
+    output: &mut W,
+    report: &mut Option<T>,
+) -> Result<Ended, Fault>
+    ensures { AvalanchesAnswers options.limits (G.remaining graph.old) (C.remaining chips.old) (D.remaining drops.old)
+        options.limit (record { rows = W.contents output.old; report = option_map T.contents report.old })
+        (record { rows = W.contents output.new; report = option_map T.contents report.new }) result }
+{
+    let game = read_game(alloc, options.limits, graph, chips, options.limit)?;
+    let drops = read_drops(alloc, options.limits, drops, &game)?;
+    watch.plays(&game);
+    let outcome = play_drops(alloc, game, &drops, watch, output)?;
+    write_report(alloc, &outcome, report)?;
+    Ok(Ended::of(status_of(&outcome)))
+}
+
+/// The drops of a file for a game, each a vertex and how many chips are added there.
+fn read_drops<D: Read>(
+    alloc: Global,
+    limits: Limits,
+    drops: &mut D,
+    game: &Game,
+) -> Result<Vec<(u64, u64)>, Fault>
+    ensures { MatchResult result (λ ds. NamesDrops limits (D.remaining drops.old) game.now ds.items)
+        (NamesNone limits (D.remaining drops.old) game.now) }
+{
+    let text = read_whole_within(alloc, limits, drops)?;
+    let drops = drops_of_text(alloc, &text, game.graph().vertices())?;
+    if !have_room(game.total(), &drops) {
+        return Err(Fault::Game(GameFault::Total));
+    }
+    Ok(drops)
+}
+
+/// Whether so many chips and those of these drops are no more than a game holds.
+fn have_room(total: u64, drops: &[(u64, u64)]) -> bool
+    requires { total ≤ max_total }
+    ensures { (result ≡ true) ↔ (total + all_brought drops.now ≤ max_total) }
+{
+    let mut room = MAX_TOTAL - total;
+    for &(_, count) in drops {
+        if count > room {
+            return false;
+        }
+        room -= count;
+    }
+    true
+}
+
+/// Plays a game to its end, and then drop after drop; the outcome of the game with the chips that were dropped.
+fn play_drops<P: Watch, W: Write>(
+    alloc: Global,
+    game: Game,
+    drops: &[(u64, u64)],
+    watch: &mut P,
+    output: &mut W,
+) -> Result<Outcome, Fault>
+    requires game { IsGame game }
+    requires vertices { AreOfVertices game drops.now }
+    requires few { sum game.start + all_brought drops.now ≤ max_total }
+    ensures { PlaysDrops game drops.now (W.contents output.old) (W.contents output.new) result }
+{
+    let outcome = plain_watched(alloc, &game, watch)?;
+    if !is_closed(&outcome) {
+        write_all_of(output, HEADER)?;
+        return Ok(outcome);
+    }
+    let pile = Pile::new(alloc, game, outcome)?;
+    match write_rows(alloc, pile, drops, output) {
+        Ok(end) => Ok(end.pile.outcome(alloc)?),
+        Err(fault) => Err(fault_of_rows(fault)),
+    }
+}
+
+/// A fault of the rows, among those of commands.
+fn fault_of_rows(fault: RowsFault) -> Fault
+    ensures { result ≡ fault_of_rows fault }
+{
+    match fault {
+        RowsFault::Write(fault) => Fault::Write(fault),
+        RowsFault::NoMemory => Fault::NoMemory,
+    }
+}
+
+/// Writes the report of an outcome, where one is asked for.
+fn write_report<T: Write>(
+    alloc: Global,
+    outcome: &Outcome,
+    output: &mut Option<T>,
+) -> Result<(), Fault>
+    ensures { WritesReport (option_map T.contents output.old) (option_map T.contents output.new)
+        (report_text outcome.now) result }
+{
+    let Some(writer) = output else {
+        return Ok(());
+    };
+    let text = report(alloc, outcome)?;
+    write_all_of(writer, &text)?;
+    Ok(())
+}

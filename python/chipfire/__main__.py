@@ -8,7 +8,6 @@
 from __future__ import annotations
 
 import argparse
-import csv
 import sys
 
 from chipfire.detectors import DETECTORS
@@ -17,20 +16,14 @@ from chipfire.ledger import Disagreement
 from chipfire.machine import TRACE_HEADER, Setting, Simulation
 from chipfire.pages import page_text, recorded
 from chipfire.program import known_chips, known_graph, simulate
-from chipfire.values import read_rows
+from chipfire.values import begins, read_rows
 from chipfire.wrong import wrong_page_text
-
-
-def _is_trace(file: str) -> bool:
-    """Whether a file of rows begins as a trace does, and not as a schedule."""
-    with open(file, encoding="utf-8-sig", errors="replace", newline="") as text:
-        return next(csv.reader(text), None) == list(TRACE_HEADER)
 
 
 def _simulation(asked: argparse.Namespace) -> Simulation:
     game = (asked.graph, asked.chips, asked.events)
     options = {"limit": asked.limit, "ring": asked.ring, "program": asked.program}
-    if _is_trace(asked.events):
+    if begins(asked.events, TRACE_HEADER):
         if asked.rounds is not None or asked.fed:
             raise ValueError("--rounds and --fed go with a schedule; a trace is a run without them")
         return recorded(*game, **options)

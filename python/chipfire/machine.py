@@ -5,64 +5,49 @@ docs/CORE.md says what each event does, docs/DETECTOR.md what stands in the book
 
 from __future__ import annotations
 
-import csv
 import functools
-import io
 import os
 from collections.abc import Iterable, Mapping, Sequence
 from dataclasses import dataclass, field
 from typing import Any, NamedTuple
 
+from chipfire import model
 from chipfire.graphs import Graph
 from chipfire.reports import Report
-from chipfire.values import MAX_LIMIT, MAX_VERTICES, FileName, read_rows, rows_text, write
+from chipfire.values import MAX_LIMIT, MAX_VERTICES, FileName, begins, read_rows, rows_text, write
 
 SCHEDULE_HEADER = ("event", "at", "count")
 NOTED_HEADER = (*SCHEDULE_HEADER, "note")
 TRACE_HEADER = ("vertex", "kind", "edge", "count")
 
+#: Of each rule what it says, and what is so where it is not met; `chipfire explain rule` has the same words.
+_RULES = (
+    ("the vertex or edge is there", "there is no such vertex or edge"),
+    ("the vertex is not the sink", "the vertex is the sink"),
+    ("the vertex, or the tail of the edge, is not halted", "the vertex is halted; for an edge, its tail is"),
+    ("nothing is pending, nor claimed and not put", "the vertex has not yet sent what its last firings made"),
+    ("it fires at least once", "the vertex is to fire no times"),
+    ("its firings stay within the limit", "the vertex would fire more often than the limit allows"),
+    ("the chips are there", "the vertex has not the chips for so many firings"),
+    ("something is pending on the edge", "nothing is pending on the edge"),
+    ("no claim of the edge was refused", "a claim of the edge was refused, since the edge is sealed"),
+    ("nothing is claimed and not put", "a message is claimed and not put"),
+    ("the next cell of the edge was seen empty", "the next cell of the edge was not seen empty"),
+    ("a message is claimed and not put", "no message is claimed on the edge and not put"),
+    ("there is a cause to halt", "the vertex has no cause to halt"),
+    ("something is owed on the edge", "no acknowledgement is owed on the edge"),
+    ("something may be acknowledged on it now", "the message that engaged the vertex may not be acknowledged yet"),
+    ("the root is closed", "the root is not closed"),
+    ("the end of feeding is not noted", "the end of feeding is noted"),
+    (
+        "with so many more, no more than 2^40 chips are given in all",
+        "with so many chips more, more than 1099511627776 were given in all",
+    ),
+)
 #: What each rule says that the reply `not-now N` names; docs/CORE.md has the table.
-RULES = {
-    1: "the vertex or edge is there",
-    2: "the vertex is not the sink",
-    3: "the vertex, or the tail of the edge, is not halted",
-    4: "nothing is pending, nor claimed and not put",
-    5: "it fires at least once",
-    6: "its firings stay within the limit",
-    7: "the chips are there",
-    8: "something is pending on the edge",
-    9: "no claim of the edge was refused",
-    10: "nothing is claimed and not put",
-    11: "the next cell of the edge was seen empty",
-    12: "a message is claimed and not put",
-    13: "there is a cause to halt",
-    14: "something is owed on the edge",
-    15: "something may be acknowledged on it now",
-    16: "the root is closed",
-    17: "the end of feeding is not noted",
-    18: "with so many more, no more than 2^40 chips are given in all",
-}
-#: What it is called and what is so where it is not met; `chipfire explain rule` has the same words.
-UNMET = {
-    1: ("NoSuch", "there is no such vertex or edge"),
-    2: ("Sink", "the vertex is the sink"),
-    3: ("Halted", "the vertex is halted; for an edge, its tail is"),
-    4: ("Pending", "the vertex has not yet sent what its last firings made"),
-    5: ("Zero", "the vertex is to fire no times"),
-    6: ("Limit", "the vertex would fire more often than the limit allows"),
-    7: ("NotLegal", "the vertex has not the chips for so many firings"),
-    8: ("NothingPending", "nothing is pending on the edge"),
-    9: ("Refused", "a claim of the edge was refused, since the edge is sealed"),
-    10: ("Unput", "a message is claimed and not put"),
-    11: ("NotCleared", "the next cell of the edge was not seen empty"),
-    12: ("NotClaimed", "no message is claimed on the edge and not put"),
-    13: ("NoCause", "the vertex has no cause to halt"),
-    14: ("NothingOwed", "no acknowledgement is owed on the edge"),
-    15: ("Engaged", "the message that engaged the vertex may not be acknowledged yet"),
-    16: ("NotClosed", "the root is not closed"),
-    17: ("Ended", "the end of feeding is noted"),
-    18: ("TooMuch", "with so many chips more, more than 1099511627776 were given in all"),
-}
+RULES = {number: met for number, (met, _) in enumerate(_RULES, 1)}
+#: What it is called and what is so where it is not met.
+UNMET = {number: (name, unmet) for (name, number), (_, unmet) in zip(model.RULES.items(), _RULES)}
 
 
 class Event(NamedTuple):
@@ -174,22 +159,13 @@ def write_schedule(file: FileName, schedule: Iterable[Sequence[Any]]) -> None:
     Where there are notes they are a fourth column, which the program does not read, but this package and its page.
     """
     notes = getattr(schedule, "notes", {})
-    if not notes:
-        write(file, schedule_text(schedule))
-        return
-    text = io.StringIO()
-    rows = csv.writer(text, lineterminator="\n")
-    rows.writerow(NOTED_HEADER)
-    rows.writerows((*Event(*event), notes.get(index, "")) for index, event in enumerate(schedule))
-    write(file, text.getvalue())
+    noted = ((*Event(*event), notes.get(index, "")) for index, event in enumerate(schedule))
+    write(file, rows_text(NOTED_HEADER, noted) if notes else schedule_text(schedule))
 
 
 def has_notes(file: FileName) -> bool:
     """Whether a file is there and begins as a schedule with notes does."""
-    if not os.path.isfile(file):
-        return False
-    with open(file, encoding="utf-8-sig", errors="replace", newline="") as text:
-        return next(csv.reader(text), None) == list(NOTED_HEADER)
+    return os.path.isfile(file) and begins(file, NOTED_HEADER)
 
 
 def read_schedule(file: FileName) -> Schedule:

@@ -9,7 +9,6 @@ here is computed on that model and is not proved: `explore` has looked at each s
 
 from __future__ import annotations
 
-import csv
 import random
 from collections import deque
 from collections.abc import Callable, Iterable, Iterator, Sequence
@@ -19,7 +18,7 @@ from typing import Any, TypeVar, Union
 from chipfire.detectors import known_detector
 from chipfire.machine import Event, Schedule, Setting
 from chipfire.model import Core
-from chipfire.values import FILE, FileName, counted
+from chipfire.values import FILE, FileName, counted, read_rows
 
 #: A name of DETECTORS, or a class.
 Detector = Union[str, type[Core]]
@@ -150,19 +149,15 @@ def shrink(
         raise ValueError("nothing is wrong after this schedule, so there is nothing to shrink")
     size = len(kept)
     while size:
-        at = len(kept)
+        at = before = len(kept)
         while at > 0:
             fewer = kept[: max(at - size, 0)] + kept[at:]
             if is_bad(played(setting, detector, fewer)):
                 kept = fewer
             at -= size
-        # (once nothing more can be left out at this size, smaller pieces are tried; one at a time until it is so)
-        size = size // 2 if size > 1 else int(_can_shrink(setting, detector, kept, is_bad))
+        # (smaller pieces are tried then; one event at a time until none can be left out)
+        size = size // 2 if size > 1 else int(len(kept) < before)
     return Schedule(kept)
-
-
-def _can_shrink(setting: Setting, detector: Detector, kept: list[Event], is_bad: Callable[[Core], bool]) -> bool:
-    return any(is_bad(played(setting, detector, kept[:at] + kept[at + 1 :])) for at in range(len(kept)))
 
 
 @dataclass(frozen=True)
@@ -201,28 +196,19 @@ def judge(setting: Setting, log: Iterable[Sequence[Any]] | FileName) -> Judged:
     judged by the game alone: what was taken, fired and sent. So a detector that acknowledges otherwise than the right
     one has a first row that differs, and may be right all the same.
     """
-    rows = [(str(kind), int(at), int(count or 0), str(reply).strip()) for kind, at, count, reply in _log_rows(log)]
+    told: Iterable[Sequence[Any]] = read_rows(log, LOG_HEADER) if isinstance(log, FILE) else log
+    rows = [(str(kind), int(at), int(count or 0), str(reply).strip()) for kind, at, count, reply in told]
     claim = rows.pop()[3] if rows and rows[-1][0] == CLAIM else None
     if claim not in (None, "closed", "open"):
         raise ValueError(f"the last row claims that the root is {claim!r}, which is neither closed nor open")
     core = opened(setting)
     # (events that the model does not know are answered as the log has it)
-    right = [core.step(kind, at, count) if kind in EVENTS else told for kind, at, count, told in rows]
+    right = [core.step(kind, at, count) if kind in EVENTS else said for kind, at, count, said in rows]
     row = next((index for index, reply in enumerate(right) if reply != rows[index][3]), None)
     left = tuple(core.left())
     is_true = claim is None or (not left if claim == "closed" else not core.is_closed())
     replies = ("", "") if row is None else (rows[row][3], right[row])
     return Judged(row, *replies, claim, is_true, left)
-
-
-def _log_rows(log: Iterable[Sequence[Any]] | FileName) -> Iterable[Sequence[Any]]:
-    if not isinstance(log, FILE):
-        return log
-    with open(log, encoding="utf-8-sig", newline="") as file:
-        rows = [row for row in csv.reader(file) if row]
-    if not rows or tuple(rows[0]) != LOG_HEADER:
-        raise ValueError(f"{log!s} does not begin with {','.join(LOG_HEADER)}")
-    return rows[1:]
 
 
 def shiviz(setting: Setting, events: Iterable[Sequence[Any]], detector: Detector = "right") -> str:

@@ -4,6 +4,8 @@ from __future__ import annotations
 
 import csv
 import importlib
+import io
+import itertools
 import operator
 import os
 from collections.abc import Iterable, Iterator, Sequence
@@ -67,7 +69,15 @@ def write(file: FileName, text: str) -> None:
 
 
 def rows_text(header: Sequence[str], rows: Iterable[Sequence[Any]]) -> str:
-    return "".join(",".join(map(str, row)) + "\n" for row in (header, *rows))
+    text = io.StringIO()
+    csv.writer(text, lineterminator="\n").writerows(itertools.chain([header], rows))
+    return text.getvalue()
+
+
+def begins(file: FileName, header: Sequence[str]) -> bool:
+    """Whether a file of rows has this header."""
+    with open(file, encoding="utf-8-sig", errors="replace", newline="") as text:
+        return next(csv.reader(text), None) == list(header)
 
 
 def read_rows(file: FileName, header: Sequence[str]) -> Iterator[list[str]]:

@@ -153,7 +153,7 @@ class Graph:
             names.sort(key=lambda name: name)  # type: ignore[arg-type,return-value]
         except TypeError:
             pass
-        return _named(names, sink, [*rows, *((head, tail, mult) for tail, head, mult in rows)])
+        return _named(names, sink, rows, False)
 
     @classmethod
     def read(cls, file: FileName) -> Graph:
@@ -466,12 +466,13 @@ def complete(vertices: int) -> Graph:
     return _both_ways(vertices, 0, ((u, v) for u in range(vertices) for v in range(u)))
 
 
-def _named(names: Iterable[Hashable], sink: Any, edges: Iterable[tuple[Any, ...]]) -> Graph:
+def _named(names: Iterable[Hashable], sink: Any, edges: Iterable[tuple[Any, ...]], is_directed: bool) -> Graph:
     """A graph of named vertices. Edges out of the sink are left out, since it never fires.
 
     A list or a set of sinks becomes one vertex, the last, with the name "sink".
     """
-    names = list(names)
+    names, edges = list(names), list(edges)
+    edges += [] if is_directed else [(head, tail, mult) for tail, head, mult in edges]
     several = [*sink] if isinstance(sink, (list, set, frozenset)) else [sink]
     for name in several:
         if name not in names:
@@ -495,10 +496,7 @@ def from_networkx(graph: Any, sink: Any, weight: str | None = "weight") -> Graph
     none; where `weight` is None each sends one. An undirected edge is one edge each way. Edges out of the sink are left
     out. The vertices keep their names; several sinks become one vertex, whose name is "sink".
     """
-    edges = list(graph.edges(data=weight, default=1))
-    if not graph.is_directed():
-        edges += [(head, tail, count) for tail, head, count in edges]
-    return _named(graph.nodes(), sink, edges)
+    return _named(graph.nodes(), sink, graph.edges(data=weight, default=1), graph.is_directed())
 
 
 def from_sage(graph: Any, sink: Any = None) -> Graph:
@@ -513,7 +511,4 @@ def from_sage(graph: Any, sink: Any = None) -> Graph:
             raise ValueError("which vertex is the sink?")
         sink = graph.sink()
     labelled = ((tail, head, 1 if label is None else label) for tail, head, label in graph.edge_iterator(labels=True))
-    edges = [edge for edge in labelled if edge[2] != 0]
-    if not graph.is_directed():
-        edges += [(head, tail, count) for tail, head, count in edges]
-    return _named(graph.vertex_iterator(), sink, edges)
+    return _named(graph.vertex_iterator(), sink, (edge for edge in labelled if edge[2] != 0), graph.is_directed())

@@ -19,7 +19,7 @@ from chipfire.chips import Chips
 from chipfire.pictures import SCALE, Palette, Picture
 from chipfire.program import AnyGraph, AnyProgram, known_chips, known_graph, plain
 from chipfire.reports import Report
-from chipfire.values import FileName, own_text, whole
+from chipfire.values import FileName, own_text, whole, write
 
 #: How many limits there are, where they are not said.
 COUNT = 24
@@ -49,8 +49,7 @@ class Frames:
         """Writes the animation: `.html` is a page with a slider. With Pillow, `.gif` and other forms that it knows show
         each picture for so many seconds."""
         if os.fspath(file).lower().endswith(".html"):
-            with open(file, "w", encoding="utf-8", newline="") as out:
-                out.write(self.page())
+            write(file, self.page())
         else:
             points = [picture.points(scale) for picture in self.pictures]
             rasters.write(file, points, self.pictures[0].colours(), round(1000 * seconds))
@@ -65,12 +64,8 @@ class Frames:
         seen = set().union(*(row for picture in self.pictures for row in picture.rows))
         first = self.pictures[0]
         return string.Template(own_text("web", "animation.html")).substitute(
-            frames=json.dumps(shown).replace("<", "\\u003c"),
-            last=len(self) - 1,
-            caption=html.escape(shown[0]["caption"]),
-            source=shown[0]["source"],
-            columns=len(first.rows[0]),
-            rows=len(first.rows),
+            frames=json.dumps(shown).replace("<", "\\u003c"), last=len(self) - 1, source=shown[0]["source"],
+            caption=html.escape(shown[0]["caption"]), columns=len(first.rows[0]), rows=len(first.rows),
             legend=first.legend(seen),
         )
 

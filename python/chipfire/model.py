@@ -223,12 +223,11 @@ class Core:
         return f"got {place} {count}"
 
     def ack(self, at: int) -> str:
-        unmet = self.first_unmet(
+        if unmet := self.first_unmet(
             self.is_there(at, len(self.edges)),
             ("NothingOwed", lambda: self.edges[at].delivered > self.edges[at].acked),
             ("Engaged", lambda: self.may_ack(self.edges[at]) > 0),
-        )
-        if unmet:
+        ):
             return unmet
         e, many = self.edges[at], self.may_ack(self.edges[at])
         e.acked += many
@@ -237,7 +236,7 @@ class Core:
         return f"done {many}"
 
     def fire(self, at: int, count: int) -> str:
-        unmet = self.first_unmet(
+        if unmet := self.first_unmet(
             self.is_there(at, len(self.vertices)),
             ("Sink", lambda: at != self.sink),
             self.running(at, False),
@@ -245,8 +244,7 @@ class Core:
             ("Zero", lambda: count >= 1),
             ("Limit", lambda: self.vertices[at].fired + count <= self.limit),
             ("NotLegal", lambda: self.vertices[at].chips >= count * self.degree(at)),
-        )
-        if unmet:
+        ):
             return unmet
         vertex = self.vertices[at]
         vertex.chips -= count * self.degree(at)
@@ -261,24 +259,18 @@ class Core:
             ("Refused", lambda: not self.edges[at].refused),
             ("NothingPending", lambda: self.edges[at].pending > 0),
         ]
-        of_root = [
-            ("Ended", lambda: not self.ended),
-            ("Unput", lambda: self.edges[at].put == len(self.edges[at].sent)),
-        ]
-        unmet = self.first_unmet(
-            self.is_there(at, len(self.edges)), *(of_graph if at < self.graph_edges else of_root)
-        )
-        if unmet:
+        of_root = [("Ended", lambda: not self.ended), ("Unput", lambda: self.edges[at].put == len(self.edges[at].sent))]
+        own = of_graph if at < self.graph_edges else of_root
+        if unmet := self.first_unmet(self.is_there(at, len(self.edges)), *own):
             return unmet
         e = self.edges[at]
         e.clear = len(e.sent) - e.delivered < self.ring
         return f"done {len(e.sent)}" if e.clear else "full"
 
     def claim(self, at: int) -> str:
-        unmet = self.first_unmet(
+        if unmet := self.first_unmet(
             self.is_there(at, self.graph_edges), self.running(at, True), ("NotCleared", lambda: self.edges[at].clear)
-        )
-        if unmet:
+        ):
             return unmet
         e = self.edges[at]
         e.clear = False
@@ -290,24 +282,21 @@ class Core:
         return f"sent {len(e.sent) - 1} {e.sent[-1]}"
 
     def put(self, at: int) -> str:
-        unmet = self.first_unmet(
-            self.is_there(at, len(self.edges)),
-            ("NotClaimed", lambda: self.edges[at].put < len(self.edges[at].sent)),
-        )
-        if unmet:
+        if unmet := self.first_unmet(
+            self.is_there(at, len(self.edges)), ("NotClaimed", lambda: self.edges[at].put < len(self.edges[at].sent))
+        ):
             return unmet
         self.edges[at].put += 1
         return f"done {self.edges[at].sent[-1]}"
 
     def halt(self, at: int) -> str:
-        unmet = self.first_unmet(
+        if unmet := self.first_unmet(
             self.is_there(at, len(self.vertices)),
             ("Sink", lambda: at != self.sink),
             self.running(at, False),
             ("Unput", lambda: not self.has_unput(at)),
             ("NoCause", lambda: self.cause(at) is not None),
-        )
-        if unmet:
+        ):
             return unmet
         self.vertices[at].halt = self.cause(at)
         return f"done {1 if self.vertices[at].halt == 'over' else 0}"
@@ -330,14 +319,13 @@ class Core:
         return unmet or f"done {self.vertices[at].fired}"
 
     def feed(self, at: int, count: int) -> str:
-        unmet = self.first_unmet(
+        if unmet := self.first_unmet(
             ("NoSuch", lambda: self.graph_edges <= at < len(self.edges)),
             ("Ended", lambda: not self.ended),
             ("Zero", lambda: count >= 1),
             ("TooMuch", lambda: sum(sum(e.sent) for e in self.edges[self.graph_edges :]) + count <= 2**40),
             ("NotCleared", lambda: self.edges[at].clear),
-        )
-        if unmet:
+        ):
             return unmet
         e = self.edges[at]
         e.clear, e.sent = False, (*e.sent, count)

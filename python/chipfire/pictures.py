@@ -19,7 +19,7 @@ from dataclasses import dataclass
 from typing import TYPE_CHECKING, Any, Union
 
 from chipfire import rasters
-from chipfire.values import FileName, library, whole
+from chipfire.values import FileName, library, whole, write
 
 if TYPE_CHECKING:
     from chipfire.graphs import Graph
@@ -76,9 +76,7 @@ class Picture:
     def save(self, file: FileName, scale: int = SCALE) -> None:
         """Writes the picture with so many points for a square's side: `.svg`, `.png`, or what Pillow knows."""
         if os.fspath(file).lower().endswith(".svg"):
-            text = self.svg(scale)
-            with open(file, "w", encoding="utf-8", newline="") as out:
-                out.write(text)
+            write(file, self.svg(scale))
         else:
             rasters.write(file, [self.points(scale)], self.colours())
 

@@ -139,12 +139,8 @@ def start_program() -> None:
 
 
 def ask(
-    program: FileName | None,
-    command: str,
-    inputs: Sequence[Input] = (),
-    options: Mapping[str, Any] | None = None,
-    graph: Graph | None = None,
-    begins: str = '{"chips":[',
+    program: FileName | None, command: str, inputs: Sequence[Input] = (), options: Mapping[str, Any] | None = None,
+    graph: Graph | None = None, begins: str = '{"chips":[',
 ) -> str:
     """Runs a command, and returns what it writes, which `begins` so; a fault is raised.
 

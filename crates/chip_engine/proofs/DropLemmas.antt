@@ -10,7 +10,7 @@ use Rattle.std.proofs.lemmas.List.{take_all}
 use Rattle.std.proofs.lemmas.List.Elements.{All-nil, All-cons}
 use Rattle.chip_graph.specs.Limits.{SizeLimits}
 use Rattle.chip_graph.specs.ChipGame.{ChipGame}
-use Rattle.chip_graph.specs.Multigraph.{Multigraph}
+use Rattle.chip_graph.specs.Multigraph.{Multigraph, degree}
 use Rattle.chip_graph.specs.More.{HasMore}
 use Rattle.chip_graph.specs.Faults.{first_of_faults, fault_unless}
 use Rattle.chip_file.specs.declared.fault.FileFault.{FileFault}
@@ -19,12 +19,16 @@ use Rattle.chip_file.specs.Rows.{Row, records_of, rows_under_header, by_index, f
 use Rattle.chip_file.specs.VertexRows.{vertex_in, vertex_row_fault}
 use Rattle.chip_sequence.specs.Play.{IsPlayed}
 use Rattle.chip_sequence.specs.declared.outcome.Outcome.{Outcome}
+use Rattle.chip_sequence.proofs.CertificateLemmas.{end_of_the_way}
+use Rattle.chip_engine.proofs.SittingLemmas.{none_legal}
 use Rattle.chip_drops.specs.declared.avalanche.Avalanche.{Avalanche}
 use Rattle.chip_drops.specs.declared.pile.Pile.{Pile}
 use Rattle.chip_drops.specs.Avalanches.{AreAvalanches}
+use Rattle.chip_drops.specs.Pile.{IsPile, IsStable}
 use Rattle.chip_drops.specs.Rows.{rows_text, IsAfter, IsStoppedAt, AreRows, EndsRows, FailsRows}
 use Rattle.chip_drops.specs.declared.rows.RowsFault.{RowsFault}
 use Rattle.chip_drops.specs.declared.rows.RowsFault.TheVariants as rows_fault
+use Rattle.chip_report.specs.ReportText.{is_closed}
 use Rattle.chip_report.specs.Written.{WritesAll}
 use Rattle.chip_report.specs.declared.write.WriteFault.{WriteFault}
 use Rattle.chip_command.specs.declared.ended.Ended.{Ended}
@@ -80,6 +84,26 @@ tells_none g ds o played = record {
   text_is = refl;
 }
 
+false_unless : (b : Bool) → (b ≡ true → ⊥) → b ≡ false
+false_unless true none = absurd (none refl)
+false_unless false none = refl
+
+-- the play of a pile on which a vertex is legal was stopped
+stopped_open : (p : Pile) → IsPile p → (IsStable p.game.graph (slice_index p.chips.items) → ⊥) → (o : Outcome)
+    → IsPlayed p.game o → is_closed o ≡ false
+stopped_open p pile legal o played =
+    let vs : List ℕ = played.ends.0 in
+    let whole = played.ends.1 in
+    let end = end_of_the_way p.game.graph (slice_index p.game.start) p.game.limit (slice_index p.chips.items)
+    (slice_index p.fired.items) pile.begun.on_the_way pile.at_rest vs whole in
+    let same : (v : ℕ) → slice_index o.chips.items v ≡ slice_index p.chips.items v =
+    (λ v. played.position vs whole v ∙ sym (end.1 v)) in
+    false_unless (is_closed o) (λ closed. legal (λ v can. none_legal p.game o played closed v (record {
+      is_vertex = can.is_vertex;
+      not_sink = can.not_sink;
+      enough_chips = subst (λ (n : ℕ). degree p.game.graph v ≤ n) (sym (same v)) can.enough_chips;
+    })))
+
 -- all of a text
 pub all_out : (old new : Option (List ℕ)) (text : List ℕ) → Appends old new text → Appends old new (take (length text) text)
 all_out old new text went = subst (Appends old new) (sym (take_all (length text) text (omega arith))) went
@@ -105,7 +129,8 @@ module _ (g : ChipGame) (ds : List (ℕ × ℕ)) (o : Outcome) (played : IsPlaye
 
   -- the rows went out
   pub ends_come : (old new : Option (List ℕ)) (p' : Pile) (all : Bool) → EndsRows p ds old new p' all
-      → (text : List ℕ) × ComesTo g ds text p'.game × (n : ℕ) × TellsDrops g ds n text × Appends old new text
+      → (text : List ℕ) × ((end : Outcome) → IsPlayed p'.game end → ComesTo g ds text p'.game end) × (n : ℕ)
+      × TellsDrops g ds n text × Appends old new text
   ends_come old new p' true ends =
       let whole : take (length ds) ds ≡ ds = take_all (length ds) ds (omega arith) in
       let after : IsAfter p (take (length ds) ds) ends.0 p' =
@@ -115,7 +140,7 @@ module _ (g : ChipGame) (ds : List (ℕ × ℕ)) (o : Outcome) (played : IsPlaye
       subst (λ (l : List (ℕ × ℕ)). TellsDrops g ds (length ds) (rows_text l ends.0)) whole
       (tells (length ds) ends.0 p' after) in (
         text,
-        inl (told, subst (λ (h : ChipGame). HasMore h ds p'.game) game ends.1.game),
+        (λ end is. inl (told, subst (λ (h : ChipGame). HasMore h ds p'.game) game ends.1.game)),
         length ds,
         told,
         ends.2,
@@ -123,12 +148,13 @@ module _ (g : ChipGame) (ds : List (ℕ × ℕ)) (o : Outcome) (played : IsPlaye
   ends_come old new p' false ends =
       let told = tells_rows ends.0 ends.2 ends.3 in (
         ends.2,
-        inr (inl (
+        (λ end is. inr (inl (
           ends.0,
           ends.1.inside,
           told,
           subst (λ (h : ChipGame). HasMore h (take (ends.0 + 1) ds) p'.game) game ends.1.game,
-        )),
+          stopped_open p' ends.1.pile ends.1.legal end is,
+        ))),
         ends.0,
         told,
         ends.4,

@@ -15,7 +15,7 @@ use Rattle.chip_drops.specs.Avalanches.{AreAvalanches}
 use Rattle.chip_drops.specs.Rows.{rows_text}
 use Rattle.chip_drops.specs.declared.rows.RowsFault.{RowsFault}
 use Rattle.chip_drops.specs.declared.rows.RowsFault.TheVariants as rows_fault
-use Rattle.chip_report.specs.ReportText.{report_text}
+use Rattle.chip_report.specs.ReportText.{is_closed, report_text}
 use Rattle.chip_report.specs.Written.{WritesAll}
 use Rattle.chip_report.specs.declared.write.WriteFault.{WriteFault}
 use Rattle.chip_command.specs.CommandAnswers.{OrMemory}
@@ -64,13 +64,13 @@ pub record TellsDrops (g : ChipGame) (ds : List (ℕ × ℕ)) (n : ℕ) (text : 
   pub avalanches : AreAvalanches g.graph (slice_index outcome.chips.items) (take n ds) told left
   pub text_is : text ≡ rows_text (take n ds) told
 
--- what the drops come to: a text with a row for each, and the game with all their chips; or the play of the drop at i was
--- stopped, the text has the rows before it, and the game the chips up to it; or the game itself was stopped
-abbrev pub ComesTo : ChipGame → List (ℕ × ℕ) → List ℕ → ChipGame → Type 0
-ComesTo g ds text g' =
+-- what the drops come to: a text with a row for each, and the game with all their chips; or the limit stopped the play of
+-- the drop at i, the text has the rows before it, and the game the chips up to it; or the limit stopped the game itself
+abbrev pub ComesTo : ChipGame → List (ℕ × ℕ) → List ℕ → ChipGame → Outcome → Type 0
+ComesTo g ds text g' outcome =
     (TellsDrops g ds (length ds) text × HasMore g ds g')
-    ⊎ ((i : ℕ) × (i < length ds) × TellsDrops g ds i text × HasMore g (take (i + 1) ds) g')
-    ⊎ (TellsDrops g ds 0 text × (g' ≡ g))
+    ⊎ ((i : ℕ) × (i < length ds) × TellsDrops g ds i text × HasMore g (take (i + 1) ds) g' × (is_closed outcome ≡ false))
+    ⊎ (TellsDrops g ds 0 text × (g' ≡ g) × (is_closed outcome ≡ false))
 
 -- what two outputs hold: that of the rows, and that of the report where there is one
 pub record Outputs : Type 0 where
@@ -102,8 +102,8 @@ FailsDrops g ds old new fault =
 
 -- what playing the game and then the drops answers: the outcome of the game with the chips that were dropped
 abbrev pub PlaysDrops : ChipGame → List (ℕ × ℕ) → Option (List ℕ) → Option (List ℕ) → Result Outcome Fault → Type 0
-PlaysDrops g ds old new (Ok outcome) = (text : List ℕ) × (g' : ChipGame) × ComesTo g ds text g' × IsPlayed g' outcome
-    × Appends old new text
+PlaysDrops g ds old new (Ok outcome) = (text : List ℕ) × (g' : ChipGame) × ComesTo g ds text g' outcome
+    × IsPlayed g' outcome × Appends old new text
 PlaysDrops g ds old new (Err fault) = FailsDrops g ds old new fault
 
 -- what writing the report answers
@@ -117,7 +117,7 @@ abbrev pub AvalanchesAnswers : SizeLimits → (graph chips drops : Option (List 
     → Result Ended Fault → Type 0
 AvalanchesAnswers limits graph chips drops limit old new (Ok ended) =
     (g : ChipGame) × (ds : List (ℕ × ℕ)) × GaveDrops limits graph chips drops limit g ds
-    × (text : List ℕ) × (g' : ChipGame) × ComesTo g ds text g' × (outcome : Outcome) × IsPlayed g' outcome
+    × (text : List ℕ) × (g' : ChipGame) × (outcome : Outcome) × ComesTo g ds text g' outcome × IsPlayed g' outcome
     × Appends old.rows new.rows text × AppendsReport old.report new.report (report_text outcome)
     × (ended.status ≡ plain_status outcome) × (ended.cut ≡ false)
 AvalanchesAnswers limits graph chips drops limit old new (Err fault) =
@@ -125,5 +125,5 @@ AvalanchesAnswers limits graph chips drops limit old new (Err fault) =
     ⊎ ((g : ChipGame) × (ds : List (ℕ × ℕ)) × GaveDrops limits graph chips drops limit g ds
     × FailsDrops g ds old.rows new.rows fault × (new.report ≡ old.report))
     ⊎ ((g : ChipGame) × (ds : List (ℕ × ℕ)) × GaveDrops limits graph chips drops limit g ds
-    × (text : List ℕ) × (g' : ChipGame) × ComesTo g ds text g' × (outcome : Outcome) × IsPlayed g' outcome
+    × (text : List ℕ) × (g' : ChipGame) × (outcome : Outcome) × ComesTo g ds text g' outcome × IsPlayed g' outcome
     × Appends old.rows new.rows text × FailsReport old.report new.report (report_text outcome) fault)

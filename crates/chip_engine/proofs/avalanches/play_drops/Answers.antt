@@ -25,6 +25,7 @@ returns-then-not-is_closed g c = (
   inr (inr (
     tells_none c.args.game c.args.drops.now c.in_ok-outcome.outcome c.in_ok-outcome.ensures.played,
     refl,
+    sym c.is_closed.ensures ∙ c.if-not-is_closed.true,
   )),
   c.in_ok-outcome.ensures.played,
   c.in_ok-write_all_of.ensures,
@@ -50,7 +51,13 @@ returns-in_ok-outcome-in-Ok g c =
     let come = ends_come c.args.game c.args.drops.now c.in_ok-outcome.outcome c.in_ok-outcome.ensures.played
     c.in_ok-pile.pile c.in_ok-pile.ensures.game c.in_ok-pile.ensures.chips _ _ c.in-Ok.end.pile c.in-Ok.end.all
     c.in-Ok.ensures in
-    (come.0, c.in-Ok.end.pile.game, come.1, c.in_ok-outcome-in-Ok.ensures.played, come.4)
+    (
+      come.0,
+      c.in-Ok.end.pile.game,
+      come.1 _ c.in_ok-outcome-in-Ok.ensures.played,
+      c.in_ok-outcome-in-Ok.ensures.played,
+      come.4,
+    )
 
 pub returns-in-Err : goal.returns-in-Err
 returns-in-Err g c =

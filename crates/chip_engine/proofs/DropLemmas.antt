@@ -1,6 +1,6 @@
 -- Serves AvalanchesCommand.antt.
 -- Drops that a file names, and what playing them comes to.
-use Rattle.std.proofs.Common.{◌≡◌, ◌⊎◌, ℕ, ◌+◌, ◌<◌, ◌≤◌, Bool, true, false, List, [], ◌∷◌, ◌++◌, length, map, take, sum}
+use Rattle.std.proofs.Common.{◌≡◌, ℕ, ◌+◌, ◌<◌, ◌≤◌, Bool, true, false, List, [], ◌∷◌, ◌++◌, length, map, take}
 use Rattle.std.proofs.Common.{slice_index, Option, None, Some, Result, Ok, Err, refl, sym, ap, ◌∙◌, subst, arith, inl, inr}
 use Rattle.std.proofs.Common.{ltb, ltb-true}
 use Rattle.std.specs.Prelude.{All, is_none, if◌then◌else◌}
@@ -25,15 +25,12 @@ use Rattle.chip_drops.specs.declared.avalanche.Avalanche.{Avalanche}
 use Rattle.chip_drops.specs.declared.pile.Pile.{Pile}
 use Rattle.chip_drops.specs.Avalanches.{AreAvalanches}
 use Rattle.chip_drops.specs.Pile.{IsPile, IsStable}
-use Rattle.chip_drops.specs.Rows.{rows_text, IsAfter, IsStoppedAt, AreRows, EndsRows, FailsRows}
+use Rattle.chip_drops.specs.Rows.{rows_text, IsAfter, AreRows, EndsRows, FailsRows}
 use Rattle.chip_drops.specs.declared.rows.RowsFault.{RowsFault}
 use Rattle.chip_drops.specs.declared.rows.RowsFault.TheVariants as rows_fault
 use Rattle.chip_report.specs.ReportText.{is_closed}
-use Rattle.chip_report.specs.Written.{WritesAll}
-use Rattle.chip_report.specs.declared.write.WriteFault.{WriteFault}
 use Rattle.chip_command.specs.declared.ended.Ended.{Ended}
 use Rattle.chip_command.specs.declared.fault.Fault.{Fault}
-use Rattle.chip_command.specs.declared.fault.Fault.TheVariants.{Write, NoMemory}
 use Rattle.chip_engine.specs.AvalanchesCommand.{TellsDrops, ComesTo, FailsDrops, PlaysDrops, Outputs}
 use Rattle.chip_engine.specs.AvalanchesCommand.{AvalanchesAnswers, fault_of_rows}
 

@@ -1,7 +1,7 @@
 -- Serves GuessCommand.antt.
 -- Counts that a text gives, and games that are played from them.
-use Rattle.std.proofs.Common.{◌≡◌, ◌⊎◌, ℕ, ◌≤◌, Bool, true, false, List, length, Option, Some, Result, Ok, Err, inl, inr, refl}
-use Rattle.std.proofs.Common.{sym, ap, ◌∙◌, subst}
+use Rattle.std.proofs.Common.{◌≡◌, ◌⊎◌, ℕ, ◌≤◌, true, false, List, length, Option, Some, Result, Ok, Err, inl, inr}
+use Rattle.std.proofs.Common.{ap, ◌∙◌, subst}
 use Rattle.std.specs.Global.{Vec}
 use Rattle.std.specs.Option.{ForSome}
 use Rattle.std.specs.Result.{IsErrAnd, MatchResult}
@@ -15,7 +15,7 @@ use Rattle.chip_report.specs.ReportTwo.{IsNoReportAtAllWithin}
 use Rattle.chip_report.specs.declared.fault.ReportFault.{ReportFault}
 use Rattle.chip_report.specs.declared.fault.ReportFault.TheVariants as report_fault
 use Rattle.chip_command.specs.Faults.{fault_of_file, fault_of_report}
-use Rattle.chip_command.specs.Inputs.{Reads, IsRefused, RefusesText, GaveGame}
+use Rattle.chip_command.specs.Inputs.{Reads, IsRefused, GaveGame}
 use Rattle.chip_command.specs.PlainCommand.{PlainWrites, PlainRefuses}
 use Rattle.chip_command.specs.Reports.{Reports}
 use Rattle.chip_command.specs.declared.answer.Answer.{Answer}

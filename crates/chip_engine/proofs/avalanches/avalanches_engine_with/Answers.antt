@@ -1,4 +1,4 @@
-use Rattle.std.proofs.Common.{◌≡◌, ◌∙◌, ℕ, List, refl, sym, ap, subst, inl, inr}
+use Rattle.std.proofs.Common.{◌∙◌, refl, sym, ap, subst, inl, inr}
 use Rattle.std.specs.Prelude.{option_map}
 use Rattle.chip_command.specs.Inputs.{GaveNoGame}
 use Rattle.chip_command.specs.Statuses.{number_of_status}

@@ -1,4 +1,4 @@
-use Rattle.std.proofs.Common.{◌≡◌, List, [], length, true, refl, sym, ◌∙◌, inl, inr}
+use Rattle.std.proofs.Common.{◌≡◌, [], length, true, refl, sym, ◌∙◌, inl, inr}
 use Rattle.chip_drops.specs.Rows.{rows_text}
 use Rattle.chip_report.specs.ReportText.{is_closed}
 use Rattle.chip_engine.proofs.DropLemmas.{tells_none, all_out, ends_come, fails_come, plays_failed}

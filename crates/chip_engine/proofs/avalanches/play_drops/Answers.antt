@@ -50,8 +50,7 @@ pub returns-in_ok-outcome-in-Ok : goal.returns-in_ok-outcome-in-Ok
 returns-in_ok-outcome-in-Ok g c =
     let come = ends_come c.args.game c.args.drops.now c.in_ok-outcome.outcome c.in_ok-outcome.ensures.played
     c.in_ok-pile.pile c.in_ok-pile.ensures.game c.in_ok-pile.ensures.chips _ _ c.in-Ok.end.pile c.in-Ok.end.all
-    c.in-Ok.ensures in
-    (
+    c.in-Ok.ensures in (
       come.0,
       c.in-Ok.end.pile.game,
       come.1 _ c.in_ok-outcome-in-Ok.ensures.played,

@@ -54,9 +54,10 @@ class Worked:
         return found
 
     def options(self):
-        """The numbers among the options of the run, by the names of the options."""
+        """The options of the run that a model takes, by their names: those that are numbers, and `complete`."""
         pairs = zip(self.words, self.words[1:])
-        return {word[2:]: int(value) for word, value in pairs if word.startswith("--") and value.isdigit()}
+        numbers = {word[2:]: int(value) for word, value in pairs if word.startswith("--") and value.isdigit()}
+        return numbers | {"complete": "--complete" in self.words}
 
     def line(self):
         return line_of(self.fault) if self.fault else b""

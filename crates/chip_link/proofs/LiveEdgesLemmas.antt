@@ -89,21 +89,10 @@ module _ (edge ring : ℕ) (some_ring : 0 < ring) (s : LiveEdge) (t : Tail) (got
           fewer = λ _. below;
         },
       ))
-      (λ no. (
-        t,
-        got,
-        record {
-          tail_is = ap (tail_after_clear seen) f.tail_is ∙ cond_is _ false _ _ no;
-          head_is = f.head_is;
-          claimed_is = f.claimed_is;
-          taken_is = f.taken_is;
-          cells_are = f.cells_are;
-          shows = f.shows;
-          sound = f.sound;
-          few = f.few;
-          fewer = f.fewer;
-        },
-      ))
+      (λ no.
+      let same : s.tail ≡ tail_after_clear seen s.tail =
+      f.tail_is ∙ sym (ap (tail_after_clear seen) f.tail_is ∙ cond_is _ false _ _ no) in
+      subst (HasLists edge ring) (λ j. record s { tail = same j }) (t, got, f))
 
   -- the claim that a look allows
   claimed_on : (count : ℕ) → 0 < count → t.clear ≡ true → HasLists edge ring (claim_on count s)
@@ -176,23 +165,12 @@ module _ (edge ring : ℕ) (some_ring : 0 < ring) (s : LiveEdge) (t : Tail) (got
       (λ none.
       let nothing : put_of s.tail ≡ None = ap put_of f.tail_is
       ∙ ap (λ (h : Option ℕ). option_map (λ (c : ℕ). ((claims_of t - 1) % ring, c)) h) none in
-      let kept : cells_after_store (put_of s.tail) s.cells
-      ≡ s.cells = ap (λ (p : Option (ℕ × ℕ)). cells_after_store p s.cells) nothing in (
-        t,
-        got,
-        record {
-          tail_is = ap tail_after_put f.tail_is
-              ∙ ap (λ (h : Option ℕ). let u : TailState = record (tail_state edge ring t) { held = h } in u) (sym none);
-          head_is = f.head_is;
-          claimed_is = f.claimed_is;
-          taken_is = f.taken_is;
-          cells_are = ap length kept ∙ f.cells_are;
-          shows = subst (λ (l : List ℕ). Shows ring s.word (λ i. get_or l i 0) t got s.stop) (sym kept) f.shows;
-          sound = f.sound;
-          few = f.few;
-          fewer = f.fewer;
-        },
-      ))
+      let kept : s.cells ≡ cells_after_store (put_of s.tail) s.cells =
+      sym (ap (λ (p : Option (ℕ × ℕ)). cells_after_store p s.cells) nothing) in
+      let same : s.tail ≡ tail_after_put s.tail = f.tail_is
+      ∙ ap (λ (h : Option ℕ). let u : TailState = record (tail_state edge ring t) { held = h } in u) none
+      ∙ sym (ap tail_after_put f.tail_is) in
+      subst (HasLists edge ring) (λ j. record s { cells = kept j; tail = same j }) (t, got, f))
       (λ held.
       let count : ℕ = held.0 in let one : t.held ≡ Some count = held.1 in
       let at : ℕ = length t.put % ring in

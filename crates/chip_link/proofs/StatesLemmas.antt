@@ -5,7 +5,7 @@ use Rattle.std.proofs.Common.{◌≡◌, ℕ, ◌+◌, ◌-◌, ◌%◌, Bool, t
 use Rattle.std.proofs.Common.{Some, None, sym, ap, ◌∙◌, arith, length-append}
 use mathlib.Core.Logic.{dite}
 use native.Mathlib.Decide.{ℕ_discrete}
-use Rattle.chip_link.specs.Ends.{TailState, HeadState, may_clear, tail_after_clear, tail_after_claim, tail_after_put}
+use Rattle.chip_link.specs.Ends.{HeadState, may_clear, tail_after_clear, tail_after_claim, tail_after_put}
 use Rattle.chip_link.specs.Ends.{put_of, head_after_take}
 use Rattle.chip_link.specs.Link.{Tail, sent_counts, claims_of, after_clear, after_claim, after_put, after_take}
 use Rattle.chip_link.specs.Link.{tail_state, head_state}
@@ -13,27 +13,6 @@ use Rattle.chip_link.proofs.SoundsLemmas.{cond_yes, cond_no, none_held, one_held
 
 cond_true : {A : Type 0} (b : Bool) (x y : A) → b ≡ true → cond b x y ≡ x
 cond_true b x y e = ap (λ (t : Bool). cond t x y) e
-
--- two tails of one edge with one number of claims and one set of notes
-same_tail : (edge ring n m : ℕ) (held : Option ℕ) (clear refused : Bool) → n ≡ m
-    → (let s : TailState = record {
-      edge = edge;
-      ring = ring;
-      claims = n;
-      held = held;
-      clear = clear;
-      refused = refused;
-    } in s)
-    ≡ record { edge = edge; ring = ring; claims = m; held = held; clear = clear; refused = refused }
-same_tail edge ring n m held clear refused e = ap
-    (λ (k : ℕ). let s : TailState = record {
-      edge = edge;
-      ring = ring;
-      claims = k;
-      held = held;
-      clear = clear;
-      refused = refused;
-    } in s) e
 
 module _ (edge ring : ℕ) (t : Tail) where
   -- a look that counts
@@ -46,16 +25,17 @@ module _ (edge ring : ℕ) (t : Tail) where
       → tail_after_claim word count (tail_state edge ring t) ≡ tail_state edge ring (after_claim count word t)
   tail_claims count word none = dite (ℕ_discrete word (claims_of t))
       (λ hit. cond_yes word (claims_of t) _ _ hit
-      ∙ same_tail edge ring (claims_of t + 1) (length t.put + 1) (Some count) false t.refused
-      (let all_put = none_held t none in omega arith)
+      ∙ (let more : claims_of t + 1 ≡ length t.put + 1 = (let all_put = none_held t none in omega arith) in
+      λ j. record (tail_state edge ring t) { claims = more j; held = Some count; clear = false })
       ∙ ap (tail_state edge ring) (sym (cond_yes word (claims_of t) _ _ hit)))
       (λ miss. cond_no word (claims_of t) _ _ miss
       ∙ ap (tail_state edge ring) (sym (cond_no word (claims_of t) _ _ miss)))
 
   -- a store, also where there is nothing to put
   pub tail_puts : tail_after_put (tail_state edge ring t) ≡ tail_state edge ring (after_put t)
-  tail_puts = same_tail edge ring (claims_of t) (length (sent_counts t) + 0) None t.clear t.refused
-      (let all = length-sent_counts t in omega arith)
+  tail_puts =
+      let all : claims_of t ≡ length (sent_counts t) + 0 = (let n = length-sent_counts t in omega arith) in
+      λ j. record (tail_state edge ring t) { claims = all j; held = None }
 
   -- the cell of what is held is the one after those that were put
   pub puts_at : (count : ℕ) → t.held ≡ Some count → put_of (tail_state edge ring t) ≡ Some (length t.put % ring, count)

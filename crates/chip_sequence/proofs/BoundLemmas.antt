@@ -16,6 +16,7 @@ use Rattle.chip_sequence.specs.Bound.{greatest_below, greatest_degree, firing_bo
 use Rattle.chip_sequence.proofs.FiringLemmas.{counts-append, counts_here, counts_outside, sink_never, position_is}
 use Rattle.chip_sequence.proofs.FiringLemmas.{sequence-append}
 use Rattle.chip_sequence.proofs.EndLemmas.{continued, one_end}
+use Rattle.chip_graph.proofs.WalksLemmas.{degree_positive}
 
 -- a number of the list is at most the greatest
 pub greatest_below_is : (n : ℕ) (f : ℕ → ℕ) (v : ℕ) → v < n → f v ≤ greatest_below n f
@@ -176,12 +177,4 @@ module _ (G : Multigraph) (good : IsGraph G) where
 
   -- a vertex that is not the sink has a chip to send
   pub some_degree : (v : ℕ) → v < G.vertices → v ≢ G.sink → 0 < degree G v
-  some_degree v l ns = first_edge (good.all_reach v l).0 (good.all_reach v l).1
-    where
-      first_edge : (es : List ℕ) → IsWalk G v es G.sink → 0 < degree G v
-      first_edge [] is = absurd (ns is)
-      first_edge (e ∷ es) way =
-          let a = tested_term (length G.edges) (λ i. eqb (edge_at G i).tail v)
-          (λ i. (edge_at G i).mult) e way.0 (eq-eqb (edge_at G e).tail v way.1) in
-          let b = (good.edges_fit e way.0).some_chips in
-          omega arith
+  some_degree v l ns = degree_positive G v (good.all_reach v l) ns (λ e m. (good.edges_fit e m).some_chips)

@@ -185,7 +185,7 @@ module _ (G : Multigraph) where
 -- ---- the check of a certificate
 
 -- nothing flows in where no vertex is
-inflow_outside : (G : Multigraph) → IsGraph G → (f : ℕ → ℕ) (u : ℕ) → G.vertices ≤ u → inflow G f u ≡ 0
+pub inflow_outside : (G : Multigraph) → IsGraph G → (f : ℕ → ℕ) (u : ℕ) → G.vertices ≤ u → inflow G f u ≡ 0
 inflow_outside G good f u past =
     sum_below_none (length G.edges) _
     (λ e l. cond_no (edge_at G e).head u _ 0

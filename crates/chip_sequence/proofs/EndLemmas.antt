@@ -9,7 +9,7 @@ use Rattle.chip_graph.specs.Multigraph.{Multigraph, degree}
 use Rattle.chip_graph.proofs.SumLemmas.{cond_yes, cond_no, sum_below_zero, sum_below_move}
 use Rattle.chip_sequence.specs.Firing.{IsLegal, fired_once}
 use Rattle.chip_sequence.specs.Sequence.{position_after, IsFiringSequence, counts, IsWithin, HasEndedWithin, IsWholePlay}
-use Rattle.chip_sequence.proofs.FiringLemmas.{counts_here, counts_else, counts-append, inflow_le, inflow_none, IsLedTo}
+use Rattle.chip_sequence.proofs.FiringLemmas.{counts_here, counts_else, counts_more, counts-append, inflow_le, inflow_none, IsLedTo}
 use Rattle.chip_sequence.proofs.FiringLemmas.{led_on, position_is, same_position, position-append, sequence-append}
 
 module _ (G : Multigraph) where
@@ -44,19 +44,14 @@ module _ (G : Multigraph) where
         → ((u : ℕ) → f u + counts vs u ≤ limit) → (u : ℕ) → f u + counts vs u ≤ most u
     least_from [] f y to low ok within u = let a = low u in omega arith
     least_from (v ∷ vs) f y to low ok within u =
-        let h : ℕ → ℕ = λ w. cond (eqb v w) (f w + 1) (f w) in
-        let here : h v ≡ f v + 1 = cond_yes v v (f v + 1) (f v) refl in
-        let else' : (w : ℕ) → w ≢ v → h w ≡ f w = λ w ne. cond_no v w (f w + 1) (f w) (λ z. ne (sym z)) in
-        let all : (w : ℕ) → h w + counts vs w ≡ f w + counts (v ∷ vs) w = (λ w. dite (ℕ_discrete v w)
-        (λ e. (let a : h w ≡ f w + 1 = cond_yes v w (f w + 1) (f w) e in let b = counts_here v w vs e in omega arith))
-        (λ ne. (let a : h w ≡ f w = cond_no v w (f w + 1) (f w) ne in let b = counts_else v w vs ne in omega arith))) in
+        let h : ℕ → ℕ = λ w. f w + cond (eqb v w) 1 0 in
         let less = not_yet f y v to low ok.0 (let a = within v in let b = counts_here v v vs refl in omega arith) in
         let low' : (w : ℕ) → h w ≤ most w = (λ w. dite (ℕ_discrete v w)
-        (λ e. subst (λ (z : ℕ). h z ≤ most z) e (omega arith))
-        (λ ne. (let a : h w ≡ f w = cond_no v w (f w + 1) (f w) ne in let b = low w in omega arith))) in
-        let rest = least_from vs h (fired_once G v y) (led_on G x f h y v to ok.0.enough_chips here else') low' ok.1
-        (λ w. (let a = within w in let b = all w in omega arith)) u in
-        let a = all u in
+        (λ e. subst (λ (z : ℕ). h z ≤ most z) e (let a = cond_yes {A = ℕ} v v 1 0 refl in omega arith))
+        (λ ne. (let a = cond_no {A = ℕ} v w 1 0 ne in let b = low w in omega arith))) in
+        let rest = least_from vs h (fired_once G v y) (led_on G x f y v to ok.0.enough_chips) low' ok.1
+        (λ w. (let a = within w in let b = counts_more v w vs in omega arith)) u in
+        let a = counts_more v u vs in
         omega arith
 
     -- no sequence within the limit fires a vertex more often than that

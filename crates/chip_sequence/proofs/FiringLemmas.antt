@@ -10,6 +10,7 @@ use Rattle.chip_graph.proofs.SumLemmas.{cond_yes, cond_no, tested_ext, tested_ad
 use Rattle.chip_sequence.specs.Firing.{IsLegal, fired_once}
 use Rattle.chip_sequence.specs.Sequence.{position_after, IsFiringSequence, counts}
 use Rattle.chip_sequence.specs.Counted.{inflow, position_by_counts, IsBelowZero}
+use Rattle.std.proofs.Common.{Bool, true, false}
 
 -- ---- counts
 
@@ -21,14 +22,19 @@ counts_here v u vs e = cond_yes v u (counts vs u + 1) (counts vs u) e
 pub counts_else : (v u : ℕ) (vs : List ℕ) → v ≢ u → counts (v ∷ vs) u ≡ counts vs u
 counts_else v u vs ne = cond_no v u (counts vs u + 1) (counts vs u) ne
 
+-- both in one
+pub counts_more : (v u : ℕ) (vs : List ℕ) → counts (v ∷ vs) u ≡ counts vs u + cond (eqb v u) 1 0
+counts_more v u vs = either (eqb v u)
+  where
+    either : (b : Bool) → cond b (counts vs u + 1) (counts vs u) ≡ counts vs u + cond b 1 0
+    either true = refl
+    either false = omega arith
+
 -- counts of a list in two parts
 pub counts-append : (vs ws : List ℕ) (u : ℕ) → counts (vs ++ ws) u ≡ counts vs u + counts ws u
 counts-append [] ws u = omega arith
-counts-append (v ∷ vs) ws u =
-    let a = counts-append vs ws u in
-    dite (ℕ_discrete v u)
-    (λ e. let b = counts_here v u (vs ++ ws) e in let c = counts_here v u vs e in omega arith)
-    (λ ne. let b = counts_else v u (vs ++ ws) ne in let c = counts_else v u vs ne in omega arith)
+counts-append (v ∷ vs) ws u = let a = counts-append vs ws u in let b = counts_more v u (vs ++ ws) in
+    let c = counts_more v u vs in omega arith
 
 -- counts of one vertex, k times
 pub counts-replicate : (k v u : ℕ) → counts (replicate k v) u ≡ cond (eqb v u) k 0
@@ -99,6 +105,24 @@ module _ (G : Multigraph) where
   unfolding brings
   fired_else v u x ne = ap (λ (z : ℕ). z + brings v u) (cond_no u v (x u - degree G v) (x u) ne)
 
+  -- both in one
+  pub fired_is : (v u : ℕ) (x : ℕ → ℕ) → degree G v ≤ x v
+      → fired_once G v x u + degree G u * cond (eqb v u) 1 0 ≡ x u + brings v u
+  fired_is v u x can = dite (ℕ_discrete u v)
+      (λ same.
+      let a : fired_once G v x u ≡ (x u - degree G u) + brings v u =
+      subst (λ (w : ℕ). fired_once G v x w ≡ (x w - degree G w) + brings v w) (sym same) (fired_here v x) in
+      let b : degree G u * cond (eqb v u) 1 0 ≡ degree G u * 1 =
+      ap (λ (n : ℕ). degree G u * n) (cond_yes v u 1 0 (sym same)) in
+      let l : degree G u ≤ x u = subst (λ (w : ℕ). degree G w ≤ x w) (sym same) can in
+      omega arith)
+      (λ other.
+      let a = fired_else v u x other in
+      let b : degree G u * cond (eqb v u) 1 0 ≡ degree G u * 0 =
+      ap (λ (n : ℕ). degree G u * n) (cond_no v u 1 0 (λ z. other (sym z))) in
+      let c = mul-zero (degree G u) in
+      omega arith)
+
   -- the counts f lead from the position x to the position y
   abbrev pub IsLedTo : (x f y : ℕ → ℕ) → Type 0
   IsLedTo x f y = (u : ℕ) → y u + degree G u * f u ≡ x u + inflow G f u
@@ -112,25 +136,15 @@ module _ (G : Multigraph) where
       omega arith
 
   -- one more firing leads on to the position after it
-  pub led_on : (x f h y : ℕ → ℕ) (v : ℕ) → IsLedTo x f y → degree G v ≤ y v → h v ≡ f v + 1
-      → ((w : ℕ) → w ≢ v → h w ≡ f w) → IsLedTo x h (fired_once G v y)
-  led_on x f h y v to can here else' u =
+  pub led_on : (x f y : ℕ → ℕ) (v : ℕ) → IsLedTo x f y → degree G v ≤ y v
+      → IsLedTo x (λ w. f w + cond (eqb v w) 1 0) (fired_once G v y)
+  led_on x f y v to can u =
       let a = to u in
-      let b = inflow_more f h v 1 here else' u in
-      let b' : brings v u * 1 ≡ brings v u = omega arith in
-      dite (ℕ_discrete u v)
-      (λ same.
-      let c : fired_once G v y u ≡ (y u - degree G u) + brings v u =
-      subst (λ (w : ℕ). fired_once G v y w ≡ (y w - degree G w) + brings v w) (sym same) (fired_here v y) in
-      let d : h u ≡ f u + 1 = subst (λ (w : ℕ). h w ≡ f w + 1) (sym same) here in
-      let e : degree G u * h u ≡ degree G u * (f u + 1) = ap (λ (n : ℕ). degree G u * n) d in
-      let k = mul-add (degree G u) (f u) 1 in
-      let l : degree G u ≤ y u = subst (λ (w : ℕ). degree G w ≤ y w) (sym same) can in
-      omega arith)
-      (λ other.
-      let c = fired_else v u y other in
-      let e : degree G u * h u ≡ degree G u * f u = ap (λ (n : ℕ). degree G u * n) (else' u other) in
-      omega arith)
+      let b = inflow_more f (λ w. f w + cond (eqb v w) 1 0) v 1 (ap (λ (n : ℕ). f v + n) (cond_yes v v 1 0 refl))
+      (λ w ne. let c = cond_no {A = ℕ} v w 1 0 (λ z. ne (sym z)) in omega arith) u in
+      let d = fired_is v u y can in
+      let e = mul-add (degree G u) (f u) (cond (eqb v u) 1 0) in
+      omega arith
 
   -- ---- sequences
 
@@ -141,20 +155,11 @@ module _ (G : Multigraph) where
       let a = position_is vs (fired_once G v x) ok.1 u in
       let b = inflow_more (counts vs) (counts (v ∷ vs)) v 1 (counts_here v v vs refl)
       (λ w ne. counts_else v w vs (λ z. ne (sym z))) u in
-      dite (ℕ_discrete u v)
-      (λ same.
-      let c : fired_once G v x u ≡ (x u - degree G u) + brings v u =
-      subst (λ (w : ℕ). fired_once G v x w ≡ (x w - degree G w) + brings v w) (sym same) (fired_here v x) in
-      let d : degree G u * counts (v ∷ vs) u ≡ degree G u * (counts vs u + 1) =
-      ap (λ (n : ℕ). degree G u * n) (counts_here v u vs (sym same)) in
-      let k = mul-add (degree G u) (counts vs u) 1 in
-      let l : degree G u ≤ x u = subst (λ (w : ℕ). degree G w ≤ x w) (sym same) ok.0.enough_chips in
-      omega arith)
-      (λ other.
-      let c = fired_else v u x other in
-      let d : degree G u * counts (v ∷ vs) u ≡ degree G u * counts vs u =
-      ap (λ (n : ℕ). degree G u * n) (counts_else v u vs (λ z. other (sym z))) in
-      omega arith)
+      let c = fired_is v u x ok.0.enough_chips in
+      let d : degree G u * counts (v ∷ vs) u ≡ degree G u * (counts vs u + cond (eqb v u) 1 0) =
+      ap (λ (n : ℕ). degree G u * n) (counts_more v u vs) in
+      let e = mul-add (degree G u) (counts vs u) (cond (eqb v u) 1 0) in
+      omega arith
 
   -- equal counts, equal positions
   pub same_position : (x : ℕ → ℕ) (vs ws : List ℕ) → IsFiringSequence G x vs → IsFiringSequence G x ws

@@ -1,6 +1,6 @@
 -- Serves Sequence.antt, Certificate.antt, Firing.antt.
 -- What a sequence fires burns in the order of the last firings.
-use Rattle.std.proofs.Common.{◌≡◌, ◌≢◌, ℕ, zero, suc, ◌+◌, ◌-◌, ◌*◌, ◌<◌, ◌≤◌, Bool, true, false, cond, eqb, leb, List}
+use Rattle.std.proofs.Common.{◌≡◌, ◌≢◌, ℕ, zero, suc, ◌+◌, ◌*◌, ◌<◌, ◌≤◌, Bool, true, false, cond, eqb, leb, List}
 use Rattle.std.proofs.Common.{[], ◌∷◌, length, refl, sym, ap, subst, arith, mul-add, mul-le-mul_left, eq-eqb, ne_eqb}
 use Rattle.std.proofs.Common.{leb-true, le-leb}
 use mathlib.Core.Logic.{dite}
@@ -11,8 +11,8 @@ use Rattle.chip_sequence.specs.Firing.{fired_once}
 use Rattle.chip_sequence.specs.Sequence.{IsFiringSequence, counts, IsWithin}
 use Rattle.chip_sequence.specs.Counted.{inflow}
 use Rattle.chip_sequence.specs.Certificate.{in_degree, late_in_degree, AreBurnt}
-use Rattle.chip_sequence.proofs.FiringLemmas.{counts_here, counts_else, counts_outside, sink_never, inflow_more, brings}
-use Rattle.chip_sequence.proofs.FiringLemmas.{fired_here, fired_else}
+use Rattle.chip_sequence.proofs.FiringLemmas.{counts_here, counts_else, counts_outside, sink_never, inflow_more}
+use Rattle.chip_sequence.proofs.FiringLemmas.{counts_more, fired_is}
 
 -- ---- the place of the last firing
 
@@ -120,20 +120,11 @@ module _ (G : Multigraph) where
       (λ again.
       let ih = covered vs (fired_once G v y) ok.1 w again in
       let late = keeps v vs w again in
-      dite (ℕ_discrete w v)
-      (λ same.
-      let a : fired_once G v y w ≡ (y w - degree G w) + brings G v w =
-      subst (λ (z : ℕ). fired_once G v y z ≡ (y z - degree G z) + brings G v z) (sym same) (fired_here G v y) in
-      let b : degree G w * counts (v ∷ vs) w ≡ degree G w * (counts vs w + 1) =
-      ap (λ (n : ℕ). degree G w * n) (counts_here v w vs (sym same)) in
-      let c = mul-add (degree G w) (counts vs w) 1 in
-      let d : degree G w ≤ y w = subst (λ (z : ℕ). degree G z ≤ y z) (sym same) enough in
+      let a = fired_is G v w y enough in
+      let b : degree G w * counts (v ∷ vs) w ≡ degree G w * (counts vs w + cond (eqb v w) 1 0) =
+      ap (λ (n : ℕ). degree G w * n) (counts_more v w vs) in
+      let c = mul-add (degree G w) (counts vs w) (cond (eqb v w) 1 0) in
       omega arith)
-      (λ other.
-      let a = fired_else G v w y other in
-      let b : degree G w * counts (v ∷ vs) w ≡ degree G w * counts vs w =
-      ap (λ (n : ℕ). degree G w * n) (counts_else v w vs (λ e. other (sym e))) in
-      omega arith))
       (λ first.
       let same : v ≡ w = dite (ℕ_discrete v w) (λ e. e) (λ other. let a = counts_else v w vs other in
       absurd (omega arith)) in

@@ -1,6 +1,6 @@
 -- Serves Sequence.antt, Firing.antt, Certificate.antt.
 -- Counts that are forced because a sequence could be played last.
-use Rattle.std.proofs.Common.{◌≡◌, ◌≢◌, ℕ, zero, suc, ◌+◌, ◌*◌, ◌<◌, ◌≤◌, cond, eqb, List, [], ◌∷◌, refl, sym, ap, ◌∙◌}
+use Rattle.std.proofs.Common.{◌≡◌, ℕ, zero, suc, ◌+◌, ◌*◌, ◌<◌, ◌≤◌, cond, eqb, List, [], ◌∷◌, refl, sym, ap, ◌∙◌}
 use Rattle.std.proofs.Common.{subst, arith, mul-add, mul-zero, mul_comm, mul_assoc, suc-mul, mul-le-mul_left}
 use mathlib.Core.Logic.{dite}
 use native.Mathlib.Decide.{ℕ_discrete, dec_lt}
@@ -10,7 +10,7 @@ use Rattle.chip_sequence.specs.Firing.{IsLegal, fired_once}
 use Rattle.chip_sequence.specs.Sequence.{position_after, IsFiringSequence, counts, HasEndedWithin}
 use Rattle.chip_sequence.specs.Counted.{inflow}
 use Rattle.chip_sequence.specs.Certificate.{AreForced, IsScript}
-use Rattle.chip_sequence.proofs.FiringLemmas.{counts_here, counts_else, inflow_le, inflow_none, IsLedTo, led_on}
+use Rattle.chip_sequence.proofs.FiringLemmas.{counts_here, counts_more, inflow_le, inflow_none, IsLedTo, led_on}
 use Rattle.chip_sequence.proofs.FiringLemmas.{position_is}
 use Rattle.chip_sequence.proofs.CertificateLemmas.{inflow_add}
 
@@ -77,20 +77,15 @@ module _ (G : Multigraph) where
         → g v + counts bs v ≤ counts vs v + (k + 1) * counts bs v
     along k [] c y to rest low goes v = let a = rest v in let b = low v in omega arith
     along k (w ∷ cs) c y to rest low goes v =
-        let h : ℕ → ℕ = λ z. cond (eqb w z) (c z + 1) (c z) in
-        let here : h w ≡ c w + 1 = cond_yes w w (c w + 1) (c w) refl in
-        let else' : (z : ℕ) → z ≢ w → h z ≡ c z = λ z ne. cond_no w z (c z + 1) (c z) (λ e. ne (sym e)) in
+        let h : ℕ → ℕ = λ z. c z + cond (eqb w z) 1 0 in
         let less = not_passed k c y w to low goes.0 (let a = rest w in let b = counts_here w w cs refl in
         omega arith) in
-        let rest' : (z : ℕ) → h z + counts cs z ≡ counts bs z = (λ z. dite (ℕ_discrete w z)
-        (λ e. (let a : h z ≡ c z + 1 = cond_yes w z (c z + 1) (c z) e in let b = counts_here w z cs e in
-        let d = rest z in omega arith))
-        (λ ne. (let a : h z ≡ c z = cond_no w z (c z + 1) (c z) ne in let b = counts_else w z cs ne in let d = rest z in
-        omega arith))) in
         let low' : (z : ℕ) → g z + h z ≤ counts vs z + (k + 1) * counts bs z = (λ z. dite (ℕ_discrete w z)
-        (λ e. subst (λ (i : ℕ). g i + h i ≤ counts vs i + (k + 1) * counts bs i) e (omega arith))
-        (λ ne. (let a : h z ≡ c z = cond_no w z (c z + 1) (c z) ne in let b = low z in omega arith))) in
-        along k cs h (fired_once G w y) (led_on G q c h y w to goes.0.enough_chips here else') rest' low' goes.1 v
+        (λ e. subst (λ (i : ℕ). g i + h i ≤ counts vs i + (k + 1) * counts bs i) e
+        (let a = cond_yes {A = ℕ} w w 1 0 refl in omega arith))
+        (λ ne. (let a = cond_no {A = ℕ} w z 1 0 ne in let b = low z in omega arith))) in
+        along k cs h (fired_once G w y) (led_on G q c y w to goes.0.enough_chips)
+        (λ z. (let a = rest z in let b = counts_more w z cs in omega arith)) low' goes.1 v
 
     -- what is short by k scripts is short by none
     again : (k : ℕ) → ((v : ℕ) → g v ≤ counts vs v + k * counts bs v) → (v : ℕ) → g v ≤ counts vs v

@@ -1,8 +1,8 @@
 -- Serves Closing.antt.
 -- Where everything is asked for, nothing counts and no claim is refused, the root is closed.
 use Rattle.std.proofs.Common.{◌≡◌, ◌≢◌, ◌⊎◌, ℕ, zero, suc, ◌+◌, ◌<◌, ◌≤◌, Bool, true, false, cond, eqb, List, [], ◌∷◌}
-use Rattle.std.proofs.Common.{◌++◌, length, get_or, Option, Some, None, is_some, Contains, refl, sym, ap, ◌∙◌, subst, arith}
-use Rattle.std.proofs.Common.{inl, ⊎_elim, eq-eqb, true≢false}
+use Rattle.std.proofs.Common.{◌++◌, length, get_or, Option, Some, None, is_some, Contains, refl, sym, ap, ◌∙◌, subst}
+use Rattle.std.proofs.Common.{arith, inl, ⊎_elim, eq-eqb, true≢false}
 use mathlib.Core.Logic.{dite}
 use native.Mathlib.Decide.{ℕ_discrete, dec_lt}
 use Rattle.chip_graph.specs.ChipGame.{IsGame}
@@ -12,21 +12,21 @@ use Rattle.chip_part.specs.Setting.{Setting}
 use Rattle.chip_part.specs.Part.{may_ack, pending_of, unput_count, is_legal}
 use Rattle.chip_part.specs.Steps.{saw, link_after}
 use Rattle.chip_part.proofs.RuleLemmas.{rules_met, met_rules}
-use Rattle.chip_core.specs.Core.{Log, Event, Rule, Part, Out, Take, Ack, Fire, Clear, Claim, Put, Halt, Settle}
-use Rattle.chip_core.specs.Core.{Feed, unmet_rule, part_in, out_in, into_in, fired_by, sees}
-use Rattle.chip_core.specs.Core.{IsLegalLog, answer, step, log_after, IsClosed, tail_of, head_of, all_edges, graph_edges}
+use Rattle.chip_core.specs.Core.{Log, Event, Rule, Part, Out, Take, Ack, Fire, Clear, Claim, Put, Halt, Settle, Feed}
+use Rattle.chip_core.specs.Core.{unmet_rule, part_in, out_in, into_in, fired_by, sees, IsLegalLog, answer, step}
+use Rattle.chip_core.specs.Core.{log_after, IsClosed, tail_of, head_of, all_edges, graph_edges}
 use Rattle.chip_core.specs.Words.{acting_part}
 use Rattle.chip_core.specs.Work.{work_in, refusals_in}
-use Rattle.chip_core.specs.Closing.{HasEnd, AsksForEverything, AskedInVain}
+use Rattle.chip_core.specs.Closing.{HasEnd, AsksForEverything}
 use Rattle.chip_core.proofs.LogLemmas.{edge_counts, link_step, tail_inside}
-use Rattle.chip_core.proofs.OrderLemmas.{contains_cases}
 use Rattle.chip_core.proofs.ReachingLemmas.{step_legal, run_legal}
 use Rattle.chip_core.proofs.ReplyLemmas.{log_after-append}
 use Rattle.chip_core.proofs.IdleLemmas.{bare, Alike, idle_alike}
-use Rattle.chip_core.proofs.QuietLemmas.{Quiet, quiet_closes}
-use Rattle.chip_core.proofs.DueLemmas.{held_or_none, reply_counts, is_refused, Works, take_works, put_works, settle_works}
-use Rattle.chip_core.proofs.DueLemmas.{ack_works, none_unput, fires_once, limit_halts, refused_halts, claim_tells}
-use Rattle.chip_core.proofs.DueLemmas.{look_finds}
+use Rattle.chip_core.proofs.DueLemmas.{Quiet, quiet_closes, held_or_none, reply_counts, is_refused, Works, take_works}
+use Rattle.chip_core.proofs.DueLemmas.{put_works, settle_works, ack_works, none_unput, fires_once, limit_halts}
+use Rattle.chip_core.proofs.DueLemmas.{refused_halts, claim_tells, look_finds}
+use Rattle.chip_part.proofs.PickedLemmas.{contains_cases}
+use Rattle.chip_part.proofs.PartLemmas.{at_edge}
 
 module _ (g : Setting) where
   -- the steps that count, and the refused claims
@@ -109,27 +109,17 @@ module _ (g : Setting) where
 
     idle_notes : (log : Log) → IsLegalLog g log → (x : Event) → Idle log x → unmet_rule g x (acting_part g log x) ≡ None
         → (e : ℕ) → e < graph_edges g → Notes log e (link_after x (sees g log x) e (out_in g log e))
-    idle_notes log legal (Clear i) idle none e l = dite (ℕ_discrete i e)
-        (λ same. subst (Notes log e) (sym (cond_yes i e (after_clear (sees g log (Clear i)) o.link) o.link same)) (
-          refl,
-          (λ room clear. eq-eqb _ 0 (ap (λ (k : ℕ). sees g log (Clear k)) same
-              ∙ look_finds g game some_ring log legal e room)),
-        ))
-        (λ other. subst (Notes log e) (sym (cond_no i e (after_clear (sees g log (Clear i)) o.link) o.link other))
-        (refl, (λ room clear. clear)))
-      where
-        o : Out
-        o = out_in g log e
+    idle_notes log legal (Clear i) idle none e l = at_edge (λ j (t : Tail). Notes log j t) i
+        (λ j. after_clear (sees g log (Clear i)) (out_in g log j).link) (λ j. (out_in g log j).link)
+        (refl, (λ room clear. eq-eqb _ 0 (look_finds g game some_ring log legal i room))) (λ j. (refl, (λ room clear. clear))) e
     idle_notes log legal (Claim i) idle none e l =
         let may = rules_met g (Claim i) (acting_part g log (Claim i)) none in
         absurd (⊎_elim (λ counts. no_work log (Claim i) idle (none, counts))
         (λ refused. no_refusal log (Claim i) idle none refused)
         (claim_tells g game some_ring log legal i may.0 may.1 may.2).1)
-    idle_notes log legal (Put i) idle none e l = either (eqb i e)
-      where
-        either : (b : Bool) → Notes log e (cond b (after_put (out_in g log e).link) (out_in g log e).link)
-        either true = (refl, (λ room clear. clear))
-        either false = (refl, (λ room clear. clear))
+    idle_notes log legal (Put i) idle none e l = at_edge (λ j (t : Tail). Notes log j t) i
+        (λ j. after_put (out_in g log j).link) (λ j. (out_in g log j).link) (refl, (λ room clear. clear))
+        (λ j. (refl, (λ room clear. clear))) e
     idle_notes log legal (Feed i k) idle none e l =
         let may = rules_met g (Feed i k) (acting_part g log (Feed i k)) none in
         let past = may.0 in
@@ -345,6 +335,3 @@ module _ (g : Setting) where
 
       pub asked_closes : HasEnd g after → IsClosed g after
       asked_closes end = quiet_closes g game some_ring after after_legal quiet end
-
-pub asked_in_vain : AskedInVain
-asked_in_vain g game some_ring log legal xs asks end idle = asked_closes g game some_ring log legal xs asks idle end

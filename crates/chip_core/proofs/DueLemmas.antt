@@ -1,33 +1,151 @@
--- Serves Closing.antt.
--- What is there to do, and that there always is something until the root is closed.
-use Rattle.std.proofs.Common.{◌≡◌, ◌≢◌, ◌⊎◌, ℕ, zero, suc, ◌+◌, ◌<◌, ◌≤◌, Bool, true, false, not, ◌&&◌, ◌||◌}
-use Rattle.std.proofs.Common.{cond, eqb, ltb, length, Option, Some, None, option_to_list, is_some, refl, sym, ap, ◌∙◌}
-use Rattle.std.proofs.Common.{arith, inl, inr, ⊎_elim, eqb-true, eq-eqb, ne_eqb, ltb-true, lt-ltb, leb-true, true≢false}
-use Rattle.std.proofs.lemmas.Bool.{ltb-false, eqb-false, not-true, and_from, and_parts, not_from_false}
+-- Serves Detection.antt, Closing.antt.
+-- Where the end is noted and nobody has anything to do the root is closed; so until then there is something to do.
+use Rattle.std.proofs.Common.{◌≡◌, ◌≢◌, ◌⊎◌, ℕ, ◌+◌, ◌<◌, ◌≤◌, true, false, not, ◌&&◌, ◌||◌, eqb, List, [], ◌∷◌, length}
+use Rattle.std.proofs.Common.{Option, Some, None, option_to_list, Contains, refl, sym, ap, ◌∙◌, subst, arith, inl, inr}
+use Rattle.std.proofs.Common.{⊎_elim, eqb-true, eq-eqb, zero, suc, Bool, cond, ltb, is_some, ne_eqb, ltb-true, lt-ltb}
+use Rattle.std.proofs.Common.{leb-true, true≢false}
+use Rattle.std.proofs.lemmas.Bool.{and_from, ltb-false, eqb-false, not-true, and_parts, not_from_false}
+use Rattle.chip_graph.specs.ChipGame.{IsGame}
+use Rattle.chip_graph.proofs.SumLemmas.{tested_none, cond_yes, cond_no, cond_true, cond_false, by_test, tested_term}
+use Rattle.chip_link.specs.Link.{claims_of}
+use Rattle.chip_link.proofs.SoundsLemmas.{none_held}
+use Rattle.chip_part.specs.Setting.{Setting}
+use Rattle.chip_part.specs.declared.cause.Cause.{Cause}
+use Rattle.chip_part.specs.Part.{Part, is_running, owed, may_ack, deficit, pending_of, unput_count, is_passive}
+use Rattle.chip_part.specs.Part.{is_legal, refusals, cause}
+use Rattle.chip_part.proofs.PartLemmas.{tail_inside as own_edge, in_zero, may_le}
+use Rattle.chip_part.proofs.RestingLemmas.{rests, idle_little}
+use Rattle.chip_core.specs.Core.{Log, Out, part_in, out_in, into_in, IsLegalLog, IsSettled, IsClosed, outstanding}
+use Rattle.chip_core.specs.Core.{tail_of, head_of, root, all_edges, graph_edges, Event, Part, Take, Ack, Fire, Clear}
+use Rattle.chip_core.specs.Core.{Claim, Put, Halt, Settle, unmet_rule, fired_by, sees}
+use Rattle.chip_core.specs.Detection.{IsTree, IsDetectionOrder}
+use Rattle.chip_core.specs.Closing.{HasEnd, is_new_look, Advances}
+use Rattle.chip_core.proofs.LogLemmas.{part_kept, head_inside, edge_counts, tail_inside}
+use Rattle.chip_core.proofs.OrderLemmas.{detection_order, contains_later, contains_nothing, contained, none_some}
+use Rattle.chip_part.proofs.PickedLemmas.{contains_cases}
 use mathlib.Core.Logic.{dite}
 use native.Mathlib.Decide.{ℕ_discrete, dec_lt}
-use Rattle.chip_graph.specs.ChipGame.{IsGame}
-use Rattle.chip_graph.proofs.SumLemmas.{cond_yes, cond_no, cond_true, cond_false, by_test, tested_none, tested_term}
-use Rattle.chip_link.specs.Link.{claims_of}
-use Rattle.chip_part.specs.Setting.{Setting}
 use Rattle.chip_part.specs.Counting.{is_got, is_sent}
 use Rattle.chip_part.specs.declared.reply.Reply.TheVariants.{Got, Sent, Empty, Sealed}
-use Rattle.chip_part.specs.declared.cause.Cause.{Cause}
 use Rattle.chip_part.specs.declared.cause.Cause.TheVariants.{SealedEdge, FiringLimit}
-use Rattle.chip_part.specs.Part.{is_running, may_ack, pending_of, unput_count, refusals, is_legal, cause}
 use Rattle.chip_part.specs.Steps.{message_of, saw}
 use Rattle.chip_part.proofs.EdgeLemmas.{tail_graph}
-use Rattle.chip_part.proofs.PartLemmas.{may_le}
 use Rattle.chip_part.proofs.RuleLemmas.{met_rules, running}
-use Rattle.chip_core.specs.Core.{Log, Event, Part, Take, Ack, Fire, Clear, Claim, Put, Halt, Settle, unmet_rule}
-use Rattle.chip_core.specs.Core.{part_in, out_in, into_in, fired_by, sees, IsLegalLog, IsClosed, tail_of, head_of, all_edges}
-use Rattle.chip_core.specs.Core.{graph_edges}
 use Rattle.chip_core.specs.Words.{acting_part}
 use Rattle.chip_core.specs.Work.{counts_as_work, is_refused_claim, is_refusal}
-use Rattle.chip_core.specs.Closing.{HasEnd, is_new_look, Advances, NeverStuck}
-use Rattle.chip_core.proofs.LogLemmas.{part_kept, edge_counts, tail_inside}
 use Rattle.chip_core.proofs.NumberLemmas.{empty_is}
-use Rattle.chip_core.proofs.QuietLemmas.{quiet_closes}
+
+module _ (g : Setting) where
+  -- nobody has anything to do after this log
+  pub record Quiet (log : Log) : Type 0 where
+    pub taken : (e : ℕ) → e < all_edges g → length (into_in g log e).got ≡ length (out_in g log e).link.put
+    pub put : (e : ℕ) → e < all_edges g → (out_in g log e).link.held ≡ None
+    pub settled : (e : ℕ) → e < all_edges g → (into_in g log e).acked ≤ (out_in g log e).settled
+    pub acked : (e : ℕ) → e < all_edges g → may_ack g (head_of g e) (part_in g log (head_of g e)) e ≡ 0
+    pub fired : (v : ℕ) → v < g.game.graph.vertices → (part_in g log v).halt ≡ None
+        → pending_of g v (part_in g log v) ≡ 0 → is_legal g v (part_in g log v) ≡ false
+    pub sent : (e : ℕ) → e < graph_edges g → (part_in g log (tail_of g e)).halt ≡ None
+        → claims_of (out_in g log e).link ≢ length (into_in g log e).got + g.ring → (out_in g log e).pending ≡ 0
+
+  module _ (log : Log) where
+    -- the parent edge of a member of a tree comes from an earlier one, or from the root
+    first_parent : (v : ℕ) (vs : List ℕ) → IsTree g log (v ∷ vs) → (h q : ℕ) → h ≡ v → (part_in g log h).parent ≡ Some q
+        → (tail_of g q ≡ root g) ⊎ Contains vs (tail_of g q)
+    first_parent v vs tree h q here is =
+        let p = tree.2.1 in
+        let mine : (part_in g log h).parent ≡ Some tree.2.0 = ap (λ (u : ℕ). (part_in g log u).parent) here ∙ p.parent in
+        let same : tree.2.0 ≡ q = cc in
+        subst (λ (i : ℕ). (tail_of g i ≡ root g) ⊎ Contains vs (tail_of g i)) same p.from_earlier
+
+    pub parent_below : (v : ℕ) (vs : List ℕ) → IsTree g log (v ∷ vs) → (h q : ℕ) → Contains (v ∷ vs) h
+        → (part_in g log h).parent ≡ Some q → (tail_of g q ≡ root g) ⊎ Contains vs (tail_of g q)
+    parent_below v [] tree h q m is = ⊎_elim (λ here. first_parent v [] tree h q here is)
+        (λ later. absurd (contains_nothing h later)) (contains_cases v [] h m)
+    parent_below v (u ∷ us) tree h q m is = ⊎_elim (λ here. first_parent v (u ∷ us) tree h q here is)
+        (λ later. ⊎_elim (λ r. inl r) (λ c. inr (contains_later u us (tail_of g q) c))
+        (parent_below u us tree.0 h q later is)) (contains_cases v (u ∷ us) h m)
+
+  module _ (game : IsGame g.game) (some_ring : 0 < g.ring) (log : Log) (legal : IsLegalLog g log) (quiet : Quiet log) where
+    -- what is outstanding on an edge, its head owes
+    owes_it : (e : ℕ) → e < all_edges g → outstanding (out_in g log e) ≤ owed (into_in g log e)
+    owes_it e l =
+        let a = quiet.taken e l in let b = none_held (out_in g log e).link (quiet.put e l) in let c = quiet.settled e l in
+        omega arith
+
+    -- an edge, by the part of its tail
+    by_tail : {A : Type 0} (field : Out → A) (e v : ℕ) → tail_of g e ≡ v
+        → field ((part_in g log v).out e) ≡ field (out_in g log e)
+    by_tail field e v at = ap (λ (p : ℕ). field ((part_in g log p).out e)) (sym at)
+
+    -- the latest vertex of a detection order: what it sent is acknowledged and settled, so it would be done
+    module _ (v : ℕ) (vs : List ℕ) (order : IsDetectionOrder g log (v ∷ vs)) where
+      abbrev s : Part
+      s = part_in g log v
+
+      inside : v < g.game.graph.vertices
+      inside = subst (λ (u : ℕ). u < g.game.graph.vertices) order.tree.2.1.head
+          (head_inside g game order.tree.2.0 order.tree.2.1.is_edge)
+
+      no_child : (i : ℕ) → i < all_edges g → tail_of g i ≡ v → (part_in g log (head_of g i)).parent ≡ Some i → ⊥
+      no_child i l at is = ⊎_elim
+          (λ m. ⊎_elim (λ r. absurd (let a = inside in omega arith)) (λ c. order.tree.1 (subst (Contains vs) at c))
+          (parent_below log v vs order.tree (head_of g i) i m is))
+          (λ out. none_some i (part_in g log (head_of g i)).parent
+          (order.others (head_of g i) (head_inside g game i l) out).no_parent is)
+          (contained (v ∷ vs) (head_of g i))
+
+      none_out : (i : ℕ) → i < all_edges g → tail_of g i ≡ v → outstanding (out_in g log i) ≡ 0
+      none_out i l at = ⊎_elim
+          (λ none. let a = owes_it i l in omega arith)
+          (λ one. absurd (no_child i l at one.0))
+          (idle_little g (head_of g i) i (part_in g log (head_of g i)) (quiet.acked i l))
+
+      no_deficit : deficit g v s ≡ 0
+      no_deficit = tested_none (all_edges g) (λ i. eqb (tail_of g i) v) (λ i. outstanding (s.out i))
+          (λ i l on. let at = eqb-true (tail_of g i) v on in by_tail outstanding i v at ∙ none_out i l at)
+
+      no_unput : unput_count g v s ≡ 0
+      no_unput = tested_none (all_edges g) (λ i. eqb (tail_of g i) v) (λ i. length (option_to_list (s.out i).link.held))
+          (λ i l on. by_tail (λ o. length (option_to_list o.link.held)) i v (eqb-true (tail_of g i) v on)
+          ∙ ap (λ (h : Option ℕ). length (option_to_list h)) (quiet.put i l))
+
+      no_pending : s.halt ≡ None → pending_of g v s ≡ 0
+      no_pending runs = tested_none (all_edges g) (λ i. eqb (tail_of g i) v) (λ i. (s.out i).pending)
+          (λ i l on.
+          let at = eqb-true (tail_of g i) v on in
+          let a = inside in
+          let own : i < graph_edges g = own_edge g i (omega arith) in
+          by_tail (λ o. o.pending) i v at ∙ quiet.sent i own (ap (λ (p : ℕ). (part_in g log p).halt) at ∙ runs)
+          (λ full. (let b = quiet.taken i l in let c = none_held (out_in g log i).link (quiet.put i l) in
+          absurd (omega arith))))
+
+      passive : is_passive g v s ≡ true
+      passive = and_from _ _ (eq-eqb _ _ no_unput) (by_halt s.halt refl)
+        where
+          by_halt : (h : Option Cause) → s.halt ≡ h
+              → (not (is_running s.halt) || (eqb (pending_of g v s) 0 && not (is_legal g v s))) ≡ true
+          by_halt (Some c) is = ap (λ (h : Option Cause). not (is_running h)
+              || (eqb (pending_of g v s) 0 && not (is_legal g v s))) is
+          by_halt None is = ap (λ (h : Option Cause). not (is_running h)
+              || (eqb (pending_of g v s) 0 && not (is_legal g v s))) is
+              ∙ and_from _ _ (eq-eqb _ _ (no_pending is)) (ap not (quiet.fired v inside is (no_pending is)))
+
+      none_latest : ⊥
+      none_latest = ⊎_elim (λ none. none_some order.tree.2.0 s.parent none order.tree.2.1.parent)
+          (λ more. absurd (let a = no_deficit in omega arith))
+          (rests g v s (part_kept g game log legal v) passive
+          (λ i l at. subst (λ (u : ℕ). may_ack g u (part_in g log u) i ≡ 0) at (quiet.acked i l)))
+
+    all_settled : (vs : List ℕ) → IsDetectionOrder g log vs → IsSettled g log
+    all_settled [] order = λ i l at.
+        let rest = order.others (head_of g i) (head_inside g game i l) (contains_nothing (head_of g i)) in
+        let none : owed (into_in g log i) ≡ 0 = in_zero g (head_of g i)
+        (λ k. owed ((part_in g log (head_of g i)).into k)) rest.nothing_owed i l refl in
+        let a = owes_it i l in omega arith
+    all_settled (v ∷ vs) order = absurd (none_latest v vs order)
+
+    pub quiet_closes : HasEnd g log → IsClosed g log
+    quiet_closes end = let o = detection_order g game some_ring log legal in (end, all_settled o.0 o.1)
 
 -- the first number that passes a test, or none does
 find : (n : ℕ) (test : ℕ → Bool) → ((k : ℕ) × (k < n) × (test k ≡ true)) ⊎ ((k : ℕ) → k < n → test k ≡ false)
@@ -193,8 +311,8 @@ module _ (g : Setting) where
           },
         )))
 
-    pub never_stuck_at : HasEnd g log → (IsClosed g log → ⊥) → (x : Event) × Advances g log x
-    never_stuck_at end not_closed = ⊎_elim
+    pub never_stuck : HasEnd g log → (IsClosed g log → ⊥) → (x : Event) × Advances g log x
+    never_stuck end not_closed = ⊎_elim
         (λ t. by_work (Take t.0) (take_works t.0 t.1 (ltb-true _ _ t.2)))
         (λ no_take. ⊎_elim
         (λ t. by_work (Put t.0) (put_works t.0 t.1 t.2))
@@ -238,6 +356,3 @@ module _ (g : Setting) where
         (find (all_edges g) (λ e. ltb (out_in g log e).settled (into_in g log e).acked)))
         (find (all_edges g) (λ e. is_some (out_in g log e).link.held)))
         (find (all_edges g) (λ e. ltb (length (into_in g log e).got) (length (out_in g log e).link.put)))
-
-pub never_stuck : NeverStuck
-never_stuck g game some_ring log legal = never_stuck_at g game some_ring log legal

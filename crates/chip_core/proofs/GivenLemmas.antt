@@ -5,7 +5,7 @@ use Rattle.std.proofs.Common.{sum, slice_index, Option, Some, None, option_to_li
 use Rattle.std.proofs.Common.{arith, append-nil, append_assoc, true≢false}
 use Rattle.std.proofs.lemmas.List.{get_or_past, ext_get_or}
 use Rattle.std.proofs.lemmas.List.FromFn.{fill_by_all, get_or-map-range_with_len, length-map-range_with_len}
-use Rattle.std.proofs.lemmas.List.Sums.{sum_by_push, sum_by-cons, sum_by-append}
+use Rattle.std.proofs.lemmas.List.Sums.{sum_by-cons, sum_by-append}
 use mathlib.Core.Logic.{dite}
 use native.Mathlib.Decide.{ℕ_discrete, dec_lt}
 use Rattle.chip_graph.specs.ChipGame.{IsGame}
@@ -23,14 +23,14 @@ use Rattle.chip_part.specs.Steps.{link_after, stop_after}
 use Rattle.chip_part.specs.Kept.{Met, opening_tail}
 use Rattle.chip_part.proofs.EdgeLemmas.{tail_root}
 use Rattle.chip_part.proofs.RuleLemmas.{rules_met}
-use Rattle.chip_part.proofs.PartLemmas.{at_edge}
+use Rattle.chip_part.proofs.PartLemmas.{at_edge, at_other}
 use Rattle.chip_part.proofs.OpeningLemmas.{first_sent, first_fed}
 use Rattle.chip_core.specs.Core.{Log, Step, Event, Clear, Claim, Put, Seal, Feed}
 use Rattle.chip_core.specs.Core.{part_of, part_in, out_in, stop_in, sees, IsLegalLog, tail_of, root}
 use Rattle.chip_core.specs.Core.{root_edge, all_edges, graph_edges}
 use Rattle.chip_core.specs.Positions.{chips_given, played_game, fed_of, fed_in}
 use Rattle.chip_core.specs.Histories.{done_by}
-use Rattle.chip_core.specs.Laws.{GivenByTheRecord, UnfedRecordsNone}
+use Rattle.chip_core.specs.Laws.{GivenByTheRecord}
 use Rattle.chip_core.proofs.LogLemmas.{link_step, stop_step, part_kept, out_kept, edge_sound}
 
 module _ (g : Setting) where
@@ -79,6 +79,11 @@ module _ (g : Setting) where
       ∙ outside_step x.event x.seen e log (rules_met g x.event (part_in g log (part_of g x.event)) legal.1.0) past
       ∙ outside_is log legal.0 e past
 
+  -- what an event feeds to a vertex
+  abbrev pub fed_to : Event → ℕ → List ℕ
+  fed_to (Feed i k) v = cond (eqb i (root_edge g v)) (k ∷ []) []
+  fed_to _ v = []
+
   module _ (game : IsGame g.game) (some_ring : 0 < g.ring) where
     -- nothing was given to what isn't a vertex
     pub started_outside : (log : Log) → IsLegalLog g log → (v : ℕ) → g.game.graph.vertices ≤ v → chips_given g log v ≡ 0
@@ -102,64 +107,57 @@ module _ (g : Setting) where
 
     -- ---- what was given grows by what is fed
 
-    brought_none : (v : ℕ) → brought_to [] v ≡ 0
-    brought_none v = refl
-
     brought_one : (u v k : ℕ) → brought_to ((u, k) ∷ []) v ≡ cond (eqb u v) k 0
     brought_one u v k = let a = sum_by-cons (λ (p : ℕ × ℕ). cond (eqb p.0 v) p.1 0) (u, k) [] in omega arith
 
-    gives : (x : Event) (log : Log) → IsLegalLog g log → Met g x (part_in g log (part_of g x)) → (v : ℕ)
-        → sum (sent_counts (link_after x (sees g log x) (root_edge g v) (out_in g log (root_edge g v))))
-        ≡ chips_given g log v + brought_to (fed_of g x) v
-    gives (Feed i k) log legal may v =
-        let o = out_in g log (root_edge g v) in
-        let past = may.0 in
-        let one = brought_one (i - graph_edges g) v k in
-        dite (ℕ_discrete i (root_edge g v))
-        (λ same.
-        let at : i ≡ root_edge g v = same in
-        let a = ap (λ (t : Tail). sum (sent_counts t)) (cond_yes i (root_edge g v)
-        (after_claim k (sees g log (Feed i k)) o.link) o.link same) in
-        let b = ap sum (feed_sends log legal i k may) in
-        let c = sum_by_push (λ (x : ℕ). x) (sent_counts (out_in g log i).link) k in
-        let d = cond_yes (i - graph_edges g) v k 0 (omega arith) in
-        let f = ap (λ (e : ℕ). sum (sent_counts (after_claim k (sees g log (Feed e k)) (out_in g log e).link))) same in
-        let f' : sees g log (Feed i k) ≡ sees g log (Feed (root_edge g v) k) = ap (λ (e : ℕ). sees g log (Feed e k)) same
-        in
-        let f'' = ap (λ (n : ℕ). sum (sent_counts (after_claim k n o.link))) f' in
-        let h = ap (λ (e : ℕ). sum (sent_counts (out_in g log e).link)) same in
-        omega arith)
-        (λ other.
-        let a = ap (λ (t : Tail). sum (sent_counts t)) (cond_no i (root_edge g v)
-        (after_claim k (sees g log (Feed i k)) o.link) o.link other) in
-        let d = cond_no (i - graph_edges g) v k 0 (λ z. other (let y : i - graph_edges g ≡ v = z in omega arith)) in
-        omega arith)
-    gives (Claim i) log legal may v =
-        let e : ℕ = root_edge g v in
-        let a = ap (λ (t : Tail). sum (sent_counts t)) (cond_no i e
-        (after_claim (out_in g log e).pending (sees g log (Claim i)) (out_in g log e).link)
-        (out_in g log e).link (λ z. (let b : i ≡ e = z in let c = may.0 in absurd (omega arith)))) in
-        let b = brought_none v in omega arith
-    gives (Clear i) log legal may v =
-        let b = brought_none v in
-        at_edge (λ j (t : Tail). sum (sent_counts t) ≡ sum (sent_counts (out_in g log j).link) + brought_to [] v) i
+    sends : (x : Event) (log : Log) → IsLegalLog g log → Met g x (part_in g log (part_of g x)) → (v : ℕ)
+        → sent_counts (link_after x (sees g log x) (root_edge g v) (out_in g log (root_edge g v)))
+        ≡ sent_counts (out_in g log (root_edge g v)).link ++ fed_to x v
+    sends (Feed i k) log legal may v = at_other
+        (λ j (t : Tail). sent_counts t ≡ sent_counts (out_in g log j).link ++ cond (eqb i j) (k ∷ []) []) i
+        (λ j. after_claim k (sees g log (Feed i k)) (out_in g log j).link) (λ j. (out_in g log j).link)
+        (feed_sends log legal i k may
+        ∙ ap (λ (l : List ℕ). sent_counts (out_in g log i).link ++ l) (sym (cond_yes i i (k ∷ []) [] refl)))
+        (λ j other. sym (ap (λ (l : List ℕ). sent_counts (out_in g log j).link ++ l) (cond_no i j (k ∷ []) [] other)
+        ∙ append-nil (sent_counts (out_in g log j).link))) (root_edge g v)
+    sends (Claim i) log legal may v = let own = may.0 in
+        ap sent_counts (cond_no i (root_edge g v) (after_claim (out_in g log (root_edge g v)).pending (sees g log (Claim i))
+        (out_in g log (root_edge g v)).link) (out_in g log (root_edge g v)).link (λ z. (let b : i ≡ root_edge g v = z in absurd (omega arith))))
+        ∙ sym (append-nil (sent_counts (out_in g log (root_edge g v)).link))
+    sends (Clear i) log legal may v = at_edge (λ j (t : Tail). sent_counts t ≡ sent_counts (out_in g log j).link ++ []) i
         (λ j. after_clear (sees g log (Clear i)) (out_in g log j).link) (λ j. (out_in g log j).link)
-        (omega arith) (λ j. omega arith) (root_edge g v)
-    gives (Put i) log legal may v =
-        let b = brought_none v in
-        at_edge (λ j (t : Tail). sum (sent_counts t) ≡ sum (sent_counts (out_in g log j).link) + brought_to [] v) i
-        (λ j. after_put (out_in g log j).link) (λ j. (out_in g log j).link)
-        (let a = ap sum (append-nil (sent_counts (out_in g log i).link)) in omega arith) (λ j. omega arith)
+        (sym (append-nil (sent_counts (out_in g log i).link))) (λ j. sym (append-nil (sent_counts (out_in g log j).link)))
         (root_edge g v)
-    gives x log legal may v = let b = brought_none v in omega arith
+    sends (Put i) log legal may v = at_edge (λ j (t : Tail). sent_counts t ≡ sent_counts (out_in g log j).link ++ []) i
+        (λ j. after_put (out_in g log j).link) (λ j. (out_in g log j).link) refl
+        (λ j. sym (append-nil (sent_counts (out_in g log j).link))) (root_edge g v)
+    sends _ log legal may v = sym (append-nil (sent_counts (out_in g log (root_edge g v)).link))
+
+    -- a step sends on a root edge what it feeds there
+    pub root_sends : (x : Step) (log : Log) → IsLegalLog g (x ∷ log) → (v : ℕ)
+        → sent_counts (out_in g (x ∷ log) (root_edge g v)).link
+        ≡ sent_counts (out_in g log (root_edge g v)).link ++ fed_to x.event v
+    root_sends x log legal v = ap sent_counts (link_step g x log (root_edge g v)
+        ∙ ap (λ (n : ℕ). link_after x.event n (root_edge g v) (out_in g log (root_edge g v))) legal.1.1)
+        ∙ sends x.event log legal.0 (rules_met g x.event (part_in g log (part_of g x.event)) legal.1.0) v
+
+    fed_sum : (x : Event) (s : Part) → Met g x s → (v : ℕ) → sum (fed_to x v) ≡ brought_to (fed_of g x) v
+    fed_sum (Feed i k) s may v =
+        let past = may.0 in let one = brought_one (i - graph_edges g) v k in
+        dite (ℕ_discrete i (root_edge g v))
+        (λ same. let a = ap sum (cond_yes i (root_edge g v) (k ∷ []) [] same) in
+        let b = cond_yes (i - graph_edges g) v k 0 (omega arith) in omega arith)
+        (λ other. let a = ap sum (cond_no i (root_edge g v) (k ∷ []) [] other) in
+        let b = cond_no (i - graph_edges g) v k 0 (λ z. other (let y : i - graph_edges g ≡ v = z in omega arith)) in omega arith)
+    fed_sum _ s may v = refl
 
     pub started_step : (x : Step) (log : Log) → IsLegalLog g (x ∷ log) → (v : ℕ)
         → chips_given g (x ∷ log) v ≡ chips_given g log v + brought_to (fed_of g x.event) v
     started_step x log legal v =
-        let e : ℕ = root_edge g v in
-        ap (λ (t : Tail). sum (sent_counts t)) (link_step g x log e
-        ∙ ap (λ (n : ℕ). link_after x.event n e (out_in g log e)) legal.1.1)
-        ∙ gives x.event log legal.0 (rules_met g x.event (part_in g log (part_of g x.event)) legal.1.0) v
+        let a = ap sum (root_sends x log legal v) in
+        let b = sum_by-append (λ (n : ℕ). n) (sent_counts (out_in g log (root_edge g v)).link) (fed_to x.event v) in
+        let c = fed_sum x.event (part_in g log (part_of g x.event))
+        (rules_met g x.event (part_in g log (part_of g x.event)) legal.1.0) v in omega arith
 
     pub started_grows : (x : Step) (log : Log) → IsLegalLog g (x ∷ log) → (v : ℕ)
         → chips_given g log v ≤ chips_given g (x ∷ log) v
@@ -200,7 +198,7 @@ module _ (g : Setting) where
     -- what a vertex was given is its start and what the record fed it
     pub started_recorded : (log : Log) → IsLegalLog g log → (v : ℕ)
         → chips_given g log v ≡ start_of g v + brought_to (recorded log) v
-    started_recorded [] legal v = let a = first_sent g v in let b = brought_none v in omega arith
+    started_recorded [] legal v = let a = first_sent g v in omega arith
     started_recorded (x ∷ log) legal v =
         let a = started_step x log legal v in
         let b = started_recorded log legal.0 v in
@@ -323,10 +321,7 @@ module _ (g : Setting) where
           ∙ feeds_none x.event log legal.0 (rules_met g x.event (part_in g log (part_of g x.event)) legal.1.0)
 
 pub given_by_the_record : GivenByTheRecord
-given_by_the_record g game some_ring log legal = played_has_more g game some_ring log legal
-
-pub unfed_records_none : UnfedRecordsNone
-unfed_records_none g game some_ring log legal off = unfed_records g game some_ring off log legal
+given_by_the_record = played_has_more
 
 -- what was given to each vertex is the start of the game that is played
 pub given_start : (g : Setting) (log : Log) (given : List ℕ) → AreGiven g (part_in g log (root g)) given

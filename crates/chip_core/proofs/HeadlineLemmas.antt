@@ -5,7 +5,7 @@ use Rattle.chip_graph.specs.ChipGame.{IsGame}
 use Rattle.chip_part.specs.Setting.{Setting}
 use Rattle.chip_core.specs.Core.{Log, Event, IsLegalLog, log_after, IsClosed, all_edges}
 use Rattle.chip_core.specs.Messages.{Message, sent_on, delivered_on}
-use Rattle.chip_core.specs.Headline.{Headline, CoreTheorem}
+use Rattle.chip_core.specs.Headline.{Headline}
 use Rattle.chip_core.proofs.OrderLemmas.{detection_order}
 use Rattle.chip_core.proofs.PositionLemmas.{leads_to, none_below, by_counts, held_is}
 use Rattle.chip_core.proofs.ReachingLemmas.{run_legal}
@@ -27,8 +27,8 @@ module _ (g : Setting) (game : IsGame g.game) (some_ring : 0 < g.ring) (log : Lo
       (sym (nothing_in_flight g game some_ring after after_legal closed e l))
       ∙ left_is g game some_ring log xs e legal
 
-  pub headline : Headline g log xs
-  headline = record {
+  pub core_theorem : Headline g log xs
+  core_theorem = record {
     prefix = λ e. delivers_prefix g game some_ring log xs e legal;
     left = λ e. left_is g game some_ring log xs e legal;
     in_order = λ e. sent_in_order g game some_ring log xs e legal;
@@ -47,6 +47,3 @@ module _ (g : Setting) (game : IsGame g.game) (some_ring : 0 < g.ring) (log : Lo
     over = λ closed none. over g game some_ring after after_legal closed none;
     still = still_run g game some_ring after after_legal;
   }
-
-pub core_theorem : CoreTheorem
-core_theorem = headline

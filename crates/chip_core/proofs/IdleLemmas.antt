@@ -11,11 +11,12 @@ use Rattle.chip_part.specs.Counting.{is_got, is_sent}
 use Rattle.chip_part.specs.declared.reply.Reply.TheVariants.{Got, Sent, Empty, Sealed}
 use Rattle.chip_part.specs.Steps.{message_of, saw}
 use Rattle.chip_part.proofs.PartLemmas.{at_edge, idle_take}
-use Rattle.chip_core.specs.Core.{Log, Step, Event, Take, Ack, Fire, Clear, Claim, Put, Halt, Settle, Seal, Read, Feed}
+use Rattle.chip_core.specs.Core.{Log, Step, Event, Take, Clear, Claim, Settle, Seal, Read, Feed}
 use Rattle.chip_core.specs.Core.{End, Part, part_of, does, part_in, root_edge}
 use Rattle.chip_core.specs.Words.{acting_part}
 use Rattle.chip_core.specs.Work.{counts_as_work, work_in}
-use Rattle.chip_core.proofs.LogLemmas.{part_here, part_else}
+use Rattle.std.proofs.lemmas.Bool.{ltb-false}
+use Rattle.chip_core.specs.Messages.{Message}
 
 -- what a tail sent, without its notes
 abbrev pub bare_link : Tail → Tail
@@ -36,16 +37,37 @@ module _ (g : Setting) where
   notes_leave e s link same = λ j i. at_edge (λ i (t : Tail). bare_link t ≡ bare_link (s.out i).link) e link
       (λ i. (s.out i).link) same (λ i. refl) i j
 
-  -- nothing new is settled
-  settle_leaves : (e seen : ℕ) (s : Part) → (s.out e).settled + (seen - (s.out e).settled) ≡ (s.out e).settled
-      → ◌≡◌ {A = ℕ → ℕ} (λ i. cond (eqb e i) ((s.out i).settled + (seen - (s.out i).settled)) (s.out i).settled)
-      (λ i. (s.out i).settled)
-  settle_leaves e seen s same = λ j i. at_edge (λ i (n : ℕ). n ≡ (s.out i).settled) e
-      (λ i. (s.out i).settled + (seen - (s.out i).settled)) (λ i. (s.out i).settled) same (λ i. refl) i j
-
   none_more : (n : ℕ) → ltb 0 n ≡ false → n ≡ 0
-  none_more n off = dite (ℕ_discrete n 0) (λ z. z)
-      (λ some. absurd (true≢false (sym (Rattle.std.proofs.Common.lt-ltb 0 n (omega arith)) ∙ off)))
+  none_more n off = let a = ltb-false 0 n off in omega arith
+
+  -- nothing that is settled is new
+  settle_bare : (e seen : ℕ) (s : Part) (ended : Bool) → ltb 0 (seen - (s.out e).settled) ≡ false
+      → bare (let t : Part = record s {
+        out = λ i. record (s.out i) {
+          settled = cond (eqb e i) ((s.out i).settled + (seen - (s.out i).settled)) (s.out i).settled;
+        };
+        ended = ended;
+      } in t) ≡ bare s
+  settle_bare e seen s ended idle =
+      let none = none_more (seen - (s.out e).settled) idle in
+      let same : (i : ℕ) → cond (eqb e i) ((s.out i).settled + (seen - (s.out i).settled)) (s.out i).settled
+      ≡ (s.out i).settled = at_edge (λ i (n : ℕ). n ≡ (s.out i).settled) e
+      (λ i. (s.out i).settled + (seen - (s.out i).settled)) (λ i. (s.out i).settled) (omega arith) (λ i. refl) in
+      λ j. record (bare s) { out = λ i. record (s.out i) { link = bare_link (s.out i).link; settled = same i j } }
+
+  -- a claim or a feed of these counts is taken, or refused, which leaves the link but for its notes
+  claim_bare : (e seen : ℕ) (count : ℕ → ℕ) (s : Part) (m : Message)
+      → is_sent (cond (eqb seen (claims_of (s.out e).link)) (Sent m) Sealed) ≡ false
+      → (seen ≢ claims_of (s.out e).link)
+      × (◌≡◌ {A = ℕ → Tail} (λ i. bare_link (cond (eqb e i) (after_claim (count i) seen (s.out i).link) (s.out i).link))
+      (λ i. bare_link (s.out i).link))
+  claim_bare e seen count s m idle = dite (ℕ_discrete seen (claims_of (s.out e).link))
+      (λ hit. absurd (true≢false (ap is_sent (sym (cond_yes seen (claims_of (s.out e).link) (Sent m) Sealed hit)) ∙ idle)))
+      (λ miss. (
+        miss,
+        notes_leave e s (λ i. after_claim (count i) seen (s.out i).link)
+            (ap bare_link (cond_no seen (claims_of (s.out e).link) _ (record (s.out e).link { clear = false; refused = true }) miss)),
+      ))
 
   -- a step that doesn't count leaves its part but for these
   pub idle_does : (x : Event) (seen : ℕ) (s : Part) → counts_as_work g s (saw x seen) ≡ false
@@ -55,47 +77,24 @@ module _ (g : Setting) where
       (λ some. absurd (true≢false (ap is_got
       (sym (cond_no seen 0 Empty (Got (message_of e (Rattle.std.proofs.Common.length (s.into e).got) seen)) some))
       ∙ idle)))
-  idle_does (Ack e) seen s idle = absurd (true≢false idle)
-  idle_does (Fire v k) seen s idle = absurd (true≢false idle)
-  idle_does (Put e) seen s idle = absurd (true≢false idle)
-  idle_does (Halt v) seen s idle = absurd (true≢false idle)
   idle_does (Clear e) seen s idle =
       let links = notes_leave e s (λ i. after_clear seen (s.out i).link) refl in
       λ j. record (bare s) { out = λ i. record (s.out i) { link = links j i } }
-  idle_does (Claim e) seen s idle = dite (ℕ_discrete seen (claims_of (s.out e).link))
-      (λ hit. absurd (true≢false (ap is_sent
-      (sym (cond_yes seen (claims_of (s.out e).link)
-      (Sent (message_of e (claims_of (s.out e).link) (s.out e).pending)) Sealed hit)) ∙ idle)))
-      (λ miss.
-      let links = notes_leave e s (λ i. after_claim (s.out i).pending seen (s.out i).link)
-      (ap bare_link (cond_no seen (claims_of (s.out e).link)
-      (record (s.out e).link { held = Some (s.out e).pending; clear = false })
-      (record (s.out e).link { clear = false; refused = true }) miss)) in
+  idle_does (Claim e) seen s idle =
+      let both = claim_bare e seen (λ i. (s.out i).pending) s (message_of e (claims_of (s.out e).link) (s.out e).pending) idle in
       let pends : (i : ℕ) → cond (eqb e i) (cond (eqb seen (claims_of (s.out i).link)) 0 (s.out i).pending)
       (s.out i).pending ≡ (s.out i).pending = at_edge (λ i (n : ℕ). n ≡ (s.out i).pending) e
       (λ i. cond (eqb seen (claims_of (s.out i).link)) 0 (s.out i).pending) (λ i. (s.out i).pending)
-      (cond_no seen (claims_of (s.out e).link) 0 (s.out e).pending miss) (λ i. refl) in
-      λ j. record (bare s) { out = λ i. record (s.out i) { link = links j i; pending = pends i j } })
-  idle_does (Settle e) seen s idle =
-      let none = none_more (seen - (s.out e).settled) idle in
-      let same = settle_leaves e seen s (omega arith) in
-      λ j. record (bare s) { out = λ i. record (s.out i) { link = bare_link (s.out i).link; settled = same j i } }
+      (cond_no seen (claims_of (s.out e).link) 0 (s.out e).pending both.0) (λ i. refl) in
+      λ j. record (bare s) { out = λ i. record (s.out i) { link = both.1 j i; pending = pends i j } }
+  idle_does (Settle e) seen s idle = settle_bare e seen s s.ended idle
   idle_does (Seal e) seen s idle = refl
   idle_does (Read v) seen s idle = refl
-  idle_does (Feed e k) seen s idle = dite (ℕ_discrete seen (claims_of (s.out e).link))
-      (λ hit. absurd (true≢false (ap is_sent
-      (sym (cond_yes seen (claims_of (s.out e).link)
-      (Sent (message_of e (claims_of (s.out e).link) k)) Sealed hit)) ∙ idle)))
-      (λ miss.
-      let links = notes_leave e s (λ i. after_claim k seen (s.out i).link)
-      (ap bare_link (cond_no seen (claims_of (s.out e).link) (record (s.out e).link { held = Some k; clear = false })
-      (record (s.out e).link { clear = false; refused = true }) miss)) in
-      λ j. record (bare s) { out = λ i. record (s.out i) { link = links j i } })
-  idle_does End seen s idle =
-      let e : ℕ = root_edge g 0 in
-      let none = none_more (seen - (s.out e).settled) idle in
-      let same = settle_leaves e seen s (omega arith) in
-      λ j. record (bare s) { out = λ i. record (s.out i) { link = bare_link (s.out i).link; settled = same j i } }
+  idle_does (Feed e k) seen s idle =
+      let both = claim_bare e seen (λ i. k) s (message_of e (claims_of (s.out e).link) k) idle in
+      λ j. record (bare s) { out = λ i. record (s.out i) { link = both.1 j i } }
+  idle_does End seen s idle = settle_bare (root_edge g 0) seen s true idle
+  idle_does _ seen s idle = absurd (true≢false idle)
 
   -- two logs leave the same parts but for these
   abbrev pub Alike : Log → Log → Type 0
@@ -105,11 +104,9 @@ module _ (g : Setting) where
   counts_here log x = counts_as_work g (acting_part g log x.event) x
 
   pub idle_alike : (x : Step) (log : Log) → counts_here log x ≡ false → Alike (x ∷ log) log
-  idle_alike x log idle p = dite (ℕ_discrete (part_of g x.event) p)
-      (λ same. ap bare (part_here g x log p same)
-      ∙ subst (λ (q : ℕ). bare (does g x (part_in g log q)) ≡ bare (part_in g log q)) same
-      (idle_does x.event x.seen (acting_part g log x.event) idle))
-      (λ other. ap bare (part_else g x log p other))
+  idle_alike x log idle = at_edge (λ p (s : Part). bare s ≡ bare (part_in g log p)) (part_of g x.event)
+      (λ p. does g x (part_in g log p)) (part_in g log) (idle_does x.event x.seen (acting_part g log x.event) idle)
+      (λ p. refl)
 
   pub one_more : (b : Bool) (n m : ℕ) → cond b 1 0 + n ≡ m → m ≤ n → b ≡ false
   one_more true n m is le = absurd (omega arith)

@@ -112,10 +112,9 @@ module _ (g : Setting) where
   -- the end is noted for good
   pub end_stays : (x : Step) (log : Log) → (part_in g log (root g)).ended ≡ true
       → (part_in g (x ∷ log) (root g)).ended ≡ true
-  end_stays x log end = dite (ℕ_discrete (part_of g x.event) (root g))
-      (λ same. ap (λ (s : Part). s.ended) (part_here x log (root g) same)
-      ∙ part_lemmas.stays_ended g x.event (part_in g log (root g)).ended end)
-      (λ other. ap (λ (s : Part). s.ended) (part_else x log (root g) other) ∙ end)
+  end_stays x log = at_edge (λ p (s : Part). (part_in g log p).ended ≡ true → s.ended ≡ true) (part_of g x.event)
+      (λ p. does g x (part_in g log p)) (part_in g log)
+      (part_lemmas.stays_ended g x.event (part_in g log (part_of g x.event)).ended) (λ p on. on) (root g)
 
   -- what is acknowledged and settled is never taken back
   no_less : (b : Bool) (n k : ℕ) → n ≤ cond b (n + k) n
@@ -154,12 +153,9 @@ module _ (g : Setting) where
     -- what the part that acts keeps, it keeps in every legal log
     pub part_kept : (log : Log) → IsLegalLog g log → (p : ℕ) → KeepsPart g p (part_in g log p)
     part_kept [] legal p = opening_keeps g game p
-    part_kept (x ∷ log) legal p = dite (ℕ_discrete (part_of g x.event) p)
-        (λ same. subst (KeepsPart g p) (sym (part_here x log p same))
-        (part_lemmas.part_kept g x.event x.seen p (part_in g log p) (sym same)
-        (subst (λ (q : ℕ). Met g x.event (part_in g log q)) same
-        (rules_met g x.event (part_in g log (part_of g x.event)) legal.1.0)) (part_kept log legal.0 p)))
-        (λ other. subst (KeepsPart g p) (sym (part_else x log p other)) (part_kept log legal.0 p))
+    part_kept (x ∷ log) legal p = at_edge (λ q (s : Part). KeepsPart g q s) (part_of g x.event)
+        (λ q. does g x (part_in g log q)) (part_in g log) (part_lemmas.events_keep g x (part_in g log (part_of g x.event))
+        legal.1.0 (part_kept log legal.0 (part_of g x.event))) (part_kept log legal.0) p
 
     -- an edge out of its tail
     pub out_kept : (log : Log) → IsLegalLog g log → (e : ℕ)

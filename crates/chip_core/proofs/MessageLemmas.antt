@@ -1,6 +1,6 @@
 -- Serves Core.antt, Messages.antt.
 -- The messages that are read off the replies are those of the parts; nothing is sent on a sealed edge.
-use Rattle.std.proofs.Common.{◌≡◌, ◌≢◌, ℕ, ◌+◌, ◌*◌, ◌<◌, ◌≤◌, ◌||◌, Bool, true, false, cond, eqb, List, [], ◌∷◌, ◌++◌}
+use Rattle.std.proofs.Common.{◌≡◌, ℕ, ◌+◌, ◌*◌, ◌<◌, ◌≤◌, ◌||◌, Bool, true, false, cond, eqb, List, [], ◌∷◌, ◌++◌}
 use Rattle.std.proofs.Common.{length, sum, take, drop, option_to_list, Option, Some, None, is_some, refl, sym, ap, ◌∙◌}
 use Rattle.std.proofs.Common.{subst, arith, true≢false, append_assoc, append-nil, length-append}
 use Rattle.std.proofs.lemmas.Bool.{or_right}
@@ -22,19 +22,18 @@ use Rattle.chip_part.specs.Edges.{mult_of, start_of, root_edge}
 use Rattle.chip_part.specs.Part.{first_put}
 use Rattle.chip_part.specs.Steps.{message_of, link_after, got_after, saw}
 use Rattle.chip_part.proofs.RuleLemmas.{rules_met}
-use Rattle.chip_part.proofs.PartLemmas.{at_edge, took_none}
+use Rattle.chip_part.proofs.PartLemmas.{at_edge, at_other}
 use Rattle.chip_part.proofs.OpeningLemmas.{first_few, first_sent}
 use Rattle.chip_core.specs.Core.{Log, Event, Take, Clear, Claim, Put, Seal, Feed}
-use Rattle.chip_core.specs.Core.{Rule, Reply, Out, unmet_rule, part_of, reply_of, part_in, out_in, into_in, stop_in, fired_by}
+use Rattle.chip_core.specs.Core.{Rule, Reply, unmet_rule, part_of, reply_of, part_in, out_in, into_in, stop_in, fired_by}
 use Rattle.chip_core.specs.Core.{sees}
-use Rattle.chip_core.specs.Core.{IsLegalLog, answer, step, log_after, replies_to, tail_of, head_of, graph_edges}
+use Rattle.chip_core.specs.Core.{IsLegalLog, answer, step, log_after, replies_to, tail_of, graph_edges}
 use Rattle.chip_core.specs.Messages.{Message, sent_by, delivered_by, is_seal_of, sent_in, sent_after_seal, is_seal}
 use Rattle.chip_core.specs.Messages.{was_sealed, messages_from, counts_in_flight, in_flight, sent_on, delivered_on}
 use Rattle.chip_core.specs.Messages.{AreInOrderFrom, chips_in}
 use Rattle.chip_core.specs.Positions.{chips_given, held}
-use Rattle.chip_core.specs.Laws.{SentStands, OpeningMessages, InOrderFromTheOpening, HeldFromTheOpening, GivenIsFed}
+use Rattle.chip_core.specs.Laws.{OpeningMessages, InOrderFromTheOpening}
 use Rattle.chip_core.proofs.LogLemmas.{edge_sound, link_step, got_step}
-use Rattle.chip_core.proofs.GivenLemmas.{feed_sees, feed_sends}
 use Rattle.chip_core.proofs.PositionLemmas.{held_is}
 use Rattle.chip_core.proofs.NumberLemmas.{seals_stand}
 use Rattle.chip_core.proofs.ReachingLemmas.{run_legal, step_legal}
@@ -86,13 +85,18 @@ not_seal : (e : ℕ) (x : Event) (r : Rule) → is_seal_of e x (NotNow r) ≡ fa
 not_seal e (Seal i) r = refl
 not_seal e _ r = refl
 
--- as at_edge, where the claim on the others needs that they are others
-at_other : {A : Type 0} (P : ℕ → A → Type 0) (e : ℕ) (new old : ℕ → A) → P e (new e) → ((i : ℕ) → e ≢ i → P i (old i))
-    → (i : ℕ) → P i (cond (eqb e i) (new i) (old i))
-at_other P e new old here rest i = dite (ℕ_discrete e i)
-    (λ same. subst (λ (k : ℕ). P k (cond (eqb e k) (new k) (old k))) same
-    (subst (P e) (sym (cond_yes e e (new e) (old e) refl)) here))
-    (λ other. subst (P i) (sym (cond_no e i (new i) (old i) other)) (rest i other))
+-- what is told of an edge by a reply to a claim or a feed, or to a take
+told_so : (tell : Reply → List Message) (here b : Bool) (m : Message) → tell (Sent m) ≡ cond here (m ∷ []) []
+    → tell Sealed ≡ [] → tell (cond b (Sent m) Sealed) ≡ cond here (cond b (m ∷ []) []) []
+told_so tell here true m sent sealed = sent
+told_so tell true false m sent sealed = sealed
+told_so tell false false m sent sealed = sealed
+
+got_so : (e i : ℕ) (here b : Bool) (m : Message) → eqb i e ≡ here
+    → delivered_by e (Take i) (cond b Empty (Got m)) ≡ cond here (cond b [] (m ∷ [])) []
+got_so e i true true m is = refl
+got_so e i false true m is = refl
+got_so e i here false m is = ap (λ (b : Bool). cond b (m ∷ []) []) is
 
 module _ (g : Setting) where
   -- ---- seals
@@ -107,14 +111,11 @@ module _ (g : Setting) where
       let n : ℕ = claims_of (out_in g log i).link in
       let seen : ℕ = edge_word n (is_some (stop_in g log i)) in
       let m : Message = message_of i n count in
-      dite (ℕ_discrete i e)
+      told_so told (eqb i e) (eqb seen n) m sent sealed ∙ dite (ℕ_discrete i e)
       (λ same.
-      let bit : is_some (stop_in g log i) ≡ true = sym (seals_stand g log i) ∙ ap (was_sealed log) same ∙ was in
-      let more : seen ≡ edge_word n true = ap (edge_word n) bit in
-      ap told (cond_no seen n (Sent m) Sealed (λ z. (absurd (omega arith)))) ∙ sealed)
-      (λ other. by_test (eqb seen n)
-      (λ hit. ap told (cond_true _ (Sent m) Sealed hit) ∙ sent ∙ cond_no i e (m ∷ []) [] other)
-      (λ miss. ap told (cond_false _ (Sent m) Sealed miss) ∙ sealed))
+      let more = ap (edge_word n) (sym (seals_stand g log i) ∙ ap (was_sealed log) same ∙ was) in
+      cond_yes i e (cond (eqb seen n) (m ∷ []) []) [] same ∙ cond_no seen n (m ∷ []) [] (λ z. absurd (omega arith)))
+      (λ other. cond_no i e (cond (eqb seen n) (m ∷ []) []) [] other)
 
   no_send : (log : Log) (e : ℕ) → was_sealed log e ≡ true → (x : Event) (o : Option Rule)
       → sent_by e x (answer g log x o).1 ≡ []
@@ -163,29 +164,24 @@ module _ (g : Setting) where
 
   got_event : (x : Event) (log : Log) (e : ℕ) → messages_from e 0 (got_after x (sees g log x) e (into_in g log e))
       ≡ got_at log e ++ delivered_by e x (reply_of g x (sees g log x) (part_in g log (part_of g x)))
-  got_event (Take i) log e =
-      let seen : ℕ = sees g log (Take i) in
-      let got : List ℕ = (into_in g log i).got in
-      let m : Message = message_of i (length got) seen in
-      dite (ℕ_discrete seen 0)
-      (λ none.
-      let reply : delivered_by e (Take i) (reply_of g (Take i) seen (part_in g log (head_of g i)))
-      ≡ [] = ap (delivered_by e (Take i)) (cond_yes seen 0 Empty (Got m) none) in
-      ap (messages_from e 0) (at_edge (λ j (l : List ℕ). l ≡ (into_in g log j).got) i
-      (λ j. after_take seen (into_in g log j).got) (λ j. (into_in g log j).got) (took_none g seen got none)
-      (λ j. refl) e)
-      ∙ sym (append-nil (got_at log e)) ∙ sym (ap (λ (l : List Message). got_at log e ++ l) reply))
-      (λ some.
-      let reply : delivered_by e (Take i) (reply_of g (Take i) seen (part_in g log (head_of g i)))
-      ≡ cond (eqb i e) (m ∷ []) [] = ap (delivered_by e (Take i)) (cond_no seen 0 Empty (Got m) some) in
-      let is : after_take seen got ≡ got ++ seen ∷ [] = cond_no seen 0 got (got ++ seen ∷ []) some in
-      at_other (λ j (l : List ℕ). messages_from j 0 l ≡ got_at log j ++ cond (eqb i j) (m ∷ []) []) i
-      (λ j. after_take seen (into_in g log j).got) (λ j. (into_in g log j).got)
-      (ap (messages_from i 0) is ∙ push i got (length got) seen refl
-      ∙ sym (ap (λ (l : List Message). got_at log i ++ l) (cond_yes i i (m ∷ []) [] refl)))
-      (λ j n. sym (ap (λ (l : List Message). got_at log j ++ l) (cond_no i j (m ∷ []) [] n)
+  got_event (Take i) log e = at_other (λ j (l : List ℕ). messages_from j 0 l ≡ got_at log j
+      ++ cond (eqb i j) (cond (eqb seen 0) [] (m ∷ [])) []) i (λ j. after_take seen (into_in g log j).got)
+      (λ j. (into_in g log j).got) (taken (eqb seen 0)
+      ∙ sym (ap (λ (l : List Message). got_at log i ++ l) (cond_yes i i (cond (eqb seen 0) [] (m ∷ [])) [] refl)))
+      (λ j other. sym (ap (λ (l : List Message). got_at log j ++ l) (cond_no i j (cond (eqb seen 0) [] (m ∷ [])) [] other)
       ∙ append-nil (got_at log j))) e
-      ∙ sym (ap (λ (l : List Message). got_at log e ++ l) reply))
+      ∙ sym (ap (λ (l : List Message). got_at log e ++ l) (got_so e i (eqb i e) (eqb seen 0) m refl))
+    where
+      seen : ℕ
+      seen = sees g log (Take i)
+
+      m : Message
+      m = message_of i (length (into_in g log i).got) seen
+
+      taken : (b : Bool) → messages_from i 0 (cond b (into_in g log i).got ((into_in g log i).got ++ seen ∷ []))
+          ≡ got_at log i ++ cond b [] (m ∷ [])
+      taken true = sym (append-nil (got_at log i))
+      taken false = push i (into_in g log i).got (length (into_in g log i).got) seen refl
   got_event _ log e = sym (append-nil (got_at log e))
 
   got_answer : (log : Log) (x : Event) (o : Option Rule) (e : ℕ)
@@ -212,20 +208,35 @@ module _ (g : Setting) where
     abbrev sent_at : Log → ℕ → List Message
     sent_at log e = messages_from e 0 (sent_counts (out_in g log e).link)
 
-    -- one message more on the edge i
-    one_more : (log : Log) (e i count : ℕ) (new : ℕ → Tail)
-        → sent_counts (new i) ≡ sent_counts (out_in g log i).link ++ count ∷ []
-        → messages_from e 0 (sent_counts (cond (eqb i e) (new e) (out_in g log e).link)) ≡ sent_at log e
-        ++ cond (eqb i e) (message_of i (claims_of (out_in g log i).link) count ∷ []) []
-    one_more log e i count new is =
-        let t : Tail = (out_in g log i).link in
-        let ms : List Message = message_of i (claims_of t) count ∷ [] in
-        at_other (λ j (u : Tail). messages_from j 0 (sent_counts u) ≡ sent_at log j ++ cond (eqb i j) ms []) i
-        new (λ j. (out_in g log j).link)
-        (ap (messages_from i 0) is ∙ push i (sent_counts t) (claims_of t) count (sym (length-sent_counts t))
-        ∙ sym (ap (λ (l : List Message). sent_at log i ++ l) (cond_yes i i ms [] refl)))
-        (λ j n. sym (ap (λ (l : List Message). sent_at log j ++ l) (cond_no i j ms [] n)
-        ∙ append-nil (sent_at log j))) e
+    -- a claim of b, and what it sends
+    claim_counts : (b : Bool) (count : ℕ) (t : Tail) → t.held ≡ None
+        → sent_counts (cond b (record t { held = Some count; clear = false }) (record t { clear = false; refused = true }))
+        ≡ sent_counts t ++ cond b (count ∷ []) []
+    claim_counts true count t none = sym (ap (λ (l : List ℕ). l ++ count ∷ [])
+        (ap (λ (h : Option ℕ). t.put ++ option_to_list h) none ∙ append-nil t.put))
+    claim_counts false count t none = sym (append-nil (sent_counts t))
+
+    -- a claim or a feed of the edge i with these counts
+    claim_sent : (log : Log) (i : ℕ) (count : ℕ → ℕ) (seen : ℕ) → (out_in g log i).link.held ≡ None → (e : ℕ)
+        → messages_from e 0 (sent_counts (cond (eqb i e) (after_claim (count e) seen (out_in g log e).link) (out_in g log e).link))
+        ≡ sent_at log e ++ cond (eqb i e) (cond (eqb seen (claims_of (out_in g log i).link))
+        (message_of i (claims_of (out_in g log i).link) (count i) ∷ []) []) []
+    claim_sent log i count seen none = at_other (λ j (u : Tail). messages_from j 0 (sent_counts u) ≡ sent_at log j
+        ++ cond (eqb i j) (cond (eqb seen (claims_of t)) (m ∷ []) []) []) i
+        (λ j. after_claim (count j) seen (out_in g log j).link) (λ j. (out_in g log j).link)
+        (ap (messages_from i 0) (claim_counts (eqb seen (claims_of t)) (count i) t none) ∙ pushed (eqb seen (claims_of t))
+        ∙ sym (ap (λ (l : List Message). sent_at log i ++ l) (cond_yes i i _ [] refl)))
+        (λ j other. sym (ap (λ (l : List Message). sent_at log j ++ l) (cond_no i j _ [] other) ∙ append-nil (sent_at log j)))
+      where
+        t : Tail
+        t = (out_in g log i).link
+
+        m : Message
+        m = message_of i (claims_of t) (count i)
+
+        pushed : (b : Bool) → messages_from i 0 (sent_counts t ++ cond b (count i ∷ []) []) ≡ sent_at log i ++ cond b (m ∷ []) []
+        pushed true = push i (sent_counts t) (claims_of t) (count i) (sym (length-sent_counts t))
+        pushed false = ap (messages_from i 0) (append-nil (sent_counts t)) ∙ sym (append-nil (sent_at log i))
 
     sent_event : (x : Event) (log : Log) (e : ℕ) → IsLegalLog g log
         → unmet_rule g x (part_in g log (part_of g x)) ≡ None
@@ -242,43 +253,18 @@ module _ (g : Setting) where
         ∙ sym (append-nil (sent_at log e))
     sent_event (Claim i) log e legal met =
         let seen : ℕ = sees g log (Claim i) in
-        let o : Out = out_in g log i in
-        let t : Tail = o.link in
-        let m : Message = message_of i (claims_of t) o.pending in
-        dite (ℕ_discrete seen (claims_of t))
-        (λ hit.
-        let may = rules_met g (Claim i) (part_in g log (tail_of g i)) met in
-        let empty : t.held ≡ None = (edge_sound g game some_ring log legal i).quiet may.2 in
-        let all : sent_counts t ≡ t.put = ap (λ (h : Option ℕ). t.put ++ option_to_list h) empty ∙ append-nil t.put in
-        let is : sent_counts (after_claim o.pending seen t) ≡ sent_counts t ++ o.pending ∷ [] =
-        ap sent_counts (cond_yes seen (claims_of t) (record t { held = Some o.pending; clear = false })
-        (record t { clear = false; refused = true }) hit) ∙ ap (λ (l : List ℕ). l ++ o.pending ∷ []) (sym all) in
-        let reply : sent_by e (Claim i) (reply_of g (Claim i) seen (part_in g log (tail_of g i)))
-        ≡ cond (eqb i e) (m ∷ []) [] = ap (sent_by e (Claim i)) (cond_yes seen (claims_of t) (Sent m) Sealed hit) in
-        one_more log e i o.pending (λ j. after_claim (out_in g log j).pending seen (out_in g log j).link) is
-        ∙ sym (ap (λ (l : List Message). sent_at log e ++ l) reply))
-        (λ miss.
-        let is : sent_counts (after_claim o.pending seen t)
-        ≡ sent_counts t = ap sent_counts
-        (cond_no seen (claims_of t) (record t { held = Some o.pending; clear = false })
-        (record t { clear = false; refused = true }) miss) in
-        let reply : sent_by e (Claim i) (reply_of g (Claim i) seen (part_in g log (tail_of g i)))
-        ≡ [] = ap (sent_by e (Claim i)) (cond_no seen (claims_of t) (Sent m) Sealed miss) in
-        ap (messages_from e 0) (at_edge (λ j (u : Tail). sent_counts u ≡ sent_counts (out_in g log j).link) i
-        (λ j. after_claim (out_in g log j).pending seen (out_in g log j).link) (λ j. (out_in g log j).link) is
-        (λ j. refl) e)
-        ∙ sym (append-nil (sent_at log e)) ∙ sym (ap (λ (l : List Message). sent_at log e ++ l) reply))
+        let t : Tail = (out_in g log i).link in
+        claim_sent log i (λ j. (out_in g log j).pending) seen ((edge_sound g game some_ring log legal i).quiet
+        (rules_met g (Claim i) (part_in g log (tail_of g i)) met).2) e
+        ∙ sym (ap (λ (l : List Message). sent_at log e ++ l)
+        (told_so (sent_by e (Claim i)) (eqb i e) (eqb seen (claims_of t)) _ refl refl))
     sent_event (Feed i k) log e legal met =
         let seen : ℕ = sees g log (Feed i k) in
         let t : Tail = (out_in g log i).link in
-        let m : Message = message_of i (claims_of t) k in
-        let may = rules_met g (Feed i k) (part_in g log (tail_of g i)) met in
-        let hit : seen ≡ claims_of t = feed_sees g log legal i k may.0 in
-        let reply : sent_by e (Feed i k) (reply_of g (Feed i k) seen (part_in g log (tail_of g i)))
-        ≡ cond (eqb i e) (m ∷ []) [] = ap (sent_by e (Feed i k)) (cond_yes seen (claims_of t) (Sent m) Sealed hit) in
-        one_more log e i k (λ j. after_claim k seen (out_in g log j).link)
-        (feed_sends g game some_ring log legal i k may)
-        ∙ sym (ap (λ (l : List Message). sent_at log e ++ l) reply)
+        claim_sent log i (λ j. k) seen ((edge_sound g game some_ring log legal i).quiet
+        (rules_met g (Feed i k) (part_in g log (tail_of g i)) met).5) e
+        ∙ sym (ap (λ (l : List Message). sent_at log e ++ l)
+        (told_so (sent_by e (Feed i k)) (eqb i e) (eqb seen (claims_of t)) _ refl refl))
     sent_event _ log e legal met = sym (append-nil (sent_at log e))
 
     sent_answer : (log : Log) (x : Event) (o : Option Rule) (e : ℕ) → unmet_rule g x (part_in g log (part_of g x)) ≡ o
@@ -373,9 +359,9 @@ module _ (g : Setting) where
     empty_list (x ∷ xs) z = absurd (omega arith)
 
     -- what was given is the start and what was fed
-    pub given_is_fed_at : (xs : List Event) (v : ℕ) → chips_given g (log_after g [] xs) v
+    pub given_is_fed : (xs : List Event) (v : ℕ) → chips_given g (log_after g [] xs) v
         ≡ start_of g v + chips_in (sent_in (root_edge g v) xs (replies_to g [] xs))
-    given_is_fed_at xs v =
+    given_is_fed xs v =
         let e : ℕ = root_edge g v in
         let sent : List Message = sent_in e xs (replies_to g [] xs) in
         let a = chips_messages e 0 (sent_counts (out_in g (log_after g [] xs) e).link) in
@@ -385,10 +371,10 @@ module _ (g : Setting) where
         let f = first_sent g v in
         omega arith
 
-    pub held_from_opening : (xs : List Event) (e : ℕ) → e < graph_edges g
+    pub held_from_the_opening : (xs : List Event) (e : ℕ) → e < graph_edges g
         → chips_in (sent_in e xs (replies_to g [] xs)) + held g (log_after g [] xs) e
         ≡ mult_of g e * fired_by g (log_after g [] xs) (tail_of g e)
-    held_from_opening xs e l =
+    held_from_the_opening xs e l =
         let after : Log = log_after g [] xs in
         let none : sent_at [] e ≡ [] = ap (messages_from e 0) (append-nil (first_put g e)
         ∙ empty_list (first_put g e) (first_few g e l)) in
@@ -402,18 +388,9 @@ module _ (g : Setting) where
 
 -- ---- the laws
 
-pub sent_stands_law : SentStands
-sent_stands_law g game some_ring log legal xs e = sent_stands g game some_ring log xs e legal
-
 pub opening_messages : OpeningMessages
 opening_messages g e = ap (messages_from e 0) (append-nil (first_put g e))
 
 pub in_order_from_the_opening : InOrderFromTheOpening
 in_order_from_the_opening g game some_ring xs e p m is = let at = sent_in_order g game some_ring [] xs e tt p m is in
     (at.0, at.1 ∙ (let z : 0 + p ≡ p = omega arith in z))
-
-pub held_from_the_opening : HeldFromTheOpening
-held_from_the_opening = held_from_opening
-
-pub given_is_fed : GivenIsFed
-given_is_fed = given_is_fed_at

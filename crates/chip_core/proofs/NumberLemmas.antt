@@ -29,14 +29,14 @@ use Rattle.chip_core.specs.Core.{sees}
 use Rattle.chip_core.specs.Core.{is_by_limit, IsLegalLog, tail_of, head_of, root_edge, all_edges, graph_edges}
 use Rattle.chip_core.specs.Messages.{counts_in_flight, is_seal, was_sealed}
 use Rattle.chip_core.specs.Positions.{chips_given, played_game, full_position, firings}
-use Rattle.chip_core.specs.Laws.{CountsOf, CountsOfEdges, ChipsOfEdges, NumbersOf, NumbersAreSmall, CellsOf, CellsTell}
-use Rattle.chip_core.specs.Laws.{WordsOf, WordsTell, PartsAreKept, SealsStand, SeenFits, RootSeenFits}
-use Rattle.chip_core.specs.Laws.{UnfedIsTheStart, FeedsAreSent, GivenIsAGame}
+use Rattle.chip_core.specs.Laws.{CountsOf, NumbersOf, CellsOf}
+use Rattle.chip_core.specs.Laws.{WordsOf, WordsTell, SealsStand}
+use Rattle.chip_core.specs.Laws.{UnfedIsTheStart, FeedsAreSent}
 use Rattle.chip_core.proofs.LogLemmas.{part_kept, out_kept, edge_sound, edge_counts, stop_step, head_inside}
 use Rattle.chip_core.proofs.LogLemmas.{empty_hand}
 use Rattle.chip_core.proofs.GivenLemmas.{given_sum, given_within, started_outside, never_sealed, feed_sees}
-use Rattle.chip_core.proofs.GivenLemmas.{unfed_played, unfed_started, unfed_closes, played_is_game}
-use Rattle.chip_core.proofs.PositionLemmas.{is_sequence, leads_to, edge_sum}
+use Rattle.chip_core.proofs.GivenLemmas.{unfed_played, unfed_started, unfed_closes}
+use Rattle.chip_core.proofs.PositionLemmas.{is_sequence, leads_to}
 
 -- as many as their sum at most, where each is above 0
 length_sum : (xs : List ℕ) → ((p : ℕ) → p < length xs → 0 < get_or xs p 0) → length xs ≤ sum xs
@@ -267,32 +267,11 @@ module _ (g : Setting) where
     root_fits (Read v) own met = tt
     root_fits _ own met = absurd (true≢false (sym own))
 
-    pub counts_of : (e : ℕ) → CountsOf g log e
-    counts_of e = let c = edge_counts g game some_ring log legal e in
+    pub counts_of_edges : (e : ℕ) → CountsOf g log e
+    counts_of_edges e = let c = edge_counts g game some_ring log legal e in
         record { settled = c.0; acked = c.1; delivered = c.2; put = c.3; claimed = c.4 }
 
 -- ---- the laws
-
-pub parts_are_kept : PartsAreKept
-parts_are_kept g game some_ring log legal = part_kept g game log legal
-
-pub seen_fits : SeenFits
-seen_fits g game some_ring log legal = fits_seen g game some_ring log legal
-
-pub root_seen_fits : RootSeenFits
-root_seen_fits g game some_ring log legal = root_fits g game some_ring log legal
-
-pub counts_of_edges : CountsOfEdges
-counts_of_edges g game some_ring log legal = counts_of g game some_ring log legal
-
-pub chips_of_edges : ChipsOfEdges
-chips_of_edges g game some_ring log legal = edge_sum g game some_ring log legal
-
-pub numbers_are_small : NumbersAreSmall
-numbers_are_small g game some_ring log legal = numbers g game some_ring log legal
-
-pub cells_tell : CellsTell
-cells_tell g game some_ring log legal = cells g game some_ring log legal
 
 pub words_tell : WordsTell
 words_tell g game some_ring log legal = words g game some_ring log legal
@@ -310,9 +289,6 @@ unfed_is_the_start g game some_ring log legal off = (
   unfed_started g game some_ring off log legal,
   unfed_closes g game some_ring off log legal,
 )
-
-pub given_is_a_game : GivenIsAGame
-given_is_a_game g game some_ring log legal = played_is_game g game some_ring log legal
 
 pub feeds_are_sent : FeedsAreSent
 feeds_are_sent g game some_ring log legal e k past = (

@@ -14,9 +14,10 @@ use Rattle.chip_part.specs.Part.{owed, may_ack}
 use Rattle.chip_part.specs.Steps.{parent_after, saw}
 use Rattle.chip_part.specs.Kept.{IsNeutral}
 use Rattle.chip_part.proofs.RuleLemmas.{rules_met}
-use Rattle.chip_part.proofs.PartLemmas.{out_zero}
-use Rattle.chip_core.specs.Core.{Log, Step, Event, Take, Ack, Fire, Clear, Claim, Put, Halt, Settle, Seal, Read, Feed}
-use Rattle.chip_core.specs.Core.{End, Part, part_of, does, part_in, out_in, into_in, IsLegalLog, IsSettled, outstanding}
+use Rattle.chip_part.proofs.PartLemmas.{at_edge, out_zero}
+use Rattle.chip_part.proofs.PickedLemmas.{contains_cases}
+use Rattle.chip_core.specs.Core.{Log, Step, Event, Take, Ack}
+use Rattle.chip_core.specs.Core.{Part, part_of, does, part_in, out_in, into_in, IsLegalLog, IsSettled, outstanding}
 use Rattle.chip_core.specs.Core.{all_edges, tail_of, head_of, root}
 use Rattle.chip_core.specs.Detection.{IsTree, IsDetectionOrder}
 use Rattle.chip_core.proofs.LogLemmas.{part_here, part_else, part_kept, edge_counts, head_inside, tail_cases}
@@ -31,13 +32,6 @@ contains_later u us v m = Contains-append_right (u ∷ []) us v m
 
 pub contains_nothing : (v : ℕ) → Contains [] v → ⊥
 contains_nothing v m = let a = m.1 in absurd (omega arith)
-
-contains_at : {X : Type 0} (u : X) (us : List X) (v : X) (k : ℕ) → k < length (u ∷ us) → get_or (u ∷ us) k v ≡ v → (v ≡ u) ⊎ Contains us v
-contains_at u us v zero l is = inl (sym is)
-contains_at u us v (suc k) l is = inr (k, omega arith, is)
-
-pub contains_cases : {X : Type 0} (u : X) (us : List X) (v : X) → Contains (u ∷ us) v → (v ≡ u) ⊎ Contains us v
-contains_cases u us v m = contains_at u us v m.0 m.1 m.2
 
 pub contained : (vs : List ℕ) (v : ℕ) → (Contains vs v) ⊎ (Contains vs v → ⊥)
 contained [] v = inr (contains_nothing v)
@@ -153,22 +147,16 @@ module _ (g : Setting) (game : IsGame g.game) (some_ring : 0 < g.ring) where
         ),
       )))
 
-  same_order : (log log' : Log) → ((v : ℕ) → parents log' v ≡ parents log v) → Ordered log → Ordered log'
-  same_order log log' same o = (
-    o.0,
-    chain_ext (parents log) (parents log') o.0 (λ v m. same v) o.1,
-    λ v l m. same v
-        ∙ o.2 v l m,
-  )
-
-  keeps_parent : (x : Step) (log : Log) → ((s : Part) → (does g x s).parent ≡ s.parent) → (v : ℕ)
-      → parents (x ∷ log) v ≡ parents log v
-  keeps_parent x log made v = dite (ℕ_discrete (part_of g x.event) v)
-      (λ e. ap (λ (s : Part). s.parent) (part_here g x log v e) ∙ made (part_in g log v))
-      (λ ne. ap (λ (s : Part). s.parent) (part_else g x log v ne))
-
-  same_next : (x : Step) (log : Log) → ((s : Part) → (does g x s).parent ≡ s.parent) → Ordered log → Ordered (x ∷ log)
-  same_next x log made o = same_order log (x ∷ log) (keeps_parent x log made) o
+  -- the part that acts keeps its parent
+  still_ordered : (x : Step) (log : Log)
+      → parent_after g x.event x.seen (part_in g log (part_of g x.event)) ≡ parents log (part_of g x.event)
+      → Ordered log → Ordered (x ∷ log)
+  still_ordered x log same o =
+      (o.0, chain_ext (parents log) (parents (x ∷ log)) o.0 (λ v m. stays v) o.1, λ v l m. stays v ∙ o.2 v l m)
+    where
+      stays : (v : ℕ) → parents (x ∷ log) v ≡ parents log v
+      stays = at_edge (λ v (s : Part). s.parent ≡ parents log v) (part_of g x.event) (λ v. does g x (part_in g log v))
+          (part_in g log) same (λ v. refl)
 
   -- only the head's parent may be another
   one_parent : (x : Step) (log : Log) (h : ℕ) → part_of g x.event ≡ h
@@ -180,11 +168,6 @@ module _ (g : Setting) (game : IsGame g.game) (some_ring : 0 < g.ring) where
         (λ (s : Part). s.parent) (part_else g x log v (λ z. ne (sym z ∙ is))),
   )
 
-  all_parents : (log log' : Log) (h : ℕ) → parents log' h ≡ parents log h
-      → ((v : ℕ) → v ≢ h → parents log' v ≡ parents log v) → (v : ℕ) → parents log' v ≡ parents log v
-  all_parents log log' h here rest v = dite (ℕ_discrete v h)
-      (λ e. subst (λ (u : ℕ). parents log' u ≡ parents log u) (sym e) here) (λ ne. rest v ne)
-
   order_step : (log : Log) (ev : Event) (seen : ℕ) → IsLegalLog g (saw ev seen ∷ log)
       → Ordered log → Ordered (saw ev seen ∷ log)
   order_step log (Take e) seen legal o =
@@ -193,7 +176,7 @@ module _ (g : Setting) (game : IsGame g.game) (some_ring : 0 < g.ring) where
       let l : e < all_edges g = rules_met g (Take e) (part_in g log h) legal.1.0 in
       let one = one_parent x log h refl in
       dite (ℕ_discrete seen 0)
-      (λ none. same_order log (x ∷ log) (all_parents log (x ∷ log) h (one.0 ∙ cond_yes seen 0 _ _ none) one.1) o)
+      (λ none. still_ordered x log (cond_yes seen 0 _ _ none) o)
       (λ some. ⊎_elim
       (λ was.
       let now : parents (x ∷ log) h ≡ Some e = one.0 ∙ cond_no seen 0 (parents log h) (or_else (parents log h) e) some
@@ -219,9 +202,8 @@ module _ (g : Setting) (game : IsGame g.game) (some_ring : 0 < g.ring) where
         λ v inside out. one.1 v (λ z. out (subst (Contains (h ∷ o.0)) (sym z) (contains_first h o.0)))
             ∙ o.2 v inside (λ m. out (contains_later h o.0 v m)),
       ))
-      (λ q. same_order log (x ∷ log)
-      (all_parents log (x ∷ log) h (one.0 ∙ cond_no seen 0 (parents log h) (or_else (parents log h) e) some
-      ∙ ap (λ (p : Option ℕ). or_else p e) q.1 ∙ sym q.1) one.1) o)
+      (λ q. still_ordered x log (cond_no seen 0 (parents log h) (or_else (parents log h) e) some
+      ∙ ap (λ (p : Option ℕ). or_else p e) q.1 ∙ sym q.1) o)
       (cases_parent (parents log h)))
   order_step log (Ack e) seen legal o =
       let x : Step = saw (Ack e) seen in
@@ -241,17 +223,8 @@ module _ (g : Setting) (game : IsGame g.game) (some_ring : 0 < g.ring) where
             (λ z. subst (λ (u : ℕ). parents (x ∷ log) u ≡ None) (sym z) now)
             (λ z. one.1 v z ∙ o.2 v inside (λ m. out (without_contains v h o.0 z m))),
       ))
-      (λ n. same_order log (x ∷ log) (all_parents log (x ∷ log) h (one.0 ∙ cond_false _ None s.parent n) one.1) o)
-  order_step log (Fire v k) seen legal o = same_next (saw (Fire v k) seen) log (λ s. refl) o
-  order_step log (Clear e) seen legal o = same_next (saw (Clear e) seen) log (λ s. refl) o
-  order_step log (Claim e) seen legal o = same_next (saw (Claim e) seen) log (λ s. refl) o
-  order_step log (Put e) seen legal o = same_next (saw (Put e) seen) log (λ s. refl) o
-  order_step log (Halt v) seen legal o = same_next (saw (Halt v) seen) log (λ s. refl) o
-  order_step log (Settle e) seen legal o = same_next (saw (Settle e) seen) log (λ s. refl) o
-  order_step log (Seal e) seen legal o = same_next (saw (Seal e) seen) log (λ s. refl) o
-  order_step log (Read v) seen legal o = same_next (saw (Read v) seen) log (λ s. refl) o
-  order_step log (Feed e k) seen legal o = same_next (saw (Feed e k) seen) log (λ s. refl) o
-  order_step log End seen legal o = same_next (saw End seen) log (λ s. refl) o
+      (λ n. still_ordered x log (cond_false _ None s.parent n) o)
+  order_step log ev seen legal o = still_ordered (saw ev seen) log refl o
 
   ordered : (log : Log) → IsLegalLog g log → Ordered log
   ordered [] legal = ([], tt, λ v l m. refl)

@@ -1,30 +1,28 @@
 -- Serves Core.antt, Outcomes.antt, Positions.antt.
 -- What the outcome of a closed log tells: a report takes it, a firing sequence leads to it, and where no seal halted a
 -- vertex every player comes to it.
-use Rattle.std.proofs.Common.{◌≡◌, ℕ, zero, suc, ◌*◌, ◌^◌, ◌<◌, ◌≤◌, Bool, true, false, not, ◌&&◌, eqb, leb, List, []}
+use Rattle.std.proofs.Common.{◌≡◌, ℕ, ◌^◌, ◌<◌, ◌≤◌, true, false, not, ◌&&◌, eqb, leb, List}
 use Rattle.std.proofs.Common.{All, Contains, length, slice_index, Option, Some, None, refl, sym, ap, ◌∙◌, subst, arith}
-use Rattle.std.proofs.Common.{eqb-true, true≢false}
+use Rattle.std.proofs.Common.{true≢false}
 use Rattle.std.specs.List.Sorted.{IsStrictlyIncreasing}
 use Rattle.std.proofs.lemmas.List.{get_or_past}
 use Rattle.std.proofs.lemmas.List.Elements.{All-from_get_or}
 use Rattle.std.proofs.lemmas.List.Sums.{get_or-le-sum_by}
 use mathlib.Core.Logic.{dite}
 use native.Mathlib.Decide.{dec_lt}
-use Rattle.chip_graph.specs.Sums.{filter_below}
-use Rattle.chip_graph.specs.Multigraph.{Multigraph, IsGraph, edge_at, degree}
+use Rattle.chip_graph.specs.Multigraph.{degree}
 use Rattle.chip_graph.specs.ChipGame.{IsGame}
 use Rattle.chip_part.specs.Setting.{Setting}
 use Rattle.chip_graph.proofs.PickLemmas.{All-picked}
-use Rattle.chip_graph.proofs.SumLemmas.{tested_none}
 use Rattle.chip_sequence.specs.declared.outcome.Outcome.{Outcome}
 use Rattle.chip_sequence.specs.Outcomes.{IsOutcome}
 use Rattle.chip_sequence.specs.Play.{IsPlayed}
 use Rattle.chip_sequence.specs.Firing.{legal_vertices}
 use Rattle.chip_sequence.specs.Sequence.{position_after, counts, IsWholePlay}
-use Rattle.chip_sequence.specs.Counted.{inflow, position_by_counts, IsBelowZero}
+use Rattle.chip_sequence.specs.Counted.{position_by_counts, IsBelowZero}
 use Rattle.chip_sequence.proofs.FiringLemmas.{counts_outside}
 use Rattle.chip_sequence.proofs.EndLemmas.{one_end}
-use Rattle.chip_sequence.proofs.LegalLemmas.{picked_no, picked_ext, picked_ascends, Contains-picked}
+use Rattle.chip_sequence.proofs.LegalLemmas.{picked_none, picked_ext, picked_ascends, Contains-picked}
 use Rattle.chip_part.specs.declared.cause.Cause.{Cause}
 use Rattle.chip_part.specs.declared.cause.Cause.TheVariants.{SealedEdge, FiringLimit}
 use Rattle.chip_core.specs.Core.{Log, part_in, fired_by, is_by_limit, IsLegalLog, IsClosed}
@@ -34,11 +32,7 @@ use Rattle.chip_core.proofs.GivenLemmas.{started_outside, given_is, given_within
 use Rattle.chip_core.proofs.PositionLemmas.{counts_are, is_sequence, is_within, none_below, by_counts}
 use Rattle.chip_core.proofs.ClosingLemmas.{played, agrees_within, over}
 use Rattle.chip_core.specs.Outcomes.{is_by_seal, AreFired, IsOutcomeOf, ComesTo, OutcomesTell}
-
--- nothing passes, and nothing is listed
-picked_none : (test : ℕ → Bool) (n : ℕ) → ((v : ℕ) → v < n → test v ≡ false) → filter_below test n ≡ []
-picked_none test zero off = refl
-picked_none test (suc n) off = picked_no test n (off n (omega arith)) ∙ picked_none test n (λ v l. off v (omega arith))
+use Rattle.chip_sequence.proofs.CertificateLemmas.{inflow_outside}
 
 -- a halt has one cause
 one_cause : (h : Option Cause) → is_by_limit h ≡ true → is_by_seal h ≡ true → ⊥
@@ -50,13 +44,6 @@ no_seal_halts : (h : Option Cause) → (h ≡ Some SealedEdge → ⊥) → is_by
 no_seal_halts None no' = refl
 no_seal_halts (Some SealedEdge) no' = absurd (no' refl)
 no_seal_halts (Some FiringLimit) no' = refl
-
--- nothing flows into what isn't a vertex
-inflow_outside : (G : Multigraph) → IsGraph G → (f : ℕ → ℕ) (v : ℕ) → G.vertices ≤ v → inflow G f v ≡ 0
-inflow_outside G good f v past =
-    tested_none (length G.edges) (λ e. eqb (edge_at G e).head v) (λ e. (edge_at G e).mult * f (edge_at G e).tail)
-    (λ e l on. (let a = (good.edges_fit e l).head_is_vertex in let b = eqb-true (edge_at G e).head v on in
-    absurd (omega arith)))
 
 module _ (g : Setting) (game : IsGame g.game) (some_ring : 0 < g.ring) (log : Log) (legal : IsLegalLog g log) where
   -- ---- counts and chips
@@ -179,7 +166,7 @@ module _ (g : Setting) (game : IsGame g.game) (some_ring : 0 < g.ring) (log : Lo
             kept = is.chips.kept;
             over = is.over ∙ over g game some_ring log legal closed no_seal ∙ same_legal;
             sealed = is.sealed ∙ picked_none (λ u. is_by_seal (part_in g log u).halt) g.game.graph.vertices
-                (λ u l. no_seal_halts (part_in g log u).halt (no_seal u l));
+                (λ u l on. true≢false (sym on ∙ no_seal_halts (part_in g log u).halt (no_seal u l)));
           }
         where
           ends_alike : (vs : List ℕ) → IsWholePlay g.game.graph (slice_index (played_game g log).start) g.game.limit vs

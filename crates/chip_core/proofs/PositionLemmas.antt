@@ -1,12 +1,12 @@
 -- Serves Core.antt.
 -- The full position is the position after the firings that were made.
-use Rattle.std.proofs.Common.{◌≡◌, ℕ, ◌+◌, ◌-◌, ◌*◌, ◌<◌, ◌≤◌, Bool, eqb, ltb, List, [], ◌∷◌, ◌++◌, length, sum, take}
+use Rattle.std.proofs.Common.{◌≡◌, ℕ, ◌+◌, ◌-◌, ◌*◌, ◌<◌, ◌≤◌, Bool, eqb, ltb, [], ◌∷◌, ◌++◌, length, sum, take}
 use Rattle.std.proofs.Common.{lt-ltb, le-ltb, replicate, option_to_list, refl, sym, ap, ◌∙◌, subst, arith, eqb-true}
 use Rattle.std.proofs.Common.{append-nil}
 use Rattle.std.proofs.lemmas.List.{take-append-le}
 use Rattle.std.proofs.lemmas.List.Sums.{sum_by-append, sum_by-take-drop}
 use mathlib.Core.Logic.{dite}
-use native.Mathlib.Decide.{ℕ_discrete, dec_lt}
+use native.Mathlib.Decide.{dec_lt}
 use Rattle.chip_graph.specs.Multigraph.{degree, edge_at}
 use Rattle.chip_graph.specs.ChipGame.{IsGame}
 use Rattle.chip_part.specs.Setting.{Setting}
@@ -19,60 +19,39 @@ use Rattle.chip_sequence.proofs.FiringLemmas.{batch, position_by_counts_law, mor
 use Rattle.chip_part.specs.Edges.{root_edge, mult_of, over_ins, chips_of_firings}
 use Rattle.chip_part.proofs.EdgeLemmas.{over_ins_graph, tail_graph}
 use Rattle.chip_part.proofs.RuleLemmas.{rules_met}
-use Rattle.chip_part.specs.Steps.{saw}
-use Rattle.chip_core.specs.Core.{Log, Step, Event, Take, Ack, Fire, Clear, Claim, Put, Halt, Settle, Seal, Read, Feed}
-use Rattle.chip_core.specs.Core.{End, Part, part_of, does, part_in, out_in, into_in, fired_by, IsLegalLog, tail_of}
+use Rattle.chip_part.specs.Steps.{saw, fired_after}
+use Rattle.chip_part.proofs.PartLemmas.{at_other}
+use Rattle.chip_core.specs.Core.{Log, Event, Fire}
+use Rattle.chip_core.specs.Core.{Part, part_of, does, part_in, out_in, into_in, fired_by, IsLegalLog, tail_of}
 use Rattle.chip_core.specs.Core.{head_of, all_edges, graph_edges}
 use Rattle.chip_core.specs.Messages.{counts_in_flight}
 use Rattle.chip_core.specs.Positions.{chips_given, held, full_position, firings, firings_of, LeadsTo}
 use Rattle.chip_core.specs.Laws.{gone_into}
-use Rattle.chip_core.proofs.LogLemmas.{part_here, part_else, part_kept, out_kept, edge_sound}
+use Rattle.chip_core.proofs.LogLemmas.{part_kept, out_kept, edge_sound}
 use Rattle.chip_core.proofs.GivenLemmas.{started_grows}
+use Rattle.std.proofs.Common.{◌≢◌}
 
 module _ (g : Setting) where
   -- ---- how often each vertex fired
 
-  keeps_fired : (x : Step) (log : Log) → ((s : Part) → (does g x s).fired ≡ s.fired) → firings_of x.event ≡ [] → (u : ℕ)
-      → counts (firings log) u ≡ fired_by g log u → counts (firings (x ∷ log)) u ≡ fired_by g (x ∷ log) u
-  keeps_fired x log made none u ih =
-      ap (λ (l : List ℕ). counts (firings log ++ l) u) none ∙ ap (λ (l : List ℕ). counts l u) (append-nil (firings log))
-      ∙ ih
-      ∙ sym (dite (ℕ_discrete (part_of g x.event) u)
-      (λ e. ap (λ (s : Part). s.fired) (part_here g x log u e) ∙ made (part_in g log u))
-      (λ ne. ap (λ (s : Part). s.fired) (part_else g x log u ne)))
+  fired_more : (x : Event) (n : ℕ) → fired_after x n ≡ n + counts (firings_of x) (part_of g x)
+  fired_more (Fire v k) n = let a = counts-replicate k v v in let b = cond_yes v v k 0 refl in omega arith
+  fired_more _ n = omega arith
 
-  counts_step : (ev : Event) (seen : ℕ) (log : Log) (u : ℕ) → counts (firings log) u ≡ fired_by g log u
-      → counts (firings (saw ev seen ∷ log)) u
-      ≡ fired_by g (saw ev seen ∷ log) u
-  counts_step (Fire v k) seen log u ih =
-      let x : Step = saw (Fire v k) seen in
-      let both = counts-append (firings log) (replicate k v) u in
-      let more = counts-replicate k v u in
-      dite (ℕ_discrete v u)
-      (λ e. let a = cond_yes v u k 0 e in
-      let b : fired_by g (x ∷ log) u ≡ fired_by g log u + k = ap (λ (s : Part). s.fired) (part_here g x log u e) in
-      omega arith)
-      (λ ne. let a = cond_no v u k 0 ne in
-      let b : fired_by g (x ∷ log) u ≡ fired_by g log u = ap (λ (s : Part). s.fired) (part_else g x log u ne) in
-      omega arith)
-  counts_step (Take e) seen log u ih = keeps_fired (saw (Take e) seen) log (λ s. refl) refl u ih
-  counts_step (Ack e) seen log u ih = keeps_fired (saw (Ack e) seen) log (λ s. refl) refl u ih
-  counts_step (Clear e) seen log u ih = keeps_fired (saw (Clear e) seen) log (λ s. refl) refl u ih
-  counts_step (Claim e) seen log u ih = keeps_fired (saw (Claim e) seen) log (λ s. refl) refl u ih
-  counts_step (Put e) seen log u ih = keeps_fired (saw (Put e) seen) log (λ s. refl) refl u ih
-  counts_step (Halt v) seen log u ih = keeps_fired (saw (Halt v) seen) log (λ s. refl) refl u ih
-  counts_step (Settle e) seen log u ih = keeps_fired (saw (Settle e) seen) log
-      (λ s. refl) refl u ih
-  counts_step (Seal e) seen log u ih = keeps_fired (saw (Seal e) seen) log (λ s. refl) refl u ih
-  counts_step (Read v) seen log u ih = keeps_fired (saw (Read v) seen) log (λ s. refl) refl u ih
-  counts_step (Feed e k) seen log u ih = keeps_fired (saw (Feed e k) seen) log
-      (λ s. refl) refl u ih
-  counts_step End seen log u ih = keeps_fired (saw End seen) log (λ s. refl) refl u ih
+  none_elsewhere : (x : Event) (u : ℕ) → part_of g x ≢ u → counts (firings_of x) u ≡ 0
+  none_elsewhere (Fire v k) u other = counts-replicate k v u ∙ cond_no v u k 0 other
+  none_elsewhere _ u other = refl
 
   -- the counts of the firings that were made
   pub counts_are : (log : Log) (u : ℕ) → counts (firings log) u ≡ fired_by g log u
   counts_are [] u = refl
-  counts_are (x ∷ log) u = counts_step x.event x.seen log u (counts_are log u)
+  counts_are (x ∷ log) u =
+      let before = counts_are log u in
+      let both = counts-append (firings log) (firings_of x.event) u in
+      let step = at_other (λ v (s : Part). s.fired ≡ fired_by g log v + counts (firings_of x.event) v) (part_of g x.event)
+      (λ v. does g x (part_in g log v)) (part_in g log) (fired_more x.event (fired_by g log (part_of g x.event)))
+      (λ v other. let none = none_elsewhere x.event v other in omega arith) u in
+      omega arith
 
   pub gone_graph : (log : Log) (e : ℕ) → e < graph_edges g
       → gone_into g log e ≡ chips_of_firings g e (fired_by g log (tail_of g e))
@@ -171,12 +150,6 @@ module _ (g : Setting) where
         let d = inflow_ext g.game.graph (counts (firings log)) (fired_by g log) (counts_are log) v in
         omega arith
 
-    same_sequence : (log : Log) (vs : List ℕ) → vs ≡ []
-        → IsFiringSequence g.game.graph (chips_given g log) (firings log)
-        → IsFiringSequence g.game.graph (chips_given g log) (firings log ++ vs)
-    same_sequence log vs none ok = subst (IsFiringSequence g.game.graph (chips_given g log))
-        (sym (ap (λ (l : List ℕ). firings log ++ l) none ∙ append-nil (firings log))) ok
-
     sequence_step : (ev : Event) (seen : ℕ) (log : Log) → IsLegalLog g (saw ev seen ∷ log)
         → IsFiringSequence g.game.graph (chips_given g log) (firings log)
         → IsFiringSequence g.game.graph (chips_given g log) (firings log ++ firings_of ev)
@@ -187,7 +160,8 @@ module _ (g : Setting) where
         sequence-append g.game.graph (firings log) (replicate k v) (chips_given g log) ok
         (batch g.game.graph v k (position_after g.game.graph (chips_given g log) (firings log)) may.0 may.1
         (omega arith))
-    sequence_step _ seen log legal ok = same_sequence log [] refl ok
+    sequence_step _ seen log legal ok = subst (IsFiringSequence g.game.graph (chips_given g log))
+        (sym (append-nil (firings log))) ok
 
     pub is_sequence : (log : Log) → IsLegalLog g log → IsFiringSequence g.game.graph (chips_given g log) (firings log)
     is_sequence [] legal = tt

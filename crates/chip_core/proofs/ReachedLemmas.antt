@@ -1,14 +1,13 @@
 -- Serves Core.antt, Reached.antt.
 -- The reached worlds are those that the legal logs leave.
 use Rattle.std.proofs.Common.{◌≡◌, ℕ, List, [], ◌∷◌, ◌++◌, None, refl, sym, ap, ◌∙◌, subst}
-use mathlib.Core.Logic.{dite}
-use native.Mathlib.Decide.{ℕ_discrete}
 use Rattle.chip_graph.proofs.SumLemmas.{cond_yes, cond_no}
 use Rattle.chip_part.specs.Setting.{Setting}
 use Rattle.chip_core.specs.Core.{Log, Step, Part, opening_part, unmet_rule, part_of, part_in, IsLegalLog, seen_of}
 use Rattle.chip_core.specs.Histories.{done_by, part_by}
 use Rattle.chip_core.specs.Reached.{parts_by, IsOneMore, IsReached, at_opening, one_more, ReachedByLegalLogs}
 use Rattle.chip_core.proofs.ReachingLemmas.{by_history}
+use Rattle.chip_part.proofs.PartLemmas.{at_other}
 
 module _ (g : Setting) where
   -- by these records the parts are those of the log
@@ -47,12 +46,9 @@ module _ (g : Setting) where
                 (λ (parts : ℕ → Part). x.seen ≡ seen_of g parts x.event) parts more.saw,
           ),
         ),
-        λ p. dite (ℕ_discrete p (part_of g x.event))
-            (λ mine. ap new mine ∙ more.mine ∙ ap (λ (did : List Step). did ++ x ∷ []) (same (part_of g x.event))
-            ∙ ap (λ (q : ℕ). done_by g q log ++ x ∷ []) (sym mine)
-            ∙ sym (cond_yes (part_of g x.event) p (done_by g p log ++ x ∷ []) (done_by g p log) (sym mine)))
-            (λ other. more.others p other ∙ same p
-            ∙ sym (cond_no (part_of g x.event) p (done_by g p log ++ x ∷ []) (done_by g p log) (λ z. other (sym z)))),
+        at_other (λ p (did : List Step). new p ≡ did) (part_of g x.event) (λ p. done_by g p log ++ x ∷ []) (λ p. done_by g p log)
+            (more.mine ∙ ap (λ (did : List Step). did ++ x ∷ []) (same (part_of g x.event)))
+            (λ p other. more.others p (λ z. other (sym z)) ∙ same p),
       )
 
   from_reached : (records : ℕ → List Step) → IsReached g records → IsLeft records

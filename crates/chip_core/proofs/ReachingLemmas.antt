@@ -1,34 +1,34 @@
 -- Serves Core.antt.
 -- Every run leaves a legal log, every legal log is that of a run, and a part is what its own events make of it.
 use Rattle.std.proofs.Common.{◌≡◌, ℕ, List, [], ◌∷◌, ◌++◌, Option, Some, None, refl, sym, ap, ◌∙◌}
-use mathlib.Core.Logic.{dite}
-use native.Mathlib.Decide.{ℕ_discrete}
 use Rattle.chip_part.specs.Setting.{Setting}
 use Rattle.chip_part.specs.Steps.{saw}
-use Rattle.chip_graph.proofs.SumLemmas.{cond_yes, cond_no}
 use Rattle.chip_core.specs.Core.{Log, Step, Event, Rule, Part, opening_part, unmet_rule, part_of, does, part_in}
 use Rattle.chip_core.specs.Core.{IsLegalLog}
 use Rattle.chip_core.specs.Core.{answer, step, log_after}
 use Rattle.chip_core.specs.Positions.{events_in}
 use Rattle.chip_core.specs.Histories.{done_by, part_by}
 use Rattle.chip_core.specs.Laws.{PartsByTheirOwnEvents, LegalLogsAreRuns}
-use Rattle.chip_core.proofs.LogLemmas.{part_here, part_else}
+use Rattle.std.proofs.Common.{append-nil, Bool, true, false, cond, eqb}
 
 module _ (g : Setting) where
-  part_push : (s : Part) (xs : List Step) (x : Step) → part_by g s (xs ++ x ∷ []) ≡ does g x (part_by g s xs)
-  part_push s [] x = refl
-  part_push s (y ∷ ys) x = part_push (does g y s) ys x
+  pub part-append : (xs ys : List Step) (s : Part) → part_by g s (xs ++ ys) ≡ part_by g (part_by g s xs) ys
+  part-append [] ys s = refl
+  part-append (x ∷ xs) ys s = part-append xs ys (does g x s)
+
+  -- what a part did after a log, and one step more
+  own_step : (b : Bool) (s : Part) (x : Step) (t : Part) (ds : List Step) → t ≡ part_by g s ds
+      → cond b (does g x t) t ≡ part_by g s (cond b (ds ++ x ∷ []) ds)
+  own_step true s x t ds is = ap (does g x) is ∙ sym (part-append ds (x ∷ []) s)
+  own_step false s x t ds is = is
+
+  pub part_own : (p : ℕ) (mid base : Log) → part_in g (mid ++ base) p ≡ part_by g (part_in g base p) (done_by g p mid)
+  part_own p [] base = refl
+  part_own p (x ∷ mid) base = own_step (eqb (part_of g x.event) p) (part_in g base p) x (part_in g (mid ++ base) p)
+      (done_by g p mid) (part_own p mid base)
 
   pub by_history : (log : Log) (p : ℕ) → part_in g log p ≡ part_by g (opening_part g) (done_by g p log)
-  by_history [] p = refl
-  by_history (x ∷ log) p = dite (ℕ_discrete (part_of g x.event) p)
-      (λ same. part_here g x log p same ∙ ap (does g x) (by_history log p)
-      ∙ sym (ap (part_by g (opening_part g))
-      (cond_yes (part_of g x.event) p (done_by g p log ++ x ∷ []) (done_by g p log) same)
-      ∙ part_push (opening_part g) (done_by g p log) x))
-      (λ other. part_else g x log p other ∙ by_history log p
-      ∙ sym (ap (part_by g (opening_part g))
-      (cond_no (part_of g x.event) p (done_by g p log ++ x ∷ []) (done_by g p log) other)))
+  by_history log p = ap (λ (l : Log). part_in g l p) (sym (append-nil log)) ∙ part_own p log []
 
   pub answer_legal : (log : Log) (x : Event) (o : Option Rule) → unmet_rule g x (part_in g log (part_of g x)) ≡ o
       → IsLegalLog g log → IsLegalLog g (answer g log x o).0

@@ -10,9 +10,8 @@ use Rattle.chip_part.proofs.RuleLemmas.{rules_met}
 use Rattle.chip_part.proofs.PartLemmas.{out_zero}
 use Rattle.chip_core.specs.Core.{Log, Step, Event, Read, unmet_rule, part_of, part_in, sees, word_of_part, IsLegalLog}
 use Rattle.chip_core.specs.Core.{IsSettled, IsClosed, outstanding, tail_of, root, all_edges}
-use Rattle.chip_core.specs.Laws.{ReadsTell}
 use Rattle.chip_core.proofs.ClosingLemmas.{still, still_closed}
-use Rattle.chip_core.proofs.OrderLemmas.{contains_cases}
+use Rattle.chip_part.proofs.PickedLemmas.{contains_cases}
 
 -- the two ways to say that all that the root sent is settled
 pub settled_is : (g : Setting) (log : Log) → (deficit g (root g) (part_in g log (root g)) ≡ 0) ↔ IsSettled g log
@@ -42,18 +41,15 @@ module _ (g : Setting) (game : IsGame g.game) (some_ring : 0 < g.ring) where
       let may = rules_met g (Read v) (part_in g log (root g)) none in
       (may.0, (closed_is g log).0 (may.2, may.1), legal.1.1 ∙ ap (sees g log) is)
 
-  pub all_reads : (log : Log) → IsLegalLog g log → (x : Step) (v : ℕ) → Contains log x → x.event ≡ Read v
+  pub reads_tell : (log : Log) → IsLegalLog g log → (x : Step) (v : ℕ) → Contains log x → x.event ≡ Read v
       → (v < g.game.graph.vertices) × IsClosed g log × (x.seen ≡ word_of_part (part_in g log v))
-  all_reads [] legal x v made is = let a = made.1 in absurd (omega arith)
-  all_reads (y ∷ log) legal x v made is =
+  reads_tell [] legal x v made is = let a = made.1 in absurd (omega arith)
+  reads_tell (y ∷ log) legal x v made is =
       let here : (v < g.game.graph.vertices) × IsClosed g log × (x.seen ≡ word_of_part (part_in g log v)) = ⊎_elim
       (λ e. (let r = read_here log y v legal (ap (λ (d : Step). d.event) (sym e) ∙ is) in
       (r.0, r.1, ap (λ (d : Step). d.seen) e ∙ r.2)))
-      (λ m. all_reads log legal.0 x v m is)
+      (λ m. reads_tell log legal.0 x v m is)
       (contains_cases y log x made) in
       let l = here.0 in
       let same = still g game some_ring log legal.0 here.1 y legal v (λ z. (absurd (omega arith))) in
       (here.0, still_closed g game some_ring log legal.0 here.1 y legal, here.2 ∙ ap word_of_part (sym same))
-
-pub reads_tell : ReadsTell
-reads_tell g game some_ring = all_reads g game some_ring

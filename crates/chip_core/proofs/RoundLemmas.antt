@@ -1,77 +1,335 @@
--- Serves Closing.antt.
--- Where every vertex made a whole turn and the root settled all its edges, and nothing counted, the root is closed.
-use Rattle.std.proofs.Common.{◌≡◌, ℕ, ◌+◌, ◌<◌, ◌≤◌, false, cond, List, [], ◌∷◌, ◌++◌}
-use Rattle.std.proofs.Common.{length, None, is_some, Contains, refl, sym, ap, ◌∙◌, subst, arith, ⊎_elim}
-use Rattle.std.proofs.Common.{eq-eqb, lt-ltb, true≢false}
-use Rattle.std.proofs.lemmas.Bool.{and_from}
+-- Serves Histories.antt, Closing.antt.
+-- What a whole turn of which no step counts tells of the vertex. Where every vertex made one, and the root settled all its
+-- edges, the root is closed.
+use Rattle.std.proofs.Common.{◌≡◌, ◌≢◌, ◌⊎◌, ℕ, zero, suc, ◌+◌, ◌<◌, ◌≤◌, Bool, true, false, not, ◌&&◌, cond, eqb, List}
+use Rattle.std.proofs.Common.{[], ◌∷◌, ◌++◌, length, get_or, Option, Some, None, is_some, Contains, refl, sym, ap, ◌∙◌}
+use Rattle.std.proofs.Common.{subst, arith, inl, inr, ⊎_elim, eqb-true, true≢false, eq-eqb, lt-ltb}
 use Rattle.std.proofs.lemmas.List.Elements.{Contains-append_left, Contains-append_right, Contains-push_cases}
-use mathlib.Core.Logic.{dite}
-use native.Mathlib.Decide.{ℕ_discrete, dec_lt}
-use Rattle.chip_graph.specs.ChipGame.{IsGame}
-use Rattle.chip_graph.proofs.SumLemmas.{cond_yes, cond_no, by_test}
-use Rattle.chip_link.specs.Link.{claims_of}
 use Rattle.chip_part.specs.Setting.{Setting}
 use Rattle.chip_part.specs.Counting.{work_of}
-use Rattle.chip_part.specs.Part.{is_running, may_ack, is_legal}
-use Rattle.chip_part.specs.Turn.{may_fire, is_at_limit}
-use Rattle.chip_part.specs.Steps.{saw}
-use Rattle.chip_part.proofs.PickedLemmas.{among_new_ins, among_new_outs}
-use Rattle.chip_part.proofs.RestingLemmas.{nothing_left}
-use Rattle.chip_core.specs.Core.{Log, Step, Event, Part, Take, Clear, Settle, part_of, part_in, out_in, into_in}
-use Rattle.chip_core.specs.Core.{sees, does, IsLegalLog, IsClosed, tail_of, head_of, all_edges, graph_edges}
-use Rattle.chip_core.specs.Histories.{done_by, part_by}
+use Rattle.chip_part.specs.Part.{Part, is_running, refusals, may_ack, is_legal}
+use Rattle.chip_part.specs.Edges.{head_of, tail_of}
+use Rattle.chip_part.specs.Rules.{Event, Take, Ack, Fire, Clear, Claim, Put, Halt, Settle}
+use Rattle.chip_part.specs.Steps.{Step, does, saw}
+use Rattle.chip_part.specs.Turn.{Phase, nothing, either_phase, each_phase, one_step, seeing, ins_of, outs_of, may_fire}
+use Rattle.chip_part.specs.Turn.{batch_of, putting, sending, sending_all, after_clear_phase, after_claim_phase}
+use Rattle.chip_part.specs.Turn.{is_at_limit, acknowledging_parent, turn}
+use Rattle.chip_core.specs.Histories.{part_by, done_by}
+use Rattle.chip_part.proofs.PhaseLemmas.{Spreads, of_takes, of_settles, of_firing, of_puts, of_sending_all, of_limit}
+use Rattle.chip_part.proofs.PhaseLemmas.{of_acks, of_turn}
+use Rattle.chip_part.proofs.PickedLemmas.{among_new_outs, contains_cases, among_new_ins}
 use Rattle.chip_core.specs.Work.{counts_as_work, work_in}
+use Rattle.chip_core.proofs.IdleLemmas.{bare, idle_does, Alike, counts_here, idle_alike, one_more, work_grows}
+use Rattle.chip_core.proofs.IdleLemmas.{idle_stretch}
+use Rattle.std.proofs.lemmas.Bool.{not-false, and_from}
+use mathlib.Core.Logic.{dite}
+use native.Mathlib.Decide.{dec_lt}
+use Rattle.chip_graph.specs.ChipGame.{IsGame}
+use Rattle.chip_graph.proofs.SumLemmas.{by_test}
+use Rattle.chip_link.specs.Link.{claims_of}
+use Rattle.chip_part.proofs.RestingLemmas.{nothing_left}
+use Rattle.chip_core.specs.Core.{Log, Step, Event, Part, Take, Clear, Settle, part_of, part_in, out_in, into_in, sees}
+use Rattle.chip_core.specs.Core.{does, IsLegalLog, IsClosed, tail_of, head_of, all_edges, graph_edges}
 use Rattle.chip_core.specs.Words.{acting_part}
-use Rattle.chip_core.specs.Closing.{HasEnd, RootHasPut, HasTurn, HasRound, IdleRoundsClose}
+use Rattle.chip_core.specs.Closing.{HasEnd, RootHasPut, HasTurn, HasRound}
 use Rattle.chip_core.proofs.LogLemmas.{part_here, part_else, edge_counts, head_inside, tail_inside, in_pieces}
-use Rattle.chip_core.proofs.OrderLemmas.{contains_cases}
-use Rattle.chip_core.proofs.IdleLemmas.{bare, Alike, counts_here, idle_alike, one_more, work_grows, idle_stretch}
-use Rattle.chip_core.proofs.QuietLemmas.{Quiet, quiet_closes}
-use Rattle.chip_core.proofs.DueLemmas.{held_or_none, Works, take_works, settle_works, none_unput, look_finds}
-use Rattle.chip_core.proofs.IdleTurnLemmas.{part-append, work-append, makes_turn, Rested, rested}
+use Rattle.chip_core.proofs.DueLemmas.{Quiet, quiet_closes, held_or_none, Works, take_works, settle_works, none_unput}
+use Rattle.chip_core.proofs.DueLemmas.{look_finds}
+use Rattle.chip_core.proofs.ReachingLemmas.{part-append, part_own}
+
+-- how many of these count whatever they saw
+abbrev sure : Event → ℕ
+sure (Fire v k) = 1
+sure (Put e) = 1
+sure (Halt v) = 1
+sure (Ack e) = 1
+sure _ = 0
+
+abbrev sure_in : List Step → ℕ
+sure_in [] = 0
+sure_in (x ∷ xs) = sure x.event + sure_in xs
+
+sure_append : (xs ys : List Step) → sure_in (xs ++ ys) ≡ sure_in xs + sure_in ys
+sure_append [] ys = omega arith
+sure_append (x ∷ xs) ys = let a = sure_append xs ys in omega arith
+
+module _ (g : Setting) where
+  sure_counts : (s : Part) (x : Event) (seen : ℕ) → sure x ≤ cond (counts_as_work g s (saw x seen)) 1 0
+  sure_counts s (Fire v k) seen = omega arith
+  sure_counts s (Put e) seen = omega arith
+  sure_counts s (Halt v) seen = omega arith
+  sure_counts s (Ack e) seen = omega arith
+  sure_counts s _ seen = omega arith
+
+  sure_below : (xs : List Step) (s : Part) → sure_in xs ≤ work_of g s xs
+  sure_below [] s = omega arith
+  sure_below (x ∷ xs) s = let a = sure_below xs (does g x s) in let b = sure_counts s x.event x.seen in omega arith
+
+  pub work-append : (xs ys : List Step) (s : Part) → work_of g s (xs ++ ys) ≡ work_of g s xs + work_of g (part_by g s xs) ys
+  work-append [] ys s = omega arith
+  work-append (x ∷ xs) ys s = let a = work-append xs ys (does g x s) in omega arith
+
+  uncounted : (b : Bool) (n : ℕ) → cond b 1 0 + n ≡ 0 → (b ≡ false) × (n ≡ 0)
+  uncounted true n is = absurd (omega arith)
+  uncounted false n is = (refl, omega arith)
+
+  -- steps of which none counts
+  idle_part : (xs : List Step) (s : Part) → work_of g s xs ≡ 0 → bare (part_by g s xs) ≡ bare s
+  idle_part [] s none = refl
+  idle_part (x ∷ xs) s none =
+      let both = uncounted (counts_as_work g s x) (work_of g (does g x s) xs) none in
+      idle_part xs (does g x s) both.1 ∙ idle_does g x.event x.seen s both.0
+
+  -- ---- a phase leaves the part that its operations make
+
+  abbrev Makes : Phase → Type 0
+  Makes p = (s : Part) (ds : List Step) (t : Part) → p s ds t → t ≡ part_by g s ds
+
+  module _ (v : ℕ) where
+    makes_parent : (p : Option ℕ) → Makes (acknowledging_parent g v p)
+    makes_parent None s ds t (none, same) = same ∙ sym (ap (part_by g s) none)
+    makes_parent (Some e) s ds t phase = by (not (eqb (may_ack g (head_of g e) s e) 0)) phase
+      where
+        by : (b : Bool) → either_phase b (one_step g v (Ack e)) nothing s ds t → t ≡ part_by g s ds
+        by true (seen, rest, is, (none, same)) = same ∙ sym (ap (part_by g s) (is ∙ ap (λ (l : List Step). saw (Ack e) seen ∷ l) none))
+        by false (none, same) = same ∙ sym (ap (part_by g s) none)
+
+    makes : Spreads g v Makes
+    makes = record {
+      none = λ s ds t (none, same). same ∙ sym (ap (part_by g s) none);
+      chosen = λ p all s ds t. all s s ds t;
+      both = λ p q first next s ds t (front, m, back, is, here, rest). next m back t rest
+          ∙ ap (λ (u : Part). part_by g u back) (first s front m here) ∙ sym (ap (part_by g s) is ∙ part-append g front back s);
+      event = λ x by next all s ds t (seen, rest, is, last). all seen s (does g (saw x seen) s) rest t last
+          ∙ sym (ap (part_by g s) is);
+      last = λ s. makes_parent s.parent s;
+    }
+
+    -- a turn leaves the part that its operations make
+    pub makes_turn : Makes (turn g v)
+    makes_turn = of_turn g v Makes makes
+
+    -- ---- what its phases tell
+
+    first_or_later : (P : ℕ → Type 0) (e : ℕ) (es : List ℕ) → P e → ((i : ℕ) → Contains es i → P i) → (i : ℕ)
+        → Contains (e ∷ es) i → P i
+    first_or_later P e es here later i at = ⊎_elim (λ same. subst P (sym same) here) (later i) (contains_cases e es i at)
+
+    within : (front back ds : List Step) → ds ≡ front ++ back → (x : Step) → Contains front x → Contains ds x
+    within front back ds is x has = subst (λ (l : List Step). Contains l x) (sym is) (Contains-append_left front back x has)
+
+    later : (front back ds : List Step) → ds ≡ front ++ back → (x : Step) → Contains back x → Contains ds x
+    later front back ds is x has = subst (λ (l : List Step). Contains l x) (sym is) (Contains-append_right front back x has)
+
+    -- an operation of each of these edges was made
+    pub each_made : (x : ℕ → Event) (es : List ℕ) (s : Part) (ds : List Step) (t : Part)
+        → each_phase (λ e. one_step g v (x e)) es s ds t → (e : ℕ) → Contains es e
+        → (seen : ℕ) × Contains ds (saw (x e) seen)
+    each_made x [] s ds t ph e at = let a = at.1 in absurd (omega arith)
+    each_made x (e ∷ es) s ds t (front, m, back, is, (seen, rest, now, last), more) j here = first_or_later
+        (λ i. (n : ℕ) × Contains ds (saw (x i) n)) e es
+        (seen, within front back ds is (saw (x e) seen) (within (saw (x e) seen ∷ []) rest front now (saw (x e) seen) (0, omega arith, refl)))
+        (λ i at. let found = each_made x es m back t more i at in
+        (found.0, later front back ds is (saw (x i) found.0) found.1)) j here
+
+    -- each edge out of the vertex was settled
+    pub settles_all : (s : Part) (ds : List Step) (after : Part) → turn g v s ds after → v < g.game.graph.vertices
+        → (e : ℕ) → tail_of g e ≡ v → (seen : ℕ) × Contains ds (saw (Settle e) seen)
+    settles_all s ds after (f1, s1, r1, e1, p1, (f2, s2, r2, e2, p2, rest)) vertex e at =
+        let found = each_made (λ i. Settle i) (outs_of g v) s1 f2 s2 p2 e (among_new_outs g v vertex e at) in
+        (found.0, later f1 r1 ds e1 (saw (Settle e) found.0) (within f2 r2 r1 e2 (saw (Settle e) found.0) found.1))
+
+    -- a choice of an operation that always counts
+    not_chosen : (b : Bool) (x : Event) (s : Part) (ds : List Step) (t : Part)
+        → either_phase b (one_step g v x) nothing s ds t → 0 < sure x → sure_in ds ≡ 0 → (b ≡ false) × (t ≡ s)
+    not_chosen true x s ds t (seen, rest, is, last) counts none = absurd (let a = ap sure_in is in omega arith)
+    not_chosen false x s ds t (empty, same) counts none = (refl, same)
+
+    none_put : (es : List ℕ) (s : Part) (ds : List Step) (t : Part) → each_phase (putting g v) es s ds t
+        → sure_in ds ≡ 0 → (t ≡ s) × ((e : ℕ) → Contains es e → is_some (s.out e).link.held ≡ false)
+    none_put [] s ds t (empty, same) none = (same, λ e at. (let l = at.1 in absurd (omega arith)))
+    none_put (e ∷ es) s ds t (front, m, back, is, first, rest) none =
+        let both = sure_append front back in let all = ap sure_in is in
+        let one = not_chosen (is_some (s.out e).link.held) (Put e) s front m first (omega arith) (omega arith) in
+        let more = none_put es m back t rest (omega arith) in (
+          more.0 ∙ one.1,
+          first_or_later (λ i. is_some (s.out i).link.held ≡ false) e es one.0
+              (λ i at. subst (λ (p : Part). is_some (p.out i).link.held ≡ false) one.1 (more.1 i at)),
+        )
+
+    -- an edge with something to send was looked at, and its cell was not empty
+    abbrev Looked : Part → List Step → ℕ → Type 0
+    Looked s ds e = ((s.out e).pending ≡ 0) ⊎ ((seen : ℕ) × (seen ≢ 0) × Contains ds (saw (Clear e) seen))
+
+    claim_counts : (e : ℕ) (s : Part) (ds : List Step) (t : Part) → seeing g v (Claim e) (after_claim_phase g v e) s ds t
+        → 0 < sure_in ds
+    claim_counts e s ds t (seen, rest, is, last) = let a = ap sure_in is in let b = either _ last in omega arith
+      where
+        either : (b : Bool) → either_phase b (one_step g v (Put e)) (one_step g v (Halt v)) (does g (saw (Claim e) seen) s) rest t
+            → 0 < sure_in rest
+        either true (n, more, now, z) = let a = ap sure_in now in omega arith
+        either false (n, more, now, z) = let a = ap sure_in now in omega arith
+
+    one_sent : (e : ℕ) (s : Part) (ds : List Step) (t : Part) → sending g v e s ds t → sure_in ds ≡ 0
+        → is_running s.halt ≡ true
+        → Looked s ds e × (t.halt ≡ s.halt) × ((i : ℕ) → (t.out i).pending ≡ (s.out i).pending)
+    one_sent e s ds t ph none runs = either (not (eqb (s.out e).pending 0)) refl
+        (subst (λ (b : Bool). either_phase (b && not (eqb (s.out e).pending 0)) (seeing g v (Clear e) (after_clear_phase g v e))
+        nothing s ds t) runs ph)
+      where
+        looked : (b : Bool) (seen : ℕ) (rest : List Step) → ds ≡ saw (Clear e) seen ∷ rest → eqb seen 0 ≡ b
+            → either_phase b (seeing g v (Claim e) (after_claim_phase g v e)) nothing (does g (saw (Clear e) seen) s) rest t
+            → Looked s ds e × (t.halt ≡ s.halt) × ((i : ℕ) → (t.out i).pending ≡ (s.out i).pending)
+        looked true seen rest is empty last =
+            let a = ap sure_in is in let b = claim_counts e (does g (saw (Clear e) seen) s) rest t last in
+            absurd (omega arith)
+        looked false seen rest is full (gone, same) = (
+          inr (
+            seen,
+            (λ z. true≢false (sym (Rattle.std.proofs.Common.eq-eqb seen 0 z) ∙ full)),
+            subst (λ (l : List Step). Contains l (saw (Clear e) seen)) (sym is) (0, omega arith, refl),
+          ),
+          ap (λ (p : Part). p.halt) same,
+          λ i. ap (λ (p : Part). (p.out i).pending) same,
+        )
+
+        either : (b : Bool) → not (eqb (s.out e).pending 0) ≡ b
+            → either_phase b (seeing g v (Clear e) (after_clear_phase g v e)) nothing s ds t
+            → Looked s ds e × (t.halt ≡ s.halt) × ((i : ℕ) → (t.out i).pending ≡ (s.out i).pending)
+        either true some (seen, rest, is, last) = looked (eqb seen 0) seen rest is refl last
+        either false idle (empty, same) = (
+          inl (eqb-true (s.out e).pending 0 (not-false _ idle)),
+          ap (λ (p : Part). p.halt) same,
+          λ i. ap (λ (p : Part). (p.out i).pending) same,
+        )
+
+    all_sent : (es : List ℕ) (s : Part) (ds : List Step) (t : Part) → each_phase (sending g v) es s ds t → sure_in ds ≡ 0
+        → is_running s.halt ≡ true → (e : ℕ) → Contains es e → Looked s ds e
+    all_sent [] s ds t ph none runs e at = let l = at.1 in absurd (omega arith)
+    all_sent (e ∷ es) s ds t (front, m, back, is, first, rest) none runs j here =
+        let both = sure_append front back in let all = ap sure_in is in
+        let one = one_sent e s front m first (omega arith) runs in
+        let more = all_sent es m back t rest (omega arith) (ap is_running one.1 ∙ runs) in
+        first_or_later (Looked s ds) e es
+        (⊎_elim (λ z. inl z) (λ z. inr (z.0, z.1, within front back ds is (saw (Clear e) z.0) z.2)) one.0)
+        (λ i at. ⊎_elim (λ z. inl (sym (one.2 i) ∙ z))
+        (λ z. inr (z.0, z.1, later front back ds is (saw (Clear i) z.0) z.2)) (more i at)) j here
+
+    -- ---- the whole turn
+
+    -- the first of two phases
+    passed : (p : Phase) → Makes p → (s : Part) (front : List Step) (m : Part) (back ds : List Step) → ds ≡ front ++ back
+        → p s front m → work_of g s ds ≡ 0 → (work_of g m back ≡ 0) × (bare m ≡ bare s)
+    passed p first s front m back ds is here none =
+        let mine : m ≡ part_by g s front = first s front m here in
+        let all = ap (work_of g s) is ∙ work-append front back s in
+        let same = ap (λ (u : Part). work_of g u back) mine in
+        let idle : work_of g s front ≡ 0 = omega arith in
+        (omega arith, ap bare mine ∙ idle_part front s idle)
+
+    -- what a turn of which no step counts tells: what it asked for, and that the vertex has nothing to do
+    pub record Rested (ds : List Step) (after : Part) : Type 0 where
+      pub takes : (e : ℕ) → Contains (ins_of g v) e → (seen : ℕ) × Contains ds (saw (Take e) seen)
+      pub settles : (e : ℕ) → Contains (outs_of g v) e → (seen : ℕ) × Contains ds (saw (Settle e) seen)
+      pub fires : may_fire g v after ≡ false
+      pub puts : (e : ℕ) → Contains (outs_of g v) e → is_some (after.out e).link.held ≡ false
+      pub sends : is_running after.halt ≡ true → (e : ℕ) → Contains (outs_of g v) e → Looked after ds e
+      pub limit : is_at_limit g v after ≡ false
+
+    sends_of : (s : Part) (ds : List Step) (t : Part) → sending_all g v s ds t → sure_in ds ≡ 0 → is_running s.halt ≡ true
+        → (e : ℕ) → Contains (outs_of g v) e → Looked s ds e
+    sends_of s ds t ph none runs e at = either (eqb (refusals g v s) 0)
+        (subst (λ (b : Bool). either_phase b (either_phase (eqb (refusals g v s) 0) (each_phase (sending g v) (outs_of g v))
+        (one_step g v (Halt v))) nothing s ds t) runs ph)
+      where
+        either : (b : Bool) → either_phase b (each_phase (sending g v) (outs_of g v)) (one_step g v (Halt v)) s ds t
+            → Looked s ds e
+        either true all = all_sent (outs_of g v) s ds t all none runs e at
+        either false (seen, rest, is, last) = absurd (let a = ap sure_in is in omega arith)
+
+    pub rested : (s : Part) (ds : List Step) (after : Part) → turn g v s ds after → work_of g s ds ≡ 0 → Rested ds after
+    rested s ds after (
+      f1,
+      s1,
+      r1,
+      e1,
+      p1,
+      (
+        f2,
+        s2,
+        r2,
+        e2,
+        p2,
+        (f3, s3, r3, e3, p3, (f4, s4, r4, e4, p4, (f5, s5, r5, e5, p5, (f6, s6, r6, e6, p6, p7)))),
+      ),
+    ) none =
+        let sure = sure_below ds s in
+        let a1 = ap sure_in e1 ∙ sure_append f1 r1 in let a2 = ap sure_in e2 ∙ sure_append f2 r2 in
+        let a3 = ap sure_in e3 ∙ sure_append f3 r3 in let a4 = ap sure_in e4 ∙ sure_append f4 r4 in
+        let a5 = ap sure_in e5 ∙ sure_append f5 r5 in let a6 = ap sure_in e6 ∙ sure_append f6 r6 in
+        let b1 = passed _ (of_takes g v Makes makes 0) s f1 s1 r1 ds e1 p1 none in
+        let b2 = passed _ (of_settles g v Makes makes 0) s1 f2 s2 r2 r1 e2 p2 b1.0 in
+        let b3 = passed _ (of_firing g v Makes makes) s2 f3 s3 r3 r2 e3 p3 b2.0 in
+        let b4 = passed _ (of_puts g v Makes makes 0) s3 f4 s4 r4 r3 e4 p4 b3.0 in
+        let b5 = passed _ (of_sending_all g v Makes makes) s4 f5 s5 r5 r4 e5 p5 b4.0 in
+        let b6 = passed _ (of_limit g v Makes makes) s5 f6 s6 r6 r5 e6 p6 b5.0 in
+        let at6 : bare after ≡ bare s6 = ap bare (of_acks g v Makes makes 0 s6 r6 after p7) ∙ idle_part r6 s6 b6.0 in
+        let at5 = at6 ∙ b6.1 in let at4 = at5 ∙ b5.1 in let at3 = at4 ∙ b4.1 in let at2 = at3 ∙ b3.1 in
+        record {
+          takes = λ e at. (let found = each_made (λ i. Take i) (ins_of g v) s f1 s1 p1 e at in
+              (found.0, within f1 r1 ds e1 (saw (Take e) found.0) found.1));
+          settles = λ e at. (let found = each_made (λ i. Settle i) (outs_of g v) s1 f2 s2 p2 e at in (
+            found.0,
+            later f1 r1 ds e1 (saw (Settle e) found.0)
+                (within f2 r2 r1 e2 (saw (Settle e) found.0) found.1),
+          ));
+          fires = ap (may_fire g v) at2
+              ∙ (not_chosen (may_fire g v s2) (Fire v (batch_of g v s2)) s2 f3 s3 p3 (omega arith) (omega arith)).0;
+          puts = λ e at. ap (λ (p : Part). is_some (p.out e).link.held) at3
+              ∙ (none_put (outs_of g v) s3 f4 s4 p4 (omega arith)).1 e at;
+          sends = λ runs e at. ⊎_elim (λ z. inl (ap (λ (p : Part). (p.out e).pending) at4 ∙ z))
+              (λ z. inr (
+                z.0,
+                z.1,
+                later f1 r1 ds e1 (saw (Clear e) z.0) (later f2 r2 r1 e2 (saw (Clear e) z.0)
+                    (later f3 r3 r2 e3 (saw (Clear e) z.0) (later f4 r4 r3 e4 (saw (Clear e) z.0)
+                    (within f5 r5 r4 e5 (saw (Clear e) z.0) z.2)))),
+              ))
+              (sends_of s4 f5 s5 p5 (omega arith) (sym (ap (λ (p : Part). is_running p.halt) at4) ∙ runs) e at);
+          limit = ap (is_at_limit g v) at5
+              ∙ (not_chosen (is_at_limit g v s5) (Halt v) s5 f6 s6 p6 (omega arith) (omega arith)).0;
+        }
 
 module _ (g : Setting) where
   -- ---- the steps of one vertex
 
-  pub part_own : (v : ℕ) (mid base : Log) → part_in g (mid ++ base) v ≡ part_by g (part_in g base v) (done_by g v mid)
-  part_own v [] base = refl
-  part_own v (x ∷ mid) base = dite (ℕ_discrete (part_of g x.event) v)
-      (λ same. part_here g x (mid ++ base) v same ∙ ap (does g x) (part_own v mid base)
-      ∙ sym (ap (part_by g (part_in g base v))
-      (cond_yes (part_of g x.event) v (done_by g v mid ++ x ∷ []) (done_by g v mid) same)
-      ∙ part-append g (done_by g v mid) (x ∷ []) (part_in g base v)))
-      (λ other. part_else g x (mid ++ base) v other ∙ part_own v mid base
-      ∙ sym (ap (part_by g (part_in g base v))
-      (cond_no (part_of g x.event) v (done_by g v mid ++ x ∷ []) (done_by g v mid) other)))
-
   work_own : (v : ℕ) (mid base : Log)
       → work_of g (part_in g base v) (done_by g v mid) + work_in g base ≤ work_in g (mid ++ base)
   work_own v [] base = omega arith
-  work_own v (x ∷ mid) base = dite (ℕ_discrete (part_of g x.event) v)
-      (λ same.
-      let s : Part = part_in g base v in
-      let a = ap (work_of g s) (cond_yes (part_of g x.event) v (done_by g v mid ++ x ∷ []) (done_by g v mid) same)
-      ∙ work-append g (done_by g v mid) (x ∷ []) s in
-      let b : ◌≡◌ {A = ℕ} (cond (counts_as_work g (part_by g s (done_by g v mid)) x) 1 0)
-      (cond (counts_here g (mid ++ base) x) 1 0) =
-      ap (λ (p : Part). cond (counts_as_work g p x) 1 0) (sym (part_own v mid base)
-      ∙ ap (part_in g (mid ++ base)) (sym same)) in
-      let c = work_own v mid base in
-      omega arith)
-      (λ other.
-      let a = ap (work_of g (part_in g base v))
-      (cond_no (part_of g x.event) v (done_by g v mid ++ x ∷ []) (done_by g v mid) other) in
-      let c = work_own v mid base in
-      omega arith)
+  work_own v (x ∷ mid) base = either (eqb (part_of g x.event) v) (eqb-true (part_of g x.event) v) (work_own v mid base)
+    where
+      either : (b : Bool) → (b ≡ true → part_of g x.event ≡ v)
+          → work_of g (part_in g base v) (done_by g v mid) + work_in g base ≤ work_in g (mid ++ base)
+          → work_of g (part_in g base v) (cond b (done_by g v mid ++ x ∷ []) (done_by g v mid)) + work_in g base
+          ≤ work_in g (x ∷ mid ++ base)
+      either false at c = omega arith
+      either true at c =
+          let a = work-append g (done_by g v mid) (x ∷ []) (part_in g base v) in
+          let b : ◌≡◌ {A = ℕ} (cond (counts_as_work g (part_by g (part_in g base v) (done_by g v mid)) x) 1 0)
+          (cond (counts_here g (mid ++ base) x) 1 0) =
+          ap (λ (p : Part). cond (counts_as_work g p x) 1 0) (sym (part_own g v mid base)
+          ∙ ap (part_in g (mid ++ base)) (sym (at refl))) in
+          omega arith
 
   pub own_in : (v : ℕ) (mid : Log) (x : Step) → Contains (done_by g v mid) x → Contains mid x
-  own_in v [] x has = let a = has.1 in absurd (omega arith)
-  own_in v (y ∷ mid) x has = dite (ℕ_discrete (part_of g y.event) v)
-      (λ same. ⊎_elim (λ m. Contains-append_right (y ∷ []) mid x (own_in v mid x m)) (λ is. (0, omega arith, is))
-      (Contains-push_cases (done_by g v mid) y x (subst (λ (l : List Step). Contains l x)
-      (cond_yes (part_of g y.event) v (done_by g v mid ++ y ∷ []) (done_by g v mid) same) has)))
-      (λ other. Contains-append_right (y ∷ []) mid x (own_in v mid x (subst (λ (l : List Step). Contains l x)
-      (cond_no (part_of g y.event) v (done_by g v mid ++ y ∷ []) (done_by g v mid) other) has)))
+  own_in v [] x = (λ has. let a = has.1 in absurd (omega arith))
+  own_in v (y ∷ mid) x = either (eqb (part_of g y.event) v) (own_in v mid x)
+    where
+      either : (b : Bool) → (Contains (done_by g v mid) x → Contains mid x)
+          → Contains (cond b (done_by g v mid ++ y ∷ []) (done_by g v mid)) x → Contains (y ∷ mid) x
+      either true rest has = ⊎_elim (λ m. Contains-append_right (y ∷ []) mid x (rest m)) (λ is. (0, omega arith, is))
+          (Contains-push_cases (done_by g v mid) y x has)
+      either false rest has = Contains-append_right (y ∷ []) mid x (rest has)
 
   -- ---- the moment of a step in a stretch in which nothing counts
 
@@ -146,7 +404,7 @@ module _ (g : Setting) where
 
       -- the part that the turn left has not changed since
       same : bare its.are_turn.0 ≡ bare (part_in g after v)
-      same = ap bare (makes_turn g v s ds its.are_turn.0 its.are_turn.1 ∙ sym (part_own v its.middle base))
+      same = ap bare (makes_turn g v s ds its.are_turn.0 its.are_turn.1 ∙ sym (part_own g v its.middle base))
           ∙ sym (idle_stretch g its.late (its.middle ++ base) idle.1 v)
           ∙ ap (λ (l : Log). bare (part_in g l v)) (sym all_is)
 
@@ -160,7 +418,7 @@ module _ (g : Setting) where
 
       none_left : (e : ℕ) → e < all_edges g → head_of g e ≡ v → may_ack g v (part_in g after v) e ≡ 0
       none_left e l at = sym (ap (λ (p : Part). may_ack g v p e) same)
-          ∙ nothing_left g v s ds its.are_turn.0 its.are_turn.1 idle.0 e l at
+          ∙ nothing_left g v s ds its.are_turn.0 its.are_turn.1 e at
 
     all_put : (e : ℕ) → e < all_edges g → (out_in g after e).link.held ≡ None
     all_put e l = dite (dec_lt e (graph_edges g))
@@ -224,7 +482,3 @@ module _ (g : Setting) where
 
     pub round_closes : HasEnd g after → IsClosed g after
     round_closes end = quiet_closes g game some_ring after legal quiet end
-
-pub idle_rounds_close : IdleRoundsClose
-idle_rounds_close g game some_ring before earlier xs round legal end put none =
-    round_closes g game some_ring before xs round legal none put end

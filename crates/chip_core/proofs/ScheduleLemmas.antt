@@ -1,38 +1,114 @@
 -- Serves Closing.antt.
--- Schedules that ask for everything often enough close the root, and afterwards nothing counts.
-use Rattle.std.proofs.Common.{◌≡◌, ◌⊎◌, ℕ, zero, suc, ◌+◌, ◌<◌, ◌≤◌, List, [], ◌∷◌}
-use Rattle.std.proofs.Common.{◌++◌, length, None, refl, sym, ap, ◌∙◌, subst, arith, inl, inr, ⊎_elim, true≢false}
-use Rattle.std.proofs.Common.{append-nil}
+-- Schedules that ask for everything often enough close the root. Afterwards nothing counts, and but for seals the words
+-- stay as they are.
+use Rattle.std.proofs.Common.{◌≡◌, ◌≢◌, ℕ, ◌+◌, ◌<◌, ◌≤◌, cond, List, [], ◌∷◌, ◌++◌, length, Option}
+use Rattle.std.proofs.Common.{sym, ap, ◌∙◌, subst, arith, ⊎_elim, refl, ◌⊎◌, zero, suc, None, inl, inr}
+use Rattle.std.proofs.Common.{true≢false, append-nil}
+use Rattle.chip_graph.specs.ChipGame.{IsGame}
+use Rattle.chip_graph.proofs.SumLemmas.{cond_no}
+use Rattle.chip_link.specs.Link.{Tail, claims_of, Shows, after_clear, after_claim, after_put}
+use Rattle.chip_part.specs.Setting.{Setting}
+use Rattle.chip_part.proofs.RuleLemmas.{rules_met}
+use Rattle.chip_core.specs.Core.{Log, Step, Part, part_of, part_in, word_of_part, IsLegalLog, IsClosed, tail_of}
+use Rattle.chip_core.specs.Core.{head_of, stopper, all_edges, Event, Clear, Claim, Put, Feed, out_in, sees, step}
+use Rattle.chip_core.specs.Core.{log_after, graph_edges}
+use Rattle.chip_core.specs.Words.{of_edge, of_cell}
+use Rattle.chip_core.specs.Work.{work_in, refusals_in, is_refusal, steps_at_most, fed_so_far, AreFiringBounds}
+use Rattle.chip_core.specs.Closing.{StirsNothing, HasEnd, HasStretches, RootHasPut}
+use Rattle.chip_core.specs.Closing.{HasRounds}
+use Rattle.chip_core.proofs.LogLemmas.{link_step, head_inside, tail_cases, legal_before, in_pieces, end_stays}
+use Rattle.chip_core.proofs.OrderLemmas.{all_counts}
+use Rattle.chip_core.proofs.ClosingLemmas.{still, still_closed, still_run}
+use Rattle.chip_core.proofs.IdleLemmas.{counts_here, work_grows}
+use Rattle.chip_core.proofs.WorkLemmas.{edge_work, vertex_work, refused_on, work_step, refusal_step, few_steps}
+use Rattle.chip_core.proofs.WorkLemmas.{few_refusals}
 use mathlib.Core.Logic.{dite}
 use native.Mathlib.Decide.{ℕ_discrete}
-use Rattle.chip_graph.specs.ChipGame.{IsGame}
 use Rattle.chip_graph.specs.More.{brought_to}
-use Rattle.chip_graph.proofs.SumLemmas.{cond_no}
-use Rattle.chip_link.specs.Link.{Tail, after_clear, after_claim, after_put}
 use Rattle.chip_sequence.specs.Sequence.{IsWholePlay}
-use Rattle.chip_part.specs.Setting.{Setting}
 use Rattle.chip_part.specs.Kept.{Met}
 use Rattle.chip_part.specs.Steps.{saw, link_after}
 use Rattle.chip_part.proofs.EdgeLemmas.{tail_root}
 use Rattle.chip_part.proofs.PartLemmas.{at_edge}
-use Rattle.chip_part.proofs.RuleLemmas.{rules_met}
-use Rattle.chip_core.specs.Core.{Log, Step, Event, Clear, Claim, Put, Feed, part_of, part_in, out_in}
-use Rattle.chip_core.specs.Core.{sees, IsLegalLog, step, log_after, IsClosed}
-use Rattle.chip_core.specs.Core.{all_edges, graph_edges}
 use Rattle.chip_core.specs.Positions.{chips_given, fed_of}
-use Rattle.chip_core.specs.Work.{work_in, steps_at_most}
-use Rattle.chip_core.specs.Work.{fed_so_far, AreFiringBounds}
-use Rattle.chip_core.specs.Closing.{HasEnd, HasStretches, FairSchedulesClose, RootHasPut}
-use Rattle.chip_core.specs.Closing.{HasRounds, FairRoundsClose}
-use Rattle.chip_core.proofs.LogLemmas.{link_step, legal_before, in_pieces, end_stays}
 use Rattle.chip_core.proofs.GivenLemmas.{recorded_step, started_step}
 use Rattle.chip_core.proofs.ReachingLemmas.{step_legal, run_legal}
 use Rattle.chip_core.proofs.ReplyLemmas.{log_after-append}
-use Rattle.chip_core.proofs.ClosingLemmas.{still_closed, still_run}
-use Rattle.chip_core.proofs.IdleLemmas.{work_grows}
 use Rattle.chip_core.proofs.AskedLemmas.{tells_in, run_grows, by_rule, made, asked_closes}
 use Rattle.chip_core.proofs.RoundLemmas.{round_closes}
-use Rattle.chip_core.proofs.WorkLemmas.{few_steps_at, few_refusals_at}
+use Rattle.chip_graph.proofs.SumLemmas.{sum_below_ext}
+use Rattle.std.proofs.Common.{is_some}
+
+module _ (g : Setting) (game : IsGame g.game) (some_ring : 0 < g.ring) where
+  -- two logs leave the same parts but for the stopper's
+  abbrev Stays : Log → Log → Type 0
+  Stays a b = (p : ℕ) → p ≢ stopper g → part_in g a p ≡ part_in g b p
+
+  no_stopper : (p : ℕ) → p ≤ g.game.graph.vertices → p ≢ stopper g
+  no_stopper p l is = let same : p ≡ stopper g = is in absurd (omega arith)
+
+  at_tail : (a b : Log) → Stays a b → (e : ℕ) → part_in g a (tail_of g e) ≡ part_in g b (tail_of g e)
+  at_tail a b same e = same (tail_of g e) (no_stopper (tail_of g e)
+      (⊎_elim (λ at. omega arith) (λ l. omega arith) (tail_cases g game e)))
+
+  at_head : (a b : Log) → Stays a b → (e : ℕ) → e < all_edges g → part_in g a (head_of g e) ≡ part_in g b (head_of g e)
+  at_head a b same e l = let inside = head_inside g game e l in same (head_of g e) (no_stopper (head_of g e) (omega arith))
+
+  step_idle : (x : Step) (log : Log) → IsLegalLog g (x ∷ log) → IsClosed g log
+      → (◌≡◌ {A = ℕ} (cond (counts_here g log x) 1 0) 0)
+      × (◌≡◌ {A = ℕ} (cond (is_refusal g (part_in g log (part_of g x.event)) x) 1 0) 0)
+  step_idle x log legal closed =
+      let same = still g game some_ring log legal.0 closed x legal in
+      let edges = sum_below_ext (all_edges g) (edge_work g (x ∷ log)) (edge_work g log) (λ e l.
+      let a = ap (λ (s : Part). (s.out e).settled + length (s.out e).link.put + claims_of (s.out e).link)
+      (at_tail (x ∷ log) log same e) in
+      let b = ap (λ (s : Part). (s.into e).acked + length (s.into e).got) (at_head (x ∷ log) log same e l) in omega arith) in
+      let vertices = sum_below_ext g.game.graph.vertices (vertex_work g (x ∷ log)) (vertex_work g log)
+      (λ v l. ap (λ (s : Part). s.fired + cond (is_some s.halt) 1 0) (same v (no_stopper v (omega arith)))) in
+      let refused = sum_below_ext (graph_edges g) (λ e. refused_on (out_in g (x ∷ log) e).link)
+      (λ e. refused_on (out_in g log e).link) (λ e l. ap (λ (s : Part). refused_on (s.out e).link) (at_tail (x ∷ log) log same e)) in
+      let a = work_step g game some_ring x log legal in let b = refusal_step g game some_ring x log legal in
+      (omega arith, omega arith)
+
+  record After (log xs : Log) : Type 0 where
+    closed : IsClosed g (xs ++ log)
+    same : Stays (xs ++ log) log
+    no_work : work_in g (xs ++ log) ≡ work_in g log
+    no_refusals : refusals_in g (xs ++ log) ≡ refusals_in g log
+
+  after : (xs log : Log) → IsLegalLog g (xs ++ log) → IsClosed g log → After log xs
+  after [] log legal closed = record { closed = closed; same = λ p ne. refl; no_work = refl; no_refusals = refl }
+  after (x ∷ xs) log legal closed =
+      let rest = after xs log legal.0 closed in
+      let idle = step_idle x (xs ++ log) legal rest.closed in
+      let a = idle.0 in let b = idle.1 in
+      let c = rest.no_work in let d = rest.no_refusals in
+      record {
+        closed = still_closed g game some_ring (xs ++ log) legal.0 rest.closed x legal;
+        same = λ p ne. still g game some_ring (xs ++ log) legal.0 rest.closed x legal p ne ∙ rest.same p ne;
+        no_work = omega arith;
+        no_refusals = omega arith;
+      }
+
+  pub nothing_stirs : (log : Log) → IsLegalLog g log → IsClosed g log → (xs : Log) → IsLegalLog g (xs ++ log) → StirsNothing g log xs
+  nothing_stirs log before closed xs legal =
+      let is = after xs log legal closed in
+      let new : Log = xs ++ log in
+      record {
+        no_work = is.no_work;
+        no_refusals = is.no_refusals;
+        words = λ value shown stops. record {
+          edges = λ e l.
+              let link = ap (λ (s : Part). (s.out e).link) (sym (at_tail new log is.same e)) in
+              let got = ap (λ (s : Part). (s.into e).got) (sym (at_head new log is.same e l)) in
+              subst (λ (z : Tail × List ℕ × Option ℕ). Shows g.ring (value (of_edge e)) (λ i. value (of_cell e i)) z.0 z.1 z.2)
+              (λ j. (link j, got j, sym (stops e) j)) (shown.edges e l);
+          acks = λ e l. shown.acks e l ∙ ap (λ (s : Part). (s.into e).acked) (sym (at_head new log is.same e l));
+          fired = λ v l. shown.fired v l ∙ ap word_of_part (sym (is.same v (no_stopper v (omega arith))));
+        };
+        acks = λ e l. (let c = all_counts g game some_ring new legal is.closed.1 e l in
+            let c1 = c.1 in let c2 = c.2 in let c3 = c.3 in omega arith);
+      }
 
 module _ (g : Setting) (game : IsGame g.game) (some_ring : 0 < g.ring) where
   -- ---- once the end is noted nothing is fed
@@ -113,7 +189,7 @@ module _ (g : Setting) (game : IsGame g.game) (some_ring : 0 < g.ring) where
       → work_in g after ≤ steps_at_most g.game (length (fed_so_far g log)) fired
   few_after log after ends legal fired bounds =
       let same = ap (λ (l : List (ℕ × ℕ)). steps_at_most g.game (length l) fired) ends.fed in
-      let few = few_steps_at g game some_ring after legal fired record {
+      let few = few_steps g game some_ring after legal fired record {
         firings = bounds.firings;
         whole = subst (λ (x : ℕ → ℕ). IsWholePlay g.game.graph x g.game.limit bounds.firings) (sym ends.given) bounds.whole;
         enough = bounds.enough;
@@ -144,14 +220,14 @@ module _ (g : Setting) (game : IsGame g.game) (some_ring : 0 < g.ring) where
       (λ worked. inr (omega arith)))
       (stretches_tell n rest two two_legal two_ends.end more)
 
-  schedules_close : (log : Log) → IsLegalLog g log → HasEnd g log → (fired : ℕ → ℕ) → AreFiringBounds g log fired → (n : ℕ)
+  pub fair_schedules_close : (log : Log) → IsLegalLog g log → HasEnd g log → (fired : ℕ → ℕ) → AreFiringBounds g log fired → (n : ℕ)
       → steps_at_most g.game (length (fed_so_far g log)) fired + graph_edges g < n → (xs : List Event) → HasStretches g n xs
       → IsClosed g (log_after g log xs)
-  schedules_close log legal end fired all n more xs has = ⊎_elim (λ closed. closed)
+  fair_schedules_close log legal end fired all n more xs has = ⊎_elim (λ closed. closed)
       (λ tells.
       let after_legal = run_legal g log xs legal in
       let a = few_after log (log_after g log xs) (ends_run xs log legal end) after_legal fired all in
-      let b = few_refusals_at g game some_ring (log_after g log xs) after_legal in
+      let b = few_refusals g game some_ring (log_after g log xs) after_legal in
       absurd (omega arith))
       (stretches_tell n xs log legal end has)
 
@@ -185,18 +261,10 @@ module _ (g : Setting) (game : IsGame g.game) (some_ring : 0 < g.ring) where
       (λ some. inr (omega arith)))
       (rounds_tell n rest two all_legal two_ends.end two_put more)
 
-  rounds_close : (before : Log) → HasEnd g before → RootHasPut g before → (fired : ℕ → ℕ)
+  pub fair_rounds_close : (before : Log) → IsLegalLog g before → HasEnd g before → RootHasPut g before → (fired : ℕ → ℕ)
       → AreFiringBounds g before fired → (n : ℕ) → steps_at_most g.game (length (fed_so_far g before)) fired < n → (xs : Log)
       → IsLegalLog g (xs ++ before) → HasRounds g n before xs → IsClosed g (xs ++ before)
-  rounds_close before end put fired all n more xs legal has = ⊎_elim (λ closed. closed)
+  fair_rounds_close before earlier end put fired all n more xs legal has = ⊎_elim (λ closed. closed)
       (λ tells. let a = few_after before (xs ++ before) (ends_longer xs before legal end) legal fired all in
       absurd (omega arith))
       (rounds_tell n xs before legal end put has)
-
-pub fair_schedules_close : FairSchedulesClose
-fair_schedules_close g game some_ring log legal end fired all n more xs has =
-    schedules_close g game some_ring log legal end fired all n more xs has
-
-pub fair_rounds_close : FairRoundsClose
-fair_rounds_close g game some_ring before legal end put fired all n more xs all_legal has =
-    rounds_close g game some_ring before end put fired all n more xs all_legal has

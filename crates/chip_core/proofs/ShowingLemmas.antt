@@ -21,7 +21,7 @@ use Rattle.chip_part.specs.Part.{may_ack, cause, is_by_limit}
 use Rattle.chip_part.specs.declared.cause.Cause.TheVariants.{SealedEdge, FiringLimit}
 use Rattle.chip_part.specs.Kept.{Met}
 use Rattle.chip_part.specs.Steps.{link_after, got_after, acked_after, stop_after, saw}
-use Rattle.chip_part.proofs.PartLemmas.{may_le}
+use Rattle.chip_part.proofs.PartLemmas.{at_edge, at_other, may_le}
 use Rattle.chip_part.proofs.RuleLemmas.{rules_met}
 use Rattle.chip_core.specs.Core.{Log, Step, Event, Take, Ack, Fire, Clear, Claim, Put, Halt, Settle, Seal, Read, Feed}
 use Rattle.chip_core.specs.Core.{End, Part, Out, unmet_rule, part_of, does, part_in, out_in, into_in, stop_in}
@@ -29,9 +29,10 @@ use Rattle.chip_core.specs.Core.{word_of_part}
 use Rattle.chip_core.specs.Core.{sees, IsLegalLog, tail_of, head_of, root_edge, all_edges}
 use Rattle.chip_core.specs.Words.{Word, of_edge, of_acks, of_cell, of_vertex, IsWord, halt_bits, word_of_event}
 use Rattle.chip_core.specs.Words.{word_to_note, IsShown, acting_part, OperationsFind, IsLeft, WordsGoOn}
-use Rattle.chip_core.proofs.LogLemmas.{part_here, part_else, link_step, got_step, acked_step, stop_step, out_kept}
+use Rattle.chip_core.proofs.LogLemmas.{part_here, part_else, link_step, got_step, acked_step, stop_step}
 use Rattle.chip_core.proofs.LogLemmas.{part_kept, edge_sound, empty_hand}
 use Rattle.chip_core.proofs.NumberLemmas.{claims_most}
+use Rattle.chip_link.specs.Words.{word_after_exchange}
 
 -- what a word is for, its edge or vertex, and its cell
 abbrev kind : Word → ℕ
@@ -59,13 +60,6 @@ other_owner p q ne same = ne (ap owner same)
 
 pub other_cell : (p q : Word) → cell p ≢ cell q → p ≢ q
 other_cell p q ne same = ne (ap cell same)
-
--- one edge is changed, and every other is as it was
-one_edge : {A : Type 0} (P : ℕ → A → Type 0) (e : ℕ) (new old : ℕ → A) → P e (new e) → ((i : ℕ) → i ≢ e → P i (old i))
-    → (i : ℕ) → P i (cond (eqb e i) (new i) (old i))
-one_edge P e new old here others i = dite (ℕ_discrete e i)
-    (λ same. subst (P i) (sym (cond_yes e i (new i) (old i) same)) (subst (λ j. P j (new j)) same here))
-    (λ other. subst (P i) (sym (cond_no e i (new i) (old i) other)) (others i (λ z. other (sym z))))
 
 -- the same edge, read off other words
 reread : (ring word word' : ℕ) (cell cell' : ℕ → ℕ) (t : Tail) (got : List ℕ) (stop : Option ℕ) → 0 < ring
@@ -163,10 +157,30 @@ module _ (g : Setting) (game : IsGame g.game) (some_ring : 0 < g.ring) (log : Lo
     other_words x w e l ne nes = same_edge e l (w.others (of_edge e) l ne)
         (λ i h. w.others (of_cell e i) (l, h) (nes i))
 
+    -- after a claim or a feed of a with these counts
+    claim_after : (a : ℕ) (count : ℕ → ℕ) → (out_in g log a).link.clear ≡ true → (seen : ℕ) → value (of_edge a) ≡ seen
+        → value' (of_edge a) ≡ word_after_exchange (claims_of (out_in g log a).link) (claims_of (out_in g log a).link + 1)
+        (value (of_edge a))
+        → ((i : ℕ) → i < all_edges g → a ≢ i → value' (of_edge i) ≡ value (of_edge i))
+        → ((i : ℕ) → i < all_edges g → (j : ℕ) → j < g.ring → value' (of_cell i j) ≡ value (of_cell i j)) → (e : ℕ)
+        → e < all_edges g → Shows g.ring (value' (of_edge e)) (λ j. value' (of_cell e j))
+        (cond (eqb a e) (after_claim (count e) seen (out_in g log e).link) (out_in g log e).link) (into_in g log e).got
+        (stop_in g log e)
+    claim_after a count clear seen found here edges cells e l = at_other (λ i (u : Tail). i < all_edges g
+        → Shows g.ring (value' (of_edge i)) (λ j. value' (of_cell i j)) u (into_in g log i).got (stop_in g log i)) a
+        (λ i. after_claim (count i) seen (out_in g log i).link) (λ i. (out_in g log i).link)
+        (λ m. reread g.ring _ _ _ _ _ _ _ some_ring refl (cells a m)
+        (subst (λ (n : ℕ). Shows g.ring (value' (of_edge a)) (λ j. value (of_cell a j))
+        (after_claim (count a) n (out_in g log a).link) (into_in g log a).got (stop_in g log a)) found
+        (claim_shows g.ring some_ring (value (of_edge a)) (λ j. value (of_cell a j)) _ _ _ (sound a) (shown.edges a m)
+        (count a) (value' (of_edge a)) ((sound a).quiet clear)
+        (λ hit. here ∙ cond_yes (value (of_edge a)) _ _ _ hit) (λ miss. here ∙ cond_no (value (of_edge a)) _ _ _ miss))))
+        (λ i other m. same_edge i m (edges i m other) (cells i m)) e l
+
     edges_after : (x : Event) → unmet_rule g x (acting_part g log x) ≡ None → IsLeft g log x value value' → (e : ℕ)
         → e < all_edges g → ShowsAfter x e
     unfolding ShowsAfter
-    edges_after (Take a) none w e l = one_edge (λ i (got : List ℕ). i < all_edges g
+    edges_after (Take a) none w e l = at_other (λ i (got : List ℕ). i < all_edges g
         → Shows g.ring (value' (of_edge i)) (λ j. value' (of_cell i j)) (out_in g log i).link got (stop_in g log i)) a
         (λ i. after_take (seen_by (Take a)) (into_in g log i).got) (λ i. (into_in g log i).got)
         (λ l. reread g.ring _ _ _ _ _ _ _ some_ring (w.others (of_edge a) l (other_kind _ _ (λ z. omega arith)))
@@ -175,12 +189,8 @@ module _ (g : Setting) (game : IsGame g.game) (some_ring : 0 < g.ring) (log : Lo
         (after_take n (into_in g log a).got) (stop_in g log a)) (finds (Take a) none)
         (take_shows g.ring some_ring (value (of_edge a)) (λ j. value (of_cell a j)) _ _ _ (sound a) (shown.edges a l)
         (λ j. value' (of_cell a j)) w.here (λ j h other. w.others (of_cell a j) (l, h) (other_cell _ _ other)))))
-        (λ i other l. other_words (Take a) w i l (other_kind _ _ (λ z. omega arith)) (λ j. other_owner _ _ other))
+        (λ i other l. other_words (Take a) w i l (other_kind _ _ (λ z. omega arith)) (λ j. other_owner _ _ (λ z. other (sym z))))
         e l
-    edges_after (Ack a) none w e l = other_words (Ack a) w e l (other_kind _ _ (λ z. omega arith))
-        (λ i. other_kind _ _ (λ z. omega arith))
-    edges_after (Fire v k) none w e l = other_words (Fire v k) w e l (other_kind _ _ (λ z. omega arith))
-        (λ i. other_kind _ _ (λ z. omega arith))
     edges_after (Clear a) none w e l =
         let c : ℕ = claims_of (out_in g log a).link % g.ring in
         let cells : (i : ℕ) → i < g.ring → value' (of_cell e i) ≡ value (of_cell e i) = (λ i h. dite (ℕ_discrete e a)
@@ -198,27 +208,7 @@ module _ (g : Setting) (game : IsGame g.game) (some_ring : 0 < g.ring) (log : Lo
         (λ other. subst (λ (u : Tail). Shows g.ring (value' (of_edge e))
         (λ i. value' (of_cell e i)) u (into_in g log e).got (stop_in g log e))
         (sym (cond_no a e (after_clear (seen_by (Clear a)) (out_in g log e).link) (out_in g log e).link other)) kept)
-    edges_after (Claim a) none w e l = one_edge (λ i (u : Tail). i < all_edges g
-        → Shows g.ring (value' (of_edge i)) (λ j. value' (of_cell i j)) u (into_in g log i).got (stop_in g log i)) a
-        (λ i. after_claim (out_in g log i).pending (seen_by (Claim a)) (out_in g log i).link)
-        (λ i. (out_in g log i).link)
-        (λ l.
-        let met = met_for (Claim a) none in
-        let o : Out = out_in g log a in
-        let open_edge = out_kept g game log legal a in
-        let held = open_edge.free_hand met.0 (open_edge.clear_pends met.0 met.2) in
-        reread g.ring _ _ _ _ _ _ _ some_ring refl
-        (λ j h. w.others (of_cell a j) (l, h) (other_kind _ _ (λ z. omega arith)))
-        (subst (λ (n : ℕ). Shows g.ring (value' (of_edge a)) (λ j. value (of_cell a j)) (after_claim o.pending n o.link)
-        (into_in g log a).got (stop_in g log a)) (finds (Claim a) none)
-        (claim_shows g.ring some_ring (value (of_edge a)) (λ j. value (of_cell a j)) _ _ _ (sound a)
-        (shown.edges a l) o.pending (value' (of_edge a)) held
-        (λ hit. w.here ∙ cond_yes (value (of_edge a)) (claims_of o.link) (claims_of o.link + 1) (value (of_edge a)) hit)
-        (λ miss. w.here ∙ cond_no (value (of_edge a)) (claims_of o.link) (claims_of o.link + 1)
-        (value (of_edge a)) miss))))
-        (λ i other l. other_words (Claim a) w i l (other_owner _ _ other) (λ j. other_kind _ _ (λ z. omega arith)))
-        e l
-    edges_after (Put a) none w e l = one_edge (λ i (u : Tail). i < all_edges g
+    edges_after (Put a) none w e l = at_other (λ i (u : Tail). i < all_edges g
         → Shows g.ring (value' (of_edge i)) (λ j. value' (of_cell i j)) u (into_in g log i).got (stop_in g log i)) a
         (λ i. after_put (out_in g log i).link) (λ i. (out_in g log i).link)
         (λ l.
@@ -236,13 +226,9 @@ module _ (g : Setting) (game : IsGame g.game) (some_ring : 0 < g.ring) (log : Lo
         (shown.edges a l) count (λ j. value' (of_cell a j)) one
         (ap (λ (n : ℕ). value' (of_cell a n)) cell_is ∙ w.here ∙ value_is)
         (λ j h other. w.others (of_cell a j) (l, h) (other_cell _ _ (λ z. other (z ∙ sym cell_is))))))
-        (λ i other l. other_words (Put a) w i l (other_kind _ _ (λ z. omega arith)) (λ j. other_owner _ _ other))
+        (λ i other l. other_words (Put a) w i l (other_kind _ _ (λ z. omega arith)) (λ j. other_owner _ _ (λ z. other (sym z))))
         e l
-    edges_after (Halt v) none w e l = other_words (Halt v) w e l (other_kind _ _ (λ z. omega arith))
-        (λ i. other_kind _ _ (λ z. omega arith))
-    edges_after (Settle a) none w e l = other_words (Settle a) w e l (other_kind _ _ (λ z. omega arith))
-        (λ i. other_kind _ _ (λ z. omega arith))
-    edges_after (Seal a) none w e l = one_edge (λ i (stop : Option ℕ). i < all_edges g
+    edges_after (Seal a) none w e l = at_other (λ i (stop : Option ℕ). i < all_edges g
         → Shows g.ring (value' (of_edge i)) (λ j. value' (of_cell i j)) (out_in g log i).link (into_in g log i).got stop)
         a
         (λ i. after_seal (seen_by (Seal a)) (stop_in g log i)) (λ i. stop_in g log i)
@@ -255,33 +241,22 @@ module _ (g : Setting) (game : IsGame g.game) (some_ring : 0 < g.ring) (log : Lo
         (finds (Seal a) none)
         (seal_shows g.ring some_ring (value (of_edge a)) (λ j. value (of_cell a j)) _ _ _ (sound a) (shown.edges a l)
         (omega arith))))
-        (λ i other l. other_words (Seal a) w i l (other_owner _ _ other) (λ j. other_kind _ _ (λ z. omega arith)))
+        (λ i other l. other_words (Seal a) w i l (other_owner _ _ (λ z. other (sym z))) (λ j. other_kind _ _ (λ z. omega arith)))
         e l
-    edges_after (Read v) none w e l = other_words (Read v) w e l (other_kind _ _ (λ z. omega arith))
+    edges_after (Claim a) none w e l = claim_after a (λ i. (out_in g log i).pending) (met_for (Claim a) none).2
+        (seen_by (Claim a)) (finds (Claim a) none) w.here
+        (λ i m other. w.others (of_edge i) m (other_owner _ _ (λ z. other (sym z))))
+        (λ i m j h. w.others (of_cell i j) (m, h) (other_kind _ _ (λ z. omega arith))) e l
+    edges_after (Feed a k) none w e l = claim_after a (λ i. k) (met_for (Feed a k) none).5
+        (seen_by (Feed a k)) (finds (Feed a k) none) w.here
+        (λ i m other. w.others (of_edge i) m (other_owner _ _ (λ z. other (sym z))))
+        (λ i m j h. w.others (of_cell i j) (m, h) (other_kind _ _ (λ z. omega arith))) e l
+    edges_after x none w e l = other_words x w e l (other_kind _ _ (λ z. omega arith))
         (λ i. other_kind _ _ (λ z. omega arith))
-    edges_after End none w e l = other_words End w e l (other_kind _ _ (λ z. omega arith))
-        (λ i. other_kind _ _ (λ z. omega arith))
-    edges_after (Feed a k) none w e l = one_edge (λ i (u : Tail). i < all_edges g
-        → Shows g.ring (value' (of_edge i)) (λ j. value' (of_cell i j)) u (into_in g log i).got (stop_in g log i)) a
-        (λ i. after_claim k (seen_by (Feed a k)) (out_in g log i).link) (λ i. (out_in g log i).link)
-        (λ l.
-        let met = met_for (Feed a k) none in
-        let o : Out = out_in g log a in
-        reread g.ring _ _ _ _ _ _ _ some_ring refl
-        (λ j h. w.others (of_cell a j) (l, h) (other_kind _ _ (λ z. omega arith)))
-        (subst (λ (n : ℕ). Shows g.ring (value' (of_edge a)) (λ j. value (of_cell a j)) (after_claim k n o.link)
-        (into_in g log a).got (stop_in g log a)) (finds (Feed a k) none)
-        (claim_shows g.ring some_ring (value (of_edge a)) (λ j. value (of_cell a j)) _ _ _ (sound a)
-        (shown.edges a l) k (value' (of_edge a)) ((sound a).quiet met.5)
-        (λ hit. w.here ∙ cond_yes (value (of_edge a)) (claims_of o.link) (claims_of o.link + 1) (value (of_edge a)) hit)
-        (λ miss. w.here ∙ cond_no (value (of_edge a)) (claims_of o.link) (claims_of o.link + 1)
-        (value (of_edge a)) miss))))
-        (λ i other l. other_words (Feed a k) w i l (other_owner _ _ other) (λ j. other_kind _ _ (λ z. omega arith)))
-        e l
 
     acks_after : (x : Event) → unmet_rule g x (acting_part g log x) ≡ None → IsLeft g log x value value' → (e : ℕ)
         → e < all_edges g → value' (of_acks e) ≡ acked_after g x (part_in g log (head_of g e)) e (into_in g log e)
-    acks_after (Ack a) none w e l = one_edge (λ i (n : ℕ). i < all_edges g → value' (of_acks i) ≡ n) a
+    acks_after (Ack a) none w e l = at_other (λ i (n : ℕ). i < all_edges g → value' (of_acks i) ≡ n) a
         (λ i. (into_in g log i).acked + may_ack g (head_of g a) (part_in g log (head_of g i)) a)
         (λ i. (into_in g log i).acked)
         (λ l.
@@ -291,7 +266,7 @@ module _ (g : Setting) (game : IsGame g.game) (some_ring : 0 < g.ring) (log : Lo
         let few = claims_most g game some_ring log legal a in
         let behind = (sound a).behind in
         w.here ∙ omega arith)
-        (λ i other l. w.others (of_acks i) l (other_owner _ _ other) ∙ shown.acks i l)
+        (λ i other l. w.others (of_acks i) l (other_owner _ _ (λ z. other (sym z))) ∙ shown.acks i l)
         e l
     acks_after (Settle a) none w e l = dite (ℕ_discrete e a)
         (λ same. ap (λ (i : ℕ). value' (of_acks i)) same ∙ w.here ∙ ap (λ (i : ℕ). value (of_acks i)) (sym same))
@@ -302,11 +277,11 @@ module _ (g : Setting) (game : IsGame g.game) (some_ring : 0 < g.ring) (log : Lo
     acks_after _ none w e l = w.others (of_acks e) l (other_kind _ _ (λ z. omega arith)) ∙ shown.acks e l
 
     -- an event that leaves firings and halts
-    word_stays : (x : Step) (v : ℕ) → ((s : Part) → word_of_part (does g x s) ≡ word_of_part s)
+    word_stays : (x : Step) (v : ℕ)
+        → word_of_part (does g x (acting_part g log x.event)) ≡ word_of_part (acting_part g log x.event)
         → word_of_part (part_in g (x ∷ log) v) ≡ word_of_part (part_in g log v)
-    word_stays x v still = dite (ℕ_discrete (part_of g x.event) v)
-        (λ same. ap word_of_part (part_here g x log v same) ∙ still (part_in g log v))
-        (λ other. ap word_of_part (part_else g x log v other))
+    word_stays x v still = at_edge (λ u (s : Part). word_of_part s ≡ word_of_part (part_in g log u)) (part_of g x.event)
+        (λ u. does g x (part_in g log u)) (part_in g log) still (λ u. refl) v
 
     abbrev pub made_by : Event → Step
     made_by x = saw x (seen_by x)
@@ -352,25 +327,9 @@ module _ (g : Setting) (game : IsGame g.game) (some_ring : 0 < g.ring) (log : Lo
     fired_after (Read a) none w v l = dite (ℕ_discrete v a)
         (λ same. ap (λ (i : ℕ). value' (of_vertex i)) same ∙ w.here ∙ ap (λ (i : ℕ). value (of_vertex i)) (sym same))
         (λ other. w.others (of_vertex v) l (other_owner _ _ other)) ∙ shown.fired v l
-        ∙ sym (word_stays (made_by (Read a)) v (λ s. refl))
-    fired_after (Feed a k) none w v l = w.others (of_vertex v) l (other_kind _ _ (λ z. omega arith)) ∙ shown.fired v l
-        ∙ sym (word_stays (made_by (Feed a k)) v (λ s. refl))
-    fired_after End none w v l = w.others (of_vertex v) l (other_kind _ _ (λ z. omega arith)) ∙ shown.fired v l
-        ∙ sym (word_stays (made_by End) v (λ s. refl))
-    fired_after (Take a) none w v l = w.others (of_vertex v) l (other_kind _ _ (λ z. omega arith)) ∙ shown.fired v l
-        ∙ sym (word_stays (made_by (Take a)) v (λ s. refl))
-    fired_after (Ack a) none w v l = w.others (of_vertex v) l (other_kind _ _ (λ z. omega arith)) ∙ shown.fired v l
-        ∙ sym (word_stays (made_by (Ack a)) v (λ s. refl))
-    fired_after (Clear a) none w v l = w.others (of_vertex v) l (other_kind _ _ (λ z. omega arith)) ∙ shown.fired v l
-        ∙ sym (word_stays (made_by (Clear a)) v (λ s. refl))
-    fired_after (Claim a) none w v l = w.others (of_vertex v) l (other_kind _ _ (λ z. omega arith)) ∙ shown.fired v l
-        ∙ sym (word_stays (made_by (Claim a)) v (λ s. refl))
-    fired_after (Put a) none w v l = w.others (of_vertex v) l (other_kind _ _ (λ z. omega arith)) ∙ shown.fired v l
-        ∙ sym (word_stays (made_by (Put a)) v (λ s. refl))
-    fired_after (Settle a) none w v l = w.others (of_vertex v) l (other_kind _ _ (λ z. omega arith)) ∙ shown.fired v l
-        ∙ sym (word_stays (made_by (Settle a)) v (λ s. refl))
-    fired_after (Seal a) none w v l = w.others (of_vertex v) l (other_kind _ _ (λ z. omega arith)) ∙ shown.fired v l
-        ∙ sym (word_stays (made_by (Seal a)) v (λ s. refl))
+        ∙ sym (word_stays (made_by (Read a)) v refl)
+    fired_after x none w v l = w.others (of_vertex v) l (other_kind _ _ (λ z. omega arith)) ∙ shown.fired v l
+        ∙ sym (word_stays (made_by x) v refl)
 
     -- the words show the longer log
     pub shows_more : (x : Event) → unmet_rule g x (acting_part g log x) ≡ None → IsLeft g log x value value'

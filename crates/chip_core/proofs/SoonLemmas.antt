@@ -1,8 +1,8 @@
 -- Serves Soon.antt, Detection.antt.
 -- Soon after the end each round takes the lowest level off the tree, until the root is closed.
-use Rattle.std.proofs.Common.{◌≡◌, ◌⊎◌, ℕ, zero, suc, ◌+◌, ◌-◌, ◌<◌, ◌≤◌, cond, eqb, List, [], ◌∷◌, ◌++◌, length}
-use Rattle.std.proofs.Common.{Some, None, Contains, refl, sym, ap, ◌∙◌, subst, arith, inl, inr, ⊎_elim}
-use Rattle.std.proofs.Common.{eqb-true, pos_of_ne-zero, append_assoc}
+use Rattle.std.proofs.Common.{◌≡◌, ◌⊎◌, ℕ, zero, suc, ◌+◌, ◌-◌, ◌<◌, ◌≤◌, cond, eqb, List, [], ◌∷◌, ◌++◌, length, Some}
+use Rattle.std.proofs.Common.{None, Contains, refl, sym, ap, ◌∙◌, subst, arith, inl, inr, ⊎_elim, eqb-true}
+use Rattle.std.proofs.Common.{pos_of_ne-zero, append_assoc}
 use Rattle.std.proofs.lemmas.List.{length-drop}
 use Rattle.std.proofs.lemmas.List.Elements.{Contains-append_left, Contains-append_right}
 use mathlib.Core.Logic.{dite}
@@ -14,25 +14,24 @@ use Rattle.chip_link.proofs.SoundsLemmas.{length-sent_counts}
 use Rattle.chip_part.specs.Setting.{Setting}
 use Rattle.chip_part.specs.Part.{owed, may_ack, deficit}
 use Rattle.chip_part.specs.Steps.{saw, settled_after}
-use Rattle.chip_part.proofs.PartLemmas.{in_zero}
+use Rattle.chip_part.proofs.PartLemmas.{in_zero, at_edge}
 use Rattle.chip_part.proofs.RuleLemmas.{rules_met}
-use Rattle.chip_part.proofs.RestingLemmas.{rests}
-use Rattle.chip_core.specs.Core.{Log, Step, Event, Part, Take, Ack, Settle}
-use Rattle.chip_core.specs.Core.{part_of, does, part_in, out_in, into_in, sees, IsLegalLog, IsClosed, outstanding, tail_of}
-use Rattle.chip_core.specs.Core.{head_of, all_edges, graph_edges}
+use Rattle.chip_part.proofs.RestingLemmas.{rests, was_parent, idle_little, nothing_left}
+use Rattle.chip_core.specs.Core.{Log, Step, Event, Part, Take, Ack, Settle, part_of, does, part_in, out_in, into_in}
+use Rattle.chip_core.specs.Core.{sees, IsLegalLog, IsClosed, outstanding, tail_of, head_of, all_edges, graph_edges}
 use Rattle.chip_core.specs.Messages.{Message, messages_from, counts_in_flight}
 use Rattle.chip_core.specs.Detection.{IsTree, IsDetectionOrder}
 use Rattle.chip_core.specs.Histories.{done_by}
 use Rattle.chip_core.specs.Closing.{HasTurn, HasRounds}
 use Rattle.chip_core.specs.Soon.{IsAtRest, IsAtMostDeep, HasRoundInOrder, DepthCloses, DepthClosesLater, DepthIsCounted}
-use Rattle.chip_core.proofs.LogLemmas.{part_here, part_else, part_kept, settled_step, acked_step}
-use Rattle.chip_core.proofs.LogLemmas.{head_inside, tail_inside, acked_grows, settled_grows, legal_before, in_pieces}
-use Rattle.chip_core.proofs.OrderLemmas.{contains_cases, contained, cases_parent, none_some}
-use Rattle.chip_core.proofs.QuietLemmas.{parent_below}
-use Rattle.chip_core.proofs.IdleTurnLemmas.{makes_turn}
-use Rattle.chip_core.proofs.RoundLemmas.{part_own, own_in}
-use Rattle.chip_core.proofs.RestLemmas.{settled_up, AtRest, rested, same_up, rests_on}
-use Rattle.chip_core.proofs.TurnEndLemmas.{was_parent, idle_little, nothing_left, settles_all}
+use Rattle.chip_core.proofs.LogLemmas.{part_kept, settled_step, acked_step, head_inside}
+use Rattle.chip_core.proofs.LogLemmas.{tail_inside, acked_grows, settled_grows, legal_before, in_pieces}
+use Rattle.chip_core.proofs.OrderLemmas.{contained, cases_parent, none_some}
+use Rattle.chip_core.proofs.DueLemmas.{parent_below}
+use Rattle.chip_core.proofs.RoundLemmas.{makes_turn, settles_all, own_in}
+use Rattle.chip_core.proofs.ClosingLemmas.{settled_up, AtRest, rested, same_up, rests_on}
+use Rattle.chip_part.proofs.PickedLemmas.{contains_cases}
+use Rattle.chip_core.proofs.ReachingLemmas.{part_own}
 
 no_messages : (e place : ℕ) (counts : List ℕ) → messages_from e place counts ≡ [] → length counts ≡ 0
 no_messages e place [] is = refl
@@ -134,10 +133,9 @@ module _ (g : Setting) where
 
     parent_stood : (log : Log) → IsLegalLog g log → AtRest g log → (x : Step) → IsLegalLog g (x ∷ log) → (v e : ℕ)
         → (part_in g (x ∷ log) v).parent ≡ Some e → (part_in g log v).parent ≡ Some e
-    parent_stood log legal rest x next v e is = dite (ℕ_discrete (part_of g x.event) v)
-        (λ same. subst (λ (q : ℕ). (does g x (part_in g log q)).parent ≡ Some e → (part_in g log q).parent ≡ Some e) same
-        (step_parent log legal rest x.event x.seen next e) (sym (ap (λ (s : Part). s.parent) (part_here g x log v same)) ∙ is))
-        (λ other. sym (ap (λ (s : Part). s.parent) (part_else g x log v other)) ∙ is)
+    parent_stood log legal rest x next v e = at_edge
+        (λ p (s : Part). s.parent ≡ Some e → (part_in g log p).parent ≡ Some e) (part_of g x.event)
+        (λ p. does g x (part_in g log p)) (part_in g log) (step_parent log legal rest x.event x.seen next e) (λ p is. is) v
 
     record Later (log xs : Log) : Type 0 where
       rest : AtRest g (xs ++ log)
@@ -206,7 +204,7 @@ module _ (g : Setting) where
         none_left : (e : ℕ) → head_of g e ≡ v → may_ack g v (part_in g made v) e ≡ 0
         none_left e at = ap (λ (s : Part). may_ack g v s e) (part_own g v its.middle base
             ∙ sym (makes_turn g v (part_in g base v) (done_by g v its.middle) its.are_turn.0 its.are_turn.1))
-            ∙ nothing_left g v (part_in g base v) (done_by g v its.middle) its.are_turn.0 its.are_turn.1 vertex e at
+            ∙ nothing_left g v (part_in g base v) (done_by g v its.middle) its.are_turn.0 its.are_turn.1 e at
 
         -- where nothing was owed to it, it is engaged no more
         freed : ((e : ℕ) → e < all_edges g → tail_of g e ≡ v → owed (into_in g before e) ≡ 0) → (q : ℕ)

@@ -6,6 +6,7 @@ pub mod PickedLemmas
 pub mod TurnLemmas
 pub mod CursorLemmas
 pub mod TurnStepsLemmas
+pub mod PhaseLemmas
 pub mod CompletingTurnsLemmas
 pub mod RestingLemmas
 pub mod WorkedTurns

@@ -22,7 +22,7 @@ use Rattle.chip_part.specs.declared.cause.Cause.TheVariants.{SealedEdge, FiringL
 use Rattle.chip_part.specs.Edges.{graph_edges, all_edges, root_edge, tail_of, head_of, mult_of, over_outs, over_ins}
 use Rattle.chip_part.specs.Part.{Cause, Part, is_running, owed, outstanding, may_ack, all_owed, pending_of, unput_count}
 use Rattle.chip_part.specs.Part.{refusals, cause, is_legal, is_passive, deficit, all_fed}
-use Rattle.chip_part.specs.Rules.{Event, Take, Ack, Fire, Clear, Claim, Put, Halt, Settle, Seal, Read}
+use Rattle.chip_part.specs.Rules.{Event, Take, Ack, Fire, Clear, Claim, Put, Halt, Settle}
 use Rattle.chip_part.specs.Rules.{Feed, End, unmet_rule}
 use Rattle.chip_part.specs.Steps.{part_of, settled_after, got_after, acked_after, halt_after, fired_after, saw}
 use Rattle.chip_part.specs.Steps.{parent_after, link_after, ended_after, does, Step}
@@ -30,13 +30,18 @@ use Rattle.chip_part.proofs.RuleLemmas.{rules_met}
 use Rattle.chip_part.proofs.EdgeLemmas.{tail_root}
 use Rattle.chip_part.specs.Kept.{Met, IsNeutral, KeepsOut, KeepsPart}
 
+-- one edge is changed, and what is said of the others needs that they are others
+pub at_other : {A : Type 0} (P : ℕ → A → Type 0) (e : ℕ) (new old : ℕ → A) → P e (new e)
+    → ((i : ℕ) → e ≢ i → P i (old i)) → (i : ℕ) → P i (cond (eqb e i) (new i) (old i))
+at_other P e new old here rest i = dite (ℕ_discrete e i)
+    (λ same. subst (λ (k : ℕ). P k (cond (eqb e k) (new k) (old k))) same
+    (subst (P e) (sym (cond_yes e e (new e) (old e) refl)) here))
+    (λ other. subst (P i) (sym (cond_no e i (new i) (old i) other)) (rest i other))
+
 -- one edge is changed, the others are as they were
 pub at_edge : {A : Type 0} (P : ℕ → A → Type 0) (e : ℕ) (new old : ℕ → A) → P e (new e) → ((i : ℕ) → P i (old i))
     → (i : ℕ) → P i (cond (eqb e i) (new i) (old i))
-at_edge P e new old here rest i = dite (ℕ_discrete e i)
-    (λ same. subst (λ (k : ℕ). P k (cond (eqb e k) (new k) (old k))) same
-    (subst (P e) (sym (cond_yes e e (new e) (old e) refl)) here))
-    (λ other. subst (P i) (sym (cond_no e i (new i) (old i) other)) (rest i))
+at_edge P e new old here rest = at_other P e new old here (λ i other. rest i)
 
 -- no message is claimed where none is counted
 pub no_held : (held : Option ℕ) → length (option_to_list held) ≡ 0 → held ≡ None
@@ -82,6 +87,40 @@ module _ (g : Setting) where
   -- chips are fed where the end isn't noted
   fed_by : (s : Part) → (g.fed ≡ false → s.ended ≡ true) → s.ended ≡ false → g.fed ≡ true
   fed_by s unfed going = by_test g.fed (λ on. on) (λ off. absurd (true≢false (sym (unfed off) ∙ going)))
+
+  -- a claim that is taken, and one that is refused
+  claim_keeps : (e : ℕ) (t : Tail) (pending fired : ℕ) (b : Bool) → KeepsOut g e t pending fired → e < graph_edges g
+      → t.clear ≡ true → KeepsOut g e (cond b (record t { held = Some pending; clear = false })
+      (record t { clear = false; refused = true })) (cond b 0 pending) fired
+  claim_keeps e t pending fired true old inside clear =
+      let pends = old.clear_pends inside clear in
+      let few = old.fewer_yet inside pends in
+      let hand = old.free_hand inside pends in
+      let empty : length (option_to_list t.held) ≡ 0 = ap (λ (h : Option ℕ). length (option_to_list h)) hand in
+      let nothing : sum (option_to_list t.held) ≡ 0 = ap (λ (h : Option ℕ). sum (option_to_list h)) hand in
+      let a = old.all_made inside in
+      record {
+        all_made = λ l. omega arith;
+        fewer = λ l. omega arith;
+        fewer_yet = λ l h. absurd (omega arith);
+        clear_pends = λ l z. absurd (true≢false (sym z));
+        refused_pends = λ l z. absurd (true≢false (sym z ∙ old.clear_open inside clear));
+        clear_open = λ l z. absurd (true≢false (sym z));
+        free_hand = λ l h. absurd (omega arith);
+        root_idle = λ l. refl;
+        root_unfed = λ l off. absurd (omega arith);
+      }
+  claim_keeps e t pending fired false old inside clear = record {
+    all_made = old.all_made;
+    fewer = old.fewer;
+    fewer_yet = old.fewer_yet;
+    clear_pends = λ l z. absurd (true≢false (sym z));
+    refused_pends = λ l z. old.clear_pends inside clear;
+    clear_open = λ l z. absurd (true≢false (sym z));
+    free_hand = old.free_hand;
+    root_idle = old.root_idle;
+    root_unfed = λ l off. absurd (omega arith);
+  }
 
   outs_kept : (x : Event) (seen p : ℕ) (s : Part) → p ≡ part_of g x → Met g x s → (g.fed ≡ false → s.ended ≡ true)
       → Outs p s → Outs p (does g (saw x seen) s)
@@ -145,67 +184,15 @@ module _ (g : Setting) where
         root_unfed = λ l off. (let none = ap (λ (k : Tail). k.held) (old.root_unfed l off) in
             let some = may.1.1 in absurd (cc));
       }) ok
-  outs_kept (Claim e) seen p s by may unfed ok = λ i at. dite (ℕ_discrete e i)
-      (λ same. (subst (λ (k : ℕ). tail_of g k ≡ p
-      → KeepsOut g k (cond (eqb e k) (after_claim (s.out k).pending seen (s.out k).link) (s.out k).link)
-      (cond (eqb e k) (cond (eqb seen (claims_of (s.out k).link)) 0 (s.out k).pending) (s.out k).pending) s.fired)
-      same
-      (λ mine.
-      let o = s.out e in
-      let old = ok e mine in
-      let pends = old.clear_pends may.0 may.2 in
-      let few = old.fewer_yet may.0 pends in
-      let hand = old.free_hand may.0 pends in
-      let empty : length (option_to_list o.link.held) ≡ 0 = ap (λ (h : Option ℕ). length (option_to_list h)) hand in
-      let nothing : sum (option_to_list o.link.held) ≡ 0 = ap (λ (h : Option ℕ). sum (option_to_list h)) hand in
-      let a = old.all_made may.0 in
-      let inside = may.0 in
-      subst (λ (tn : Tail × ℕ). KeepsOut g e tn.0 tn.1 s.fired)
-      (λ j. (
-        sym (cond_yes e e (after_claim o.pending seen o.link) o.link refl) j,
-        sym (cond_yes e e (cond (eqb seen (claims_of o.link)) 0 o.pending) o.pending refl) j,
-      ))
-      (dite (ℕ_discrete seen (claims_of o.link))
-      (λ hit. subst (λ (tn : Tail × ℕ). KeepsOut g e tn.0 tn.1 s.fired)
-      (λ j. (
-        sym (cond_yes seen (claims_of o.link) (record o.link { held = Some o.pending; clear = false })
-            (record o.link { clear = false; refused = true }) hit) j,
-        sym (cond_yes seen (claims_of o.link) 0 o.pending hit) j,
-      ))
-      (let r : KeepsOut g e (record o.link { held = Some o.pending; clear = false }) 0 s.fired = record {
-        all_made = λ l. omega arith;
-        fewer = λ l. omega arith;
-        fewer_yet = λ l h. absurd (omega arith);
-        clear_pends = λ l z. absurd (true≢false (sym z));
-        refused_pends = λ l z. absurd (true≢false (sym z ∙ old.clear_open may.0 may.2));
-        clear_open = λ l z. absurd (true≢false (sym z));
-        free_hand = λ l h. absurd (omega arith);
-        root_idle = λ l. refl;
-        root_unfed = λ l off. absurd (omega arith);
-      } in r))
-      (λ miss. subst (λ (tn : Tail × ℕ). KeepsOut g e tn.0 tn.1 s.fired)
-      (λ j. (
-        sym (cond_no seen (claims_of o.link) (record o.link { held = Some o.pending; clear = false })
-            (record o.link { clear = false; refused = true }) miss) j,
-        sym (cond_no seen (claims_of o.link) 0 o.pending miss) j,
-      ))
-      (let r : KeepsOut g e (record o.link { clear = false; refused = true }) o.pending s.fired = record {
-        all_made = old.all_made;
-        fewer = old.fewer;
-        fewer_yet = old.fewer_yet;
-        clear_pends = λ l z. absurd (true≢false (sym z));
-        refused_pends = λ l z. pends;
-        clear_open = λ l z. absurd (true≢false (sym z));
-        free_hand = old.free_hand;
-        root_idle = old.root_idle;
-        root_unfed = λ l off. absurd (omega arith);
-      } in r)))) at))
-      (λ other. subst (λ (tn : Tail × ℕ). KeepsOut g i tn.0 tn.1 s.fired)
-      (λ j. (
-        sym (cond_no e i (after_claim (s.out i).pending seen (s.out i).link) (s.out i).link other) j,
-        sym (cond_no e i (cond (eqb seen (claims_of (s.out i).link)) 0 (s.out i).pending) (s.out i).pending other) j,
-      ))
-      (ok i at))
+  outs_kept (Claim e) seen p s by may unfed ok = λ i at. claim_kept i (ok i at) (eqb e i) refl
+    where
+      claim_kept : (i : ℕ) → KeepsOut g i (s.out i).link (s.out i).pending s.fired → (b : Bool) → eqb e i ≡ b → KeepsOut g i
+          (cond b (after_claim (s.out i).pending seen (s.out i).link) (s.out i).link)
+          (cond b (cond (eqb seen (claims_of (s.out i).link)) 0 (s.out i).pending) (s.out i).pending) s.fired
+      claim_kept i old true is =
+          let here = subst (λ (k : ℕ). (k < graph_edges g) × ((s.out k).link.clear ≡ true)) (eqb-true e i is) (may.0, may.2) in
+          claim_keeps i (s.out i).link (s.out i).pending s.fired (eqb seen (claims_of (s.out i).link)) old here.0 here.1
+      claim_kept i old false is = old
   outs_kept _ seen p s by may unfed ok = ok
 
   -- ---- the edges into the part
@@ -347,7 +334,6 @@ module _ (g : Setting) where
     where
       none_some : (i : ℕ) → ◌≡◌ {A = Option ℕ} None (Some i) → ⊥
       none_some i q = absurd (cc)
-  parents_kept (Fire v k) seen p s by may acks ok = ok
   parents_kept _ seen p s by may acks ok = ok
 
   -- ---- halts
@@ -516,14 +502,7 @@ module _ (g : Setting) where
             (λ i. omega arith) i) in
             let b = old.no_deficit in omega arith;
       }
-  neutral_kept (Seal e) seen p s by may ok l h = let old = ok.neutral l h in
-      record {
-        no_parent = old.no_parent;
-        passive = old.passive;
-        nothing_owed = old.nothing_owed;
-        no_deficit = old.no_deficit;
-      }
-  neutral_kept (Read v) seen p s by may ok l h = let old = ok.neutral l h in
+  neutral_kept _ seen p s by may ok l h = let old = ok.neutral l h in
       record {
         no_parent = old.no_parent;
         passive = old.passive;
@@ -535,18 +514,13 @@ module _ (g : Setting) where
 
   -- a claim for k chips sends at most these more
   claim_sends : (k seen : ℕ) (t : Tail) → sum (sent_counts (after_claim k seen t)) ≤ sum (sent_counts t) + k
-  claim_sends k seen t =
-      let was = sum_by-append (λ (x : ℕ). x) t.put (option_to_list t.held) in
-      dite (ℕ_discrete seen (claims_of t))
-      (λ hit.
-      let a = ap (λ (u : Tail). sum (sent_counts u)) (cond_yes seen (claims_of t)
-      (record t { held = Some k; clear = false }) (record t { clear = false; refused = true }) hit) in
-      let b = sum_by_push (λ (x : ℕ). x) t.put k in
-      omega arith)
-      (λ miss.
-      let a = ap (λ (u : Tail). sum (sent_counts u)) (cond_no seen (claims_of t)
-      (record t { held = Some k; clear = false }) (record t { clear = false; refused = true }) miss) in
-      omega arith)
+  claim_sends k seen t = by (eqb seen (claims_of t))
+    where
+      by : (b : Bool) → sum (sent_counts (cond b (record t { held = Some k; clear = false })
+          (record t { clear = false; refused = true }))) ≤ sum (sent_counts t) + k
+      by true = let was = sum_by-append (λ (x : ℕ). x) t.put (option_to_list t.held) in
+          let b = sum_by_push (λ (x : ℕ). x) t.put k in omega arith
+      by false = omega arith
 
   -- a put sends nothing more
   put_sends : (t : Tail) → sent_counts (after_put t) ≡ sent_counts t

@@ -1,7 +1,7 @@
 -- Serves Edges.antt.
 -- The numbers that pass a test, as a list: they ascend, and each of them is there.
 use Rattle.std.proofs.Common.{◌≡◌, ℕ, zero, suc, ◌+◌, ◌<◌, ◌≤◌, Bool, true, cond, List, [], ◌∷◌, ◌++◌, length, get_or}
-use Rattle.std.proofs.Common.{sym, ap, ◌∙◌, subst, arith, length-append, append-nil}
+use Rattle.std.proofs.Common.{◌⊎◌, inl, inr, sym, ap, ◌∙◌, subst, arith, length-append, append-nil}
 use mathlib.Core.Logic.{dite}
 use native.Mathlib.Decide.{ℕ_discrete, dec_lt}
 use Rattle.std.specs.List.{All, Contains}
@@ -92,10 +92,19 @@ among_new_outs g v vertex e at =
     let l = tail_inside g e (subst (λ (n : ℕ). n < g.game.graph.vertices) (sym at) vertex) in
     picked_has (λ i. eqb (edge_at g.game.graph i).tail v) (graph_edges g) e l (eq-eqb _ _ (sym (tail_graph g e l) ∙ at))
 
-pub among_new_ins : (g : Setting) (v : ℕ) → v < g.game.graph.vertices → (e : ℕ) → head_of g e ≡ v
-    → Contains (edges_in g.game.graph v ++ root_edge g v ∷ []) e
-among_new_ins g v vertex e at = dite (dec_lt e (graph_edges g))
+-- the edges into a vertex are those that a turn goes through
+pub into_turn : (g : Setting) (v e : ℕ) → head_of g e ≡ v → Contains (edges_in g.game.graph v ++ root_edge g v ∷ []) e
+into_turn g v e at = dite (dec_lt e (graph_edges g))
     (λ l. Contains-append_left (edges_in g.game.graph v) (root_edge g v ∷ []) e
     (picked_has (λ i. eqb (edge_at g.game.graph i).head v) (graph_edges g) e l (eq-eqb _ _ (sym (head_graph g e l) ∙ at))))
     (λ n. Contains-append_right (edges_in g.game.graph v) (root_edge g v ∷ []) e
     (0, omega arith, (let h = head_root g e (omega arith) in let z : graph_edges g + v ≡ e = omega arith in z)))
+
+pub among_new_ins : (g : Setting) (v : ℕ) → v < g.game.graph.vertices → (e : ℕ) → head_of g e ≡ v
+    → Contains (edges_in g.game.graph v ++ root_edge g v ∷ []) e
+among_new_ins g v vertex e at = into_turn g v e at
+
+-- what is in a list is in front or in the rest
+pub contains_cases : {X : Type 0} (u : X) (us : List X) (v : X) → Contains (u ∷ us) v → (v ≡ u) ⊎ Contains us v
+contains_cases u us v (zero, l, is) = inl (sym is)
+contains_cases u us v (suc k, l, is) = inr (k, omega arith, is)

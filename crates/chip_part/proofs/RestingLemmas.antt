@@ -1,178 +1,200 @@
--- Serves Rules.antt, Turn.antt, Part.antt.
--- A vertex that had nothing to do in a whole turn, and is passive, is neutral or waits for acknowledgements.
-use Rattle.std.proofs.Common.{◌≡◌, ◌≢◌, ◌⊎◌, ℕ, zero, suc, ◌+◌, ◌-◌, ◌<◌, ◌≤◌, Bool, true, false, not, ◌&&◌, cond, eqb}
-use Rattle.std.proofs.Common.{List, [], ◌∷◌, ◌++◌, Option, Some, None, Contains, refl, sym, ap, ◌∙◌, subst, arith, inl}
-use Rattle.std.proofs.Common.{inr, true≢false, eq-eqb, ne_eqb, pos_of_ne-zero}
-use Rattle.std.proofs.lemmas.Bool.{eqb-true}
-use Rattle.std.proofs.lemmas.List.Elements.{Contains-append_left, Contains-append_right}
+-- Serves Turn.antt, Part.antt, Laws.antt.
+-- What a whole turn leaves: nothing may be acknowledged. So a vertex that is passive then is neutral, or waits for
+-- acknowledgements.
+use Rattle.std.proofs.Common.{◌≡◌, ◌⊎◌, ℕ, ◌+◌, ◌-◌, ◌<◌, Bool, true, false, not, ◌&&◌, cond, eqb, List, [], ◌∷◌}
+use Rattle.std.proofs.Common.{Option, Some, None, Contains, refl, sym, ap, ◌∙◌, subst, arith, inl, inr, ⊎_elim}
+use Rattle.std.proofs.Common.{eqb-true, eq-eqb, true≢false, pos_of_ne-zero}
+use Rattle.std.proofs.lemmas.Bool.{and_from, and_parts, eqb-false, not-true, not-false}
 use mathlib.Core.Logic.{dite}
-use native.Mathlib.Decide.{ℕ_discrete, dec_lt}
-use Rattle.chip_part.specs.Setting.{Setting}
-use Rattle.chip_graph.specs.Multigraph.{edge_at, edges_in}
-use Rattle.chip_graph.proofs.SumLemmas.{cond_yes, cond_no, cond_false, sum_below_one}
+use native.Mathlib.Decide.{ℕ_discrete}
+use Rattle.chip_graph.proofs.SumLemmas.{cond_yes, cond_no, cond_true, cond_false, by_test, sum_below_one}
 use Rattle.chip_detect.specs.Acknowledging.{is_parent, is_done}
-use Rattle.chip_part.specs.Edges.{graph_edges, all_edges, root_edge, head_of}
+use Rattle.chip_part.specs.Setting.{Setting}
+use Rattle.chip_part.specs.Edges.{all_edges, head_of}
 use Rattle.chip_part.specs.Part.{Part, owed, may_ack, all_owed, deficit, is_passive}
-use Rattle.chip_part.proofs.PickedLemmas.{picked_has}
-use Rattle.chip_part.proofs.EdgeLemmas.{head_graph, head_root}
-use Rattle.chip_part.specs.Rules.{Event, Ack}
-use Rattle.chip_part.specs.Steps.{Step, does, reply_of}
 use Rattle.chip_part.specs.Kept.{KeepsPart}
-use Rattle.chip_part.specs.Acting.{act_of}
-use Rattle.chip_part.specs.Counting.{is_work, work_of}
 use Rattle.chip_part.specs.Laws.{IdleTurnRests}
+use Rattle.chip_part.specs.Rules.{Ack}
+use Rattle.chip_part.specs.Steps.{Step, does, saw}
 use Rattle.chip_part.specs.Turn.{nothing, either_phase, each_phase, one_step, ins_of, acknowledging}
 use Rattle.chip_part.specs.Turn.{acknowledging_parent, turn}
+use Rattle.chip_part.proofs.PartLemmas.{may_le}
+use Rattle.chip_part.proofs.PickedLemmas.{contains_cases, into_turn}
 
--- how many of these are acknowledgements
-abbrev ack_count : Event → ℕ
-ack_count (Ack e) = 1
-ack_count _ = 0
+parent_of : (e : ℕ) (p : Option ℕ) → is_parent e p ≡ true → p ≡ Some e
+parent_of e None on = absurd (true≢false (sym on))
+parent_of e (Some p) on = ap Some (eqb-true p e on)
 
-abbrev acks_in : List Step → ℕ
-acks_in [] = 0
-acks_in (x ∷ xs) = ack_count x.event + acks_in xs
+pub same_edge : (e i : ℕ) (p : Option ℕ) → p ≡ Some e → p ≡ Some i → e ≡ i
+same_edge e i p here there = cc
 
-acks_append : (xs ys : List Step) → acks_in (xs ++ ys) ≡ acks_in xs + acks_in ys
-acks_append [] ys = omega arith
-acks_append (x ∷ xs) ys = let a = acks_append xs ys in omega arith
+module _ (g : Setting) where
+  -- nothing is owed on this edge, or it is the parent edge, with one message
+  abbrev pub Little : Part → ℕ → Type 0
+  Little s e = (owed (s.into e) ≡ 0) ⊎ ((s.parent ≡ Some e) × (owed (s.into e) ≡ 1))
 
--- each acknowledgement is work
-ack_is_work : (g : Setting) (s : Part) (x : Event) (seen : ℕ)
-    → ack_count x ≤ cond (is_work (act_of g x s) (reply_of g x seen s)) 1 0
-ack_is_work g s (Ack e) seen = omega arith
-ack_is_work g s _ seen = omega arith
+  abbrev keeps : ℕ → Part → ℕ → Bool
+  keeps h s e = is_parent e s.parent
+      && not (is_done (owed (s.into e)) (all_owed g h s) (deficit g h s) (is_passive g h s))
 
-acks_below : (g : Setting) (s : Part) (xs : List Step) → acks_in xs ≤ work_of g s xs
-acks_below g s [] = omega arith
-acks_below g s (x ∷ xs) = let a = acks_below g (does g x s) xs in let b = ack_is_work g s x.event x.seen in omega arith
+  -- all of what is owed may be acknowledged, or the edge is the parent edge and all but one
+  all_but_one : (h e : ℕ) (s : Part) → (may_ack g h s e ≡ owed (s.into e))
+      ⊎ ((s.parent ≡ Some e) × (may_ack g h s e ≡ owed (s.into e) - 1))
+  all_but_one h e s = by_test (keeps h s e)
+      (λ on. inr (parent_of e s.parent (and_parts _ _ on).0, cond_true (keeps h s e) _ _ on))
+      (λ off. inl (cond_false (keeps h s e) _ _ off))
 
-zero_of : (n : ℕ) → not (eqb n 0) ≡ false → n ≡ 0
-zero_of n is = eqb-true n 0 (on (eqb n 0) is)
-  where
-    on : (b : Bool) → not b ≡ false → b ≡ true
-    on true e = refl
-    on false e = absurd (true≢false e)
+  pub idle_little : (h e : ℕ) (s : Part) → may_ack g h s e ≡ 0 → Little s e
+  idle_little h e s none = ⊎_elim (λ all. inl (omega arith))
+      (λ few. dite (ℕ_discrete (owed (s.into e)) 0) (λ z. inl z) (λ some. let a = few.1 in inr (few.0, omega arith)))
+      (all_but_one h e s)
 
-module _ (g : Setting) (v : ℕ) where
-  -- an edge on which nothing was acknowledged, where nothing is acknowledged at all
-  none_here : (e : ℕ) (s : Part) (ds : List Step) (t : Part) (b : Bool) → not (eqb (may_ack g (head_of g e) s e) 0) ≡ b
-      → either_phase b (one_step g v (Ack e)) nothing s ds t → acks_in ds ≡ 0
-      → (t ≡ s) × (may_ack g (head_of g e) s e ≡ 0)
-  none_here e s ds t true on (seen, rest, is, last) none = absurd (let a = ap acks_in is in omega arith)
-  none_here e s ds t false off (empty, same) none = (same, zero_of (may_ack g (head_of g e) s e) off)
+  module _ (s : Part) (e seen : ℕ) (some : 0 < may_ack g (head_of g e) s e) where
+    abbrev pub acked : Part
+    acked = does g (saw (Ack e) seen) s
 
-  none_on_all : (es : List ℕ) (s : Part) (ds : List Step) (t : Part) → each_phase (acknowledging g v) es s ds t
-      → acks_in ds ≡ 0 → (t ≡ s) × ((e : ℕ) → Contains es e → may_ack g (head_of g e) s e ≡ 0)
-  none_on_all [] s ds t (empty, same) none = (same, λ e at. (let l = at.1 in absurd (omega arith)))
-  none_on_all (e ∷ es) s ds t (front, m, back, is, first, rest) none =
-      let both = acks_append front back in
-      let all = ap acks_in is in
-      let one = none_here e s front m (not (eqb (may_ack g (head_of g e) s e) 0)) refl first (omega arith) in
-      let more = none_on_all es m back t rest (omega arith) in (
-        more.0 ∙ one.0,
-        λ i at. found i at one.1
-            (λ j k. subst (λ (p : Part). may_ack g (head_of g j) p j ≡ 0) one.0 (more.1 j k)),
-      )
-    where
-      found : (i : ℕ) → Contains (e ∷ es) i → may_ack g (head_of g e) s e ≡ 0
-          → ((j : ℕ) → Contains es j → may_ack g (head_of g j) s j ≡ 0) → may_ack g (head_of g i) s i ≡ 0
-      found i (zero, l, same) here later = subst (λ (j : ℕ). may_ack g (head_of g j) s j ≡ 0) same here
-      found i (suc k, l, same) here later = later i (k, omega arith, same)
+    owed_less : owed (acked.into e) ≡ owed (s.into e) - may_ack g (head_of g e) s e
+    owed_less = let a = cond_yes e e ((s.into e).acked + may_ack g (head_of g e) s e) (s.into e).acked refl in omega arith
 
-  none_on_parent : (p : Option ℕ) (s : Part) (ds : List Step) (t : Part) → acknowledging_parent g v p s ds t
-      → acks_in ds ≡ 0 → t ≡ s
-  none_on_parent None s ds t (empty, same) none = same
-  none_on_parent (Some e) s ds t phase none =
-      (none_here e s ds t (not (eqb (may_ack g (head_of g e) s e) 0)) refl phase none).0
-
-  -- an edge into the vertex is one of those that a turn goes through
-  into_turn : (e : ℕ) → e < all_edges g → head_of g e ≡ v → Contains (ins_of g v) e
-  into_turn e l at = dite (dec_lt e (graph_edges g))
-      (λ inside. Contains-append_left (edges_in g.game.graph v) (root_edge g v ∷ []) e
-      (picked_has (λ i. eqb (edge_at g.game.graph i).head v) (graph_edges g) e inside
-      (eq-eqb _ _ (sym (head_graph g e inside) ∙ at))))
-      (λ past. Contains-append_right (edges_in g.game.graph v) (root_edge g v ∷ []) e (let h = head_root g e (omega arith) in
-      (0, omega arith, omega arith)))
-
-  -- at the end of a turn without work nothing may be acknowledged
-  pub nothing_left : (s : Part) (ds : List Step) (after : Part) → turn g v s ds after → work_of g s ds ≡ 0 → (e : ℕ)
-      → e < all_edges g → head_of g e ≡ v → may_ack g v after e ≡ 0
-  nothing_left s ds after (
-    f1,
-    s1,
-    r1,
-    e1,
-    p1,
-    (
-      f2,
-      s2,
-      r2,
-      e2,
-      p2,
-      (
-        f3,
-        s3,
-        r3,
-        e3,
-        p3,
-        (f4, s4, r4, e4, p4, (f5, s5, r5, e5, p5, (f6, s6, r6, e6, p6, (f7, s7, r7, e7, p7, p8)))),
-      ),
-    ),
-  ) idle e l at =
-      let none = acks_below g s ds in
-      let a1 = ap acks_in e1 ∙ acks_append f1 r1 in let a2 = ap acks_in e2 ∙ acks_append f2 r2 in let a3 = ap acks_in e3
-      ∙ acks_append f3 r3 in let a4 = ap acks_in e4 ∙ acks_append f4 r4 in
-      let a5 = ap acks_in e5 ∙ acks_append f5 r5 in let a6 = ap acks_in e6 ∙ acks_append f6 r6 in let a7 = ap acks_in e7
-      ∙ acks_append f7 r7 in
-      let edges = none_on_all (ins_of g v) s6 f7 s7 p7 (omega arith) in
-      let last : after ≡ s7 = none_on_parent s7.parent s7 r7 after p8 (omega arith) in
-      subst (λ (p : Part). may_ack g v p e ≡ 0) (sym (last ∙ edges.0))
-      (subst (λ (u : ℕ). may_ack g u s6 e ≡ 0) at (edges.1 e (into_turn e l at)))
-
-  -- so a passive vertex has a deficit, if it has a parent
-  module _ (s : Part) (kept : KeepsPart g v s) (passive : is_passive g v s ≡ true) (left : (e : ℕ) → e < all_edges g
-      → head_of g e ≡ v → may_ack g v s e ≡ 0) where
-    with_parent : (p : ℕ) → s.parent ≡ Some p → deficit g v s ≡ 0 → ⊥
-    with_parent p is settled =
-        let mine = kept.parents p is in
-        let here : ℕ = owed (s.into p) in
-        let others : (e : ℕ) → e < all_edges g → e ≢ p
-        → cond (eqb (head_of g e) v) (owed (s.into e)) 0 ≡ 0 = (λ e l other. dite (ℕ_discrete (head_of g e) v)
-        (λ at. cond_yes (head_of g e) v (owed (s.into e)) 0 at
-        ∙ sym (cond_false (is_parent e s.parent
-        && not (is_done (owed (s.into e)) (all_owed g v s) (deficit g v s) (is_passive g v s))) (owed (s.into e) - 1)
-        (owed (s.into e))
-        (ap (λ (o : Option ℕ). is_parent e o
-        && not (is_done (owed (s.into e)) (all_owed g v s) (deficit g v s) (is_passive g v s))) is
-        ∙ ap (λ (b : Bool). b && not (is_done (owed (s.into e)) (all_owed g v s) (deficit g v s) (is_passive g v s)))
-        (ne_eqb p e (λ z. other (sym z)))))
-        ∙ left e l at)
-        (λ away. cond_no (head_of g e) v (owed (s.into e)) 0 away)) in
-        let whole : all_owed g v s ≡ here = sum_below_one (all_edges g)
-        (λ e. cond (eqb (head_of g e) v) (owed (s.into e)) 0) p mine.0 others ∙ cond_yes (head_of g p) v here 0 mine.1
-        in
-        let done : is_done here (all_owed g v s) (deficit g v s) (is_passive g v s)
-        ≡ true = (λ i. eqb (whole i) here && passive i && eqb (settled i) 0)
-        ∙ ap (λ (b : Bool). b && true && true) (eq-eqb here here refl) in
-        let all : may_ack g v s p
-        ≡ here = cond_false (is_parent p s.parent
-        && not (is_done here (all_owed g v s) (deficit g v s) (is_passive g v s))) (here - 1) here
-        (ap (λ (b : Bool). is_parent p s.parent && not b) done ∙ no_more (is_parent p s.parent)) in
-        let none = left p mine.0 mine.1 in let some = mine.2 in
-        absurd (omega arith)
+    -- where the parent is there still, it was
+    pub was_parent : (i : ℕ) → acked.parent ≡ Some i → s.parent ≡ Some i
+    was_parent i is = by_test (is_parent e s.parent && eqb (may_ack g (head_of g e) s e) (owed (s.into e)))
+        (λ y. absurd (none_some (sym (cond_true _ None s.parent y) ∙ is)))
+        (λ n. sym (cond_false _ None s.parent n) ∙ is)
       where
-        no_more : (b : Bool) → (b && false) ≡ false
-        no_more true = refl
-        no_more false = refl
+        none_some : ◌≡◌ {A = Option ℕ} None (Some i) → ⊥
+        none_some q = absurd (cc)
 
-    pub rests : (s.parent ≡ None) ⊎ (0 < deficit g v s)
-    rests = by_parent s.parent refl
+    here_little : Little acked e
+    here_little = ⊎_elim (λ all. let a = owed_less in inl (omega arith))
+        (λ few. dite (ℕ_discrete (may_ack g (head_of g e) s e) (owed (s.into e)))
+        (λ all. let a = owed_less in inl (omega arith))
+        (λ less. let a = owed_less in let b = few.1 in
+        inr (
+          by_test (is_parent e s.parent && eqb (may_ack g (head_of g e) s e) (owed (s.into e)))
+              (λ y. absurd (less (eqb-true _ _ (and_parts _ _ y).1)))
+              (λ n. cond_false _ None s.parent n ∙ few.0),
+          omega arith,
+        )))
+        (all_but_one (head_of g e) e s)
+
+    stays_little : (i : ℕ) → Little s i → Little acked i
+    stays_little i little = dite (ℕ_discrete e i)
+        (λ same. subst (Little acked) same here_little)
+        (λ other.
+        let a = cond_no e i ((s.into i).acked + may_ack g (head_of g e) s e) (s.into i).acked other in
+        ⊎_elim (λ z. inl (omega arith))
+        (λ one. let b = one.1 in
+        inr (
+          by_test (is_parent e s.parent && eqb (may_ack g (head_of g e) s e) (owed (s.into e)))
+              (λ y. absurd (other (same_edge e i s.parent (parent_of e s.parent (and_parts _ _ y).0) one.0)))
+              (λ n. cond_false _ None s.parent n ∙ one.0),
+          omega arith,
+        )) little)
+
+  module _ (v : ℕ) where
+    -- ---- the acknowledgements of a turn
+
+    -- one of an edge, made or not
+    abbrev Acked : ℕ → Part → Part → Type 0
+    Acked e s t = ((t ≡ s) × (may_ack g (head_of g e) s e ≡ 0))
+        ⊎ ((0 < may_ack g (head_of g e) s e) × ((seen : ℕ) × (t ≡ does g (saw (Ack e) seen) s)))
+
+    acked_or_not : (e : ℕ) (s : Part) (ds : List Step) (t : Part) → acknowledging g v e s ds t → Acked e s t
+    acked_or_not e s ds t = either (not (eqb (may_ack g (head_of g e) s e) 0)) refl
       where
-        by_parent : (p : Option ℕ) → s.parent ≡ p → (s.parent ≡ None) ⊎ (0 < deficit g v s)
-        by_parent None is = inl is
-        by_parent (Some p) is = inr (pos_of_ne-zero (with_parent p is))
+        either : (b : Bool) → not (eqb (may_ack g (head_of g e) s e) 0) ≡ b
+            → either_phase b (one_step g v (Ack e)) nothing s ds t → Acked e s t
+        either true on (seen, rest, is, (empty, same)) =
+            inr (pos_of_ne-zero (eqb-false _ _ (not-true _ on)), (seen, same))
+        either false off (empty, same) = inl (same, eqb-true _ _ (not-false _ off))
+
+    after_one : (e : ℕ) (s t : Part) → Acked e s t → ((i : ℕ) → Little s i → Little t i) × Little t e
+    after_one e s t acked = ⊎_elim
+        (λ idle. (
+          λ i little. subst (λ (p : Part). Little p i) (sym idle.0) little,
+          subst (λ (p : Part). Little p e) (sym idle.0) (idle_little (head_of g e) e s idle.1),
+        ))
+        (λ made. (
+          λ i little. subst (λ (p : Part). Little p i) (sym made.1.1) (stays_little s e made.1.0 made.0 i little),
+          subst (λ (p : Part). Little p e) (sym made.1.1) (here_little s e made.1.0 made.0),
+        )) acked
+
+    after_all : (es : List ℕ) (s : Part) (ds : List Step) (t : Part) → each_phase (acknowledging g v) es s ds t
+        → ((i : ℕ) → Little s i → Little t i) × ((i : ℕ) → Contains es i → Little t i)
+    after_all [] s ds t (empty, same) = (
+      λ i little. subst (λ (p : Part). Little p i) (sym same) little,
+      λ i at. (let l = at.1 in absurd (omega arith)),
+    )
+    after_all (e ∷ es) s ds t (front, m, back, is, first, rest) =
+        let one = after_one e s m (acked_or_not e s front m first) in
+        let more = after_all es m back t rest in (
+          λ i little. more.0 i (one.0 i little),
+          λ i at. ⊎_elim (λ same. more.0 i (subst (Little m) (sym same) one.1)) (λ later. more.1 i later) (contains_cases e es i at),
+        )
+
+    -- and the last one, on the parent edge
+    after_last : (p : Option ℕ) (s : Part) (ds : List Step) (t : Part) → s.parent ≡ p → acknowledging_parent g v p s ds t
+        → (e : ℕ) → head_of g e ≡ v → Little s e → may_ack g v t e ≡ 0
+    after_last None s ds t none (empty, same) e at little = ⊎_elim
+        (λ z. let a = may_le g v e s in let b = ap (λ (p : Part). may_ack g v p e) same in omega arith)
+        (λ one. absurd (some_none (one.0) none)) little
+      where
+        some_none : s.parent ≡ Some e → s.parent ≡ None → ⊥
+        some_none is z = absurd (cc)
+    after_last (Some q) s ds t parent phase e at little =
+        let acked = acked_or_not q s ds t phase in
+        ⊎_elim
+        (λ z. let a = may_le g v e t in omega arith)
+        (λ one. ⊎_elim
+        (λ idle.
+        let q_is : q ≡ e = same_edge q e s.parent parent (sym (ap (λ (p : Part). p.parent) idle.0) ∙ one.0) in
+        ap (λ (p : Part). may_ack g v p e) idle.0
+        ∙ subst (λ (u : ℕ). may_ack g u s e ≡ 0) at (subst (λ (i : ℕ). may_ack g (head_of g i) s i ≡ 0) q_is idle.1))
+        (λ made.
+        let was = was_parent s q made.1.0 made.0 e (sym (ap (λ (p : Part). p.parent) made.1.1) ∙ one.0) in
+        let q_is : q ≡ e = same_edge q e s.parent parent was in
+        let a : owed (t.into q) ≡ owed (s.into q) - may_ack g (head_of g q) s q =
+        ap (λ (p : Part). owed (p.into q)) made.1.1 ∙ owed_less s q made.1.0 made.0 in
+        let b = ap (λ (i : ℕ). owed (t.into i)) q_is in
+        let c = ap (λ (i : ℕ). owed (s.into i)) q_is in
+        let some = made.0 in let d = one.1 in
+        absurd (⊎_elim (λ z. omega arith) (λ y. let f = y.1 in omega arith) little))
+        acked)
+        ((after_one q s t acked).0 e little)
+
+    pub nothing_left : (s : Part) (ds : List Step) (after : Part) → turn g v s ds after → (e : ℕ)
+        → head_of g e ≡ v → may_ack g v after e ≡ 0
+    nothing_left s ds after
+        (_, _, _, _, _, (_, _, _, _, _, (_, _, _, _, _, (_, _, _, _, _, (_, _, _, _, _, (_, _, _, _, _, (f, m, r, is, all, last)))))))
+        e at =
+        after_last m.parent m r after refl last e at ((after_all (ins_of g v) _ f m all).1 e (into_turn g v e at))
+
+    -- so a passive vertex has a deficit, if it has a parent
+    module _ (s : Part) (kept : KeepsPart g v s) (passive : is_passive g v s ≡ true) (left : (e : ℕ) → e < all_edges g
+        → head_of g e ≡ v → may_ack g v s e ≡ 0) where
+      with_parent : (p : ℕ) → s.parent ≡ Some p → deficit g v s ≡ 0 → ⊥
+      with_parent p is settled =
+          let mine = kept.parents p is in
+          let whole : all_owed g v s ≡ owed (s.into p) = sum_below_one (all_edges g)
+          (λ e. cond (eqb (head_of g e) v) (owed (s.into e)) 0) p mine.0 (λ e l other. dite (ℕ_discrete (head_of g e) v)
+          (λ at. cond_yes (head_of g e) v (owed (s.into e)) 0 at ∙ ⊎_elim (λ none. none)
+          (λ one. absurd (other (same_edge e p s.parent one.0 is))) (idle_little v e s (left e l at)))
+          (λ away. cond_no (head_of g e) v (owed (s.into e)) 0 away))
+          ∙ cond_yes (head_of g p) v (owed (s.into p)) 0 mine.1 in
+          by_test (keeps v s p)
+          (λ on. true≢false (sym (and_from _ _ (and_from _ _ (eq-eqb _ _ whole) passive) (eq-eqb _ _ settled))
+          ∙ not-true _ (and_parts _ _ on).1))
+          (λ off. let all = cond_false (keeps v s p) (owed (s.into p) - 1) (owed (s.into p)) off in
+          let none = left p mine.0 mine.1 in let some = mine.2 in absurd (omega arith))
+
+      pub rests : (s.parent ≡ None) ⊎ (0 < deficit g v s)
+      rests = by_parent s.parent refl
+        where
+          by_parent : (p : Option ℕ) → s.parent ≡ p → (s.parent ≡ None) ⊎ (0 < deficit g v s)
+          by_parent None is = inl is
+          by_parent (Some p) is = inr (pos_of_ne-zero (with_parent p is))
 
 pub idle_turn_rests : IdleTurnRests
 idle_turn_rests g v s ds after is_turn idle kept passive = rests g v after kept passive
-    (nothing_left g v s ds after is_turn idle)
+    (λ e l at. nothing_left g v s ds after is_turn e at)

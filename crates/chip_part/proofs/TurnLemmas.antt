@@ -1,13 +1,13 @@
 -- Serves Turn.antt, Rules.antt.
 -- How many operations a turn has at most. An edge out of the vertex has either a message to put or something to send,
 -- never both, so three operations for it are enough.
-use Rattle.std.proofs.Common.{◌≡◌, ◌≢◌, ℕ, zero, suc, ◌+◌, ◌-◌, ◌*◌, ◌<◌, ◌≤◌, Bool, true, false, not, ◌&&◌, cond, eqb}
-use Rattle.std.proofs.Common.{◌⊎◌, inl, inr, ⊎_elim, List, [], ◌∷◌, ◌++◌, length, Option, Some, None, is_some}
+use Rattle.std.proofs.Common.{◌≡◌, ℕ, suc, ◌+◌, ◌*◌, ◌<◌, ◌≤◌, Bool, true, false, not, ◌&&◌, cond, eqb}
+use Rattle.std.proofs.Common.{List, [], ◌∷◌, length, Option, Some, None, is_some}
 use Rattle.std.proofs.Common.{option_to_list, refl, sym, ap, ◌∙◌, subst, arith, eqb-true, length-append, true≢false}
 use Rattle.std.proofs.lemmas.Bool.{and_parts, not-true, eqb-false}
 use Rattle.std.specs.List.{All}
 use Rattle.chip_part.specs.Setting.{Setting}
-use Rattle.chip_graph.proofs.SumLemmas.{cond_yes, cond_true, cond_false, by_test}
+use Rattle.chip_graph.proofs.SumLemmas.{cond_true, cond_false, by_test}
 use Rattle.chip_link.specs.Link.{Tail, claims_of, after_put}
 use Rattle.chip_part.specs.Edges.{graph_edges, tail_of}
 use Rattle.chip_graph.specs.Multigraph.{edge_at}
@@ -22,6 +22,8 @@ use Rattle.chip_part.specs.Turn.{outs_of, firing, may_fire, batch_of, putting, s
 use Rattle.chip_part.specs.Turn.{after_claim_phase, acknowledging, acknowledging_parent, is_at_limit, IsTurn, most_steps}
 use Rattle.chip_part.specs.Kept.{KeepsPart}
 use Rattle.chip_part.proofs.PartLemmas.{out_zero, no_held, tail_inside}
+use Rattle.chip_part.specs.Cursor.{from_putting}
+use Rattle.std.proofs.Common.{pos_of_ne-zero}
 
 -- whatever such a phase does, it has at most n operations
 abbrev AtMost : ℕ → Phase → Type 0
@@ -41,14 +43,39 @@ at_most_where : (n : ℕ) (test : Part → Bool) (p : Phase) → AtMost n p → 
 at_most_where n test p some s = at_most_either n (test s) p nothing some
     (at_most_more 0 n nothing (omega arith) at_most_nothing) s
 
-at_most_each : (k : ℕ) (p : ℕ → Phase) → ((e : ℕ) → AtMost k (p e)) → (es : List ℕ)
-    → AtMost (length es * k) (each_phase p es)
-at_most_each k p some [] s ds t ph = let a = at_most_nothing s ds t ph in
-    let b : 0 * k ≡ 0 = Rattle.std.proofs.Common.zero-mul k in omega arith
-at_most_each k p some (e ∷ es) s ds t (front, m, back, is, here, rest) =
-    let a = some e s front m here in let b = at_most_each k p some es m back t rest in let c = ap length is in
-    let d = length-append front back in
-    let u : suc (length es) * k ≡ length es * k + k = Rattle.std.proofs.Common.suc-mul (length es) k in omega arith
+at_most_each : (p : ℕ → Phase) → ((e : ℕ) → AtMost 1 (p e)) → (es : List ℕ) → AtMost (length es) (each_phase p es)
+at_most_each p some [] s ds t ph = at_most_nothing s ds t ph
+at_most_each p some (e ∷ es) s ds t (front, m, back, is, here, rest) =
+    let a = some e s front m here in let b = at_most_each p some es m back t rest in let c = ap length is in
+    let d = length-append front back in omega arith
+
+-- what each phase keeps, all of them keep
+each_keeps : (R : Part → Part → Type 0) → ((s : Part) → R s s) → ((s m t : Part) → R s m → R m t → R s t) → (p : ℕ → Phase)
+    → ((e : ℕ) (s : Part) (ds : List Step) (t : Part) → p e s ds t → R s t) → (es : List ℕ) (s : Part) (ds : List Step)
+    (t : Part) → each_phase p es s ds t → R s t
+each_keeps R same next p one [] s ds t (none, is) = subst (R s) (sym is) (same s)
+each_keeps R same next p one (e ∷ es) s ds t (front, m, back, is, here, rest) =
+    next s m t (one e s front m here) (each_keeps R same next p one es m back t rest)
+
+abbrev total : (ℕ → ℕ) → List ℕ → ℕ
+total cost [] = 0
+total cost (e ∷ es) = cost e + total cost es
+
+total_le : (f h : ℕ → ℕ) → ((e : ℕ) → f e ≤ h e) → (es : List ℕ) → total f es ≤ total h es
+total_le f h le [] = omega arith
+total_le f h le (e ∷ es) = let a = le e in let b = total_le f h le es in omega arith
+
+-- a phase that has at most as many operations as its edge costs, and makes no edge dearer
+abbrev Costs : (Part → ℕ → ℕ) → ℕ → Phase → Type 0
+Costs cost e p = (s : Part) (ds : List Step) (t : Part) → p s ds t → (length ds ≤ cost s e) × ((i : ℕ) → cost t i ≤ cost s i)
+
+each_costs : (cost : Part → ℕ → ℕ) (p : ℕ → Phase) → ((e : ℕ) → Costs cost e (p e)) → (es : List ℕ) (s : Part)
+    (ds : List Step) (t : Part) → each_phase p es s ds t → length ds ≤ total (cost s) es
+each_costs cost p one [] s ds t ph = at_most_nothing s ds t ph
+each_costs cost p one (e ∷ es) s ds t (front, m, back, is, here, rest) =
+    let first = one e s front m here in let few = first.0 in
+    let later = each_costs cost p one es m back t rest in
+    let less = total_le (cost m) (cost s) first.1 es in let d = ap length is in let f = length-append front back in omega arith
 
 module _ (g : Setting) (v : ℕ) where
   at_most_step : (x : Event) → AtMost 1 (one_step g v x)
@@ -58,17 +85,12 @@ module _ (g : Setting) (v : ℕ) where
   abbrev IsExclusive : Part → Type 0
   IsExclusive s = (e : ℕ) → tail_of g e ≡ v → 0 < (s.out e).pending → (s.out e).link.held ≡ None
 
-  takes_keep : (es : List ℕ) (s : Part) (ds : List Step) (t : Part) → each_phase (λ e. one_step g v (Take e)) es s ds t
+  -- a phase of operations that leave what is held and what is pending
+  leaves_out : (x : ℕ → Event) → ((e seen : ℕ) (s : Part) → IsExclusive s → IsExclusive (does g (saw (x e) seen) s))
+      → (es : List ℕ) (s : Part) (ds : List Step) (t : Part) → each_phase (λ e. one_step g v (x e)) es s ds t
       → IsExclusive s → IsExclusive t
-  takes_keep [] s ds t (none, same) ok = subst IsExclusive (sym same) ok
-  takes_keep (e ∷ es) s ds t (front, m, back, is, (seen, more, now, (none, same)), rest) ok =
-      takes_keep es m back t rest (subst IsExclusive (sym same) ok)
-
-  settles_keep : (es : List ℕ) (s : Part) (ds : List Step) (t : Part)
-      → each_phase (λ e. one_step g v (Settle e)) es s ds t → IsExclusive s → IsExclusive t
-  settles_keep [] s ds t (none, same) ok = subst IsExclusive (sym same) ok
-  settles_keep (e ∷ es) s ds t (front, m, back, is, (seen, more, now, (none, same)), rest) ok =
-      settles_keep es m back t rest (subst IsExclusive (sym same) ok)
+  leaves_out x stays = each_keeps (λ s t. IsExclusive s → IsExclusive t) (λ s ok. ok) (λ s m t one more ok. more (one ok))
+      (λ e. one_step g v (x e)) (λ e s ds t (seen, rest, is, (none, same)) ok. subst IsExclusive (sym same) (stays e seen s ok))
 
   fires_keep : v < g.game.graph.vertices → (s : Part) (ds : List Step) (t : Part) → firing g v s ds t → IsExclusive s
       → IsExclusive t
@@ -80,165 +102,108 @@ module _ (g : Setting) (v : ℕ) where
       cases true is (seen, more, now, (none, same)) = subst IsExclusive (sym same) (λ e at some.
           (let a = and_parts _ _ is in let b = and_parts _ _ a.0 in let c = and_parts _ _ b.0 in
           let idle : unput_count g v s ≡ 0 = eqb-true _ _ c.1 in
-          let inside = Rattle.chip_part.proofs.PartLemmas.tail_inside g e
+          let inside = tail_inside g e
           (subst (λ (n : ℕ). n < g.game.graph.vertices) (sym at) vertex) in
           no_held (s.out e).link.held
           (out_zero g v (λ i. length (option_to_list (s.out i).link.held)) idle e (omega arith) at)))
 
-  -- how many of these edges have a message to put, and something to send
-  abbrev held_count : Part → List ℕ → ℕ
-  held_count s [] = 0
-  held_count s (e ∷ es) = length (option_to_list (s.out e).link.held) + held_count s es
+  -- what a put of an edge costs, and what its sending does
+  abbrev held_count : Part → ℕ → ℕ
+  held_count s e = length (option_to_list (s.out e).link.held)
 
-  abbrev busy_count : Part → List ℕ → ℕ
-  busy_count s [] = 0
-  busy_count s (e ∷ es) = cond (eqb (s.out e).pending 0) 0 1 + busy_count s es
-
-  held_less : (s t : Part) → ((e : ℕ)
-      → length (option_to_list (t.out e).link.held) ≤ length (option_to_list (s.out e).link.held)) → (es : List ℕ)
-      → held_count t es ≤ held_count s es
-  held_less s t less [] = omega arith
-  held_less s t less (e ∷ es) = let a = less e in let b = held_less s t less es in omega arith
-
-  -- what is pending stays, or is sent
-  abbrev Sends : Part → Part → Type 0
-  Sends s t = (e : ℕ) → ((t.out e).pending ≡ (s.out e).pending) ⊎ ((t.out e).pending ≡ 0)
-
-  busy_less : (s t : Part) → Sends s t → (es : List ℕ) → busy_count t es ≤ busy_count s es
-  busy_less s t less [] = omega arith
-  busy_less s t less (e ∷ es) =
-      let b = busy_less s t less es in
-      ⊎_elim
-      (λ same. let a : ◌≡◌ {A = ℕ} (cond (eqb (t.out e).pending 0) 0 1) (cond (eqb (s.out e).pending 0) 0 1) = ap
-      (λ (n : ℕ). cond (eqb n 0) 0 1) same in omega arith)
-      (λ none. let a : ◌≡◌ {A = ℕ} (cond (eqb (t.out e).pending 0) 0 1) 0 = cond_yes (t.out e).pending 0 0 1 none in
-      omega arith)
-      (less e)
+  abbrev busy_count : Part → ℕ → ℕ
+  busy_count s e = cond (eqb (s.out e).pending 0) 0 3
 
   -- ---- the puts
 
-  record PutHere (e : ℕ) (s : Part) (front : List Step) (m : Part) : Type 0 where
-    few : length front ≤ length (option_to_list (s.out e).link.held)
-    pending : (i : ℕ) → (m.out i).pending ≡ (s.out i).pending
-    held : (i : ℕ) → length (option_to_list (m.out i).link.held) ≤ length (option_to_list (s.out i).link.held)
-
-  put_here : (e : ℕ) (s : Part) (front : List Step) (m : Part) (h : Option ℕ) → (s.out e).link.held ≡ h
-      → either_phase (is_some h) (one_step g v (Put e)) nothing s front m → PutHere e s front m
-  put_here e s front m None was (none, same) = record {
-    few = (let a = ap length none in omega arith);
-    pending = λ i. ap (λ (p : Part). (p.out i).pending) same;
-    held = λ i. (let a = ap (λ (p : Part). length (option_to_list (p.out i).link.held)) same in omega arith);
-  }
-  put_here e s front m (Some c) was (seen, more, now, (none, same)) = record {
-    few = (let a = ap length now in let b = ap length none in
-        let h = ap (λ (o : Option ℕ). length (option_to_list o)) was in omega arith);
-    pending = λ i. ap (λ (p : Part). (p.out i).pending) same;
-    held = λ i. (let a = ap (λ (p : Part). length (option_to_list (p.out i).link.held)) same in
-        let b = emptied (eqb e i) (s.out i).link in omega arith);
-  }
+  put_costs : (e : ℕ) → Costs held_count e (putting g v e)
+  put_costs e s front m = by (s.out e).link.held refl
     where
       emptied : (b : Bool) (t : Tail)
           → length (option_to_list (cond b (after_put t) t).held) ≤ length (option_to_list t.held)
       emptied true t = omega arith
       emptied false t = omega arith
 
-  record PutsAll (es : List ℕ) (s : Part) (ds : List Step) (t : Part) : Type 0 where
-    few : length ds ≤ held_count s es
-    pending : (i : ℕ) → (t.out i).pending ≡ (s.out i).pending
+      by : (h : Option ℕ) → (s.out e).link.held ≡ h → either_phase (is_some h) (one_step g v (Put e)) nothing s front m
+          → (length front ≤ held_count s e) × ((i : ℕ) → held_count m i ≤ held_count s i)
+      by None was (none, same) = (
+        (let a = ap length none in omega arith),
+        λ i. (let a = ap (λ (p : Part). held_count p i) same in omega arith),
+      )
+      by (Some c) was (seen, more, now, (none, same)) = (
+        (let a = ap length now in let b = ap length none in let h = ap (λ (o : Option ℕ). length (option_to_list o)) was in omega arith),
+        λ i. (let a = ap (λ (p : Part). held_count p i) same in let b = emptied (eqb e i) (s.out i).link in omega arith),
+      )
 
-  puts_few : (es : List ℕ) (s : Part) (ds : List Step) (t : Part) → each_phase (putting g v) es s ds t
-      → PutsAll es s ds t
-  puts_few [] s ds t (none, same) = record {
-    few = (let a = ap length none in omega arith);
-    pending = λ i. ap
-        (λ (p : Part). (p.out i).pending) same;
-  }
-  puts_few (e ∷ es) s ds t (front, m, back, is, here, rest) =
-      let one = put_here e s front m (s.out e).link.held refl here in
-      let all = puts_few es m back t rest in
-      record {
-        few = (let a = one.few in let b = all.few in let c = held_less s m one.held es in let d = ap length is in
-            let f = length-append front back in omega arith);
-        pending = λ i. all.pending i ∙ one.pending i;
-      }
+  puts_leave : (e : ℕ) (s : Part) (ds : List Step) (t : Part) → putting g v e s ds t → (i : ℕ) → busy_count t i ≤ busy_count s i
+  puts_leave e s ds t = by (is_some (s.out e).link.held)
+    where
+      by : (b : Bool) → either_phase b (one_step g v (Put e)) nothing s ds t → (i : ℕ) → busy_count t i ≤ busy_count s i
+      by true (seen, more, now, (none, same)) i = let a = ap (λ (p : Part). busy_count p i) same in omega arith
+      by false (none, same) i = let a = ap (λ (p : Part). busy_count p i) same in omega arith
 
   -- ---- the sends
 
-  record SendHere (s : Part) (front : List Step) (m : Part) (n : ℕ) : Type 0 where
-    few : length front ≤ n
-    sends : Sends s m
+  -- at most so many operations, after which no more is to be sent
+  abbrev Sends : ℕ → Phase → Type 0
+  Sends n p = (s : Part) (ds : List Step) (t : Part) → p s ds t → (length ds ≤ n) × ((i : ℕ) → busy_count t i ≤ busy_count s i)
 
-  after_claim_few : (e : ℕ) (s : Part) (b : Bool) (more : List Step) (m : Part)
-      → either_phase b (one_step g v (Put e)) (one_step g v (Halt v)) s more m
-      → (length more ≤ 1) × ((i : ℕ) → (m.out i).pending ≡ (s.out i).pending)
-  after_claim_few e s true more m (seen, r, now, (none, same)) =
-      ((let a = ap length now in let b = ap length none in omega arith), λ i. ap (λ (p : Part). (p.out i).pending) same)
-  after_claim_few e s false more m (seen, r, now, (none, same)) =
-      ((let a = ap length now in let b = ap length none in omega arith), λ i. ap (λ (p : Part). (p.out i).pending) same)
+  sends_nothing : (n : ℕ) → Sends n nothing
+  sends_nothing n s ds t (none, same) = (
+    (let a = ap length none in omega arith),
+    λ i. (let a = ap (λ (p : Part). busy_count p i) same in omega arith),
+  )
 
-  by_pending : (b c : Bool) (was now : ℕ) → now ≡ cond b (cond c 0 was) was → (now ≡ was) ⊎ (now ≡ 0)
-  by_pending true true was now is = inr is
-  by_pending true false was now is = inl is
-  by_pending false c was now is = inl is
+  sends_seeing : (n : ℕ) (x : Event) (next : ℕ → Part → Phase)
+      → ((seen i : ℕ) (s : Part) → busy_count (does g (saw x seen) s) i ≤ busy_count s i)
+      → ((seen : ℕ) (s : Part) → Sends n (next seen s)) → Sends (n + 1) (seeing g v x next)
+  sends_seeing n x next less more s ds t (seen, rest, is, last) =
+      let all = more seen s (does g (saw x seen) s) rest t last in (
+        (let a = all.0 in let b = ap length is in omega arith),
+        λ i. (let a = all.1 i in let b = less seen i s in omega arith),
+      )
 
-  claim_here : (e : ℕ) (s : Part) (rest : List Step) (m : Part)
-      → seeing g v (Claim e) (after_claim_phase g v e) s rest m → SendHere s rest m 2
-  claim_here e s rest m (word, more, is, next) =
-      let step = after_claim_few e (does g (saw (Claim e) word) s)
-      (eqb word (claims_of (s.out e).link)) more m next in
-      record {
-        few = (let a = ap length is in let b = step.0 in omega arith);
-        sends = λ i. by_pending (eqb e i) (eqb word (claims_of (s.out i).link)) (s.out i).pending (m.out i).pending
-            (step.1 i);
-      }
+  sends_either : (n : ℕ) (b : Bool) (p q : Phase) → Sends n p → Sends n q → Sends n (either_phase b p q)
+  sends_either n true p q some other = some
+  sends_either n false p q some other = other
 
-  clear_few : (e : ℕ) (s : Part) (b : Bool) (rest : List Step) (m : Part)
-      → either_phase b (seeing g v (Claim e) (after_claim_phase g v e)) nothing s rest m → SendHere s rest m 2
-  clear_few e s true rest m ph = claim_here e s rest m ph
-  clear_few e s false rest m (none, same) = record {
-    few = (let a = ap length none in omega arith);
-    sends = λ i. inl (ap (λ (p : Part). (p.out i).pending) same);
-  }
+  claimed_less : (b c : Bool) (n : ℕ) → cond (eqb (cond b (cond c 0 n) n) 0) 0 3 ≤ cond (eqb n 0) 0 3
+  claimed_less true true n = omega arith
+  claimed_less true false n = omega arith
+  claimed_less false c n = omega arith
 
-  send_here : (e : ℕ) (s : Part) (front : List Step) (m : Part) (b : Bool)
-      → (is_running s.halt && not (eqb (s.out e).pending 0)) ≡ b
-      → either_phase b (seeing g v (Clear e) (after_clear_phase g v e)) nothing s front m
-      → SendHere s front m (cond (eqb (s.out e).pending 0) 0 1 * 3)
-  send_here e s front m true on (seen, rest, is, next) =
-      let sub = clear_few e (does g (saw (Clear e) seen) s) (eqb seen 0) rest m next in
-      let busy : ◌≡◌ {A = ℕ} (cond (eqb (s.out e).pending 0) 0 1) 1 =
-      cond_false (eqb (s.out e).pending 0) 0 1 (not-true _ (and_parts _ _ on).1) in
-      record { few = (let a = ap length is in let b = sub.few in omega arith); sends = sub.sends }
-  send_here e s front m false off (none, same) = record {
-    few = (let a = ap length none in omega arith);
-    sends = λ i. inl (ap (λ (p : Part). (p.out i).pending) same);
-  }
+  after_look : (e seen : ℕ) (s : Part) → Sends 2 (after_clear_phase g v e seen s)
+  after_look e seen s = sends_either 2 (eqb seen 0) _ nothing (sends_seeing 1 (Claim e) (after_claim_phase g v e)
+      (λ n i p. claimed_less (eqb e i) (eqb n (claims_of (p.out i).link)) (p.out i).pending)
+      (λ n p. sends_either 1 _ (one_step g v (Put e)) (one_step g v (Halt v))
+      (sends_seeing 0 (Put e) _ (λ n i p. omega arith) (λ n p. sends_nothing 0))
+      (sends_seeing 0 (Halt v) _ (λ n i p. omega arith) (λ n p. sends_nothing 0)))) (sends_nothing 2)
 
-  sends_few : (es : List ℕ) (s : Part) (ds : List Step) (t : Part) → each_phase (sending g v) es s ds t
-      → length ds ≤ busy_count s es * 3
-  sends_few [] s ds t (none, same) = let a = ap length none in omega arith
-  sends_few (e ∷ es) s ds t (front, m, back, is, here, rest) =
-      let one = send_here e s front m (is_running s.halt && not (eqb (s.out e).pending 0)) refl here in
-      let all = sends_few es m back t rest in
-      let less = busy_less s m one.sends es in
-      let a = one.few in let d = ap length is in let f = length-append front back in
-      omega arith
+  send_costs : (e : ℕ) → Costs busy_count e (sending g v e)
+  send_costs e s ds t = by (is_running s.halt && not (eqb (s.out e).pending 0)) refl
+    where
+      by : (b : Bool) → (is_running s.halt && not (eqb (s.out e).pending 0)) ≡ b
+          → either_phase b (seeing g v (Clear e) (after_clear_phase g v e)) nothing s ds t
+          → (length ds ≤ busy_count s e) × ((i : ℕ) → busy_count t i ≤ busy_count s i)
+      by true on ph =
+          let busy : ◌≡◌ {A = ℕ} (busy_count s e) 3 = cond_false _ 0 3 (not-true _ (and_parts _ _ on).1) in
+          let all = sends_seeing 2 (Clear e) (after_clear_phase g v e) (λ n i p. omega arith) (after_look e) s ds t ph in
+          ((let a = all.0 in omega arith), all.1)
+      by false off ph = sends_nothing (busy_count s e) s ds t ph
 
   -- ---- together
 
   one_each : (s : Part) → IsExclusive s → (es : List ℕ) → All (λ e. tail_of g e ≡ v) es
-      → held_count s es + busy_count s es ≤ length es
+      → total (held_count s) es + total (busy_count s) es ≤ 3 * length es
   one_each s ok [] mine = omega arith
   one_each s ok (e ∷ es) mine =
       let rest = one_each s ok es (λ k d l. mine (suc k) d (omega arith)) in
       by_test (eqb (s.out e).pending 0)
-      (λ y. let a : ◌≡◌ {A = ℕ} (cond (eqb (s.out e).pending 0) 0 1) 0 = cond_true _ 0 1 y in
+      (λ y. let a : ◌≡◌ {A = ℕ} (busy_count s e) 0 = cond_true _ 0 3 y in
       let b = at_most_one (s.out e).link.held in omega arith)
-      (λ n.
-      let a : ◌≡◌ {A = ℕ} (cond (eqb (s.out e).pending 0) 0 1) 1 = cond_false _ 0 1 n in
-      let some : 0 < (s.out e).pending = (let ne = eqb-false (s.out e).pending 0 n in
-      Rattle.std.proofs.Common.pos_of_ne-zero ne) in
-      let h = ap (λ (o : Option ℕ). length (option_to_list o)) (ok e (mine 0 0 (omega arith)) some) in
+      (λ n. let a : ◌≡◌ {A = ℕ} (busy_count s e) 3 = cond_false _ 0 3 n in
+      let h = ap (λ (o : Option ℕ). length (option_to_list o))
+      (ok e (mine 0 0 (omega arith)) (pos_of_ne-zero (eqb-false (s.out e).pending 0 n))) in
       omega arith)
     where
       at_most_one : (o : Option ℕ) → length (option_to_list o) ≤ 1
@@ -250,10 +215,6 @@ module _ (g : Setting) (v : ℕ) where
       let test : ℕ → Bool = λ i. eqb (edge_at g.game.graph i).tail v in
       tail_graph g _ (All-picked test (graph_edges g) (graph_edges g) (omega arith) k d l)
       ∙ eqb-true _ _ (picked_passes test (graph_edges g) k d l)
-
-  same_busy : (s t : Part) → ((i : ℕ) → (t.out i).pending ≡ (s.out i).pending) → (es : List ℕ)
-      → busy_count t es ≤ busy_count s es
-  same_busy s t same es = busy_less s t (λ i. inl (same i)) es
 
   -- a vertex that halts by a refusal does not halt once more
   no_second_halt : (s t : Part) (ds fs : List Step) (u : Part) → (eqb (refusals g v s) 0) ≡ false
@@ -272,10 +233,10 @@ module _ (g : Setting) (v : ℕ) where
       → c ≡ eqb (refusals g v s) 0
       → either_phase b (either_phase c (each_phase (sending g v) (outs_of g v)) (one_step g v (Halt v))) nothing s ds t
       → where_phase (is_at_limit g v) (one_step g v (Halt v)) t fs u
-      → length ds + length fs ≤ busy_count s (outs_of g v) * 3 + 1
+      → length ds + length fs ≤ total (busy_count s) (outs_of g v) + 1
   middle s t u ds fs false is c is' (none, same) ph = let a = ap length none in
       let b = at_most_where 1 (is_at_limit g v) (one_step g v (Halt v)) (at_most_step (Halt v)) t fs u ph in omega arith
-  middle s t u ds fs true is true is' sends ph = let a = sends_few (outs_of g v) s ds t sends in
+  middle s t u ds fs true is true is' sends ph = let a = each_costs busy_count (sending g v) send_costs (outs_of g v) s ds t sends in
       let b = at_most_where 1 (is_at_limit g v) (one_step g v (Halt v)) (at_most_step (Halt v)) t fs u ph in omega arith
   middle s t u ds fs true is false is' halt ph = let a = at_most_step (Halt v) s ds t halt in
       let b = no_second_halt s t ds fs u (sym is') halt ph in omega arith
@@ -284,60 +245,35 @@ module _ (g : Setting) (v : ℕ) where
   at_most_parent None = at_most_more 0 1 nothing (omega arith) at_most_nothing
   at_most_parent (Some e) = at_most_where 1 _ (one_step g v (Ack e)) (at_most_step (Ack e))
 
-  pub turn_bound : v < g.game.graph.vertices → (s : Part) (ds : List Step) → IsExclusive s → IsTurn g v s ds
-      → length ds ≤ most_steps g v
-  turn_bound vertex s ds ok (
-    after,
-    (
-      f1,
-      m1,
-      b1,
-      is1,
-      takes,
-      (
-        f2,
-        m2,
-        b2,
-        is2,
-        settles,
-        (
-          f3,
-          m3,
-          b3,
-          is3,
-          fire,
-          (
-            f4,
-            m4,
-            b4,
-            is4,
-            puts,
-            (f5, m5, b5, is5, sends, (f6, m6, b6, is6, limit, (f7, m7, b7, is7, acks, last))),
-          ),
-        ),
-      ),
-    ),
-  ) =
-      let free = fires_keep vertex m2 f3 m3 fire
-      (settles_keep (outs_of g v) m1 f2 m2 settles (takes_keep (ins_of g v) s f1 m1 takes ok)) in
-      let n1 = at_most_each 1 (λ e. one_step g v (Take e)) (λ e. at_most_step (Take e)) (ins_of g v) s f1 m1 takes in
-      let n2 = at_most_each 1 (λ e. one_step g v (Settle e))
-      (λ e. at_most_step (Settle e)) (outs_of g v) m1 f2 m2 settles in
-      let n3 = at_most_where 1 (may_fire g v) (one_step g v (Fire v (batch_of g v m2)))
-      (at_most_step (Fire v (batch_of g v m2))) m2 f3 m3 fire in
-      let put = puts_few (outs_of g v) m3 f4 m4 puts in
-      let n4 = put.few in
-      let busy = same_busy m3 m4 put.pending (outs_of g v) in
+  after_firing : (s : Part) (ds : List Step) (t : Part) → IsExclusive s → from_putting g v 0 s ds t
+      → length ds ≤ 3 * length (outs_of g v) + 1 + length (ins_of g v) + 1
+  after_firing s ds t free (f4, m4, b4, is4, puts, (f5, m5, b5, is5, sends, (f6, m6, b6, is6, limit, (f7, m7, b7, is7, acks, last)))) =
+      let n4 = each_costs held_count (putting g v) put_costs (outs_of g v) s f4 m4 puts in
+      let busy = total_le (busy_count m4) (busy_count s) (each_keeps (λ p q. (i : ℕ) → busy_count q i ≤ busy_count p i)
+      (λ p i. omega arith) (λ p m q one more i. (let a = one i in let b = more i in omega arith)) (putting g v) puts_leave
+      (outs_of g v) s f4 m4 puts) (outs_of g v) in
       let n5 = middle m4 m5 m6 f5 f6 (is_running m4.halt) refl (eqb (refusals g v m4) 0) refl sends limit in
-      let both = one_each m3 free (outs_of g v) outs_leave in
-      let n7 = at_most_each 1 (acknowledging g v) (λ e. at_most_where 1 _ (one_step g v (Ack e)) (at_most_step (Ack e)))
+      let both = one_each s free (outs_of g v) outs_leave in
+      let n7 = at_most_each (acknowledging g v) (λ e. at_most_where 1 _ (one_step g v (Ack e)) (at_most_step (Ack e)))
       (ins_of g v) m6 f7 m7 acks in
-      let n8 = at_most_parent m7.parent m7 b7 after last in
-      let a1 = ap length is1 in let a2 = ap length is2 in let a3 = ap length is3 in let a4 = ap length is4 in
-      let a5 = ap length is5 in let a6 = ap length is6 in let a7 = ap length is7 in
-      let c1 = length-append f1 b1 in let c2 = length-append f2 b2 in let c3 = length-append f3 b3 in
+      let n8 = at_most_parent m7.parent m7 b7 t last in
+      let a4 = ap length is4 in let a5 = ap length is5 in let a6 = ap length is6 in let a7 = ap length is7 in
       let c4 = length-append f4 b4 in let c5 = length-append f5 b5 in let c6 = length-append f6 b6 in
       let c7 = length-append f7 b7 in
+      omega arith
+
+  pub turn_bound : v < g.game.graph.vertices → (s : Part) (ds : List Step) → IsExclusive s → IsTurn g v s ds
+      → length ds ≤ most_steps g v
+  turn_bound vertex s ds ok (after, (f1, m1, b1, is1, takes, (f2, m2, b2, is2, settles, (f3, m3, b3, is3, fire, rest)))) =
+      let free = fires_keep vertex m2 f3 m3 fire (leaves_out (λ e. Settle e) (λ e seen p now. now) (outs_of g v) m1 f2 m2 settles
+      (leaves_out (λ e. Take e) (λ e seen p now. now) (ins_of g v) s f1 m1 takes ok)) in
+      let n1 = at_most_each (λ e. one_step g v (Take e)) (λ e. at_most_step (Take e)) (ins_of g v) s f1 m1 takes in
+      let n2 = at_most_each (λ e. one_step g v (Settle e)) (λ e. at_most_step (Settle e)) (outs_of g v) m1 f2 m2 settles in
+      let n3 = at_most_where 1 (may_fire g v) (one_step g v (Fire v (batch_of g v m2)))
+      (at_most_step (Fire v (batch_of g v m2))) m2 f3 m3 fire in
+      let more = after_firing m3 b3 after free rest in
+      let a1 = ap length is1 in let a2 = ap length is2 in let a3 = ap length is3 in
+      let c1 = length-append f1 b1 in let c2 = length-append f2 b2 in let c3 = length-append f3 b3 in
       omega arith
 
 pub turns_bounded : (g : Setting) (v : ℕ) → v < g.game.graph.vertices → (s : Part) → KeepsPart g v s → (ds : List Step)

@@ -111,6 +111,10 @@ module _ (g : Setting) (v : ℕ) where
   out_place vertex e at = let c = among_new_outs g v vertex e at in
       (c.0, c.1, sym (get_or_default (outs_of g v) c.0 e 0 c.1) ∙ c.2)
 
+-- something may be acknowledged on the edge at this place of those into the vertex
+abbrev pub acks_at : Setting → ℕ → Part → ℕ → Bool
+acks_at g v s k = not (eqb (may_ack g (head_of g (slice_index (ins_of g v) k)) s (slice_index (ins_of g v) k)) 0)
+
 -- ---- the phases
 
 module _ (g : Setting) (v : ℕ) (vertex : v < g.game.graph.vertices) (s : Part) where
@@ -252,6 +256,9 @@ module _ (g : Setting) (v : ℕ) (vertex : v < g.game.graph.vertices) (s : Part)
 
   -- puts of what was claimed before
 
+  idle_put : (k : ℕ) → is_some (s.out (out_at g v k)).link.held ≡ false → putting g v (out_at g v k) s [] s
+  idle_put k = where_no (λ p. is_some (p.out (out_at g v k)).link.held) (one_step g v (Put (out_at g v k))) s
+
   pub put_due : (place next : ℕ) → IsAt g v (At.Put place) s → place ≤ next → next < length (outs_of g v)
       → is_some (s.out (out_at g v next)).link.held ≡ true
       → ((k : ℕ) → place ≤ k → k < next → is_some (s.out (out_at g v k)).link.held ≡ false)
@@ -268,8 +275,7 @@ module _ (g : Setting) (v : ℕ) (vertex : v < g.game.graph.vertices) (s : Part)
             (λ n. let same : next ≡ k = omega arith in
             put_none (eqb e (out_at g v k)) (s.out (out_at g v k)).link (eq-eqb _ _ (ap (out_at g v) same)));
         rest = λ seen ds after h. each_to (putting g v) (outs_of g v) (from_refusal g v) place next from (omega arith) s
-            (λ k a b. where_no (λ p. is_some (p.out (out_at g v k)).link.held) (one_step g v (Put (out_at g v k))) s
-            (none k a b)) _ after
+            (λ k a b. idle_put k (none k a b)) _ after
             (each_more (putting g v) (outs_of g v) (from_refusal g v) next within s
             (does g (saw (Put e) seen) s) (saw (Put e) seen ∷ []) ds after
             (where_yes (λ p. is_some (p.out e).link.held) (one_step g v (Put e)) s _ _ held
@@ -290,8 +296,7 @@ module _ (g : Setting) (v : ℕ) (vertex : v < g.game.graph.vertices) (s : Part)
   puts_over place none = record {
     fewer = omega arith;
     rest = each_none (putting g v) (outs_of g v) (from_refusal g v) place s
-        (λ k a b. where_no (λ p. is_some (p.out (out_at g v k)).link.held) (one_step g v (Put (out_at g v k))) s
-        (none k a b));
+        (λ k a b. idle_put k (none k a b));
   }
 
   pub puts_fit : (place : ℕ) → IsAt g v (At.Put place) s
@@ -567,10 +572,13 @@ module _ (g : Setting) (v : ℕ) (vertex : v < g.game.graph.vertices) (s : Part)
   ack_met e at some = let a = positive _ some in let b = may_le g (head_of g e) e s in
       met_rules g (Ack e) s (in_inside g v vertex e at, (omega arith), a)
 
+  idle_ack : (k : ℕ) → acks_at g v s k ≡ false → acknowledging g v (slice_index (ins_of g v) k) s [] s
+  idle_ack k = where_no (λ p. acks_at g v p k) (one_step g v (Ack (slice_index (ins_of g v) k))) s
+
   pub ack_due : (place next : ℕ) → place ≤ next → next < length (ins_of g v)
-      → not (eqb (may_ack g (head_of g (slice_index (ins_of g v) next)) s (slice_index (ins_of g v) next)) 0) ≡ true
+      → acks_at g v s next ≡ true
       → ((k : ℕ) → place ≤ k → k < next
-      → not (eqb (may_ack g (head_of g (slice_index (ins_of g v) k)) s (slice_index (ins_of g v) k)) 0) ≡ false)
+      → acks_at g v s k ≡ false)
       → GoesBy g v s (At.Ack place) (Ack (slice_index (ins_of g v) next)) (At.Ack (next + 1))
   ack_due place next from within some none =
       let e : ℕ = slice_index (ins_of g v) next in
@@ -580,9 +588,7 @@ module _ (g : Setting) (v : ℕ) (vertex : v < g.game.graph.vertices) (s : Part)
         fewer = omega arith;
         fits = λ seen. tt;
         rest = λ seen ds after h. each_to (acknowledging g v) (ins_of g v) (last_acknowledgement g v) place next from
-            (omega arith) s (λ k a b. where_no
-            (λ p. not (eqb (may_ack g (head_of g (slice_index (ins_of g v) k)) p (slice_index (ins_of g v) k)) 0))
-            (one_step g v (Ack (slice_index (ins_of g v) k))) s (none k a b)) _ after
+            (omega arith) s (λ k a b. idle_ack k (none k a b)) _ after
             (each_more (acknowledging g v) (ins_of g v) (last_acknowledgement g v) next within s
             (does g (saw (Ack e) seen) s) (saw (Ack e) seen ∷ []) ds after
             (where_yes (λ p. not (eqb (may_ack g (head_of g e) p e) 0)) (one_step g v (Ack e)) s _ _ some
@@ -591,26 +597,22 @@ module _ (g : Setting) (v : ℕ) (vertex : v < g.game.graph.vertices) (s : Part)
 
   pub acks_to : (place next : ℕ) → place ≤ next → next ≤ length (ins_of g v)
       → ((k : ℕ) → place ≤ k → k < next
-      → not (eqb (may_ack g (head_of g (slice_index (ins_of g v) k)) s (slice_index (ins_of g v) k)) 0) ≡ false)
+      → acks_at g v s k ≡ false)
       → Passes g v s (At.Ack place) (At.Ack next)
   acks_to place next le within none = record {
     fewer = omega arith;
     rest = each_to (acknowledging g v) (ins_of g v) (last_acknowledgement g v) place next le within s
-        (λ k a b. where_no (λ p. not
-        (eqb (may_ack g (head_of g (slice_index (ins_of g v) k)) p (slice_index (ins_of g v) k)) 0))
-        (one_step g v (Ack (slice_index (ins_of g v) k))) s (none k a b));
+        (λ k a b. idle_ack k (none k a b));
   }
 
   pub acks_over : (place : ℕ)
       → ((k : ℕ) → place ≤ k → k < length (ins_of g v)
-      → not (eqb (may_ack g (head_of g (slice_index (ins_of g v) k)) s (slice_index (ins_of g v) k)) 0) ≡ false)
+      → acks_at g v s k ≡ false)
       → Passes g v s (At.Ack place) At.Parent
   acks_over place none = record {
     fewer = omega arith;
     rest = each_none (acknowledging g v) (ins_of g v) (last_acknowledgement g v) place s
-        (λ k a b. where_no (λ p. not
-        (eqb (may_ack g (head_of g (slice_index (ins_of g v) k)) p (slice_index (ins_of g v) k)) 0))
-        (one_step g v (Ack (slice_index (ins_of g v) k))) s (none k a b));
+        (λ k a b. idle_ack k (none k a b));
   }
 
   pub parent_due : (e : ℕ) → s.parent ≡ Some e → head_of g e ≡ v → not (eqb (may_ack g (head_of g e) s e) 0) ≡ true

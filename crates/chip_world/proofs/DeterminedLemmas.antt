@@ -14,7 +14,7 @@ use Rattle.chip_part.specs.Turn.{seeing, one_step}
 use Rattle.chip_part.specs.Turn.{acknowledging_parent}
 use Rattle.chip_part.specs.Turn.{turn}
 use Rattle.chip_part.specs.Steps.{saw}
-use Rattle.chip_core.proofs.PhaseLemmas.{of_turn}
+use Rattle.chip_part.proofs.PhaseLemmas.{of_turn}
 use Rattle.chip_core.proofs.LogLemmas.{legal_before}
 use Rattle.chip_core.specs.Core.{Log, Step, does, part_in, Fits, IsLegalLog, log_after}
 use Rattle.chip_world.specs.declared.world.driving.Drive.{Drive}

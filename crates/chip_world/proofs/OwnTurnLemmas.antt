@@ -17,7 +17,7 @@ use Rattle.chip_part.specs.Turn.{last_acknowledgement, turn}
 use Rattle.chip_actor.specs.Medium.{AreOf}
 use Rattle.chip_core.specs.Core.{Log}
 use Rattle.chip_core.specs.Histories.{done_by}
-use Rattle.chip_core.proofs.PhaseLemmas.{Spreads, of_turn}
+use Rattle.chip_part.proofs.PhaseLemmas.{Spreads, of_turn}
 
 module _ (g : Setting) (v : ℕ) where
   -- its parent edge, if it has one, leads to it

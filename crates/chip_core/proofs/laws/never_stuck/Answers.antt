@@ -1,13 +1,11 @@
 use Rattle.chip_core.proofs.DueLemmas as due
-use Rattle.chip_core.proofs.AskedLemmas.{asked_in_vain}
-use Rattle.chip_core.proofs.RoundLemmas.{idle_rounds_close}
+use Rattle.chip_core.proofs.AskedLemmas.{asked_closes}
+use Rattle.chip_core.proofs.RoundLemmas.{round_closes}
 use Rattle.chip_core.proofs.laws.never_stuck.Goals as goal
 
-pub returns-clause-advances : goal.returns-clause-advances
-returns-clause-advances c = due.never_stuck
-
-pub returns-clause-in_vain : goal.returns-clause-in_vain
-returns-clause-in_vain c = asked_in_vain
-
-pub returns-clause-rounds : goal.returns-clause-rounds
-returns-clause-rounds c = idle_rounds_close
+pub returns : goal.returns
+returns c = record {
+  advances = due.never_stuck;
+  in_vain = λ g game some_ring log legal xs asks end idle. asked_closes g game some_ring log legal xs asks idle end;
+  rounds = λ g game some_ring before earlier xs round legal end put none. round_closes g game some_ring before xs round legal none put end;
+}

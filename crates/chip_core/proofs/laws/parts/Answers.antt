@@ -1,11 +1,6 @@
-use Rattle.chip_core.proofs.NumberLemmas.{parts_are_kept, seen_fits, root_seen_fits}
+use Rattle.chip_core.proofs.LogLemmas.{part_kept}
+use Rattle.chip_core.proofs.NumberLemmas.{fits_seen, root_fits}
 use Rattle.chip_core.proofs.laws.parts.Goals as goal
 
-pub returns-clause-kept : goal.returns-clause-kept
-returns-clause-kept c = parts_are_kept
-
-pub returns-clause-seen : goal.returns-clause-seen
-returns-clause-seen c = seen_fits
-
-pub returns-clause-root_seen : goal.returns-clause-root_seen
-returns-clause-root_seen c = root_seen_fits
+pub returns : goal.returns
+returns c = record { kept = λ g game some_ring. part_kept g game; seen = fits_seen; root_seen = root_fits }

@@ -1,8 +1,5 @@
-use Rattle.chip_part.proofs.WorkedTurns.{worked_turns}
+use Rattle.chip_part.proofs.WorkedTurns.{first_turn_is, second_turn_is}
 use Rattle.chip_part.proofs.laws.worked_turns.Goals as goal
 
-pub returns-clause-first : goal.returns-clause-first
-returns-clause-first c = worked_turns.0
-
-pub returns-clause-in_the_middle : goal.returns-clause-in_the_middle
-returns-clause-in_the_middle c = worked_turns.1
+pub returns : goal.returns
+returns c = record { first = first_turn_is; in_the_middle = second_turn_is }

@@ -1,7 +1,5 @@
 pub mod LookupsLemmas
-pub mod TotalsLemmas
 pub mod ChangesLemmas
-pub mod WritesLemmas
 pub mod FreshLemmas
 pub mod IndicesLemmas
 pub mod AllowedLemmas

@@ -1,7 +1,7 @@
 -- Serves Books.antt, Steps.antt, Tally.antt.
 -- The steps keep the books sound, and only a last acknowledgement makes an engaged vertex neutral.
-use Rattle.std.proofs.Common.{◌≡◌, ℕ, ◌+◌, ◌<◌, ◌≤◌, ◌≢◌, eqb, if◌then◌else◌, ◌&&◌, Bool, true, false, List, nat_eq, Option}
-use Rattle.std.proofs.Common.{Some, None, is_some, refl, sym, ap, ◌∙◌, subst, inl, inr, arith}
+use Rattle.std.proofs.Common.{◌≡◌, ℕ, ◌+◌, ◌<◌, ◌≤◌, ◌≢◌, eqb, if◌then◌else◌, ◌&&◌, Bool, true, false, List, nat_eq}
+use Rattle.std.proofs.Common.{Option, Some, None, is_some, refl, sym, ap, ◌∙◌, subst, inl, inr, arith}
 use Rattle.std.specs.List.{Contains}
 use Rattle.std.proofs.lemmas.Bool.Decides.{nat_tests, eqb_tells}
 use Rattle.chip_detect.specs.Tally.{Tally, AreTallies, open_on, all_open, message_limit}

@@ -1,5 +1,4 @@
 pub mod WordLawsLemmas
-pub mod TurnsLemmas
 pub mod SoundsLemmas
 pub mod ShownLemmas
 pub mod StatesLemmas

@@ -19,15 +19,15 @@ use Rattle.chip_link.specs.Ends.{message_taken}
 use Rattle.chip_link.specs.Link.{Tail, fresh_tail, sent_counts, claims_of, after_clear, after_claim, after_put}
 use Rattle.chip_link.specs.Link.{after_take, after_seal, word_of, tail_state, head_state, IsSealedAt, Sound, Shows}
 use Rattle.chip_link.specs.Edge.{LiveEdge, EdgeStep, Clear, Claim, Put, Take, Seal, new_edge, step, steps}
-use Rattle.chip_link.specs.Edge.{cells_after_store}
-use Rattle.chip_link.specs.Edge.{claim_on, take_on}
+use Rattle.chip_link.specs.Edge.{cells_after_store, claim_on, take_on}
 use Rattle.chip_link.specs.Laws.{AreInOrder, TakesPrefix, ClaimsInOrder, NothingAfterSeal, WordTells, SealsAllClaims}
 use Rattle.chip_link.proofs.SoundsLemmas.{cond_yes, cond_no, none_held, length-sent_counts, none-some, clear_sound}
 use Rattle.chip_link.proofs.SoundsLemmas.{claim_sound, put_sound, take_sound, seal_sound, fresh_sound}
-use Rattle.chip_link.proofs.ShownLemmas.{clear_sees, clear_shows, claim_shows, put_shows, take_sees, take_shows, seal_shows}
-use Rattle.chip_link.proofs.ShownLemmas.{fresh_shows}
+use Rattle.chip_link.proofs.ShownLemmas.{clear_sees, clear_shows, claim_shows, put_shows, take_sees, take_shows}
+use Rattle.chip_link.proofs.ShownLemmas.{seal_shows, fresh_shows}
 use Rattle.chip_link.proofs.StatesLemmas.{tail_clears, tail_claims, tail_puts, puts_at, head_takes}
-use Rattle.chip_link.proofs.NumberingLemmas.{numbered, numbered-append, length-numbered, numbered_in_order, numbered_prefix}
+use Rattle.chip_link.proofs.NumberingLemmas.{numbered, numbered-append, length-numbered, numbered_in_order}
+use Rattle.chip_link.proofs.NumberingLemmas.{numbered_prefix}
 
 -- the running edge s has these lists behind it
 pub record Follows (edge ring : ℕ) (s : LiveEdge) (t : Tail) (got : List ℕ) : Type 0 where

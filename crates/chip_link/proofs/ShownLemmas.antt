@@ -1,20 +1,42 @@
 -- Serves Link.antt.
 -- One edge, by what its words show: each step sees what the lists say, and leaves words that show the lists after it.
 -- The edge word and the cells are any number and any function, so that a table of words may stand behind them.
-use Rattle.std.proofs.Common.{◌≡◌, ◌≢◌, ℕ, zero, suc, ◌+◌, ◌%◌, ◌^◌, ◌<◌, true, false, List, [], ◌∷◌, ◌++◌, length}
-use Rattle.std.proofs.Common.{get_or, Option, Some, None, is_some, refl, sym, ap, ◌∙◌, subst, arith, length-append}
-use Rattle.std.proofs.Common.{bit_or}
+use Rattle.std.proofs.Common.{◌≡◌, ℕ, suc, ◌+◌, ◌*◌, ◌/◌, ◌%◌, ◌<◌, ◌≤◌, sym, ap, ◌∙◌, arith, mul-le-mul_right, suc-mul}
+use Rattle.std.proofs.Common.{lt_of_not-le, div-add-mod', ◌≢◌, zero, ◌^◌, true, false, List, [], ◌∷◌, ◌++◌, length}
+use Rattle.std.proofs.Common.{get_or, Option, Some, None, is_some, refl, subst, length-append, bit_or}
+use Rattle.std.proofs.Math.Nat.{add-mul-mod_self_right, zero-mod, mod-eq_of_lt}
+use mathlib.Core.Logic.{dite}
+use native.Mathlib.Decide.{dec_le, ℕ_discrete}
 use Rattle.std.proofs.lemmas.List.{get_or_past}
 use Rattle.std.proofs.lemmas.Nat.{mod_below}
-use Rattle.std.proofs.Math.Nat.{zero-mod, mod-eq_of_lt}
-use mathlib.Core.Logic.{dite}
-use native.Mathlib.Decide.{ℕ_discrete}
 use Rattle.chip_link.specs.Words.{edge_word}
 use Rattle.chip_link.specs.Link.{Tail, fresh_tail, first_tail, sent_counts, claims_of, after_clear, after_claim}
 use Rattle.chip_link.specs.Link.{after_put, after_take, after_seal, cell_at_tail, cell_at_head, Sound, Shows}
 use Rattle.chip_link.proofs.SoundsLemmas.{cond_yes, cond_no, none_held, one_held, length-sent_counts, put_at, put_last}
-use Rattle.chip_link.proofs.TurnsLemmas.{same_place, next_turn}
 use Rattle.chip_link.proofs.WordLawsLemmas.{seals_word}
+
+-- a later turn begins at least one turn later
+turn_later : (x y n : ℕ) → x < y → x * n + n ≤ y * n
+turn_later x y n h = let a : suc x * n ≤ y * n = mul-le-mul_right n h in omega (arith, suc-mul x n)
+
+-- two numbers less than n apart, with one remainder, are one number
+one_turn : (a b n : ℕ) → a ≤ b → b < a + n → a % n ≡ b % n → a ≡ b
+one_turn a b n le lt e =
+    let p = div-add-mod' a n in let q = div-add-mod' b n in
+    let x : ℕ = a / n * n in let y : ℕ = b / n * n in let r : ℕ = b % n in
+    let a_is : x + r ≡ a = ap (λ (k : ℕ). x + k) (sym e) ∙ p in let b_is : y + r ≡ b = q in
+    dite (dec_le (b / n) (a / n))
+    (λ same. let m : y ≤ x = mul-le-mul_right n same in omega arith)
+    (λ later. let m : x + n ≤ y = turn_later (a / n) (b / n) n (lt_of_not-le later) in absurd (omega arith))
+
+-- within the places of a ring from d on, one cell is one place
+pub same_place : (d ring p q : ℕ) → d ≤ p → p < d + ring → d ≤ q → q < d + ring → p % ring ≡ q % ring → p ≡ q
+same_place d ring p q lp hp lq hq e = dite (dec_le p q) (λ le. one_turn p q ring le (omega arith) e)
+    (λ gt. let le : q ≤ p = omega arith in sym (one_turn q p ring le (omega arith) (sym e)))
+
+-- one turn of the ring later it is the same cell
+pub next_turn : (d ring : ℕ) → (d + ring) % ring ≡ d % ring
+next_turn d ring = let one : d + ring ≡ d + 1 * ring = omega arith in rw one (add-mul-mod_self_right d 1 ring)
 
 -- a seal, whether it is the first or not, leaves the sealed word of these claims
 seal_leaves : (n word : ℕ) (stop : Option ℕ) → n < 2 ^ 63 → word ≡ edge_word n (is_some stop)

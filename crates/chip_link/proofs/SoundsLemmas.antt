@@ -1,7 +1,7 @@
 -- Serves Link.antt.
 -- One edge by its lists, with no word: each step that is allowed keeps it sound. What a step sees is taken by an
 -- equation.
-use Rattle.std.proofs.Common.{◌≡◌, ◌≢◌, ℕ, zero, suc, ◌+◌, ◌<◌, Bool, true, cond, eqb, List, [], ◌∷◌, ◌++◌, length}
+use Rattle.std.proofs.Common.{◌≡◌, ◌≢◌, ℕ, ◌+◌, ◌<◌, Bool, true, false, cond, eqb, List, [], ◌∷◌, ◌++◌, length}
 use Rattle.std.proofs.Common.{take, get_or, Option, Some, None, option_to_list, is_some, refl, sym, ap, ◌∙◌, subst}
 use Rattle.std.proofs.Common.{arith, length-append, true≢false, eq-eqb, ne_eqb}
 use Rattle.std.proofs.lemmas.List.{get_or_past, get_or_push, get_or_append_left, take_more, take-append-le}
@@ -195,18 +195,11 @@ fresh_sound ring l = record {
 
 -- an edge that opens with one message
 pub first_sound : (ring count : ℕ) → 0 < ring → 0 < count → Sound ring (first_tail count) [] None
-first_sound ring count l some_count = record {
-  sealed_at = tt;
-  prefix = refl;
-  behind = omega arith;
-  within = omega arith;
-  room = λ e. absurd (true≢false (sym e));
-  free = λ c e. absurd (none-some c e);
-  counted = one_counted count some_count;
-  held_counted = λ c e. absurd (none-some c e);
-  quiet = λ e. refl;
-}
+first_sound ring count l some_count =
+    let looked = clear_sound ring l fresh_tail [] None (fresh_sound ring l) 0 refl (empty (eqb 0 (0 + ring))) in
+    let claimed = claim_sound ring l (after_clear 0 fresh_tail) [] None looked count 0 some_count refl refl in
+    put_sound ring l (after_claim count 0 (after_clear 0 fresh_tail)) [] None claimed count refl
   where
-    one_counted : (x : ℕ) → 0 < x → (p : ℕ) → p < 1 → 0 < get_or (x ∷ []) p 0
-    one_counted x h zero l = h
-    one_counted x h (suc p) l = absurd (omega arith)
+    empty : (b : Bool) → ◌≡◌ {A = ℕ} 0 (cond b 0 0)
+    empty true = refl
+    empty false = refl

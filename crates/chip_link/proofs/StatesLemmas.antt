@@ -5,8 +5,8 @@ use Rattle.std.proofs.Common.{◌≡◌, ℕ, ◌+◌, ◌-◌, ◌%◌, Bool, t
 use Rattle.std.proofs.Common.{Some, None, sym, ap, ◌∙◌, arith, length-append}
 use mathlib.Core.Logic.{dite}
 use native.Mathlib.Decide.{ℕ_discrete}
-use Rattle.chip_link.specs.Ends.{HeadState, may_clear, tail_after_clear, tail_after_claim, tail_after_put}
-use Rattle.chip_link.specs.Ends.{put_of, head_after_take}
+use Rattle.chip_link.specs.Ends.{HeadState, may_clear, tail_after_clear, tail_after_claim, tail_after_put, put_of}
+use Rattle.chip_link.specs.Ends.{head_after_take}
 use Rattle.chip_link.specs.Link.{Tail, sent_counts, claims_of, after_clear, after_claim, after_put, after_take}
 use Rattle.chip_link.specs.Link.{tail_state, head_state}
 use Rattle.chip_link.proofs.SoundsLemmas.{cond_yes, cond_no, none_held, one_held, length-sent_counts}

@@ -2,8 +2,7 @@
 -- What is added and what sets bits is said twice: of the word that is made of a value, and of any word that is read.
 use Rattle.std.specs.Prelude.{◌≡◌, ℕ, ◌+◌, ◌^◌, ◌<◌, Bool, true, false, if◌then◌else◌, bit_or, ◌↔◌}
 use Rattle.chip_link.specs.Words.{edge_word, claims_in, is_sealed_in, fired_word, fired_in, is_halted_in}
-use Rattle.chip_link.specs.Words.{is_by_limit_in}
-use Rattle.chip_link.specs.Words.{word_after_exchange}
+use Rattle.chip_link.specs.Words.{is_by_limit_in, word_after_exchange}
 
 -- the word of an edge is read as these claims and this seal
 pub record ReadsAs (word claims : ℕ) (sealed : Bool) : Type 0 where

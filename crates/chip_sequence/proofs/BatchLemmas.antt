@@ -1,8 +1,8 @@
 -- Serves Sequence.antt.
 -- Several firings of one vertex at once, on lists.
 use Rattle.std.proofs.Common.{◌≡◌, ◌≢◌, ℕ, ◌+◌, ◌-◌, ◌*◌, ◌/◌, ◌<◌, ◌≤◌, Bool, true, false, cond, eqb, List, [], ◌∷◌}
-use Rattle.std.proofs.Common.{length, map, take, sum, sum_by, get_or, set, replicate, All, refl, sym, ap, ◌∙◌, subst, arith}
-use Rattle.std.proofs.Common.{mul-add, mul_comm, mul-le-mul_left, get_or-set_same, get_or-set_other}
+use Rattle.std.proofs.Common.{length, map, take, sum, sum_by, get_or, set, replicate, All, refl, sym, ap, ◌∙◌, subst}
+use Rattle.std.proofs.Common.{arith, mul-add, mul_comm, mul-le-mul_left, get_or-set_same, get_or-set_other}
 use Rattle.std.proofs.lemmas.List.Sums.{sum_by-cons, sum_by_more, sum_by-set}
 use Rattle.std.proofs.lemmas.List.Elements.{All-map}
 use mathlib.Core.Logic.{dite}

@@ -1,10 +1,10 @@
 -- Serves Sequence.antt, Bound.antt.
--- Chips are kept, and no vertex fires more often than the bound of its distance.
+-- Chips are kept, no vertex fires more often than the bound of its distance, and the search for the greatest distance.
 use Rattle.std.proofs.Common.{◌≡◌, ◌≢◌, ℕ, zero, suc, ◌+◌, ◌-◌, ◌*◌, ◌<◌, ◌≤◌, cond, eqb, List, [], ◌∷◌, ◌++◌, length}
 use Rattle.std.proofs.Common.{max, refl, sym, ap, ◌∙◌, subst, arith, eq-eqb, mul-le-mul, mul-le-mul_left, suc-mul}
-use Rattle.std.proofs.Common.{mul_comm}
+use Rattle.std.proofs.Common.{mul_comm, ◌^◌}
 use mathlib.Core.Logic.{dite}
-use native.Mathlib.Decide.{ℕ_discrete, dec_lt}
+use native.Mathlib.Decide.{ℕ_discrete, dec_lt, dec_le}
 use Rattle.chip_graph.specs.Sums.{sum_below}
 use Rattle.chip_graph.specs.Multigraph.{Multigraph, edge_at, sum_out, degree, IsWalk, IsDistance, IsGraph}
 use Rattle.chip_graph.proofs.SumLemmas.{sum_below_ext, sum_below_add, sum_below_term, sum_below_by_place, tested_ext}
@@ -12,7 +12,7 @@ use Rattle.chip_graph.proofs.SumLemmas.{tested_scale, tested_term}
 use Rattle.chip_sequence.specs.Firing.{IsLegal}
 use Rattle.chip_sequence.specs.Sequence.{position_after, IsFiringSequence, counts, HasEnded, IsWholePlay}
 use Rattle.chip_sequence.specs.Counted.{inflow}
-use Rattle.chip_sequence.specs.Bound.{greatest_below, greatest_degree, firing_bound}
+use Rattle.chip_sequence.specs.Bound.{greatest_below, greatest_degree, firing_bound, IsGreatestDistance}
 use Rattle.chip_sequence.proofs.FiringLemmas.{counts-append, counts_here, counts_outside, sink_never, position_is}
 use Rattle.chip_sequence.proofs.FiringLemmas.{sequence-append}
 use Rattle.chip_sequence.proofs.EndLemmas.{continued, one_end}
@@ -178,3 +178,50 @@ module _ (G : Multigraph) (good : IsGraph G) where
   -- a vertex that is not the sink has a chip to send
   pub some_degree : (v : ℕ) → v < G.vertices → v ≢ G.sink → 0 < degree G v
   some_degree v l ns = degree_positive G v (good.all_reach v l) ns (λ e m. (good.edges_fit e m).some_chips)
+
+-- the greatest distance of the sink and the vertices below n
+pub record IsGreatestBelow (G : Multigraph) (n distance : ℕ) : Type 0 where
+  pub reached : (v : ℕ) × (v < G.vertices) × IsDistance G v distance
+  pub greatest : (v : ℕ) → v < n → (es : List ℕ) × IsWalk G v es G.sink × (length es ≤ distance)
+
+-- the sink is at no distance
+pub greatest_none : (G : Multigraph) → G.sink < G.vertices → IsGreatestBelow G 0 0
+greatest_none G inside = record {
+  reached = (G.sink, inside, record { reached = ([], refl, refl); shortest = λ es way. omega arith });
+  greatest = λ v l. absurd (omega arith);
+}
+
+-- one vertex more
+pub greatest_more : (G : Multigraph) (n distance d : ℕ) → n < G.vertices → IsGreatestBelow G n distance
+    → IsDistance G n d → IsGreatestBelow G (n + 1) (max distance d)
+greatest_more G n distance d inside so_far is = dite (dec_le d distance)
+    (λ near.
+    subst (IsGreatestBelow G (n + 1)) (let a : distance ≡ max distance d = omega arith in a) (record {
+      reached = so_far.reached;
+      greatest = λ v l. dite (ℕ_discrete v n)
+          (λ same. subst (λ (w : ℕ). (es : List ℕ) × IsWalk G w es G.sink × (length es ≤ distance)) (sym same)
+          (is.reached.0, is.reached.1, (let a = is.reached.2 in omega arith)))
+          (λ other. so_far.greatest v (omega arith));
+    }))
+    (λ far.
+    subst (IsGreatestBelow G (n + 1)) (let a : d ≡ max distance d = omega arith in a) (record {
+      reached = (n, inside, is);
+      greatest = λ v l. dite (ℕ_discrete v n)
+          (λ same. subst (λ (w : ℕ). (es : List ℕ) × IsWalk G w es G.sink × (length es ≤ d)) (sym same)
+          (is.reached.0, is.reached.1, (let a = is.reached.2 in omega arith)))
+          (λ other. (let way = so_far.greatest v (omega arith) in (way.0, way.1, (let a = way.2 in omega arith))));
+    }))
+
+-- all vertices
+pub greatest_all : (G : Multigraph) (n distance : ℕ) → n ≡ G.vertices → IsGreatestBelow G n distance
+    → IsGreatestDistance G distance
+greatest_all G n distance all so_far =
+    record { reached = so_far.reached; greatest = λ v l. so_far.greatest v (omega arith) }
+
+-- where the next bound is too great, so is that at the greatest distance
+pub too_far : (total most now i distance : ℕ) → now ≡ firing_bound total most i → i < distance
+    → (total + most * now ≤ 2 ^ 40 → ⊥) → firing_bound total most distance ≤ 2 ^ 40 → ⊥
+too_far total most now i distance is further above low =
+    let a = bound_more total most (suc i) distance (omega arith) in
+    let b : most * now ≡ most * firing_bound total most i = ap (λ (n : ℕ). most * n) is in
+    above (omega arith)

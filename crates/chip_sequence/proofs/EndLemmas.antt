@@ -11,6 +11,7 @@ use Rattle.chip_sequence.specs.Firing.{IsLegal, fired_once}
 use Rattle.chip_sequence.specs.Sequence.{position_after, IsFiringSequence, counts, IsWithin, HasEndedWithin, IsWholePlay}
 use Rattle.chip_sequence.proofs.FiringLemmas.{counts_here, counts_else, counts_more, counts-append, inflow_le, inflow_none, IsLedTo}
 use Rattle.chip_sequence.proofs.FiringLemmas.{led_on, position_is, same_position, position-append, sequence-append}
+use Rattle.std.proofs.lemmas.Bool.Decides.{nat_tests}
 
 module _ (G : Multigraph) where
   -- ---- least action
@@ -46,9 +47,7 @@ module _ (G : Multigraph) where
     least_from (v ∷ vs) f y to low ok within u =
         let h : ℕ → ℕ = λ w. f w + cond (eqb v w) 1 0 in
         let less = not_yet f y v to low ok.0 (let a = within v in let b = counts_here v v vs refl in omega arith) in
-        let low' : (w : ℕ) → h w ≤ most w = (λ w. dite (ℕ_discrete v w)
-        (λ e. subst (λ (z : ℕ). h z ≤ most z) e (let a = cond_yes {A = ℕ} v v 1 0 refl in omega arith))
-        (λ ne. (let a = cond_no {A = ℕ} v w 1 0 ne in let b = low w in omega arith))) in
+        let low' : (w : ℕ) → h w ≤ most w = (λ w. grind (arith, nat_tests, low w, less)) in
         let rest = least_from vs h (fired_once G v y) (led_on G x f y v to ok.0.enough_chips) low' ok.1
         (λ w. (let a = within w in let b = counts_more v w vs in omega arith)) u in
         let a = counts_more v u vs in

@@ -2,7 +2,7 @@
 -- Firings and firing sequences: counts, positions by counts, several firings of one vertex, the diamond.
 use Rattle.std.proofs.Common.{◌≡◌, ◌≢◌, ℕ, zero, suc, ◌+◌, ◌-◌, ◌*◌, ◌<◌, ◌≤◌, cond, eqb, List, [], ◌∷◌, ◌++◌}
 use Rattle.std.proofs.Common.{replicate, refl, sym, ap, ◌∙◌, subst, arith, mul-add, mul-zero, add-zero, suc-mul}
-use Rattle.std.proofs.Common.{mul-le-mul_left}
+use Rattle.std.proofs.Common.{mul-le-mul_left, Bool, true, false}
 use mathlib.Core.Logic.{dite}
 use native.Mathlib.Decide.{ℕ_discrete}
 use Rattle.chip_graph.specs.Multigraph.{Multigraph, edge_at, sum_in, degree}
@@ -10,7 +10,7 @@ use Rattle.chip_graph.proofs.SumLemmas.{cond_yes, cond_no, tested_ext, tested_ad
 use Rattle.chip_sequence.specs.Firing.{IsLegal, fired_once}
 use Rattle.chip_sequence.specs.Sequence.{position_after, IsFiringSequence, counts}
 use Rattle.chip_sequence.specs.Counted.{inflow, position_by_counts, IsBelowZero}
-use Rattle.std.proofs.Common.{Bool, true, false}
+use Rattle.std.proofs.lemmas.Bool.Decides.{nat_tests}
 
 -- ---- counts
 
@@ -24,11 +24,7 @@ counts_else v u vs ne = cond_no v u (counts vs u + 1) (counts vs u) ne
 
 -- both in one
 pub counts_more : (v u : ℕ) (vs : List ℕ) → counts (v ∷ vs) u ≡ counts vs u + cond (eqb v u) 1 0
-counts_more v u vs = either (eqb v u)
-  where
-    either : (b : Bool) → cond b (counts vs u + 1) (counts vs u) ≡ counts vs u + cond b 1 0
-    either true = refl
-    either false = omega arith
+counts_more v u vs = grind (arith, nat_tests)
 
 -- counts of a list in two parts
 pub counts-append : (vs ws : List ℕ) (u : ℕ) → counts (vs ++ ws) u ≡ counts vs u + counts ws u
@@ -38,14 +34,8 @@ counts-append (v ∷ vs) ws u = let a = counts-append vs ws u in let b = counts_
 
 -- counts of one vertex, k times
 pub counts-replicate : (k v u : ℕ) → counts (replicate k v) u ≡ cond (eqb v u) k 0
-counts-replicate zero v u = dite (ℕ_discrete v u) (λ e. sym (cond_yes v u 0 0 e)) (λ ne. sym (cond_no v u 0 0 ne))
-counts-replicate (suc k) v u =
-    let ih = counts-replicate k v u in
-    dite (ℕ_discrete v u)
-    (λ e. let a = counts_here v u (replicate k v) e in let b = cond_yes v u k 0 e in let c = cond_yes v u (suc k) 0 e in
-    omega arith)
-    (λ ne. let a = counts_else v u (replicate k v) ne in let b = cond_no v u k 0 ne in
-    let c = cond_no v u (suc k) 0 ne in omega arith)
+counts-replicate zero v u = grind (arith, nat_tests)
+counts-replicate (suc k) v u = grind (arith, nat_tests, counts_more v u (replicate k v), counts-replicate k v u)
 
 module _ (G : Multigraph) where
   -- ---- what flows in

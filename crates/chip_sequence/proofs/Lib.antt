@@ -3,10 +3,7 @@ pub mod EndLemmas
 pub mod BoundLemmas
 pub mod CertificateLemmas
 pub mod BurningLemmas
-pub mod LastLemmas
-pub mod ScriptLemmas
 pub mod LegalLemmas
 pub mod BatchLemmas
-pub mod DistanceLemmas
 pub mod AfterLemmas
 pub mod SittingLemmas

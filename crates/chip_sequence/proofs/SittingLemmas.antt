@@ -4,8 +4,8 @@ use Rattle.std.proofs.Common.{◌≡◌, ℕ, ◌+◌, List, [], ◌∷◌, ◌+
 use Rattle.chip_graph.specs.Multigraph.{Multigraph, IsGraph}
 use Rattle.chip_sequence.specs.Firing.{IsLegal}
 use Rattle.chip_sequence.specs.Sequence.{position_after, IsFiringSequence, counts, HasEnded, IsWholePlay}
-use Rattle.chip_sequence.specs.Sittings.{Leads, LeadsTo, AreSittings, counts_of_all, left_by_all}
-use Rattle.chip_sequence.specs.Sittings.{SittingsAddUp, PlayedIsSitting}
+use Rattle.chip_sequence.specs.Sittings.{Leads, LeadsTo, AreSittings, counts_of_all, left_by_all, SittingsAddUp}
+use Rattle.chip_sequence.specs.Sittings.{PlayedIsSitting}
 use Rattle.chip_sequence.proofs.FiringLemmas.{counts-append, position-append, sequence-append}
 use Rattle.chip_sequence.proofs.BoundLemmas.{same_ends}
 

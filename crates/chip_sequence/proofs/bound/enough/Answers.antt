@@ -1,5 +1,5 @@
 use Rattle.std.proofs.Common.{sym}
-use Rattle.chip_sequence.proofs.DistanceLemmas.{too_far}
+use Rattle.chip_sequence.proofs.BoundLemmas.{too_far}
 use Rattle.chip_sequence.proofs.bound.enough.Goals as goal
 
 pub returns-in_err-bound : goal.returns-in_err-bound

@@ -1,5 +1,5 @@
 use Rattle.std.proofs.Common.{◌<◌, arith}
-use Rattle.chip_sequence.proofs.DistanceLemmas.{greatest_none, greatest_more, greatest_all}
+use Rattle.chip_sequence.proofs.BoundLemmas.{greatest_none, greatest_more, greatest_all}
 use Rattle.chip_sequence.proofs.bound.furthest.Goals as goal
 
 pub loop-vertex-init : goal.loop-vertex-init

@@ -1,4 +1,4 @@
-use Rattle.chip_sequence.proofs.DistanceLemmas.{IsGreatestBelow}
+use Rattle.chip_sequence.proofs.BoundLemmas.{IsGreatestBelow}
 use Rattle.chip_sequence.proofs.bound.furthest.Given as goal
 
 abbrev pub invariant-loop-vertex : goal.invariant-loop-vertex

@@ -1,4 +1,4 @@
-use Rattle.chip_sequence.proofs.LastLemmas.{fired_burn}
+use Rattle.chip_sequence.proofs.BurningLemmas.{fired_burn}
 use Rattle.chip_sequence.proofs.laws.fired_burn.Goals as goal
 
 pub returns : goal.returns

@@ -1,4 +1,4 @@
-use Rattle.chip_sequence.proofs.ScriptLemmas.{script_counts}
+use Rattle.chip_sequence.proofs.CertificateLemmas.{script_counts}
 use Rattle.chip_sequence.proofs.laws.script_counts.Goals as goal
 
 pub returns : goal.returns

@@ -2,8 +2,8 @@
 -- Where every vertex is passive and all that was claimed is taken, steps only settle and acknowledge. Where the root is
 -- closed nothing changes any more, everything is delivered, and chips and counts are those of every end.
 use Rattle.std.proofs.Common.{◌≡◌, ℕ, ◌<◌, ◌≤◌, true, false, eqb, ◌∷◌, length, get_or, Option, None, option_to_list}
-use Rattle.std.proofs.Common.{refl, sym, ap, ◌∙◌, arith, ⊎_elim, true≢false, ◌≢◌, ◌⊎◌, ◌+◌, ◌-◌, Bool, cond}
-use Rattle.std.proofs.Common.{List, [], sum, Some, inl, inr, ne_eqb, le-leb}
+use Rattle.std.proofs.Common.{refl, sym, ap, ◌∙◌, arith, ⊎_elim, true≢false, ◌≢◌, ◌⊎◌, ◌+◌, ◌-◌, Bool, cond, List, []}
+use Rattle.std.proofs.Common.{sum, Some, inl, inr, ne_eqb, le-leb}
 use Rattle.std.proofs.lemmas.List.{get_or_past, drop_all}
 use mathlib.Core.Logic.{dite}
 use native.Mathlib.Decide.{dec_lt}

@@ -1,8 +1,8 @@
 -- Serves Core.antt.
 -- What was given to each vertex: all that was sent on its root edge, at the opening and by feeding.
-use Rattle.std.proofs.Common.{◌≡◌, ◌≢◌, ℕ, ◌+◌, ◌-◌, ◌<◌, ◌≤◌, true, false, cond, eqb, List, [], ◌∷◌, ◌++◌}
-use Rattle.std.proofs.Common.{sum, slice_index, Option, Some, None, option_to_list, refl, sym, ap, ◌∙◌}
-use Rattle.std.proofs.Common.{arith, append-nil, append_assoc, true≢false}
+use Rattle.std.proofs.Common.{◌≡◌, ◌≢◌, ℕ, ◌+◌, ◌-◌, ◌<◌, ◌≤◌, true, false, cond, eqb, List, [], ◌∷◌, ◌++◌, sum}
+use Rattle.std.proofs.Common.{slice_index, Option, Some, None, option_to_list, refl, sym, ap, ◌∙◌, arith, append-nil}
+use Rattle.std.proofs.Common.{append_assoc, true≢false}
 use Rattle.std.proofs.lemmas.List.{get_or_past, ext_get_or}
 use Rattle.std.proofs.lemmas.List.FromFn.{fill_by_all, get_or-map-range_with_len, length-map-range_with_len}
 use Rattle.std.proofs.lemmas.List.Sums.{sum_by-cons, sum_by-append}
@@ -12,8 +12,8 @@ use Rattle.chip_graph.specs.ChipGame.{IsGame}
 use Rattle.chip_graph.specs.Limits.{max_total}
 use Rattle.chip_graph.specs.Sums.{sum_below}
 use Rattle.chip_graph.specs.More.{brought_to, all_brought, HasMore}
-use Rattle.chip_graph.proofs.SumLemmas.{cond_yes, cond_no, sum_below_ext, sum_by_place}
-use Rattle.chip_graph.proofs.SumLemmas.{sum_below_one, sum_below_add, sum_below_none}
+use Rattle.chip_graph.proofs.SumLemmas.{cond_yes, cond_no, sum_below_ext, sum_by_place, sum_below_one, sum_below_add}
+use Rattle.chip_graph.proofs.SumLemmas.{sum_below_none}
 use Rattle.chip_link.specs.Words.{edge_word}
 use Rattle.chip_link.specs.Link.{Tail, sent_counts, claims_of, after_clear, after_claim, after_put, after_seal}
 use Rattle.chip_part.specs.Setting.{Setting}
@@ -22,16 +22,15 @@ use Rattle.chip_part.specs.Part.{Part, all_fed, AreGiven}
 use Rattle.chip_part.specs.Steps.{link_after, stop_after}
 use Rattle.chip_part.specs.Kept.{Met, opening_tail}
 use Rattle.chip_part.proofs.EdgeLemmas.{tail_root}
-use Rattle.chip_part.proofs.RuleLemmas.{rules_met}
 use Rattle.chip_part.proofs.PartLemmas.{at_edge, at_other}
 use Rattle.chip_part.proofs.OpeningLemmas.{first_sent, first_fed}
-use Rattle.chip_core.specs.Core.{Log, Step, Event, Clear, Claim, Put, Seal, Feed}
-use Rattle.chip_core.specs.Core.{part_of, part_in, out_in, stop_in, sees, IsLegalLog, tail_of, root}
-use Rattle.chip_core.specs.Core.{root_edge, all_edges, graph_edges}
+use Rattle.chip_core.specs.Core.{Log, Step, Event, Clear, Claim, Put, Seal, Feed, part_of, part_in, out_in, stop_in}
+use Rattle.chip_core.specs.Core.{sees, IsLegalLog, tail_of, root, root_edge, graph_edges}
 use Rattle.chip_core.specs.Positions.{chips_given, played_game, fed_of, fed_in}
 use Rattle.chip_core.specs.Histories.{done_by}
 use Rattle.chip_core.specs.Laws.{GivenByTheRecord}
 use Rattle.chip_core.proofs.LogLemmas.{link_step, stop_step, part_kept, out_kept, edge_sound}
+use Rattle.chip_core.proofs.LogLemmas.{met_here}
 
 module _ (g : Setting) where
   -- ---- no root edge is ever sealed
@@ -46,7 +45,7 @@ module _ (g : Setting) where
   pub never_sealed : (log : Log) → IsLegalLog g log → (e : ℕ) → graph_edges g ≤ e → stop_in g log e ≡ None
   never_sealed [] legal e past = refl
   never_sealed (x ∷ log) legal e past = stop_step g x log e
-      ∙ stop_after_at x.event x.seen e log (rules_met g x.event (part_in g log (part_of g x.event)) legal.1.0) past
+      ∙ stop_after_at x.event x.seen e log (met_here g x log legal) past
       (never_sealed log legal.0 e past)
 
   -- so a feed sees the number of claims
@@ -57,41 +56,12 @@ module _ (g : Setting) where
       (Rattle.std.proofs.Common.is_some stop)) (never_sealed log legal e past)
       ∙ (let z : edge_word (claims_of (out_in g log e).link) false ≡ claims_of (out_in g log e).link = omega arith in z)
 
-  -- ---- an edge that isn't there stays as it opened
-
-  outside_step : (x : Event) (seen e : ℕ) (log : Log) → Met g x (part_in g log (part_of g x)) → all_edges g ≤ e
-      → link_after x seen e (out_in g log e) ≡ (out_in g log e).link
-  outside_step (Clear i) seen e log may past = cond_no i e (after_clear seen (out_in g log e).link)
-      (out_in g log e).link (λ z. (let a : i ≡ e = z in
-      Rattle.std.proofs.Common.⊎_elim (λ v. (let b = v.0 in absurd (omega arith)))
-      (λ r. (let b = r.1 in absurd (omega arith))) may))
-  outside_step (Claim i) seen e log may past = cond_no i e (after_claim (out_in g log e).pending seen
-      (out_in g log e).link) (out_in g log e).link (λ z. (let a : i ≡ e = z in let b = may.0 in absurd (omega arith)))
-  outside_step (Put i) seen e log may past = cond_no i e (after_put (out_in g log e).link)
-      (out_in g log e).link (λ z. (let a : i ≡ e = z in let b = may.0 in absurd (omega arith)))
-  outside_step (Feed i k) seen e log may past = cond_no i e (after_claim k seen (out_in g log e).link)
-      (out_in g log e).link (λ z. (let a : i ≡ e = z in let b = may.1 in absurd (omega arith)))
-  outside_step x seen e log may past = refl
-
-  pub outside_is : (log : Log) → IsLegalLog g log → (e : ℕ) → all_edges g ≤ e → (out_in g log e).link ≡ opening_tail g e
-  outside_is [] legal e past = refl
-  outside_is (x ∷ log) legal e past = link_step g x log e
-      ∙ outside_step x.event x.seen e log (rules_met g x.event (part_in g log (part_of g x.event)) legal.1.0) past
-      ∙ outside_is log legal.0 e past
-
   -- what an event feeds to a vertex
   abbrev pub fed_to : Event → ℕ → List ℕ
   fed_to (Feed i k) v = cond (eqb i (root_edge g v)) (k ∷ []) []
   fed_to _ v = []
 
   module _ (game : IsGame g.game) (some_ring : 0 < g.ring) where
-    -- nothing was given to what isn't a vertex
-    pub started_outside : (log : Log) → IsLegalLog g log → (v : ℕ) → g.game.graph.vertices ≤ v → chips_given g log v ≡ 0
-    started_outside log legal v past =
-        let each = game.start_fits in
-        ap (λ (t : Tail). sum (sent_counts t)) (outside_is log legal (root_edge g v) (omega arith))
-        ∙ first_sent g v ∙ get_or_past g.game.start v 0 (omega arith)
-
     -- ---- a feed sends its message
 
     pub feed_sends : (log : Log) → IsLegalLog g log → (e k : ℕ) → Met g (Feed e k) (part_in g log (tail_of g e))
@@ -139,7 +109,7 @@ module _ (g : Setting) where
         ≡ sent_counts (out_in g log (root_edge g v)).link ++ fed_to x.event v
     root_sends x log legal v = ap sent_counts (link_step g x log (root_edge g v)
         ∙ ap (λ (n : ℕ). link_after x.event n (root_edge g v) (out_in g log (root_edge g v))) legal.1.1)
-        ∙ sends x.event log legal.0 (rules_met g x.event (part_in g log (part_of g x.event)) legal.1.0) v
+        ∙ sends x.event log legal.0 (met_here g x log legal) v
 
     fed_sum : (x : Event) (s : Part) → Met g x s → (v : ℕ) → sum (fed_to x v) ≡ brought_to (fed_of g x) v
     fed_sum (Feed i k) s may v =
@@ -157,7 +127,19 @@ module _ (g : Setting) where
         let a = ap sum (root_sends x log legal v) in
         let b = sum_by-append (λ (n : ℕ). n) (sent_counts (out_in g log (root_edge g v)).link) (fed_to x.event v) in
         let c = fed_sum x.event (part_in g log (part_of g x.event))
-        (rules_met g x.event (part_in g log (part_of g x.event)) legal.1.0) v in omega arith
+        (met_here g x log legal) v in omega arith
+
+    none_outside : (x : Event) (s : Part) → Met g x s → (v : ℕ) → g.game.graph.vertices ≤ v → brought_to (fed_of g x) v ≡ 0
+    none_outside (Feed e k) s may v past = let inside = may.1 in let own = may.0 in
+        brought_one (e - graph_edges g) v k ∙ cond_no (e - graph_edges g) v k 0 (λ z. absurd (omega arith))
+    none_outside _ s may v past = refl
+
+    -- nothing was given to what isn't a vertex
+    pub started_outside : (log : Log) → IsLegalLog g log → (v : ℕ) → g.game.graph.vertices ≤ v → chips_given g log v ≡ 0
+    started_outside [] legal v past = let each = game.start_fits in first_sent g v ∙ get_or_past g.game.start v 0 (omega arith)
+    started_outside (x ∷ log) legal v past =
+        let a = started_step x log legal v in let b = started_outside log legal.0 v past in
+        let c = none_outside x.event (part_in g log (part_of g x.event)) (met_here g x log legal) v past in omega arith
 
     pub started_grows : (x : Step) (log : Log) → IsLegalLog g (x ∷ log) → (v : ℕ)
         → chips_given g log v ≤ chips_given g (x ∷ log) v
@@ -193,7 +175,7 @@ module _ (g : Setting) where
         (λ other. ap (fed_in g) (cond_no (part_of g x.event) (root g) (done_by g (root g) log ++ x ∷ [])
         (done_by g (root g) log) other) ∙ sym (append-nil (recorded log))
         ∙ ap (λ (l : List (ℕ × ℕ)). recorded log ++ l) (sym (fed_elsewhere x.event (part_in g log (part_of g x.event))
-        (rules_met g x.event (part_in g log (part_of g x.event)) legal.1.0) other)))
+        (met_here g x log legal) other)))
 
     -- what a vertex was given is its start and what the record fed it
     pub started_recorded : (log : Log) → IsLegalLog g log → (v : ℕ)
@@ -232,7 +214,7 @@ module _ (g : Setting) where
         (λ v l. refl) in
         omega arith
     total_recorded (x ∷ log) legal =
-        let may = rules_met g x.event (part_in g log (part_of g x.event)) legal.1.0 in
+        let may = met_here g x log legal in
         let a = sum_below_ext g.game.graph.vertices (chips_given g (x ∷ log))
         (λ v. chips_given g log v + brought_to (fed_of g x.event) v) (λ v l. started_step x log legal v) in
         let b = sum_below_add g.game.graph.vertices (chips_given g log) (brought_to (fed_of g x.event)) in
@@ -318,7 +300,7 @@ module _ (g : Setting) where
       unfed_records [] legal = refl
       unfed_records (x ∷ log) legal = recorded_step x log legal
           ∙ ap (λ (l : List (ℕ × ℕ)). l ++ fed_of g x.event) (unfed_records log legal.0)
-          ∙ feeds_none x.event log legal.0 (rules_met g x.event (part_in g log (part_of g x.event)) legal.1.0)
+          ∙ feeds_none x.event log legal.0 (met_here g x log legal)
 
 pub given_by_the_record : GivenByTheRecord
 given_by_the_record = played_has_more

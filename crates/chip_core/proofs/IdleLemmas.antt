@@ -1,7 +1,7 @@
 -- Serves Work.antt, Core.antt.
 -- A step that doesn't count leaves all parts but for their notes, the seals and the end.
-use Rattle.std.proofs.Common.{◌≡◌, ◌≢◌, ℕ, ◌+◌, ◌-◌, ◌≤◌, Bool, true, false, cond, eqb, ltb, [], ◌∷◌, ◌++◌, Option, Some}
-use Rattle.std.proofs.Common.{None, refl, sym, ap, ◌∙◌, subst, arith, true≢false}
+use Rattle.std.proofs.Common.{◌≡◌, ◌≢◌, ℕ, ◌+◌, ◌-◌, ◌≤◌, Bool, true, false, cond, eqb, ltb, [], ◌∷◌, ◌++◌, Option}
+use Rattle.std.proofs.Common.{Some, None, refl, sym, ap, ◌∙◌, subst, arith, true≢false}
 use mathlib.Core.Logic.{dite}
 use native.Mathlib.Decide.{ℕ_discrete}
 use Rattle.chip_graph.proofs.SumLemmas.{cond_yes, cond_no}
@@ -11,8 +11,8 @@ use Rattle.chip_part.specs.Counting.{is_got, is_sent}
 use Rattle.chip_part.specs.declared.reply.Reply.TheVariants.{Got, Sent, Empty, Sealed}
 use Rattle.chip_part.specs.Steps.{message_of, saw}
 use Rattle.chip_part.proofs.PartLemmas.{at_edge, idle_take}
-use Rattle.chip_core.specs.Core.{Log, Step, Event, Take, Clear, Claim, Settle, Seal, Read, Feed}
-use Rattle.chip_core.specs.Core.{End, Part, part_of, does, part_in, root_edge}
+use Rattle.chip_core.specs.Core.{Log, Step, Event, Take, Clear, Claim, Settle, Seal, Read, Feed, End, Part, part_of}
+use Rattle.chip_core.specs.Core.{does, part_in, root_edge}
 use Rattle.chip_core.specs.Words.{acting_part}
 use Rattle.chip_core.specs.Work.{counts_as_work, work_in}
 use Rattle.std.proofs.lemmas.Bool.{ltb-false}

@@ -14,7 +14,6 @@ pub mod ShowingLemmas
 pub mod ReachedLemmas
 pub mod IdleLemmas
 pub mod DueLemmas
-pub mod AskedLemmas
 pub mod WorkLemmas
 pub mod RoundLemmas
 pub mod ScheduleLemmas

@@ -20,9 +20,9 @@ use Rattle.chip_part.proofs.RuleLemmas.{rules_met}
 use Rattle.chip_part.proofs.PartLemmas.{at_edge}
 use Rattle.chip_part.proofs.PartLemmas as part_lemmas
 use Rattle.chip_part.proofs.OpeningLemmas.{opening_keeps}
-use Rattle.chip_core.specs.Core.{Log, Step, Event, Take, Ack, Clear, Claim, Put, Settle, Seal, Feed}
-use Rattle.chip_core.specs.Core.{End, Part, Out, Into, part_of, does, part_in, out_in, into_in, stop_in, sees}
-use Rattle.chip_core.specs.Core.{IsLegalLog, tail_of, head_of, root, root_edge, stopper, all_edges, graph_edges}
+use Rattle.chip_core.specs.Core.{Log, Step, Event, Take, Ack, Clear, Claim, Put, Settle, Seal, Feed, End, Part, Out}
+use Rattle.chip_core.specs.Core.{Into, part_of, does, part_in, out_in, into_in, stop_in, sees, IsLegalLog, tail_of}
+use Rattle.chip_core.specs.Core.{head_of, root, root_edge, stopper, all_edges, graph_edges}
 
 pub in_pieces : (front round back xs before : Log) → xs ≡ back ++ (round ++ front)
     → xs ++ before ≡ back ++ (round ++ (front ++ before))
@@ -42,6 +42,9 @@ module _ (g : Setting) where
 
   pub part_else : (x : Step) (log : Log) (p : ℕ) → part_of g x.event ≢ p → part_in g (x ∷ log) p ≡ part_in g log p
   part_else x log p ne = cond_no (part_of g x.event) p (does g x (part_in g log p)) (part_in g log p) ne
+
+  pub met_here : (x : Step) (log : Log) → IsLegalLog g (x ∷ log) → Met g x.event (part_in g log (part_of g x.event))
+  met_here x log legal = rules_met g x.event (part_in g log (part_of g x.event)) legal.1.0
 
   -- ---- an edge after one more event, as if its tail, its head and the stopper had made it
 
@@ -228,7 +231,7 @@ module _ (g : Setting) where
       edge_sound [] legal e = first_sound_at e
       edge_sound (x ∷ log) legal e = subst (λ (z : Tail × List ℕ × Option ℕ). Sound g.ring z.0 z.1 z.2)
           (λ j. (sym (link_step x log e) j, sym (got_step x log e) j, sym (stop_step x log e) j))
-          (edge_step log x.event x.seen legal.0 (rules_met g x.event (part_in g log (part_of g x.event)) legal.1.0)
+          (edge_step log x.event x.seen legal.0 (met_here x log legal)
           legal.1.1 (edge_sound log legal.0) e)
 
     -- ---- the counts of an edge

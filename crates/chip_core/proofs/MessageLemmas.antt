@@ -24,10 +24,9 @@ use Rattle.chip_part.specs.Steps.{message_of, link_after, got_after, saw}
 use Rattle.chip_part.proofs.RuleLemmas.{rules_met}
 use Rattle.chip_part.proofs.PartLemmas.{at_edge, at_other}
 use Rattle.chip_part.proofs.OpeningLemmas.{first_few, first_sent}
-use Rattle.chip_core.specs.Core.{Log, Event, Take, Clear, Claim, Put, Seal, Feed}
-use Rattle.chip_core.specs.Core.{Rule, Reply, unmet_rule, part_of, reply_of, part_in, out_in, into_in, stop_in, fired_by}
-use Rattle.chip_core.specs.Core.{sees}
-use Rattle.chip_core.specs.Core.{IsLegalLog, answer, step, log_after, replies_to, tail_of, graph_edges}
+use Rattle.chip_core.specs.Core.{Log, Event, Take, Clear, Claim, Put, Seal, Feed, Rule, Reply, unmet_rule, part_of}
+use Rattle.chip_core.specs.Core.{reply_of, part_in, out_in, into_in, stop_in, fired_by, sees, IsLegalLog, answer, step}
+use Rattle.chip_core.specs.Core.{log_after, replies_to, tail_of, graph_edges}
 use Rattle.chip_core.specs.Messages.{Message, sent_by, delivered_by, is_seal_of, sent_in, sent_after_seal, is_seal}
 use Rattle.chip_core.specs.Messages.{was_sealed, messages_from, counts_in_flight, in_flight, sent_on, delivered_on}
 use Rattle.chip_core.specs.Messages.{AreInOrderFrom, chips_in}

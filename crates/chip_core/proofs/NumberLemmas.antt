@@ -1,8 +1,8 @@
 -- Serves Core.antt, Laws.antt.
 -- The numbers of a legal log, the cells and words that its events see, and that these keep within the limits.
 use Rattle.std.proofs.Common.{◌≡◌, ◌≢◌, ◌↔◌, ℕ, suc, ◌+◌, ◌-◌, ◌^◌, ◌<◌, ◌≤◌, ◌||◌, Bool, true, false, cond, eqb, List}
-use Rattle.std.proofs.Common.{[], ◌∷◌, length, sum, drop, get_or, Option, Some, None, option_to_list}
-use Rattle.std.proofs.Common.{is_some, refl, sym, ap, ◌∙◌, subst, arith, eq-eqb, leb-true, true≢false}
+use Rattle.std.proofs.Common.{[], ◌∷◌, length, sum, drop, get_or, Option, Some, None, option_to_list, is_some, refl}
+use Rattle.std.proofs.Common.{sym, ap, ◌∙◌, subst, arith, eq-eqb, leb-true, true≢false}
 use Rattle.std.proofs.lemmas.List.{get_or_past, get_or_append_left, get_or-drop, length-drop}
 use Rattle.std.proofs.lemmas.List.Sums.{sum_by-cons, sum_by-append, get_or-le-sum_by}
 use mathlib.Core.Logic.{dite}
@@ -19,21 +19,17 @@ use Rattle.chip_link.proofs.WordLawsLemmas.{edge_word_reads, fired_word_reads}
 use Rattle.chip_sequence.specs.Sequence.{position_after}
 use Rattle.chip_sequence.proofs.BoundLemmas.{chips_are_kept}
 use Rattle.chip_part.specs.Steps.{stop_after}
-use Rattle.chip_part.specs.Acting.{FitsSeen}
-use Rattle.chip_part.specs.Acting.{is_of_root, FitsRoot}
+use Rattle.chip_part.specs.Acting.{FitsSeen, is_of_root, FitsRoot}
 use Rattle.chip_part.proofs.EdgeLemmas.{tail_root}
 use Rattle.chip_part.proofs.RuleLemmas.{rules_met}
-use Rattle.chip_core.specs.Core.{root, Log, Event, Take, Clear, Claim, Put, Settle, Seal, Read, Feed}
-use Rattle.chip_core.specs.Core.{End, unmet_rule, part_of, part_in, out_in, into_in, stop_in, fired_by, word_of_part}
-use Rattle.chip_core.specs.Core.{sees}
-use Rattle.chip_core.specs.Core.{is_by_limit, IsLegalLog, tail_of, head_of, root_edge, all_edges, graph_edges}
+use Rattle.chip_core.specs.Core.{root, Log, Event, Take, Clear, Claim, Put, Settle, Seal, Read, Feed, End, unmet_rule}
+use Rattle.chip_core.specs.Core.{part_of, part_in, out_in, into_in, stop_in, fired_by, word_of_part, sees, is_by_limit}
+use Rattle.chip_core.specs.Core.{IsLegalLog, tail_of, head_of, root_edge, all_edges, graph_edges}
 use Rattle.chip_core.specs.Messages.{counts_in_flight, is_seal, was_sealed}
 use Rattle.chip_core.specs.Positions.{chips_given, played_game, full_position, firings}
-use Rattle.chip_core.specs.Laws.{CountsOf, NumbersOf, CellsOf}
-use Rattle.chip_core.specs.Laws.{WordsOf, WordsTell, SealsStand}
-use Rattle.chip_core.specs.Laws.{UnfedIsTheStart, FeedsAreSent}
-use Rattle.chip_core.proofs.LogLemmas.{part_kept, out_kept, edge_sound, edge_counts, stop_step, head_inside}
-use Rattle.chip_core.proofs.LogLemmas.{empty_hand}
+use Rattle.chip_core.specs.Laws.{CountsOf, NumbersOf, CellsOf, WordsOf, WordsTell, SealsStand, UnfedIsTheStart}
+use Rattle.chip_core.specs.Laws.{FeedsAreSent}
+use Rattle.chip_core.proofs.LogLemmas.{part_kept, out_kept, edge_sound, edge_counts, stop_step, head_inside, empty_hand}
 use Rattle.chip_core.proofs.GivenLemmas.{given_sum, given_within, started_outside, never_sealed, feed_sees}
 use Rattle.chip_core.proofs.GivenLemmas.{unfed_played, unfed_started, unfed_closes}
 use Rattle.chip_core.proofs.PositionLemmas.{is_sequence, leads_to}

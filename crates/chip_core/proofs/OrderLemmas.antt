@@ -1,7 +1,7 @@
 -- Serves Core.antt.
 -- A detection order exists in every legal log, and what it says where the root is closed.
-use Rattle.std.proofs.Common.{◌≡◌, ◌≢◌, ◌⊎◌, ℕ, zero, suc, ◌-◌, ◌<◌, ◌&&◌, cond, eqb, List, [], ◌∷◌, length}
-use Rattle.std.proofs.Common.{get_or, Option, Some, None, Contains, refl, sym, ap, ◌∙◌, subst, arith, inl, inr, ⊎_elim}
+use Rattle.std.proofs.Common.{◌≡◌, ◌≢◌, ◌⊎◌, ℕ, zero, suc, ◌-◌, ◌<◌, ◌&&◌, cond, eqb, List, [], ◌∷◌, length, get_or}
+use Rattle.std.proofs.Common.{Option, Some, None, Contains, refl, sym, ap, ◌∙◌, subst, arith, inl, inr, ⊎_elim}
 use Rattle.std.proofs.lemmas.List.{get_or_past}
 use Rattle.std.proofs.lemmas.List.Elements.{Contains-append_right}
 use mathlib.Core.Logic.{dite}
@@ -16,9 +16,8 @@ use Rattle.chip_part.specs.Kept.{IsNeutral}
 use Rattle.chip_part.proofs.RuleLemmas.{rules_met}
 use Rattle.chip_part.proofs.PartLemmas.{at_edge, out_zero}
 use Rattle.chip_part.proofs.PickedLemmas.{contains_cases}
-use Rattle.chip_core.specs.Core.{Log, Step, Event, Take, Ack}
-use Rattle.chip_core.specs.Core.{Part, part_of, does, part_in, out_in, into_in, IsLegalLog, IsSettled, outstanding}
-use Rattle.chip_core.specs.Core.{all_edges, tail_of, head_of, root}
+use Rattle.chip_core.specs.Core.{Log, Step, Event, Take, Ack, Part, part_of, does, part_in, out_in, into_in, IsLegalLog}
+use Rattle.chip_core.specs.Core.{IsSettled, outstanding, all_edges, tail_of, head_of, root}
 use Rattle.chip_core.specs.Detection.{IsTree, IsDetectionOrder}
 use Rattle.chip_core.proofs.LogLemmas.{part_here, part_else, part_kept, edge_counts, head_inside, tail_cases}
 

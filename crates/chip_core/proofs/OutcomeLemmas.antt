@@ -1,9 +1,8 @@
 -- Serves Core.antt, Outcomes.antt, Positions.antt.
 -- What the outcome of a closed log tells: a report takes it, a firing sequence leads to it, and where no seal halted a
 -- vertex every player comes to it.
-use Rattle.std.proofs.Common.{◌≡◌, ℕ, ◌^◌, ◌<◌, ◌≤◌, true, false, not, ◌&&◌, eqb, leb, List}
-use Rattle.std.proofs.Common.{All, Contains, length, slice_index, Option, Some, None, refl, sym, ap, ◌∙◌, subst, arith}
-use Rattle.std.proofs.Common.{true≢false}
+use Rattle.std.proofs.Common.{◌≡◌, ℕ, ◌^◌, ◌<◌, ◌≤◌, true, false, not, ◌&&◌, eqb, leb, List, All, Contains, length}
+use Rattle.std.proofs.Common.{slice_index, Option, Some, None, refl, sym, ap, ◌∙◌, subst, arith, true≢false}
 use Rattle.std.specs.List.Sorted.{IsStrictlyIncreasing}
 use Rattle.std.proofs.lemmas.List.{get_or_past}
 use Rattle.std.proofs.lemmas.List.Elements.{All-from_get_or}

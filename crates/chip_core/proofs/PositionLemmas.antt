@@ -1,8 +1,8 @@
 -- Serves Core.antt.
 -- The full position is the position after the firings that were made.
-use Rattle.std.proofs.Common.{◌≡◌, ℕ, ◌+◌, ◌-◌, ◌*◌, ◌<◌, ◌≤◌, Bool, eqb, ltb, [], ◌∷◌, ◌++◌, length, sum, take}
-use Rattle.std.proofs.Common.{lt-ltb, le-ltb, replicate, option_to_list, refl, sym, ap, ◌∙◌, subst, arith, eqb-true}
-use Rattle.std.proofs.Common.{append-nil}
+use Rattle.std.proofs.Common.{◌≡◌, ℕ, ◌+◌, ◌-◌, ◌*◌, ◌<◌, ◌≤◌, Bool, eqb, ltb, [], ◌∷◌, ◌++◌, length, sum, take, lt-ltb}
+use Rattle.std.proofs.Common.{le-ltb, replicate, option_to_list, refl, sym, ap, ◌∙◌, subst, arith, eqb-true, append-nil}
+use Rattle.std.proofs.Common.{◌≢◌}
 use Rattle.std.proofs.lemmas.List.{take-append-le}
 use Rattle.std.proofs.lemmas.List.Sums.{sum_by-append, sum_by-take-drop}
 use mathlib.Core.Logic.{dite}
@@ -21,15 +21,13 @@ use Rattle.chip_part.proofs.EdgeLemmas.{over_ins_graph, tail_graph}
 use Rattle.chip_part.proofs.RuleLemmas.{rules_met}
 use Rattle.chip_part.specs.Steps.{saw, fired_after}
 use Rattle.chip_part.proofs.PartLemmas.{at_other}
-use Rattle.chip_core.specs.Core.{Log, Event, Fire}
-use Rattle.chip_core.specs.Core.{Part, part_of, does, part_in, out_in, into_in, fired_by, IsLegalLog, tail_of}
-use Rattle.chip_core.specs.Core.{head_of, all_edges, graph_edges}
+use Rattle.chip_core.specs.Core.{Log, Event, Fire, Part, part_of, does, part_in, out_in, into_in, fired_by, IsLegalLog}
+use Rattle.chip_core.specs.Core.{tail_of, head_of, all_edges, graph_edges}
 use Rattle.chip_core.specs.Messages.{counts_in_flight}
 use Rattle.chip_core.specs.Positions.{chips_given, held, full_position, firings, firings_of, LeadsTo}
 use Rattle.chip_core.specs.Laws.{gone_into}
 use Rattle.chip_core.proofs.LogLemmas.{part_kept, out_kept, edge_sound}
 use Rattle.chip_core.proofs.GivenLemmas.{started_grows}
-use Rattle.std.proofs.Common.{◌≢◌}
 
 module _ (g : Setting) where
   -- ---- how often each vertex fired

@@ -1,7 +1,7 @@
 -- Serves Core.antt.
 -- Every read that was made saw the fired word that stands at the end, and the root is closed there.
-use Rattle.std.proofs.Common.{◌≡◌, ◌↔◌, ℕ, ◌<◌, [], ◌∷◌, true, None, Contains, sym, ap}
-use Rattle.std.proofs.Common.{◌∙◌, arith, ⊎_elim, eqb, eqb-true}
+use Rattle.std.proofs.Common.{◌≡◌, ◌↔◌, ℕ, ◌<◌, [], ◌∷◌, true, None, Contains, sym, ap, ◌∙◌, arith, ⊎_elim, eqb}
+use Rattle.std.proofs.Common.{eqb-true}
 use Rattle.chip_graph.specs.ChipGame.{IsGame}
 use Rattle.chip_part.specs.Setting.{Setting}
 use Rattle.chip_graph.proofs.SumLemmas.{tested_none}

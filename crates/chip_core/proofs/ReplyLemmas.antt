@@ -1,14 +1,14 @@
 -- Serves Core.antt.
 -- What a reply leaves by which nothing was done, and runs one after the other.
-use Rattle.std.proofs.Common.{◌≡◌, ℕ, suc, true, false, List, [], ◌∷◌, ◌++◌, length, Option, Some, None}
-use Rattle.std.proofs.Common.{refl, sym, ap, true≢false}
+use Rattle.std.proofs.Common.{◌≡◌, ℕ, suc, true, false, List, [], ◌∷◌, ◌++◌, length, Option, Some, None, refl, sym, ap}
+use Rattle.std.proofs.Common.{true≢false}
 use Rattle.chip_part.specs.Setting.{Setting}
 use Rattle.chip_part.specs.Counting.{is_got, is_sent}
 use Rattle.chip_part.specs.declared.reply.Reply.TheVariants.{Got, Sent}
 use Rattle.chip_part.specs.Steps.{saw}
 use Rattle.chip_part.proofs.PartLemmas.{at_edge}
-use Rattle.chip_core.specs.Core.{Log, Event, Take, Clear, Claim, Seal, Feed, End, Rule, Reply, Part, unmet_rule, part_of}
-use Rattle.chip_core.specs.Core.{does, reply_of, part_in, sees, answer, step, replies_to, log_after}
+use Rattle.chip_core.specs.Core.{Log, Event, Take, Clear, Claim, Seal, Feed, End, Rule, Reply, Part, unmet_rule}
+use Rattle.chip_core.specs.Core.{part_of, does, reply_of, part_in, sees, answer, step, replies_to, log_after}
 use Rattle.chip_core.specs.Work.{counts_as_work}
 use Rattle.chip_core.specs.Replies.{is_idle, DifferInNotes, IdleStepsLeave, RunsGoOn}
 use Rattle.chip_core.proofs.IdleLemmas.{bare, idle_does}

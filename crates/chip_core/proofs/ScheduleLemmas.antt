@@ -1,21 +1,19 @@
 -- Serves Closing.antt.
 -- Schedules that ask for everything often enough close the root. Afterwards nothing counts, and but for seals the words
 -- stay as they are.
-use Rattle.std.proofs.Common.{◌≡◌, ◌≢◌, ℕ, ◌+◌, ◌<◌, ◌≤◌, cond, List, [], ◌∷◌, ◌++◌, length, Option}
-use Rattle.std.proofs.Common.{sym, ap, ◌∙◌, subst, arith, ⊎_elim, refl, ◌⊎◌, zero, suc, None, inl, inr}
-use Rattle.std.proofs.Common.{true≢false, append-nil}
+use Rattle.std.proofs.Common.{◌≡◌, ◌≢◌, ℕ, ◌+◌, ◌<◌, ◌≤◌, cond, List, [], ◌∷◌, ◌++◌, length, Option, sym, ap, ◌∙◌}
+use Rattle.std.proofs.Common.{subst, arith, ⊎_elim, refl, ◌⊎◌, zero, suc, None, inl, inr, true≢false, append-nil}
+use Rattle.std.proofs.Common.{is_some}
 use Rattle.chip_graph.specs.ChipGame.{IsGame}
-use Rattle.chip_graph.proofs.SumLemmas.{cond_no}
+use Rattle.chip_graph.proofs.SumLemmas.{cond_no, sum_below_ext}
 use Rattle.chip_link.specs.Link.{Tail, claims_of, Shows, after_clear, after_claim, after_put}
 use Rattle.chip_part.specs.Setting.{Setting}
-use Rattle.chip_part.proofs.RuleLemmas.{rules_met}
 use Rattle.chip_core.specs.Core.{Log, Step, Part, part_of, part_in, word_of_part, IsLegalLog, IsClosed, tail_of}
 use Rattle.chip_core.specs.Core.{head_of, stopper, all_edges, Event, Clear, Claim, Put, Feed, out_in, sees, step}
 use Rattle.chip_core.specs.Core.{log_after, graph_edges}
 use Rattle.chip_core.specs.Words.{of_edge, of_cell}
 use Rattle.chip_core.specs.Work.{work_in, refusals_in, is_refusal, steps_at_most, fed_so_far, AreFiringBounds}
-use Rattle.chip_core.specs.Closing.{StirsNothing, HasEnd, HasStretches, RootHasPut}
-use Rattle.chip_core.specs.Closing.{HasRounds}
+use Rattle.chip_core.specs.Closing.{StirsNothing, HasEnd, HasStretches, RootHasPut, HasRounds}
 use Rattle.chip_core.proofs.LogLemmas.{link_step, head_inside, tail_cases, legal_before, in_pieces, end_stays}
 use Rattle.chip_core.proofs.OrderLemmas.{all_counts}
 use Rattle.chip_core.proofs.ClosingLemmas.{still, still_closed, still_run}
@@ -34,10 +32,9 @@ use Rattle.chip_core.specs.Positions.{chips_given, fed_of}
 use Rattle.chip_core.proofs.GivenLemmas.{recorded_step, started_step}
 use Rattle.chip_core.proofs.ReachingLemmas.{step_legal, run_legal}
 use Rattle.chip_core.proofs.ReplyLemmas.{log_after-append}
-use Rattle.chip_core.proofs.AskedLemmas.{tells_in, run_grows, by_rule, made, asked_closes}
+use Rattle.chip_core.proofs.DueLemmas.{tells_in, run_grows, by_rule, made, asked_closes}
 use Rattle.chip_core.proofs.RoundLemmas.{round_closes}
-use Rattle.chip_graph.proofs.SumLemmas.{sum_below_ext}
-use Rattle.std.proofs.Common.{is_some}
+use Rattle.chip_core.proofs.LogLemmas.{met_here}
 
 module _ (g : Setting) (game : IsGame g.game) (some_ring : 0 < g.ring) where
   -- two logs leave the same parts but for the stopper's
@@ -144,7 +141,7 @@ module _ (g : Setting) (game : IsGame g.game) (some_ring : 0 < g.ring) where
   -- one step more
   ends_step : (x : Step) (log : Log) → IsLegalLog g (x ∷ log) → HasEnd g log → Ends log (x ∷ log)
   ends_step x log legal end =
-      let may = rules_met g x.event (part_in g log (part_of g x.event)) legal.1.0 in
+      let may = met_here g x log legal in
       let none = fed_none log end x.event may in
       record {
         end = end_stays g x log end;

@@ -10,7 +10,7 @@ use native.Mathlib.Decide.{ℕ_discrete}
 use Rattle.chip_graph.proofs.SumLemmas.{cond_yes, cond_no}
 use Rattle.chip_link.specs.Link.{Tail, claims_of, after_clear, after_claim, after_put, after_take, after_seal, Sound}
 use Rattle.chip_link.specs.Link.{Shows}
-use Rattle.chip_link.specs.Words.{fired_word}
+use Rattle.chip_link.specs.Words.{fired_word, word_after_exchange}
 use Rattle.chip_link.proofs.ShownLemmas.{clear_sees, claim_shows, put_shows, take_sees, take_shows, seal_shows}
 use Rattle.chip_link.proofs.SoundsLemmas.{one_held}
 use Rattle.chip_link.proofs.WordLawsLemmas.{halts_word, halts_by_limit}
@@ -25,14 +25,12 @@ use Rattle.chip_part.proofs.PartLemmas.{at_edge, at_other, may_le}
 use Rattle.chip_part.proofs.RuleLemmas.{rules_met}
 use Rattle.chip_core.specs.Core.{Log, Step, Event, Take, Ack, Fire, Clear, Claim, Put, Halt, Settle, Seal, Read, Feed}
 use Rattle.chip_core.specs.Core.{End, Part, Out, unmet_rule, part_of, does, part_in, out_in, into_in, stop_in}
-use Rattle.chip_core.specs.Core.{word_of_part}
-use Rattle.chip_core.specs.Core.{sees, IsLegalLog, tail_of, head_of, root_edge, all_edges}
+use Rattle.chip_core.specs.Core.{word_of_part, sees, IsLegalLog, tail_of, head_of, root_edge, all_edges}
 use Rattle.chip_core.specs.Words.{Word, of_edge, of_acks, of_cell, of_vertex, IsWord, halt_bits, word_of_event}
 use Rattle.chip_core.specs.Words.{word_to_note, IsShown, acting_part, OperationsFind, IsLeft, WordsGoOn}
-use Rattle.chip_core.proofs.LogLemmas.{part_here, part_else, link_step, got_step, acked_step, stop_step}
-use Rattle.chip_core.proofs.LogLemmas.{part_kept, edge_sound, empty_hand}
+use Rattle.chip_core.proofs.LogLemmas.{part_here, part_else, link_step, got_step, acked_step, stop_step, part_kept}
+use Rattle.chip_core.proofs.LogLemmas.{edge_sound, empty_hand}
 use Rattle.chip_core.proofs.NumberLemmas.{claims_most}
-use Rattle.chip_link.specs.Words.{word_after_exchange}
 
 -- what a word is for, its edge or vertex, and its cell
 abbrev kind : Word → ℕ

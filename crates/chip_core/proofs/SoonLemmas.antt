@@ -24,14 +24,15 @@ use Rattle.chip_core.specs.Detection.{IsTree, IsDetectionOrder}
 use Rattle.chip_core.specs.Histories.{done_by}
 use Rattle.chip_core.specs.Closing.{HasTurn, HasRounds}
 use Rattle.chip_core.specs.Soon.{IsAtRest, IsAtMostDeep, HasRoundInOrder, DepthCloses, DepthClosesLater, DepthIsCounted}
-use Rattle.chip_core.proofs.LogLemmas.{part_kept, settled_step, acked_step, head_inside}
-use Rattle.chip_core.proofs.LogLemmas.{tail_inside, acked_grows, settled_grows, legal_before, in_pieces}
+use Rattle.chip_core.proofs.LogLemmas.{part_kept, settled_step, acked_step, head_inside, tail_inside, acked_grows}
+use Rattle.chip_core.proofs.LogLemmas.{settled_grows, legal_before, in_pieces}
 use Rattle.chip_core.proofs.OrderLemmas.{contained, cases_parent, none_some}
 use Rattle.chip_core.proofs.DueLemmas.{parent_below}
 use Rattle.chip_core.proofs.RoundLemmas.{makes_turn, settles_all, own_in}
 use Rattle.chip_core.proofs.ClosingLemmas.{settled_up, AtRest, rested, same_up, rests_on}
 use Rattle.chip_part.proofs.PickedLemmas.{contains_cases}
 use Rattle.chip_core.proofs.ReachingLemmas.{part_own}
+use Rattle.std.proofs.lemmas.Bool.Decides.{nat_tests}
 
 no_messages : (e place : ℕ) (counts : List ℕ) → messages_from e place counts ≡ [] → length counts ≡ 0
 no_messages e place [] is = refl
@@ -46,9 +47,7 @@ place_in (u ∷ us) v = cond (eqb v u) (suc (length us)) (place_in us v)
 few_places : (vs : List ℕ) (v : ℕ) → place_in vs v ≤ length vs
 unfolding place_in
 few_places [] v = omega arith
-few_places (u ∷ us) v = let a = few_places us v in dite (ℕ_discrete v u)
-    (λ same. let b = cond_yes v u (suc (length us)) (place_in us v) same in omega arith)
-    (λ other. let b = cond_no v u (suc (length us)) (place_in us v) other in omega arith)
+few_places (u ∷ us) v = grind (arith, nat_tests, few_places us v)
 
 module _ (g : Setting) where
   module _ (game : IsGame g.game) (log : Log) where

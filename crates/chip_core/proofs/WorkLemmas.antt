@@ -1,10 +1,8 @@
 -- Serves Work.antt.
 -- How many steps of a legal log count as work, and how many of its claims are refused.
-use Rattle.std.proofs.Common.{◌≡◌, ℕ, zero, suc, ◌+◌, ◌-◌, ◌*◌, ◌<◌, ◌≤◌, Bool, true, false, cond, eqb, List}
-use Rattle.std.proofs.Common.{[], ◌∷◌, length, Option, Some, None, is_some, refl, sym, ap, ◌∙◌}
-use Rattle.std.proofs.Common.{arith, ltb-true, le-ltb, length-append}
-use mathlib.Core.Logic.{dite}
-use native.Mathlib.Decide.{ℕ_discrete}
+use Rattle.std.proofs.Common.{◌≡◌, ℕ, zero, suc, ◌+◌, ◌-◌, ◌*◌, ◌<◌, ◌≤◌, Bool, true, false, cond, eqb, List, [], ◌∷◌}
+use Rattle.std.proofs.Common.{length, Option, Some, None, is_some, refl, sym, ap, ◌∙◌, arith, ltb-true}
+use Rattle.std.proofs.Common.{length-append, min, sum, ltb, ◌++◌}
 use Rattle.chip_graph.specs.ChipGame.{IsGame}
 use Rattle.chip_graph.specs.Sums.{sum_below}
 use Rattle.chip_graph.specs.Multigraph.{edge_at, IsDistance}
@@ -12,41 +10,35 @@ use Rattle.chip_sequence.specs.Bound.{greatest_degree, firing_bound, IsGreatestD
 use Rattle.chip_sequence.proofs.EndLemmas.{least_action, continued}
 use Rattle.chip_sequence.proofs.BoundLemmas.{bound_law, below_top}
 use Rattle.chip_graph.proofs.SumLemmas.{cond_yes, cond_no, cond_false, by_test, sum_below_le, sum_below_ext}
-use Rattle.chip_graph.proofs.SumLemmas.{sum_below_add, sum_below_split, sum_below_scale}
-use Rattle.chip_link.specs.Link.{Tail, claims_of, after_clear, after_claim, after_put, after_take}
+use Rattle.chip_graph.proofs.SumLemmas.{sum_below_add, sum_below_split, sum_below_scale, sum_below_one, sum_below_none}
+use Rattle.chip_link.specs.Link.{Tail, claims_of, after_clear, after_claim, after_put, after_take, sent_counts}
 use Rattle.chip_link.proofs.SoundsLemmas.{none_held, one_held, length-sent_counts}
 use Rattle.chip_part.specs.Setting.{Setting}
 use Rattle.chip_part.specs.Counting.{is_got, is_sent}
 use Rattle.chip_part.specs.declared.reply.Reply.TheVariants.{Got, Sent, Empty, Sealed}
 use Rattle.chip_part.specs.declared.cause.Cause.{Cause}
-use Rattle.chip_part.specs.Part.{may_ack, first_put}
+use Rattle.chip_part.specs.Part.{may_ack, first_put, cause}
 use Rattle.chip_part.specs.Edges.{start_of}
 use Rattle.chip_part.specs.Kept.{Met}
 use Rattle.chip_part.specs.Steps.{saw, link_after, settled_after, got_after, acked_after, fired_after, halt_after}
 use Rattle.chip_part.proofs.EdgeLemmas.{tail_graph, tail_root}
-use Rattle.chip_part.proofs.RuleLemmas.{rules_met}
-use Rattle.chip_core.specs.Core.{Log, Step, Event, Take, Ack, Fire, Clear, Claim, Put, Halt, Settle, Feed}
-use Rattle.chip_core.specs.Core.{End, Part, part_of, part_in, out_in, into_in, IsLegalLog, tail_of, head_of}
-use Rattle.chip_core.specs.Core.{root, root_edge, all_edges, graph_edges, fired_by}
+use Rattle.chip_core.specs.Core.{Log, Step, Event, Take, Ack, Fire, Clear, Claim, Put, Halt, Settle, Feed, End, Part}
+use Rattle.chip_core.specs.Core.{part_of, part_in, out_in, into_in, IsLegalLog, tail_of, head_of, root, root_edge}
+use Rattle.chip_core.specs.Core.{all_edges, graph_edges, fired_by, does}
 use Rattle.chip_core.specs.Positions.{chips_given, played_game, firings, fed_of}
 use Rattle.chip_core.specs.Work.{counts_as_work, is_refused_claim, is_refusal, work_in, refusals_in, starters}
-use Rattle.chip_core.specs.Work.{steps_at_most, fires_at_most}
-use Rattle.chip_core.specs.Work.{AreFiringBounds}
+use Rattle.chip_core.specs.Work.{steps_at_most, fires_at_most, AreFiringBounds}
 use Rattle.chip_core.proofs.PositionLemmas.{counts_are, is_sequence, is_within}
 use Rattle.chip_core.proofs.NumberLemmas.{few_root_claims}
-use Rattle.std.proofs.Common.{min, sum}
-use Rattle.chip_core.proofs.LogLemmas.{out_kept, edge_sound, edge_counts, link_step}
-use Rattle.chip_core.proofs.LogLemmas.{settled_step, got_step, acked_step, tail_inside}
-use Rattle.chip_core.proofs.GivenLemmas.{recorded, recorded_step, given_sum, played_has_more}
+use Rattle.chip_core.proofs.LogLemmas.{out_kept, edge_sound, edge_counts, link_step, settled_step, got_step, acked_step}
+use Rattle.chip_core.proofs.LogLemmas.{tail_inside}
+use Rattle.chip_core.proofs.GivenLemmas.{recorded, recorded_step, given_sum, played_has_more, fed_to, root_sends}
 use Rattle.chip_core.proofs.IdleLemmas.{counts_here}
-use Rattle.chip_core.proofs.GivenLemmas.{fed_to, root_sends}
 use Rattle.chip_part.proofs.PartLemmas.{at_other}
-use Rattle.chip_graph.proofs.SumLemmas.{sum_below_one, sum_below_none}
 use Rattle.chip_core.specs.Messages.{Message}
-use Rattle.std.proofs.Common.{ltb, ◌++◌}
-use Rattle.chip_part.specs.Part.{cause}
-use Rattle.chip_core.specs.Core.{does}
-use Rattle.chip_link.specs.Link.{sent_counts}
+use Rattle.chip_core.proofs.LogLemmas.{met_here}
+use Rattle.chip_sequence.specs.Sequence.{IsFiringSequence, counts}
+use Rattle.chip_part.proofs.OpeningLemmas.{first_is}
 
 -- one thing is changed, and what is measured of it grows by so much
 grows_at : {A : Type 0} (size : ℕ → A → ℕ) (e more : ℕ) (new old : ℕ → A) → size e (old e) + more ≤ size e (new e)
@@ -232,7 +224,7 @@ module _ (g : Setting) where
     pub work_step : (x : Step) (log : Log) → IsLegalLog g (x ∷ log)
         → cond (counts_here g log x) 1 0 + all_work log ≤ all_work (x ∷ log)
     work_step x log legal =
-        let may = rules_met g x.event (part_in g log (part_of g x.event)) legal.1.0 in
+        let may = met_here g x log legal in
         let on : ℕ → ℕ = (λ e. cond (eqb (edge_of x.event) e) (on_edge x.event (counted log x.event x.seen)) 0) in
         let by : ℕ → ℕ = (λ v. cond (eqb (part_of g x.event) v) (by_vertex x.event (counted log x.event x.seen)) 0) in
         let a = sum_below_le (all_edges g) (λ e. edge_work log e + on e) (edge_work (x ∷ log)) (λ e l.
@@ -246,13 +238,11 @@ module _ (g : Setting) where
 
     -- a root edge opens with one message where its vertex starts with chips
     first_length : (v : ℕ) → length (first_put g (root_edge g v)) ≡ cond (eqb (start_of g v) 0) 0 1
-    first_length v =
-        let at : root_edge g v - graph_edges g ≡ v = omega arith in
-        ap length (cond_false _ [] _ (le-ltb (root_edge g v) (graph_edges g) (omega arith)))
-        ∙ ap (λ (u : ℕ). length (cond (eqb (start_of g u) 0) [] (start_of g u ∷ []))) at
-        ∙ dite (ℕ_discrete (start_of g v) 0)
-        (λ z. ap length (cond_yes (start_of g v) 0 [] (start_of g v ∷ []) z) ∙ sym (cond_yes (start_of g v) 0 0 1 z))
-        (λ z. ap length (cond_no (start_of g v) 0 [] (start_of g v ∷ []) z) ∙ sym (cond_no (start_of g v) 0 0 1 z))
+    first_length v = ap length (first_is g v) ∙ long (eqb (start_of g v) 0)
+      where
+        long : (b : Bool) → length (cond b [] (start_of g v ∷ [])) ≡ cond b 0 1
+        long true = refl
+        long false = refl
 
     work_fits : (log : Log) → IsLegalLog g log → work_in g log + 2 * starters g.game ≤ all_work log
     work_fits [] legal =
@@ -293,7 +283,7 @@ module _ (g : Setting) where
         let both = length-append (sent_counts (out_in g log (root_edge g v)).link) (fed_to g x.event v) in omega arith) in
         let b = sum_below_add n (root_claims log) (λ v. length (fed_to g x.event v)) in
         let one = feeds_one x.event (part_in g log (part_of g x.event))
-        (rules_met g x.event (part_in g log (part_of g x.event)) legal.1.0) in
+        (met_here g x log legal) in
         let c = root_claims_are log legal.0 in
         let d = ap length (recorded_step g game some_ring x log legal) in
         let f = length-append (recorded g game some_ring log) (fed_of g x.event) in
@@ -376,7 +366,7 @@ module _ (g : Setting) where
     pub refusal_step : (x : Step) (log : Log) → IsLegalLog g (x ∷ log)
         → cond (is_refusal g (part_in g log (part_of g x.event)) x) 1 0 + all_refused log ≤ all_refused (x ∷ log)
     refusal_step x log legal =
-        let may = rules_met g x.event (part_in g log (part_of g x.event)) legal.1.0 in
+        let may = met_here g x log legal in
         let more : ℕ → ℕ = (λ e. cond (eqb (edge_of x.event) e)
         (cond (is_refusal g (part_in g log (part_of g x.event)) x) 1 0) 0) in
         let a = sum_below_le (graph_edges g) (λ e. refused_on (out_in g log e).link + more e)
@@ -400,23 +390,26 @@ module _ (g : Setting) where
 
     -- ---- by whole plays, and by distances
 
-    -- where no vertex is further from the sink, one number for all
-    pub distance_bounds : (log : Log) → IsLegalLog g log → (distance : ℕ) → IsGreatestDistance g.game.graph distance
-        → AreFiringBounds g log (λ v. min g.game.limit
-        (firing_bound (sum (played_game g log).start) (greatest_degree g.game.graph) distance))
-    distance_bounds log legal distance is =
+    -- what bounds every firing sequence bounds a whole play
+    bounds_by : (log : Log) → IsLegalLog g log → (most : ℕ → ℕ)
+        → ((vs : List ℕ) → IsFiringSequence g.game.graph (chips_given g log) vs → (v : ℕ) → v < g.game.graph.vertices
+        → counts vs v ≤ most v) → AreFiringBounds g log (λ v. min g.game.limit (most v))
+    bounds_by log legal most all =
         let play = continued g.game.graph (chips_given g log) g.game.limit [] tt (λ v. omega arith) in
         record {
           firings = play.0;
           whole = play.1;
-          enough = λ v l.
-              let a = below_top g.game.graph game.graph_fits (chips_given g log) distance is.greatest play.0
-              play.1.sequence v in
-              let b = play.1.within v in
-              let d = given_sum g game some_ring log in
-              let h = ap (λ (n : ℕ). firing_bound n (greatest_degree g.game.graph) distance) d in
-              omega arith;
+          enough = λ v l. (let a = all play.0 play.1.sequence v l in let b = play.1.within v in omega arith);
         }
+
+    -- where no vertex is further from the sink, one number for all
+    pub distance_bounds : (log : Log) → IsLegalLog g log → (distance : ℕ) → IsGreatestDistance g.game.graph distance
+        → AreFiringBounds g log (λ v. min g.game.limit
+        (firing_bound (sum (played_game g log).start) (greatest_degree g.game.graph) distance))
+    distance_bounds log legal distance is = bounds_by log legal _ (λ vs ok v l.
+        let a = below_top g.game.graph game.graph_fits (chips_given g log) distance is.greatest vs ok v in
+        let h = ap (λ (n : ℕ). firing_bound n (greatest_degree g.game.graph) distance) (given_sum g game some_ring log) in
+        omega arith)
 
     pub few_steps : (log : Log) → IsLegalLog g log → (fired : ℕ → ℕ) → AreFiringBounds g log fired
         → work_in g log ≤ steps_at_most g.game (length (recorded g game some_ring log)) fired
@@ -428,17 +421,8 @@ module _ (g : Setting) where
     pub distances_bound : (log : Log) → IsLegalLog g log → (distance : ℕ → ℕ)
         → ((v : ℕ) → v < g.game.graph.vertices → IsDistance g.game.graph v (distance v))
         → AreFiringBounds g log (fires_at_most g.game (recorded g game some_ring log) distance)
-    distances_bound log legal distance are =
-        let play = continued g.game.graph (chips_given g log) g.game.limit [] tt (λ v. omega arith) in
-        record {
-          firings = play.0;
-          whole = play.1;
-          enough = λ v l.
-              let a = bound_law g.game.graph game.graph_fits (chips_given g log) v (distance v) (are v l) play.0
-              play.1.sequence in
-              let c = play.1.within v in
-              let d = given_sum g game some_ring log in
-              let f = (played_has_more g game some_ring log legal).total in
-              let h = ap (λ (n : ℕ). firing_bound n (greatest_degree g.game.graph) (distance v)) (sym d ∙ f) in
-              omega arith;
-        }
+    distances_bound log legal distance are = bounds_by log legal _ (λ vs ok v l.
+        let a = bound_law g.game.graph game.graph_fits (chips_given g log) v (distance v) (are v l) vs ok in
+        let h = ap (λ (n : ℕ). firing_bound n (greatest_degree g.game.graph) (distance v))
+        (sym (given_sum g game some_ring log) ∙ (played_has_more g game some_ring log legal).total) in
+        omega arith)

@@ -2,7 +2,7 @@
 -- The worked runs: a detection order member by member, a game within the limits, the sink asked backwards, and the
 -- triangle at rest.
 use Rattle.std.proofs.Common.{◌≡◌, ℕ, zero, suc, ◌<◌, [], ◌∷◌, get_or, Contains, refl, arith, inl, inr, ◌++◌, ◌≤◌, true}
-use Rattle.std.proofs.Common.{Option, Some, None, subst}
+use Rattle.std.proofs.Common.{Option, Some, None, subst, ◌≢◌, List, ◌^◌, length, sum}
 use Rattle.chip_core.specs.Worked.{TwoEngaged, whole_schedule, WholeSchedule, limit_of_two, stopped_by_limit}
 use Rattle.chip_core.specs.Worked.{StoppedByLimit, played_on, StoppedBySeal, fed_triangle, fed_schedule, ClosedByTheEnd}
 use Rattle.chip_graph.specs.Multigraph.{edge_at, IsEdge, IsGraph, ReachesSink}
@@ -14,7 +14,6 @@ use Rattle.chip_core.specs.WorkedClosing.{sink_alone, backwards, ThreeStretches}
 use Rattle.chip_part.specs.Part.{is_passive}
 use Rattle.chip_core.specs.Messages.{in_flight}
 use Rattle.chip_part.proofs.RestingLemmas.{same_edge}
-use Rattle.std.proofs.Common.{◌≢◌, List, ◌^◌, length, sum}
 use Rattle.chip_graph.specs.Limits.{max_total, max_limit}
 use Rattle.chip_graph.specs.ChipGame.{IsGame}
 

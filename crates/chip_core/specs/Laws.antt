@@ -11,11 +11,9 @@ use Rattle.chip_graph.specs.Limits.{max_total}
 use Rattle.chip_part.specs.Edges.{chips_of_firings, mult_of, start_of}
 use Rattle.chip_part.specs.Part.{first_put}
 use Rattle.chip_part.specs.Kept.{KeepsPart}
-use Rattle.chip_part.specs.Acting.{FitsSeen}
-use Rattle.chip_part.specs.Acting.{is_of_root, FitsRoot}
+use Rattle.chip_part.specs.Acting.{FitsSeen, is_of_root, FitsRoot}
 use Rattle.chip_core.specs.Core.{Log, Step, Event, Take, Clear, Claim, Seal, Read, Feed, opening_part, unmet_rule}
-use Rattle.chip_core.specs.Core.{part_of}
-use Rattle.chip_core.specs.Core.{part_in, out_in, into_in, stop_in, fired_by, word_of_part, sees, IsLegalLog}
+use Rattle.chip_core.specs.Core.{part_of, part_in, out_in, into_in, stop_in, fired_by, word_of_part, sees, IsLegalLog}
 use Rattle.chip_core.specs.Core.{replies_to, log_after, IsClosed, is_by_limit, tail_of, root, root_edge, graph_edges}
 use Rattle.chip_core.specs.Core.{all_edges}
 use Rattle.chip_core.specs.Messages.{sent_in, was_sealed, messages_from, counts_in_flight, in_flight, sent_on, chips_in}

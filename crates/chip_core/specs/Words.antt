@@ -1,7 +1,6 @@
 -- The words that a running game shares: which word the operation of an event is on, what it leaves there, and what all
 -- words show of a log.
-use Rattle.std.specs.Prelude.{◌≡◌, ◌≢◌, ℕ, ◌+◌, ◌-◌, ◌%◌, ◌^◌, ◌<◌, ◌∷◌, length, sum, option_to_list}
-use Rattle.std.specs.Prelude.{bit_or, None}
+use Rattle.std.specs.Prelude.{◌≡◌, ◌≢◌, ℕ, ◌+◌, ◌-◌, ◌%◌, ◌^◌, ◌<◌, ◌∷◌, length, sum, option_to_list, bit_or, None}
 use Rattle.chip_link.specs.Link.{Shows, claims_of}
 use Rattle.chip_link.specs.Words.{word_after_exchange}
 pub use Rattle.chip_link.specs.Words.{halt_bits}
@@ -10,8 +9,7 @@ use Rattle.chip_part.specs.Part.{may_ack, cause, is_by_limit}
 use Rattle.chip_part.specs.Steps.{saw}
 use Rattle.chip_core.specs.Core.{Log, Event, Take, Ack, Fire, Clear, Claim, Put, Halt, Settle, Seal, Read, Feed, End}
 use Rattle.chip_core.specs.Core.{Part, unmet_rule, root_edge, part_of, part_in, out_in, into_in, stop_in, word_of_part}
-use Rattle.chip_core.specs.Core.{sees}
-use Rattle.chip_core.specs.Core.{all_edges, head_of}
+use Rattle.chip_core.specs.Core.{sees, all_edges, head_of}
 use Rattle.chip_core.specs.Laws.{ForEveryLog}
 
 -- a word, by what it is for: the edge word and the acknowledgements of an edge, a cell of its ring, and the fired word

@@ -8,11 +8,10 @@ use Rattle.chip_sequence.specs.Counted.{position_by_counts}
 use Rattle.chip_part.specs.declared.cause.Cause.TheVariants.{SealedEdge, FiringLimit}
 use Rattle.chip_part.specs.Worked.{small_triangle, chain, two_edges}
 use Rattle.chip_part.specs.Steps.{message_of, saw}
-use Rattle.chip_part.specs.declared.rule.Rule.TheVariants.{Zero, NotCleared, Engaged, NotClosed, Ended}
-use Rattle.chip_part.specs.declared.rule.Rule.TheVariants.{TooMuch}
+use Rattle.chip_part.specs.declared.rule.Rule.TheVariants.{Zero, NotCleared, Engaged, NotClosed, Ended, TooMuch}
 use Rattle.chip_part.specs.declared.reply.Reply.TheVariants.{Done, Got, Sent, Empty, Full, Sealed, NotNow}
-use Rattle.chip_core.specs.Core.{Log, Event, Take, Ack, Fire, Clear, Claim, Put, Halt, Settle, Seal, Read, Feed}
-use Rattle.chip_core.specs.Core.{End, root, part_in, fired_by, replies_to, log_after, IsSettled, IsClosed}
+use Rattle.chip_core.specs.Core.{Log, Event, Take, Ack, Fire, Clear, Claim, Put, Halt, Settle, Seal, Read, Feed, End}
+use Rattle.chip_core.specs.Core.{root, part_in, fired_by, replies_to, log_after, IsSettled, IsClosed}
 use Rattle.chip_core.specs.Messages.{sent_in, delivered_in, sent_after_seal, in_flight}
 use Rattle.chip_core.specs.Positions.{chips_given, held, chips_at, full_position, firings}
 use Rattle.chip_core.specs.Detection.{IsDetectionOrder}

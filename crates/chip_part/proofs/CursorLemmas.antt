@@ -11,8 +11,7 @@ use Rattle.chip_part.specs.Setting.{Setting}
 use Rattle.chip_part.specs.Part.{Part}
 use Rattle.chip_part.specs.declared.act.Act.{Act}
 use Rattle.chip_part.specs.declared.act.Act.TheVariants as Do
-use Rattle.chip_part.specs.Rules.{Event, Fire, Halt, Seal, Read, Feed, End}
-use Rattle.chip_part.specs.Rules.{unmet_rule}
+use Rattle.chip_part.specs.Rules.{Event, Fire, Halt, Seal, Read, Feed, End, unmet_rule}
 use Rattle.chip_part.specs.Steps.{Step, part_of, does, saw}
 use Rattle.chip_part.specs.Acting.{act_of, event_of}
 use Rattle.chip_part.specs.Turn.{Phase, nothing, either_phase, where_phase, and_then, each_phase, turn}

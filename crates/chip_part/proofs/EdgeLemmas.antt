@@ -6,8 +6,8 @@ use Rattle.chip_part.specs.Setting.{Setting}
 use Rattle.chip_graph.specs.Sums.{sum_below}
 use Rattle.chip_graph.proofs.SumLemmas.{cond_yes, cond_no, cond_true, cond_false, sum_below_ext, sum_below_none}
 use Rattle.chip_graph.proofs.SumLemmas.{sum_below_split, sum_below_one}
-use Rattle.chip_part.specs.Edges.{graph_edges, all_edges, root_edge, root, tail_of, head_of, mult_of}
-use Rattle.chip_part.specs.Edges.{over_outs, over_ins}
+use Rattle.chip_part.specs.Edges.{graph_edges, all_edges, root_edge, root, tail_of, head_of, mult_of, over_outs}
+use Rattle.chip_part.specs.Edges.{over_ins}
 
 module _ (g : Setting) where
   pub tail_graph : (e : ℕ) → e < graph_edges g → tail_of g e ≡ (edge_at g.game.graph e).tail

@@ -7,6 +7,4 @@ pub mod TurnLemmas
 pub mod CursorLemmas
 pub mod TurnStepsLemmas
 pub mod PhaseLemmas
-pub mod CompletingTurnsLemmas
 pub mod RestingLemmas
-pub mod WorkedTurns

@@ -1,6 +1,6 @@
 -- Serves Edges.antt, Part.antt.
 -- Every part opens with what it keeps.
-use Rattle.std.proofs.Common.{◌≡◌, ℕ, ◌+◌, ◌-◌, ◌<◌, ◌≤◌, Bool, true, false, not, ◌&&◌, cond, eqb, ltb, leb, [], ◌∷◌}
+use Rattle.std.proofs.Common.{◌≡◌, ℕ, ◌+◌, ◌-◌, ◌<◌, Bool, true, false, not, ◌&&◌, cond, eqb, ltb, leb, [], ◌∷◌}
 use Rattle.std.proofs.Common.{length, sum, Option, Some, None, refl, sym, ap, ◌∙◌, subst, arith, eq-eqb, eqb-true}
 use Rattle.std.proofs.Common.{lt-ltb, le-ltb, true≢false, mul-zero, append-nil}
 use Rattle.std.proofs.lemmas.Bool.{and_from, not_from_false, or_right, lt-leb, and_right}
@@ -20,16 +20,16 @@ use Rattle.chip_part.specs.Kept.{KeepsPart, opening_tail}
 use Rattle.chip_part.proofs.PartLemmas.{tail_inside}
 
 module _ (g : Setting) where
+  -- a root edge opens with the chips of its vertex, if it has any
+  pub first_is : (v : ℕ) → first_put g (root_edge g v) ≡ cond (eqb (start_of g v) 0) [] (start_of g v ∷ [])
+  first_is v = cond_false (ltb (root_edge g v) (length g.game.graph.edges)) [] _
+      (le-ltb (root_edge g v) (length g.game.graph.edges) (omega arith))
+      ∙ ap (λ (u : ℕ). cond (eqb (start_of g u) 0) [] (start_of g u ∷ [])) (let at : root_edge g v - graph_edges g ≡ v = omega arith in at)
+
   first_sum : (v : ℕ) → sum (first_put g (root_edge g v)) ≡ start_of g v
-  first_sum v =
-      let l : graph_edges g ≤ root_edge g v = omega arith in
-      let s : ℕ = start_of g (root_edge g v - graph_edges g) in
-      let a : first_put g (root_edge g v) ≡ cond (eqb s 0) [] (s ∷ []) =
-      cond_false (ltb (root_edge g v) (length g.game.graph.edges)) [] _ (le-ltb (root_edge g v) (length g.game.graph.edges) l) in
-      let d : sum (cond (eqb s 0) [] (s ∷ [])) ≡ s = dite (ℕ_discrete s 0) (λ z. ap sum (cond_yes s 0 [] (s ∷ []) z)
-      ∙ sym z) (λ z. ap sum (cond_no s 0 [] (s ∷ []) z) ∙ (let y : 0 + s ≡ s = omega arith in y)) in
-      let at : root_edge g v - graph_edges g ≡ v = omega arith in
-      ap sum a ∙ d ∙ ap (start_of g) at
+  first_sum v = let s : ℕ = start_of g v in ap sum (first_is v) ∙ dite (ℕ_discrete s 0)
+      (λ z. ap sum (cond_yes s 0 [] (s ∷ []) z) ∙ sym z)
+      (λ z. ap sum (cond_no s 0 [] (s ∷ []) z) ∙ (let y : 0 + s ≡ s = omega arith in y))
 
   -- what an opening edge ever sent to a vertex is what this starts with
   pub first_sent : (v : ℕ) → sum (sent_counts (opening_tail g (root_edge g v))) ≡ start_of g v

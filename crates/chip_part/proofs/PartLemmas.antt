@@ -4,8 +4,7 @@ use Rattle.std.proofs.Common.{◌≡◌, ◌≢◌, ◌⊎◌, ℕ, zero, suc, �
 use Rattle.std.proofs.Common.{cond, eqb, ltb, leb, List, [], ◌∷◌, ◌++◌, length, sum, Option, Some, None, option_to_list}
 use Rattle.std.proofs.Common.{refl, sym, ap, ◌∙◌, subst, arith, inl, inr, ⊎_elim, eq-eqb, ne_eqb, eqb-true, ltb-true}
 use Rattle.std.proofs.Common.{leb-true, lt-ltb, le-ltb, le-leb, true≢false, length-append, append-nil, mul-add}
-use Rattle.std.proofs.Common.{mul_comm, mul-zero}
-use Rattle.std.proofs.Common.{add-mul}
+use Rattle.std.proofs.Common.{mul_comm, mul-zero, add-mul}
 use Rattle.std.proofs.lemmas.Bool.{not-true, eqb-false, and_parts, or_cases, and_from, cases_Bool, not_from_true}
 use Rattle.std.proofs.lemmas.List.Sums.{sum_by-append, sum_by_push}
 use mathlib.Core.Logic.{dite}
@@ -22,13 +21,13 @@ use Rattle.chip_part.specs.declared.cause.Cause.TheVariants.{SealedEdge, FiringL
 use Rattle.chip_part.specs.Edges.{graph_edges, all_edges, root_edge, tail_of, head_of, mult_of, over_outs, over_ins}
 use Rattle.chip_part.specs.Part.{Cause, Part, is_running, owed, outstanding, may_ack, all_owed, pending_of, unput_count}
 use Rattle.chip_part.specs.Part.{refusals, cause, is_legal, is_passive, deficit, all_fed}
-use Rattle.chip_part.specs.Rules.{Event, Take, Ack, Fire, Clear, Claim, Put, Halt, Settle}
-use Rattle.chip_part.specs.Rules.{Feed, End, unmet_rule}
+use Rattle.chip_part.specs.Rules.{Event, Take, Ack, Fire, Clear, Claim, Put, Halt, Settle, Feed, End, unmet_rule}
 use Rattle.chip_part.specs.Steps.{part_of, settled_after, got_after, acked_after, halt_after, fired_after, saw}
 use Rattle.chip_part.specs.Steps.{parent_after, link_after, ended_after, does, Step}
 use Rattle.chip_part.proofs.RuleLemmas.{rules_met}
 use Rattle.chip_part.proofs.EdgeLemmas.{tail_root}
 use Rattle.chip_part.specs.Kept.{Met, IsNeutral, KeepsOut, KeepsPart}
+use Rattle.chip_detect.proofs.AllowedLemmas.{within_owed}
 
 -- one edge is changed, and what is said of the others needs that they are others
 pub at_other : {A : Type 0} (P : ℕ → A → Type 0) (e : ℕ) (new old : ℕ → A) → P e (new e)
@@ -215,10 +214,7 @@ module _ (g : Setting) where
       (λ some. let a = took_some seen got some in omega arith)
 
   pub may_le : (v e : ℕ) (s : Part) → may_ack g v s e ≤ owed (s.into e)
-  may_le v e s = by_test (is_parent e s.parent
-      && not (eqb (all_owed g v s) (owed (s.into e)) && is_passive g v s && eqb (deficit g v s) 0))
-      (λ y. let a = cond_true _ (owed (s.into e) - 1) (owed (s.into e)) y in omega arith)
-      (λ n. let a = cond_false _ (owed (s.into e) - 1) (owed (s.into e)) n in omega arith)
+  may_le v e s = within_owed e s.parent (owed (s.into e)) (all_owed g v s) (deficit g v s) (is_passive g v s)
 
   chips_kept : (x : Event) (seen p : ℕ) (s : Part) → p ≡ part_of g x → Met g x s
       → s.chips + degree g.game.graph p * s.fired ≡ over_ins g p (λ e. sum (s.into e).got)

@@ -1,22 +1,28 @@
--- Serves Turn.antt, Cursor.antt.
+-- Serves Turn.antt, Cursor.antt, Worked.antt.
 -- What goes from the phases of a turn to the phases that are made of them holds of the whole turn, and of what is left
--- of it at a cursor.
-use Rattle.std.proofs.Common.{◌≡◌, ℕ, zero, suc, ◌+◌, Bool, true, false, not, ◌&&◌, eqb, List, [], ◌∷◌, drop, Contains, refl}
-use Rattle.std.proofs.Common.{sym, ap, ◌∙◌, arith, is_some}
+-- of it at a cursor. So every turn that is under way can be completed, and a worked turn is the one that its sights tell.
+use Rattle.std.proofs.Common.{◌≡◌, ℕ, zero, suc, ◌+◌, Bool, true, false, not, ◌&&◌, eqb, List, [], ◌∷◌, drop, Contains}
+use Rattle.std.proofs.Common.{refl, sym, ap, ◌∙◌, arith, is_some, ◌<◌, ◌≤◌, ◌++◌, length, Option, Some, None}
+use Rattle.std.proofs.Common.{length-append, cond}
 use Rattle.std.proofs.lemmas.List.{get_or_default}
 use Rattle.chip_link.specs.Link.{claims_of}
 use Rattle.chip_part.specs.Setting.{Setting}
 use Rattle.chip_part.specs.declared.cursor.Cursor.TheVariants as At
 use Rattle.chip_part.specs.Edges.{tail_of, head_of}
-use Rattle.chip_part.specs.Part.{Part, is_running, refusals, may_ack}
+use Rattle.chip_part.specs.Part.{Part, is_running, refusals, may_ack, opening_part}
 use Rattle.chip_part.specs.Rules.{Event, Take, Ack, Fire, Clear, Claim, Put, Halt, Settle}
-use Rattle.chip_part.specs.Steps.{part_of}
+use Rattle.chip_part.specs.Steps.{part_of, Step, does, saw, part_after}
 use Rattle.chip_part.specs.Turn.{Phase, nothing, either_phase, where_phase, and_then, each_phase, ins_of, outs_of}
 use Rattle.chip_part.specs.Turn.{seeing, one_step, may_fire, batch_of, firing, after_claim_phase, after_clear_phase}
 use Rattle.chip_part.specs.Turn.{sending, putting, sending_all, is_at_limit, acknowledging, last_acknowledgement, turn}
+use Rattle.chip_part.specs.Turn.{acknowledging_parent, most_steps}
 use Rattle.chip_part.specs.Cursor.{Cursor, rest_of_turn, from_acknowledging, from_limit, from_sending, from_refusal}
-use Rattle.chip_part.specs.Cursor.{from_putting, from_firing, from_settling, from_taking, out_at, claiming, storing, IsAt}
+use Rattle.chip_part.specs.Cursor.{from_putting, from_firing, from_settling, from_taking, out_at, claiming, storing}
+use Rattle.chip_part.specs.Cursor.{IsAt, IsUnderWay}
 use Rattle.chip_part.proofs.TurnStepsLemmas.{out_leaves, in_enters}
+use Rattle.chip_part.specs.Kept.{KeepsPart}
+use Rattle.chip_part.proofs.TurnLemmas.{turns_bounded}
+use Rattle.chip_part.specs.Worked.{small_triangle, FirstTurn, sent_in_part, TurnBegunInTheMiddle}
 
 module _ (g : Setting) (v : ℕ) where
   -- it holds of no operation, of a phase that is chosen by the part, of two phases, of one operation of the vertex and
@@ -142,3 +148,62 @@ module _ (g : Setting) (v : ℕ) where
 
     abbrev pub of_turn : P (turn g v)
     of_turn = from_takes 0
+
+-- the phase can be made from every part
+abbrev pub Total : Phase → Type 0
+Total p = (s : Part) → (ds : List Step) × (after : Part) × p s ds after
+
+abbrev total_nothing : Total nothing
+total_nothing s = ([], s, (refl, refl))
+
+abbrev total_either : (b : Bool) (p q : Phase) → Total p → Total q → Total (either_phase b p q)
+total_either true p q some other = some
+total_either false p q some other = other
+
+-- whatever its operations are to see
+module _ (sight : Event → ℕ) (g : Setting) (v : ℕ) where
+  abbrev total_event : (x : Event) (next : ℕ → Part → Phase) → ((seen : ℕ) (before : Part) → Total (next seen before))
+      → Total (seeing g v x next)
+  total_event x next some s =
+      let rest = some (sight x) s (does g (saw x (sight x)) s) in
+      (saw x (sight x) ∷ rest.0, rest.1, (sight x, rest.0, refl, rest.2))
+
+  abbrev total_parent : (parent : Option ℕ) → Total (acknowledging_parent g v parent)
+  total_parent None s = total_nothing s
+  total_parent (Some e) s = total_either (not (eqb (may_ack g (head_of g e) s e) 0)) (one_step g v (Ack e)) nothing
+      (total_event (Ack e) (λ seen before. nothing) (λ seen before. total_nothing)) total_nothing s
+
+  abbrev pub total : Spreads g v Total
+  total = record {
+    none = total_nothing;
+    chosen = λ p all s. all s s;
+    both = λ p q some other s. (let front = some s in let back = other front.1 in
+        (front.0 ++ back.0, back.1, (front.0, front.1, back.0, refl, front.2, back.2)));
+    event = λ x by. total_event x;
+    last = λ s. total_parent s.parent s;
+  }
+
+pub under_way_bounded : (g : Setting) (v : ℕ) → v < g.game.graph.vertices → (first : Part) → KeepsPart g v first
+    → (done : List Step) (cursor : Cursor) (s : Part) → IsUnderWay g v first done cursor s
+    → length done ≤ most_steps g v
+under_way_bounded g v vertex first kept done cursor s way =
+    let rest = of_left g v Total (total (λ x. 0) g v) cursor s way.fits s in
+    let whole = turns_bounded g v vertex first kept (done ++ rest.0) (rest.1, way.rest rest.0 rest.1 rest.2) in
+    let n = length-append done rest.0 in
+    omega arith
+
+abbrev found : Event → ℕ
+found (Take e) = cond (eqb e 4) 4 0
+found _ = 0
+
+pub first_turn_is : FirstTurn
+first_turn_is =
+    let g : Setting = small_triangle (4 ∷ 0 ∷ 0 ∷ []) in
+    let whole = of_turn g 0 Total (total found g 0) (opening_part g) in
+    ((whole.1, whole.2), refl)
+
+pub second_turn_is : TurnBegunInTheMiddle
+second_turn_is =
+    let g : Setting = small_triangle (6 ∷ 0 ∷ 0 ∷ []) in
+    let whole = of_turn g 0 Total (total (λ x. 0) g 0) (part_after g (opening_part g) sent_in_part) in
+    (refl, (whole.1, whole.2))

@@ -2,8 +2,7 @@
 -- The rules of an event in plain facts: each holds where none is unmet, and the other way round.
 use Rattle.std.proofs.Common.{◌≡◌, ◌≢◌, ℕ, ◌+◌, ◌*◌, ◌<◌, ◌≤◌, Bool, true, false, not, ◌&&◌, eqb, Option, Some, None}
 use Rattle.std.proofs.Common.{is_some, is_none, refl, sym, ap, ◌∙◌, arith, inl, inr, ⊎_elim, le-ltb, eq-eqb, ne_eqb}
-use Rattle.std.proofs.Common.{eqb-true, ltb-true, leb-true}
-use Rattle.std.proofs.Common.{lt-ltb, le-leb, true≢false}
+use Rattle.std.proofs.Common.{eqb-true, ltb-true, leb-true, lt-ltb, le-leb, true≢false}
 use Rattle.std.proofs.lemmas.Bool.{not-true, eqb-false, and_parts, and_from}
 use Rattle.chip_part.specs.Setting.{Setting}
 use Rattle.chip_part.specs.Part.{Part, Cause, is_running}
@@ -12,8 +11,8 @@ use native.Mathlib.Decide.{dec_lt}
 use Rattle.chip_graph.proofs.SumLemmas.{cond_true, cond_false}
 use Rattle.chip_part.specs.Edges.{graph_edges, all_edges}
 use Rattle.chip_part.proofs.EdgeLemmas.{graph_inside}
-use Rattle.chip_part.specs.Rules.{Event, Take, Ack, Fire, Clear, Claim, Put, Halt, Settle, Seal, Read, Rule, need}
-use Rattle.chip_part.specs.Rules.{Feed, End, unmet_by_vertex, unmet_by_root, unmet_rule}
+use Rattle.chip_part.specs.Rules.{Event, Take, Ack, Fire, Clear, Claim, Put, Halt, Settle, Seal, Read, Rule, need, Feed}
+use Rattle.chip_part.specs.Rules.{End, unmet_by_vertex, unmet_by_root, unmet_rule}
 use Rattle.chip_part.specs.Kept.{Met}
 
 -- the first of some rules, and the rest

@@ -1,9 +1,9 @@
 -- Serves Turn.antt, Rules.antt.
 -- How many operations a turn has at most. An edge out of the vertex has either a message to put or something to send,
 -- never both, so three operations for it are enough.
-use Rattle.std.proofs.Common.{◌≡◌, ℕ, suc, ◌+◌, ◌*◌, ◌<◌, ◌≤◌, Bool, true, false, not, ◌&&◌, cond, eqb}
-use Rattle.std.proofs.Common.{List, [], ◌∷◌, length, Option, Some, None, is_some}
-use Rattle.std.proofs.Common.{option_to_list, refl, sym, ap, ◌∙◌, subst, arith, eqb-true, length-append, true≢false}
+use Rattle.std.proofs.Common.{◌≡◌, ℕ, suc, ◌+◌, ◌*◌, ◌<◌, ◌≤◌, Bool, true, false, not, ◌&&◌, cond, eqb, List, [], ◌∷◌}
+use Rattle.std.proofs.Common.{length, Option, Some, None, is_some, option_to_list, refl, sym, ap, ◌∙◌, subst, arith}
+use Rattle.std.proofs.Common.{eqb-true, length-append, true≢false, pos_of_ne-zero}
 use Rattle.std.proofs.lemmas.Bool.{and_parts, not-true, eqb-false}
 use Rattle.std.specs.List.{All}
 use Rattle.chip_part.specs.Setting.{Setting}
@@ -19,11 +19,11 @@ use Rattle.chip_part.specs.Rules.{Event, Take, Ack, Fire, Clear, Claim, Put, Hal
 use Rattle.chip_part.specs.Steps.{Step, does, saw}
 use Rattle.chip_part.specs.Turn.{Phase, nothing, either_phase, where_phase, each_phase, one_step, seeing, ins_of}
 use Rattle.chip_part.specs.Turn.{outs_of, firing, may_fire, batch_of, putting, sending, after_clear_phase}
-use Rattle.chip_part.specs.Turn.{after_claim_phase, acknowledging, acknowledging_parent, is_at_limit, IsTurn, most_steps}
+use Rattle.chip_part.specs.Turn.{after_claim_phase, acknowledging, acknowledging_parent, is_at_limit, IsTurn}
+use Rattle.chip_part.specs.Turn.{most_steps}
 use Rattle.chip_part.specs.Kept.{KeepsPart}
 use Rattle.chip_part.proofs.PartLemmas.{out_zero, no_held, tail_inside}
 use Rattle.chip_part.specs.Cursor.{from_putting}
-use Rattle.std.proofs.Common.{pos_of_ne-zero}
 
 -- whatever such a phase does, it has at most n operations
 abbrev AtMost : ℕ → Phase → Type 0

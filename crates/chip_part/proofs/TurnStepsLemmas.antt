@@ -34,8 +34,7 @@ use Rattle.chip_part.specs.Cursor.{IsAt, GoesBy}
 use Rattle.chip_part.proofs.EdgeLemmas.{tail_graph, head_graph, head_root, graph_inside}
 use Rattle.chip_part.proofs.RuleLemmas.{met_rules, positive, running}
 use Rattle.chip_part.proofs.PartLemmas.{out_zero, tail_inside, may_le}
-use Rattle.chip_part.proofs.PickedLemmas.{picked_passes}
-use Rattle.chip_part.proofs.PickedLemmas.{among_new_outs}
+use Rattle.chip_part.proofs.PickedLemmas.{picked_passes, among_new_outs}
 use Rattle.chip_part.proofs.CursorLemmas.{skip, step, either_yes, either_no, where_yes, where_no, each_over, each_more}
 use Rattle.chip_part.proofs.CursorLemmas.{each_to, each_none, Passes}
 
@@ -157,18 +156,12 @@ module _ (g : Setting) (v : ℕ) (vertex : v < g.game.graph.vertices) (s : Part)
         met = met_rules g (Take e) s (in_inside g v vertex e (in_enters g v place within));
         fewer = omega arith;
         fits = λ seen. tt;
-        rest = λ seen ds after h. each_more (λ i. one_step g v (Take i)) (ins_of g v)
-            (from_settling g v 0) place within s (does g (saw (Take e) seen) s)
-            (saw (Take e) seen ∷ []) ds after
-            (seen, [], refl, (refl, refl)) h;
+        rest = λ seen ds after h. each_more (λ i. one_step g v (Take i)) (ins_of g v) (from_settling g v 0) place within s (does g (saw (Take e) seen) s)
+            (saw (Take e) seen ∷ []) ds after (seen, [], refl, (refl, refl)) h;
       }
 
   pub takes_over : (place : ℕ) → length (ins_of g v) ≤ place → Passes g v s (At.Take place) (At.Settle 0)
-  takes_over place over = record {
-    fewer = omega arith;
-    rest = each_over (λ e. one_step g v (Take e)) (ins_of g v)
-        (from_settling g v 0) place over s;
-  }
+  takes_over place over = record { fewer = omega arith; rest = each_over _ _ _ place over s }
 
   -- settles
 
@@ -181,19 +174,12 @@ module _ (g : Setting) (v : ℕ) (vertex : v < g.game.graph.vertices) (s : Part)
         met = met_rules g (Settle e) s (let l = out_inside g v place within in omega arith);
         fewer = omega arith;
         fits = λ seen. tt;
-        rest = λ seen ds after h. each_more (λ i. one_step g v (Settle i)) (outs_of g v)
-            (from_firing g v) place within s (does g (saw (Settle e) seen) s)
-            (saw (Settle e) seen ∷ []) ds after
-            (seen, [], refl, (refl, refl)) h;
+        rest = λ seen ds after h. each_more (λ i. one_step g v (Settle i)) (outs_of g v) (from_firing g v) place within s (does g (saw (Settle e) seen) s)
+            (saw (Settle e) seen ∷ []) ds after (seen, [], refl, (refl, refl)) h;
       }
 
   pub settles_over : (place : ℕ) → length (outs_of g v) ≤ place → Passes g v s (At.Settle place) At.Fire
-  settles_over place over =
-      record {
-        fewer = omega arith;
-        rest = each_over (λ e. one_step g v (Settle e)) (outs_of g v)
-            (from_firing g v) place over s;
-      }
+  settles_over place over = record { fewer = omega arith; rest = each_over _ _ _ place over s }
 
   -- the firing
 
@@ -248,11 +234,7 @@ module _ (g : Setting) (v : ℕ) (vertex : v < g.game.graph.vertices) (s : Part)
       }
 
   pub no_fire_due : may_fire g v s ≡ false → Passes g v s At.Fire (At.Put 0)
-  no_fire_due off = record {
-    fewer = omega arith;
-    rest = skip (firing g v) (from_putting g v 0) s
-        (where_no (may_fire g v) (one_step g v (Fire v (batch_of g v s))) s off);
-  }
+  no_fire_due off = record { fewer = omega arith; rest = skip (firing g v) _ s (where_no (may_fire g v) (one_step g v (Fire v (batch_of g v s))) s off) }
 
   -- puts of what was claimed before
 
@@ -293,11 +275,7 @@ module _ (g : Setting) (v : ℕ) (vertex : v < g.game.graph.vertices) (s : Part)
   pub puts_over : (place : ℕ)
       → ((k : ℕ) → place ≤ k → k < length (outs_of g v) → is_some (s.out (out_at g v k)).link.held ≡ false)
       → Passes g v s (At.Put place) At.Refusal
-  puts_over place none = record {
-    fewer = omega arith;
-    rest = each_none (putting g v) (outs_of g v) (from_refusal g v) place s
-        (λ k a b. idle_put k (none k a b));
-  }
+  puts_over place none = record { fewer = omega arith; rest = each_none _ _ _ place s (λ k a b. idle_put k (none k a b)) }
 
   pub puts_fit : (place : ℕ) → IsAt g v (At.Put place) s
       → ((k : ℕ) → place ≤ k → k < length (outs_of g v) → is_some (s.out (out_at g v k)).link.held ≡ false)
@@ -330,11 +308,7 @@ module _ (g : Setting) (v : ℕ) (vertex : v < g.game.graph.vertices) (s : Part)
   }
 
   pub refusal_over : is_running s.halt ≡ false → Passes g v s At.Refusal At.Limit
-  refusal_over halted = record {
-    fewer = omega arith;
-    rest = skip (sending_all g v) (from_limit g v) s
-        (either_no (is_running s.halt) _ nothing s [] s halted (refl, refl));
-  }
+  refusal_over halted = record { fewer = omega arith; rest = skip (sending_all g v) _ s (either_no (is_running s.halt) _ nothing s [] s halted (refl, refl)) }
 
   pub refusal_none : s.halt ≡ None → refusals g v s ≡ 0 → Passes g v s At.Refusal (At.Send 0)
   refusal_none runs none = record {
@@ -406,21 +380,12 @@ module _ (g : Setting) (v : ℕ) (vertex : v < g.game.graph.vertices) (s : Part)
   pub sends_to : (place next : ℕ) → place ≤ next → next ≤ length (outs_of g v)
       → ((k : ℕ) → place ≤ k → k < next → not (eqb (s.out (out_at g v k)).pending 0) ≡ false)
       → Passes g v s (At.Send place) (At.Send next)
-  sends_to place next le within none =
-      record {
-        fewer = omega arith;
-        rest = each_to (sending g v) (outs_of g v) (from_limit g v) place next le within s
-            (λ k a b. idle_send (out_at g v k) (none k a b));
-      }
+  sends_to place next le within none = record { fewer = omega arith; rest = each_to _ _ _ place next le within s (λ k a b. idle_send (out_at g v k) (none k a b)) }
 
   pub sends_over : (place : ℕ)
       → ((k : ℕ) → place ≤ k → k < length (outs_of g v) → not (eqb (s.out (out_at g v k)).pending 0) ≡ false)
       → Passes g v s (At.Send place) At.Limit
-  sends_over place none = record {
-    fewer = omega arith;
-    rest = each_none (sending g v) (outs_of g v) (from_limit g v) place s
-        (λ k a b. idle_send (out_at g v k) (none k a b));
-  }
+  sends_over place none = record { fewer = omega arith; rest = each_none _ _ _ place s (λ k a b. idle_send (out_at g v k) (none k a b)) }
 
   -- claims
 
@@ -472,8 +437,7 @@ module _ (g : Setting) (v : ℕ) (vertex : v < g.game.graph.vertices) (s : Part)
       → Passes g v s (At.Claim place) (At.Send (place + 1))
   claim_over place (within, at) full = record {
     fewer = omega arith;
-    rest = skip (claiming g v (out_at g v place)) (from_sending g v (place + 1)) s
-        (where_no (λ p. (p.out (out_at g v place)).link.clear)
+    rest = skip (claiming g v (out_at g v place)) _ s (where_no (λ p. (p.out (out_at g v place)).link.clear)
         (seeing g v (Claim (out_at g v place)) (after_claim_phase g v (out_at g v place))) s full);
   }
 
@@ -559,11 +523,7 @@ module _ (g : Setting) (v : ℕ) (vertex : v < g.game.graph.vertices) (s : Part)
       }
 
   pub no_limit_due : is_at_limit g v s ≡ false → Passes g v s At.Limit (At.Ack 0)
-  no_limit_due off = record {
-    fewer = omega arith;
-    rest = skip (where_phase (is_at_limit g v) (one_step g v (Halt v)))
-        (from_acknowledging g v 0) s (where_no (is_at_limit g v) (one_step g v (Halt v)) s off);
-  }
+  no_limit_due off = record { fewer = omega arith; rest = skip (where_phase (is_at_limit g v) (one_step g v (Halt v))) _ s (where_no (is_at_limit g v) (one_step g v (Halt v)) s off) }
 
   -- acknowledgements
 
@@ -599,21 +559,13 @@ module _ (g : Setting) (v : ℕ) (vertex : v < g.game.graph.vertices) (s : Part)
       → ((k : ℕ) → place ≤ k → k < next
       → acks_at g v s k ≡ false)
       → Passes g v s (At.Ack place) (At.Ack next)
-  acks_to place next le within none = record {
-    fewer = omega arith;
-    rest = each_to (acknowledging g v) (ins_of g v) (last_acknowledgement g v) place next le within s
-        (λ k a b. idle_ack k (none k a b));
-  }
+  acks_to place next le within none = record { fewer = omega arith; rest = each_to _ _ _ place next le within s (λ k a b. idle_ack k (none k a b)) }
 
   pub acks_over : (place : ℕ)
       → ((k : ℕ) → place ≤ k → k < length (ins_of g v)
       → acks_at g v s k ≡ false)
       → Passes g v s (At.Ack place) At.Parent
-  acks_over place none = record {
-    fewer = omega arith;
-    rest = each_none (acknowledging g v) (ins_of g v) (last_acknowledgement g v) place s
-        (λ k a b. idle_ack k (none k a b));
-  }
+  acks_over place none = record { fewer = omega arith; rest = each_none _ _ _ place s (λ k a b. idle_ack k (none k a b)) }
 
   pub parent_due : (e : ℕ) → s.parent ≡ Some e → head_of g e ≡ v → not (eqb (may_ack g (head_of g e) s e) 0) ≡ true
       → GoesBy g v s At.Parent (Ack e) At.Over

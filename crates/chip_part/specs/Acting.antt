@@ -1,6 +1,6 @@
 -- The operation that an event needs, the event that an operation makes, and which words an operation may have seen.
-use Rattle.std.specs.Prelude.{◌≡◌, ◌≢◌, ℕ, ◌+◌, ◌-◌, ◌%◌, ◌<◌, ◌≤◌, length, sum, Option, Some, None, Result, Ok}
-use Rattle.std.specs.Prelude.{Err, option_to_list, Bool, true, false, nat_le}
+use Rattle.std.specs.Prelude.{◌≡◌, ◌≢◌, ℕ, ◌+◌, ◌-◌, ◌%◌, ◌<◌, ◌≤◌, length, sum, Option, Some, None, Result, Ok, Err}
+use Rattle.std.specs.Prelude.{option_to_list, Bool, true, false, nat_le}
 use Rattle.chip_graph.specs.Limits.{max_total}
 use Rattle.chip_part.specs.declared.act.Act.{Act}
 use Rattle.chip_part.specs.declared.act.Act.TheVariants as Do
@@ -11,8 +11,8 @@ use Rattle.chip_link.specs.Link.{claims_of}
 use Rattle.chip_detect.specs.Tally.{message_limit}
 use Rattle.chip_part.specs.Edges.{graph_edges, head_of, root_edge}
 use Rattle.chip_part.specs.Part.{Part, may_ack, cause, is_by_limit}
-use Rattle.chip_part.specs.Rules.{Rule, Event, Take, Ack, Fire, Clear, Claim, Put, Halt, Settle, Seal, Read}
-use Rattle.chip_part.specs.Rules.{Feed, End, unmet_rule}
+use Rattle.chip_part.specs.Rules.{Rule, Event, Take, Ack, Fire, Clear, Claim, Put, Halt, Settle, Seal, Read, Feed, End}
+use Rattle.chip_part.specs.Rules.{unmet_rule}
 use Rattle.chip_part.specs.Steps.{part_of}
 
 -- the operation that an event of a vertex needs, where its rules are met. A message with place p stands in cell p %

@@ -7,10 +7,8 @@ use Rattle.chip_link.specs.Link.{Tail, claims_of}
 use Rattle.chip_part.specs.declared.cause.Cause.TheVariants.{FiringLimit}
 use Rattle.chip_part.specs.Edges.{graph_edges, all_edges, tail_of, head_of, over_ins, chips_of_firings, root}
 use Rattle.chip_part.specs.Part.{Part, Cause, owed, may_ack, pending_of, unput_count, cause, deficit, all_owed}
-use Rattle.chip_part.specs.Part.{is_passive}
-use Rattle.chip_part.specs.Part.{is_legal, all_fed, first_put}
-use Rattle.chip_part.specs.Rules.{Event, Take, Ack, Fire, Clear, Claim, Put, Halt, Settle, Seal, Read}
-use Rattle.chip_part.specs.Rules.{Feed, End}
+use Rattle.chip_part.specs.Part.{is_passive, is_legal, all_fed, first_put}
+use Rattle.chip_part.specs.Rules.{Event, Take, Ack, Fire, Clear, Claim, Put, Halt, Settle, Seal, Read, Feed, End}
 use Rattle.chip_graph.specs.Limits.{max_total}
 
 -- the rules of an event in plain facts

@@ -1,8 +1,8 @@
 -- One part of the core: the state that one vertex alone changes, or the root, or the stopper. All three have the same
 -- record, by the numbers of edges: an edge is looked up in the part of its own tail, of its own head and of the
 -- stopper, and nowhere else.
-use Rattle.std.specs.Prelude.{◌≡◌, ℕ, ◌-◌, ◌<◌, Bool, true, false, not, ◌&&◌, ◌||◌, ◌==◌, nat_lt, nat_le, if◌then◌else◌, List, []}
-use Rattle.std.specs.Prelude.{◌∷◌, length, sum, slice_index, Option, Some, None, is_none, option_to_list}
+use Rattle.std.specs.Prelude.{◌≡◌, ℕ, ◌-◌, ◌<◌, Bool, true, false, not, ◌&&◌, ◌||◌, ◌==◌, nat_lt, nat_le, if◌then◌else◌}
+use Rattle.std.specs.Prelude.{List, [], ◌∷◌, length, sum, slice_index, Option, Some, None, is_none, option_to_list}
 pub use Rattle.chip_part.specs.declared.cause.Cause.{Cause}
 use Rattle.chip_part.specs.declared.cause.Cause.TheVariants.{SealedEdge, FiringLimit}
 use Rattle.chip_graph.specs.Multigraph.{degree}

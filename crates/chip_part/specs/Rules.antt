@@ -1,7 +1,6 @@
 -- The rules of each event, in their order, asked of the part that makes it. What another part did is asked of no rule.
 use Rattle.std.specs.Prelude.{ℕ, ◌+◌, ◌*◌, Bool, true, false, not, ◌&&◌, ◌==◌, nat_lt, nat_le, List, [], ◌∷◌, Option}
-use Rattle.std.specs.Prelude.{Some}
-use Rattle.std.specs.Prelude.{None, is_some, is_none, if◌then◌else◌}
+use Rattle.std.specs.Prelude.{Some, None, is_some, is_none, if◌then◌else◌}
 pub use Rattle.chip_link.specs.declared.event.Event.{Event}
 pub use Rattle.chip_link.specs.declared.event.Event.TheVariants.{Take, Ack, Fire, Clear, Claim, Put, Halt, Settle, Seal}
 pub use Rattle.chip_link.specs.declared.event.Event.TheVariants.{Read, Feed, End}

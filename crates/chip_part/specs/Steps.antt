@@ -1,8 +1,7 @@
 -- What an event does to the part that makes it, field by field, and the reply. `seen` is the word that the event's
 -- operation found, 0 of a store; it is all that an event learns of other parts.
 use Rattle.std.specs.Prelude.{ℕ, Bool, true, ◌+◌, ◌-◌, ◌*◌, ◌&&◌, ◌==◌, if◌then◌else◌, List, [], ◌∷◌, sum, length}
-use Rattle.std.specs.Prelude.{Option, Some}
-use Rattle.std.specs.Prelude.{None, option_to_list}
+use Rattle.std.specs.Prelude.{Option, Some, None, option_to_list}
 use Rattle.chip_link.specs.declared.message.Message.{Message}
 pub use Rattle.chip_link.specs.declared.event.Step.{Step}
 pub use Rattle.chip_part.specs.declared.reply.Reply.{Reply}
@@ -14,8 +13,8 @@ use Rattle.chip_graph.specs.Multigraph.{degree}
 use Rattle.chip_part.specs.Setting.{Setting}
 use Rattle.chip_part.specs.Edges.{tail_of, head_of, mult_of, root, root_edge, stopper}
 use Rattle.chip_part.specs.Part.{Part, Out, Into, Cause, owed, may_ack, cause, refusals}
-use Rattle.chip_part.specs.Rules.{Rule, Event, Take, Ack, Fire, Clear, Claim, Put, Halt, Settle, Seal, Read}
-use Rattle.chip_part.specs.Rules.{Feed, End, unmet_rule}
+use Rattle.chip_part.specs.Rules.{Rule, Event, Take, Ack, Fire, Clear, Claim, Put, Halt, Settle, Seal, Read, Feed, End}
+use Rattle.chip_part.specs.Rules.{unmet_rule}
 
 -- an event, whose operation saw this word
 abbrev pub saw : Event → ℕ → Step

@@ -1,8 +1,8 @@
 -- One turn of a vertex: which operations it makes, in which order, and what follows from what each of them saw. A turn
 -- is told as phases that come one after another. Where a schedule left the vertex in the middle of a turn, the same
 -- phases go on from there: what was claimed is put, a refusal that is noted is followed by the halt.
-use Rattle.std.specs.Prelude.{◌≡◌, ℕ, ◌+◌, ◌*◌, ◌-◌, ◌/◌, Bool, true, false, not, ◌&&◌, ◌==◌, nat_lt, min, List, [], ◌∷◌, ◌++◌}
-use Rattle.std.specs.Prelude.{length, Option, Some, None, is_some}
+use Rattle.std.specs.Prelude.{◌≡◌, ℕ, ◌+◌, ◌*◌, ◌-◌, ◌/◌, Bool, true, false, not, ◌&&◌, ◌==◌, nat_lt, min, List, []}
+use Rattle.std.specs.Prelude.{◌∷◌, ◌++◌, length, Option, Some, None, is_some}
 use Rattle.chip_graph.specs.Multigraph.{edges_out, edges_in, degree}
 use Rattle.chip_part.specs.Setting.{Setting}
 use Rattle.chip_link.specs.Link.{claims_of}

@@ -1,5 +1,5 @@
 use Rattle.chip_part.proofs.TurnLemmas.{turns_bounded}
-use Rattle.chip_part.proofs.CompletingTurnsLemmas.{under_way_bounded}
+use Rattle.chip_part.proofs.PhaseLemmas.{under_way_bounded}
 use Rattle.chip_part.proofs.laws.turns.Goals as goal
 
 pub returns : goal.returns

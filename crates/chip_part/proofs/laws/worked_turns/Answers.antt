@@ -1,4 +1,4 @@
-use Rattle.chip_part.proofs.WorkedTurns.{first_turn_is, second_turn_is}
+use Rattle.chip_part.proofs.PhaseLemmas.{first_turn_is, second_turn_is}
 use Rattle.chip_part.proofs.laws.worked_turns.Goals as goal
 
 pub returns : goal.returns

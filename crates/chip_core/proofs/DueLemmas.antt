@@ -39,6 +39,7 @@ use Rattle.chip_core.proofs.NumberLemmas.{empty_is}
 use Rattle.chip_core.proofs.ReachingLemmas.{step_legal, run_legal}
 use Rattle.chip_core.proofs.ReplyLemmas.{log_after-append}
 use Rattle.chip_core.proofs.IdleLemmas.{bare, Alike, idle_alike}
+use Rattle.chip_part.proofs.RuleLemmas.{some_of, is_none_of}
 
 module _ (g : Setting) where
   -- nobody has anything to do after this log
@@ -160,14 +161,6 @@ find (suc n) test = ⊎_elim (λ some. let l = some.1 in inl (some.0, omega arit
     (λ off. inr (λ k l. dite (ℕ_discrete k n) (λ same. ap test same ∙ off) (λ other. none k (omega arith)))))
     (find n test)
 
-pub held_or_none : (h : Option ℕ) → is_some h ≡ false → h ≡ None
-held_or_none None off = refl
-held_or_none (Some c) off = absurd (true≢false off)
-
-some_held : (h : Option ℕ) → is_some h ≡ true → (count : ℕ) × (h ≡ Some count)
-some_held None on = absurd (true≢false (sym on))
-some_held (Some c) on = (c, refl)
-
 module _ (g : Setting) where
   abbrev pub reply_counts : Log → Event → Bool
   reply_counts log x = counts_as_work g (acting_part g log x) (saw x (sees g log x))
@@ -190,7 +183,7 @@ module _ (g : Setting) where
     )
 
     pub put_works : (e : ℕ) → e < all_edges g → is_some (out_in g log e).link.held ≡ true → Works log (Put e)
-    put_works e l some = (met_rules g (Put e) (part_in g log (tail_of g e)) (l, some_held _ some), refl)
+    put_works e l some = (met_rules g (Put e) (part_in g log (tail_of g e)) (l, some_of _ some), refl)
 
     pub settle_works : (e : ℕ) → e < all_edges g → (out_in g log e).settled < (into_in g log e).acked
         → Works log (Settle e)
@@ -327,7 +320,7 @@ module _ (g : Setting) where
         (λ t. by_work (Ack t.0) (ack_works t.0 t.1 (ltb-true _ _ t.2)))
         (λ no_ack.
         let none : (e : ℕ) → e < all_edges g → (out_in g log e).link.held ≡ None =
-        (λ e l. held_or_none _ (no_put e l)) in
+        (λ e l. is_none_of _ (no_put e l)) in
         ⊎_elim
         (λ t. let parts = and_parts _ _ t.2 in let more = and_parts _ _ parts.0 in
         dite (dec_lt (fired_by g log t.0) g.game.limit)
@@ -555,7 +548,7 @@ module _ (g : Setting) where
           (λ on. absurd (asked (Put e) (asks.puts e l) (λ m ok still.
           put_works g game some_ring m ok e l (ap (λ (s : Part). is_some (s.out e).link.held) (still.parts (tail_of g e))
           ∙ on))))
-          (λ off. held_or_none (out_in g after e).link.held off)
+          (λ off. is_none_of (out_in g after e).link.held off)
 
       -- no vertex with something to send is left where a look and then a claim were asked for
       module _ (e : ℕ) (l : e < graph_edges g) (runs : (part_in g after (tail_of g e)).halt ≡ None)

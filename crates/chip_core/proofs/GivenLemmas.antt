@@ -147,12 +147,6 @@ module _ (g : Setting) where
 
     -- ---- by the root's own record
 
-    brought_both : (xs ys : List (ℕ × ℕ)) (v : ℕ) → brought_to (xs ++ ys) v ≡ brought_to xs v + brought_to ys v
-    brought_both xs ys v = sum_by-append (λ (p : ℕ × ℕ). cond (eqb p.0 v) p.1 0) xs ys
-
-    all_both : (xs ys : List (ℕ × ℕ)) → all_brought (xs ++ ys) ≡ all_brought xs + all_brought ys
-    all_both xs ys = sum_by-append (λ (p : ℕ × ℕ). p.1) xs ys
-
     fed_push : (xs : List Step) (x : Step) → fed_in g (xs ++ x ∷ []) ≡ fed_in g xs ++ fed_of g x.event
     fed_push [] x = append-nil (fed_of g x.event)
     fed_push (y ∷ ys) x = ap (λ (l : List (ℕ × ℕ)). fed_of g y.event ++ l) (fed_push ys x)
@@ -185,7 +179,7 @@ module _ (g : Setting) where
         let a = started_step x log legal v in
         let b = started_recorded log legal.0 v in
         let c = ap (λ (l : List (ℕ × ℕ)). brought_to l v) (recorded_step x log legal) in
-        let d = brought_both (recorded log) (fed_of g x.event) v in
+        let d = sum_by-append (λ (p : ℕ × ℕ). cond (eqb p.0 v) p.1 0) (recorded log) (fed_of g x.event) in
         omega arith
 
     nothing_fed : sum_below g.game.graph.vertices (brought_to []) ≡ all_brought []
@@ -221,7 +215,7 @@ module _ (g : Setting) where
         let c = fed_once x.event (part_in g log (part_of g x.event)) may in
         let d = total_recorded log legal.0 in
         let f = ap all_brought (recorded_step x log legal) in
-        let h = all_both (recorded log) (fed_of g x.event) in
+        let h = sum_by-append (λ (p : ℕ × ℕ). p.1) (recorded log) (fed_of g x.event) in
         omega arith
 
     -- ---- all that was given

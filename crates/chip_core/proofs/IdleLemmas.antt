@@ -37,9 +37,6 @@ module _ (g : Setting) where
   notes_leave e s link same = λ j i. at_edge (λ i (t : Tail). bare_link t ≡ bare_link (s.out i).link) e link
       (λ i. (s.out i).link) same (λ i. refl) i j
 
-  none_more : (n : ℕ) → ltb 0 n ≡ false → n ≡ 0
-  none_more n off = let a = ltb-false 0 n off in omega arith
-
   -- nothing that is settled is new
   settle_bare : (e seen : ℕ) (s : Part) (ended : Bool) → ltb 0 (seen - (s.out e).settled) ≡ false
       → bare (let t : Part = record s {
@@ -49,7 +46,7 @@ module _ (g : Setting) where
         ended = ended;
       } in t) ≡ bare s
   settle_bare e seen s ended idle =
-      let none = none_more (seen - (s.out e).settled) idle in
+      let none = ltb-false 0 (seen - (s.out e).settled) idle in
       let same : (i : ℕ) → cond (eqb e i) ((s.out i).settled + (seen - (s.out i).settled)) (s.out i).settled
       ≡ (s.out i).settled = at_edge (λ i (n : ℕ). n ≡ (s.out i).settled) e
       (λ i. (s.out i).settled + (seen - (s.out i).settled)) (λ i. (s.out i).settled) (omega arith) (λ i. refl) in

@@ -1,13 +1,13 @@
 -- Serves Core.antt.
 -- The parts and the edges in a legal log: what every one of them keeps, whatever was done.
 use Rattle.std.proofs.Common.{◌≡◌, ◌≢◌, ◌⊎◌, ℕ, ◌+◌, ◌-◌, ◌<◌, ◌≤◌, Bool, true, false, cond, eqb, List, [], ◌∷◌, ◌++◌}
-use Rattle.std.proofs.Common.{length, append_assoc, Option, Some, None, option_to_list, refl, sym, ap, ◌∙◌, subst}
-use Rattle.std.proofs.Common.{arith, inl, inr, ⊎_elim, lt-ltb, le-ltb, pos_of_ne-zero}
+use Rattle.std.proofs.Common.{length, append_assoc, Option, None, refl, sym, ap, ◌∙◌, subst}
+use Rattle.std.proofs.Common.{arith, inl, inr, ⊎_elim, pos_of_ne-zero}
 use mathlib.Core.Logic.{dite}
 use native.Mathlib.Decide.{ℕ_discrete, dec_lt}
 use Rattle.chip_graph.specs.ChipGame.{IsGame}
 use Rattle.chip_part.specs.Setting.{Setting}
-use Rattle.chip_graph.proofs.SumLemmas.{cond_yes, cond_no, cond_true, cond_false}
+use Rattle.chip_graph.proofs.SumLemmas.{cond_yes, cond_no}
 use Rattle.chip_link.specs.Link.{Tail, claims_of, after_clear, after_claim, after_put, after_take, after_seal, Sound}
 use Rattle.chip_link.proofs.SoundsLemmas.{clear_sound, claim_sound, put_sound, take_sound, seal_sound, fresh_sound}
 use Rattle.chip_link.proofs.SoundsLemmas.{first_sound}
@@ -23,6 +23,9 @@ use Rattle.chip_part.proofs.OpeningLemmas.{opening_keeps}
 use Rattle.chip_core.specs.Core.{Log, Step, Event, Take, Ack, Clear, Claim, Put, Settle, Seal, Feed, End, Part, Out}
 use Rattle.chip_core.specs.Core.{Into, part_of, does, part_in, out_in, into_in, stop_in, sees, IsLegalLog, tail_of}
 use Rattle.chip_core.specs.Core.{head_of, root, root_edge, stopper, all_edges, graph_edges}
+use Rattle.chip_part.proofs.TurnLemmas.{at_most_one}
+use Rattle.std.proofs.lemmas.Bool.{eqb-false}
+use Rattle.std.proofs.Common.{ltb}
 
 pub in_pieces : (front round back xs before : Log) → xs ≡ back ++ (round ++ front)
     → xs ++ before ≡ back ++ (round ++ (front ++ before))
@@ -211,19 +214,16 @@ module _ (g : Setting) where
       -- an edge with nothing on it, and a root edge with one message
       first_sound_at : (e : ℕ) → Sound g.ring
           (record { put = first_put g e; held = None; clear = false; refused = false }) [] None
-      first_sound_at e = dite (dec_lt e (length g.game.graph.edges))
-          (λ l. subst Opens (sym (cond_true _ [] (cond (eqb s 0) [] (s ∷ [])) (lt-ltb e (length g.game.graph.edges) l)))
-          (fresh_sound g.ring some_ring))
-          (λ n. subst Opens (sym (cond_false _ [] (cond (eqb s 0) [] (s ∷ []))
-          (le-ltb e (length g.game.graph.edges) (omega arith)))) (dite (ℕ_discrete s 0)
-          (λ z. subst Opens (sym (cond_yes s 0 [] (s ∷ []) z)) (fresh_sound g.ring some_ring))
-          (λ z. subst Opens (sym (cond_no s 0 [] (s ∷ []) z)) (first_sound g.ring s some_ring (pos_of_ne-zero z)))))
+      first_sound_at e = either (ltb e (length g.game.graph.edges)) (eqb s 0) (λ off. pos_of_ne-zero (eqb-false s 0 off))
         where
           s : ℕ
           s = start_of g (e - length g.game.graph.edges)
 
-          Opens : List ℕ → Type 0
-          Opens put = Sound g.ring (record { put = put; held = None; clear = false; refused = false }) [] None
+          either : (b c : Bool) → (c ≡ false → 0 < s) → Sound g.ring
+              (record { put = cond b [] (cond c [] (s ∷ [])); held = None; clear = false; refused = false }) [] None
+          either true c some = fresh_sound g.ring some_ring
+          either false true some = fresh_sound g.ring some_ring
+          either false false some = first_sound g.ring s some_ring (some refl)
 
       pub edge_sound : (log : Log) → IsLegalLog g log → (e : ℕ)
           → Sound g.ring (out_in g log e).link (into_in g log e).got (stop_in g log e)
@@ -258,10 +258,6 @@ module _ (g : Setting) where
         let a = settled_step x log e in let b = acked_step x log e in
         let c = settle_step log x.event x.seen legal.1.1 (settled_behind log legal.0) e in omega arith
 
-    held_one : (held : Option ℕ) → length (option_to_list held) ≤ 1
-    held_one None = omega arith
-    held_one (Some count) = omega arith
-
     -- settled, acknowledged, delivered, put and claimed, each at most the next
     pub edge_counts : 0 < g.ring → (log : Log) → IsLegalLog g log → (e : ℕ)
         → ((out_in g log e).settled ≤ (into_in g log e).acked)
@@ -271,5 +267,5 @@ module _ (g : Setting) where
         × (claims_of (out_in g log e).link ≤ length (out_in g log e).link.put + 1)
     edge_counts some_ring log legal e =
         let s = edge_sound some_ring log legal e in
-        let one = held_one (out_in g log e).link.held in
+        let one = at_most_one (out_in g log e).link.held in
         (settled_behind log legal e, (part_kept log legal (head_of g e)).acks e, s.behind, omega arith, omega arith)

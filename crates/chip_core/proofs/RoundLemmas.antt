@@ -33,9 +33,10 @@ use Rattle.chip_core.specs.Core.{does, IsLegalLog, IsClosed, tail_of, head_of, a
 use Rattle.chip_core.specs.Words.{acting_part}
 use Rattle.chip_core.specs.Closing.{HasEnd, RootHasPut, HasTurn, HasRound}
 use Rattle.chip_core.proofs.LogLemmas.{part_here, part_else, edge_counts, head_inside, tail_inside, in_pieces}
-use Rattle.chip_core.proofs.DueLemmas.{Quiet, quiet_closes, held_or_none, Works, take_works, settle_works, none_unput}
+use Rattle.chip_core.proofs.DueLemmas.{Quiet, quiet_closes, Works, take_works, settle_works, none_unput}
 use Rattle.chip_core.proofs.DueLemmas.{look_finds}
 use Rattle.chip_core.proofs.ReachingLemmas.{part-append, part_own}
+use Rattle.chip_part.proofs.RuleLemmas.{is_none_of}
 
 -- how many of these count whatever they saw
 abbrev sure : Event → ℕ
@@ -56,9 +57,6 @@ sure_append (x ∷ xs) ys = let a = sure_append xs ys in omega arith
 module _ (g : Setting) where
   sure_counts : (s : Part) (x : Event) (seen : ℕ) → sure x ≤ cond (counts_as_work g s (saw x seen)) 1 0
   sure_counts s (Fire v k) seen = omega arith
-  sure_counts s (Put e) seen = omega arith
-  sure_counts s (Halt v) seen = omega arith
-  sure_counts s (Ack e) seen = omega arith
   sure_counts s _ seen = omega arith
 
   sure_below : (xs : List Step) (s : Part) → sure_in xs ≤ work_of g s xs
@@ -274,27 +272,20 @@ module _ (g : Setting) where
         let b5 = passed _ (of_sending_all g v Makes makes) s4 f5 s5 r5 r4 e5 p5 b4.0 in
         let b6 = passed _ (of_limit g v Makes makes) s5 f6 s6 r6 r5 e6 p6 b5.0 in
         let at6 : bare after ≡ bare s6 = ap bare (of_acks g v Makes makes 0 s6 r6 after p7) ∙ idle_part r6 s6 b6.0 in
+        let deep : (x : Step) → Contains f5 x → Contains ds x = (λ x has. later f1 r1 ds e1 x (later f2 r2 r1 e2 x
+        (later f3 r3 r2 e3 x (later f4 r4 r3 e4 x (within f5 r5 r4 e5 x has))))) in
         let at5 = at6 ∙ b6.1 in let at4 = at5 ∙ b5.1 in let at3 = at4 ∙ b4.1 in let at2 = at3 ∙ b3.1 in
         record {
           takes = λ e at. (let found = each_made (λ i. Take i) (ins_of g v) s f1 s1 p1 e at in
               (found.0, within f1 r1 ds e1 (saw (Take e) found.0) found.1));
-          settles = λ e at. (let found = each_made (λ i. Settle i) (outs_of g v) s1 f2 s2 p2 e at in (
-            found.0,
-            later f1 r1 ds e1 (saw (Settle e) found.0)
-                (within f2 r2 r1 e2 (saw (Settle e) found.0) found.1),
-          ));
+          settles = λ e at. (let found = each_made (λ i. Settle i) (outs_of g v) s1 f2 s2 p2 e at in
+              (found.0, later f1 r1 ds e1 (saw (Settle e) found.0) (within f2 r2 r1 e2 (saw (Settle e) found.0) found.1)));
           fires = ap (may_fire g v) at2
               ∙ (not_chosen (may_fire g v s2) (Fire v (batch_of g v s2)) s2 f3 s3 p3 (omega arith) (omega arith)).0;
           puts = λ e at. ap (λ (p : Part). is_some (p.out e).link.held) at3
               ∙ (none_put (outs_of g v) s3 f4 s4 p4 (omega arith)).1 e at;
           sends = λ runs e at. ⊎_elim (λ z. inl (ap (λ (p : Part). (p.out e).pending) at4 ∙ z))
-              (λ z. inr (
-                z.0,
-                z.1,
-                later f1 r1 ds e1 (saw (Clear e) z.0) (later f2 r2 r1 e2 (saw (Clear e) z.0)
-                    (later f3 r3 r2 e3 (saw (Clear e) z.0) (later f4 r4 r3 e4 (saw (Clear e) z.0)
-                    (within f5 r5 r4 e5 (saw (Clear e) z.0) z.2)))),
-              ))
+              (λ z. inr (z.0, z.1, deep (saw (Clear e) z.0) z.2))
               (sends_of s4 f5 s5 p5 (omega arith) (sym (ap (λ (p : Part). is_running p.halt) at4) ∙ runs) e at);
           limit = ap (is_at_limit g v) at5
               ∙ (not_chosen (is_at_limit g v s5) (Halt v) s5 f6 s6 p6 (omega arith) (omega arith)).0;
@@ -423,7 +414,7 @@ module _ (g : Setting) where
     all_put : (e : ℕ) → e < all_edges g → (out_in g after e).link.held ≡ None
     all_put e l = dite (dec_lt e (graph_edges g))
         (λ own. let v : ℕ = tail_of g e in let vertex = tail_inside g game e own in
-        held_or_none (out_in g after e).link.held (sym (ap (λ (p : Part). is_some (p.out e).link.held) (same v vertex))
+        is_none_of (out_in g after e).link.held (sym (ap (λ (p : Part). is_some (p.out e).link.held) (same v vertex))
         ∙ (rest v vertex).puts e (among_new_outs g v vertex e refl)))
         (λ past. put e (omega arith) l)
 

@@ -78,17 +78,10 @@ module _ (g : Setting) where
 
   -- ---- what is acknowledged and settled is never taken back
 
-  acked_more : (x : Step) (log : Log) (e : ℕ) → (into_in g log e).acked ≤ (into_in g (x ∷ log) e).acked
-  acked_more x log e = let a = acked_step g x log e in
-      let b = acked_grows g x.event (part_in g log (head_of g e)) e (into_in g log e) in omega arith
-
-  settled_more : (x : Step) (log : Log) (e : ℕ) → (out_in g log e).settled ≤ (out_in g (x ∷ log) e).settled
-  settled_more x log e = let a = settled_step g x log e in
-      let b = settled_grows g x.event x.seen e (out_in g log e) in omega arith
-
   acked_on : (xs log : Log) (e : ℕ) → (into_in g log e).acked ≤ (into_in g (xs ++ log) e).acked
   acked_on [] log e = omega arith
-  acked_on (x ∷ xs) log e = let a = acked_on xs log e in let b = acked_more x (xs ++ log) e in omega arith
+  acked_on (x ∷ xs) log e = let a = acked_on xs log e in let b = acked_step g x (xs ++ log) e in
+      let c = acked_grows g x.event (part_in g (xs ++ log) (head_of g e)) e (into_in g (xs ++ log) e) in omega arith
 
   -- after a settle, all that was acknowledged before is settled
   settle_seen : (xs log : Log) → IsLegalLog g (xs ++ log) → (x : Step) → Contains xs x → (e : ℕ) → x.event ≡ Settle e
@@ -102,7 +95,8 @@ module _ (g : Setting) where
       let b = cond_yes e e (old.settled + (y.seen - old.settled)) old.settled refl in
       let c : y.seen ≡ (into_in g (ys ++ log) e).acked = legal.1.1 ∙ ap (sees g (ys ++ log)) its in
       let d = acked_on ys log e in omega arith)
-      (λ later. let a = settle_seen ys log legal.0 x later e is in let b = settled_more y (ys ++ log) e in omega arith)
+      (λ later. let a = settle_seen ys log legal.0 x later e is in let b = settled_step g y (ys ++ log) e in
+      let c = settled_grows g y.event y.seen e (out_in g (ys ++ log) e) in omega arith)
       (contains_cases y ys x has)
 
   module _ (game : IsGame g.game) (some_ring : 0 < g.ring) where
@@ -130,12 +124,6 @@ module _ (g : Setting) where
         was_parent g (part_in g log (head_of g i)) i seen may.2 e is
     step_parent log legal rest _ seen next e is = is
 
-    parent_stood : (log : Log) → IsLegalLog g log → AtRest g log → (x : Step) → IsLegalLog g (x ∷ log) → (v e : ℕ)
-        → (part_in g (x ∷ log) v).parent ≡ Some e → (part_in g log v).parent ≡ Some e
-    parent_stood log legal rest x next v e = at_edge
-        (λ p (s : Part). s.parent ≡ Some e → (part_in g log p).parent ≡ Some e) (part_of g x.event)
-        (λ p. does g x (part_in g log p)) (part_in g log) (step_parent log legal rest x.event x.seen next e) (λ p is. is) v
-
     record Later (log xs : Log) : Type 0 where
       rest : AtRest g (xs ++ log)
       same : (p : ℕ) → settled_up (part_in g (xs ++ log) p) ≡ settled_up (part_in g log p)
@@ -148,7 +136,10 @@ module _ (g : Setting) where
         record {
           rest = rests_on g game some_ring (xs ++ log) legal.0 old.rest x legal;
           same = λ p. same_up g game some_ring (xs ++ log) legal.0 old.rest x legal p ∙ old.same p;
-          parent = λ v e is. old.parent v e (parent_stood (xs ++ log) legal.0 old.rest x legal v e is);
+          parent = λ v e is. old.parent v e (at_edge
+              (λ p (s : Part). s.parent ≡ Some e → (part_in g (xs ++ log) p).parent ≡ Some e) (part_of g x.event)
+              (λ p. does g x (part_in g (xs ++ log) p)) (part_in g (xs ++ log))
+              (step_parent (xs ++ log) legal.0 old.rest x.event x.seen legal e) (λ p on. on) v is);
         }
 
     -- a vertex without a parent owes nothing

@@ -1,7 +1,7 @@
 -- Serves Work.antt.
 -- How many steps of a legal log count as work, and how many of its claims are refused.
 use Rattle.std.proofs.Common.{◌≡◌, ℕ, zero, suc, ◌+◌, ◌-◌, ◌*◌, ◌<◌, ◌≤◌, Bool, true, false, cond, eqb, List, [], ◌∷◌}
-use Rattle.std.proofs.Common.{length, Option, Some, None, is_some, refl, sym, ap, ◌∙◌, arith, ltb-true}
+use Rattle.std.proofs.Common.{length, Option, Some, None, is_some, refl, sym, ap, ◌∙◌, arith}
 use Rattle.std.proofs.Common.{length-append, min, sum, ltb, ◌++◌}
 use Rattle.chip_graph.specs.ChipGame.{IsGame}
 use Rattle.chip_graph.specs.Sums.{sum_below}
@@ -9,7 +9,7 @@ use Rattle.chip_graph.specs.Multigraph.{edge_at, IsDistance}
 use Rattle.chip_sequence.specs.Bound.{greatest_degree, firing_bound, IsGreatestDistance}
 use Rattle.chip_sequence.proofs.EndLemmas.{least_action, continued}
 use Rattle.chip_sequence.proofs.BoundLemmas.{bound_law, below_top}
-use Rattle.chip_graph.proofs.SumLemmas.{cond_yes, cond_no, cond_false, by_test, sum_below_le, sum_below_ext}
+use Rattle.chip_graph.proofs.SumLemmas.{cond_yes, cond_no, cond_false, sum_below_le, sum_below_ext}
 use Rattle.chip_graph.proofs.SumLemmas.{sum_below_add, sum_below_split, sum_below_scale, sum_below_one, sum_below_none}
 use Rattle.chip_link.specs.Link.{Tail, claims_of, after_clear, after_claim, after_put, after_take, sent_counts}
 use Rattle.chip_link.proofs.SoundsLemmas.{none_held, one_held, length-sent_counts}
@@ -39,6 +39,7 @@ use Rattle.chip_core.specs.Messages.{Message}
 use Rattle.chip_core.proofs.LogLemmas.{met_here}
 use Rattle.chip_sequence.specs.Sequence.{IsFiringSequence, counts}
 use Rattle.chip_part.proofs.OpeningLemmas.{first_is}
+use Rattle.std.proofs.lemmas.Bool.Decides.{nat_tests}
 
 -- one thing is changed, and what is measured of it grows by so much
 grows_at : {A : Type 0} (size : ℕ → A → ℕ) (e more : ℕ) (new old : ℕ → A) → size e (old e) + more ≤ size e (new e)
@@ -82,9 +83,7 @@ refusal_grows true e m count t off = omega arith
 refusal_grows false e m count t off = let a : ◌≡◌ {A = ℕ} (refused_on t) 0 = cond_false t.refused 1 0 off in omega arith
 
 some_more : (n : ℕ) → cond (ltb 0 n) 1 0 ≤ n
-some_more n = by_test (ltb 0 n)
-    (λ on. let a = ltb-true 0 n on in let b = at_most_one (ltb 0 n) in omega arith)
-    (λ off. let a : ◌≡◌ {A = ℕ} (cond (ltb 0 n) 1 0) 0 = cond_false (ltb 0 n) 1 0 off in omega arith)
+some_more n = grind (arith, nat_tests)
 
 module _ (g : Setting) where
   -- what was done on an edge, and by a vertex

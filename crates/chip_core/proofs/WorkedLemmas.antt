@@ -2,7 +2,7 @@
 -- The worked runs: a detection order member by member, a game within the limits, the sink asked backwards, and the
 -- triangle at rest.
 use Rattle.std.proofs.Common.{◌≡◌, ℕ, zero, suc, ◌<◌, [], ◌∷◌, get_or, Contains, refl, arith, inl, inr, ◌++◌, ◌≤◌, true}
-use Rattle.std.proofs.Common.{Option, Some, None, subst, ◌≢◌, List, ◌^◌, length, sum}
+use Rattle.std.proofs.Common.{Some, subst, ◌≢◌, List, ◌^◌, length, sum}
 use Rattle.chip_core.specs.Worked.{TwoEngaged, whole_schedule, WholeSchedule, limit_of_two, stopped_by_limit}
 use Rattle.chip_core.specs.Worked.{StoppedByLimit, played_on, StoppedBySeal, fed_triangle, fed_schedule, ClosedByTheEnd}
 use Rattle.chip_graph.specs.Multigraph.{edge_at, IsEdge, IsGraph, ReachesSink}
@@ -16,6 +16,7 @@ use Rattle.chip_core.specs.Messages.{in_flight}
 use Rattle.chip_part.proofs.RestingLemmas.{same_edge}
 use Rattle.chip_graph.specs.Limits.{max_total, max_limit}
 use Rattle.chip_graph.specs.ChipGame.{IsGame}
+use Rattle.chip_link.proofs.SoundsLemmas.{none-some}
 
 -- a list of one vertex has no other
 only_one : (u v : ℕ) → u < v → Contains (u ∷ []) v → ⊥
@@ -204,10 +205,7 @@ levels_fall zero l e is = subst (λ (i : ℕ). (level (tail_of four_chips i) < 1
     (omega arith, omega arith)
 levels_fall (suc zero) l e is = subst (λ (i : ℕ). (level (tail_of four_chips i) < 2) × (2 ≤ 2)) (same_edge 0 e (part_in four_chips at_end 1).parent refl is)
     (omega arith, omega arith)
-levels_fall (suc (suc zero)) l e is = absurd (none is)
-  where
-    none : ◌≡◌ {A = Option ℕ} None (Some e) → ⊥
-    none q = absurd (cc)
+levels_fall (suc (suc zero)) l e is = absurd (none-some e is)
 levels_fall (suc (suc (suc v))) l e is = absurd (omega arith)
 
 pub pair_closes : PairCloses

@@ -18,6 +18,7 @@ use Rattle.chip_part.specs.Edges.{graph_edges, all_edges, root_edge, tail_of, he
 use Rattle.chip_part.specs.Part.{Cause, opening_part, first_put, is_legal, all_fed}
 use Rattle.chip_part.specs.Kept.{KeepsPart, opening_tail}
 use Rattle.chip_part.proofs.PartLemmas.{tail_inside}
+use Rattle.chip_link.proofs.SoundsLemmas.{none-some}
 
 module _ (g : Setting) where
   -- a root edge opens with the chips of its vertex, if it has any
@@ -63,7 +64,7 @@ module _ (g : Setting) where
         let b = mul-zero (degree g.game.graph p) in omega arith);
     within = omega arith;
     acks = λ e. omega arith;
-    parents = λ e h. absurd (none_some e h);
+    parents = λ e h. absurd (none-some e h);
     at_limit = λ h. absurd (none_cause h);
     neutral = λ l h. record {
       no_parent = refl;
@@ -83,9 +84,6 @@ module _ (g : Setting) where
     unfed_ended = λ off. ap not off;
   }
     where
-      none_some : (e : ℕ) → ◌≡◌ {A = Option ℕ} None (Some e) → ⊥
-      none_some e q = absurd (cc)
-
       none_cause : {c : Cause} → ◌≡◌ {A = Option Cause} None (Some c) → ⊥
       none_cause q = absurd (cc)
 

@@ -28,6 +28,7 @@ use Rattle.chip_part.proofs.RuleLemmas.{rules_met}
 use Rattle.chip_part.proofs.EdgeLemmas.{tail_root}
 use Rattle.chip_part.specs.Kept.{Met, IsNeutral, KeepsOut, KeepsPart}
 use Rattle.chip_detect.proofs.AllowedLemmas.{within_owed}
+use Rattle.chip_link.proofs.SoundsLemmas.{none-some}
 
 -- one edge is changed, and what is said of the others needs that they are others
 pub at_other : {A : Type 0} (P : ℕ → A → Type 0) (e : ℕ) (new old : ℕ → A) → P e (new e)
@@ -307,7 +308,7 @@ module _ (g : Setting) where
       (or_else_is s.parent e i (sym (cond_no seen 0 s.parent (or_else s.parent e) some) ∙ h)))
   parents_kept (Ack e) seen p s by may acks ok = λ i h. by_test (is_parent e s.parent
       && eqb (may_ack g (head_of g e) s e) (owed (s.into e)))
-      (λ y. absurd (none_some i (sym (cond_true _ None s.parent y) ∙ h)))
+      (λ y. absurd (none-some i (sym (cond_true _ None s.parent y) ∙ h)))
       (λ n.
       let was : s.parent ≡ Some i = sym (cond_false _ None s.parent n) ∙ h in
       let a = ok i was in
@@ -327,9 +328,6 @@ module _ (g : Setting) where
             (λ other. let c = cond_no e i ((s.into i).acked + may_ack g (head_of g e) s e) (s.into i).acked other in
             omega arith),
       ))
-    where
-      none_some : (i : ℕ) → ◌≡◌ {A = Option ℕ} None (Some i) → ⊥
-      none_some i q = absurd (cc)
   parents_kept _ seen p s by may acks ok = ok
 
   -- ---- halts

@@ -20,6 +20,7 @@ use Rattle.chip_part.specs.Turn.{nothing, either_phase, each_phase, one_step, in
 use Rattle.chip_part.specs.Turn.{acknowledging_parent, turn}
 use Rattle.chip_part.proofs.PartLemmas.{may_le}
 use Rattle.chip_part.proofs.PickedLemmas.{contains_cases, into_turn}
+use Rattle.chip_link.proofs.SoundsLemmas.{none-some}
 
 parent_of : (e : ℕ) (p : Option ℕ) → is_parent e p ≡ true → p ≡ Some e
 parent_of e None on = absurd (true≢false (sym on))
@@ -59,11 +60,8 @@ module _ (g : Setting) where
     -- where the parent is there still, it was
     pub was_parent : (i : ℕ) → acked.parent ≡ Some i → s.parent ≡ Some i
     was_parent i is = by_test (is_parent e s.parent && eqb (may_ack g (head_of g e) s e) (owed (s.into e)))
-        (λ y. absurd (none_some (sym (cond_true _ None s.parent y) ∙ is)))
+        (λ y. absurd (none-some i (sym (cond_true _ None s.parent y) ∙ is)))
         (λ n. sym (cond_false _ None s.parent n) ∙ is)
-      where
-        none_some : ◌≡◌ {A = Option ℕ} None (Some i) → ⊥
-        none_some q = absurd (cc)
 
     here_little : Little acked e
     here_little = ⊎_elim (λ all. let a = owed_less in inl (omega arith))
@@ -138,10 +136,7 @@ module _ (g : Setting) where
         → (e : ℕ) → head_of g e ≡ v → Little s e → may_ack g v t e ≡ 0
     after_last None s ds t none (empty, same) e at little = ⊎_elim
         (λ z. let a = may_le g v e s in let b = ap (λ (p : Part). may_ack g v p e) same in omega arith)
-        (λ one. absurd (some_none (one.0) none)) little
-      where
-        some_none : s.parent ≡ Some e → s.parent ≡ None → ⊥
-        some_none is z = absurd (cc)
+        (λ one. absurd (none-some e (sym none ∙ one.0))) little
     after_last (Some q) s ds t parent phase e at little =
         let acked = acked_or_not q s ds t phase in
         ⊎_elim

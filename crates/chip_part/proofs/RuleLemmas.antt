@@ -37,7 +37,7 @@ pub running : (h : Option Cause) → is_running h ≡ true → h ≡ None
 running None e = refl
 running (Some c) e = absurd (true≢false (sym e))
 
-some_of : {A : Type 0} (o : Option A) → is_some o ≡ true → (c : A) × (o ≡ Some c)
+pub some_of : {A : Type 0} (o : Option A) → is_some o ≡ true → (c : A) × (o ≡ Some c)
 some_of None h = absurd (true≢false (sym h))
 some_of (Some c) h = (c, refl)
 
@@ -45,8 +45,9 @@ nothing : {A : Type 0} (o : Option A) → is_none o ≡ true → o ≡ None
 nothing None h = refl
 nothing (Some c) h = absurd (true≢false (sym h))
 
-is_some_of : {A : Type 0} (o : Option A) (c : A) → o ≡ Some c → is_some o ≡ true
-is_some_of o c h = ap is_some h
+pub is_none_of : {A : Type 0} (o : Option A) → is_some o ≡ false → o ≡ None
+is_none_of None off = refl
+is_none_of (Some c) off = absurd (true≢false off)
 
 pub rules_met : (g : Setting) (x : Event) (s : Part) → unmet_rule g x s ≡ None → Met g x s
 rules_met g (Take e) s h = ltb-true _ _ (met _ _ _ h).0
@@ -113,10 +114,10 @@ met_rules g (Clear e) s m = ⊎_elim
     (cond_false _ _ _ (le-ltb e (graph_edges g) r.0)
     ∙ passed _ _ _ (ap not r.2) (passed _ _ _ (ap is_none r.3) refl))) m
 met_rules g (Claim e) s m = passed _ _ _ (lt-ltb _ _ m.0) (passed _ _ _ (ap is_running m.1) (passed _ _ _ m.2 refl))
-met_rules g (Put e) s m = passed _ _ _ (lt-ltb _ _ m.0) (passed _ _ _ (is_some_of _ _ m.1.1) refl)
+met_rules g (Put e) s m = passed _ _ _ (lt-ltb _ _ m.0) (passed _ _ _ (ap is_some m.1.1) refl)
 met_rules g (Halt v) s m = passed _ _ _ (lt-ltb _ _ m.0)
     (passed _ _ _ (differs _ _ m.1)
-    (passed _ _ _ (ap is_running m.2) (passed _ _ _ (eq-eqb _ _ m.3) (passed _ _ _ (is_some_of _ _ m.4.1) refl))))
+    (passed _ _ _ (ap is_running m.2) (passed _ _ _ (eq-eqb _ _ m.3) (passed _ _ _ (ap is_some m.4.1) refl))))
 met_rules g (Settle e) s m = passed _ _ _ (lt-ltb _ _ m) refl
 met_rules g (Seal e) s m = passed _ _ _ (lt-ltb _ _ m) refl
 met_rules g (Read v) s m = passed _ _ _ (lt-ltb _ _ m.0)

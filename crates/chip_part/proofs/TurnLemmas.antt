@@ -32,6 +32,10 @@ AtMost n p = (s : Part) (ds : List Step) (t : Part) → p s ds t → length ds �
 at_most_nothing : AtMost 0 nothing
 at_most_nothing s ds t (none, same) = let a = ap length none in omega arith
 
+pub at_most_one : (o : Option ℕ) → length (option_to_list o) ≤ 1
+at_most_one None = omega arith
+at_most_one (Some x) = omega arith
+
 at_most_either : (n : ℕ) (b : Bool) (p q : Phase) → AtMost n p → AtMost n q → AtMost n (either_phase b p q)
 at_most_either n true p q some other = some
 at_most_either n false p q some other = other
@@ -205,10 +209,6 @@ module _ (g : Setting) (v : ℕ) where
       let h = ap (λ (o : Option ℕ). length (option_to_list o))
       (ok e (mine 0 0 (omega arith)) (pos_of_ne-zero (eqb-false (s.out e).pending 0 n))) in
       omega arith)
-    where
-      at_most_one : (o : Option ℕ) → length (option_to_list o) ≤ 1
-      at_most_one None = omega arith
-      at_most_one (Some x) = omega arith
 
   outs_leave : All (λ e. tail_of g e ≡ v) (outs_of g v)
   outs_leave k d l =

@@ -37,16 +37,13 @@ use Rattle.chip_part.proofs.PartLemmas.{out_zero, tail_inside, may_le}
 use Rattle.chip_part.proofs.PickedLemmas.{picked_passes, among_new_outs}
 use Rattle.chip_part.proofs.CursorLemmas.{skip, step, either_yes, either_no, where_yes, where_no, each_over, each_more}
 use Rattle.chip_part.proofs.CursorLemmas.{each_to, each_none, Passes}
+use Rattle.chip_part.proofs.RuleLemmas.{some_of, is_none_of}
 
 -- ---- a tail before and after
 
-kept_held : (b : Bool) (t u : Tail) → u.held ≡ t.held → (cond b u t).held ≡ t.held
-kept_held true t u same = same
-kept_held false t u same = refl
-
-kept_refused : (b : Bool) (t u : Tail) → u.refused ≡ t.refused → (cond b u t).refused ≡ t.refused
-kept_refused true t u same = same
-kept_refused false t u same = refl
+kept_field : {A : Type 0} (field : Tail → A) (b : Bool) (t u : Tail) → field u ≡ field t → field (cond b u t) ≡ field t
+kept_field field true t u same = same
+kept_field field false t u same = refl
 
 -- a claim holds a message exactly where it was taken, and is refused exactly where it wasn't
 claim_held : (b : Bool) (count : ℕ) (t : Tail) → t.held ≡ None
@@ -60,14 +57,6 @@ claim_either : (b : Bool) (count : ℕ) (t : Tail) → t.held ≡ None → t.ref
     (record t { clear = false; refused = true }) in u.refused ≡ not (is_some u.held))
 claim_either true count t none open' = open'
 claim_either false count t none open' = sym (ap (λ (o : Option ℕ). not (is_some o)) none)
-
-is_none_of : (o : Option ℕ) → is_some o ≡ false → o ≡ None
-is_none_of None none = refl
-is_none_of (Some x) none = absurd (true≢false none)
-
-some_of : (o : Option ℕ) → is_some o ≡ true → (x : ℕ) × (o ≡ Some x)
-some_of None some = absurd (true≢false (sym some))
-some_of (Some x) some = (x, refl)
 
 is_false : (b : Bool) → ◌≡◌ {A = ℕ} (cond b 1 0) 0 → b ≡ false
 is_false true z = absurd (omega arith)
@@ -352,8 +341,8 @@ module _ (g : Setting) (v : ℕ) (vertex : v < g.game.graph.vertices) (s : Part)
           within,
           record {
             running = at.running;
-            held = λ i out. kept_held (eqb e i) (s.out i).link (after_clear seen (s.out i).link) refl ∙ at.held i out;
-            refused = λ i out. kept_refused (eqb e i) (s.out i).link (after_clear seen (s.out i).link) refl
+            held = λ i out. kept_field (λ (w : Tail). w.held) (eqb e i) (s.out i).link (after_clear seen (s.out i).link) refl ∙ at.held i out;
+            refused = λ i out. kept_field (λ (w : Tail). w.refused) (eqb e i) (s.out i).link (after_clear seen (s.out i).link) refl
                 ∙ at.refused i out;
           },
         );
@@ -457,7 +446,7 @@ module _ (g : Setting) (v : ℕ) (vertex : v < g.game.graph.vertices) (s : Part)
               (λ same. ap (λ (u : Tail). u.held) (cond_yes e i (after_put (s.out i).link) (s.out i).link same))
               (λ other. ap (λ (u : Tail). u.held) (cond_no e i (after_put (s.out i).link) (s.out i).link other)
               ∙ at.held i there other);
-          refused = λ i there. kept_refused (eqb e i) (s.out i).link (after_put (s.out i).link) refl
+          refused = λ i there. kept_field (λ (w : Tail). w.refused) (eqb e i) (s.out i).link (after_put (s.out i).link) refl
               ∙ dite (ℕ_discrete e i) (λ same. subst (λ (k : ℕ). (s.out k).link.refused ≡ false) same (at.either
               ∙ ap not held)) (at.refused i there);
         };

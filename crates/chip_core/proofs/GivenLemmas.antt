@@ -92,7 +92,7 @@ module _ (g : Setting) where
         ∙ append-nil (sent_counts (out_in g log j).link))) (root_edge g v)
     sends (Claim i) log legal may v = let own = may.0 in
         ap sent_counts (cond_no i (root_edge g v) (after_claim (out_in g log (root_edge g v)).pending (sees g log (Claim i))
-        (out_in g log (root_edge g v)).link) (out_in g log (root_edge g v)).link (λ z. (let b : i ≡ root_edge g v = z in absurd (omega arith))))
+        (out_in g log (root_edge g v)).link) (out_in g log (root_edge g v)).link (λ z. absurd (omega arith)))
         ∙ sym (append-nil (sent_counts (out_in g log (root_edge g v)).link))
     sends (Clear i) log legal may v = at_edge (λ j (t : Tail). sent_counts t ≡ sent_counts (out_in g log j).link ++ []) i
         (λ j. after_clear (sees g log (Clear i)) (out_in g log j).link) (λ j. (out_in g log j).link)

@@ -125,8 +125,11 @@ module _ (g : Setting) where
         → (seen : ℕ) × Contains ds (saw (x e) seen)
     each_made x [] s ds t ph e at = let a = at.1 in absurd (omega arith)
     each_made x (e ∷ es) s ds t (front, m, back, is, (seen, rest, now, last), more) j here = first_or_later
-        (λ i. (n : ℕ) × Contains ds (saw (x i) n)) e es
-        (seen, within front back ds is (saw (x e) seen) (within (saw (x e) seen ∷ []) rest front now (saw (x e) seen) (0, omega arith, refl)))
+        (λ i. (n : ℕ) × Contains ds (saw (x i) n)) e es (
+          seen,
+          within front back ds is (saw (x e) seen)
+              (within (saw (x e) seen ∷ []) rest front now (saw (x e) seen) (0, omega arith, refl)),
+        )
         (λ i at. let found = each_made x es m back t more i at in
         (found.0, later front back ds is (saw (x i) found.0) found.1)) j here
 

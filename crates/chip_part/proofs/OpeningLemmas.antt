@@ -25,7 +25,8 @@ module _ (g : Setting) where
   pub first_is : (v : ℕ) → first_put g (root_edge g v) ≡ cond (eqb (start_of g v) 0) [] (start_of g v ∷ [])
   first_is v = cond_false (ltb (root_edge g v) (length g.game.graph.edges)) [] _
       (le-ltb (root_edge g v) (length g.game.graph.edges) (omega arith))
-      ∙ ap (λ (u : ℕ). cond (eqb (start_of g u) 0) [] (start_of g u ∷ [])) (let at : root_edge g v - graph_edges g ≡ v = omega arith in at)
+      ∙ ap (λ (u : ℕ). cond (eqb (start_of g u) 0) [] (start_of g u ∷ []))
+      (let at : root_edge g v - graph_edges g ≡ v = omega arith in at)
 
   first_sum : (v : ℕ) → sum (first_put g (root_edge g v)) ≡ start_of g v
   first_sum v = let s : ℕ = start_of g v in ap sum (first_is v) ∙ dite (ℕ_discrete s 0)

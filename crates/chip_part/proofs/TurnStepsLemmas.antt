@@ -41,6 +41,12 @@ use Rattle.chip_part.proofs.RuleLemmas.{some_of, is_none_of}
 
 -- ---- a tail before and after
 
+abbrev held_of : Tail → Option ℕ
+held_of t = t.held
+
+abbrev refused_of : Tail → Bool
+refused_of t = t.refused
+
 kept_field : {A : Type 0} (field : Tail → A) (b : Bool) (t u : Tail) → field u ≡ field t → field (cond b u t) ≡ field t
 kept_field field true t u same = same
 kept_field field false t u same = refl
@@ -145,8 +151,8 @@ module _ (g : Setting) (v : ℕ) (vertex : v < g.game.graph.vertices) (s : Part)
         met = met_rules g (Take e) s (in_inside g v vertex e (in_enters g v place within));
         fewer = omega arith;
         fits = λ seen. tt;
-        rest = λ seen ds after h. each_more (λ i. one_step g v (Take i)) (ins_of g v) (from_settling g v 0) place within s (does g (saw (Take e) seen) s)
-            (saw (Take e) seen ∷ []) ds after (seen, [], refl, (refl, refl)) h;
+        rest = λ seen ds after h. each_more (λ i. one_step g v (Take i)) (ins_of g v) (from_settling g v 0)
+            place within s (does g (saw (Take e) seen) s) (saw (Take e) seen ∷ []) ds after (seen, [], refl, (refl, refl)) h;
       }
 
   pub takes_over : (place : ℕ) → length (ins_of g v) ≤ place → Passes g v s (At.Take place) (At.Settle 0)
@@ -163,8 +169,8 @@ module _ (g : Setting) (v : ℕ) (vertex : v < g.game.graph.vertices) (s : Part)
         met = met_rules g (Settle e) s (let l = out_inside g v place within in omega arith);
         fewer = omega arith;
         fits = λ seen. tt;
-        rest = λ seen ds after h. each_more (λ i. one_step g v (Settle i)) (outs_of g v) (from_firing g v) place within s (does g (saw (Settle e) seen) s)
-            (saw (Settle e) seen ∷ []) ds after (seen, [], refl, (refl, refl)) h;
+        rest = λ seen ds after h. each_more (λ i. one_step g v (Settle i)) (outs_of g v) (from_firing g v) place
+            within s (does g (saw (Settle e) seen) s) (saw (Settle e) seen ∷ []) ds after (seen, [], refl, (refl, refl)) h;
       }
 
   pub settles_over : (place : ℕ) → length (outs_of g v) ≤ place → Passes g v s (At.Settle place) At.Fire
@@ -223,7 +229,8 @@ module _ (g : Setting) (v : ℕ) (vertex : v < g.game.graph.vertices) (s : Part)
       }
 
   pub no_fire_due : may_fire g v s ≡ false → Passes g v s At.Fire (At.Put 0)
-  no_fire_due off = record { fewer = omega arith; rest = skip (firing g v) _ s (where_no (may_fire g v) (one_step g v (Fire v (batch_of g v s))) s off) }
+  no_fire_due off = let idle = where_no (may_fire g v) (one_step g v (Fire v (batch_of g v s))) s off in
+      record { fewer = omega arith; rest = skip (firing g v) _ s idle }
 
   -- puts of what was claimed before
 
@@ -297,7 +304,8 @@ module _ (g : Setting) (v : ℕ) (vertex : v < g.game.graph.vertices) (s : Part)
   }
 
   pub refusal_over : is_running s.halt ≡ false → Passes g v s At.Refusal At.Limit
-  refusal_over halted = record { fewer = omega arith; rest = skip (sending_all g v) _ s (either_no (is_running s.halt) _ nothing s [] s halted (refl, refl)) }
+  refusal_over halted = let idle : sending_all g v s [] s = either_no (is_running s.halt) _ nothing s [] s halted (refl, refl) in
+      record { fewer = omega arith; rest = skip (sending_all g v) _ s idle }
 
   pub refusal_none : s.halt ≡ None → refusals g v s ≡ 0 → Passes g v s At.Refusal (At.Send 0)
   refusal_none runs none = record {
@@ -341,8 +349,8 @@ module _ (g : Setting) (v : ℕ) (vertex : v < g.game.graph.vertices) (s : Part)
           within,
           record {
             running = at.running;
-            held = λ i out. kept_field (λ (w : Tail). w.held) (eqb e i) (s.out i).link (after_clear seen (s.out i).link) refl ∙ at.held i out;
-            refused = λ i out. kept_field (λ (w : Tail). w.refused) (eqb e i) (s.out i).link (after_clear seen (s.out i).link) refl
+            held = λ i out. kept_field held_of (eqb e i) (s.out i).link (after_clear seen (s.out i).link) refl ∙ at.held i out;
+            refused = λ i out. kept_field refused_of (eqb e i) (s.out i).link (after_clear seen (s.out i).link) refl
                 ∙ at.refused i out;
           },
         );
@@ -369,12 +377,14 @@ module _ (g : Setting) (v : ℕ) (vertex : v < g.game.graph.vertices) (s : Part)
   pub sends_to : (place next : ℕ) → place ≤ next → next ≤ length (outs_of g v)
       → ((k : ℕ) → place ≤ k → k < next → not (eqb (s.out (out_at g v k)).pending 0) ≡ false)
       → Passes g v s (At.Send place) (At.Send next)
-  sends_to place next le within none = record { fewer = omega arith; rest = each_to _ _ _ place next le within s (λ k a b. idle_send (out_at g v k) (none k a b)) }
+  sends_to place next le within none = let idle = (λ (k : ℕ). idle_send (out_at g v k)) in
+      record { fewer = omega arith; rest = each_to _ _ _ place next le within s (λ k a b. idle k (none k a b)) }
 
   pub sends_over : (place : ℕ)
       → ((k : ℕ) → place ≤ k → k < length (outs_of g v) → not (eqb (s.out (out_at g v k)).pending 0) ≡ false)
       → Passes g v s (At.Send place) At.Limit
-  sends_over place none = record { fewer = omega arith; rest = each_none _ _ _ place s (λ k a b. idle_send (out_at g v k) (none k a b)) }
+  sends_over place none =
+      record { fewer = omega arith; rest = each_none _ _ _ place s (λ k a b. idle_send (out_at g v k) (none k a b)) }
 
   -- claims
 
@@ -446,7 +456,7 @@ module _ (g : Setting) (v : ℕ) (vertex : v < g.game.graph.vertices) (s : Part)
               (λ same. ap (λ (u : Tail). u.held) (cond_yes e i (after_put (s.out i).link) (s.out i).link same))
               (λ other. ap (λ (u : Tail). u.held) (cond_no e i (after_put (s.out i).link) (s.out i).link other)
               ∙ at.held i there other);
-          refused = λ i there. kept_field (λ (w : Tail). w.refused) (eqb e i) (s.out i).link (after_put (s.out i).link) refl
+          refused = λ i there. kept_field refused_of (eqb e i) (s.out i).link (after_put (s.out i).link) refl
               ∙ dite (ℕ_discrete e i) (λ same. subst (λ (k : ℕ). (s.out k).link.refused ≡ false) same (at.either
               ∙ ap not held)) (at.refused i there);
         };
@@ -512,7 +522,8 @@ module _ (g : Setting) (v : ℕ) (vertex : v < g.game.graph.vertices) (s : Part)
       }
 
   pub no_limit_due : is_at_limit g v s ≡ false → Passes g v s At.Limit (At.Ack 0)
-  no_limit_due off = record { fewer = omega arith; rest = skip (where_phase (is_at_limit g v) (one_step g v (Halt v))) _ s (where_no (is_at_limit g v) (one_step g v (Halt v)) s off) }
+  no_limit_due off = let idle = where_no (is_at_limit g v) (one_step g v (Halt v)) s off in
+      record { fewer = omega arith; rest = skip (where_phase (is_at_limit g v) (one_step g v (Halt v))) _ s idle }
 
   -- acknowledgements
 
@@ -548,7 +559,8 @@ module _ (g : Setting) (v : ℕ) (vertex : v < g.game.graph.vertices) (s : Part)
       → ((k : ℕ) → place ≤ k → k < next
       → acks_at g v s k ≡ false)
       → Passes g v s (At.Ack place) (At.Ack next)
-  acks_to place next le within none = record { fewer = omega arith; rest = each_to _ _ _ place next le within s (λ k a b. idle_ack k (none k a b)) }
+  acks_to place next le within none =
+      record { fewer = omega arith; rest = each_to _ _ _ place next le within s (λ k a b. idle_ack k (none k a b)) }
 
   pub acks_over : (place : ℕ)
       → ((k : ℕ) → place ≤ k → k < length (ins_of g v)

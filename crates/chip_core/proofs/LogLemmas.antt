@@ -179,23 +179,25 @@ module _ (g : Setting) where
           → (out_in g log e).link.held ≡ None
       empty_hand log legal e may = ⊎_elim (λ v. (out_kept log legal e).free_hand v.0 v.3) (λ r. r.3) may
 
+      -- one tail is changed
+      on_tail : (log : Log) (e : ℕ) (new : ℕ → Tail) → Sound g.ring (new e) (into_in g log e).got (stop_in g log e)
+          → ((i : ℕ) → SoundAt log i) → (i : ℕ)
+          → Sound g.ring (cond (eqb e i) (new i) (out_in g log i).link) (into_in g log i).got (stop_in g log i)
+      unfolding SoundAt
+      on_tail log e new here ok = at_edge (λ i (t : Tail). Sound g.ring t (into_in g log i).got (stop_in g log i)) e new
+          (λ i. (out_in g log i).link) here ok
+
       edge_step : (log : Log) (x : Event) (seen : ℕ) → IsLegalLog g log → Met g x (part_in g log (part_of g x))
           → seen ≡ sees g log x → ((e : ℕ) → SoundAt log e)
           → (e : ℕ) → Sound g.ring (link_after x seen e (out_in g log e)) (got_after x seen e (into_in g log e))
           (stop_after x seen e (stop_in g log e))
       unfolding SoundAt
-      edge_step log (Clear e) seen legal may is ok = at_edge
-          (λ i (t : Tail). Sound g.ring t (into_in g log i).got (stop_in g log i)) e
-          (λ i. after_clear seen (out_in g log i).link) (λ i. (out_in g log i).link)
+      edge_step log (Clear e) seen legal may is ok = on_tail log e (λ i. after_clear seen (out_in g log i).link)
           (clear_sound g.ring some_ring _ _ _ (ok e) seen (empty_hand log legal e may) is) ok
-      edge_step log (Claim e) seen legal may is ok = at_edge
-          (λ i (t : Tail). Sound g.ring t (into_in g log i).got (stop_in g log i)) e
-          (λ i. after_claim (out_in g log i).pending seen (out_in g log i).link) (λ i. (out_in g log i).link)
+      edge_step log (Claim e) seen legal may is ok = on_tail log e (λ i. after_claim (out_in g log i).pending seen (out_in g log i).link)
           (claim_sound g.ring some_ring _ _ _ (ok e) (out_in g log e).pending seen
           ((out_kept log legal e).clear_pends may.0 may.2) may.2 is) ok
-      edge_step log (Put e) seen legal may is ok = at_edge
-          (λ i (t : Tail). Sound g.ring t (into_in g log i).got (stop_in g log i)) e
-          (λ i. after_put (out_in g log i).link) (λ i. (out_in g log i).link)
+      edge_step log (Put e) seen legal may is ok = on_tail log e (λ i. after_put (out_in g log i).link)
           (put_sound g.ring some_ring _ _ _ (ok e) may.1.0 may.1.1) ok
       edge_step log (Take e) seen legal may is ok = at_edge
           (λ i (l : List ℕ). Sound g.ring (out_in g log i).link l (stop_in g log i)) e
@@ -205,9 +207,7 @@ module _ (g : Setting) where
           (λ i (stop : Option ℕ). Sound g.ring (out_in g log i).link (into_in g log i).got stop) e
           (λ i. after_seal seen (stop_in g log i)) (λ i. stop_in g log i)
           (seal_sound g.ring _ _ _ seen is (ok e)) ok
-      edge_step log (Feed e k) seen legal may is ok = at_edge
-          (λ i (t : Tail). Sound g.ring t (into_in g log i).got (stop_in g log i)) e
-          (λ i. after_claim k seen (out_in g log i).link) (λ i. (out_in g log i).link)
+      edge_step log (Feed e k) seen legal may is ok = on_tail log e (λ i. after_claim k seen (out_in g log i).link)
           (claim_sound g.ring some_ring _ _ _ (ok e) k seen may.3 may.5 is) ok
       edge_step log _ seen legal may is ok = ok
 

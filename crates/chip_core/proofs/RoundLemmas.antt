@@ -67,16 +67,12 @@ module _ (g : Setting) where
   work-append [] ys s = omega arith
   work-append (x ∷ xs) ys s = let a = work-append xs ys (does g x s) in omega arith
 
-  uncounted : (b : Bool) (n : ℕ) → cond b 1 0 + n ≡ 0 → (b ≡ false) × (n ≡ 0)
-  uncounted true n is = absurd (omega arith)
-  uncounted false n is = (refl, omega arith)
-
   -- steps of which none counts
   idle_part : (xs : List Step) (s : Part) → work_of g s xs ≡ 0 → bare (part_by g s xs) ≡ bare s
   idle_part [] s none = refl
   idle_part (x ∷ xs) s none =
-      let both = uncounted (counts_as_work g s x) (work_of g (does g x s) xs) none in
-      idle_part xs (does g x s) both.1 ∙ idle_does g x.event x.seen s both.0
+      let idle = one_more g (counts_as_work g s x) (work_of g (does g x s) xs) 0 none (omega arith) in
+      idle_part xs (does g x s) (omega arith) ∙ idle_does g x.event x.seen s idle
 
   -- ---- a phase leaves the part that its operations make
 

@@ -73,28 +73,22 @@ module _ (p : ℕ → Phase) (es : List ℕ) (q : Phase) where
       )
 
   -- edges at which nothing is done are passed over
-  pub each_skip : (place n : ℕ) → place + n ≤ length es → (s : Part)
-      → ((k : ℕ) → place ≤ k → k < place + n → p (slice_index es k) s [] s)
-      → (ds : List Step) (after : Part) → and_then (each_phase p (drop (place + n) es)) q s ds after
+  each_skip : (n place next : ℕ) → place + n ≡ next → next ≤ length es → (s : Part)
+      → ((k : ℕ) → place ≤ k → k < next → p (slice_index es k) s [] s)
+      → (ds : List Step) (after : Part) → and_then (each_phase p (drop next es)) q s ds after
       → and_then (each_phase p (drop place es)) q s ds after
-  each_skip place zero within s idle ds after rest = subst (λ (k : ℕ). and_then (each_phase p (drop k es)) q s ds after)
-      (let z : place + 0 ≡ place = omega arith in z) rest
-  each_skip place (suc n) within s idle ds after rest =
+  each_skip zero place next is within s idle ds after rest = subst (λ (k : ℕ). and_then (each_phase p (drop k es)) q s ds after)
+      (let z : next ≡ place = omega arith in z) rest
+  each_skip (suc n) place next is within s idle ds after rest =
       each_more place (omega arith) s s [] ds after (idle place (omega arith) (omega arith))
-      (each_skip (place + 1) n (omega arith) s (λ k le lt. idle k (omega arith) (omega arith)) ds after
-      (subst (λ (k : ℕ). and_then (each_phase p (drop k es)) q s ds after)
-      (let z : place + suc n ≡ place + 1 + n = omega arith in z) rest))
+      (each_skip n (place + 1) next (omega arith) within s (λ k le lt. idle k (omega arith) lt) ds after rest)
 
   -- up to a place
   pub each_to : (place next : ℕ) → place ≤ next → next ≤ length es → (s : Part)
       → ((k : ℕ) → place ≤ k → k < next → p (slice_index es k) s [] s)
       → (ds : List Step) (after : Part) → and_then (each_phase p (drop next es)) q s ds after
       → and_then (each_phase p (drop place es)) q s ds after
-  each_to place next le within s idle ds after rest =
-      let n : ℕ = next - place in
-      let is : place + n ≡ next = omega arith in
-      each_skip place n (omega arith) s (λ k a b. idle k a (omega arith)) ds after
-      (subst (λ (k : ℕ). and_then (each_phase p (drop k es)) q s ds after) (sym is) rest)
+  each_to place next le within = each_skip (next - place) place next (omega arith) within
 
   -- to their end
   pub each_none : (place : ℕ) (s : Part) → ((k : ℕ) → place ≤ k → k < length es → p (slice_index es k) s [] s)

@@ -1,6 +1,6 @@
 -- Serves Sequence.antt.
 -- Several firings of one vertex at once, on lists.
-use Rattle.std.proofs.Common.{◌≡◌, ◌≢◌, ℕ, ◌+◌, ◌-◌, ◌*◌, ◌/◌, ◌<◌, ◌≤◌, Bool, true, false, cond, eqb, List, [], ◌∷◌}
+use Rattle.std.proofs.Common.{◌≡◌, ◌≢◌, ℕ, ◌+◌, ◌-◌, ◌*◌, ◌/◌, ◌<◌, ◌≤◌, Bool, cond, eqb, List, [], ◌∷◌}
 use Rattle.std.proofs.Common.{length, map, take, sum, sum_by, get_or, set, replicate, All, refl, sym, ap, ◌∙◌, subst}
 use Rattle.std.proofs.Common.{arith, mul-add, mul_comm, mul-le-mul_left, get_or-set_same, get_or-set_other}
 use Rattle.std.proofs.lemmas.List.Sums.{sum_by-cons, sum_by_more, sum_by-set}
@@ -13,6 +13,7 @@ use Rattle.chip_graph.proofs.SumLemmas.{cond_yes, cond_no, picked_sum, sum_below
 use Rattle.chip_graph.proofs.PickLemmas.{All-picked}
 use Rattle.chip_sequence.specs.Sequence.{position_after}
 use Rattle.chip_sequence.proofs.FiringLemmas.{brings, batch_position}
+use Rattle.std.proofs.lemmas.Bool.Decides.{nat_tests}
 
 -- ---- along a list of edges
 
@@ -101,10 +102,7 @@ module _ (G : Multigraph) (good : IsGraph G) (v : ℕ) where
       (λ e l. one (eqb (edge_at G e).tail v) (eqb (edge_at G e).head u) (edge_at G e).mult)
     where
       one : (a b : Bool) (m : ℕ) → cond a (cond b m 0) 0 ≡ cond b (cond a m 0) 0
-      one true true m = refl
-      one true false m = refl
-      one false true m = refl
-      one false false m = refl
+      one a b m = grind (arith, nat_tests)
 
   -- ---- a batch
 

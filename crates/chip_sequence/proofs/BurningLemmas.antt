@@ -7,7 +7,7 @@ use Rattle.std.proofs.lemmas.List.Sums.{sum_by_more_le}
 use mathlib.Core.Logic.{dite}
 use native.Mathlib.Decide.{ℕ_discrete, dec_lt, dec_le}
 use Rattle.chip_graph.specs.Multigraph.{Multigraph, edge_at, edges_in, sum_in, degree, IsGraph}
-use Rattle.chip_graph.proofs.SumLemmas.{cond_true, picked_sum, tested_le, tested_add, tested_scale, by_test, cond_false}
+use Rattle.chip_graph.proofs.SumLemmas.{cond_true, picked_sum, tested_le, tested_add, tested_scale}
 use Rattle.chip_sequence.specs.Sequence.{position_after, counts, IsFiringSequence, IsWithin}
 use Rattle.chip_sequence.specs.Counted.{inflow}
 use Rattle.chip_sequence.specs.Certificate.{AreForced, in_degree, late_in_degree, IsBurnt, AreBurnt}
@@ -223,16 +223,13 @@ last_fires (v ∷ vs) u some = dite (ℕ_discrete v u)
 
 -- a choice that is made less often is no greater
 fewer : (a b : Bool) (m : ℕ) → (a ≡ true → b ≡ true) → cond a m 0 ≤ cond b m 0
-fewer a b m p = by_test a
-    (λ on. let c = cond_true a m 0 on in let d = cond_true b m 0 (p on) in omega arith)
-    (λ off. let c = cond_false a m 0 off in omega arith)
+fewer true b m p = let d = cond_true b m 0 (p refl) in omega arith
+fewer false b m p = omega arith
 
 -- a choice that is made only where something counts
 counted_once : (a : Bool) (m n : ℕ) → (a ≡ true → 0 < n) → cond a m 0 ≤ m * n
-counted_once a m n p = by_test a
-    (λ on. let c = cond_true a m 0 on in
-    let d : m * 1 ≤ m * n = mul-le-mul_left m (let k = p on in let k' : 1 ≤ n = omega arith in k') in omega arith)
-    (λ off. let c = cond_false a m 0 off in omega arith)
+counted_once true m n p = let some = p refl in let d : m * 1 ≤ m * n = mul-le-mul_left m (omega arith) in omega arith
+counted_once false m n p = omega arith
 
 module _ (G : Multigraph) where
   -- a tail that is late in the whole is late in the rest

@@ -209,7 +209,15 @@ impl Detect {
         requires { Contains (in_edges self.now) edge }
         ensures { result ≡ owed self.now edge }
     {
-        self.ins.open_at(self.ins.slot_of(edge))
+        self.owed_at(self.ins.slot_of(edge))
+    }
+
+    /// How many acknowledgements the vertex owes on the edge at this slot of those into it.
+    pub fn owed_at(&self, slot: Slot) -> u64
+        requires { IsSlotOf (in_edges self.now) slot }
+        ensures { result ≡ owed self.now slot.edge }
+    {
+        self.ins.open_at(slot)
     }
 
     /// Whether a message engaged the vertex and isn't acknowledged yet.

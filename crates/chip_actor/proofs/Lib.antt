@@ -3,6 +3,7 @@ pub mod EndLemmas
 pub mod StandingLemmas
 pub mod SteppingLemmas
 pub mod MakingLemmas
+pub mod FindingLemmas
 pub mod ActorOpeningLemmas
 pub mod TurnActorLemmas
 pub mod MediumLemmas

@@ -33,38 +33,13 @@ use Rattle.chip_actor.specs.declared.ends.outs.OutEnd.{OutEnd}
 use Rattle.chip_actor.specs.Ends.{OutEnds, InEnds, out_on, in_on, ChangesOut, ChangesOuts, ChangesIn}
 use Rattle.chip_actor.specs.Ends.{out_after_clear, out_after_claim, out_after_put, out_after_fire}
 use Rattle.chip_actor.specs.Actor.{Actor, StandsFor, SomePart, WhateverPart, is_passive_now}
-use Rattle.chip_part.specs.Acting.{act_of, event_of, CanDo, IsDue}
-use Rattle.chip_part.specs.declared.act.Act.TheVariants as Do
-use Rattle.chip_part.specs.declared.act.Observed.{Observed}
-use Rattle.chip_part.specs.Setting.{Setting}
+use Rattle.chip_part.specs.Acting.{CanDo}
 use Rattle.chip_actor.specs.Actor.{Makes}
 use Rattle.chip_part.proofs.RuleLemmas.{rules_met}
-use Rattle.chip_actor.proofs.StandingLemmas.{among_outs, among_ins, books_in, out_inside, owed_is, may_ack_is}
+use Rattle.chip_actor.proofs.StandingLemmas.{out_inside, may_ack_is}
 use Rattle.chip_actor.proofs.StandingLemmas.{few_got, few_fired}
 use Rattle.chip_actor.proofs.SteppingLemmas.{takes, takes_none, settles, acknowledges, halts, clears, may_look, claims}
 use Rattle.chip_actor.proofs.SteppingLemmas.{is_refused, puts, fires}
-
--- ---- an operation that is due
-
-module _ (a : Actor) (o : Observed) (e : ℕ) where
-  -- its edge is one of the actor's, into the vertex or out of it
-  pub due_in : SomePart a (λ g s. IsDue g s a.vertex o)
-      → ((g : Setting) → part_of g (event_of a.vertex o.act) ≡ head_of g e) → Contains a.ins.edges e
-  due_in (g, s, stands, due) into = among_ins g s a stands e (sym (into g) ∙ due.0.0)
-
-  pub due_out : SomePart a (λ g s. IsDue g s a.vertex o)
-      → ((g : Setting) → part_of g (event_of a.vertex o.act) ≡ tail_of g e) → Contains a.outs.edges e
-  due_out (g, s, stands, due) out = among_outs g s a stands e (sym (out g) ∙ due.0.0)
-
-  -- an acknowledgement is of all that may be acknowledged
-  pub due_count : (count : ℕ) → SomePart a (λ g s. IsDue g s a.vertex o) → o.act ≡ Do.Ack e count
-      → count ≡ detector.may_ack a.detect e (is_passive_now a)
-  due_count count (g, s, stands, due) is =
-      let event : event_of a.vertex o.act ≡ Ack e = ap (event_of a.vertex) is in
-      let needed : Do.Ack e count ≡ Do.Ack e (may_ack g (head_of g e) s e)
-      = sym is ∙ due.1 ∙ ap (λ (x : Event). act_of g x s) event in
-      let same : count ≡ may_ack g (head_of g e) s e = cc in
-      same ∙ sym (may_ack_is g s a stands e (sym (ap (part_of g) event) ∙ due.0.0))
 
 -- ---- a take
 

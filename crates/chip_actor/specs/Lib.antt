@@ -2,6 +2,7 @@ pub mod Ends
 pub mod Actor
 pub mod Turning
 pub mod Medium
+pub mod Found
 pub use Rattle.chip_part.specs.Acting
 pub use Rattle.chip_part.specs.Counting
 pub use Rattle.chip_part.specs.Cursor

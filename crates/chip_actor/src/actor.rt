@@ -6,10 +6,12 @@ use chip_detect::{Detect, Slot};
 use chip_graph::Game;
 use chip_link::{Event, Ring};
 use chip_part::{Act, Cause, Observed, Reply, Rule, first_unmet, is_by_limit};
+use finding::{Found, event_of};
 use std::alloc::{AllocError, Global};
 use std::marker::Model;
 
 mod cursor;
+mod finding;
 mod turn;
 
 /// The state of one vertex of a running machine.
@@ -72,6 +74,7 @@ impl ActorState {
     ghost use Rattle.chip_actor.specs.Actor.{Actor, StandsFor, WhateverPart, SomePart, Makes, is_legal_now};
     ghost use Rattle.chip_actor.specs.Actor.{is_passive_now};
     ghost use Rattle.chip_actor.specs.Ends.{out_on};
+    ghost use Rattle.chip_actor.specs.Found.{event_found, IsPlaced};
     ghost use Rattle.chip_link.specs.declared.event.Event.TheVariants.{Take, Ack, Fire, Clear, Claim, Put, Halt};
     ghost use Rattle.chip_link.specs.declared.event.Event.TheVariants.{Settle};
 
@@ -118,7 +121,7 @@ impl ActorState {
         requires { SomePart self.now (λ g s. tail_of g edge ≡ self.now.vertex) }
         ensures { WhateverPart self.now (λ g s. tail_of g edge ≡ self.now.vertex → result ≡ (s.out edge).pending) }
     {
-        self.out_end(edge).pending
+        self.out_end(self.outs.slot_of(edge)).pending
     }
 
     /// The chips of the message that is claimed on an edge out of the vertex and not put, if there is one.
@@ -126,7 +129,7 @@ impl ActorState {
         requires { SomePart self.now (λ g s. tail_of g edge ≡ self.now.vertex) }
         ensures { WhateverPart self.now (λ g s. tail_of g edge ≡ self.now.vertex → result ≡ (s.out edge).link.held) }
     {
-        let (_, count) = self.out_end(edge).link.held()?;
+        let (_, count) = self.out_end(self.outs.slot_of(edge)).link.held()?;
         Some(count)
     }
 
@@ -138,12 +141,12 @@ impl ActorState {
         self.unput == 0 && (self.halt.is_some() || self.pending == 0 && !self.is_legal())
     }
 
-    // What is known of an edge out of the vertex.
-    fn out_end(&self, edge: u64) -> &OutEnd
-        requires { SomePart self.now (λ g s. tail_of g edge ≡ self.now.vertex) }
-        ensures { result.now ≡ out_on self.now.outs edge }
+    // What is known of the edge at this slot of those out of the vertex.
+    fn out_end(&self, slot: Slot) -> &OutEnd
+        requires { IsSlotOf self.now.outs.edges slot }
+        ensures { result.now ≡ out_on self.now.outs slot.edge }
     {
-        self.outs.get(edge)
+        self.outs.at(slot.index)
     }
 
     // It isn't the sink, and it has the chips for one firing.
@@ -184,16 +187,24 @@ impl ActorState {
         self.pending == 0 && self.unput == 0
     }
 
-    fn ack_rule(&self, edge: u64) -> Option<Rule>
-        requires { SomePart self.now (λ g s. head_of g edge ≡ self.now.vertex) }
-        ensures { WhateverPart self.now (λ g s. head_of g edge ≡ self.now.vertex → result ≡ unmet_rule g (Ack edge) s) }
+    // How many messages of the edge at this slot of those into the vertex may be acknowledged now.
+    fn may_ack(&self, slot: Slot) -> u64
+        requires slot { IsSlotOf self.now.ins.edges slot }
+        requires some { SomePart self.now (λ g s. ⊤) }
+        ensures { result ≡ may_ack self.now.detect slot.edge (is_passive_now self.now) }
+    {
+        self.detect.may_ack_at(slot, self.passive())
+    }
+
+    fn ack_rule(&self, slot: Slot) -> Option<Rule>
+        requires slot { IsSlotOf self.now.ins.edges slot }
+        requires some { SomePart self.now (λ g s. ⊤) }
+        ensures { WhateverPart self.now
+            (λ g s. head_of g slot.edge ≡ self.now.vertex → result ≡ unmet_rule g (Ack slot.edge) s) }
     {
         first_unmet(&[
-            (self.detect.owed(edge) != 0, Rule::NothingOwed),
-            (
-                self.detect.may_ack(edge, self.passive()) != 0,
-                Rule::Engaged,
-            ),
+            (self.detect.owed_at(slot) != 0, Rule::NothingOwed),
+            (self.may_ack(slot) != 0, Rule::Engaged),
         ])
     }
 
@@ -211,12 +222,12 @@ impl ActorState {
         ])
     }
 
-    fn clear_rule(&self, edge: u64) -> Option<Rule>
-        requires { SomePart self.now (λ g s. tail_of g edge ≡ self.now.vertex) }
+    fn clear_rule(&self, slot: Slot) -> Option<Rule>
+        requires { IsSlotOf self.now.outs.edges slot }
         ensures { WhateverPart self.now
-            (λ g s. tail_of g edge ≡ self.now.vertex → result ≡ unmet_rule g (Clear edge) s) }
+            (λ g s. tail_of g slot.edge ≡ self.now.vertex → result ≡ unmet_rule g (Clear slot.edge) s) }
     {
-        let out = self.out_end(edge);
+        let out = self.out_end(slot);
         first_unmet(&[
             (self.halt.is_none(), Rule::Halted),
             (!out.link.refused(), Rule::Refused),
@@ -224,23 +235,24 @@ impl ActorState {
         ])
     }
 
-    fn claim_rule(&self, edge: u64) -> Option<Rule>
-        requires { SomePart self.now (λ g s. tail_of g edge ≡ self.now.vertex) }
+    fn claim_rule(&self, slot: Slot) -> Option<Rule>
+        requires { IsSlotOf self.now.outs.edges slot }
         ensures { WhateverPart self.now
-            (λ g s. tail_of g edge ≡ self.now.vertex → result ≡ unmet_rule g (Claim edge) s) }
+            (λ g s. tail_of g slot.edge ≡ self.now.vertex → result ≡ unmet_rule g (Claim slot.edge) s) }
     {
-        let is_clear = self.out_end(edge).link.claim_next().is_some();
+        let is_clear = self.out_end(slot).link.claim_next().is_some();
         first_unmet(&[
             (self.halt.is_none(), Rule::Halted),
             (is_clear, Rule::NotCleared),
         ])
     }
 
-    fn put_rule(&self, edge: u64) -> Option<Rule>
-        requires { SomePart self.now (λ g s. tail_of g edge ≡ self.now.vertex) }
-        ensures { WhateverPart self.now (λ g s. tail_of g edge ≡ self.now.vertex → result ≡ unmet_rule g (Put edge) s) }
+    fn put_rule(&self, slot: Slot) -> Option<Rule>
+        requires { IsSlotOf self.now.outs.edges slot }
+        ensures { WhateverPart self.now
+            (λ g s. tail_of g slot.edge ≡ self.now.vertex → result ≡ unmet_rule g (Put slot.edge) s) }
     {
-        first_unmet(&[(self.out_end(edge).link.held().is_some(), Rule::NotClaimed)])
+        first_unmet(&[(self.out_end(slot).link.held().is_some(), Rule::NotClaimed)])
     }
 
     fn halt_rule(&self) -> Option<Rule>
@@ -255,63 +267,80 @@ impl ActorState {
     }
 
     // The first rule of an event of the vertex that isn't met.
-    fn broken_rule(&self, event: &Event) -> Option<Rule>
-        requires { SomePart self.now (λ g s. part_of g event.now ≡ self.now.vertex) }
-        ensures { WhateverPart self.now
-            (λ g s. part_of g event.now ≡ self.now.vertex → result ≡ unmet_rule g event.now s) }
+    #[inline(always)]
+    fn broken_rule(&self, found: Found) -> Option<Rule>
+        requires placed { IsPlaced self.now found }
+        requires some { SomePart self.now (λ g s. ⊤) }
+        ensures { let x = event_found self.now.vertex found in WhateverPart self.now
+            (λ g s. part_of g x ≡ self.now.vertex → result ≡ unmet_rule g x s) }
     {
-        match *event {
-            Event::Take(_) | Event::Settle(_) => None,
-            Event::Ack(edge) => self.ack_rule(edge),
-            Event::Fire { k, .. } => self.fire_rule(k),
-            Event::Clear(edge) => self.clear_rule(edge),
-            Event::Claim(edge) => self.claim_rule(edge),
-            Event::Put(edge) => self.put_rule(edge),
-            Event::Halt(_) => self.halt_rule(),
-            Event::Feed { .. } => Some(Rule::NoSuch),
-            Event::Seal(_) | Event::Read(_) | Event::End => unreachable!(),
+        match found {
+            Found::Take(_) | Found::Settle(_) => None,
+            Found::Ack(slot) => self.ack_rule(slot),
+            Found::Fire(k) => self.fire_rule(k),
+            Found::Clear(slot) => self.clear_rule(slot),
+            Found::Claim(slot) => self.claim_rule(slot),
+            Found::Put(slot) => self.put_rule(slot),
+            Found::Halt => self.halt_rule(),
+            Found::Feed { .. } => Some(Rule::NoSuch),
         }
     }
 
     // The operation that an event of the vertex needs, whose rules are met.
+    #[inline(always)]
+    fn act_at(&self, found: Found) -> Act
+        requires placed { IsPlaced self.now found }
+        requires due { let x = event_found self.now.vertex found in SomePart self.now
+            (λ g s. (part_of g x ≡ self.now.vertex) × (unmet_rule g x s ≡ None)) }
+        ensures { let x = event_found self.now.vertex found in WhateverPart self.now
+            (λ g s. part_of g x ≡ self.now.vertex → unmet_rule g x s ≡ None → result ≡ act_of g x s) }
+    {
+        match found {
+            Found::Take(Slot { index, edge }) => Act::Take {
+                edge,
+                cell: self.ins.at(index).cell(),
+            },
+            Found::Settle(slot) => Act::Settle { edge: slot.edge },
+            Found::Ack(slot) => Act::Ack {
+                edge: slot.edge,
+                count: self.may_ack(slot),
+            },
+            Found::Fire(k) => Act::Fire { k },
+            Found::Clear(slot) => Act::Clear {
+                edge: slot.edge,
+                cell: self.out_end(slot).link.cell(),
+            },
+            Found::Claim(slot) => {
+                let (expected, new) = self.out_end(slot).link.claim_next().unwrap();
+                Act::Claim {
+                    edge: slot.edge,
+                    expected,
+                    new,
+                }
+            }
+            Found::Put(slot) => {
+                let (cell, value) = self.out_end(slot).link.held().unwrap();
+                Act::Put {
+                    edge: slot.edge,
+                    cell,
+                    value,
+                }
+            }
+            Found::Halt => Act::Halt {
+                by_limit: is_by_limit(self.cause()),
+            },
+            Found::Feed { .. } => unreachable!(),
+        }
+    }
+
+    // The same of an event whose edge is not found yet.
     fn act(&self, event: &Event) -> Act
         requires { SomePart self.now
             (λ g s. (part_of g event.now ≡ self.now.vertex) × (unmet_rule g event.now s ≡ None)) }
         ensures { WhateverPart self.now (λ g s. part_of g event.now ≡ self.now.vertex → unmet_rule g event.now s ≡ None
             → result ≡ act_of g event.now s) }
     {
-        match *event {
-            Event::Take(edge) => Act::Take {
-                edge,
-                cell: self.ins.cell(edge),
-            },
-            Event::Settle(edge) => Act::Settle { edge },
-            Event::Ack(edge) => Act::Ack {
-                edge,
-                count: self.detect.may_ack(edge, self.passive()),
-            },
-            Event::Fire { k, .. } => Act::Fire { k },
-            Event::Clear(edge) => Act::Clear {
-                edge,
-                cell: self.out_end(edge).link.cell(),
-            },
-            Event::Claim(edge) => {
-                let (expected, new) = self.out_end(edge).link.claim_next().unwrap();
-                Act::Claim {
-                    edge,
-                    expected,
-                    new,
-                }
-            }
-            Event::Put(edge) => {
-                let (cell, value) = self.out_end(edge).link.held().unwrap();
-                Act::Put { edge, cell, value }
-            }
-            Event::Halt(_) => Act::Halt {
-                by_limit: is_by_limit(self.cause()),
-            },
-            Event::Seal(_) | Event::Read(_) | Event::Feed { .. } | Event::End => unreachable!(),
-        }
+        self.act_at(self.find(event))
     }
 
     /// The operation that an event of this vertex needs, or the first of its rules that isn't met. Takes and
@@ -322,9 +351,10 @@ impl ActorState {
         ensures { WhateverPart self.now (λ g s. part_of g event.now ≡ self.now.vertex
             → result ≡ verdict (unmet_rule g event.now s) (act_of g event.now s)) }
     {
-        match self.broken_rule(event) {
+        let found = self.find(event);
+        match self.broken_rule(found) {
             Some(rule) => Err(rule),
-            None => Ok(self.act(event)),
+            None => Ok(self.act_at(found)),
         }
     }
 
@@ -431,35 +461,31 @@ impl ActorState {
         requires { SomePart self.old (λ g s. IsDue g s self.old.vertex observed) }
         ensures { Makes self.old self.new (event_of self.old.vertex observed.act) observed.seen result }
     {
-        let seen = observed.seen;
-        match observed.act {
-            Act::Take { edge, .. } => {
-                let slot = self.ins.slot_of(edge);
-                self.take(slot, seen)
-            }
-            Act::Settle { edge } => {
-                let slot = self.outs.slot_of(edge);
-                self.settle(slot, seen)
-            }
-            Act::Fire { k } => self.fire(k, seen),
-            Act::Clear { edge, .. } => {
-                let slot = self.outs.slot_of(edge);
-                self.clear(slot, seen)
-            }
-            Act::Claim { edge, .. } => {
-                let slot = self.outs.slot_of(edge);
-                self.claim(slot, seen)
-            }
-            Act::Put { edge, .. } => {
-                let slot = self.outs.slot_of(edge);
-                self.put(slot, seen)
-            }
-            Act::Halt { .. } => self.stop(seen),
-            Act::Ack { edge, count } => {
-                let slot = self.ins.slot_of(edge);
+        let event = event_of(self.vertex, observed.act);
+        let found = self.find(&event);
+        self.note(found, observed.seen)
+    }
+
+    // What an event of the vertex does to its state, with the word that its operation saw.
+    #[inline(always)]
+    fn note(&mut self, found: Found, seen: u64) -> Reply
+        requires placed { IsPlaced self.old found }
+        requires can { SomePart self.old (λ g s. CanDo g s self.old.vertex (event_found self.old.vertex found) seen) }
+        ensures { Makes self.old self.new (event_found self.old.vertex found) seen result }
+    {
+        match found {
+            Found::Take(slot) => self.take(slot, seen),
+            Found::Settle(slot) => self.settle(slot, seen),
+            Found::Ack(slot) => {
+                let count = self.may_ack(slot);
                 self.acknowledge(slot, count, seen)
             }
-            Act::End => unreachable!(),
+            Found::Fire(k) => self.fire(k, seen),
+            Found::Clear(slot) => self.clear(slot, seen),
+            Found::Claim(slot) => self.claim(slot, seen),
+            Found::Put(slot) => self.put(slot, seen),
+            Found::Halt => self.stop(seen),
+            Found::Feed { .. } => unreachable!(),
         }
     }
 

@@ -257,7 +257,7 @@ fn work_of(act: Act, seen: u64, reply: &Reply) -> usize
 
 /// Makes an operation on the shared words, and gives the word that it saw.
 #[inline(always)]
-fn perform<M: Medium>(medium: &mut M, act: Act) -> u64
+pub(crate) fn perform<M: Medium>(medium: &mut M, act: Act) -> u64
     requires some { act ≢ Act.End }
     requires may { MayServe (M.holds medium.old) act }
     ensures { Serves (M.holds medium.old) (M.holds medium.new) act result }

@@ -45,14 +45,6 @@ impl Ins {
         Slot { index, edge }
     }
 
-    /// The cell of the next place to take on an edge.
-    pub fn cell(&self, edge: u64) -> u64
-        requires { Contains self.now.edges edge }
-        ensures { result ≡ head_cell (in_on self.now edge) }
-    {
-        self.at(self.slot_of(edge).index).cell()
-    }
-
     /// What is known of the edges, in their order.
     pub fn ends(&self) -> &[HeadLink]
         ensures ends { result.now ≡ self.now.ends }

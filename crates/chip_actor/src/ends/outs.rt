@@ -60,14 +60,6 @@ impl Outs {
         Slot { index, edge }
     }
 
-    /// What is known of an edge.
-    pub fn get(&self, edge: u64) -> &OutEnd
-        requires { Contains self.now.edges edge }
-        ensures { result.now ≡ out_on self.now edge }
-    {
-        self.at(self.slot_of(edge).index)
-    }
-
     /// What is known of the edges, in their order.
     pub fn ends(&self) -> &[OutEnd]
         ensures ends { result.now ≡ self.now.ends }

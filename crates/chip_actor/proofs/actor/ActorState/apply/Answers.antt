@@ -1,60 +1,25 @@
-use Rattle.std.proofs.Common.{◌∙◌, ap, sym, subst}
-use Rattle.std.specs.List.{Contains}
-use Rattle.chip_part.specs.declared.act.Act.{Act}
-use Rattle.chip_part.specs.Acting.{event_of}
-use Rattle.chip_part.specs.Rules.{Event, Clear, Put}
+use Rattle.std.proofs.Common.{◌≡◌, ◌∙◌, ap, sym, subst}
+use Rattle.chip_part.specs.Rules.{Event}
 use Rattle.chip_part.specs.Steps.{part_of}
-use Rattle.chip_actor.specs.Actor.{Actor, Makes}
-use Rattle.chip_actor.proofs.MakingLemmas.{due_in, due_out, due_count}
+use Rattle.chip_part.specs.Acting.{CanDo, event_of}
+use Rattle.chip_actor.specs.Actor.{Actor, Makes, SomePart}
 use Rattle.chip_actor.proofs.actor.ActorState.apply.Goals as goal
+use Rattle.chip_actor.proofs.actor.ActorState.apply.Goals.{After-event_of-event}
 
--- the edge of each operation is one of the vertex's
-pub slot_of-slot-requires : goal.slot_of-slot-requires
-slot_of-slot-requires c =
-    subst (λ (a : Actor). Contains a.ins.edges c.in-Take.edge) (sym c.self.view_is)
-    (due_in c.args.self.now c.args.observed c.in-Take.edge c.requires
-    (λ g. ap (λ (x : Act). part_of g (event_of c.args.self.now.vertex x)) c.in-Take.is))
+-- the event is that of the operation
+asked : (c : After-event_of-event) → c.event_of-event.result ≡ event_of c.args.self.now.vertex c.args.observed.act
+asked c = c.event_of-event.ensures ∙ ap (λ (a : Actor). event_of a.vertex c.args.observed.act) c.self.view_is
 
-pub slot_of-slot-requires-in-Settle : goal.slot_of-slot-requires-in-Settle
-slot_of-slot-requires-in-Settle c =
-    subst (λ (a : Actor). Contains a.outs.edges c.in-Settle.edge) (sym c.self-in-Settle.view_is)
-    (due_out c.args.self.now c.args.observed c.in-Settle.edge c.requires
-    (λ g. ap (λ (x : Act). part_of g (event_of c.args.self.now.vertex x)) c.in-Settle.is))
+pub find-found-requires : goal.find-found-requires
+find-found-requires c = let r = c.requires in
+    (r.0, r.1, r.2, ap (part_of r.0) (asked (goal.at.find-found-requires c).After-event_of-event) ∙ r.3.0.0)
 
-pub slot_of-slot-requires-in-Clear : goal.slot_of-slot-requires-in-Clear
-slot_of-slot-requires-in-Clear c =
-    subst (λ (a : Actor). Contains a.outs.edges c.in-Clear.edge) (sym c.self-in-Clear.view_is)
-    (due_out c.args.self.now c.args.observed c.in-Clear.edge c.requires
-    (λ g. ap (λ (x : Act). part_of g (event_of c.args.self.now.vertex x)) c.in-Clear.is))
+pub note-requires-clause-can : goal.note-requires-clause-can
+note-requires-clause-can c = let r = c.requires in
+    subst (λ (x : Event). SomePart c.args.self.now (λ g s. CanDo g s c.args.self.now.vertex x c.args.observed.seen))
+    (sym (c.find-found.ensures.event ∙ asked (goal.at.note-requires-clause-can c).After-event_of-event))
+    (r.0, r.1, r.2, r.3.0)
 
-pub slot_of-slot-requires-in-Claim : goal.slot_of-slot-requires-in-Claim
-slot_of-slot-requires-in-Claim c =
-    subst (λ (a : Actor). Contains a.outs.edges c.in-Claim.edge) (sym c.self-in-Claim.view_is)
-    (due_out c.args.self.now c.args.observed c.in-Claim.edge c.requires
-    (λ g. ap (λ (x : Act). part_of g (event_of c.args.self.now.vertex x)) c.in-Claim.is))
-
-pub slot_of-slot-requires-in-Put : goal.slot_of-slot-requires-in-Put
-slot_of-slot-requires-in-Put c =
-    subst (λ (a : Actor). Contains a.outs.edges c.in-Put.edge) (sym c.self-in-Put.view_is)
-    (due_out c.args.self.now c.args.observed c.in-Put.edge c.requires
-    (λ g. ap (λ (x : Act). part_of g (event_of c.args.self.now.vertex x)) c.in-Put.is))
-
-pub slot_of-slot-requires-in-Ack : goal.slot_of-slot-requires-in-Ack
-slot_of-slot-requires-in-Ack c =
-    subst (λ (a : Actor). Contains a.ins.edges c.in-Ack.edge) (sym c.self-in-Ack.view_is)
-    (due_in c.args.self.now c.args.observed c.in-Ack.edge c.requires
-    (λ g. ap (λ (x : Act). part_of g (event_of c.args.self.now.vertex x)) c.in-Ack.is))
-
-pub acknowledge-requires-clause-count : goal.acknowledge-requires-clause-count
-acknowledge-requires-clause-count c = rw c.slot_of-slot-in-Ack.ensures.edge
-    (due_count c.args.self.now c.args.observed c.in-Ack.edge c.in-Ack.count c.requires c.in-Ack.is)
-
-pub returns-in-Clear : goal.returns-in-Clear
-returns-in-Clear c = subst
-    (λ (x : Event). Makes c.args.self.now c.clear.new.self x c.args.observed.seen c.clear.result)
-    (ap Clear c.slot_of-slot-in-Clear.ensures.edge ∙ sym (ap (event_of c.args.self.now.vertex) c.in-Clear.is))
-    c.clear.ensures
-
-pub returns-in-Put : goal.returns-in-Put
-returns-in-Put c = subst (λ (x : Event). Makes c.args.self.now c.put.new.self x c.args.observed.seen c.put.result)
-    (ap Put c.slot_of-slot-in-Put.ensures.edge ∙ sym (ap (event_of c.args.self.now.vertex) c.in-Put.is)) c.put.ensures
+pub returns : goal.returns
+returns c = subst (λ (x : Event). Makes c.args.self.now c.note.new.self x c.args.observed.seen c.note.result)
+    (c.find-found.ensures.event ∙ asked (goal.at.returns c).After-event_of-event) c.note.ensures

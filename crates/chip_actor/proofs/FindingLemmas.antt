@@ -1,0 +1,25 @@
+-- Serves Found.antt, Medium.antt.
+-- An event whose rules are met is due.
+use Rattle.std.proofs.Common.{◌≡◌, None, sym, ap, ◌∙◌}
+use Rattle.chip_part.specs.Setting.{Setting}
+use Rattle.chip_part.specs.declared.act.Act.{Act}
+use Rattle.chip_part.specs.Part.{Part}
+use Rattle.chip_part.specs.Rules.{Event, unmet_rule}
+use Rattle.chip_part.specs.Steps.{part_of}
+use Rattle.chip_part.specs.Acting.{act_of, event_of}
+use Rattle.chip_part.proofs.CursorLemmas.{event_of_act}
+use Rattle.chip_actor.specs.Actor.{Actor, StandsFor}
+use Rattle.chip_actor.specs.Medium.{IsDueBy}
+
+pub is_due : (g : Setting) (s : Part) (a : Actor) → StandsFor g s a → (act : Act) (x : Event) → part_of g x ≡ a.vertex
+    → unmet_rule g x s ≡ None → act ≡ act_of g x s → (event_of a.vertex act ≡ x) × IsDueBy g a.vertex s act
+is_due g s a stands act x mine met is =
+    let told : event_of a.vertex act ≡ x = ap (event_of a.vertex) is
+    ∙ event_of_act g a.vertex stands.knows.vertex s x mine met in (
+      told,
+      record {
+        mine = ap (part_of g) told ∙ mine;
+        met = ap (λ (y : Event). unmet_rule g y s) told ∙ met;
+        needed = is ∙ sym (ap (λ (y : Event). act_of g y s) told);
+      },
+    )

@@ -9,8 +9,9 @@ use Rattle.chip_actor.specs.Actor.{Actor, StandsFor, WhateverPart}
 use Rattle.chip_root.specs.Root.{WhateverRoot}
 use Rattle.chip_part.proofs.EdgeLemmas.{tail_root}
 use Rattle.chip_core.specs.Core.{Log, Put, part_in, out_in}
-use Rattle.chip_world.specs.World.{WorldState, IsActor, StandsForLog}
-use Rattle.chip_world.proofs.VertexLemmas.{withheld, found}
+use Rattle.chip_world.specs.World.{WorldState, StandsForLog}
+use Rattle.chip_world.proofs.VertexLemmas.{withheld}
+use Rattle.chip_world.proofs.ActorLemmas.{maker}
 
 -- an edge without a vertex as its tail is none of the graph's
 no_tail : (g : Setting) (e : ℕ) → tail_if g e ≡ None → graph_edges g ≤ e
@@ -20,11 +21,9 @@ module _ (g : Setting) (log : Log) (w : WorldState) (stands : StandsForLog g log
   pub held_by_vertex : (v : ℕ) (a : Actor) → tail_if w.setting e ≡ Some v → a ≡ get_or w.actors v a
       → WhateverPart a (λ g s. tail_of g e ≡ a.vertex → held ≡ (s.out e).link.held) → held ≡ (out_in g log e).link.held
   held_by_vertex v a found_at actor_is tells =
-      let at = found g stands.is_setting.game (Put e) v (sym (ap (λ (h : Setting). tail_if h e) stands.setting)
-      ∙ found_at) in
-      let actor : IsActor g log v a = subst (IsActor g log v) (sym actor_is) (stands.actors v at.1 a) in
+      let at = maker g log w stands (Put e) v a found_at actor_is in
       tells g (part_in g log (tail_of g e))
-      (subst (λ (u : ℕ). StandsFor g (part_in g log u) a) (sym at.0) actor.stands) (at.0 ∙ sym actor.vertex_is)
+      (subst (λ (u : ℕ). StandsFor g (part_in g log u) a) (sym at.0) at.2.stands) (at.0 ∙ sym at.2.vertex_is)
 
   pub held_by_root : tail_if w.setting e ≡ None → e < all_edges w.setting
       → WhateverRoot w.root (λ g s. graph_edges g ≤ e → e < all_edges g → held ≡ (s.out e).link.held)

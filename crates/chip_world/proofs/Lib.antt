@@ -7,7 +7,7 @@ pub mod OpeningLemmas
 pub mod FlightLemmas
 pub mod HandLemmas
 pub mod RunLemmas
-pub mod DriveLemmas
+pub mod ActorLemmas
 pub mod DeterminedLemmas
 pub mod WorkedDrives
 pub mod OwnTurnLemmas

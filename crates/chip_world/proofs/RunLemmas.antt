@@ -1,11 +1,10 @@
 -- Serves Run.antt.
 -- A run of events, noted one after another.
-use Rattle.std.proofs.Common.{◌≡◌, ◌∙◌, ℕ, ◌+◌, ◌<◌, ◌≤◌, Bool, true, false, ◌&&◌, cond, eqb, ltb, leb, List, [], ◌∷◌}
-use Rattle.std.proofs.Common.{◌++◌}
-use Rattle.std.proofs.Common.{length, map, get_or, take, ◌⊎◌, inl, inr, Option, Some, refl, sym, ap, subst, arith}
+use Rattle.std.proofs.Common.{◌≡◌, ◌≢◌, ◌∙◌, ℕ, ◌+◌, ◌<◌, ◌≤◌, Bool, true, false, ◌&&◌, cond, eqb, ltb, leb, List, [], ◌∷◌}
+use Rattle.std.proofs.Common.{◌++◌, length, map, get_or, take, Option, Some, refl, sym, ap, subst, arith}
 use Rattle.std.proofs.Common.{append_assoc, append-nil, length-set, get_or-set_same, get_or-set_other, length-append}
 use Rattle.std.proofs.Common.{vec_capacity}
-use Rattle.std.proofs.lemmas.List.{get_or-map, length-map, take_more, get_or_push, get_or_append_left}
+use Rattle.std.proofs.lemmas.List.{get_or-map, length-map, take_more}
 use Rattle.std.proofs.lemmas.Bool.{ltb-true, and_parts}
 use mathlib.Core.Logic.{dite}
 use native.Mathlib.Decide.{ℕ_discrete}
@@ -17,11 +16,11 @@ use Rattle.chip_part.specs.declared.rule.Rule.TheVariants.{NoSuch}
 use Rattle.chip_core.specs.Core.{Log, Event, Take, Claim, Feed}
 use Rattle.chip_core.specs.Core.{Reply, Rule, unmet_rule, part_of, part_in, answer, step, log_after, replies_to}
 use Rattle.chip_core.specs.Core.{all_edges, graph_edges}
-use Rattle.chip_core.specs.Messages.{Message, sent_by, delivered_by, sent_in, delivered_in}
+use Rattle.chip_core.specs.Messages.{Message, sent_by, delivered_by, sent_in, delivered_in, sent_on, delivered_on}
 use Rattle.chip_world.specs.declared.world.running.Notes.{Notes}
 use Rattle.chip_world.specs.Lanes.{Lane, no_lane, lane_at, with_message}
 use Rattle.chip_world.specs.Run.{is_claim_of, is_take_of, count_among, Counts, sent_after, delivered_after, SentOnEdge}
-use Rattle.chip_world.specs.Run.{GotOnEdge, HasRoom, HasRooms, IsNotedUpTo, IsRecordOf, IsHeldByReplies}
+use Rattle.chip_world.specs.Run.{GotOnEdge, HasRoom, HasRooms, AreListed, IsNotedUpTo, IsRecordOf, IsHeldByReplies}
 use Rattle.chip_core.proofs.MessageLemmas.{held_from_the_opening}
 use Rattle.chip_world.proofs.VertexLemmas.{refused}
 
@@ -53,32 +52,6 @@ counted test edges xs i d counts new l so_far same change =
     at_most_one : (b : Bool) → cond b 1 0 ≤ 1
     at_most_one true = omega arith
     at_most_one false = omega arith
-
--- nothing is counted for another event
-pub not_counted : (test : ℕ → Event → Bool) (edges : ℕ) (xs : List Event) (i : ℕ) (d : Event) (counts : List ℕ)
-    → i < length xs → Counts test edges (take i xs) counts → ((e : ℕ) → test e (get_or xs i d) ≡ false)
-    → Counts test edges (take (i + 1) xs) counts
-not_counted test edges xs i d counts l so_far none = counted test edges xs i d counts counts l so_far refl
-    (λ e m. (let z : ◌≡◌ {A = ℕ} (cond (test e (get_or xs i d)) 1 0) 0 = ap (λ (b : Bool). let n : ℕ = cond b 1 0 in
-    n) (none e) in omega arith))
-
-pub no_claim : (x : Event) → ((i : ℕ) → x ≡ Claim i → ⊥) → ((i k : ℕ) → x ≡ Feed i k → ⊥) → (e : ℕ)
-    → is_claim_of e x ≡ false
-no_claim (Claim i) other fed e = absurd (other i refl)
-no_claim (Feed i k) other fed e = absurd (fed i k refl)
-no_claim _ other fed e = refl
-
-pub no_take : (x : Event) → ((i : ℕ) → x ≡ Take i → ⊥) → (e : ℕ) → is_take_of e x ≡ false
-no_take (Take i) other e = absurd (other i refl)
-no_take _ other e = refl
-
--- one more list
-pub lane_push : (lanes : List Lane) (lane : Lane) (n e : ℕ) → length lanes ≡ n → e < n + 1
-    → ((e < n) × (lane_at (lanes ++ lane ∷ []) e ≡ lane_at lanes e))
-    ⊎ ((e ≡ n) × (lane_at (lanes ++ lane ∷ []) e ≡ lane))
-lane_push lanes lane n e count l = dite (ℕ_discrete e n)
-    (λ same. inr (same, ap (λ (i : ℕ). lane_at (lanes ++ lane ∷ []) i) same ∙ get_or_push lanes lane no_lane n count))
-    (λ other. inl (omega arith, get_or_append_left lanes (lane ∷ []) no_lane e (omega arith)))
 
 -- ---- a message that an event brings is of an edge
 
@@ -113,63 +86,76 @@ got_on_edge g log (Take e) (Got m) is = by_test (ltb e (all_edges g)) (λ yes. l
     clash m q = absurd (cc)
 got_on_edge g log _ _ is = tt
 
--- ---- the list of an edge after an event
+-- ---- the lists after an event
 
--- so many messages more, of as many as the event may bring, and the room is the same
-record IsLonger (lanes new : List Lane) (e : ℕ) (more : List Message) (most : ℕ) : Type 0 where
-  messages : (lane_at new e).messages ≡ (lane_at lanes e).messages ++ more
-  capacity : (lane_at new e).capacity ≡ (lane_at lanes e).capacity
-  few : length more ≤ most
+-- of each edge some messages more, of as many as the event may bring, and the room is the same
+record Longer (lanes new : List Lane) (more : ℕ → List Message) (most : ℕ → ℕ) : Type 0 where
+  edges : length new ≡ length lanes
+  messages : (e : ℕ) → e < length lanes → (lane_at new e).messages ≡ (lane_at lanes e).messages ++ more e
+  capacity : (e : ℕ) → e < length lanes → (lane_at new e).capacity ≡ (lane_at lanes e).capacity
+  few : (e : ℕ) → length (more e) ≤ most e
 
-same_lane : (lanes : List Lane) (e most : ℕ) → IsLonger lanes lanes e [] most
-same_lane lanes e most = record {
-  messages = sym (append-nil (lane_at lanes e).messages);
-  capacity = refl;
-  few = omega arith;
+no_message : (lanes : List Lane) (most : ℕ → ℕ) → Longer lanes lanes (λ e. []) most
+no_message lanes most = record {
+  edges = refl;
+  messages = λ e l. sym (append-nil (lane_at lanes e).messages);
+  capacity = λ e l. refl;
+  few = λ e. omega arith;
 }
 
-one_message : (lanes : List Lane) (e i : ℕ) (m : Message) → e < length lanes
-    → IsLonger lanes (with_message i m lanes) e (cond (eqb i e) (m ∷ []) []) (cond (eqb i e) 1 0)
-one_message lanes e i m l = dite (ℕ_discrete i e)
-    (λ same. let at : get_or (with_message i m lanes) e no_lane
-    ≡ (let n : Lane = record (lane_at lanes i) { messages = (lane_at lanes i).messages ++ m ∷ [] } in n)
-    = ap (λ (k : ℕ). get_or (with_message i m lanes) k no_lane) (sym same)
-    ∙ get_or-set_same lanes i _ no_lane (omega arith) in
-    record {
-      messages = ap (λ (n : Lane). n.messages) at ∙ ap (λ (k : ℕ). (lane_at lanes k).messages ++ m ∷ []) same
-          ∙ ap (λ (more : List Message). (lane_at lanes e).messages ++ more) (sym (cond_yes i e (m ∷ []) [] same));
-      capacity = ap (λ (n : Lane). n.capacity) at ∙ ap (λ (k : ℕ). (lane_at lanes k).capacity) same;
-      few = (let a = ap (λ (ms : List Message). length ms) (cond_yes i e (m ∷ []) [] same) in
-          let b : ◌≡◌ {A = ℕ} (cond (eqb i e) 1 0) 1 = cond_yes i e 1 0 same in omega arith);
-    })
-    (λ other. let at : get_or (with_message i m lanes) e no_lane
-    ≡ lane_at lanes e = get_or-set_other lanes i e _ no_lane (λ z. other (sym z)) in
-    record {
-      messages = ap (λ (n : Lane). n.messages) at ∙ sym (append-nil (lane_at lanes e).messages)
-          ∙ ap (λ (more : List Message). (lane_at lanes e).messages ++ more) (sym (cond_no i e (m ∷ []) [] other));
-      capacity = ap (λ (n : Lane). n.capacity) at;
-      few = (let a = ap (λ (ms : List Message). length ms) (cond_no i e (m ∷ []) [] other) in omega arith);
-    })
+one_message : (lanes : List Lane) (i : ℕ) (m : Message)
+    → Longer lanes (with_message i m lanes) (λ e. cond (eqb i e) (m ∷ []) []) (λ e. cond (eqb i e) 1 0)
+one_message lanes i m = record {
+  edges = length-set lanes i _;
+  messages = λ e l. dite (ℕ_discrete i e)
+      (λ same. ap (λ (n : Lane). n.messages) (here e l same)
+      ∙ ap (λ (more : List Message). (lane_at lanes e).messages ++ more) (sym (cond_yes i e (m ∷ []) [] same)))
+      (λ other. ap (λ (n : Lane). n.messages) (there e other) ∙ sym (append-nil (lane_at lanes e).messages)
+      ∙ ap (λ (more : List Message). (lane_at lanes e).messages ++ more) (sym (cond_no i e (m ∷ []) [] other)));
+  capacity = λ e l. dite (ℕ_discrete i e) (λ same. ap (λ (n : Lane). n.capacity) (here e l same))
+      (λ other. ap (λ (n : Lane). n.capacity) (there e other));
+  few = λ e. one (eqb i e);
+}
+  where
+    here : (e : ℕ) → e < length lanes → i ≡ e → lane_at (with_message i m lanes) e
+        ≡ (let n : Lane = record (lane_at lanes e) { messages = (lane_at lanes e).messages ++ m ∷ [] } in n)
+    here e l same = ap (λ (k : ℕ). lane_at (with_message k m lanes) e) same ∙ get_or-set_same lanes e _ no_lane l
 
-sent_longer : (x : Event) (r : Reply) (lanes : List Lane) (e : ℕ) → e < length lanes
-    → IsLonger lanes (sent_after x r lanes) e (sent_by e x r) (cond (is_claim_of e x) 1 0)
-sent_longer (Claim i) (Sent m) lanes e l = one_message lanes e i m l
-sent_longer (Feed i k) (Sent m) lanes e l = one_message lanes e i m l
-sent_longer _ _ lanes e l = same_lane lanes e _
+    there : (e : ℕ) → i ≢ e → lane_at (with_message i m lanes) e ≡ lane_at lanes e
+    there e other = get_or-set_other lanes i e _ no_lane (λ z. other (sym z))
 
-got_longer : (x : Event) (r : Reply) (lanes : List Lane) (e : ℕ) → e < length lanes
-    → IsLonger lanes (delivered_after x r lanes) e (delivered_by e x r) (cond (is_take_of e x) 1 0)
-got_longer (Take i) (Got m) lanes e l = one_message lanes e i m l
-got_longer _ _ lanes e l = same_lane lanes e _
+    one : (b : Bool) → length (cond b (m ∷ []) []) ≤ cond b 1 0
+    one true = omega arith
+    one false = omega arith
 
-sent_edges : (x : Event) (r : Reply) (lanes : List Lane) → length (sent_after x r lanes) ≡ length lanes
-sent_edges (Claim i) (Sent m) lanes = length-set lanes i _
-sent_edges (Feed i k) (Sent m) lanes = length-set lanes i _
-sent_edges _ _ lanes = refl
+sent_longer : (x : Event) (r : Reply) (lanes : List Lane)
+    → Longer lanes (sent_after x r lanes) (λ e. sent_by e x r) (λ e. cond (is_claim_of e x) 1 0)
+sent_longer (Claim i) (Sent m) lanes = one_message lanes i m
+sent_longer (Feed i k) (Sent m) lanes = one_message lanes i m
+sent_longer _ _ lanes = no_message lanes _
 
-got_edges : (x : Event) (r : Reply) (lanes : List Lane) → length (delivered_after x r lanes) ≡ length lanes
-got_edges (Take i) (Got m) lanes = length-set lanes i _
-got_edges _ _ lanes = refl
+got_longer : (x : Event) (r : Reply) (lanes : List Lane)
+    → Longer lanes (delivered_after x r lanes) (λ e. delivered_by e x r) (λ e. cond (is_take_of e x) 1 0)
+got_longer (Take i) (Got m) lanes = one_message lanes i m
+got_longer _ _ lanes = no_message lanes _
+
+module _ (lanes new : List Lane) (more : ℕ → List Message) (most : ℕ → ℕ) (long : Longer lanes new more most) where
+  room_rest : (test : ℕ → Event → Bool) (x : Event) (rest : List Event) → ((e : ℕ) → most e ≡ cond (test e x) 1 0)
+      → HasRoom test (x ∷ rest) lanes → HasRoom test rest new
+  room_rest test x rest is has e l =
+      let edges = long.edges in let m : e < length lanes = omega arith in
+      let a = has e m in let b = ap (λ (ms : List Message). length ms) (long.messages e m) in
+      let d = length-append (lane_at lanes e).messages (more e) in let f = long.capacity e m in let h = long.few e in
+      let k = is e in omega arith
+
+  listed_more : (edges : ℕ) (all rest : ℕ → List Message) → AreListed edges all lanes (λ e. more e ++ rest e)
+      → AreListed edges all new rest
+  listed_more edges all rest listed = record {
+    count_is = long.edges ∙ listed.count_is;
+    each = λ e l. listed.each e l ∙ sym (append_assoc (lane_at lanes e).messages (more e) (rest e))
+        ∙ ap (λ (ms : List Message). ms ++ rest e)
+        (sym (long.messages e (subst (λ (k : ℕ). e < k) (sym listed.count_is) l)));
+  }
 
 -- ---- one event of a run
 
@@ -182,18 +168,10 @@ module _ (x : Event) (rest : List Event) (r : Reply) (n new : Notes) (replies : 
       replies = (let a = has.replies in let b = ap (λ (l : List Reply). length l) replies in
           let d = length-append n.replies.items (r ∷ []) in let f = n.replies.ok.0 in let h = new.replies.ok.0 in
           omega arith);
-      sent = subst (HasRoom is_claim_of rest) (sym sent) (λ e l.
-          let edges = sent_edges x r n.sent in let m : e < length n.sent = omega arith in
-          let long = sent_longer x r n.sent e m in let a = has.sent e m in
-          let b = ap (λ (ms : List Message). length ms) long.messages in
-          let d = length-append (lane_at n.sent e).messages (sent_by e x r) in let f = long.capacity in let h = long.few
-          in omega arith);
-      delivered = subst (HasRoom is_take_of rest) (sym delivered) (λ e l.
-          let edges = got_edges x r n.delivered in let m : e < length n.delivered = omega arith in
-          let long = got_longer x r n.delivered e m in let a = has.delivered e m in
-          let b = ap (λ (ms : List Message). length ms) long.messages in
-          let d = length-append (lane_at n.delivered e).messages (delivered_by e x r) in let f = long.capacity in
-          let h = long.few in omega arith);
+      sent = subst (HasRoom is_claim_of rest) (sym sent)
+          (room_rest n.sent _ _ _ (sent_longer x r n.sent) is_claim_of x rest (λ e. refl) has.sent);
+      delivered = subst (HasRoom is_take_of rest) (sym delivered)
+          (room_rest n.delivered _ _ _ (got_longer x r n.delivered) is_take_of x rest (λ e. refl) has.delivered);
     }
 
     pub noted_more : (g : Setting) (log : Log) (xs : List Event) (now : Log) → r ≡ (step g now x).1
@@ -204,42 +182,46 @@ module _ (x : Event) (rest : List Event) (r : Reply) (n new : Notes) (replies : 
           after = noted.after;
           replies = noted.replies ∙ ap (λ (y : Reply). n.replies.items ++ y ∷ left) (sym is)
               ∙ sym (append_assoc n.replies.items (r ∷ []) left) ∙ ap (λ (l : List Reply). l ++ left) (sym replies);
-          sent_each = ap (λ (l : List Lane). length l) sent ∙ sent_edges x r n.sent ∙ noted.sent_each;
-          sent = λ e l.
-              let long = sent_longer x r n.sent e (subst (λ (k : ℕ). e < k) (sym noted.sent_each) l) in
-              noted.sent e l ∙ ap (λ (y : Reply). (lane_at n.sent e).messages ++ (sent_by e x y ++ sent_in e rest left))
-              (sym is) ∙ sym (append_assoc (lane_at n.sent e).messages (sent_by e x r) (sent_in e rest left))
-              ∙ ap (λ (l : List Message). l ++ sent_in e rest left) (sym long.messages
-              ∙ ap (λ (l : List Lane). (lane_at l e).messages) (sym sent));
-          delivered_each = ap (λ (l : List Lane). length l) delivered ∙ got_edges x r n.delivered ∙ noted.delivered_each;
-          delivered = λ e l.
-              let long = got_longer x r n.delivered e (subst (λ (k : ℕ). e < k) (sym noted.delivered_each) l) in
-              noted.delivered e l ∙ ap (λ (y : Reply). (lane_at n.delivered e).messages
-              ++ (delivered_by e x y ++ delivered_in e rest left)) (sym is)
-              ∙ sym (append_assoc (lane_at n.delivered e).messages (delivered_by e x r) (delivered_in e rest left))
-              ∙ ap (λ (l : List Message). l ++ delivered_in e rest left) (sym long.messages
-              ∙ ap (λ (l : List Lane). (lane_at l e).messages) (sym delivered));
+          sent = subst (λ (ls : List Lane). AreListed (all_edges g) (sent_on g log xs) ls (λ e. sent_in e rest left))
+              (sym sent)
+              (listed_more n.sent _ _ _ (sent_longer x r n.sent) (all_edges g) (sent_on g log xs)
+              (λ e. sent_in e rest left)
+              (subst (λ (y : Reply). AreListed (all_edges g) (sent_on g log xs) n.sent
+              (λ e. sent_by e x y ++ sent_in e rest left)) (sym is) noted.sent));
+          delivered = subst
+              (λ (ls : List Lane). AreListed (all_edges g) (delivered_on g log xs) ls (λ e. delivered_in e rest left))
+              (sym delivered)
+              (listed_more n.delivered _ _ _ (got_longer x r n.delivered) (all_edges g) (delivered_on g log xs)
+              (λ e. delivered_in e rest left)
+              (subst (λ (y : Reply). AreListed (all_edges g) (delivered_on g log xs) n.delivered
+              (λ e. delivered_by e x y ++ delivered_in e rest left)) (sym is) noted.delivered));
         }
 
--- all is noted
+-- all is listed
+listed : (edges : ℕ) (all : ℕ → List Message) (lanes : List Lane) → AreListed edges all lanes (λ e. [])
+    → (lists : List (List Message)) → lists ≡ map (λ (lane : Lane). lane.messages) lanes
+    → (length lists ≡ edges) × ((e : ℕ) → e < edges → get_or lists e [] ≡ all e)
+listed edges all lanes are lists is = (
+  ap (λ (l : List (List Message)). length l) is ∙ length-map lanes (λ (lane : Lane). lane.messages) ∙ are.count_is,
+  λ e l. ap (λ (ms : List (List Message)). get_or ms e []) is
+      ∙ get_or-map (λ (lane : Lane). lane.messages) lanes e no_lane [] (subst (λ (k : ℕ). e < k) (sym are.count_is) l)
+      ∙ sym (append-nil (lane_at lanes e).messages) ∙ sym (are.each e l),
+)
+
 pub all_noted : (g : Setting) (log : Log) (xs : List Event) (now : Log) (n : Notes) (replies : List Reply)
     (sent delivered : List (List Message)) → IsNotedUpTo g log xs now [] n
     → replies ≡ n.replies.items → sent ≡ map (λ (lane : Lane). lane.messages) n.sent
     → delivered ≡ map (λ (lane : Lane). lane.messages) n.delivered → IsRecordOf g log xs replies sent delivered
-all_noted g log xs now n replies sent delivered noted replies_are sent_is delivered_is = record {
-  replies_are = replies_are ∙ sym (append-nil n.replies.items) ∙ sym noted.replies;
-  sent_each = ap (λ (l : List (List Message)). length l) sent_is ∙ length-map n.sent (λ (lane : Lane). lane.messages)
-      ∙ noted.sent_each;
-  sent_on_edge = λ e l. ap (λ (ms : List (List Message)). get_or ms e []) sent_is
-      ∙ get_or-map (λ (lane : Lane). lane.messages) n.sent e no_lane [] (subst (λ (k : ℕ). e < k) (sym noted.sent_each) l)
-      ∙ sym (append-nil (lane_at n.sent e).messages) ∙ sym (noted.sent e l);
-  delivered_each = ap (λ (l : List (List Message)). length l) delivered_is
-      ∙ length-map n.delivered (λ (lane : Lane). lane.messages) ∙ noted.delivered_each;
-  delivered_on_edge = λ e l. ap (λ (ms : List (List Message)). get_or ms e []) delivered_is
-      ∙ get_or-map (λ (lane : Lane). lane.messages) n.delivered e no_lane []
-      (subst (λ (k : ℕ). e < k) (sym noted.delivered_each) l) ∙ sym (append-nil (lane_at n.delivered e).messages)
-      ∙ sym (noted.delivered e l);
-}
+all_noted g log xs now n replies sent delivered noted replies_are sent_is delivered_is =
+    let first = listed (all_edges g) (sent_on g log xs) n.sent noted.sent sent sent_is in
+    let second = listed (all_edges g) (delivered_on g log xs) n.delivered noted.delivered delivered delivered_is in
+    record {
+      replies_are = replies_are ∙ sym (append-nil n.replies.items) ∙ sym noted.replies;
+      sent_each = first.0;
+      sent_on_edge = first.1;
+      delivered_each = second.0;
+      delivered_on_edge = second.1;
+    }
 
 -- what is held in a run from the opening, by its replies
 pub held_by_replies : (g : Setting) → IsGame g.game → 0 < g.ring → (log : Log) (xs : List Event) (replies : List Reply)

@@ -26,7 +26,7 @@ use Rattle.chip_world.specs.World.{ShowsEdge}
 use Rattle.chip_core.specs.Words.{halt_bits}
 use Rattle.chip_world.specs.TurnWords.{TurnWords, Holds}
 use Rattle.chip_world.proofs.WordLemmas.{length-words_after, can_perform, sees_words, words_shown}
-use Rattle.chip_world.proofs.StepLemmas.{not_of_others, by_act}
+use Rattle.chip_world.proofs.StepLemmas.{by_act}
 
 -- the word of a vertex that halts
 word_halts : (c : Option Cause) (why : Cause) (fired : ℕ) → fired < 2 ^ 62 → c ≡ Some why
@@ -41,7 +41,7 @@ module _ (w : TurnWords) (g : Setting) (v : ℕ) (log : Log) (s : Part) (held : 
   x = event_of v act
 
   own : is_by_act x ≡ true
-  own = by_act g x (not_of_others g v act held.inside due.mine)
+  own = by_act g v act held.inside due.mine
 
   met : unmet_rule g x (part_in g log (part_of g x)) ≡ None
   met = subst (λ (u : ℕ). unmet_rule g x (part_in g log u) ≡ None) (sym due.mine)

@@ -1,6 +1,6 @@
 -- A run of a list of events, on its way.
 use Rattle.std.specs.Prelude.{◌≡◌, ℕ, ◌+◌, ◌*◌, ◌<◌, ◌≤◌, ◌==◌, if◌then◌else◌, Bool, false, List, [], ◌∷◌, ◌++◌, length}
-use Rattle.std.specs.Prelude.{map, slice_index, slice_index_or}
+use Rattle.std.specs.Prelude.{map, slice_index, slice_index_or, Option, Some, None}
 use Rattle.std.specs.Vec.{vec_len, vec_capacity}
 use Rattle.chip_part.specs.Setting.{Setting}
 use Rattle.chip_part.specs.Rules.{Take, Claim, Feed}
@@ -15,15 +15,27 @@ use Rattle.chip_world.specs.Lanes.{Lane, lane_at, with_message}
 use Rattle.chip_world.specs.declared.world.running.Notes.{Notes}
 use Rattle.chip_world.specs.World.{WorldState, StandsForLog}
 
--- an event is a claim, by a vertex or as a feed, or a take, of the edge e
+-- the edge on which an event claims a place, by a vertex or as a feed
+abbrev pub claimed_edge : Event → Option ℕ
+claimed_edge (Claim e) = Some e
+claimed_edge (Feed e k) = Some e
+claimed_edge _ = None
+
+-- the edge of a take
+abbrev pub taken_edge : Event → Option ℕ
+taken_edge (Take e) = Some e
+taken_edge _ = None
+
+-- it is this edge
+abbrev pub is_edge : ℕ → Option ℕ → Bool
+is_edge e (Some i) = i == e
+is_edge e None = false
+
 abbrev pub is_claim_of : ℕ → Event → Bool
-is_claim_of e (Claim i) = i == e
-is_claim_of e (Feed i k) = i == e
-is_claim_of e _ = false
+is_claim_of e x = is_edge e (claimed_edge x)
 
 abbrev pub is_take_of : ℕ → Event → Bool
-is_take_of e (Take i) = i == e
-is_take_of e _ = false
+is_take_of e x = is_edge e (taken_edge x)
 
 -- how many of these events are
 abbrev pub count_among : (Event → Bool) → List Event → ℕ
@@ -37,9 +49,9 @@ pub record Counts (test : ℕ → Event → Bool) (edges : ℕ) (xs : List Event
   pub few : (e : ℕ) → e < edges → slice_index counts e ≤ length xs
 
 -- one more is counted for this edge, where it is there
-abbrev pub CountsMore : ℕ → List ℕ → List ℕ → Type 0
+abbrev pub CountsMore : Option ℕ → List ℕ → List ℕ → Type 0
 CountsMore edge old new = (length new ≡ length old)
-    × ((e : ℕ) → e < length old → slice_index new e ≡ slice_index old e + (if edge == e then 1 else 0))
+    × ((e : ℕ) → e < length old → slice_index new e ≡ slice_index old e + (if is_edge e edge then 1 else 0))
 
 -- the lists after an event with this reply
 abbrev pub sent_after : Event → Reply → List Lane → List Lane
@@ -66,23 +78,29 @@ abbrev pub HasRoom : (ℕ → Event → Bool) → List Event → List Lane → T
 HasRoom test xs lanes = (e : ℕ) → e < length lanes
     → length (lane_at lanes e).messages + count_among (test e) xs ≤ (lane_at lanes e).capacity
 
+-- a list that opens: such messages, with room for so many more
+abbrev pub IsOpened : (List Message → Type 0) → ℕ → Lane → Type 0
+IsOpened P room lane = P lane.messages × (length lane.messages + room ≤ lane.capacity)
+
 -- room for all that these events bring
 pub record HasRooms (xs : List Event) (n : Notes) : Type 0 where
   pub replies : vec_len n.replies + length xs ≤ vec_capacity n.replies
   pub sent : HasRoom is_claim_of xs n.sent
   pub delivered : HasRoom is_take_of xs n.delivered
 
+-- of each edge, all messages are those that are listed, and then the rest
+pub record AreListed (edges : ℕ) (all : ℕ → List Message) (lanes : List Lane) (rest : ℕ → List Message) : Type 0 where
+  pub count_is : length lanes ≡ edges
+  pub each : (e : ℕ) → e < edges → all e ≡ (lane_at lanes e).messages ++ rest e
+
 -- of the events xs, asked for after the log, these are left, asked for after the log `now`, and the rest is noted
 pub record IsNotedUpTo (g : Setting) (log : Log) (xs : List Event) (now : Log) (left : List Event)
     (n : Notes) : Type 0 where
   pub after : log_after g log xs ≡ log_after g now left
   pub replies : replies_to g log xs ≡ n.replies.items ++ replies_to g now left
-  pub sent_each : length n.sent ≡ all_edges g
-  pub sent : (e : ℕ) → e < all_edges g
-      → sent_on g log xs e ≡ (lane_at n.sent e).messages ++ sent_in e left (replies_to g now left)
-  pub delivered_each : length n.delivered ≡ all_edges g
-  pub delivered : (e : ℕ) → e < all_edges g
-      → delivered_on g log xs e ≡ (lane_at n.delivered e).messages ++ delivered_in e left (replies_to g now left)
+  pub sent : AreListed (all_edges g) (sent_on g log xs) n.sent (λ e. sent_in e left (replies_to g now left))
+  pub delivered : AreListed (all_edges g) (delivered_on g log xs) n.delivered
+      (λ e. delivered_in e left (replies_to g now left))
 
 -- the record of the run of xs after this log: the replies; and of each edge, what was in flight before it and what it
 -- sent, and what it delivered

@@ -1,15 +1,13 @@
 -- A running world, and when it stands for a log of the core.
 use Rattle.std.specs.Prelude.{◌≡◌, ℕ, ◌-◌, ◌<◌, if◌then◌else◌, List, [], length, slice_index}
-use Rattle.std.specs.Prelude.{slice_index_or, None}
+use Rattle.std.specs.Prelude.{slice_index_or}
 use Rattle.chip_graph.specs.ChipGame.{ChipGame}
 use Rattle.chip_graph.specs.Edges.{is_graph_edge, graph_edges}
 use Rattle.chip_part.specs.Setting.{Setting, IsSetting}
 use Rattle.chip_link.specs.Link.{Shows}
 use Rattle.chip_actor.specs.Actor as vertex
 use Rattle.chip_root.specs.Root.{Root, RootStandsFor}
-use Rattle.chip_part.specs.declared.act.Act.{Act}
-use Rattle.chip_part.specs.Acting.{act_of, event_of}
-use Rattle.chip_core.specs.Core.{Log, Event, Reply, unmet_rule, part_of, part_in, out_in, into_in, stop_in, all_edges}
+use Rattle.chip_core.specs.Core.{Log, Event, Reply, part_in, out_in, into_in, stop_in, all_edges}
 use Rattle.chip_core.specs.Core.{root}
 use Rattle.chip_core.specs.Core.{IsLegalLog, step}
 use Rattle.chip_world.specs.SharedWords.{EdgeState, opening_words}
@@ -62,13 +60,6 @@ MakesStep g log x new reply = StandsForLog g (step g log x).0 new × (reply ≡ 
 -- the world made one step of the core for this event, and answered this
 abbrev pub Steps : WorldState → WorldState → Event → Reply → Type 0
 Steps old new x reply = WhateverLog old (λ g log. MakesStep g log x new reply)
-
--- the operation is the one that an event of the vertex v needs, whose rules are met
-pub record IsDueFor (g : Setting) (log : Log) (v : ℕ) (act : Act) : Type 0 where
-  pub inside : v < g.game.graph.vertices
-  pub mine : part_of g (event_of v act) ≡ v
-  pub met : unmet_rule g (event_of v act) (part_in g log v) ≡ None
-  pub needed : act ≡ act_of g (event_of v act) (part_in g log v)
 
 -- the chips with which an edge opens: on a root edge those that its vertex starts with
 abbrev pub first_chips : ChipGame → ℕ → ℕ

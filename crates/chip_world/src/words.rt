@@ -77,10 +77,10 @@ impl Words {
         Ok(Words { edges })
     }
 
-    /// Makes an operation, and gives the word that it found, or 0 of a store. `fired` is the fired word of its vertex.
-    pub(crate) fn perform(&mut self, act: Act, fired: u64) -> u64
+    /// Makes an operation of the root, which is on no fired word, and gives the word that it found, or 0 of a store.
+    pub(crate) fn perform(&mut self, act: Act) -> u64
         requires { CanPerform act self.old }
-        ensures seen { result ≡ seen_in act fired self.old }
+        ensures seen { result ≡ seen_in act 0 self.old }
         ensures after { self.new ≡ words_after act self.old }
     {
         match act {
@@ -97,8 +97,7 @@ impl Words {
                 0
             }
             Act::Ack { edge, count } => self.acknowledge(edge, count),
-            Act::Fire { .. } | Act::Halt { .. } => fired,
-            Act::End => 0,
+            Act::Fire { .. } | Act::Halt { .. } | Act::End => 0,
         }
     }
 

@@ -11,7 +11,7 @@ use crate::words::Words;
 use chip_actor::ActorState;
 use chip_graph::Game;
 use chip_link::{EdgeWord, Event, FiredWord, Message, Ring};
-use chip_part::{Act, Cause, Observed, Reply, Rule, Setting};
+use chip_part::{Cause, Reply, Rule, Setting};
 use chip_root::RootBooks;
 pub use driving::Drive;
 pub use running::Record;
@@ -60,7 +60,7 @@ impl World {
     ghost use Rattle.chip_world.specs.Makers.{vertex_of, is_of_others, is_by_act};
     ghost use Rattle.chip_part.specs.Acting.{is_of_root};
     ghost use Rattle.chip_part.specs.Acting.{event_of};
-    ghost use Rattle.chip_world.specs.World.{StandsForLog, SomeLog, WhateverLog, SomeLogWhere, IsDueFor, MakesStep};
+    ghost use Rattle.chip_world.specs.World.{StandsForLog, SomeLog, WhateverLog, SomeLogWhere, MakesStep};
     ghost use Rattle.chip_world.specs.World.{Steps};
     ghost use Rattle.chip_link.specs.declared.event.Event.TheVariants.{Seal, Settle, Read};
 
@@ -104,6 +104,7 @@ impl World {
     }
 
     // The vertex that makes an event, if there is one.
+    #[inline(always)]
     fn vertex_of(&self, event: Event) -> Option<u64>
         ensures { result ≡ vertex_of self.now.setting event }
     {
@@ -176,6 +177,7 @@ impl World {
     }
 
     // An event of a vertex.
+    #[inline(always)]
     fn act(&mut self, event: Event) -> Reply
         requires { is_of_others self.old.setting event ≡ false }
         ensures { Steps self.old self.new event result }
@@ -183,23 +185,10 @@ impl World {
         let Some(vertex) = self.vertex_of(event) else {
             return Reply::NotNow(Rule::NoSuch);
         };
-        let actor = &self.actors[vertex as usize];
-        match actor.may(&event) {
-            Ok(act) => self.make(vertex, act),
-            Err(rule) => Reply::NotNow(rule),
-        }
-    }
-
-    // A vertex makes an operation that is due for it.
-    fn make(&mut self, vertex: u64, act: Act) -> Reply
-        requires { SomeLogWhere self.old (λ g log. IsDueFor g log vertex act) }
-        ensures { WhateverLog self.old (λ g log. IsDueFor g log vertex act
-            → MakesStep g log (event_of vertex act) self.new result) }
-    {
         let actor = &mut self.actors[vertex as usize];
         let fired = fired_word(actor);
-        let seen = self.shared.words.perform(act, fired);
-        actor.apply(Observed { act, seen })
+        self.shared.fired = fired;
+        actor.step(&event, &mut self.shared)
     }
 
     // An edge is sealed by the stopper.
@@ -220,7 +209,7 @@ impl World {
     {
         match self.root.may(&event) {
             Ok(act) => {
-                let seen = self.shared.words.perform(act, 0);
+                let seen = self.shared.words.perform(act);
                 self.root.apply(&event, seen)
             }
             Err(rule) => Reply::NotNow(rule),
@@ -241,6 +230,7 @@ impl World {
 
     /// Makes one event, or answers the first of its rules that isn't met; in time linear in the edges of its vertex at
     /// most.
+    #[inline(always)]
     pub fn step(&mut self, event: Event) -> Reply
         ensures { Steps self.old self.new event result }
     {

@@ -68,7 +68,8 @@ impl Notes {
     }
 }
 
-ghost use Rattle.chip_world.specs.Run.{is_claim_of, is_take_of, count_among, Counts, CountsMore};
+ghost use Rattle.chip_world.specs.Run.{claimed_edge, taken_edge, is_claim_of, is_take_of, count_among, Counts};
+ghost use Rattle.chip_world.specs.Run.{CountsMore};
 
 /// How many events of a list are about each edge.
 #[derive(Drop)]
@@ -86,22 +87,41 @@ impl Tally {
         let mut claims = vec![in alloc; 0; all_edges]?;
         let mut takes = vec![in alloc; 0; all_edges]?;
         for event in events {
-            match *event {
-                Event::Claim(edge) => count_one(&mut claims, edge),
-                Event::Feed { edge, .. } => count_one(&mut claims, edge),
-                Event::Take(edge) => count_one(&mut takes, edge),
-                _ => {}
-            }
+            count_one(&mut claims, claimed_edge(event));
+            count_one(&mut takes, taken_edge(event));
         }
         Ok(Tally { claims, takes })
     }
 }
 
-/// Counts one event of an edge, if the edge is there.
-fn count_one(counts: &mut Vec<usize>, edge: u64)
+/// The edge on which an event claims a place, by a vertex or as a feed.
+fn claimed_edge(event: &Event) -> Option<u64>
+    ensures { result ≡ claimed_edge event.now }
+{
+    match *event {
+        Event::Claim(edge) | Event::Feed { edge, .. } => Some(edge),
+        _ => None,
+    }
+}
+
+/// The edge of a take.
+fn taken_edge(event: &Event) -> Option<u64>
+    ensures { result ≡ taken_edge event.now }
+{
+    match *event {
+        Event::Take(edge) => Some(edge),
+        _ => None,
+    }
+}
+
+/// Counts one more for an edge, if it is there.
+fn count_one(counts: &mut Vec<usize>, edge: Option<u64>)
     requires { (e : ℕ) → e < length counts.old.items → slice_index counts.old.items e < 2 ^ 63 }
     ensures { CountsMore edge counts.old.items counts.new.items }
 {
+    let Some(edge) = edge else {
+        return;
+    };
     if (edge as usize) < counts.len() {
         counts[edge as usize] += 1;
     }

@@ -1,13 +1,15 @@
-use Rattle.std.proofs.Common.{get_or, sym, ap, ◌∙◌, subst}
+use Rattle.std.proofs.Common.{set, sym, ap, ◌∙◌, subst}
 use Rattle.chip_part.specs.Setting.{Setting}
 use Rattle.chip_part.specs.declared.rule.Rule.TheVariants.{NoSuch}
-use Rattle.chip_core.specs.Core.{Event, part_of, part_in}
+use Rattle.chip_core.specs.Core.{Log, part_of, part_in, step}
 use Rattle.chip_world.specs.World.{WorldState, StandsForLog, MakesStep}
 use Rattle.chip_world.specs.Makers.{vertex_of, is_of_others}
 use Rattle.chip_world.specs.contracts.world.World.{the_view}
 use Rattle.chip_world.proofs.VertexLemmas.{missing}
-use Rattle.chip_world.proofs.StepLemmas.{refuses, maker_stands, given_is_due, vertex_refuses}
+use Rattle.chip_world.proofs.StepLemmas.{refuses}
+use Rattle.chip_world.proofs.ActorLemmas.{maker, shows_word, meets_event, event_leads}
 use Rattle.chip_world.proofs.world.World.act.Goals as goal
+use Rattle.chip_world.proofs.world.World.act.Goals.{After-step}
 
 pub returns-in_default : goal.returns-in_default
 returns-in_default c = λ g log stands.
@@ -17,34 +19,43 @@ returns-in_default c = λ g log stands.
     ∙ c.requires) (sym (ap (λ (h : Setting). vertex_of h c.args.event) stands.setting) ∙ sym c.vertex_of.ensures
     ∙ c.in_default.is))
 
-pub may-requires : goal.may-requires
-may-requires c =
-    let some = c.self.invariant in
-    maker_stands some.0 some.1 (the_view c.self.inside) some.2 c.args.event c.in-Some.vertex c.index-actor.result.now
+pub fired_word-fired-requires : goal.fired_word-fired-requires
+fired_word-fired-requires c =
+    let s = c.self.invariant in
+    let is = maker s.0 s.1 (the_view c.self.inside) s.2 c.args.event c.in-Some.vertex c.index_mut-actor.result.now
     (ap (λ (w : WorldState). vertex_of w.setting c.args.event) c.self.view_is ∙ sym c.vertex_of.ensures ∙ c.in-Some.is)
-    c.index-actor.ensures
+    c.index_mut-actor.ensures.value in
+    shows_word s.0 s.1 (the_view c.self.inside) s.2 c.in-Some.vertex is.1 c.index_mut-actor.result.now
+    c.index_mut-actor.ensures.value
 
-pub make-requires : goal.make-requires
-make-requires c =
-    let some = c.self.invariant in
-    let stands = subst (StandsForLog some.0 some.1) c.self.view_is some.2 in
-    let due = given_is_due some.0 some.1 c.args.self.now stands c.args.event c.in-Some.vertex c.index-actor.result.now
-    c.in-Ok.act c.requires (sym c.vertex_of.ensures ∙ c.in-Some.is)
-    (c.index-actor.ensures ∙ ap
-    (λ (w : WorldState). get_or w.actors c.in-Some.vertex c.index-actor.result.now) c.self.view_is) c.in-Ok.ensures in
-    (some.0, some.1, stands, due.0)
+pub step-requires : goal.step-requires
+step-requires c =
+    let s = c.self.invariant in
+    let is = maker s.0 s.1 (the_view c.self.inside) s.2 c.args.event c.in-Some.vertex c.index_mut-actor.result.now
+    (ap (λ (w : WorldState). vertex_of w.setting c.args.event) c.self.view_is ∙ sym c.vertex_of.ensures ∙ c.in-Some.is)
+    c.index_mut-actor.ensures.value in
+    meets_event s.0 s.1 (the_view c.self.inside) s.2 c.in-Some.vertex is.1 c.index_mut-actor.result.now
+    c.index_mut-actor.ensures.value c.fired_word-fired.result c.fired_word-fired.ensures c.args.event is.0
 
-pub returns-in-Ok : goal.returns-in-Ok
-returns-in-Ok c = λ g log stands.
-    let due = given_is_due g log c.args.self.now stands c.args.event c.in-Some.vertex c.index-actor.result.now
-    c.in-Ok.act c.requires (sym c.vertex_of.ensures ∙ c.in-Some.is)
-    (c.index-actor.ensures ∙ ap
-    (λ (w : WorldState). get_or w.actors c.in-Some.vertex c.index-actor.result.now) c.self.view_is) c.in-Ok.ensures in
-    subst (λ (x : Event). MakesStep g log x c.make.new.self c.make.result) due.1 (c.make.ensures g log stands due.0)
+-- whatever log the world stood for, the event was made after it
+made : (c : After-step) → (g : Setting) (log : Log) → StandsForLog g log (the_view c.self.inside)
+    → MakesStep g log c.args.event
+    (record (the_view c.self.inside) {
+      actors = set c.self.inside.actors.items c.in-Some.vertex c.step.new.self;
+      words = c.step.new.medium.words;
+    }) c.step.result
+made c g log stands =
+    let is = maker g log (the_view c.self.inside) stands c.args.event c.in-Some.vertex c.index_mut-actor.result.now
+    (ap (λ (w : WorldState). vertex_of w.setting c.args.event) c.self.view_is ∙ sym c.vertex_of.ensures ∙ c.in-Some.is)
+    c.index_mut-actor.ensures.value in
+    event_leads g log (the_view c.self.inside) stands c.in-Some.vertex is.1 c.index_mut-actor.result.now
+    c.index_mut-actor.ensures.value c.fired_word-fired.result c.fired_word-fired.ensures c.step.new.medium
+    c.step.new.self c.args.event c.step.result is.0 c.step.ensures
 
-pub returns-in-Err : goal.returns-in-Err
-returns-in-Err c = λ g log stands.
-    vertex_refuses g log c.args.self.now stands c.args.event c.in-Some.vertex c.index-actor.result.now c.in-Err.rule
-    (sym c.vertex_of.ensures ∙ c.in-Some.is)
-    (c.index-actor.ensures ∙ ap
-    (λ (w : WorldState). get_or w.actors c.in-Some.vertex c.index-actor.result.now) c.self.view_is) c.in-Err.ensures
+pub invariant_of-self : goal.invariant_of-self
+invariant_of-self c = let s = c.self.invariant in
+    (s.0, (step s.0 s.1 c.args.event).0, (made (goal.at.invariant_of-self c).After-step s.0 s.1 s.2).0)
+
+pub returns : goal.returns
+returns c = λ g log stands. made (goal.at.returns c).After-step g log
+    (subst (StandsForLog g log) (sym c.self.view_is) stands)

@@ -13,7 +13,7 @@ add-requires-clause-sent c =
     let some = c.blank_notes.ensures.some in
     let now = c.loop-event.invariant.noted some.0 some.1 some.2 in
     subst (SentOnEdge (get_or c.args.events.now c.loop-event.event-index (Take 0)) c.step-reply.result)
-    (sym now.2.sent_each) (sent_on_edge some.0 now.0 _ c.step-reply.result
+    (sym now.2.sent.count_is) (sent_on_edge some.0 now.0 _ c.step-reply.result
     (c.step-reply.ensures some.0 now.0 now.1).1)
 
 pub add-requires-clause-delivered : goal.add-requires-clause-delivered
@@ -21,7 +21,7 @@ add-requires-clause-delivered c =
     let some = c.blank_notes.ensures.some in
     let now = c.loop-event.invariant.noted some.0 some.1 some.2 in
     subst (GotOnEdge (get_or c.args.events.now c.loop-event.event-index (Take 0)) c.step-reply.result)
-    (sym now.2.delivered_each)
+    (sym now.2.delivered.count_is)
     (got_on_edge some.0 now.0 _ c.step-reply.result (c.step-reply.ensures some.0 now.0 now.1).1)
 
 pub loop-event-preserved : goal.loop-event-preserved

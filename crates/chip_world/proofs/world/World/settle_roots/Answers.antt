@@ -1,11 +1,11 @@
-use Rattle.std.proofs.Common.{◌≡◌, ◌+◌, ℕ, suc, ◌∙◌, ap, subst, arith}
+use Rattle.std.proofs.Common.{◌≡◌, ◌+◌, ℕ, suc, [], ◌∷◌, ◌∙◌, sym, ap, subst, arith}
 use Rattle.chip_part.specs.Setting.{Setting}
 use Rattle.chip_part.specs.Edges.{root_edge}
-use Rattle.chip_core.specs.Core.{Settle, step, log_after}
+use Rattle.chip_core.specs.Core.{Log, Settle, step, log_after}
+use Rattle.chip_core.proofs.ReplyLemmas.{log_after-append}
 use Rattle.chip_world.specs.World.{WorldState, StandsForLog}
 use Rattle.chip_world.specs.contracts.world.World.{the_view}
 use Rattle.chip_world.specs.Rounds.{root_settles}
-use Rattle.chip_world.proofs.DriveLemmas.{settles_more}
 use Rattle.chip_world.proofs.world.World.settle_roots.Goals as goal
 
 pub loop-vertex-preserved : goal.loop-vertex-preserved
@@ -21,7 +21,8 @@ loop-vertex-preserved c = λ g before stands.
       (step g here.0 (Settle (root_edge g v))).0,
       subst (λ (e : ℕ). StandsForLog g (step g here.0 (Settle e)).0 c.of_root.new.self) edge made.0,
       subst (λ (n : ℕ). (step g here.0 (Settle (root_edge g v))).0 ≡ log_after g before (root_settles g n)) more
-          (settles_more g before here.0 v here.2),
+          (ap (λ (l : Log). (step g l (Settle (root_edge g v))).0) here.2
+          ∙ sym (log_after-append g before (root_settles g v) (Settle (root_edge g v) ∷ []))),
     )
 
 pub returns : goal.returns

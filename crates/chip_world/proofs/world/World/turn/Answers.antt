@@ -4,7 +4,7 @@ use Rattle.chip_core.specs.Core.{Log}
 use Rattle.chip_world.specs.World.{WorldState, StandsForLog, SomeLogWhere}
 use Rattle.chip_world.specs.Rounds.{IsTurnAfter}
 use Rattle.chip_world.specs.contracts.world.World.{the_view}
-use Rattle.chip_world.proofs.DriveLemmas.{turn_shows_word, turn_meets, turn_leads}
+use Rattle.chip_world.proofs.ActorLemmas.{shows_word, meets_turn, turn_leads}
 use Rattle.chip_world.proofs.world.World.turn.Goals as goal
 use Rattle.chip_world.proofs.world.World.turn.Goals.{After-turn}
 
@@ -12,14 +12,14 @@ pub fired_word-fired-requires : goal.fired_word-fired-requires
 fired_word-fired-requires c =
     let s = subst (λ (w : WorldState). SomeLogWhere w (λ g log. c.args.vertex < g.game.graph.vertices))
     (sym c.self.view_is) c.requires in
-    turn_shows_word s.0 s.1 (the_view c.self.inside) s.2 c.args.vertex s.3 c.index_mut-actor.result.now
+    shows_word s.0 s.1 (the_view c.self.inside) s.2 c.args.vertex s.3 c.index_mut-actor.result.now
     c.index_mut-actor.ensures.value
 
 pub turn-requires : goal.turn-requires
 turn-requires c =
     let s = subst (λ (w : WorldState). SomeLogWhere w (λ g log. c.args.vertex < g.game.graph.vertices))
     (sym c.self.view_is) c.requires in
-    turn_meets s.0 s.1 (the_view c.self.inside) s.2 c.args.vertex s.3 c.index_mut-actor.result.now
+    meets_turn s.0 s.1 (the_view c.self.inside) s.2 c.args.vertex s.3 c.index_mut-actor.result.now
     c.index_mut-actor.ensures.value c.fired_word-fired.result c.fired_word-fired.ensures
 
 -- whatever log the world stood for, the turn was made after it

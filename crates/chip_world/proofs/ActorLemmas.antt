@@ -1,0 +1,139 @@
+-- Serves World.antt, TurnWords.antt, Rounds.antt.
+-- A world as one of its vertices makes an event, or a whole turn, over the shared words.
+use Rattle.std.proofs.Common.{◌≡◌, ◌≢◌, ℕ, ◌<◌, List, [], ◌∷◌, ◌++◌, reverse, get_or, set, Option, Some, None, refl}
+use Rattle.std.proofs.Common.{sym, ap, ◌∙◌, subst, arith, length-set, get_or-set_same, get_or-set_other}
+use Rattle.std.specs.Bool.{⊤}
+use Rattle.std.proofs.lemmas.List.{append_assoc, reverse-append}
+use mathlib.Core.Logic.{dite}
+use native.Mathlib.Decide.{ℕ_discrete}
+use Rattle.chip_part.specs.Setting.{Setting}
+use Rattle.chip_part.specs.declared.cursor.Cursor.TheVariants as At
+use Rattle.chip_root.specs.Root.{RootStandsFor}
+use Rattle.chip_actor.specs.Actor.{Actor, StandsFor, SomePart, WhateverPart}
+use Rattle.chip_actor.specs.Medium.{AreOf, Meets, MakesTurn, IsTurnMade}
+use Rattle.chip_actor.specs.Found.{MeetsEvent, MakesEvent, IsAnswered}
+use Rattle.chip_core.specs.Core.{Log, Step, Event, Reply, Rule, Part, part_of, part_in, unmet_rule, does, reply_of, sees}
+use Rattle.chip_core.specs.Core.{word_of_part, root, answer}
+use Rattle.chip_core.proofs.LogLemmas.{part_else}
+use Rattle.chip_part.specs.Steps.{saw}
+use Rattle.chip_world.specs.Makers.{vertex_of}
+use Rattle.chip_world.specs.World.{WorldState, StandsForLog, IsActor, MakesStep}
+use Rattle.chip_world.specs.TurnWords.{TurnWords, Holds}
+use Rattle.chip_world.specs.Rounds.{IsTurnAfter}
+use Rattle.chip_world.proofs.VertexLemmas.{found}
+
+-- the steps of one part leave every other as it was
+parts_stay : (g : Setting) (v u : ℕ) → u ≢ v → (more : List Step) → AreOf g v more → (log : Log)
+    → part_in g (reverse more ++ log) u ≡ part_in g log u
+parts_stay g v u other [] mine log = refl
+parts_stay g v u other (x ∷ xs) mine log =
+    ap (λ (l : Log). part_in g l u) (ap (λ (l : Log). l ++ log) (reverse-append (x ∷ []) xs)
+    ∙ append_assoc (reverse xs) (x ∷ []) log)
+    ∙ parts_stay g v u other xs mine.1 (x ∷ log) ∙ part_else g x log u (λ z. other (sym z ∙ mine.0))
+
+module _ (g : Setting) (log : Log) (w : WorldState) (stands : StandsForLog g log w) where
+  -- the vertex that makes an event, and its actor
+  pub maker : (x : Event) (v : ℕ) (a : Actor) → vertex_of w.setting x ≡ Some v → a ≡ get_or w.actors v a
+      → (part_of g x ≡ v) × (v < g.game.graph.vertices) × IsActor g log v a
+  maker x v a found_at actor_is =
+      let is = found g stands.is_setting.game x v (sym (ap (λ (h : Setting). vertex_of h x) stands.setting) ∙ found_at)
+      in
+      (is.0, is.1, subst (IsActor g log v) (sym actor_is) (stands.actors v is.1 a))
+
+  module _ (v : ℕ) (inside : v < g.game.graph.vertices) (a : Actor) (actor_is : a ≡ get_or w.actors v a) where
+    actor : IsActor g log v a
+    actor = subst (IsActor g log v) (sym actor_is) (stands.actors v inside a)
+
+    -- the fired word of the vertex can be told
+    pub shows_word : SomePart a (λ g s. ⊤)
+    shows_word = (g, part_in g log v, actor.stands, tt)
+
+    module _ (fired : ℕ) (fired_is : WhateverPart a (λ g s. fired ≡ word_of_part s)) where
+      abbrev shared : TurnWords
+      shared = record { words = w.words; fired = fired }
+
+      held : Holds shared g a.vertex log (part_in g log v)
+      held = subst (λ (u : ℕ). Holds shared g u log (part_in g log v)) (sym actor.vertex_is) record {
+        inside = inside;
+        is_setting = stands.is_setting;
+        legal = stands.legal;
+        part_is = refl;
+        words_each = stands.words_each;
+        words = stands.words;
+        fired_is = fired_is g (part_in g log v) actor.stands;
+      }
+
+      -- a turn may begin over the words, and an event of the vertex be made
+      pub meets_turn : Meets (Holds shared) a (At.Take 0)
+      meets_turn = (g, log, part_in g log v, held, actor.stands, tt)
+
+      pub meets_event : (x : Event) → part_of g x ≡ v → MeetsEvent (Holds shared) a x
+      meets_event x own = (g, log, part_in g log v, held, actor.stands, own ∙ sym actor.vertex_is)
+
+      -- steps of the vertex leave the world of the log that is longer by them
+      module _ (new : TurnWords) (b : Actor) where
+        abbrev pub after : WorldState
+        after = record w { actors = set w.actors v b; words = new.words }
+
+        leads : (more : List Step) (t : Part) → Holds new g v (reverse more ++ log) t → AreOf g v more
+            → StandsFor g t b → b.vertex ≡ v → StandsForLog g (reverse more ++ log) after
+        leads more t now mine b_stands vertex =
+            let longer : Log = reverse more ++ log in
+            let b_is : IsActor g longer v b =
+            record { vertex_is = vertex; stands = subst (λ (p : Part). StandsFor g p b) now.part_is b_stands } in
+            record {
+              setting = stands.setting;
+              is_setting = stands.is_setting;
+              legal = now.legal;
+              actors_each = length-set w.actors v b ∙ stands.actors_each;
+              actors = λ u l d. dite (ℕ_discrete u v)
+                  (λ same. subst (λ (n : ℕ). IsActor g longer n (get_or (set w.actors v b) n d)) (sym same)
+                  (subst (IsActor g longer v)
+                  (sym (get_or-set_same w.actors v b d (let each = stands.actors_each in omega arith))) b_is))
+                  (λ other. subst (IsActor g longer u) (sym (get_or-set_other w.actors v u b d other)) record {
+                    vertex_is = (stands.actors u l d).vertex_is;
+                    stands = subst (λ (p : Part). StandsFor g p (get_or w.actors u d))
+                        (sym (parts_stay g v u other more mine log)) (stands.actors u l d).stands;
+                  });
+              words_each = now.words_each;
+              words = now.words;
+              root_stands = subst (λ (s : Part). RootStandsFor g s w.root)
+                  (sym (parts_stay g v (root g) (λ z. (let l = inside in absurd (omega arith))) more mine log)) stands.root_stands;
+            }
+
+        pub turn_leads : (count : ℕ) → MakesTurn (Holds shared) a (Holds new) b count
+            → (longer : Log) × StandsForLog g longer after × IsTurnAfter g v log longer
+        turn_leads count makes =
+            let made = subst (λ (u : ℕ). (more : List Step) × (t : Part)
+            × IsTurnMade (Holds new) g u log (part_in g log v) b count more t) actor.vertex_is
+            (makes g log (part_in g log v) held actor.stands) in
+            let is = made.2 in (
+              reverse made.0 ++ log,
+              leads made.0 made.1 is.held is.mine is.stands is.vertex,
+              record { operations = made.0; are_turn = (made.1, is.is_turn); all_made = refl; all_fit = is.held.legal },
+            )
+
+        pub event_leads : (x : Event) (reply : Reply) → part_of g x ≡ v
+            → MakesEvent (Holds shared) a x (Holds new) b reply → MakesStep g log x after reply
+        event_leads x reply own makes = subst
+            (λ (u : ℕ). let o : Option Rule = unmet_rule g x (part_in g log u) in
+            StandsForLog g (answer g log x o).0 after × (reply ≡ (answer g log x o).1))
+            (sym own)
+            (by (unmet_rule g x (part_in g log v))
+            refl
+            (subst (λ (u : ℕ). IsAnswered (Holds new) g u log (part_in g log v) x b reply
+            (unmet_rule g x (part_in g log v))) actor.vertex_is
+            (makes g log (part_in g log v) held actor.stands (own ∙ sym actor.vertex_is))))
+          where
+            by : (o : Option Rule) → unmet_rule g x (part_in g log v) ≡ o
+                → IsAnswered (Holds new) g v log (part_in g log v) x b reply o
+                → StandsForLog g (answer g log x o).0 after × (reply ≡ (answer g log x o).1)
+            by (Some rule) is (kept, says) = (leads [] (part_in g log v) kept.held tt kept.stands kept.vertex, says)
+            by None is (seen, kept, says) =
+                let as_seen : seen ≡ sees g log x = kept.held.legal.1.1 in (
+                  subst (λ (n : ℕ). StandsForLog g (saw x n ∷ log) after) as_seen
+                      (leads (saw x seen ∷ []) (does g (saw x seen) (part_in g log v)) kept.held (own, tt) kept.stands
+                      kept.vertex),
+                  says
+                      ∙ (λ j. reply_of g x (as_seen j) (part_in g log (sym own j))),
+                )

@@ -20,6 +20,7 @@ mod check;
 mod explain;
 mod guess;
 pub mod laws;
+mod lines;
 mod options;
 mod plain;
 mod replay;

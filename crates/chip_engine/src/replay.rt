@@ -7,6 +7,7 @@ ghost use Rattle.chip_engine.specs.Lines.{lines_text};
 ghost use Rattle.chip_engine.specs.ReplayCommand.{ReplayAnswers, ReplayRefuses, ReplayWrites, GaveNoReplay};
 ghost use Rattle.chip_engine.specs.ReplayCommand.{TellsReplay, firing_text, left_text, status_of_left};
 
+use crate::lines::{end_by_number, push_number};
 use crate::options::PlayOptions;
 use chip_command::{Answer, Ended, Fault, Status, deliver, read_game};
 use chip_file::read_trace_within;
@@ -128,7 +129,8 @@ fn lines_of(alloc: Global, firings: &[(u64, u64)]) -> Result<String, AllocError>
 fn push_firing(lines: &mut String, vertex: u64, count: u64) -> Result<(), AllocError>
     ensures { IfOk result (λ _. string_bytes lines.new ≡ string_bytes lines.old ++ firing_text (vertex, count)) }
 {
-    write!(lines, "fire {vertex} {count}\n")
+    push_number(lines, "fire ", vertex)?;
+    end_by_number(lines, " ", count)
 }
 
 /// Appends the lines of what is left.

@@ -15,6 +15,7 @@ ghost use Rattle.chip_engine.specs.SimulateCommand.{Simulates, EndsClosed, EndsB
 ghost use Rattle.chip_engine.specs.SimulateCommand.{message_text, reply_text, answers_text};
 
 use crate::board::push_board;
+use crate::lines::{end_by_number, push_number};
 use crate::options::PlayOptions;
 use chip_command::{Answer, Ended, Fault, Status, deliver, read_game, status_of};
 use chip_file::read_schedule_within;
@@ -25,8 +26,8 @@ use chip_world::{Drive, World, WorldFault};
 use std::alloc::{AllocError, Global};
 use std::io::{Read, Write};
 
-/// How many events are run at a time.
-const STRETCH: usize = 1 << 16;
+/// How many events are run at a time, or as many as there are edges where these are more: each run looks at every edge.
+const STRETCH: usize = 1 << 17;
 
 /// The options of a simulation.
 #[derive(Clone, Copy)]
@@ -187,10 +188,11 @@ fn stretch_by_stretch(
     ensures world { IfOk result (λ _. IsRunThrough world.old.setting events.now world.new) }
     ensures lines { IfOk result (λ lines. string_bytes lines ≡ answers_text false world.old.setting [] events.now) }
 {
+    let most = STRETCH.max(world.setting().all_edges() as usize);
     let mut lines = String::new(alloc);
     let mut left = events;
     while !left.is_empty() {
-        let (stretch, rest) = left.split_at(left.len().min(STRETCH));
+        let (stretch, rest) = left.split_at(left.len().min(most));
         let record = world.run(alloc, stretch)?;
         push_replies(&mut lines, &record.replies)?;
         left = rest;
@@ -249,24 +251,21 @@ fn push_reply(lines: &mut String, reply: Reply) -> Result<(), AllocError>
     ensures { IfOk result (λ _. string_bytes lines.new ≡ string_bytes lines.old ++ reply_text reply) }
 {
     match reply {
-        Reply::Done(number) => write!(lines, "done {number}\n"),
-        Reply::Got(message) => push_message(lines, "got", message),
-        Reply::Sent(message) => push_message(lines, "sent", message),
+        Reply::Done(number) => end_by_number(lines, "done ", number),
+        Reply::Got(message) => push_message(lines, "got ", message),
+        Reply::Sent(message) => push_message(lines, "sent ", message),
         Reply::Empty => lines.push_str("empty\n"),
         Reply::Full => lines.push_str("full\n"),
         Reply::Sealed => lines.push_str("sealed\n"),
-        Reply::NotNow(rule) => {
-            let number = rule.number();
-            write!(lines, "not-now {number}\n")
-        }
+        Reply::NotNow(rule) => end_by_number(lines, "not-now ", u64::from(rule.number())),
     }
 }
 
 /// Appends a line that names a message by its place and its count.
 fn push_message(lines: &mut String, what: &str, message: Message) -> Result<(), AllocError>
     ensures { IfOk result (λ _. string_bytes lines.new
-        ≡ string_bytes lines.old ++ what.now ++ codes " " ++ message_text message ++ codes "\n") }
+        ≡ string_bytes lines.old ++ what.now ++ message_text message ++ codes "\n") }
 {
-    let Message { place, count, .. } = message;
-    write!(lines, "{what} {place} {count}\n")
+    push_number(lines, what, message.place)?;
+    end_by_number(lines, " ", message.count)
 }

@@ -19,54 +19,49 @@ use Rattle.chip_actor.proofs.LookupsLemmas.{on_edge_at, on_edge_changed}
 use Rattle.std.specs.List.Sorted.{IsStrictlyIncreasing}
 use Rattle.std.proofs.lemmas.List.{length-map, get_or-map, map-set, set-get_or, take_all, take-append-le}
 
-module _ {T : Type 0} (none : T) (edges : List ℕ) (ends : List T) (apart : AreApart edges ends) (slot : Slot)
-    (at : IsSlotOf edges slot) (old : T) (was : old ≡ get_or ends slot.index old) where
+module _ {T : Type 0} (none : T) {edges : List ℕ} {ends : List T} (apart : AreApart edges ends) {slot : Slot}
+    (at : IsSlotOf edges slot) {old : T} (was : old ≡ get_or ends slot.index old) where
   pub found : old ≡ on_edge none edges ends slot.edge
   found = was
       ∙ sym (on_edge_at none edges ends slot.index old (ascends edges apart.ascending) apart.one_each at.within)
       ∙ ap (on_edge none edges ends) at.edge
 
-  pub changed : (new : T) (f : T → T) → new ≡ f old → (j : ℕ)
+  pub changed : {new : T} (f : T → T) → new ≡ f old → (j : ℕ)
       → on_edge none edges (set ends slot.index new) j
       ≡ cond (eqb slot.edge j) (f (on_edge none edges ends j)) (on_edge none edges ends j)
-  changed new f is = on_edge_changed none edges ends slot.index slot.edge old new f apart.ascending apart.one_each
+  changed {new} f is = on_edge_changed none edges ends slot.index slot.edge old new f apart.ascending apart.one_each
       at.within at.edge (is ∙ ap f was)
 
 -- the ends of a value that is seen as `now`, at a slot of its edges
-module _ (os now : OutEnds) (same : os ≡ now) (apart : AreApart os.edges os.ends) (slot : Slot)
-    (at : IsSlotOf now.edges slot) (old : OutEnd) (was : old ≡ get_or os.ends slot.index old) where
+module _ {os now : OutEnds} (same : os ≡ now) (apart : AreApart os.edges os.ends) {slot : Slot}
+    (at : IsSlotOf now.edges slot) {old : OutEnd} (was : old ≡ get_or os.ends slot.index old) where
   at_out : IsSlotOf os.edges slot
   at_out = subst (λ (o : OutEnds). IsSlotOf o.edges slot) (sym same) at
 
   pub found_out : old ≡ out_on now slot.edge
-  found_out = found no_out os.edges os.ends apart slot at_out old was ∙ ap (λ (o : OutEnds). out_on o slot.edge) same
+  found_out = found no_out apart at_out was ∙ ap (λ (o : OutEnds). out_on o slot.edge) same
 
-  pub changes_out : (new : OutEnd) (f : OutEnd → OutEnd) → new ≡ f old
+  pub changes_out : {new : OutEnd} (f : OutEnd → OutEnd) → new ≡ f old
       → ChangesOut now (record { edges = os.edges; ends = set os.ends slot.index new }) slot.edge f
-  changes_out new f is =
+  changes_out {new} f is =
       let after : OutEnds = record { edges = os.edges; ends = set os.ends slot.index new } in
-      subst (λ (o : OutEnds). ChangesOut o after slot.edge f) same (record {
-        edges = refl;
-        each = changed no_out os.edges os.ends apart slot at_out old was new f is;
-      })
+      subst (λ (o : OutEnds). ChangesOut o after slot.edge f) same
+      (record { edges = refl; each = changed no_out apart at_out was f is })
 
-module _ (is now : InEnds) (same : is ≡ now) (apart : AreApart is.edges is.ends) (slot : Slot)
-    (at : IsSlotOf now.edges slot) (old : HeadState) (was : old ≡ get_or is.ends slot.index old) where
+module _ {is now : InEnds} (same : is ≡ now) (apart : AreApart is.edges is.ends) {slot : Slot}
+    (at : IsSlotOf now.edges slot) {old : HeadState} (was : old ≡ get_or is.ends slot.index old) where
   at_in : IsSlotOf is.edges slot
   at_in = subst (λ (i : InEnds). IsSlotOf i.edges slot) (sym same) at
 
   pub found_in : old ≡ in_on now slot.edge
-  found_in = found (new_head 0 1) is.edges is.ends apart slot at_in old was
-      ∙ ap (λ (i : InEnds). in_on i slot.edge) same
+  found_in = found (new_head 0 1) apart at_in was ∙ ap (λ (i : InEnds). in_on i slot.edge) same
 
-  pub changes_in : (new : HeadState) (f : HeadState → HeadState) → new ≡ f old
+  pub changes_in : {new : HeadState} (f : HeadState → HeadState) → new ≡ f old
       → ChangesIn now (record { edges = is.edges; ends = set is.ends slot.index new }) slot.edge f
-  changes_in new f eq =
+  changes_in {new} f eq =
       let after : InEnds = record { edges = is.edges; ends = set is.ends slot.index new } in
-      subst (λ (i : InEnds). ChangesIn i after slot.edge f) same (record {
-        edges = refl;
-        each = changed (new_head 0 1) is.edges is.ends apart slot at_in old was new f eq;
-      })
+      subst (λ (i : InEnds). ChangesIn i after slot.edge f) same
+      (record { edges = refl; each = changed (new_head 0 1) apart at_in was f eq })
 
 -- ends whose numbers ascend
 pub named_apart : {T : Type 0} (number : T → ℕ) (ts : List T) (edges : List ℕ) → map number ts ≡ edges
@@ -84,41 +79,39 @@ same_numbers number ts i old new within was same = map-set number ts i new
     ∙ set-get_or (map number ts) i 0
 
 -- an end that is written at a slot
-module _ (ends : List OutEnd) (now : OutEnds) (same : outs_of ends ≡ now) (apart : AreApart (outs_of ends).edges ends)
-    (slot : Slot) (at : IsSlotOf now.edges slot) (old : OutEnd) (was : old ≡ get_or ends slot.index old) (new : OutEnd)
+module _ {ends : List OutEnd} {now : OutEnds} (same : outs_of ends ≡ now) (apart : AreApart (outs_of ends).edges ends)
+    {slot : Slot} (at : IsSlotOf now.edges slot) {old : OutEnd} (was : old ≡ get_or ends slot.index old) (new : OutEnd)
     (keeps : new.link.edge ≡ old.link.edge) where
-  there_out : slot.index < length ends
-  there_out = let l = (at_out (outs_of ends) now same apart slot at old was).within in let one = apart.one_each in
-      omega arith
+  numbers_out : (outs_of (set ends slot.index new)).edges ≡ (outs_of ends).edges
+  numbers_out = same_numbers (λ (o : OutEnd). o.link.edge) ends slot.index old new
+      (let l = (at_out {os = outs_of ends} same apart at was).within in let one = apart.one_each in omega arith) was keeps
 
   pub written_out : (f : OutEnd → OutEnd) → new ≡ f old
       → ChangesOut now (outs_of (set ends slot.index new)) slot.edge f
   written_out f is = subst
       (λ (es : List ℕ). ChangesOut now (record { edges = es; ends = set ends slot.index new }) slot.edge f)
-      (sym (same_numbers (λ (o : OutEnd). o.link.edge) ends slot.index old new there_out was keeps))
-      (changes_out (outs_of ends) now same apart slot at old was new f is)
+      (sym numbers_out) (changes_out {os = outs_of ends} same apart at was f is)
 
   pub apart_out : AreApart (outs_of (set ends slot.index new)).edges (set ends slot.index new)
-  apart_out = named_apart (λ (o : OutEnd). o.link.edge) (set ends slot.index new) (outs_of ends).edges
-      (same_numbers (λ (o : OutEnd). o.link.edge) ends slot.index old new there_out was keeps) apart.ascending
+  apart_out = named_apart (λ (o : OutEnd). o.link.edge) (set ends slot.index new) (outs_of ends).edges numbers_out
+      apart.ascending
 
-module _ (ends : List HeadState) (now : InEnds) (same : ins_of ends ≡ now) (apart : AreApart (ins_of ends).edges ends)
-    (slot : Slot) (at : IsSlotOf now.edges slot) (old : HeadState) (was : old ≡ get_or ends slot.index old)
+module _ {ends : List HeadState} {now : InEnds} (same : ins_of ends ≡ now) (apart : AreApart (ins_of ends).edges ends)
+    {slot : Slot} (at : IsSlotOf now.edges slot) {old : HeadState} (was : old ≡ get_or ends slot.index old)
     (new : HeadState) (keeps : new.edge ≡ old.edge) where
-  there_in : slot.index < length ends
-  there_in = let l = (at_in (ins_of ends) now same apart slot at old was).within in let one = apart.one_each in
-      omega arith
+  numbers_in : (ins_of (set ends slot.index new)).edges ≡ (ins_of ends).edges
+  numbers_in = same_numbers (λ (h : HeadState). h.edge) ends slot.index old new
+      (let l = (at_in {is = ins_of ends} same apart at was).within in let one = apart.one_each in omega arith) was keeps
 
   pub written_in : (f : HeadState → HeadState) → new ≡ f old
       → ChangesIn now (ins_of (set ends slot.index new)) slot.edge f
   written_in f is = subst
       (λ (es : List ℕ). ChangesIn now (record { edges = es; ends = set ends slot.index new }) slot.edge f)
-      (sym (same_numbers (λ (h : HeadState). h.edge) ends slot.index old new there_in was keeps))
-      (changes_in (ins_of ends) now same apart slot at old was new f is)
+      (sym numbers_in) (changes_in {is = ins_of ends} same apart at was f is)
 
   pub apart_in : AreApart (ins_of (set ends slot.index new)).edges (set ends slot.index new)
-  apart_in = named_apart (λ (h : HeadState). h.edge) (set ends slot.index new) (ins_of ends).edges
-      (same_numbers (λ (h : HeadState). h.edge) ends slot.index old new there_in was keeps) apart.ascending
+  apart_in = named_apart (λ (h : HeadState). h.edge) (set ends slot.index new) (ins_of ends).edges numbers_in
+      apart.ascending
 
 -- no step of a tail changes which edge it is an end of
 either_edge : (b : Bool) (t u : TailState) (e : ℕ) → t.edge ≡ e → u.edge ≡ e → (cond b t u).edge ≡ e
@@ -199,17 +192,15 @@ from_more P from i below here k le lt = dite (dec_lt k i) (λ l. below k le l)
     (λ n. subst P (let z : i ≡ k = omega arith in z) here)
 
 -- the edge at a place, by its number
-module _ (os now : OutEnds) (same : os ≡ now) (apart : AreApart os.edges os.ends) (place : ℕ)
-    (within : place < length now.edges) (end : OutEnd) (was : end ≡ get_or os.ends place end) where
-  pub out_there : end ≡ out_on now (get_or now.edges place 0)
-  out_there = found_out os now same apart (record { index = place; edge = get_or now.edges place 0 })
-      (record { within = within; edge = refl }) end was
+pub out_there : {os now : OutEnds} → os ≡ now → AreApart os.edges os.ends → (place : ℕ) → place < length now.edges
+    → {end : OutEnd} → end ≡ get_or os.ends place end → end ≡ out_on now (get_or now.edges place 0)
+out_there {os} {now} same apart place within was = found_out same apart
+    {slot = record { index = place; edge = get_or now.edges place 0 }} (record { within = within; edge = refl }) was
 
-module _ (is now : InEnds) (same : is ≡ now) (apart : AreApart is.edges is.ends) (place : ℕ)
-    (within : place < length now.edges) (end : HeadState) (was : end ≡ get_or is.ends place end) where
-  pub in_there : end ≡ in_on now (get_or now.edges place 0)
-  in_there = found_in is now same apart (record { index = place; edge = get_or now.edges place 0 })
-      (record { within = within; edge = refl }) end was
+pub in_there : {is now : InEnds} → is ≡ now → AreApart is.edges is.ends → (place : ℕ) → place < length now.edges
+    → {end : HeadState} → end ≡ get_or is.ends place end → end ≡ in_on now (get_or now.edges place 0)
+in_there {is} {now} same apart place within was = found_in same apart
+    {slot = record { index = place; edge = get_or now.edges place 0 }} (record { within = within; edge = refl }) was
 
 -- a list that is made from the numbers of edges has these numbers
 pub made_numbers : {T : Type 0} (number : T → ℕ) (f : ℕ → T) → ((e : ℕ) → number (f e) ≡ e) → (edges : List ℕ)

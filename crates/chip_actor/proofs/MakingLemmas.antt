@@ -225,7 +225,7 @@ claim_made a e seen os b m change message sends sound = λ g s stands can.
       subst (λ (k : ℕ). StandsFor g (does g (saw (Claim e) seen) s)
           (record a { outs = os; detect = b; pending = a.pending - k; unput = a.unput + 1 }))
           (sym (ap (λ (x : Message). x.count) is_message))
-          (claims g s a stands e seen can.0 can.1 hit os change b sends sound),
+          (claims g s a stands e seen can.0 can.1 os change hit b sends sound),
       ap Sent is_message ∙ sym (cond_yes seen n (Sent (message_of e n (s.out e).pending)) Sealed hit),
       refl,
     )
@@ -240,7 +240,7 @@ claim_sealed a e seen os change message = λ g s stands can.
     let n : ℕ = claims_of (s.out e).link in
     let sent = message ∙ (λ j. message_claimed seen (stands.outs e can.0 j).pending (stands.outs e can.0 j).link) in
     let miss : seen ≢ n = (λ z. differ (sent ∙ cond_yes seen n (Some (message_of e n (s.out e).pending)) None z)) in (
-      is_refused g s a stands e seen can.0 can.1 miss os change,
+      is_refused g s a stands e seen can.0 can.1 os change miss,
       sym (cond_no seen n (Sent (message_of e n (s.out e).pending)) Sealed miss),
       refl,
     )

@@ -10,17 +10,16 @@ use Rattle.chip_part.specs.declared.act.Act.TheVariants as Do
 use Rattle.chip_part.specs.Part.{Part}
 use Rattle.chip_part.specs.Rules.{Event, unmet_rule}
 use Rattle.chip_part.specs.declared.reply.Reply.{Reply}
-use Rattle.chip_part.specs.Steps.{Step, part_of, does, reply_of, saw}
-use Rattle.chip_part.specs.Acting.{act_of, event_of, CanDo, FitsSeen}
+use Rattle.chip_part.specs.Steps.{Step, part_of, does, saw}
+use Rattle.chip_part.specs.Acting.{act_of, event_of, CanDo, IsDue}
 use Rattle.chip_actor.specs.Actor.{Makes}
 use Rattle.chip_part.specs.Turn.{turn, ins_of, outs_of}
 use Rattle.chip_part.specs.declared.cursor.Cursor.{Cursor}
 use Rattle.chip_part.specs.Cursor.{rest_of_turn, IsAt, GoesBy, most_left}
-use Rattle.chip_actor.specs.Turning.{DueAt}
+use Rattle.chip_actor.specs.Turning.{DueAt, MayBeAt}
 use Rattle.chip_part.specs.Counting.{work_of, is_work}
 use Rattle.chip_actor.specs.Actor.{Actor, StandsFor, SomePart, WhateverPart}
-use Rattle.chip_actor.specs.Medium.{Holding, IsDueBy, MayServe, Serves, Meets, GoesOn, Moves, MeetsDue, MakesDue}
-use Rattle.chip_actor.specs.Medium.{MakesTurn, AreOf}
+use Rattle.chip_actor.specs.Medium.{Holding, IsDueBy, MayServe, Serves, Meets, GoesOn, Moves, MakesTurn, AreOf}
 use Rattle.chip_part.proofs.CursorLemmas.{Passes, event_of_act, act_is_some}
 
 -- the latest first, of two lists one after another
@@ -32,223 +31,201 @@ both_of : (g : Setting) (v : ℕ) (xs ys : List Step) → AreOf g v xs → AreOf
 both_of g v [] ys left right = right
 both_of g v (x ∷ xs) ys left right = (left.0, both_of g v xs ys left.1 right)
 
+-- some part for which an actor stands
+abbrev pub Stands : Actor → Type 0
+Stands a = (g : Setting) × (s : Part) × StandsFor g s a
+
 -- one move and then another
-pub moves_on : (H K L : Holding) (a b c : Actor) (x y z : Cursor) (n m : ℕ) → Moves H a x K b y n → Moves K b y L c z m
+pub moves_on : {H K L : Holding} {a b c : Actor} {x y z : Cursor} {n m : ℕ} → Moves H a x K b y n → Moves K b y L c z m
     → Moves H a x L c z (n + m)
-moves_on H K L a b c x y z n m first second = λ g ds s held stands at.
-    let one = first g ds s held stands at in
-    let go = one.2 in
-    let v : ℕ = a.vertex in
-    let then = subst (λ (w : ℕ). (xs : List Step) (t : Part) → K g w xs t → StandsFor g t b → IsAt g w y t
-    → (more : List Step) × (u : Part) × GoesOn L g w xs t y c z m more u) go.vertex (second g) in
-    let two = then (reverse one.0 ++ ds) one.1 go.held go.stands go.fits in (
-      one.0 ++ two.0,
-      two.1,
-      record {
-        held = subst (λ (xs : List Step). L g v xs two.1) (sym (reversed_more one.0 two.0 ds)) two.2.held;
-        mine = both_of g v one.0 two.0 go.mine two.2.mine;
-        stands = two.2.stands;
-        vertex = two.2.vertex;
-        fits = two.2.fits;
-        rest = λ xs after h. subst (λ (zs : List Step). rest_of_turn g v x s zs after)
-            (sym (append_assoc one.0 two.0 xs))
-            (go.rest (two.0 ++ xs) after (two.2.rest xs after h));
-        counted = λ xs. ap (work_of g s) (append_assoc one.0 two.0 xs) ∙ go.counted (two.0 ++ xs)
-            ∙ ap (λ (k : ℕ). n + k) (two.2.counted xs) ∙ sym (add_assoc n m (work_of g two.1 xs));
-      },
-    )
+moves_on {H} {K} {L} {a} {b} {c} {x} {y} {z} {n} {m} first second = record {
+  goes = λ g ds s held stands at.
+      let one = first.goes g ds s held stands at in
+      let go = one.2 in
+      let v : ℕ = a.vertex in
+      let then = subst (λ (w : ℕ). (xs : List Step) (t : Part) → K g w xs t → StandsFor g t b → IsAt g w y t
+      → (more : List Step) × (u : Part) × GoesOn L g w xs t y c z m more u) go.vertex (second.goes g) in
+      let two = then (reverse one.0 ++ ds) one.1 go.held go.stands go.fits in (
+        one.0 ++ two.0,
+        two.1,
+        record {
+          held = subst (λ (xs : List Step). L g v xs two.1) (sym (reversed_more one.0 two.0 ds)) two.2.held;
+          mine = both_of g v one.0 two.0 go.mine two.2.mine;
+          stands = two.2.stands;
+          vertex = two.2.vertex;
+          fits = two.2.fits;
+          rest = λ xs after h. subst (λ (zs : List Step). rest_of_turn g v x s zs after)
+              (sym (append_assoc one.0 two.0 xs))
+              (go.rest (two.0 ++ xs) after (two.2.rest xs after h));
+          counted = λ xs. ap (work_of g s) (append_assoc one.0 two.0 xs) ∙ go.counted (two.0 ++ xs)
+              ∙ ap (λ (k : ℕ). n + k) (two.2.counted xs) ∙ sym (add_assoc n m (work_of g two.1 xs));
+        },
+      );
+}
 
--- a move with no step, where a turn that stands at one cursor stands at the other too
-pub moves_over : (H : Holding) (a : Actor) (x y : Cursor)
-    → ((g : Setting) (s : Part) → StandsFor g s a → IsAt g a.vertex x s
-    → IsAt g a.vertex y s × ((ds : List Step) (after : Part) → rest_of_turn g a.vertex y s ds after
-    → rest_of_turn g a.vertex x s ds after))
+-- a phase with nothing to do: a turn that stands at one cursor stands at the other too
+pub moves_past : {H : Holding} {a : Actor} {x y : Cursor}
+    → ((g : Setting) (s : Part) → StandsFor g s a → IsAt g a.vertex x s → IsAt g a.vertex y s × Passes g a.vertex s x y)
     → Moves H a x H a y 0
-moves_over H a x y over = λ g ds s held stands at. (
-  [],
-  s,
-  record {
-    held = held;
-    mine = tt;
-    stands = stands;
-    vertex = refl;
-    fits = (over g s stands at).0;
-    rest = λ xs after h. (over g s stands at).1 xs after h;
-    counted = λ xs. omega arith;
-  },
-)
+moves_past {H} {a} {x} {y} past = record {
+  goes = λ g ds s held stands at. (
+    [],
+    s,
+    record {
+      held = held;
+      mine = tt;
+      stands = stands;
+      vertex = refl;
+      fits = (past g s stands at).0;
+      rest = λ xs after h. (past g s stands at).1.rest xs after h;
+      counted = λ xs. omega arith;
+    },
+  );
+}
 
--- where a turn stands at this cursor, this event is due, and it goes on to the other
-abbrev pub DueBy : Actor → Cursor → Act → Event → Cursor → Type 0
-DueBy a x act e y = (g : Setting) (s : Part) → StandsFor g s a → IsAt g a.vertex x s
-    → GoesBy g a.vertex s x e y × (act ≡ act_of g e s)
+-- nothing was done yet
+pub moves_none : {H : Holding} {a : Actor} {x : Cursor} → Moves H a x H a x 0
+moves_none = moves_past (λ g s stands at. (at, record { rest = λ ds after h. h; fewer = omega arith }))
+
+-- the end of a turn
+pub turn_ends : {H : Holding} {a : Actor} {x : Cursor} → DueAt a x None → Moves H a x H a At.Over 0
+turn_ends {H} {a} {x} due = moves_past (λ g s stands at. (
+  tt,
+  record {
+    fewer = omega arith;
+    rest = λ ds after h.
+        subst (λ (t : Part). rest_of_turn g a.vertex x s ds t) (sym h.1)
+        (subst (λ (xs : List Step). rest_of_turn g a.vertex x s xs s) (sym h.0) (due g s stands at));
+  },
+))
+
+-- two moves, of which one does not count
+pub then_over : {H K L : Holding} {a b c : Actor} {x y z : Cursor} {n : ℕ} → Moves H a x K b y n → Moves K b y L c z 0
+    → Moves H a x L c z n
+then_over {H} {K} {L} {a} {b} {c} {x} {y} {z} {n} moved over = subst (λ (k : ℕ). Moves H a x L c z k)
+    (let same : n + 0 ≡ n = omega arith in same) (moves_on moved over)
+
+pub over_then : {H K L : Holding} {a b c : Actor} {x y z : Cursor} {n : ℕ} → Moves H a x K b y 0 → Moves K b y L c z n
+    → Moves H a x L c z n
+over_then {H} {K} {L} {a} {b} {c} {x} {y} {z} {n} over moves = subst (λ (k : ℕ). Moves H a x L c z k)
+    (let same : 0 + n ≡ n = omega arith in same) (moves_on over moves)
+
+-- where a turn stands at this cursor, the event of this operation is due, and it goes on to the other
+pub record DueBy (a : Actor) (x : Cursor) (act : Act) (y : Cursor) : Type 0 where
+  pub here : (g : Setting) (s : Part) → StandsFor g s a → IsAt g a.vertex x s
+      → GoesBy g a.vertex s x (event_of a.vertex act) y × (act ≡ act_of g (event_of a.vertex act) s)
 
 -- how many steps a step counts for
 abbrev pub one_if : Bool → ℕ
 one_if b = cond b 1 0
 
--- the event that is due may be asked of the medium
-due_by : (g : Setting) (s : Part) (a : Actor) → StandsFor g s a → (act : Act) (e : Event) → part_of g e ≡ a.vertex
-    → unmet_rule g e s ≡ None → act ≡ act_of g e s → (event_of a.vertex act ≡ e) × IsDueBy g a.vertex s act
-due_by g s a stands act e mine met is =
-    let told : event_of a.vertex act ≡ e = ap (event_of a.vertex) is
-    ∙ event_of_act g a.vertex stands.knows.vertex s e mine met in (
-      told,
-      record {
-        mine = ap (part_of g) told ∙ mine;
-        met = ap (λ (y : Event). unmet_rule g y s) told ∙ met;
-        needed = is ∙ sym (ap (λ (y : Event). act_of g y s) told);
-      },
-    )
+due_by : {a : Actor} {x y : Cursor} {act : Act} → DueBy a x act y → (g : Setting) (s : Part) → StandsFor g s a
+    → IsAt g a.vertex x s → IsDueBy g a.vertex s act
+due_by due g s stands at =
+    let d = due.here g s stands at in record { mine = d.0.mine; met = d.0.met; needed = d.1 }
 
-pub may_serve : (H : Holding) (a : Actor) (x y : Cursor) (act : Act) (e : Event) → Meets H a x → DueBy a x act e y
-    → MayServe H act
-may_serve H a x y act e (g, ds, s, held, stands, at) due =
-    let d = due g s stands at in (g, a.vertex, ds, s, held, (due_by g s a stands act e d.0.mine d.0.met d.1).1)
+pub may_serve : {H : Holding} {a : Actor} {x y : Cursor} {act : Act} → Meets H a x → DueBy a x act y → MayServe H act
+may_serve {H} {a} (g, ds, s, held, stands, at) due = (g, a.vertex, ds, s, held, due_by due g s stands at)
 
 -- what it answers fits
-pub can_do : (H K : Holding) (a : Actor) (x y : Cursor) (act : Act) (e : Event) (seen : ℕ) → Meets H a x
-    → DueBy a x act e y → Serves H K act seen → SomePart a (λ g s. CanDo g s a.vertex e seen)
-can_do H K a x y act e seen (g, ds, s, held, stands, at) due serves =
-    let d = due g s stands at in
-    let by = due_by g s a stands act e d.0.mine d.0.met d.1 in (
-      g,
-      s,
-      stands,
-      (
-        d.0.mine,
-        d.0.met,
-        subst
-            (λ (z : Event). FitsSeen s z seen) by.0 (serves g a.vertex ds s held by.1).fits,
-      ),
-    )
+pub can_apply : {H K : Holding} {a : Actor} {x y : Cursor} {act : Act} {seen : ℕ} → Meets H a x → DueBy a x act y
+    → Serves H K act seen → SomePart a (λ g s. IsDue g s a.vertex (record { act = act; seen = seen }))
+can_apply {H} {K} {a} (g, ds, s, held, stands, at) due serves =
+    let by = due_by due g s stands at in
+    (g, s, stands, ((by.mine, by.met, (serves g a.vertex ds s held by).fits), by.needed))
+
+pub can_do : {H K : Holding} {a : Actor} {x y : Cursor} {act : Act} {seen : ℕ} → Meets H a x → DueBy a x act y
+    → Serves H K act seen → SomePart a (λ g s. CanDo g s a.vertex (event_of a.vertex act) seen)
+can_do {H} {K} {a} {x} {y} {act} {seen} meets due serves =
+    let can = can_apply {H = H} {K = K} {a = a} {x = x} {y = y} {act = act} {seen = seen} meets due serves in
+    (can.0, can.1, can.2, can.3.0)
 
 -- one step
-pub moves_one : (H K : Holding) (a b : Actor) (x y : Cursor) (act : Act) (e : Event) (seen : ℕ) (r : Reply) (n : ℕ)
-    → DueBy a x act e y → Serves H K act seen → Makes a b e seen r → n ≡ one_if (is_work act r) → Moves H a x K b y n
-moves_one H K a b x y act e seen r n due serves makes is = λ g ds s held stands at.
-    let d = due g s stands at in
-    let goes = d.0 in
-    let by = due_by g s a stands act e goes.mine goes.met d.1 in
-    let longer = serves g a.vertex ds s held by.1 in
-    let made_step : Step = saw e seen in
-    let made = makes g s stands (goes.mine, goes.met, subst (λ (z : Event). FitsSeen s z seen) by.0 longer.fits) in (
-      made_step ∷ [],
-      does g made_step s,
-      record {
-        held = subst (λ (z : Event). K g a.vertex (saw z seen ∷ ds)
-            (does g (saw z seen) s)) by.0 longer.held;
-        mine = (goes.mine, tt);
-        stands = made.0;
-        vertex = made.2;
-        fits = goes.fits seen;
-        rest = λ xs after h. goes.rest seen xs after h;
-        counted = λ xs. ap (λ (k : ℕ). k + work_of g (does g made_step s) xs)
-            (sym (is ∙ (λ j. one_if (is_work (d.1 j) (made.1 j)))));
-      },
-    )
+pub moves_one : {H K : Holding} {a b : Actor} {x y : Cursor} {act : Act} {seen : ℕ} {r : Reply} {n : ℕ}
+    → DueBy a x act y → Serves H K act seen → Makes a b (event_of a.vertex act) seen r → n ≡ one_if (is_work act r)
+    → Moves H a x K b y n
+moves_one {H} {K} {a} {b} {x} {y} {act} {seen} {r} {n} due serves makes is = record {
+  goes = λ g ds s held stands at.
+      let d = due.here g s stands at in
+      let longer = serves g a.vertex ds s held (due_by due g s stands at) in
+      let made_step : Step = saw (event_of a.vertex act) seen in
+      let made = makes g s stands (d.0.mine, d.0.met, longer.fits) in (
+        made_step ∷ [],
+        does g made_step s,
+        record {
+          held = longer.held;
+          mine = (d.0.mine, tt);
+          stands = made.0;
+          vertex = made.2;
+          fits = d.0.fits seen;
+          rest = λ xs after h. d.0.rest seen xs after h;
+          counted = λ xs. ap (λ (k : ℕ). k + work_of g (does g made_step s) xs)
+              (sym (is ∙ (λ j. one_if (is_work (d.1 j) (made.1 j)))));
+        },
+      );
+}
 
 -- after a move some record is held too
-pub meets_after : (H K : Holding) (a b : Actor) (x y : Cursor) (n : ℕ) → Meets H a x → Moves H a x K b y n → Meets K b y
-meets_after H K a b x y n (g, ds, s, held, stands, at) moves =
-    let m = moves g ds s held stands at in
+pub meets_after : {H K : Holding} {a b : Actor} {x y : Cursor} {n : ℕ} → Meets H a x → Moves H a x K b y n → Meets K b y
+meets_after {H} {K} {a} {b} {x} {y} (g, ds, s, held, stands, at) moves =
+    let m = moves.goes g ds s held stands at in
     let r = subst (λ (w : ℕ). K g w (reverse m.0 ++ ds) m.1 × IsAt g w y m.1) (sym m.2.vertex) (m.2.held, m.2.fits) in
     (g, reverse m.0 ++ ds, m.1, r.0, m.2.stands, r.1)
-
--- it keeps the numbers of its edges
-pub keeps_ins : (H K : Holding) (a b : Actor) (x y : Cursor) (n : ℕ) → Meets H a x → Moves H a x K b y n
-    → b.ins.edges ≡ a.ins.edges
-keeps_ins H K a b x y n (g, ds, s, held, stands, at) moves =
-    let go = (moves g ds s held stands at).2 in
-    go.stands.knows.ins ∙ ap (λ (v : ℕ). Rattle.chip_part.specs.Turn.ins_of g v) go.vertex ∙ sym stands.knows.ins
-
-pub keeps_outs : (H K : Holding) (a b : Actor) (x y : Cursor) (n : ℕ) → Meets H a x → Moves H a x K b y n
-    → b.outs.edges ≡ a.outs.edges
-keeps_outs H K a b x y n (g, ds, s, held, stands, at) moves =
-    let go = (moves g ds s held stands at).2 in
-    go.stands.knows.outs ∙ ap (λ (v : ℕ). Rattle.chip_part.specs.Turn.outs_of g v) go.vertex ∙ sym stands.knows.outs
-
--- a phase with nothing to do
-pub moves_past : (H : Holding) (a : Actor) (x y : Cursor)
-    → ((g : Setting) (s : Part) → StandsFor g s a → IsAt g a.vertex x s → IsAt g a.vertex y s × Passes g a.vertex s x y)
-    → Moves H a x H a y 0
-moves_past H a x y past = moves_over H a x y (λ g s stands at. ((past g s stands at).0, (past g s stands at).1.rest))
-
--- a count that is known
-pub counts : (H K : Holding) (a b : Actor) (x y : Cursor) (n m : ℕ) → n ≡ m → Moves H a x K b y n → Moves H a x K b y m
-counts H K a b x y n m same moves = subst (λ (k : ℕ). Moves H a x K b y k) same moves
 
 -- a step counts for one at most
 pub one_few : (n : ℕ) (b : Bool) → n ≡ one_if b → n ≤ 1
 one_few n true is = omega arith
 one_few n false is = omega arith
 
--- nothing was done yet
-pub moves_none : (H : Holding) (a : Actor) (x : Cursor) → Moves H a x H a x 0
-moves_none H a x = moves_over H a x x (λ g s stands at. (at, λ ds after h. h))
+-- what is due at a cursor, by the operation that its event needs
+pub due_at : {a : Actor} {x y : Cursor} {e : Event} {act : Act} → DueAt a x (Some (e, y))
+    → WhateverPart a (λ g s. part_of g e ≡ a.vertex → unmet_rule g e s ≡ None → act ≡ act_of g e s) → DueBy a x act y
+due_at {a} {x} {y} {e} {act} due needed = record {
+  here = λ g s stands at.
+      let goes = due g s stands at in
+      let is = needed g s stands goes.mine goes.met in
+      let same : event_of a.vertex act ≡ e = ap (event_of a.vertex) is
+      ∙ event_of_act g a.vertex stands.knows.vertex s e goes.mine goes.met in (
+        subst (λ (i : Event). GoesBy g a.vertex s x i y) (sym same) goes,
+        is ∙ ap (λ (i : Event). act_of g i s) (sym same),
+      );
+}
 
--- after a move, the next phase
-pub then_over : (first_held H : Holding) (a0 a : Actor) (x0 x y : Cursor) (n : ℕ) → Moves first_held a0 x0 H a x n
-    → Moves H a x H a y 0 → Moves first_held a0 x0 H a y n
-then_over first_held H a0 a x0 x y n moved over = subst (λ (k : ℕ). Moves first_held a0 x0 H a y k)
-    (let z : n + 0 ≡ n = omega arith in z) (moves_on first_held H H a0 a a x0 x y n 0 moved over)
+-- what is due is an operation
+pub not_end : {a : Actor} {x y : Cursor} {act : Act} → MayBeAt a x → DueBy a x act y → act ≢ Do.End
+not_end {a} (g, s, stands, at) due =
+    let d = due.here g s stands at in
+    λ z. act_is_some g a.vertex stands.knows.vertex s _ d.0.mine (sym d.1 ∙ z)
 
--- what is due at a cursor, made as an operation
-module _ (a : Actor) (x y : Cursor) (e : Event) (act : Act) (due : DueAt a x (Some (e, y)))
-    (needed : WhateverPart a (λ g s. part_of g e ≡ a.vertex → unmet_rule g e s ≡ None → act ≡ act_of g e s)) where
-  pub due_at : DueBy a x act e y
-  due_at g s stands at = let goes = due g s stands at in (goes, needed g s stands goes.mine goes.met)
+-- fewer operations are left, by the lists that the turn began with
+pub fewer_since : {H K : Holding} {a b : Actor} {x y z : Cursor} {n : ℕ} {e : Event} → Meets H a x → Moves H a x K b y n
+    → DueAt b y (Some (e, z))
+    → most_left (length a.ins.edges) (length a.outs.edges) z < most_left (length a.ins.edges) (length a.outs.edges) y
+fewer_since {H} {K} {a} {b} {x} {y} {z} (g, ds, s, held, stands, at) moved due =
+    let m = moved.goes g ds s held stands at in
+    let fits = subst (λ (w : ℕ). IsAt g w y m.1) (sym m.2.vertex) m.2.fits in
+    subst (λ (l : List ℕ × List ℕ). most_left (length l.0) (length l.1) z < most_left (length l.0) (length l.1) y)
+    (λ j. ((ap (ins_of g) m.2.vertex ∙ sym stands.knows.ins) j, (ap (outs_of g) m.2.vertex ∙ sym stands.knows.outs) j))
+    (due g m.1 m.2.stands fits).fewer
 
-  pub meets_due : (H : Holding) → Meets H a x → MeetsDue H a act
-  meets_due H (g, ds, s, held, stands, at) =
-      let d = due_at g s stands at in (g, ds, s, held, stands, (due_by g s a stands act e d.0.mine d.0.met d.1).1)
+-- no more operations are left than this
+most_bound : (i o : ℕ) (x : Cursor) → most_left i o x ≤ (2 * i + 5 * o) + 6
+most_bound i o (At.Take place) = omega arith
+most_bound i o _ = omega arith
 
-  pub moves_made : (H K : Holding) (b : Actor) (w : Bool) → MakesDue H a act K b w → Moves H a x K b y (one_if w)
-  moves_made H K b w makes = λ g ds s held stands at.
-      let d = due_at g s stands at in
-      let goes = d.0 in
-      let by = due_by g s a stands act e goes.mine goes.met d.1 in
-      let made = makes g ds s held stands by.1 in
-      let seen : ℕ = made.0 in
-      let made_step : Step = saw e seen in (
-        made_step ∷ [],
-        does g made_step s,
-        record {
-          held = subst (λ (z : Event). K g a.vertex (saw z seen ∷ ds)
-              (does g (saw z seen) s)) by.0 made.1.held;
-          mine = (goes.mine, tt);
-          stands = subst (λ (z : Event). StandsFor g (does g (saw z seen) s) b) by.0
-              made.1.stands;
-          vertex = made.1.vertex;
-          fits = goes.fits seen;
-          rest = λ xs after h. goes.rest seen xs after h;
-          counted = λ xs. ap (λ (k : Bool). one_if k + work_of g (does g made_step s) xs)
-              (sym (made.1.counted ∙ (λ j. is_work (d.1 j) (reply_of g (by.0 j) seen s))));
-        },
-      )
-
--- fewer operations are left
-left_fewer : (a : Actor) (x y : Cursor) (e : Event) → DueAt a x (Some (e, y)) → (H : Holding) → Meets H a x
-    → most_left (length a.ins.edges) (length a.outs.edges) y < most_left (length a.ins.edges) (length a.outs.edges) x
-left_fewer a x y e due H (g, ds, s, held, stands, at) =
-    subst (λ (xs : List ℕ). most_left (length xs) (length a.outs.edges) y
-    < most_left (length xs) (length a.outs.edges) x) (sym stands.knows.ins)
-    (subst (λ (xs : List ℕ). most_left (length (ins_of g a.vertex)) (length xs) y
-    < most_left (length (ins_of g a.vertex)) (length xs) x) (sym stands.knows.outs) (due g s stands at).fewer)
-
--- the end of a turn
-pub turn_ends : (H : Holding) (a : Actor) (x : Cursor) → DueAt a x None → Moves H a x H a At.Over 0
-turn_ends H a x due = moves_over H a x At.Over (λ g s stands at. (
-  tt,
-  λ ds after h.
-      subst (λ (t : Part). rest_of_turn g a.vertex x s ds t) (sym h.1)
-      (subst (λ (xs : List Step). rest_of_turn g a.vertex x s xs s) (sym h.0) (due g s stands at)),
-))
+pub few_left : {a : Actor} (x : Cursor) → Stands a → most_left (length a.ins.edges) (length a.outs.edges) x < 2 ^ 32
+few_left {a} x (g, s, stands) =
+    let ins = ap (λ (xs : List ℕ). length xs) (stands.knows.detect_ins ∙ sym stands.knows.ins) in
+    let outs = ap (λ (xs : List ℕ). length xs) (stands.knows.detect_outs ∙ sym stands.knows.outs) in
+    let i = stands.books.sound.ins.few in
+    let o = stands.books.sound.outs.few in
+    let most = most_bound (length a.ins.edges) (length a.outs.edges) x in
+    omega arith
 
 -- a whole turn
-pub whole_turn : (H K : Holding) (a b : Actor) (n : ℕ) → Moves H a (At.Take 0) K b At.Over n → MakesTurn H a K b n
-whole_turn H K a b n moves = λ g ds s held stands.
-    let m = moves g ds s held stands tt in
+pub whole_turn : {H K : Holding} {a b : Actor} {n : ℕ} → Moves H a (At.Take 0) K b At.Over n → MakesTurn H a K b n
+whole_turn {H} {K} {a} {b} {n} moves = λ g ds s held stands.
+    let m = moves.goes g ds s held stands tt in
     let none = m.2.counted [] in
     let done : m.0 ++ [] ≡ m.0 = Rattle.std.proofs.Common.append-nil m.0 in (
       m.0,
@@ -262,38 +239,3 @@ whole_turn H K a b n moves = λ g ds s held stands.
         counted = ap (work_of g s) (sym done) ∙ none ∙ (let z : n + 0 ≡ n = omega arith in z);
       },
     )
-
--- the same, with the lists that the turn began with
-pub fewer_since : (first_held H : Holding) (a0 a : Actor) (x0 x y : Cursor) (n : ℕ) (e : Event) → Meets first_held a0 x0
-    → Moves first_held a0 x0 H a x n → DueAt a x (Some (e, y))
-    → most_left (length a0.ins.edges) (length a0.outs.edges) y
-    < most_left (length a0.ins.edges) (length a0.outs.edges) x
-fewer_since first_held H a0 a x0 x y n e meets moved due =
-    let here = left_fewer a x y e due H (meets_after first_held H a0 a x0 x n meets moved) in
-    subst (λ (xs : List ℕ). most_left (length xs) (length a0.outs.edges) y
-    < most_left (length xs) (length a0.outs.edges) x) (keeps_ins first_held H a0 a x0 x n meets moved)
-    (subst (λ (xs : List ℕ). most_left (length a.ins.edges) (length xs) y
-    < most_left (length a.ins.edges) (length xs) x) (keeps_outs first_held H a0 a x0 x n meets moved) here)
-
--- what is due is an operation
-pub not_end : (a : Actor) (x y : Cursor) (e : Event) (act : Act) → DueAt a x (Some (e, y))
-    → WhateverPart a (λ g s. part_of g e ≡ a.vertex → unmet_rule g e s ≡ None → act ≡ act_of g e s) → (H : Holding)
-    → Meets H a x → act ≢ Do.End
-not_end a x y e act due needed H (g, ds, s, held, stands, at) =
-    let d = due_at a x y e act due needed g s stands at in
-    λ z. act_is_some g a.vertex stands.knows.vertex s e d.0.mine (sym d.1 ∙ z)
-
--- no more operations are left than this
-most_bound : (i o : ℕ) (x : Cursor) → most_left i o x ≤ (2 * i + 5 * o) + 6
-most_bound i o (At.Take place) = omega arith
-most_bound i o _ = omega arith
-
-pub few_left : (H : Holding) (a : Actor) (x z : Cursor) → Meets H a x
-    → most_left (length a.ins.edges) (length a.outs.edges) z < 2 ^ 32
-few_left H a x z (g, ds, s, held, stands, at) =
-    let ins = ap (λ (xs : List ℕ). length xs) (stands.knows.detect_ins ∙ sym stands.knows.ins) in
-    let outs = ap (λ (xs : List ℕ). length xs) (stands.knows.detect_outs ∙ sym stands.knows.outs) in
-    let i = stands.books.sound.ins.few in
-    let o = stands.books.sound.outs.few in
-    let most = most_bound (length a.ins.edges) (length a.outs.edges) z in
-    omega arith

@@ -2,10 +2,8 @@
 -- A send over a medium at one edge: what its calls ask, and how the turn goes on from each to the next.
 use Rattle.std.proofs.Common.{◌≡◌, ◌≢◌, ℕ, ◌+◌, ◌-◌, ◌^◌, ◌%◌, ◌<◌, ◌≤◌, Bool, true, false, ◌&&◌, cond, eqb, List}
 use Rattle.std.proofs.Common.{Option, length, slice_index}
-use mathlib.Core.Logic.{dite}
-use native.Mathlib.Decide.{ℕ_discrete}
 use Rattle.chip_graph.proofs.SumLemmas.{cond_yes, cond_no, cond_false}
-use Rattle.std.proofs.Common.{Some, None, IsTrue, refl, sym, ap, ◌∙◌, subst, arith, length-set}
+use Rattle.std.proofs.Common.{Some, None, refl, sym, ap, ◌∙◌, subst, arith, length-set}
 use Rattle.std.proofs.lemmas.Bool.{false≢true, eqb-true}
 use Rattle.std.proofs.lemmas.List.{get_or-set_same, set-set}
 use Rattle.chip_link.specs.declared.message.Message.{Message}
@@ -16,201 +14,91 @@ use Rattle.chip_detect.specs.Tally.{message_limit}
 use Rattle.chip_detect.specs.Books.{Books, IsSound, out_edges, sent_of}
 use Rattle.chip_detect.specs.Steps.{Sends}
 use Rattle.chip_detect.specs.Slot.{IsSlotOf}
-use Rattle.chip_part.specs.Rules.{Clear, Claim, Put, Halt}
+use Rattle.chip_part.specs.Rules.{Claim}
 use Rattle.chip_part.specs.declared.act.Act.TheVariants as Do
 use Rattle.chip_part.specs.declared.cursor.Cursor.TheVariants as At
-use Rattle.chip_part.specs.declared.cursor.Cursor.{Cursor}
-use Rattle.chip_part.specs.Acting.{CanDo}
 use Rattle.chip_actor.specs.declared.ends.outs.OutEnd.{OutEnd}
-use Rattle.chip_actor.specs.Ends.{OutEnds, out_on, with_end, AreApart, ChangesOut}
+use Rattle.chip_actor.specs.Ends.{out_on, with_end, AreApart, ChangesOut}
 use Rattle.chip_actor.specs.Ends.{out_after_clear, out_after_claim, out_after_put}
-use Rattle.chip_actor.specs.Actor.{Actor, SomePart, WhateverPart, Makes, with_sent}
+use Rattle.chip_actor.specs.Actor.{Actor, WhateverPart, Makes, with_sent}
 use Rattle.chip_part.specs.Part.{cause, is_by_limit}
-use Rattle.chip_part.specs.declared.reply.Reply.{Reply}
 use Rattle.chip_part.specs.declared.reply.Reply.TheVariants.{Sent}
 use Rattle.chip_actor.specs.Medium.{Holding, MayServe, Serves, Meets, Moves}
 use Rattle.chip_actor.proofs.EndLemmas as ends
 use Rattle.chip_actor.proofs.SteppingLemmas.{may_look}
 use Rattle.chip_actor.proofs.MakingLemmas.{clear_made, MayClaim, may_claim, message_count, claim_made}
 use Rattle.chip_actor.proofs.MakingLemmas.{claim_sealed, put_made}
-use Rattle.chip_actor.proofs.MediumLemmas.{DueBy, may_serve, can_do, moves_one, moves_on, meets_after, then_over}
+use Rattle.chip_actor.specs.Turning.{MayBeAt}
+use Rattle.chip_actor.proofs.MediumLemmas.{Stands, DueBy, may_serve, can_do, moves_one, moves_on, meets_after, then_over}
 use Rattle.chip_actor.proofs.TurnOverLemmas.{send_none, clear_by, claim_by, claim_none, store_by, stop_by}
-use Rattle.chip_actor.proofs.LoopLemmas.{FoundOut, out_at_index, out_in_books}
+use Rattle.chip_actor.proofs.LoopLemmas.{FoundOut, out_at, out_in_books}
 
--- the actor has this end at the index of the others, and the edge is the one that it tells
-pub record SendsOn (a : Actor) (os : OutEnds) (index edge : ℕ) (end : OutEnd) : Type 0 where
-  pub same : with_end os index end ≡ a.outs
-  pub apart : AreApart os.edges os.ends
-  pub below : index < length os.edges
+-- the actor with another end at an index
+abbrev pub sending : Actor → ℕ → OutEnd → ℕ → ℕ → Books → Actor
+sending a index end pending refused b = with_sent a (with_end a.outs index end) pending refused b
+
+-- it stands for some part, and the edge is the one that the end tells
+record SendsOn (a : Actor) (index edge : ℕ) (end : OutEnd) (pending refused : ℕ) (b : Books) : Type 0 where
+  pub stands : Stands (sending a index end pending refused b)
+  pub apart : AreApart a.outs.edges a.outs.ends
+  pub below : index < length a.outs.edges
   pub tells : edge ≡ end.link.edge
 
-module _ (a : Actor) (os : OutEnds) (index edge : ℕ) (end : OutEnd) (here : SendsOn a os index edge end) where
-  found : FoundOut a (with_end os index end) index edge end
+module _ {a : Actor} {index edge : ℕ} {end : OutEnd} {pending refused : ℕ} {b : Books}
+    (on : SendsOn a index edge end pending refused b) where
+  abbrev here : Actor
+  here = sending a index end pending refused b
+
+  found : FoundOut here (with_end a.outs index end) index edge end
   found = record {
-    same = here.same;
+    stands = on.stands;
+    same = refl;
     apart = record {
-      ascending = here.apart.ascending;
-      one_each = length-set os.ends index end ∙ here.apart.one_each;
+      ascending = on.apart.ascending;
+      one_each = length-set a.outs.ends index end ∙ on.apart.one_each;
     };
-    below = (let l = here.below in let one = here.apart.one_each in let n = length-set os.ends index end in omega
+    below = (let l = on.below in let one = on.apart.one_each in let n = length-set a.outs.ends index end in omega
         arith);
-    was = sym (get_or-set_same os.ends index end end (let l = here.below in let one = here.apart.one_each in
+    was = sym (get_or-set_same a.outs.ends index end end (let l = on.below in let one = on.apart.one_each in
         omega arith));
-    tells = here.tells;
+    tells = on.tells;
   }
 
-  module _ (H : Holding) (x : Cursor) (meets : Meets H a x) where
-    pub at_end : IsSlotOf a.outs.edges (record { index = index; edge = edge }) × (end ≡ out_on a.outs edge)
-    at_end = out_at_index H a x (with_end os index end) index edge end meets found
+  at_end : IsSlotOf a.outs.edges (record { index = index; edge = edge }) × (end ≡ out_on here.outs edge)
+  at_end = out_at found
 
-    -- another end there
-    changes : (new : OutEnd) (f : OutEnd → OutEnd) → new ≡ f end → ChangesOut a.outs (with_end os index new) edge f
-    changes new f is = subst
-        (λ (ts : List OutEnd). ChangesOut a.outs (record { edges = os.edges; ends = ts }) edge f)
-        (set-set os.ends index end new)
-        (ends.changes_out (with_end os index end) a.outs here.same found.apart
-        (record { index = index; edge = edge }) at_end.0 end found.was new f is)
+  -- another end there
+  changes : {new : OutEnd} (f : OutEnd → OutEnd) → new ≡ f end → ChangesOut here.outs (with_end a.outs index new) edge f
+  changes {new} f is = subst
+      (λ (ts : List OutEnd). ChangesOut here.outs (record { edges = a.outs.edges; ends = ts }) edge f)
+      (set-set a.outs.ends index end new)
+      (ends.changes_out {os = here.outs} {now = here.outs} refl found.apart at_end.0 found.was f is)
 
-  -- ---- an edge on which nothing is pending
+  send_past : {H : Holding} → end.pending ≡ 0 → Moves H here (At.Send index) H here (At.Send (index + 1)) 0
+  send_past none = send_none at_end.0 (sym (ap (λ (o : OutEnd). o.pending) at_end.1) ∙ none)
 
-  pub send_past : (H : Holding) → Meets H a (At.Send index) → end.pending ≡ 0
-      → Moves H a (At.Send index) H a (At.Send (index + 1)) 0
-  send_past H meets none =
-      let at = at_end H (At.Send index) meets in
-      send_none a index edge at.0.within at.0.edge H (sym (ap (λ (o : OutEnd). o.pending) at.1) ∙ none)
+  clear_due : {cell : ℕ} → end.pending ≢ 0 → cell ≡ tail_cell end.link
+      → DueBy here (At.Send index) (Do.Clear edge cell) (At.Claim index)
+  clear_due pends at-cell = clear_by at_end.0 (subst (λ (o : OutEnd). o.pending ≢ 0) at_end.1 pends)
+      (at-cell ∙ ap (λ (o : OutEnd). tail_cell o.link) at_end.1)
 
-  -- ---- the look at its cell
+  -- the look counts
+  look_counts : MayBeAt here (At.Send index) → end.pending ≢ 0 → may_clear end.link ≡ true
+  look_counts (g, s, stands, at) pends =
+      let goes = ((clear_due pends refl).here g s stands at).0 in
+      ap (λ (o : OutEnd). may_clear o.link) (at_end.1 ∙ stands.outs edge goes.mine)
+      ∙ may_look g s here stands edge goes.mine goes.met
 
-  module _ (H : Holding) (meets : Meets H a (At.Send index)) (pends : end.pending ≢ 0) where
-    clear_due : DueBy a (At.Send index) (Do.Clear edge (tail_cell end.link)) (Clear edge) (At.Claim index)
-    clear_due =
-        let at = at_end H (At.Send index) meets in
-        clear_by a index edge at.0.within at.0.edge (tail_cell end.link)
-        (subst (λ (o : OutEnd). o.pending ≢ 0) at.1 pends) (ap (λ (o : OutEnd). tail_cell o.link) at.1)
+  claim_past : {H : Holding} → None ≡ claim_words end.link → Moves H here (At.Claim index) H here (At.Send (index + 1)) 0
+  claim_past none = claim_none at_end.0 (none ∙ ap (λ (o : OutEnd). claim_words o.link) at_end.1)
 
-    pub clear_asks : MayServe H (Do.Clear edge (tail_cell end.link))
-    clear_asks = may_serve H a (At.Send index) (At.Claim index) (Do.Clear edge (tail_cell end.link)) (Clear edge) meets
-        clear_due
+  claim_due : {w : ℕ × ℕ} → Some w ≡ claim_words end.link
+      → DueBy here (At.Claim index) (Do.Claim edge w.0 w.1) (At.Store index)
+  claim_due words = claim_by at_end.0 (words ∙ ap (λ (o : OutEnd). claim_words o.link) at_end.1)
 
-    -- the look counts
-    looks : (m : Meets H a (At.Send index)) → DueBy a (At.Send index) (Do.Clear edge (tail_cell end.link)) (Clear edge)
-        (At.Claim index) → end ≡ out_on a.outs edge → may_clear end.link ≡ true
-    looks (g, ds, s, held, stands, at) due is =
-        let goes = (due g s stands at).0 in
-        ap (λ (o : OutEnd). may_clear o.link) (is ∙ stands.outs edge goes.mine)
-        ∙ may_look g s a stands edge goes.mine goes.met
-
-    pub may_clear_end : may_clear end.link ≡ true
-    may_clear_end = looks meets clear_due (at_end H (At.Send index) meets).1
-
-    pub clear_moves : (K : Holding) (seen : ℕ) (new : OutEnd) → Serves H K (Do.Clear edge (tail_cell end.link)) seen
-        → new ≡ out_after_clear seen end
-        → Moves H a (At.Send index) K (record a { outs = with_end os index new }) (At.Claim index) 0
-    clear_moves K seen new serves after = moves_one H K a (record a { outs = with_end os index new }) (At.Send index)
-        (At.Claim index) (Do.Clear edge (tail_cell end.link)) (Clear edge) seen _ 0 clear_due serves
-        (clear_made a edge seen (with_end os index new) _ refl
-        (changes H (At.Send index) meets new (out_after_clear seen) after)) refl
-
-  -- ---- the claim
-
-  pub claim_past : (H : Holding) → Meets H a (At.Claim index) → None ≡ claim_words end.link
-      → Moves H a (At.Claim index) H a (At.Send (index + 1)) 0
-  claim_past H meets none =
-      let at = at_end H (At.Claim index) meets in
-      claim_none a index edge at.0.within at.0.edge H (none ∙ ap (λ (o : OutEnd). claim_words o.link) at.1)
-
-  module _ (H : Holding) (meets : Meets H a (At.Claim index)) (w : ℕ × ℕ) (words : Some w ≡ claim_words end.link) where
-    claim_due : DueBy a (At.Claim index) (Do.Claim edge w.0 w.1) (Claim edge) (At.Store index)
-    claim_due =
-        let at = at_end H (At.Claim index) meets in
-        claim_by a index edge at.0.within at.0.edge w (words ∙ ap (λ (o : OutEnd). claim_words o.link) at.1)
-
-    pub claim_asks : MayServe H (Do.Claim edge w.0 w.1)
-    claim_asks = may_serve H a (At.Claim index) (At.Store index) (Do.Claim edge w.0 w.1) (Claim edge) meets claim_due
-
-    pub claim_in_books : IsSlotOf (out_edges a.detect) (record { index = index; edge = edge })
-    claim_in_books = out_in_books H a (At.Claim index) (record { index = index; edge = edge }) meets
-        (at_end H (At.Claim index) meets).0
-
-    module _ (K : Holding) (seen : ℕ) (serves : Serves H K (Do.Claim edge w.0 w.1) seen) where
-      pub claim_may : MayClaim a edge seen
-      claim_may = may_claim a edge seen
-          (can_do H K a (At.Claim index) (At.Store index) (Do.Claim edge w.0 w.1) (Claim edge) seen meets claim_due
-          serves)
-
-      pub claim_fits : IsTrue end.link.clear × (claims_in seen ≡ end.link.claims) × (1 ≤ end.pending)
-          × (end.pending ≤ 2 ^ 40) × (end.pending ≤ a.pending)
-      claim_fits =
-          let may = claim_may in
-          subst (λ (o : OutEnd). IsTrue o.link.clear × (claims_in seen ≡ o.link.claims) × (1 ≤ o.pending)
-          × (o.pending ≤ 2 ^ 40) × (o.pending ≤ a.pending)) (sym (at_end H (At.Claim index) meets).1)
-          (may.clear, may.word, may.some_chips, may.few_chips, may.pending)
-
-      told : (o : Option Message) → o ≡ message_claimed seen end.pending end.link
-          → o ≡ message_claimed seen (out_on a.outs edge).pending (out_on a.outs edge).link
-      told o is = is
-          ∙ ap (λ (t : OutEnd). message_claimed seen t.pending t.link) (at_end H (At.Claim index) meets).1
-
-      pub claim_refuses : None ≡ message_claimed seen end.pending end.link → (new : OutEnd)
-          → new ≡ record end { link = tail_after_claim seen end.pending end.link }
-          → Moves H a (At.Claim index) K (record a { outs = with_end os index new; refused = a.refused + 1 })
-          (At.Store index) 0
-      claim_refuses none new after = moves_one H K a
-          (record a { outs = with_end os index new; refused = a.refused + 1 }) (At.Claim index) (At.Store index)
-          (Do.Claim edge w.0 w.1) (Claim edge) seen _ 0 claim_due serves
-          (claim_sealed a edge seen (with_end os index new)
-          (changes H (At.Claim index) meets new (out_after_claim seen) (after ∙ ends.claim_refused seen end none))
-          (told None none)) refl
-
-      pub claim_takes : (m : Message) → Some m ≡ message_claimed seen end.pending end.link → (new : OutEnd)
-          → new ≡ record end { pending = 0; link = tail_after_claim seen end.pending end.link } → (b : Books)
-          → Sends a.detect b edge → IsSound b
-          → Moves H a (At.Claim index) K (record a {
-            outs = with_end os index new;
-            detect = b;
-            pending = a.pending - end.pending;
-            unput = a.unput + 1;
-          }) (At.Store index) 1
-      claim_takes m some new after b sends sound = moves_one H K a (record a {
-        outs = with_end os index new;
-        detect = b;
-        pending = a.pending - end.pending;
-        unput = a.unput + 1;
-      }) (At.Claim index) (At.Store index) (Do.Claim edge w.0 w.1) (Claim edge) seen _ 1 claim_due serves
-          (subst (λ (n : ℕ). Makes a (record a {
-            outs = with_end os index new;
-            detect = b;
-            pending = a.pending - n;
-            unput = a.unput + 1;
-          }) (Claim edge) seen (Sent m))
-          (message_count seen end.pending end.link m some)
-          (claim_made a edge seen (with_end os index new) b m
-          (changes H (At.Claim index) meets new (out_after_claim seen) (after ∙ ends.claim_taken seen end m some))
-          (told (Some m) some) sends sound)) refl
-
-  -- ---- the put
-
-  module _ (H : Holding) (meets : Meets H a (At.Store index)) (w : ℕ × ℕ) (stored : put_of end.link ≡ Some w) where
-    put_there : put_of (out_on a.outs edge).link ≡ Some w
-    put_there = sym (ap (λ (o : OutEnd). put_of o.link) (at_end H (At.Store index) meets).1) ∙ stored
-
-    put_due : DueBy a (At.Store index) (Do.Put edge w.0 w.1) (Put edge) (At.Send (index + 1))
-    put_due =
-        let at = at_end H (At.Store index) meets in
-        store_by a index edge at.0.within at.0.edge w (sym put_there)
-
-    pub put_asks : MayServe H (Do.Put edge w.0 w.1)
-    put_asks = may_serve H a (At.Store index) (At.Send (index + 1)) (Do.Put edge w.0 w.1) (Put edge) meets put_due
-
-    pub put_moves : (K : Holding) (seen : ℕ) (new : OutEnd) → Serves H K (Do.Put edge w.0 w.1) seen
-        → new ≡ out_after_put end
-        → Moves H a (At.Store index) K (record a { outs = with_end os index new; unput = a.unput - 1 })
-        (At.Send (index + 1)) 1
-    put_moves K seen new serves after = moves_one H K a
-        (record a { outs = with_end os index new; unput = a.unput - 1 }) (At.Store index) (At.Send (index + 1))
-        (Do.Put edge w.0 w.1) (Put edge) seen _ 1 put_due serves
-        (put_made a edge seen (with_end os index new) w put_there
-        (changes H (At.Store index) meets new out_after_put after)) refl
+  put_due : {w : ℕ × ℕ} → put_of end.link ≡ Some w
+      → DueBy here (At.Store index) (Do.Put edge w.0 w.1) (At.Send (index + 1))
+  put_due stored = store_by at_end.0 (sym stored ∙ ap (λ (o : OutEnd). put_of o.link) at_end.1)
 
 -- ---- the tail's own
 
@@ -223,33 +111,6 @@ looked_clear t seen may = ap
 no_words : (t : TailState) → t.clear ≡ false → None ≡ claim_words t
 no_words t off = sym (cond_false t.clear (Some (t.claims, t.claims + 1)) None off)
 
--- what was claimed is put into the cell that was looked at
-stored_where_looked : (t t1 t2 : TailState) (seen word count : ℕ) (m : Message) → t1 ≡ tail_after_clear seen t
-    → t2 ≡ tail_after_claim word count t1 → Some m ≡ message_claimed word count t1
-    → put_of t2 ≡ Some (tail_cell t, count)
-stored_where_looked t t1 t2 seen word count m looked claimed told =
-    let hit : word ≡ t1.claims = dite (ℕ_discrete word t1.claims) (λ z. z)
-    (λ z. absurd (differ (told ∙ cond_no word t1.claims
-    (Some (record { edge = t1.edge; place = t1.claims; count = count })) None z))) in
-    ap put_of (claimed ∙ cond_yes word t1.claims (record t1 {
-      claims = t1.claims + 1;
-      held = Some count;
-      clear = false;
-    }) (record t1 { clear = false; refused = true }) hit)
-    ∙ (let z : (t1.claims + 1) - 1 ≡ t1.claims = omega arith in
-    ap (λ (n : ℕ). let o : Option (ℕ × ℕ) = Some (n % t1.ring, count) in o) z)
-    ∙ ap (λ (u : TailState). let o : Option (ℕ × ℕ) = Some (tail_cell u, count) in o) looked
-    ∙ by_look (may_clear t)
-  where
-    differ : Some m ≡ None → ⊥
-    differ q = cc
-
-    by_look : (b : Bool)
-        → (let u : TailState = cond b (record t { clear = eqb seen 0 }) t in
-        let o : Option (ℕ × ℕ) = Some (tail_cell u, count) in o) ≡ Some (tail_cell t, count)
-    by_look true = refl
-    by_look false = refl
-
 -- a place that may be claimed: the look counts, and found the cell empty
 place_told : (t : TailState) (looked place : ℕ) → Some place ≡ place_for looked t
     → ((may_clear t && eqb looked 0) ≡ true) × (place ≡ t.claims)
@@ -261,7 +122,7 @@ place_told t looked place is-place = by_test (may_clear t && eqb looked 0) is-pl
     by_test false is = absurd (cc)
 
 -- without one the look doesn't count, or found the cell full
-pub no_place : (t : TailState) (looked : ℕ) → None ≡ place_for looked t → (may_clear t && eqb looked 0) ≡ false
+no_place : (t : TailState) (looked : ℕ) → None ≡ place_for looked t → (may_clear t && eqb looked 0) ≡ false
 no_place t looked is-place = by_test (may_clear t && eqb looked 0) is-place
   where
     by_test : (b : Bool) → None ≡ (let o : Option ℕ = cond b (Some t.claims) None in o) → b ≡ false
@@ -284,14 +145,14 @@ place_clear t looked place is-place =
     λ i. looked_by (both.0 i) (both.1 i) t
 
 -- then the words of a claim follow
-pub place_words : (t : TailState) (looked place : ℕ) → Some place ≡ place_for looked t
+place_words : (t : TailState) (looked place : ℕ) → Some place ≡ place_for looked t
     → Some (place, place + 1) ≡ claim_words (tail_after_clear looked t)
 place_words t looked place is-place =
     ap (λ (n : ℕ). let o : Option (ℕ × ℕ) = Some (n, n + 1) in o) (place_told t looked place is-place).1
     ∙ sym (ap claim_words (place_clear t looked place is-place))
 
 -- a claim that saw this place sends a message
-pub place_message : (t : TailState) (looked place word count : ℕ) → Some place ≡ place_for looked t → word ≡ place
+place_message : (t : TailState) (looked place word count : ℕ) → Some place ≡ place_for looked t → word ≡ place
     → (m : Message) × (Some m ≡ message_claimed word count (tail_after_clear looked t))
 place_message t looked place word count is-place same =
     let m : Message = record { edge = t.edge; place = t.claims; count = count } in (
@@ -301,15 +162,25 @@ place_message t looked place word count is-place same =
     )
 
 -- and one that saw another word is refused
-pub place_refused : (t : TailState) (looked place word count : ℕ) → Some place ≡ place_for looked t → word ≢ place
+place_refused : (t : TailState) (looked place word count : ℕ) → Some place ≡ place_for looked t → word ≢ place
     → None ≡ message_claimed word count (tail_after_clear looked t)
 place_refused t looked place word count is-place other =
     let m : Message = record { edge = t.edge; place = t.claims; count = count } in
     sym (ap (message_claimed word count) (place_clear t looked place is-place)
     ∙ cond_no word t.claims (Some m) None (λ z. other (z ∙ sym (place_told t looked place is-place).1)))
 
+-- what was claimed is put into the cell that was looked at
+stored_where_looked : (t : TailState) (looked place word count : ℕ) → Some place ≡ place_for looked t → word ≡ place
+    → put_of (tail_after_claim word count (tail_after_clear looked t)) ≡ Some (tail_cell t, count)
+stored_where_looked t looked place word count is-place same =
+    ap (λ (u : TailState). put_of (tail_after_claim word count u)) (place_clear t looked place is-place)
+    ∙ ap put_of (cond_yes word t.claims (record t { claims = t.claims + 1; held = Some count; clear = false })
+    (record t { clear = false; refused = true }) (same ∙ (place_told t looked place is-place).1))
+    ∙ (let z : (t.claims + 1) - 1 ≡ t.claims = omega arith in
+    ap (λ (n : ℕ). let o : Option (ℕ × ℕ) = Some (n % t.ring, count) in o) z)
+
 -- a whole send at once is what its three steps come to
-pub sent_is : (t v : TailState) (looked place word count : ℕ) → Some place ≡ place_for looked t → word ≡ place
+sent_is : (t v : TailState) (looked place word count : ℕ) → Some place ≡ place_for looked t → word ≡ place
     → ((k : ℕ) → v ≡ tail_after_put (tail_after_claim t.claims k (tail_after_clear 0 t)))
     → v ≡ tail_after_put (tail_after_claim word count (tail_after_clear looked t))
 sent_is t v looked place word count is-place same after =
@@ -320,173 +191,176 @@ sent_is t v looked place word count is-place same after =
 
 -- ---- a whole send
 
-module _ (a : Actor) (index : ℕ) (apart : AreApart a.outs.edges a.outs.ends) (below : index < length a.outs.edges)
-    (end : OutEnd) (pending refused : ℕ) (b : Books) (H : Holding) where
-  -- the actor with another end there
-  abbrev pub sending : OutEnd → ℕ → ℕ → Books → Actor
-  sending new p r books = with_sent a (with_end a.outs index new) p r books
+-- an actor stands before the look at the cell of an edge on which something is pending
+pub record Looks (a : Actor) (index edge cell : ℕ) (end : OutEnd) (pending refused : ℕ) (b : Books)
+    (H : Holding) : Type 0 where
+  pub apart : AreApart a.outs.edges a.outs.ends
+  pub below : index < length a.outs.edges
+  pub tells : edge ≡ end.link.edge
+  pub at_cell : cell ≡ tail_cell end.link
+  pub pends : end.pending ≢ 0
+  pub meets : Meets H (sending a index end pending refused b) (At.Send index)
 
+pub sends_nothing : (a : Actor) {index : ℕ} (end : OutEnd) {pending refused : ℕ} {b : Books} {H : Holding}
+    → AreApart a.outs.edges a.outs.ends → index < length a.outs.edges
+    → Meets H (sending a index end pending refused b) (At.Send index) → end.pending ≡ 0
+    → Moves H (sending a index end pending refused b) (At.Send index) H (sending a index end pending refused b)
+    (At.Send (index + 1)) 0
+sends_nothing a {index} end {pending} {refused} {b} apart below meets none =
+    let on : SendsOn a index end.link.edge end pending refused b =
+    record { stands = (meets.0, meets.2, meets.4); apart = apart; below = below; tells = refl } in
+    send_past on none
+
+module _ {a : Actor} {index edge cell : ℕ} {end : OutEnd} {pending refused : ℕ} {b : Books} {H : Holding}
+    (looks : Looks a index edge cell end pending refused b H) where
   abbrev first : Actor
-  first = sending end pending refused b
+  first = sending a index end pending refused b
 
-  module _ (meets : Meets H first (At.Send index)) where
-    pub sends_nothing : end.pending ≡ 0 → Moves H first (At.Send index) H first (At.Send (index + 1)) 0
-    sends_nothing none = send_past first a.outs index end.link.edge end
-        (record { same = refl; apart = apart; below = below; tells = refl }) H meets none
+  on : SendsOn a index edge end pending refused b
+  on =
+      let m = looks.meets in
+      record { stands = (m.0, m.2, m.4); apart = looks.apart; below = looks.below; tells = looks.tells }
 
-    module _ (pends : end.pending ≢ 0) (edge cell : ℕ) (tells : edge ≡ end.link.edge)
-        (at-cell : cell ≡ tail_cell end.link)
-      where
-        here : SendsOn first a.outs index edge end
-        here = record { same = refl; apart = apart; below = below; tells = tells }
+  look_due : DueBy first (At.Send index) (Do.Clear edge cell) (At.Claim index)
+  look_due = clear_due on looks.pends looks.at_cell
 
-        pub asks_clear : MayServe H (Do.Clear edge cell)
-        asks_clear = subst (λ (n : ℕ). MayServe H (Do.Clear edge n)) (sym at-cell)
-            (clear_asks first a.outs index edge end here H meets pends)
+  pub asks_clear : MayServe H (Do.Clear edge cell)
+  asks_clear = may_serve looks.meets look_due
 
-        module _ (K : Holding) (looked : ℕ) (serves : Serves H K (Do.Clear edge cell) looked) (t : TailState)
-            (after : t ≡ tail_after_clear looked end.link) (answer : Bool)
-            (told : answer ≡ (may_clear end.link && eqb looked 0)) where
-          abbrev second : Actor
-          second = sending (record end { link = t }) pending refused b
+  module _ {K : Holding} {looked : ℕ} (serves : Serves H K (Do.Clear edge cell) looked) where
+    abbrev t : TailState
+    t = tail_after_clear looked end.link
 
-          looks_on : Moves H first (At.Send index) K second (At.Claim index) 0
-          looks_on = clear_moves first a.outs index edge end here H meets pends K looked (record end { link = t })
-              (subst (λ (n : ℕ). Serves H K (Do.Clear edge n) looked) at-cell serves)
-              (ap (λ (u : TailState). let n : OutEnd = record end { link = u } in n) after)
+    abbrev second : Actor
+    second = sending a index (record end { link = t }) pending refused b
 
-          is_clear : t.clear ≡ answer
-          is_clear =
-              let may = may_clear_end first a.outs index edge end here H meets pends in
-              ap (λ (u : TailState). u.clear) after ∙ looked_clear end.link looked may
-              ∙ sym (told ∙ ap (λ (m : Bool). m && eqb looked 0) may)
+    looks_on : Moves H first (At.Send index) K second (At.Claim index) 0
+    looks_on = moves_one look_due serves
+        (clear_made first edge looked second.outs _ refl (changes on (out_after_clear looked) refl)) refl
 
-          same_edge : edge ≡ t.edge
-          same_edge = tells ∙ keeps_edge (may_clear end.link) ∙ sym (ap (λ (u : TailState). u.edge) after)
-            where
-              keeps_edge : (m : Bool) → end.link.edge
-                  ≡ (let u : TailState = cond m (record end.link { clear = eqb looked 0 }) end.link in u).edge
-              keeps_edge true = refl
-              keeps_edge false = refl
+    meets_looked : Meets K second (At.Claim index)
+    meets_looked = meets_after looks.meets looks_on
 
-          here_looked : SendsOn second a.outs index edge (record end { link = t })
-          here_looked = record { same = refl; apart = apart; below = below; tells = same_edge }
+    on_looked : SendsOn a index edge (record end { link = t }) pending refused b
+    on_looked = let m = meets_looked in record {
+      stands = (m.0, m.2, m.4);
+      apart = looks.apart;
+      below = looks.below;
+      tells = looks.tells ∙ sym (ends.clear_keeps looked end.link);
+    }
 
-          meets_looked : Meets K second (At.Claim index)
-          meets_looked = meets_after H K first second (At.Send index) (At.Claim index) 0 meets looks_on
+    pub sees_full : None ≡ place_for looked end.link → {new : TailState} → new ≡ t
+        → Moves H first (At.Send index) K (sending a index (record end { link = new }) pending refused b)
+        (At.Send (index + 1)) 0
+    sees_full none {new} after =
+        let m = looks.meets in
+        let may = look_counts on (m.0, m.2, m.4, m.5) looks.pends in
+        let off = looked_clear end.link looked may ∙ sym (ap (λ (c : Bool). c && eqb looked 0) may)
+        ∙ no_place end.link looked none in
+        subst (λ (v : TailState). Moves H first (At.Send index) K
+        (sending a index (record end { link = v }) pending refused b) (At.Send (index + 1)) 0) (sym after)
+        (then_over looks_on (claim_past on_looked (no_words t off)))
 
-          pub sees_full : answer ≡ false → Moves H first (At.Send index) K second (At.Send (index + 1)) 0
-          sees_full off = then_over H K first second (At.Send index) (At.Claim index) (At.Send (index + 1)) 0 looks_on
-              (claim_past second a.outs index edge (record end { link = t }) here_looked K meets_looked
-              (no_words t (is_clear ∙ off)))
+    pub slot_in_books : IsSlotOf (out_edges b) (record { index = index; edge = edge })
+    slot_in_books = out_in_books (found on_looked)
 
-          module _ (w : ℕ × ℕ) (words : Some w ≡ claim_words t) where
-            pub asks_claim : MayServe K (Do.Claim edge w.0 w.1)
-            asks_claim = claim_asks second a.outs index edge (record end { link = t }) here_looked K meets_looked w
-                words
+    module _ {place : ℕ} (is-place : Some place ≡ place_for looked end.link) where
+      try_due : DueBy second (At.Claim index) (Do.Claim edge place (place + 1)) (At.Store index)
+      try_due = claim_due on_looked (place_words end.link looked place is-place)
 
-            pub slot_in_books : IsSlotOf (out_edges b) (record { index = index; edge = edge })
-            slot_in_books = claim_in_books second a.outs index edge (record end { link = t }) here_looked K
-                meets_looked w words
+      pub asks_claim : MayServe K (Do.Claim edge place (place + 1))
+      asks_claim = may_serve meets_looked try_due
 
-            module _ (L : Holding) (seen : ℕ) (claims : Serves K L (Do.Claim edge w.0 w.1) seen) where
-              pub fits_claim : IsTrue t.clear × (claims_in seen ≡ t.claims) × (1 ≤ end.pending)
-                  × (end.pending ≤ 2 ^ 40) × (end.pending ≤ pending)
-              fits_claim = claim_fits second a.outs index edge (record end { link = t }) here_looked K meets_looked w
-                  words L seen claims
+      module _ {L : Holding} {seen : ℕ} (claims : Serves K L (Do.Claim edge place (place + 1)) seen) where
+        may_try : MayClaim second edge seen
+        may_try = may_claim second edge seen (can_do meets_looked try_due claims)
 
-              pub has_room : (refused < 2 ^ 32) × (sent_of b edge < message_limit)
-              has_room =
-                  let may = claim_may second a.outs index edge (record end { link = t }) here_looked K meets_looked w
-                  words L seen claims in (may.few_refused, may.room)
+        pub fits_claim : (claims_in seen ≡ t.claims) × (1 ≤ end.pending) × (end.pending ≤ 2 ^ 40)
+            × (end.pending ≤ pending)
+        fits_claim = subst (λ (o : OutEnd). (claims_in seen ≡ o.link.claims) × (1 ≤ o.pending) × (o.pending ≤ 2 ^ 40)
+            × (o.pending ≤ pending)) (sym (at_end on_looked).1)
+            (may_try.word, may_try.some_chips, may_try.few_chips, may_try.pending)
 
-              module _ (u : TailState) (claimed : u ≡ tail_after_claim seen end.pending t) where
-                pub is_refused : None ≡ message_claimed seen end.pending t
-                    → Moves H first (At.Send index) L
-                    (sending (record end { link = u }) pending (refused + 1) b) (At.Store index) 0
-                is_refused none = moves_on H K L first second
-                    (sending (record end { link = u }) pending (refused + 1) b) (At.Send index) (At.Claim index)
-                    (At.Store index) 0 0 looks_on
-                    (claim_refuses second a.outs index edge (record end { link = t }) here_looked K meets_looked w
-                    words L seen claims none (record end { link = u })
-                    (ap (λ (v : TailState). let n : OutEnd = record end { link = v } in n) claimed))
+        pub has_room : (refused < 2 ^ 32) × (sent_of b edge < message_limit)
+        has_room = (may_try.few_refused, may_try.room)
 
-                module _ (m : Message) (some : Some m ≡ message_claimed seen end.pending t) (books : Books)
-                    (sends : Sends b books edge) (sound : IsSound books) where
-                  abbrev left : OutEnd
-                  left = record end { pending = 0; link = u }
+        abbrev u : TailState
+        u = tail_after_claim seen end.pending t
 
-                  abbrev third : Actor
-                  third = record (sending left (pending - end.pending) refused books) { unput = a.unput + 1 }
+        told : (o : Option Message) → o ≡ message_claimed seen end.pending t
+            → o ≡ message_claimed seen (out_on second.outs edge).pending (out_on second.outs edge).link
+        told o is = is ∙ ap (λ (n : OutEnd). message_claimed seen n.pending n.link) (at_end on_looked).1
 
-                  claims_on : Moves H first (At.Send index) L third (At.Store index) 1
-                  claims_on = moves_on H K L first second third (At.Send index) (At.Claim index) (At.Store index) 0 1
-                      looks_on
-                      (claim_takes second a.outs index edge (record end { link = t }) here_looked K meets_looked w
-                      words L seen claims m some left
-                      (ap (λ (v : TailState). let n : OutEnd = record end { pending = 0; link = v } in n) claimed) books
-                      sends sound)
+        pub is_refused : seen ≢ place → {new : TailState} → new ≡ u
+            → Moves H first (At.Send index) L (sending a index (record end { link = new }) pending (refused + 1) b)
+            (At.Store index) 0
+        is_refused other {new} after =
+            let none = place_refused end.link looked place seen end.pending is-place other in
+            let left : OutEnd = record end { link = new } in
+            moves_on {m = 0} looks_on (moves_one try_due claims (claim_sealed second edge seen (with_end a.outs index left)
+            (changes on_looked (out_after_claim seen)
+            (ap (λ (v : TailState). let n : OutEnd = record end { link = v } in n) after
+            ∙ ends.claim_refused seen (record end { link = t }) none)) (told None none)) refl)
 
-                  edge_claimed : edge ≡ u.edge
-                  edge_claimed = same_edge ∙ keeps_edge (eqb seen t.claims) ∙ sym (ap (λ (v : TailState). v.edge)
-                      claimed)
-                    where
-                      keeps_edge : (h : Bool) → t.edge
-                          ≡ (let v : TailState = cond h
-                          (record t { claims = t.claims + 1; held = Some end.pending; clear = false })
-                          (record t { clear = false; refused = true }) in v).edge
-                      keeps_edge true = refl
-                      keeps_edge false = refl
+        module _ (same : seen ≡ place) {books : Books} (sends : Sends b books edge) (sound : IsSound books) where
+          abbrev left : OutEnd
+          left = record end { pending = 0; link = u }
 
-                  here_claimed : SendsOn third a.outs index edge left
-                  here_claimed = record { same = refl; apart = apart; below = below; tells = edge_claimed }
+          abbrev third : Actor
+          third = sending (record a { unput = a.unput + 1 }) index left (pending - end.pending) refused books
 
-                  meets_claimed : Meets L third (At.Store index)
-                  meets_claimed = meets_after H L first third (At.Send index) (At.Store index) 1 meets claims_on
+          claims_on : Moves H first (At.Send index) L third (At.Store index) 1
+          claims_on =
+              let sent = place_message end.link looked place seen end.pending is-place same in
+              moves_on {m = 1} looks_on (moves_one try_due claims
+              (subst (λ (n : ℕ). Makes second (record third { pending = pending - n }) (Claim edge) seen (Sent sent.0))
+              (message_count seen end.pending t sent.0 sent.1)
+              (claim_made second edge seen third.outs books sent.0
+              (changes on_looked (out_after_claim seen) (ends.claim_taken seen (record end { link = t }) sent.0 sent.1))
+              (told (Some sent.0) sent.1) sends sound)) refl)
 
-                  stored : put_of u ≡ Some (cell, end.pending)
-                  stored = stored_where_looked end.link t u looked seen end.pending m after claimed some
-                      ∙ ap (λ (n : ℕ). let o : Option (ℕ × ℕ) = Some (n, end.pending) in o) (sym at-cell)
+          on_claimed : SendsOn (record a { unput = a.unput + 1 }) index edge left (pending - end.pending) refused books
+          on_claimed = let m = meets_after looks.meets claims_on in record {
+            stands = (m.0, m.2, m.4);
+            apart = looks.apart;
+            below = looks.below;
+            tells = on_looked.tells ∙ sym (ends.claim_keeps seen end.pending t);
+          }
 
-                  pub asks_put : MayServe L (Do.Put edge cell end.pending)
-                  asks_put = put_asks third a.outs index edge left here_claimed L meets_claimed
-                      (cell, end.pending) stored
+          stored : put_of u ≡ Some (cell, end.pending)
+          stored = stored_where_looked end.link looked place seen end.pending is-place same
+              ∙ ap (λ (n : ℕ). let o : Option (ℕ × ℕ) = Some (n, end.pending) in o) (sym looks.at_cell)
 
-                  pub is_sent : (N : Holding) (word : ℕ) (v : TailState) → Serves L N (Do.Put edge cell end.pending)
-                      word
-                      → v ≡ tail_after_put u
-                      → Moves H first (At.Send index) N
-                      (sending (record end { pending = 0; link = v }) (pending - end.pending) refused books)
-                      (At.Send (index + 1)) 2
-                  is_sent N word v puts put =
-                      let new : OutEnd = record end { pending = 0; link = v } in
-                      let last : Actor = sending new (pending - end.pending) refused books in
-                      moves_on H L N first third last (At.Send index) (At.Store index) (At.Send
-                      (index + 1)) 1 1 claims_on (subst (λ (n : ℕ). Moves L third (At.Store index) N
-                      (record last { unput = n }) (At.Send (index + 1)) 1) (let z : (a.unput + 1) - 1 ≡ a.unput = omega
-                      arith in z) (put_moves third a.outs index edge left here_claimed L meets_claimed
-                      (cell, end.pending) stored N word new puts (ap (λ (x : TailState). let n : OutEnd = record end {
-                        pending = 0;
-                        link = x;
-                      } in n) put)))
+          store_due : DueBy third (At.Store index) (Do.Put edge cell end.pending) (At.Send (index + 1))
+          store_due = put_due on_claimed stored
 
--- ---- the halt behind a refusal
+          pub asks_put : MayServe L (Do.Put edge cell end.pending)
+          asks_put = may_serve (meets_after looks.meets claims_on) store_due
 
-module _ (H : Holding) (a : Actor) (index : ℕ) (meets : Meets H a (At.Store index))
-    (refusal : (index < length a.outs.edges) × (put_of (out_on a.outs (slice_index a.outs.edges index)).link ≡ None))
-    (by_limit : Bool) (why : WhateverPart a (λ g s. by_limit ≡ is_by_limit (cause g a.vertex s))) where
-  stop_due : DueBy a (At.Store index) (Do.Halt by_limit) (Halt a.vertex) At.Limit
-  stop_due = stop_by a index (slice_index a.outs.edges index) refusal.0 refl by_limit (sym refusal.1) why
+          pub is_sent : {N : Holding} {word : ℕ} → Serves L N (Do.Put edge cell end.pending) word → {new : TailState}
+              → ((k : ℕ) → new ≡ tail_after_put (tail_after_claim end.link.claims k (tail_after_clear 0 end.link)))
+              → Moves H first (At.Send index) N
+              (sending a index (record end { pending = 0; link = new }) (pending - end.pending) refused books)
+              (At.Send (index + 1)) 2
+          is_sent {N} {word} puts {new} after =
+              let last : Actor =
+              sending a index (record end { pending = 0; link = new }) (pending - end.pending) refused books in
+              moves_on {n = 1} {m = 1} claims_on (subst (λ (n : ℕ). Moves L third (At.Store index) N
+              (record last { unput = n }) (At.Send (index + 1)) 1) (let z : (a.unput + 1) - 1 ≡ a.unput = omega
+              arith in z) (moves_one store_due puts (put_made third edge word last.outs (cell, end.pending)
+              (sym (ap (λ (o : OutEnd). put_of o.link) (at_end on_claimed).1) ∙ stored)
+              (changes on_claimed out_after_put (ap (λ (v : TailState). let n : OutEnd = record end {
+                pending = 0;
+                link = v;
+              } in n) (sent_is end.link new looked place seen end.pending is-place same after)))) refl))
 
-  pub stop_asks : MayServe H (Do.Halt by_limit)
-  stop_asks = may_serve H a (At.Store index) At.Limit (Do.Halt by_limit) (Halt a.vertex) meets stop_due
+-- ---- the halt after a refusal
 
-  pub stop_can : (K : Holding) (seen : ℕ) → Serves H K (Do.Halt by_limit) seen
-      → SomePart a (λ g s. CanDo g s a.vertex (Halt a.vertex) seen)
-  stop_can K seen serves = can_do H K a (At.Store index) At.Limit (Do.Halt by_limit) (Halt a.vertex) seen meets stop_due
-      serves
-
-  pub stop_moves : (K : Holding) (seen : ℕ) → Serves H K (Do.Halt by_limit) seen → (b : Actor) (r : Reply)
-      → Makes a b (Halt a.vertex) seen r → Moves H a (At.Store index) K b At.Limit 1
-  stop_moves K seen serves b r makes = moves_one H K a b (At.Store index) At.Limit (Do.Halt by_limit) (Halt a.vertex)
-      seen r 1 stop_due serves makes refl
+pub stop_due : {a : Actor} {index : ℕ} {by_limit : Bool}
+    → (index < length a.outs.edges) × (put_of (out_on a.outs (slice_index a.outs.edges index)).link ≡ None)
+    → WhateverPart a (λ g s. by_limit ≡ is_by_limit (cause g a.vertex s))
+    → DueBy a (At.Store index) (Do.Halt by_limit) At.Limit
+stop_due {a} {index} refusal why =
+    let slot : IsSlotOf a.outs.edges (record { index = index; edge = slice_index a.outs.edges index }) =
+    record { within = refusal.0; edge = refl } in
+    stop_by slot (sym refusal.1) why

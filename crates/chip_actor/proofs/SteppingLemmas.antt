@@ -9,7 +9,7 @@ use mathlib.Core.Logic.{dite}
 use native.Mathlib.Decide.{ℕ_discrete}
 use Rattle.chip_graph.specs.Multigraph.{degree}
 use Rattle.chip_part.specs.Setting.{Setting}
-use Rattle.chip_graph.proofs.SumLemmas.{cond_yes, cond_no, tested_ext, tested_scale, tested_move}
+use Rattle.chip_graph.proofs.SumLemmas.{cond_yes, cond_no, tested_ext, tested_scale, tested_move, tested_term}
 use Rattle.chip_link.specs.Ends.{may_clear, head_after_take}
 use Rattle.chip_link.specs.Link.{Tail, claims_of, after_clear, after_claim, after_put, after_take, tail_state}
 use Rattle.chip_link.specs.Link.{head_state}
@@ -20,17 +20,25 @@ use Rattle.chip_detect.specs.Acknowledging.{is_parent, or_else}
 use Rattle.chip_detect.specs.Steps.{Gets, Acknowledges, Sends, Settles}
 use Rattle.chip_part.specs.Edges.{all_edges, tail_of, head_of, mult_of, over_outs}
 use Rattle.chip_part.specs.declared.cause.Cause.{Cause}
-use Rattle.chip_part.specs.Part.{Part, Out, may_ack, cause}
+use Rattle.chip_part.specs.Part.{Part, Out, Into, may_ack, cause}
 use Rattle.chip_part.specs.Rules.{Event, Take, Ack, Fire, Clear, Claim, Put, Halt, Settle, unmet_rule}
 use Rattle.chip_part.specs.Steps.{part_of, does, link_after, pending_after, got_after, saw}
 use Rattle.chip_part.specs.Kept.{KeepsPart}
 use Rattle.chip_actor.specs.declared.ends.outs.OutEnd.{OutEnd}
-use Rattle.chip_actor.specs.Ends.{OutEnds, InEnds, out_on, in_on, ChangesOut, ChangesOuts, ChangesIn}
+use Rattle.chip_actor.specs.Ends.{OutEnds, InEnds, in_on, ChangesOut, ChangesOuts, ChangesIn}
 use Rattle.chip_actor.specs.Ends.{out_after_clear, out_after_claim, out_after_put, out_after_fire}
-use Rattle.chip_actor.specs.Actor.{Actor, KnowsGame, StandsFor, out_end}
+use Rattle.chip_graph.specs.Limits.{max_total}
+use Rattle.chip_actor.specs.Actor.{Actor, KnowsGame, KeepsBooks, StandsFor, out_end}
 use Rattle.chip_part.proofs.RuleLemmas.{rules_met, vertex_clear}
 use Rattle.chip_part.proofs.PartLemmas.{events_keep, idle_take, took_some}
 use Rattle.chip_part.proofs.EdgeLemmas.{over_outs_graph}
+
+-- how many messages are claimed and not put on an edge, and whether its claim was refused
+abbrev held_count : Out → ℕ
+held_count o = length (option_to_list o.link.held)
+
+abbrev refused_count : Out → ℕ
+refused_count o = cond o.link.refused 1 0
 
 module _ (g : Setting) (s : Part) (a : Actor) (stands : StandsFor g s a) where
   -- what it knows of the game is no matter of its numbers
@@ -65,6 +73,19 @@ module _ (g : Setting) (s : Part) (a : Actor) (stands : StandsFor g s a) where
       → KeepsPart g a.vertex (does g (saw x seen) s)
   kept_still x seen at may = subst (λ (p : ℕ). KeepsPart g p (does g (saw x seen) s)) at
       (events_keep g (saw x seen) s may (subst (λ (p : ℕ). KeepsPart g p s) (sym at) stands.kept))
+
+  -- the books of a part that took and acknowledged no message, and for which the same was sent and settled
+  books_still : (t : Part) → s.parent ≡ t.parent → ((e : ℕ) → s.into e ≡ t.into e)
+      → ((e : ℕ) → tail_of g e ≡ a.vertex → claims_of (s.out e).link ≡ claims_of (t.out e).link)
+      → ((e : ℕ) → (s.out e).settled ≡ (t.out e).settled) → KeepsBooks g t a.vertex a.detect
+  books_still t parent into sent settled = record {
+    sound = stands.books.sound;
+    parent = stands.books.parent ∙ parent;
+    got = λ e mine. stands.books.got e mine ∙ ap (λ (n : Into). length n.got) (into e);
+    acked = λ e mine. stands.books.acked e mine ∙ ap (λ (n : Into). n.acked) (into e);
+    sent = λ e mine. stands.books.sent e mine ∙ sent e mine;
+    settled = λ e mine. stands.books.settled e mine ∙ settled e;
+  }
 
   -- ---- a take
 
@@ -129,14 +150,7 @@ module _ (g : Setting) (s : Part) (a : Actor) (stands : StandsFor g s a) where
         ins = λ i at. change.each i ∙ dite (ℕ_discrete e i)
             (λ y. cond_yes e i _ _ y ∙ cond_yes seen 0 (in_on a.ins i) _ none ∙ stands.ins i at)
             (λ n. cond_no e i _ _ n ∙ stands.ins i at);
-        books = record {
-          sound = stands.books.sound;
-          parent = stands.books.parent;
-          got = stands.books.got;
-          acked = stands.books.acked;
-          sent = stands.books.sent;
-          settled = stands.books.settled;
-        };
+        books = books_still _ refl (λ e. refl) (λ e mine. refl) (λ e. refl);
         pending = stands.pending;
         unput = stands.unput;
         refused = stands.refused;
@@ -223,37 +237,13 @@ module _ (g : Setting) (s : Part) (a : Actor) (stands : StandsFor g s a) where
     halt = is;
     outs = stands.outs;
     ins = stands.ins;
-    books = record {
-      sound = stands.books.sound;
-      parent = stands.books.parent;
-      got = stands.books.got;
-      acked = stands.books.acked;
-      sent = stands.books.sent;
-      settled = stands.books.settled;
-    };
+    books = books_still _ refl (λ e. refl) (λ e mine. refl) (λ e. refl);
     pending = stands.pending;
     unput = stands.unput;
     refused = stands.refused;
   }
 
   -- ---- a look at a cell, a claim, a put
-
-  -- an edge out of the vertex that is changed, the others as they were
-  out_still : (e : ℕ) (os : OutEnds) (f : OutEnd → OutEnd) → ChangesOut a.outs os e f → (after : ℕ → Out)
-      → (tail_of g e ≡ a.vertex → f (out_end g e (s.out e)) ≡ out_end g e (after e))
-      → ((i : ℕ) → e ≢ i → out_end g i (s.out i) ≡ out_end g i (after i)) → (i : ℕ) → tail_of g i ≡ a.vertex
-      → out_on os i ≡ out_end g i (after i)
-  out_still e os f change after here rest i at = change.each i ∙ dite (ℕ_discrete e i)
-      (λ y. cond_yes e i _ _ y ∙ ap f (stands.outs i at)
-      ∙ subst (λ (k : ℕ). tail_of g k ≡ a.vertex → f (out_end g k (s.out k)) ≡ out_end g k (after k)) y here at)
-      (λ n. cond_no e i _ _ n ∙ stands.outs i at ∙ rest i n)
-
-  -- what an end shows of its link
-  link_end : (e mult pending : ℕ) {t u : Tail} → t ≡ u
-      → (let n : OutEnd = record { mult = mult; pending = pending; link = tail_state e g.ring t } in n)
-      ≡ record { mult = mult; pending = pending; link = tail_state e g.ring u }
-  link_end e mult pending q = λ j. let n : OutEnd =
-      record { mult = mult; pending = pending; link = tail_state e g.ring (q j) } in n
 
   -- a vertex looks at a cell only with a place left
   pub may_look : (e : ℕ) → tail_of g e ≡ a.vertex → unmet_rule g (Clear e) s ≡ None
@@ -268,245 +258,157 @@ module _ (g : Setting) (s : Part) (a : Actor) (stands : StandsFor g s a) where
       (Rattle.std.proofs.lemmas.Bool.and_from _ _ (ap Rattle.std.proofs.Common.is_none hand) (ap not met.2))
       (Rattle.std.proofs.Common.lt-ltb _ _ (omega arith))
 
+  -- one edge out of the vertex is changed, and the others are as they were
+  module _ (x : Event) (e seen : ℕ) (at : tail_of g e ≡ a.vertex) (mine : part_of g x ≡ a.vertex)
+      (may : unmet_rule g x s ≡ None)
+      (rest : (i : ℕ) → e ≢ i → (does g (saw x seen) s).out i ≡ s.out i)
+      (alike : does g (saw x seen) s ≡ record s { out = (does g (saw x seen) s).out }) where
+    abbrev t : Part
+    t = does g (saw x seen) s
+
+    abbrev o : Out
+    o = t.out e
+
+    -- a sum over the edges out of the vertex changes by the edge's own term
+    moved : (f : Out → ℕ) (was now : ℕ) → was ≡ over_outs g a.vertex (λ i. f (s.out i))
+        → now + f (s.out e) ≡ was + f o → now ≡ over_outs g a.vertex (λ i. f (t.out i))
+    moved f was now sum_is here =
+        let inside = Rattle.chip_actor.proofs.StandingLemmas.out_inside g s a stands e at in
+        let move = tested_move (all_edges g) (λ i. eqb (tail_of g i) a.vertex) (λ i. f (t.out i)) (λ i. f (s.out i)) e
+        (omega arith) (eq-eqb _ _ at) (λ i l ne on. ap f (rest i (λ z. ne (sym z)))) in
+        omega arith
+
+    out_stands : (f : OutEnd → OutEnd) (os : OutEnds) → ChangesOut a.outs os e f
+        → f (out_end g e (s.out e)) ≡ out_end g e o → (b : Books) → edges_of b.outs ≡ edges_of a.detect.outs
+        → edges_of b.ins ≡ edges_of a.detect.ins → KeepsBooks g t a.vertex b → (p u r : ℕ) → p ≤ a.pending
+        → p + (s.out e).pending ≡ a.pending + o.pending → u + held_count (s.out e) ≡ a.unput + held_count o
+        → r + refused_count (s.out e) ≡ a.refused + refused_count o
+        → StandsFor g t (record a { outs = os; detect = b; pending = p; unput = u; refused = r })
+    out_stands f os change here b books_outs books_ins books p u r few pending unput refused = record {
+      knows = knows_still a.chips a.fired a.halt os a.ins b p u r change.edges refl books_outs books_ins;
+      kept = kept_still x seen mine may;
+      few_chips = subst (λ (k : Part). k.chips ≤ max_total) (sym alike) stands.few_chips;
+      few_pending = (let most = stands.few_pending in omega arith);
+      chips = stands.chips ∙ ap (λ (k : Part). k.chips) (sym alike);
+      fired = stands.fired ∙ ap (λ (k : Part). k.fired) (sym alike);
+      halt = stands.halt ∙ ap (λ (k : Part). k.halt) (sym alike);
+      outs = λ i i-at. change.each i ∙ dite (ℕ_discrete e i)
+          (λ y. cond_yes e i _ _ y ∙ ap f (stands.outs i i-at)
+          ∙ subst (λ (k : ℕ). f (out_end g k (s.out k)) ≡ out_end g k (t.out k)) y here)
+          (λ n. cond_no e i _ _ n ∙ stands.outs i i-at ∙ ap (out_end g i) (sym (rest i n)));
+      ins = λ i i-at. stands.ins i i-at ∙ ap (λ (k : Part). head_state i g.ring (k.into i).got) (sym alike);
+      books = books;
+      pending = moved (λ n. n.pending) a.pending p stands.pending pending;
+      unput = moved held_count a.unput u stands.unput unput;
+      refused = moved refused_count a.refused r stands.refused refused;
+    }
+
+    books_kept : claims_of (s.out e).link ≡ claims_of o.link → (s.out e).settled ≡ o.settled
+        → KeepsBooks g t a.vertex a.detect
+    books_kept sent settled = books_still t (ap (λ (k : Part). k.parent) (sym alike))
+        (λ i. ap (λ (k : Part). k.into i) (sym alike))
+        (λ i i-mine. one_edge (λ n. claims_of n.link) sent i) (one_edge (λ n. n.settled) settled)
+      where
+        one_edge : (f : Out → ℕ) → f (s.out e) ≡ f o → (i : ℕ) → f (s.out i) ≡ f (t.out i)
+        one_edge f same i = dite (ℕ_discrete e i) (λ y. subst (λ (k : ℕ). f (s.out k) ≡ f (t.out k)) y same)
+            (λ n. ap f (sym (rest i n)))
+
   pub clears : (e seen : ℕ) → tail_of g e ≡ a.vertex → unmet_rule g (Clear e) s ≡ None → (os : OutEnds)
       → ChangesOut a.outs os e (out_after_clear seen)
       → StandsFor g (does g (saw (Clear e) seen) s) (record a { outs = os })
-  clears e seen at may os change = record {
-    knows = knows_still a.chips a.fired a.halt os a.ins a.detect a.pending a.unput a.refused change.edges refl refl
-        refl;
-    kept = kept_still (Clear e) seen at may;
-    few_chips = stands.few_chips;
-    few_pending = stands.few_pending;
-    chips = stands.chips;
-    fired = stands.fired;
-    halt = stands.halt;
-    outs = out_still e os (out_after_clear seen) change
-        (λ i. record {
-          link = link_after (Clear e) seen i (s.out i);
-          pending = (s.out i).pending;
-          settled = (s.out i).settled;
-        })
-        (λ mine.
-        let o : Out = s.out e in
-        (λ j. let n : OutEnd = record {
-          mult = mult_of g e;
-          pending = o.pending;
-          link = tail_clears e g.ring o.link seen (may_look e at may) j;
-        } in n)
-        ∙ link_end e (mult_of g e) o.pending (sym (cond_yes e e (after_clear seen o.link) o.link refl)))
-        (λ i n. link_end i (mult_of g i) (s.out i).pending
-        (sym (cond_no e i (after_clear seen (s.out i).link) (s.out i).link n)));
-    ins = stands.ins;
-    books = record {
-      sound = stands.books.sound;
-      parent = stands.books.parent;
-      got = stands.books.got;
-      acked = stands.books.acked;
-      sent = λ i mine. stands.books.sent i mine
-          ∙ same_claims (eqb e i) (s.out i).link;
-      settled = stands.books.settled;
-    };
-    pending = stands.pending;
-    unput = stands.unput ∙ tested_ext (all_edges g) (λ i. eqb (tail_of g i) a.vertex)
-        (λ i. length (option_to_list (s.out i).link.held))
-        (λ i. length (option_to_list (link_after (Clear e) seen i (s.out i)).held))
-        (λ i l on. same_held (eqb e i) (s.out i).link);
-    refused = stands.refused ∙ tested_ext (all_edges g) (λ i. eqb (tail_of g i) a.vertex)
-        (λ i. cond (s.out i).link.refused 1 0) (λ i. cond (link_after (Clear e) seen i (s.out i)).refused 1 0)
-        (λ i l on. same_refused (eqb e i) (s.out i).link);
-  }
-    where
-      same_claims : (b : Bool) (t : Tail) → claims_of t ≡ claims_of (cond b (after_clear seen t) t)
-      same_claims true t = refl
-      same_claims false t = refl
-
-      same_held : (b : Bool) (t : Tail)
-          → length (option_to_list t.held) ≡ length (option_to_list (cond b (after_clear seen t) t).held)
-      same_held true t = refl
-      same_held false t = refl
-
-      same_refused : (b : Bool) (t : Tail)
-          → ◌≡◌ {A = ℕ} (cond t.refused 1 0) (cond (cond b (after_clear seen t) t).refused 1 0)
-      same_refused true t = refl
-      same_refused false t = refl
-
-  -- a claim that is taken
-  pub claims : (e seen : ℕ) → tail_of g e ≡ a.vertex → unmet_rule g (Claim e) s ≡ None → seen ≡ claims_of (s.out e).link
-      → (os : OutEnds) → ChangesOut a.outs os e (out_after_claim seen) → (b : Books) → Sends a.detect b e → IsSound b
-      → StandsFor g (does g (saw (Claim e) seen) s)
-      (record a { outs = os; detect = b; pending = a.pending - (s.out e).pending; unput = a.unput + 1 })
-  claims e seen at may hit os change b sends sound =
-      let met = rules_met g (Claim e) s may in
+  clears e seen at may os change =
       let o : Out = s.out e in
-      let out = stands.kept.outs e at in
-      let pends = out.clear_pends met.0 met.2 in
-      let hand = out.free_hand met.0 pends in
-      let empty : length (option_to_list o.link.held) ≡ 0 = ap (λ (h : Option ℕ). length (option_to_list h)) hand in
-      let sent : Tail = record o.link { held = Some o.pending; clear = false } in
-      let is_sent : after_claim o.pending seen o.link ≡ sent = cond_yes seen (claims_of o.link) _ _ hit in
-      let now : (i : ℕ) → e ≡ i
-      → link_after (Claim e) seen i (s.out i) ≡ after_claim (s.out i).pending seen (s.out i).link =
-      (λ i y. cond_yes e i _ _ y) in
-      let else' : (i : ℕ) → e ≢ i → link_after (Claim e) seen i (s.out i) ≡ (s.out i).link = (λ i n. cond_no e i _ _ n)
-      in
-      let link_is : link_after (Claim e) seen e o ≡ sent = now e refl ∙ is_sent in
-      let pending_is : pending_after g (Claim e) seen e o ≡ 0 = cond_yes e e _ _ refl
-      ∙ cond_yes seen (claims_of o.link) _ _ hit in
-      record {
-        knows = knows_still a.chips a.fired a.halt os a.ins b (a.pending - o.pending)
-            (a.unput + 1) a.refused change.edges refl sends.outs.edges (ap edges_of sends.ins);
-        kept = kept_still (Claim e) seen at may;
-        few_chips = stands.few_chips;
-        few_pending = (let few = stands.few_pending in omega arith);
-        chips = stands.chips;
-        fired = stands.fired;
-        halt = stands.halt;
-        outs = out_still e os (out_after_claim seen) change
-            (λ i. record {
-              link = link_after (Claim e) seen i (s.out i);
-              pending = pending_after g (Claim e) seen i (s.out i);
-              settled = (s.out i).settled;
-            })
-            (λ mine.
-            (λ j. let n : OutEnd = record {
-              mult = mult_of g e;
-              pending = cond_yes seen (claims_of o.link) 0 o.pending hit j;
-              link =
-                  (tail_claims e g.ring o.link o.pending seen hand ∙ ap (tail_state e g.ring) is_sent) j;
-            } in n)
-            ∙ (λ j. let n : OutEnd = record {
-              mult = mult_of g e;
-              pending = sym pending_is j;
-              link = tail_state e g.ring (sym link_is j);
-            } in n))
-            (λ i n. λ j. let q : OutEnd = record {
-              mult = mult_of g i;
-              pending = sym (cond_no e i (cond (eqb seen (claims_of (s.out i).link)) 0 (s.out i).pending)
-                  (s.out i).pending n) j;
-              link = tail_state i g.ring (sym (else' i n) j);
-            } in q);
-        ins = stands.ins;
-        books = record {
+      let rest : (i : ℕ) → e ≢ i → (does g (saw (Clear e) seen) s).out i ≡ s.out i = (λ i n j. record (s.out i) {
+        link = cond_no e i (after_clear seen (s.out i).link) (s.out i).link n j;
+      }) in
+      let link : link_after (Clear e) seen e o ≡ after_clear seen o.link = cond_yes e e _ _ refl in
+      out_stands (Clear e) e seen at at may rest refl (out_after_clear seen) os change
+      (λ j. let n : OutEnd = record {
+        mult = mult_of g e;
+        pending = o.pending;
+        link = (tail_clears e g.ring o.link seen (may_look e at may) ∙ ap (tail_state e g.ring) (sym link)) j;
+      } in n)
+      a.detect refl refl (books_kept (Clear e) e seen at at may rest refl (ap claims_of (sym link)) refl) a.pending
+      a.unput a.refused (omega arith) refl
+      (ap (λ (l : Tail). a.unput + length (option_to_list l.held)) (sym link))
+      (ap (λ (l : Tail). a.refused + cond l.refused 1 0) (sym link))
+
+  -- ---- a claim
+
+  module _ (e seen : ℕ) (at : tail_of g e ≡ a.vertex) (may : unmet_rule g (Claim e) s ≡ None) (os : OutEnds)
+      (change : ChangesOut a.outs os e (out_after_claim seen)) where
+    abbrev here : Out
+    here = s.out e
+
+    abbrev later : Part
+    later = does g (saw (Claim e) seen) s
+
+    claim_rest : (i : ℕ) → e ≢ i → later.out i ≡ s.out i
+    claim_rest i n = λ j. record (s.out i) {
+      link = cond_no e i (after_claim (s.out i).pending seen (s.out i).link) (s.out i).link n j;
+      pending = cond_no e i (cond (eqb seen (claims_of (s.out i).link)) 0 (s.out i).pending) (s.out i).pending n j;
+    }
+
+    empty_hand : here.link.held ≡ None
+    empty_hand =
+        let met = rules_met g (Claim e) s may in
+        let out = stands.kept.outs e at in
+        out.free_hand met.0 (out.clear_pends met.0 met.2)
+
+    -- what it leaves, by whether it was taken
+    claim_end : out_after_claim seen (out_end g e here) ≡ out_end g e (later.out e)
+    claim_end = λ j. let n : OutEnd = record {
+      mult = mult_of g e;
+      pending = sym (cond_yes e e (cond (eqb seen (claims_of here.link)) 0 here.pending) here.pending refl) j;
+      link = (tail_claims e g.ring here.link here.pending seen empty_hand
+          ∙ ap (tail_state e g.ring) (sym (cond_yes e e (after_claim here.pending seen here.link) here.link refl))) j;
+    } in n
+
+    -- a claim that is taken
+    pub claims : seen ≡ claims_of here.link → (b : Books) → Sends a.detect b e → IsSound b
+        → StandsFor g later
+        (record a { outs = os; detect = b; pending = a.pending - here.pending; unput = a.unput + 1 })
+    claims hit b sends sound =
+        let link : (later.out e).link ≡ record here.link { held = Some here.pending; clear = false } =
+        cond_yes e e _ _ refl ∙ cond_yes seen (claims_of here.link) _ _ hit in
+        let none : (later.out e).pending ≡ 0 = cond_yes e e _ _ refl ∙ cond_yes seen (claims_of here.link) _ _ hit in
+        let free : held_count here ≡ 0 = ap (λ (h : Option ℕ). length (option_to_list h)) empty_hand in
+        let one : held_count (later.out e) ≡ 1 = ap (λ (t : Tail). length (option_to_list t.held)) link in
+        let inside = Rattle.chip_actor.proofs.StandingLemmas.out_inside g s a stands e at in
+        let term = tested_term (all_edges g) (λ i. eqb (tail_of g i) a.vertex) (λ i. (s.out i).pending) e (omega arith)
+        (eq-eqb _ _ at) in
+        let all = stands.pending in
+        out_stands (Claim e) e seen at at may claim_rest refl (out_after_claim seen) os change claim_end b
+        sends.outs.edges (ap edges_of sends.ins) record {
           sound = sound;
           parent = sends.parent ∙ stands.books.parent;
           got = λ i mine. (λ j. messages_on (sends.ins j) i) ∙ stands.books.got i mine;
           acked = λ i mine. (λ j. answered_on (sends.ins j) i) ∙ stands.books.acked i mine;
           sent = λ i mine. sends.outs.messages i ∙ dite (ℕ_discrete e i)
               (λ y. cond_yes e i _ _ y ∙ subst (λ (k : ℕ). tail_of g k ≡ a.vertex
-              → sent_of a.detect k + 1 ≡ claims_of (link_after (Claim e) seen k (s.out k))) y
-              (λ here. (let was = stands.books.sent e here in let new = ap claims_of link_is in omega arith)) mine)
-              (λ n. cond_no e i _ _ n ∙ stands.books.sent i mine ∙ ap claims_of (sym (else' i n)));
+              → sent_of a.detect k + 1 ≡ claims_of (later.out k).link) y
+              (λ own. (let was = stands.books.sent e own in let new = ap claims_of link in omega arith)) mine)
+              (λ n. cond_no e i _ _ n ∙ stands.books.sent i mine
+              ∙ ap (λ (k : Out). claims_of k.link) (sym (claim_rest i n)));
           settled = λ i mine. sends.outs.answered i ∙ stands.books.settled i mine;
-        };
-        pending =
-            (let move = tested_move (all_edges g) (λ i. eqb (tail_of g i) a.vertex)
-            (λ i. pending_after g (Claim e) seen i (s.out i)) (λ i. (s.out i).pending) e (let z = met.0 in
-            omega arith) (eq-eqb _ _ at) (λ i l ne on. cond_no e i _ _ (λ z. ne (sym z))) in
-            let was = stands.pending in omega arith);
-        unput =
-            (let move = tested_move (all_edges g) (λ i. eqb (tail_of g i) a.vertex)
-            (λ i. length (option_to_list (link_after (Claim e) seen i (s.out i)).held))
-            (λ i. length (option_to_list (s.out i).link.held)) e (let z = met.0 in omega arith) (eq-eqb _ _ at)
-            (λ i l ne on. ap (λ (t : Tail). length (option_to_list t.held)) (else' i (λ z. ne (sym z)))) in
-            let new = ap (λ (t : Tail). length (option_to_list t.held)) link_is in
-            let was = stands.unput in omega arith);
-        refused = stands.refused ∙ tested_ext (all_edges g) (λ i. eqb (tail_of g i) a.vertex)
-            (λ i. cond (s.out i).link.refused 1 0) (λ i. cond (link_after (Claim e) seen i (s.out i)).refused 1 0)
-            (λ i l on. dite (ℕ_discrete e i)
-            (λ y. subst (λ (k : ℕ). ◌≡◌ {A = ℕ} (cond (s.out k).link.refused 1 0)
-            (cond (link_after (Claim e) seen k (s.out k)).refused 1 0)) y
-            (ap (λ (t : Tail). cond t.refused 1 0) (sym link_is)))
-            (λ n. ap (λ (t : Tail). cond t.refused 1 0) (sym (else' i n))));
-      }
+        } (a.pending - here.pending) (a.unput + 1) a.refused (omega arith) (omega arith) (omega arith)
+        (ap (λ (t : Tail). a.refused + cond t.refused 1 0) (sym link))
 
-  -- a claim that a seal refuses
-  pub is_refused : (e seen : ℕ) → tail_of g e ≡ a.vertex → unmet_rule g (Claim e) s ≡ None
-      → seen ≢ claims_of (s.out e).link
-      → (os : OutEnds) → ChangesOut a.outs os e (out_after_claim seen)
-      → StandsFor g (does g (saw (Claim e) seen) s)
-      (record a { outs = os; refused = a.refused + 1 })
-  is_refused e seen at may miss os change =
-      let met = rules_met g (Claim e) s may in
-      let o : Out = s.out e in
-      let out = stands.kept.outs e at in
-      let open' = out.clear_open met.0 met.2 in
-      let hand = out.free_hand met.0 (out.clear_pends met.0 met.2) in
-      let left : Tail = record o.link { clear = false; refused = true } in
-      let is_left : after_claim o.pending seen o.link ≡ left = cond_no seen (claims_of o.link) _ _ miss in
-      let else' : (i : ℕ) → e ≢ i → link_after (Claim e) seen i (s.out i) ≡ (s.out i).link = (λ i n. cond_no e i _ _ n)
-      in
-      let link_is : link_after (Claim e) seen e o ≡ left = cond_yes e e _ _ refl ∙ is_left in
-      let pending_is : pending_after g (Claim e) seen e o ≡ o.pending = cond_yes e e _ _ refl
-      ∙ cond_no seen (claims_of o.link) _ _ miss in
-      let pending_else : (i : ℕ) → e ≢ i
-      → pending_after g (Claim e) seen i (s.out i) ≡ (s.out i).pending = (λ i n. cond_no e i _ _ n) in
-      record {
-        knows = knows_still a.chips a.fired a.halt os a.ins a.detect a.pending a.unput
-            (a.refused + 1) change.edges refl refl refl;
-        kept = kept_still (Claim e) seen at may;
-        few_chips = stands.few_chips;
-        few_pending = stands.few_pending;
-        chips = stands.chips;
-        fired = stands.fired;
-        halt = stands.halt;
-        outs = out_still e os (out_after_claim seen) change
-            (λ i. record {
-              link = link_after (Claim e) seen i (s.out i);
-              pending = pending_after g (Claim e) seen i (s.out i);
-              settled = (s.out i).settled;
-            })
-            (λ mine.
-            (λ j. let n : OutEnd = record {
-              mult = mult_of g e;
-              pending = cond_no seen (claims_of o.link) 0 o.pending miss j;
-              link =
-                  (tail_claims e g.ring o.link o.pending seen hand ∙ ap (tail_state e g.ring) is_left) j;
-            } in n)
-            ∙ (λ j. let n : OutEnd = record {
-              mult = mult_of g e;
-              pending = sym pending_is j;
-              link = tail_state e g.ring (sym link_is j);
-            } in n))
-            (λ i n. λ j. let q : OutEnd = record {
-              mult = mult_of g i;
-              pending = sym (pending_else i n) j;
-              link = tail_state i g.ring (sym (else' i n) j);
-            } in q);
-        ins = stands.ins;
-        books = record {
-          sound = stands.books.sound;
-          parent = stands.books.parent;
-          got = stands.books.got;
-          acked = stands.books.acked;
-          sent = λ i mine. stands.books.sent i mine ∙ dite (ℕ_discrete e i)
-              (λ y. subst (λ (k : ℕ). claims_of (s.out k).link ≡ claims_of (link_after (Claim e) seen k (s.out k))) y
-              (ap claims_of (sym link_is)))
-              (λ n. ap claims_of (sym (else' i n)));
-          settled = stands.books.settled;
-        };
-        pending = stands.pending ∙ tested_ext (all_edges g) (λ i. eqb (tail_of g i) a.vertex) (λ i. (s.out i).pending)
-            (λ i. pending_after g (Claim e) seen i (s.out i))
-            (λ i l on. dite (ℕ_discrete e i)
-            (λ y. subst (λ (k : ℕ). (s.out k).pending ≡ pending_after g (Claim e) seen k (s.out k)) y
-            (sym pending_is)) (λ n. sym (pending_else i n)));
-        unput = stands.unput ∙ tested_ext (all_edges g) (λ i. eqb (tail_of g i) a.vertex)
-            (λ i. length (option_to_list (s.out i).link.held))
-            (λ i. length (option_to_list (link_after (Claim e) seen i (s.out i)).held))
-            (λ i l on. dite (ℕ_discrete e i)
-            (λ y. subst (λ (k : ℕ). length (option_to_list (s.out k).link.held)
-            ≡ length (option_to_list (link_after (Claim e) seen k (s.out k)).held)) y
-            (ap (λ (t : Tail). length (option_to_list t.held)) (sym link_is)))
-            (λ n. ap (λ (t : Tail). length (option_to_list t.held)) (sym (else' i n))));
-        refused =
-            (let move = tested_move (all_edges g) (λ i. eqb (tail_of g i) a.vertex)
-            (λ i. cond (link_after (Claim e) seen i (s.out i)).refused 1 0) (λ i. cond (s.out i).link.refused 1 0) e
-            (let z = met.0 in omega arith) (eq-eqb _ _ at)
-            (λ i l ne on. ap (λ (t : Tail). cond t.refused 1 0) (else' i (λ z. ne (sym z)))) in
-            let new : ◌≡◌ {A = ℕ} (cond (link_after (Claim e) seen e o).refused 1 0) 1 =
-            ap (λ (t : Tail). cond t.refused 1 0) link_is in
-            let old : ◌≡◌ {A = ℕ} (cond o.link.refused 1 0) 0 = ap (λ (b : Bool). cond b 1 0) open' in
-            let was = stands.refused in omega arith);
-      }
+    -- a claim that a seal refuses
+    pub is_refused : seen ≢ claims_of here.link → StandsFor g later (record a { outs = os; refused = a.refused + 1 })
+    is_refused miss =
+        let met = rules_met g (Claim e) s may in
+        let link : (later.out e).link ≡ record here.link { clear = false; refused = true } =
+        cond_yes e e _ _ refl ∙ cond_no seen (claims_of here.link) _ _ miss in
+        let pending : (later.out e).pending ≡ here.pending =
+        cond_yes e e _ _ refl ∙ cond_no seen (claims_of here.link) _ _ miss in
+        let open' : refused_count here ≡ 0 =
+        ap (λ (b : Bool). cond b 1 0) ((stands.kept.outs e at).clear_open met.0 met.2) in
+        let one : refused_count (later.out e) ≡ 1 = ap (λ (t : Tail). cond t.refused 1 0) link in
+        out_stands (Claim e) e seen at at may claim_rest refl (out_after_claim seen) os change claim_end a.detect refl refl
+        (books_kept (Claim e) e seen at at may claim_rest refl (ap claims_of (sym link)) refl) a.pending a.unput
+        (a.refused + 1) (omega arith) (omega arith)
+        (ap (λ (t : Tail). a.unput + length (option_to_list t.held)) (sym link)) (omega arith)
 
   -- a put
   pub puts : (e seen : ℕ) → tail_of g e ≡ a.vertex → unmet_rule g (Put e) s ≡ None → (os : OutEnds)
@@ -515,64 +417,27 @@ module _ (g : Setting) (s : Part) (a : Actor) (stands : StandsFor g s a) where
   puts e seen at may os change =
       let met = rules_met g (Put e) s may in
       let o : Out = s.out e in
-      let else' : (i : ℕ) → e ≢ i → link_after (Put e) seen i (s.out i) ≡ (s.out i).link = (λ i n. cond_no e i _ _ n) in
-      let link_is : link_after (Put e) seen e o ≡ after_put o.link = cond_yes e e _ _ refl in
-      record {
-        knows = knows_still a.chips a.fired a.halt os a.ins a.detect a.pending
-            (a.unput - 1) a.refused change.edges refl refl refl;
-        kept = kept_still (Put e) seen at may;
-        few_chips = stands.few_chips;
-        few_pending = stands.few_pending;
-        chips = stands.chips;
-        fired = stands.fired;
-        halt = stands.halt;
-        outs = out_still e os out_after_put change
-            (λ i. record {
-              link = link_after (Put e) seen i (s.out i);
-              pending = (s.out i).pending;
-              settled = (s.out i).settled;
-            })
-            (λ mine.
-            (λ j. let n : OutEnd = record {
-              mult = mult_of g e;
-              pending = o.pending;
-              link = tail_puts e g.ring o.link j;
-            } in n)
-            ∙ link_end e (mult_of g e) o.pending (sym link_is))
-            (λ i n. link_end i (mult_of g i) (s.out i).pending (sym (else' i n)));
-        ins = stands.ins;
-        books = record {
-          sound = stands.books.sound;
-          parent = stands.books.parent;
-          got = stands.books.got;
-          acked = stands.books.acked;
-          sent = λ i mine. stands.books.sent i mine ∙ dite (ℕ_discrete e i)
-              (λ y. subst (λ (k : ℕ). claims_of (s.out k).link ≡ claims_of (link_after (Put e) seen k (s.out k))) y
-              (same_claims o.link ∙ ap claims_of (sym link_is)))
-              (λ n. ap claims_of (sym (else' i n)));
-          settled = stands.books.settled;
-        };
-        pending = stands.pending;
-        unput =
-            (let move = tested_move (all_edges g) (λ i. eqb (tail_of g i) a.vertex)
-            (λ i. length (option_to_list (link_after (Put e) seen i (s.out i)).held))
-            (λ i. length (option_to_list (s.out i).link.held)) e met.0 (eq-eqb _ _ at)
-            (λ i l ne on. ap (λ (t : Tail). length (option_to_list t.held)) (else' i (λ z. ne (sym z)))) in
-            let new = ap (λ (t : Tail). length (option_to_list t.held)) link_is in
-            let old : length (option_to_list o.link.held) ≡ 1 = ap (λ (h : Option ℕ). length (option_to_list h)) met.1.1
-            in
-            let was = stands.unput in omega arith);
-        refused = stands.refused ∙ tested_ext (all_edges g) (λ i. eqb (tail_of g i) a.vertex)
-            (λ i. cond (s.out i).link.refused 1 0) (λ i. cond (link_after (Put e) seen i (s.out i)).refused 1 0)
-            (λ i l on. dite (ℕ_discrete e i)
-            (λ y. subst (λ (k : ℕ). ◌≡◌ {A = ℕ} (cond (s.out k).link.refused 1 0)
-            (cond (link_after (Put e) seen k (s.out k)).refused 1 0)) y
-            (ap (λ (t : Tail). cond t.refused 1 0) (sym link_is)))
-            (λ n. ap (λ (t : Tail). cond t.refused 1 0) (sym (else' i n))));
-      }
-    where
-      same_claims : (t : Tail) → claims_of t ≡ claims_of (after_put t)
-      same_claims t = let all = Rattle.std.proofs.Common.length-append t.put (option_to_list t.held) in omega arith
+      let rest : (i : ℕ) → e ≢ i → (does g (saw (Put e) seen) s).out i ≡ s.out i = (λ i n j. record (s.out i) {
+        link = cond_no e i (after_put (s.out i).link) (s.out i).link n j;
+      }) in
+      let link : link_after (Put e) seen e o ≡ after_put o.link = cond_yes e e _ _ refl in
+      let sent : claims_of o.link ≡ claims_of (after_put o.link) =
+      (let all = Rattle.std.proofs.Common.length-append o.link.put (option_to_list o.link.held) in omega arith) in
+      let old : held_count o ≡ 1 = ap (λ (h : Option ℕ). length (option_to_list h)) met.1.1 in
+      let new : length (option_to_list (link_after (Put e) seen e o).held) ≡ 0 =
+      ap (λ (t : Tail). length (option_to_list t.held)) link in
+      let term = tested_term (all_edges g) (λ i. eqb (tail_of g i) a.vertex) (λ i. held_count (s.out i)) e met.0
+      (eq-eqb _ _ at) in
+      let all = stands.unput in
+      out_stands (Put e) e seen at at may rest refl out_after_put os change
+      (λ j. let n : OutEnd = record {
+        mult = mult_of g e;
+        pending = o.pending;
+        link = (tail_puts e g.ring o.link ∙ ap (tail_state e g.ring) (sym link)) j;
+      } in n)
+      a.detect refl refl (books_kept (Put e) e seen at at may rest refl (sent ∙ ap claims_of (sym link)) refl) a.pending
+      (a.unput - 1) a.refused (omega arith) refl (omega arith)
+      (ap (λ (t : Tail). a.refused + cond t.refused 1 0) (sym link))
 
   -- ---- a firing
 
@@ -602,14 +467,7 @@ module _ (g : Setting) (s : Part) (a : Actor) (stands : StandsFor g s a) where
                   tail_state i g.ring (s.out i).link;
             } in n);
         ins = stands.ins;
-        books = record {
-          sound = stands.books.sound;
-          parent = stands.books.parent;
-          got = stands.books.got;
-          acked = stands.books.acked;
-          sent = stands.books.sent;
-          settled = stands.books.settled;
-        };
+        books = books_still _ refl (λ e. refl) (λ e mine. refl) (λ e. refl);
         pending =
             (let each = tested_ext (all_edges g) (λ i. eqb (tail_of g i) a.vertex)
             (λ i. pending_after g (Fire v k) seen i (s.out i)) (λ i. mult_of g i * k)

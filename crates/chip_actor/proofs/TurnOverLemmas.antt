@@ -9,9 +9,8 @@ use Rattle.std.specs.List.{Contains}
 use Rattle.chip_graph.proofs.SumLemmas.{cond_true}
 use Rattle.chip_part.specs.Setting.{Setting}
 use Rattle.chip_link.specs.Link.{claims_of}
-use Rattle.chip_link.specs.Ends.{HeadState, head_cell, tail_cell, claim_words, put_of}
+use Rattle.chip_link.specs.Ends.{head_cell, tail_cell, claim_words, put_of}
 use Rattle.chip_detect.specs.Acknowledging as detector
-use Rattle.chip_detect.specs.Books.{in_edges}
 use Rattle.chip_detect.specs.declared.slot.Slot.{Slot}
 use Rattle.chip_detect.specs.Slot.{IsSlotOf}
 use Rattle.chip_part.specs.declared.act.Act.TheVariants as Do
@@ -21,12 +20,11 @@ use Rattle.chip_actor.specs.declared.ends.outs.OutEnd.{OutEnd}
 use Rattle.chip_actor.specs.Ends.{out_on, in_on}
 use Rattle.chip_part.specs.declared.cause.Cause.{Cause}
 use Rattle.chip_part.specs.Part.{Part, cause, is_by_limit, may_ack, all_owed, refusals}
-use Rattle.chip_part.specs.Rules.{Take, Ack, Fire, Clear, Claim, Put, Halt, Settle}
+use Rattle.chip_part.specs.Rules.{Take, Ack, Fire, Clear, Claim, Put, Settle}
 use Rattle.chip_part.specs.Turn.{ins_of, outs_of, may_fire, batch_of, is_at_limit}
-use Rattle.chip_part.specs.declared.cursor.Cursor.{Cursor}
 use Rattle.chip_part.specs.Cursor.{GoesBy, out_at}
 use Rattle.chip_actor.specs.Actor.{Actor, StandsFor, WhateverPart, is_passive_now}
-use Rattle.chip_actor.specs.Medium.{Holding, Meets, Moves}
+use Rattle.chip_actor.specs.Medium.{Holding, Moves}
 use Rattle.chip_actor.proofs.StandingLemmas.{may_ack_is, books_in, books_ins}
 use Rattle.chip_part.proofs.PartLemmas.{may_le}
 use Rattle.chip_part.proofs.TurnStepsLemmas.{take_due, takes_over, settle_due, settles_over, in_enters, out_leaves, fire_due}
@@ -34,68 +32,43 @@ use Rattle.chip_part.proofs.TurnStepsLemmas.{no_fire_due, puts_over, puts_fit, r
 use Rattle.chip_part.proofs.TurnStepsLemmas.{sends_over, claim_due, claim_over, store_due, stop_due, no_limit_due, ack_due}
 use Rattle.chip_part.proofs.TurnStepsLemmas.{acks_to, acks_over, no_parent, parent_due, no_parent_due}
 use Rattle.chip_actor.proofs.TurnActorLemmas.{pending_is, held_at_place, clear_at_place, none_held}
-use Rattle.chip_actor.proofs.MediumLemmas.{DueBy, moves_past, moves_on, turn_ends}
+use Rattle.chip_actor.proofs.MediumLemmas.{Stands, DueBy, moves_past, then_over, turn_ends}
 
--- the edge at an index of the actor's edges is the vertex's there
-module _ (g : Setting) (s : Part) (a : Actor) (stands : StandsFor g s a) (index edge : ℕ) where
-  in_there : slice_index a.ins.edges index ≡ edge → slice_index (ins_of g a.vertex) index ≡ edge
-  in_there is = sym (ap (λ (xs : List ℕ). slice_index xs index) stands.knows.ins) ∙ is
+-- the edge at a slot of the actor's edges is the vertex's there
+module _ {g : Setting} {s : Part} {a : Actor} (stands : StandsFor g s a) {slot : Slot} where
+  in_there : IsSlotOf a.ins.edges slot → slice_index (ins_of g a.vertex) slot.index ≡ slot.edge
+  in_there is = sym (ap (λ (xs : List ℕ). slice_index xs slot.index) stands.knows.ins) ∙ is.edge
 
-  in_within : index < length a.ins.edges → index < length (ins_of g a.vertex)
-  in_within within = subst (λ (xs : List ℕ). index < length xs) stands.knows.ins within
+  in_within : IsSlotOf a.ins.edges slot → slot.index < length (ins_of g a.vertex)
+  in_within is = subst (λ (xs : List ℕ). slot.index < length xs) stands.knows.ins is.within
 
-  in_mine : index < length a.ins.edges → slice_index a.ins.edges index ≡ edge → head_of g edge ≡ a.vertex
-  in_mine within is = ap (head_of g) (sym (in_there is)) ∙ in_enters g a.vertex index (in_within within)
+  pub in_mine : IsSlotOf a.ins.edges slot → head_of g slot.edge ≡ a.vertex
+  in_mine is = ap (head_of g) (sym (in_there is)) ∙ in_enters g a.vertex slot.index (in_within is)
 
-  out_there : slice_index a.outs.edges index ≡ edge → out_at g a.vertex index ≡ edge
-  out_there is = sym (ap (λ (xs : List ℕ). slice_index xs index) stands.knows.outs) ∙ is
+  out_there : IsSlotOf a.outs.edges slot → out_at g a.vertex slot.index ≡ slot.edge
+  out_there is = sym (ap (λ (xs : List ℕ). slice_index xs slot.index) stands.knows.outs) ∙ is.edge
 
-  out_within : index < length a.outs.edges → index < length (outs_of g a.vertex)
-  out_within within = subst (λ (xs : List ℕ). index < length xs) stands.knows.outs within
+  out_within : IsSlotOf a.outs.edges slot → slot.index < length (outs_of g a.vertex)
+  out_within is = subst (λ (xs : List ℕ). slot.index < length xs) stands.knows.outs is.within
 
-  out_mine : index < length a.outs.edges → slice_index a.outs.edges index ≡ edge → tail_of g edge ≡ a.vertex
-  out_mine within is = ap (tail_of g) (sym (out_there is)) ∙ out_leaves g a.vertex index (out_within within)
-
--- an end at an index, and the number that it tells: with the index this is the edge's slot, and the end is the edge's
-pub in_slot : (H : Holding) (a : Actor) (x : Cursor) (slot : Slot) (end : HeadState) → Meets H a x
-    → slot.index < length a.ins.edges → end ≡ in_on a.ins (slice_index a.ins.edges slot.index) → slot.edge ≡ end.edge
-    → IsSlotOf a.ins.edges slot × (end ≡ in_on a.ins slot.edge)
-in_slot H a x slot end (g, ds, s, held, stands, at) within there tells =
-    let edge : ℕ = slice_index a.ins.edges slot.index in
-    let is : edge ≡ slot.edge = sym (tells ∙ ap (λ (h : HeadState). h.edge)
-    (there ∙ stands.ins edge (in_mine g s a stands slot.index edge within refl))) in
-    (record { within = within; edge = is }, there ∙ ap (in_on a.ins) is)
-
-pub out_slot : (H : Holding) (a : Actor) (x : Cursor) (slot : Slot) (end : OutEnd) → Meets H a x
-    → slot.index < length a.outs.edges → end ≡ out_on a.outs (slice_index a.outs.edges slot.index)
-    → slot.edge ≡ end.link.edge → IsSlotOf a.outs.edges slot × (end ≡ out_on a.outs slot.edge)
-out_slot H a x slot end (g, ds, s, held, stands, at) within there tells =
-    let edge : ℕ = slice_index a.outs.edges slot.index in
-    let is : edge ≡ slot.edge = sym (tells ∙ ap (λ (o : OutEnd). o.link.edge)
-    (there ∙ stands.outs edge (out_mine g s a stands slot.index edge within refl))) in
-    (record { within = within; edge = is }, there ∙ ap (out_on a.outs) is)
-
-pub slot_in_books : (H : Holding) (a : Actor) (x : Cursor) (slot : Slot) → Meets H a x → IsSlotOf a.ins.edges slot
-    → IsSlotOf (in_edges a.detect) slot
-slot_in_books H a x slot (g, ds, s, held, stands, at) is =
-    subst (λ (xs : List ℕ). IsSlotOf xs slot) (sym (books_ins g s a stands)) is
+  pub out_mine : IsSlotOf a.outs.edges slot → tail_of g slot.edge ≡ a.vertex
+  out_mine is = ap (tail_of g) (sym (out_there is)) ∙ out_leaves g a.vertex slot.index (out_within is)
 
 -- ---- takes
 
-pub take_by : (a : Actor) (index edge cell : ℕ) → index < length a.ins.edges → slice_index a.ins.edges index ≡ edge
-    → cell ≡ head_cell (in_on a.ins edge)
-    → DueBy a (At.Take index) (Do.Take edge cell) (Take edge) (At.Take (index + 1))
-take_by a index edge cell within is at-cell = λ g s stands at.
-    let v : ℕ = a.vertex in (
-      subst (λ (e : ℕ). GoesBy g v s (At.Take index) (Take e) (At.Take (index + 1)))
-          (in_there g s a stands index edge is)
-          (take_due g v stands.knows.vertex s index (in_within g s a stands index edge within)),
-      ap (Do.Take edge) (at-cell ∙ ap head_cell (stands.ins edge (in_mine g s a stands index edge within is))),
-    )
+pub take_by : {a : Actor} {slot : Slot} {cell : ℕ} → IsSlotOf a.ins.edges slot → cell ≡ head_cell (in_on a.ins slot.edge)
+    → DueBy a (At.Take slot.index) (Do.Take slot.edge cell) (At.Take (slot.index + 1))
+take_by {a} {slot} is at-cell = record {
+  here = λ g s stands at. (
+    subst (λ (e : ℕ). GoesBy g a.vertex s (At.Take slot.index) (Take e) (At.Take (slot.index + 1))) (in_there stands is)
+        (take_due g a.vertex stands.knows.vertex s slot.index (in_within stands is)),
+    ap (Do.Take slot.edge) (at-cell ∙ ap head_cell (stands.ins slot.edge (in_mine stands is))),
+  );
+}
 
-pub takes_end : (H : Holding) (a : Actor) (index : ℕ) → length a.ins.edges ≤ index
+pub takes_end : {H : Holding} {a : Actor} {index : ℕ} → length a.ins.edges ≤ index
     → Moves H a (At.Take index) H a (At.Settle 0) 0
-takes_end H a index over = moves_past H a (At.Take index) (At.Settle 0) (λ g s stands at. (
+takes_end {H} {a} {index} over = moves_past (λ g s stands at. (
   tt,
   takes_over g a.vertex stands.knows.vertex s index
       (subst (λ (xs : List ℕ). length xs ≤ index) stands.knows.ins over),
@@ -103,19 +76,19 @@ takes_end H a index over = moves_past H a (At.Take index) (At.Settle 0) (λ g s 
 
 -- ---- settles
 
-pub settle_by : (a : Actor) (index edge : ℕ) → index < length a.outs.edges → slice_index a.outs.edges index ≡ edge
-    → DueBy a (At.Settle index) (Do.Settle edge) (Settle edge) (At.Settle (index + 1))
-settle_by a index edge within is = λ g s stands at.
-    let v : ℕ = a.vertex in (
-      subst (λ (e : ℕ). GoesBy g v s (At.Settle index) (Settle e) (At.Settle (index + 1)))
-          (out_there g s a stands index edge is)
-          (settle_due g v stands.knows.vertex s index (out_within g s a stands index edge within)),
-      refl,
-    )
+pub settle_by : {a : Actor} {slot : Slot} → IsSlotOf a.outs.edges slot
+    → DueBy a (At.Settle slot.index) (Do.Settle slot.edge) (At.Settle (slot.index + 1))
+settle_by {a} {slot} is = record {
+  here = λ g s stands at. (
+    subst (λ (e : ℕ). GoesBy g a.vertex s (At.Settle slot.index) (Settle e) (At.Settle (slot.index + 1)))
+        (out_there stands is) (settle_due g a.vertex stands.knows.vertex s slot.index (out_within stands is)),
+    refl,
+  );
+}
 
-pub settles_end : (H : Holding) (a : Actor) (index : ℕ) → length a.outs.edges ≤ index
+pub settles_end : {H : Holding} {a : Actor} {index : ℕ} → length a.outs.edges ≤ index
     → Moves H a (At.Settle index) H a At.Fire 0
-settles_end H a index over = moves_past H a (At.Settle index) At.Fire (λ g s stands at. (
+settles_end {H} {a} {index} over = moves_past (λ g s stands at. (
   tt,
   settles_over g a.vertex stands.knows.vertex s index
       (subst (λ (xs : List ℕ). length xs ≤ index) stands.knows.outs over),
@@ -123,22 +96,22 @@ settles_end H a index over = moves_past H a (At.Settle index) At.Fire (λ g s st
 
 -- ---- the firing
 
-pub fire_by : (a : Actor) (k : ℕ) → WhateverPart a (λ g s. true ≡ may_fire g a.vertex s)
-    → WhateverPart a (λ g s. k ≡ batch_of g a.vertex s) → DueBy a At.Fire (Do.Fire k) (Fire a.vertex k) (At.Put 0)
-fire_by a k may batch = λ g s stands at. (
-  subst (λ (n : ℕ). GoesBy g a.vertex s At.Fire (Fire a.vertex n) (At.Put 0)) (sym (batch g s stands))
-      (fire_due g a.vertex stands.knows.vertex s stands.knows.setting.game (sym (may g s stands))),
-  refl,
-)
+pub fire_by : {a : Actor} {k : ℕ} → WhateverPart a (λ g s. true ≡ may_fire g a.vertex s)
+    → WhateverPart a (λ g s. k ≡ batch_of g a.vertex s) → DueBy a At.Fire (Do.Fire k) (At.Put 0)
+fire_by {a} {k} may batch = record {
+  here = λ g s stands at. (
+    subst (λ (n : ℕ). GoesBy g a.vertex s At.Fire (Fire a.vertex n) (At.Put 0)) (sym (batch g s stands))
+        (fire_due g a.vertex stands.knows.vertex s stands.knows.setting.game (sym (may g s stands))),
+    refl,
+  );
+}
 
-pub no_fire : (H : Holding) (a : Actor) → WhateverPart a (λ g s. false ≡ may_fire g a.vertex s)
+pub no_fire : {H : Holding} {a : Actor} → WhateverPart a (λ g s. false ≡ may_fire g a.vertex s)
     → Moves H a At.Fire H a (At.Put 0) 0
-no_fire H a may = moves_past H a At.Fire (At.Put 0)
-    (λ g s stands at. (
-      (λ k l. absurd (omega arith)),
-      no_fire_due g a.vertex stands.knows.vertex s
-          (sym (may g s stands)),
-    ))
+no_fire {H} {a} may = moves_past (λ g s stands at. (
+  (λ k l. absurd (omega arith)),
+  no_fire_due g a.vertex stands.knows.vertex s (sym (may g s stands)),
+))
 
 -- ---- sends
 
@@ -147,227 +120,224 @@ runs None on = refl
 runs (Some c) on = absurd (cc)
 
 -- nothing is left from before the turn, and the edges are gone through
-pub nothing_before : (H : Holding) (a : Actor) → (is_none a.halt && eqb a.unput 0 && eqb a.refused 0) ≡ true
+pub nothing_before : {H : Holding} {a : Actor} → (is_none a.halt && eqb a.unput 0 && eqb a.refused 0) ≡ true
     → Moves H a (At.Put 0) H a (At.Send 0) 0
-nothing_before H a may =
+nothing_before {H} {a} may =
     let p = and_parts _ _ may in
     let q = and_parts _ _ p.0 in
     let none-held : a.unput ≡ 0 = eqb-true _ _ q.1 in
     let none-refused : a.refused ≡ 0 = eqb-true _ _ p.1 in
-    moves_on H H H a a a (At.Put 0) At.Refusal (At.Send 0) 0 0
-    (moves_past H a (At.Put 0) At.Refusal (λ g s stands at. let none = none_held g s a stands none-held in (
+    then_over {y = At.Refusal}
+    (moves_past (λ g s stands at. let none = none_held g s a stands none-held in (
       puts_fit g a.vertex stands.knows.vertex s 0 at (λ k le within. none k within),
       puts_over g a.vertex stands.knows.vertex s 0 (λ k le within. none k within),
     )))
-    (moves_past H a At.Refusal (At.Send 0) (λ g s stands at.
+    (moves_past (λ g s stands at.
     let running = runs s.halt (sym (ap is_none stands.halt) ∙ q.0) in
     let none : refusals g a.vertex s ≡ 0 = sym stands.refused ∙ none-refused in (
       sends_begin g a.vertex stands.knows.vertex s at running none,
       refusal_none g a.vertex stands.knows.vertex s running none,
     )))
 
-module _ (a : Actor) (index edge : ℕ) (within : index < length a.outs.edges) (is : slice_index a.outs.edges index
-    ≡ edge) where
-  pub clear_by : (cell : ℕ) → (out_on a.outs edge).pending ≢ 0 → cell ≡ tail_cell (out_on a.outs edge).link
-      → DueBy a (At.Send index) (Do.Clear edge cell) (Clear edge) (At.Claim index)
-  clear_by cell pends at-cell = λ g s stands at.
-      let v : ℕ = a.vertex in
-      let there = out_there g s a stands index edge is in
-      let mine = out_mine g s a stands index edge within is in
-      let some : not (eqb (s.out (out_at g v index)).pending 0) ≡ true
-      = ap not (ne_eqb _ _ (λ z. pends (pending_is g s a stands edge mine
-      ∙ ap (λ (e : ℕ). (s.out e).pending) (sym there) ∙ z))) in (
-        subst (λ (e : ℕ). GoesBy g v s (At.Send index) (Clear e) (At.Claim index)) there
-            (send_due g v stands.knows.vertex s index index at (omega arith)
-            (out_within g s a stands index edge within) some (λ k le lt. absurd (omega arith))),
-        ap (Do.Clear edge) (at-cell ∙ ap (λ (o : OutEnd). tail_cell o.link) (stands.outs edge mine)),
-      )
+-- what the actor tells of the edge at a slot, by its index
+at_index : (a : Actor) {slot : Slot} → IsSlotOf a.outs.edges slot → (P : OutEnd → Bool)
+    → P (out_on a.outs slot.edge) ≡ P (out_on a.outs (slice_index a.outs.edges slot.index))
+at_index a is P = ap (λ (e : ℕ). P (out_on a.outs e)) (sym is.edge)
 
-  pub send_none : (H : Holding) → (out_on a.outs edge).pending ≡ 0
-      → Moves H a (At.Send index) H a (At.Send (index + 1)) 0
-  send_none H none = moves_past H a (At.Send index) (At.Send (index + 1)) (λ g s stands at.
+stored_act : (edge n : ℕ) (h : Option ℕ) (w : ℕ × ℕ) → Some w ≡ option_map (λ (c : ℕ). (n, c)) h
+    → Do.Put edge w.0 w.1 ≡ Do.Put edge n (sum (option_to_list h))
+stored_act edge n None w none = absurd (differ none)
+  where
+    differ : {w : ℕ × ℕ} → Some w ≡ None → ⊥
+    differ q = cc
+stored_act edge n (Some c) w some =
+    let one : w ≡ (n, c) = cc in
+    let second : w.1 ≡ c = ap (λ (p : ℕ × ℕ). p.1) one in
+    let value : w.1 ≡ sum (option_to_list (Some c)) = omega (arith, second, sum_by-cons (λ (x : ℕ). x) c []) in
+    (λ j. Do.Put edge (one j).0 (value j))
+
+module _ {a : Actor} {slot : Slot} (is : IsSlotOf a.outs.edges slot) where
+  pub clear_by : {cell : ℕ} → (out_on a.outs slot.edge).pending ≢ 0 → cell ≡ tail_cell (out_on a.outs slot.edge).link
+      → DueBy a (At.Send slot.index) (Do.Clear slot.edge cell) (At.Claim slot.index)
+  clear_by {cell} pends at-cell = record {
+    here = λ g s stands at.
+        let v : ℕ = a.vertex in
+        let mine = out_mine stands is in
+        let some : not (eqb (s.out (out_at g v slot.index)).pending 0) ≡ true
+        = ap not (ne_eqb _ _ (λ z. pends (pending_is g s a stands slot.edge mine
+        ∙ ap (λ (e : ℕ). (s.out e).pending) (sym (out_there stands is)) ∙ z))) in (
+          subst (λ (e : ℕ). GoesBy g v s (At.Send slot.index) (Clear e) (At.Claim slot.index)) (out_there stands is)
+              (send_due g v stands.knows.vertex s slot.index slot.index at (omega arith) (out_within stands is) some
+              (λ k le lt. absurd (omega arith))),
+          ap (Do.Clear slot.edge) (at-cell ∙ ap (λ (o : OutEnd). tail_cell o.link) (stands.outs slot.edge mine)),
+        );
+  }
+
+  pub send_none : {H : Holding} → (out_on a.outs slot.edge).pending ≡ 0
+      → Moves H a (At.Send slot.index) H a (At.Send (slot.index + 1)) 0
+  send_none none = moves_past (λ g s stands at.
       let v : ℕ = a.vertex in
-      let there = out_there g s a stands index edge is in
-      let mine = out_mine g s a stands index edge within is in
-      let inside = out_within g s a stands index edge within in
-      let zero : not (eqb (s.out (out_at g v index)).pending 0) ≡ false
-      = ap not (eq-eqb _ _ (ap (λ (e : ℕ). (s.out e).pending) there ∙ sym (pending_is g s a stands edge mine) ∙ none))
-      in (
+      let inside = out_within stands is in
+      let zero : not (eqb (s.out (out_at g v slot.index)).pending 0) ≡ false
+      = ap not (eq-eqb _ _ (ap (λ (e : ℕ). (s.out e).pending) (out_there stands is)
+      ∙ sym (pending_is g s a stands slot.edge (out_mine stands is)) ∙ none)) in (
         at,
-        sends_to g v stands.knows.vertex s index (index + 1) (omega arith) (omega arith)
+        sends_to g v stands.knows.vertex s slot.index (slot.index + 1) (omega arith) (omega arith)
             (λ k le lt. subst (λ (i : ℕ). not (eqb (s.out (out_at g v i)).pending 0) ≡ false)
-            (let z : index ≡ k = omega arith in z) zero),
+            (let z : slot.index ≡ k = omega arith in z) zero),
       ))
 
-  -- what the actor tells of the edge, by its index
-  at_index : (P : OutEnd → Bool) → P (out_on a.outs edge) ≡ P (out_on a.outs (slice_index a.outs.edges index))
-  at_index P = ap (λ (e : ℕ). P (out_on a.outs e)) (sym is)
+  pub claim_by : {w : ℕ × ℕ} → Some w ≡ claim_words (out_on a.outs slot.edge).link
+      → DueBy a (At.Claim slot.index) (Do.Claim slot.edge w.0 w.1) (At.Store slot.index)
+  claim_by {w} words = record {
+    here = λ g s stands at.
+        let v : ℕ = a.vertex in
+        let clear = sym (clear_at_place g s a stands a refl slot.index at.0)
+        ∙ sym (at_index a is (λ (o : OutEnd). is_some (claim_words o.link))) ∙ sym (ap is_some words) in
+        let n : ℕ = claims_of (s.out slot.edge).link in
+        let same : Some w ≡ Some (n, n + 1)
+        = words ∙ ap (λ (o : OutEnd). claim_words o.link) (stands.outs slot.edge (out_mine stands is))
+        ∙ cond_true (s.out slot.edge).link.clear (Some (n, n + 1)) None (ap (λ (e : ℕ). (s.out e).link.clear)
+        (sym (out_there stands is)) ∙ clear) in
+        let one : w ≡ (n, n + 1) = cc in (
+          subst (λ (e : ℕ). GoesBy g v s (At.Claim slot.index) (Claim e) (At.Store slot.index)) (out_there stands is)
+              (claim_due g v stands.knows.vertex s slot.index at clear),
+          (λ j. Do.Claim slot.edge (one j).0 (one j).1),
+        );
+  }
 
-  pub claim_by : (w : ℕ × ℕ) → Some w ≡ claim_words (out_on a.outs edge).link
-      → DueBy a (At.Claim index) (Do.Claim edge w.0 w.1) (Claim edge) (At.Store index)
-  claim_by w words = λ g s stands at.
-      let v : ℕ = a.vertex in
-      let there = out_there g s a stands index edge is in
-      let mine = out_mine g s a stands index edge within is in
-      let clear = sym (clear_at_place g s a stands a refl index at.0)
-      ∙ sym (at_index (λ (o : OutEnd). is_some (claim_words o.link))) ∙ sym (ap is_some words) in
-      let n : ℕ = claims_of (s.out edge).link in
-      let same : Some w ≡ Some (n, n + 1)
-      = words ∙ ap (λ (o : OutEnd). claim_words o.link) (stands.outs edge mine)
-      ∙ cond_true (s.out edge).link.clear (Some (n, n + 1)) None (ap (λ (e : ℕ). (s.out e).link.clear) (sym there)
-      ∙ clear) in
-      let one : w ≡ (n, n + 1) = cc in (
-        subst (λ (e : ℕ). GoesBy g v s (At.Claim index) (Claim e) (At.Store index)) there
-            (claim_due g v stands.knows.vertex s index at clear),
-        (λ j. Do.Claim edge (one j).0 (one j).1),
-      )
+  pub claim_none : {H : Holding} → None ≡ claim_words (out_on a.outs slot.edge).link
+      → Moves H a (At.Claim slot.index) H a (At.Send (slot.index + 1)) 0
+  claim_none words = moves_past (λ g s stands at.
+      let full = sym (clear_at_place g s a stands a refl slot.index at.0)
+      ∙ sym (at_index a is (λ (o : OutEnd). is_some (claim_words o.link))) ∙ sym (ap is_some words) in
+      (at.1, claim_over g a.vertex stands.knows.vertex s slot.index at full))
 
-  pub claim_none : (H : Holding) → None ≡ claim_words (out_on a.outs edge).link
-      → Moves H a (At.Claim index) H a (At.Send (index + 1)) 0
-  claim_none H words = moves_past H a (At.Claim index) (At.Send (index + 1)) (λ g s stands at.
-      let full = sym (clear_at_place g s a stands a refl index at.0)
-      ∙ sym (at_index (λ (o : OutEnd). is_some (claim_words o.link))) ∙ sym (ap is_some words) in
-      (at.1, claim_over g a.vertex stands.knows.vertex s index at full))
+  pub store_by : {w : ℕ × ℕ} → Some w ≡ put_of (out_on a.outs slot.edge).link
+      → DueBy a (At.Store slot.index) (Do.Put slot.edge w.0 w.1) (At.Send (slot.index + 1))
+  store_by {w} stored = record {
+    here = λ g s stands at.
+        let v : ℕ = a.vertex in
+        let held = sym (held_at_place g s a stands a refl slot.index at.0)
+        ∙ sym (at_index a is (λ (o : OutEnd). is_some (put_of o.link))) ∙ sym (ap is_some stored) in (
+          subst (λ (e : ℕ). GoesBy g v s (At.Store slot.index) (Put e) (At.Send (slot.index + 1))) (out_there stands is)
+              (store_due g v stands.knows.vertex s slot.index at held),
+          stored_act slot.edge ((claims_of (s.out slot.edge).link - 1) % g.ring) (s.out slot.edge).link.held w (stored
+              ∙ ap (λ (o : OutEnd). put_of o.link) (stands.outs slot.edge (out_mine stands is))),
+        );
+  }
 
-  stored_act : (n : ℕ) (h : Option ℕ) (w : ℕ × ℕ) → Some w ≡ option_map (λ (c : ℕ). (n, c)) h
-      → Do.Put edge w.0 w.1 ≡ Do.Put edge n (sum (option_to_list h))
-  stored_act n None w none = absurd (differ none)
-    where
-      differ : {w : ℕ × ℕ} → Some w ≡ None → ⊥
-      differ q = cc
-  stored_act n (Some c) w some =
-      let one : w ≡ (n, c) = cc in
-      let second : w.1 ≡ c = ap (λ (p : ℕ × ℕ). p.1) one in
-      let value : w.1 ≡ sum (option_to_list (Some c)) = omega (arith, second, sum_by-cons (λ (x : ℕ). x) c []) in
-      (λ j. Do.Put edge (one j).0 (value j))
-
-  pub store_by : (w : ℕ × ℕ) → Some w ≡ put_of (out_on a.outs edge).link
-      → DueBy a (At.Store index) (Do.Put edge w.0 w.1) (Put edge) (At.Send (index + 1))
-  store_by w stored = λ g s stands at.
-      let v : ℕ = a.vertex in
-      let there = out_there g s a stands index edge is in
-      let mine = out_mine g s a stands index edge within is in
-      let held = sym (held_at_place g s a stands a refl index at.0)
-      ∙ sym (at_index (λ (o : OutEnd). is_some (put_of o.link))) ∙ sym (ap is_some stored) in (
-        subst (λ (e : ℕ). GoesBy g v s (At.Store index) (Put e) (At.Send (index + 1))) there
-            (store_due g v stands.knows.vertex s index at held),
-        stored_act ((claims_of (s.out edge).link - 1) % g.ring) (s.out edge).link.held w (stored
-            ∙ ap (λ (o : OutEnd). put_of o.link) (stands.outs edge mine)),
-      )
-
-  pub stop_by : (by_limit : Bool) → None ≡ put_of (out_on a.outs edge).link
+  pub stop_by : {by_limit : Bool} → None ≡ put_of (out_on a.outs slot.edge).link
       → WhateverPart a (λ g s. by_limit ≡ is_by_limit (cause g a.vertex s))
-      → DueBy a (At.Store index) (Do.Halt by_limit) (Halt a.vertex) At.Limit
-  stop_by by_limit stored why = λ g s stands at.
-      let none = sym (held_at_place g s a stands a refl index at.0)
-      ∙ sym (at_index (λ (o : OutEnd). is_some (put_of o.link))) ∙ sym (ap is_some stored) in
-      (stop_due g a.vertex stands.knows.vertex s stands.knows.setting.game index at none, ap Do.Halt (why g s stands))
+      → DueBy a (At.Store slot.index) (Do.Halt by_limit) At.Limit
+  stop_by {by_limit} stored why = record {
+    here = λ g s stands at.
+        let none = sym (held_at_place g s a stands a refl slot.index at.0)
+        ∙ sym (at_index a is (λ (o : OutEnd). is_some (put_of o.link))) ∙ sym (ap is_some stored) in
+        (stop_due g a.vertex stands.knows.vertex s stands.knows.setting.game slot.index at none, ap Do.Halt (why g s stands));
+  }
 
-pub sends_end : (H : Holding) (a : Actor) (index : ℕ) → length a.outs.edges ≤ index
+pub sends_end : {H : Holding} {a : Actor} {index : ℕ} → length a.outs.edges ≤ index
     → Moves H a (At.Send index) H a At.Limit 0
-sends_end H a index over = moves_past H a (At.Send index) At.Limit (λ g s stands at.
+sends_end {H} {a} {index} over = moves_past (λ g s stands at.
     let past = subst (λ (xs : List ℕ). length xs ≤ index) stands.knows.outs over in
     (at.held, sends_over g a.vertex stands.knows.vertex s index (λ k le within. absurd (omega arith))))
 
-pub no_limit : (H : Holding) (a : Actor) → WhateverPart a (λ g s. false ≡ is_at_limit g a.vertex s)
+pub no_limit : {H : Holding} {a : Actor} → WhateverPart a (λ g s. false ≡ is_at_limit g a.vertex s)
     → Moves H a At.Limit H a (At.Ack 0) 0
-no_limit H a off = moves_past H a At.Limit (At.Ack 0)
+no_limit {H} {a} off = moves_past
     (λ g s stands at. (tt, no_limit_due g a.vertex stands.knows.vertex s (sym (off g s stands))))
 
 -- ---- acknowledgements
 
-module _ (a : Actor) (index edge count : ℕ) (within : index < length a.ins.edges) (is : slice_index a.ins.edges index
-    ≡ edge) (count-is : count ≡ detector.may_ack a.detect edge (is_passive_now a)) where
+module _ {a : Actor} {slot : Slot} {count : ℕ} (is : IsSlotOf a.ins.edges slot)
+    (count-is : count ≡ detector.may_ack a.detect slot.edge (is_passive_now a)) where
   -- the count is the part's
-  part_count : (g : Setting) (s : Part) (stands : StandsFor g s a) → count ≡ may_ack g (head_of g edge) s edge
-  part_count g s stands = count-is ∙ may_ack_is g s a stands edge (in_mine g s a stands index edge within is)
+  part_count : (g : Setting) (s : Part) (stands : StandsFor g s a) → count ≡ may_ack g (head_of g slot.edge) s slot.edge
+  part_count g s stands = count-is ∙ may_ack_is g s a stands slot.edge (in_mine stands is)
 
   here_count : (g : Setting) (s : Part) (stands : StandsFor g s a)
-      → count ≡ may_ack g (head_of g (slice_index (ins_of g a.vertex) index)) s (slice_index (ins_of g a.vertex) index)
+      → (let e : ℕ = slice_index (ins_of g a.vertex) slot.index in count ≡ may_ack g (head_of g e) s e)
   here_count g s stands = part_count g s stands
-      ∙ ap (λ (e : ℕ). may_ack g (head_of g e) s e) (sym (in_there g s a stands index edge is))
+      ∙ ap (λ (e : ℕ). may_ack g (head_of g e) s e) (sym (in_there stands is))
 
-  pub ack_by : count ≢ 0 → DueBy a (At.Ack index) (Do.Ack edge count) (Ack edge) (At.Ack (index + 1))
-  ack_by some = λ g s stands at.
-      let v : ℕ = a.vertex in (
-        subst (λ (e : ℕ). GoesBy g v s (At.Ack index) (Ack e) (At.Ack (index + 1)))
-            (in_there g s a stands index edge is)
-            (ack_due g v stands.knows.vertex s index index (omega arith) (in_within g s a stands index edge within)
-            (ap not (ne_eqb _ _ (λ z. some (here_count g s stands ∙ z)))) (λ k le lt. absurd (omega arith))),
-        ap (Do.Ack edge) (part_count g s stands),
-      )
+  pub ack_by : count ≢ 0 → DueBy a (At.Ack slot.index) (Do.Ack slot.edge count) (At.Ack (slot.index + 1))
+  ack_by some = record {
+    here = λ g s stands at. (
+      subst (λ (e : ℕ). GoesBy g a.vertex s (At.Ack slot.index) (Ack e) (At.Ack (slot.index + 1))) (in_there stands is)
+          (ack_due g a.vertex stands.knows.vertex s slot.index slot.index (omega arith) (in_within stands is)
+          (ap not (ne_eqb _ _ (λ z. some (here_count g s stands ∙ z)))) (λ k le lt. absurd (omega arith))),
+      ap (Do.Ack slot.edge) (part_count g s stands),
+    );
+  }
 
-  pub ack_none : (H : Holding) → count ≡ 0 → Moves H a (At.Ack index) H a (At.Ack (index + 1)) 0
-  ack_none H none = moves_past H a (At.Ack index) (At.Ack (index + 1)) (λ g s stands at.
+  pub ack_none : {H : Holding} → count ≡ 0 → Moves H a (At.Ack slot.index) H a (At.Ack (slot.index + 1)) 0
+  ack_none none = moves_past (λ g s stands at.
       let v : ℕ = a.vertex in
-      let inside = in_within g s a stands index edge within in
-      let zero : not (eqb (may_ack g (head_of g (slice_index (ins_of g v) index)) s (slice_index (ins_of g v) index)) 0)
-      ≡ false = ap not (eq-eqb _ _ (sym (here_count g s stands) ∙ none)) in (
+      let inside = in_within stands is in
+      let idle : ℕ → Type 0 = (λ i. let e : ℕ = slice_index (ins_of g v) i in
+      not (eqb (may_ack g (head_of g e) s e) 0) ≡ false) in
+      let zero : idle slot.index = ap not (eq-eqb _ _ (sym (here_count g s stands) ∙ none)) in (
         tt,
-        acks_to g v stands.knows.vertex s index (index + 1) (omega arith) (omega arith)
-            (λ k le lt. subst (λ (i : ℕ). not
-            (eqb (may_ack g (head_of g (slice_index (ins_of g v) i)) s (slice_index (ins_of g v) i)) 0) ≡ false)
-            (let z : index ≡ k = omega arith in z) zero),
+        acks_to g v stands.knows.vertex s slot.index (slot.index + 1) (omega arith) (omega arith)
+            (λ k le lt. subst idle (let z : slot.index ≡ k = omega arith in z) zero),
       ))
 
-pub acks_end : (H : Holding) (a : Actor) (index : ℕ) → length a.ins.edges ≤ index
+pub acks_end : {H : Holding} {a : Actor} {index : ℕ} → length a.ins.edges ≤ index
     → Moves H a (At.Ack index) H a At.Parent 0
-acks_end H a index over = moves_past H a (At.Ack index) At.Parent (λ g s stands at.
+acks_end {H} {a} {index} over = moves_past (λ g s stands at.
     let past = subst (λ (xs : List ℕ). length xs ≤ index) stands.knows.ins over in
     (tt, acks_over g a.vertex stands.knows.vertex s index (λ k le within. absurd (omega arith))))
 
--- the edge of the message that engaged the vertex is one into it
-pub parent_among : (H : Holding) (a : Actor) (edge : ℕ) → Meets H a At.Parent → a.detect.parent ≡ Some edge
-    → Contains a.ins.edges edge
-parent_among H a edge (g, ds, s, held, stands, at) parent =
-    let is : s.parent ≡ Some edge = sym stands.books.parent ∙ parent in
-    subst (λ (xs : List ℕ). Contains xs edge) (stands.knows.detect_ins ∙ sym stands.knows.ins)
-    (books_in g s a stands edge (stands.kept.parents edge is).1)
-
-pub no_parent_left : (H : Holding) (a : Actor) → a.detect.parent ≡ None → Moves H a At.Parent H a At.Over 0
-no_parent_left H a none = turn_ends H a At.Parent (λ g s stands at.
+pub no_parent_left : {H : Holding} {a : Actor} → a.detect.parent ≡ None → Moves H a At.Parent H a At.Over 0
+no_parent_left {H} {a} none = turn_ends (λ g s stands at.
     no_parent g a.vertex stands.knows.vertex s (sym stands.books.parent ∙ none))
 
-module _ (a : Actor) (edge count : ℕ) (parent : a.detect.parent ≡ Some edge)
-    (count-is : count ≡ detector.may_ack a.detect edge (is_passive_now a)) where
-  -- it is the part's parent edge, and the count is the part's
-  is_parent : (g : Setting) (s : Part) (stands : StandsFor g s a) → s.parent ≡ Some edge
-  is_parent g s stands = sym stands.books.parent ∙ parent
+module _ {a : Actor} {edge : ℕ} (parent : a.detect.parent ≡ Some edge) where
+  -- it is the part's parent edge, and one into the vertex
+  is_parent : {g : Setting} {s : Part} → StandsFor g s a → s.parent ≡ Some edge
+  is_parent stands = sym stands.books.parent ∙ parent
 
-  parent_mine : (g : Setting) (s : Part) (stands : StandsFor g s a) → head_of g edge ≡ a.vertex
-  parent_mine g s stands = (stands.kept.parents edge (is_parent g s stands)).1
+  parent_mine : {g : Setting} {s : Part} → StandsFor g s a → head_of g edge ≡ a.vertex
+  parent_mine stands = (stands.kept.parents edge (is_parent stands)).1
 
-  parent_count : (g : Setting) (s : Part) (stands : StandsFor g s a) → count ≡ may_ack g (head_of g edge) s edge
-  parent_count g s stands = count-is ∙ may_ack_is g s a stands edge (parent_mine g s stands)
+  pub parent_among : Stands a → Contains a.ins.edges edge
+  parent_among (g, s, stands) = subst (λ (xs : List ℕ). Contains xs edge)
+      (stands.knows.detect_ins ∙ sym stands.knows.ins) (books_in g s a stands edge (parent_mine stands))
 
-  pub parent_by : count ≢ 0 → DueBy a At.Parent (Do.Ack edge count) (Ack edge) At.Over
-  parent_by some = λ g s stands at. (
-    parent_due g a.vertex stands.knows.vertex s edge (is_parent g s stands) (parent_mine g s stands)
-        (ap not (ne_eqb _ _ (λ z. some (parent_count g s stands ∙ z)))),
-    ap (Do.Ack edge) (parent_count g s stands),
-  )
+  module _ {count : ℕ} (count-is : count ≡ detector.may_ack a.detect edge (is_passive_now a)) where
+    parent_count : (g : Setting) (s : Part) (stands : StandsFor g s a) → count ≡ may_ack g (head_of g edge) s edge
+    parent_count g s stands = count-is ∙ may_ack_is g s a stands edge (parent_mine stands)
 
-  pub parent_none : (H : Holding) → count ≡ 0 → Moves H a At.Parent H a At.Over 0
-  parent_none H none = turn_ends H a At.Parent (λ g s stands at.
-      no_parent_due g a.vertex stands.knows.vertex s edge (is_parent g s stands) (sym (parent_count g s stands) ∙ none))
+    pub parent_by : count ≢ 0 → DueBy a At.Parent (Do.Ack edge count) At.Over
+    parent_by some = record {
+      here = λ g s stands at. (
+        parent_due g a.vertex stands.knows.vertex s edge (is_parent stands) (parent_mine stands)
+            (ap not (ne_eqb _ _ (λ z. some (parent_count g s stands ∙ z)))),
+        ap (Do.Ack edge) (parent_count g s stands),
+      );
+    }
+
+    pub parent_none : {H : Holding} → count ≡ 0 → Moves H a At.Parent H a At.Over 0
+    parent_none none = turn_ends (λ g s stands at.
+        no_parent_due g a.vertex stands.knows.vertex s edge (is_parent stands) (sym (parent_count g s stands) ∙ none))
 
 neutral : (p : Option ℕ) → is_some p ≡ false → p ≡ None
 neutral None off = refl
 neutral (Some e) off = absurd (cc)
 
 -- a vertex that isn't engaged owes nothing
-pub nothing_owed : (H : Holding) (a : Actor) → is_some a.detect.parent ≡ false → Moves H a (At.Ack 0) H a At.Over 0
-nothing_owed H a off =
-    moves_on H H H a a a (At.Ack 0) At.Parent At.Over 0 0
-    (moves_past H a (At.Ack 0) At.Parent (λ g s stands at.
-    let v : ℕ = a.vertex in
-    let none : s.parent ≡ None = sym stands.books.parent ∙ neutral a.detect.parent off in (
+pub nothing_owed : {H : Holding} {a : Actor} → is_some a.detect.parent ≡ false → Moves H a (At.Ack 0) H a At.Over 0
+nothing_owed {H} {a} off = then_over {y = At.Parent}
+    (moves_past (λ g s stands at.
+    let v : ℕ = a.vertex in (
       tt,
       acks_over g v stands.knows.vertex s 0
           (λ k le within. ap not (eq-eqb _ _
-          (owes_none g s a stands none (slice_index (ins_of g v) k) (in_enters g v k within)))),
+          (owes_none g s a stands (sym stands.books.parent ∙ neutral a.detect.parent off)
+          (slice_index (ins_of g v) k) (in_enters g v k within)))),
     )))
-    (no_parent_left H a (neutral a.detect.parent off))
+    (no_parent_left (neutral a.detect.parent off))
   where
     owes_none : (g : Setting) (s : Part) (a : Actor) (stands : StandsFor g s a) → s.parent ≡ None → (e : ℕ)
         → head_of g e ≡ a.vertex → may_ack g (head_of g e) s e ≡ 0

@@ -1,17 +1,17 @@
 -- A medium: whoever makes the operations of one vertex on shared words. It holds a record of the steps that the vertex
 -- made, each with the word that it saw; an operation makes the record longer by one step, and the word that it answers
 -- fits. A turn makes it longer by a turn.
-use Rattle.std.specs.Prelude.{◌≡◌, ℕ, Bool, ◌+◌, List, [], ◌∷◌, ◌++◌, reverse, None}
+use Rattle.std.specs.Prelude.{◌≡◌, ℕ, ◌+◌, List, [], ◌∷◌, ◌++◌, reverse, None}
 use Rattle.chip_part.specs.Setting.{Setting}
 use Rattle.chip_part.specs.declared.act.Act.{Act}
 use Rattle.chip_part.specs.Part.{Part}
 use Rattle.chip_part.specs.Rules.{unmet_rule}
-use Rattle.chip_part.specs.Steps.{Step, part_of, does, reply_of, saw}
+use Rattle.chip_part.specs.Steps.{Step, part_of, does, saw}
 use Rattle.chip_part.specs.Acting.{act_of, event_of, FitsSeen}
 use Rattle.chip_part.specs.Turn.{turn}
 use Rattle.chip_part.specs.declared.cursor.Cursor.{Cursor}
 use Rattle.chip_part.specs.Cursor.{rest_of_turn, IsAt}
-use Rattle.chip_part.specs.Counting.{work_of, is_work}
+use Rattle.chip_part.specs.Counting.{work_of}
 use Rattle.chip_actor.specs.Actor.{Actor, StandsFor}
 
 -- what a medium holds: of a game that is set up so, for this vertex, these steps, the latest first, which leave this
@@ -68,10 +68,10 @@ pub record GoesOn (now : Holding) (g : Setting) (v : ℕ) (ds : List Step) (s : 
 
 -- whatever record was held, with the part that the actor stood for, a turn that stood at the first cursor went on to
 -- the second
-abbrev pub Moves : Holding → Actor → Cursor → Holding → Actor → Cursor → ℕ → Type 0
-Moves old a from new b to count =
-    (g : Setting) (ds : List Step) (s : Part) → old g a.vertex ds s → StandsFor g s a → IsAt g a.vertex from s
-    → (more : List Step) × (t : Part) × GoesOn new g a.vertex ds s from b to count more t
+pub record Moves (old : Holding) (a : Actor) (from : Cursor) (new : Holding) (b : Actor) (to : Cursor)
+    (count : ℕ) : Type 0 where
+  pub goes : (g : Setting) (ds : List Step) (s : Part) → old g a.vertex ds s → StandsFor g s a → IsAt g a.vertex from s
+      → (more : List Step) × (t : Part) × GoesOn new g a.vertex ds s from b to count more t
 
 -- the record is longer by one whole turn of the vertex, of which so many steps count, and the actor stands for the part
 -- after it
@@ -88,22 +88,3 @@ abbrev pub MakesTurn : Holding → Actor → Holding → Actor → ℕ → Type 
 MakesTurn old a new b count =
     (g : Setting) (ds : List Step) (s : Part) → old g a.vertex ds s → StandsFor g s a
     → (more : List Step) × (t : Part) × IsTurnMade new g a.vertex ds s b count more t
-
--- some record is held after which the operation is due for the actor
-abbrev pub MeetsDue : Holding → Actor → Act → Type 0
-MeetsDue held a act = (g : Setting) × (ds : List Step) × (s : Part) × held g a.vertex ds s × StandsFor g s a
-    × IsDueBy g a.vertex s act
-
--- by the operation the record is longer and the actor stands for the part after it, and this is whether it counts
-pub record IsMade (now : Holding) (g : Setting) (v : ℕ) (ds : List Step) (s : Part) (act : Act) (b : Actor)
-    (counts : Bool) (seen : ℕ) : Type 0 where
-  pub held : now g v (saw (event_of v act) seen ∷ ds)
-      (does g (saw (event_of v act) seen) s)
-  pub stands : StandsFor g (does g (saw (event_of v act) seen) s) b
-  pub vertex : b.vertex ≡ v
-  pub counted : counts ≡ is_work act (reply_of g (event_of v act) seen s)
-
-abbrev pub MakesDue : Holding → Actor → Act → Holding → Actor → Bool → Type 0
-MakesDue old a act new b counts =
-    (g : Setting) (ds : List Step) (s : Part) → old g a.vertex ds s → StandsFor g s a → IsDueBy g a.vertex s act
-    → (seen : ℕ) × IsMade new g a.vertex ds s act b counts seen

@@ -3,16 +3,16 @@
 //! All that has the medium is inlined. No function then asks for its address, so that what it holds stays in registers,
 //! and nothing of it is read again behind an atomic operation.
 
-ghost use Rattle.std.specs.Prelude.{◌≡◌, ◌≢◌, ◌^◌, ◌<◌, ◌≤◌, ◌==◌, ◌&&◌, is_none, if◌then◌else◌};
+ghost use Rattle.std.specs.Prelude.{◌≡◌, ◌≢◌, ◌^◌, ◌<◌, ◌≤◌, ◌==◌, ◌&&◌, is_none};
 
 use crate::actor::ActorState;
 use crate::medium::Medium;
 use chip_detect::Slot;
-use chip_part::{Act, Cursor, Observed, Reply, is_by_limit};
+use chip_part::{Act, Cursor, Observed, is_by_limit};
 
 impl ActorState {
     ghost use Rattle.chip_actor.specs.Actor.{is_passive_now};
-    ghost use Rattle.chip_actor.specs.Medium.{Meets, Moves, MeetsDue, MakesDue, MakesTurn};
+    ghost use Rattle.chip_actor.specs.Medium.{Meets, Moves, MakesTurn};
 
     /// Takes once from each edge into the vertex.
     #[inline(always)]
@@ -60,8 +60,8 @@ impl ActorState {
         if self.may_fire() {
             let k = self.batch();
             let seen = medium.fire(k);
-            let reply = self.fire(k, seen);
-            return work_of(Act::Fire { k }, seen, &reply);
+            self.fire(k, seen);
+            return 1;
         }
         0
     }
@@ -136,25 +136,8 @@ impl ActorState {
             return 0;
         }
         let seen = medium.ack(slot.edge, more);
-        let reply = self.acknowledge(slot, more, seen);
-        let act = Act::Ack {
-            edge: slot.edge,
-            count: more,
-        };
-        work_of(act, seen, &reply)
-    }
-
-    /// Makes an operation of a turn that is due; whether it counts.
-    #[inline(always)]
-    fn make<M: Medium>(&mut self, medium: &mut M, act: Act) -> bool
-        requires some { act ≢ Act.End }
-        requires due { MeetsDue (M.holds medium.old) self.old act }
-        ensures { MakesDue (M.holds medium.old) self.old act (M.holds medium.new) self.new result }
-    {
-        let seen = perform(medium, act);
-        let observed = Observed { act, seen };
-        let reply = self.apply(observed);
-        observed.counts(&reply)
+        self.acknowledge(slot, more, seen);
+        1
     }
 
     /// Makes what is left of a turn at a cursor, operation by operation.
@@ -171,41 +154,14 @@ impl ActorState {
                 return work;
             };
             let act = self.act(&event);
-            if self.make(medium, act) {
+            let seen = perform(medium, act);
+            let observed = Observed { act, seen };
+            let reply = self.apply(observed);
+            if observed.counts(&reply) {
                 work += 1;
             }
             cursor = next;
         }
-    }
-
-    /// The last acknowledgements of a turn, where the vertex is engaged: one that isn't owes none.
-    #[inline(always)]
-    fn acknowledge_all<M: Medium>(&mut self, medium: &mut M) -> usize
-        requires { Meets (M.holds medium.old) self.old (Cursor.Ack 0) }
-        ensures moves { Moves (M.holds medium.old) self.old (Cursor.Ack 0)
-            (M.holds medium.new) self.new Cursor.Over result }
-        ensures few { result < 2 ^ 61 }
-    {
-        if self.detect.engaged() {
-            let passive = self.passive();
-            let acked = self.ack_all(medium, passive);
-            return acked + self.ack_parent(medium, passive);
-        }
-        0
-    }
-
-    /// What is left of a turn behind the sends. A halt by the limit comes once, so that it goes operation by operation.
-    #[inline(always)]
-    fn halt_and_acknowledge<M: Medium>(&mut self, medium: &mut M) -> usize
-        requires { Meets (M.holds medium.old) self.old Cursor.Limit }
-        ensures moves { Moves (M.holds medium.old) self.old Cursor.Limit
-            (M.holds medium.new) self.new Cursor.Over result }
-        ensures few { result < 2 ^ 61 }
-    {
-        if self.is_at_limit() {
-            return self.finish(medium, Cursor::Limit);
-        }
-        self.acknowledge_all(medium)
     }
 
     /// It runs, and nothing is left from before the turn: no message that is claimed and not put, no refusal.
@@ -215,8 +171,8 @@ impl ActorState {
         self.halt.is_none() && self.unput == 0 && self.refused == 0
     }
 
-    /// What is left of a turn behind the firing. A vertex that is halted, or that a schedule left in the middle of a
-    /// turn, goes operation by operation.
+    /// What is left of a turn after the firing. A vertex that is halted, or that a schedule left in the middle of a
+    /// turn, goes operation by operation, and so does one that halts by the limit, which it does once.
     #[inline(always)]
     fn send_and_acknowledge<M: Medium>(&mut self, medium: &mut M) -> usize
         requires { Meets (M.holds medium.old) self.old (Cursor.Put 0) }
@@ -224,11 +180,20 @@ impl ActorState {
             (M.holds medium.new) self.new Cursor.Over result }
         ensures few { result < 2 ^ 62 }
     {
-        if self.may_send() {
-            let sent = self.send_all(medium);
-            return sent + self.halt_and_acknowledge(medium);
+        if !self.may_send() {
+            return self.finish(medium, Cursor::Put(0));
         }
-        self.finish(medium, Cursor::Put(0))
+        let sent = self.send_all(medium);
+        if self.is_at_limit() {
+            return sent + self.finish(medium, Cursor::Limit);
+        }
+        // (a vertex that isn't engaged owes nothing)
+        if !self.detect.engaged() {
+            return sent;
+        }
+        let passive = self.passive();
+        let acked = self.ack_all(medium, passive);
+        sent + acked + self.ack_parent(medium, passive)
     }
 
     /// One whole turn over a medium; how many of its steps count as work.
@@ -244,16 +209,7 @@ impl ActorState {
     }
 }
 
-ghost use Rattle.chip_part.specs.Counting.{is_work};
 ghost use Rattle.chip_actor.specs.Medium.{MayServe, Serves};
-
-/// How much a step with this reply counts for: 1 where it is work, else 0.
-fn work_of(act: Act, seen: u64, reply: &Reply) -> usize
-    ensures { result ≡ (if is_work act reply.now then 1 else 0) }
-{
-    let observed = Observed { act, seen };
-    if observed.counts(reply) { 1 } else { 0 }
-}
 
 /// Makes an operation on the shared words, and gives the word that it saw.
 #[inline(always)]

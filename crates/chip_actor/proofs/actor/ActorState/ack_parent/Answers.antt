@@ -1,43 +1,40 @@
-use Rattle.std.proofs.Common.{◌≡◌, ◌≢◌, ◌∙◌, ℕ, Some, true, refl, sym, ap, subst}
+use Rattle.std.proofs.Common.{◌≡◌, ◌≢◌, ◌∙◌, Some, refl, sym, ap, subst}
 use Rattle.std.specs.List.{Contains}
 use Rattle.chip_detect.specs.Acknowledging as detector
 use Rattle.chip_part.specs.declared.act.Act.TheVariants as Do
 use Rattle.chip_part.specs.declared.cursor.Cursor.TheVariants as At
-use Rattle.chip_part.specs.Rules.{Ack}
 use Rattle.chip_actor.specs.Actor.{Actor, is_passive_now}
-use Rattle.chip_actor.proofs.MediumLemmas.{DueBy, may_serve, can_do, moves_one, one_few}
+use Rattle.chip_actor.proofs.MediumLemmas.{DueBy, may_serve, can_do, moves_one}
 use Rattle.chip_actor.proofs.TurnOverLemmas.{parent_among, no_parent_left, parent_by, parent_none}
 use Rattle.chip_actor.proofs.actor.ActorState.ack_parent.Goals as goal
-use Rattle.chip_actor.proofs.actor.ActorState.ack_parent.Goals.{After-may_ack_at-more}
+use Rattle.chip_actor.proofs.actor.ActorState.ack_parent.Goals.{In-Some, After-may_ack_at-more}
 use Rattle.chip_actor.proofs.actor.ActorState.ack_parent.Given.{Over}
 
 pub returns-in_default-clause-moves : goal.returns-in_default-clause-moves
-returns-in_default-clause-moves g c = no_parent_left (g.M.Medium.holds c.args.medium.now) c.args.self.now
+returns-in_default-clause-moves g c = no_parent_left
     (sym (ap (λ (a : Actor). a.detect.parent) c.self.view_is) ∙ sym c.in_default.ensures.parent)
 
+-- the edge of the message that engaged the vertex
+parent : (g : Over) (c : In-Some g) → c.args.self.now.detect.parent ≡ Some c.in-Some.edge
+parent g c = sym (ap (λ (a : Actor). a.detect.parent) c.self.view_is) ∙ sym c.in-Some.ensures.parent
+
 pub returns-then-keeps_last-clause-moves : goal.returns-then-keeps_last-clause-moves
-returns-then-keeps_last-clause-moves g c =
-    let edge : ℕ = c.in-Some.edge in
-    let now : Actor = c.args.self.now in
-    let is : now.detect.parent ≡ Some edge = sym (ap (λ (a : Actor). a.detect.parent) c.self.view_is)
-    ∙ sym c.in-Some.ensures.parent in
-    let none : detector.may_ack now.detect edge (is_passive_now now) ≡ 0 =
-    sym (λ j. detector.may_ack (c.self.view_is j).detect edge (c.requires.passive j))
-    ∙ c.keeps_last.ensures.none c.if-keeps_last.true edge (sym c.in-Some.ensures.parent) in
-    parent_none now edge (detector.may_ack now.detect edge (is_passive_now now)) is refl
-    (g.M.Medium.holds c.args.medium.now) none
+returns-then-keeps_last-clause-moves g c = parent_none
+    (parent g (goal.at.returns-then-keeps_last-clause-moves g c).In-Some) refl
+    (sym (λ j. detector.may_ack (c.self.view_is j).detect c.in-Some.edge (c.requires.passive j))
+    ∙ c.keeps_last.ensures.none c.if-keeps_last.true c.in-Some.edge (sym c.in-Some.ensures.parent))
 
 pub slot_of-slot-requires : goal.slot_of-slot-requires
-slot_of-slot-requires g c = subst (λ (a : Actor). Contains a.ins.edges c.in-Some.edge) (sym c.self.view_is)
-    (parent_among (g.M.Medium.holds c.args.medium.now) c.args.self.now c.in-Some.edge c.requires.meets
-    (sym (ap (λ (a : Actor). a.detect.parent) c.self.view_is) ∙ sym c.in-Some.ensures.parent))
+slot_of-slot-requires g c =
+    let h = c.requires.meets in
+    subst (λ (a : Actor). Contains a.ins.edges c.in-Some.edge) (sym c.self.view_is)
+    (parent_among (parent g (goal.at.slot_of-slot-requires g c).In-Some) (h.0, h.2, h.4))
 
--- the edge is the one of the message that engaged the vertex
+-- it is the slot's, and the count is what the books allow there
 is : (g : Over) (c : After-may_ack_at-more g) → c.args.self.now.detect.parent ≡ Some c.slot_of-slot.result.edge
 is g c = sym (ap (λ (a : Actor). a.detect.parent) c.self.view_is) ∙ sym c.in-Some.ensures.parent
     ∙ ap Some (sym c.slot_of-slot.ensures.edge)
 
--- and the count is what the books allow there
 allowed : (g : Over) (c : After-may_ack_at-more g)
     → c.may_ack_at-more.result
     ≡ detector.may_ack c.args.self.now.detect c.slot_of-slot.result.edge (is_passive_now c.args.self.now)
@@ -45,34 +42,23 @@ allowed g c = c.may_ack_at-more.ensures
     ∙ (λ j. detector.may_ack (c.self.view_is j).detect c.slot_of-slot.result.edge (c.requires.passive j))
 
 due : (g : Over) (c : After-may_ack_at-more g) → c.may_ack_at-more.result ≢ 0
-    → DueBy c.args.self.now At.Parent (Do.Ack c.slot_of-slot.result.edge c.may_ack_at-more.result)
-    (Ack c.slot_of-slot.result.edge) At.Over
-due g c some = parent_by c.args.self.now c.slot_of-slot.result.edge c.may_ack_at-more.result (is g c) (allowed g c) some
+    → DueBy c.args.self.now At.Parent (Do.Ack c.slot_of-slot.result.edge c.may_ack_at-more.result) At.Over
+due g c some = parent_by (is g c) (allowed g c) some
 
 pub returns-then-more-eq0-clause-moves : goal.returns-then-more-eq0-clause-moves
 returns-then-more-eq0-clause-moves g c =
     let d = (goal.at.returns-then-more-eq0-clause-moves g c).After-may_ack_at-more in
-    parent_none c.args.self.now c.slot_of-slot.result.edge c.may_ack_at-more.result (is g d) (allowed g d)
-    (g.M.Medium.holds c.args.medium.now) c.if-more-eq0.true
+    parent_none (is g d) (allowed g d) c.if-more-eq0.true
 
 pub ack-seen-requires : goal.ack-seen-requires
-ack-seen-requires g c = may_serve (g.M.Medium.holds c.args.medium.now) c.args.self.now At.Parent At.Over _ _
-    c.requires.meets (due g (goal.at.ack-seen-requires g c).After-may_ack_at-more c.if-more-eq0.false)
+ack-seen-requires g c = may_serve c.requires.meets
+    (due g (goal.at.ack-seen-requires g c).After-may_ack_at-more c.if-more-eq0.false)
 
-pub acknowledge-reply-requires-clause-can : goal.acknowledge-reply-requires-clause-can
-acknowledge-reply-requires-clause-can g c =
-    can_do (g.M.Medium.holds c.args.medium.now) (g.M.Medium.holds c.ack-seen.new.self) c.args.self.now
-    At.Parent At.Over _ _ c.ack-seen.result c.requires.meets
-    (due g (goal.at.acknowledge-reply-requires-clause-can g c).After-may_ack_at-more c.if-more-eq0.false)
-    c.ack-seen.ensures
+pub acknowledge-requires-clause-can : goal.acknowledge-requires-clause-can
+acknowledge-requires-clause-can g c = can_do c.requires.meets
+    (due g (goal.at.acknowledge-requires-clause-can g c).After-may_ack_at-more c.if-more-eq0.false) c.ack-seen.ensures
 
 pub returns-clause-moves : goal.returns-clause-moves
-returns-clause-moves g c =
-    moves_one (g.M.Medium.holds c.args.medium.now) (g.M.Medium.holds c.ack-seen.new.self) c.args.self.now
-    c.acknowledge-reply.new.self At.Parent At.Over _ _ c.ack-seen.result
-    c.acknowledge-reply.result c.work_of.result
+returns-clause-moves g c = moves_one
     (due g (goal.at.returns-clause-moves g c).After-may_ack_at-more c.if-more-eq0.false) c.ack-seen.ensures
-    c.acknowledge-reply.ensures.makes c.work_of.ensures
-
-pub returns-clause-few : goal.returns-clause-few
-returns-clause-few g c = one_few _ true c.work_of.ensures
+    c.acknowledge.ensures.makes refl

@@ -1,26 +1,26 @@
-use Rattle.std.proofs.Common.{◌≡◌, ℕ, ◌+◌, Option, true, false, subst, arith}
-use Rattle.chip_part.specs.declared.cursor.Cursor.TheVariants as At
+use Rattle.std.proofs.Common.{Option, ap, ◌∙◌, sym, subst, arith}
 use Rattle.chip_part.specs.Rules.{Event}
 use Rattle.chip_part.specs.declared.cursor.Cursor.{Cursor}
 use Rattle.chip_actor.specs.Turning.{DueAt}
-use Rattle.chip_actor.specs.Medium.{Meets, Moves}
-use Rattle.chip_actor.proofs.MediumLemmas.{moves_none, moves_on, meets_after, then_over, meets_due, moves_made}
-use Rattle.chip_actor.proofs.MediumLemmas.{fewer_since, few_left, turn_ends, not_end}
+use Rattle.chip_actor.specs.Medium.{Meets}
+use Rattle.chip_actor.proofs.MediumLemmas.{DueBy, due_at, may_serve, can_apply, moves_one, one_if, moves_none, moves_on}
+use Rattle.chip_actor.proofs.MediumLemmas.{meets_after, then_over, fewer_since, few_left, turn_ends, not_end}
 use Rattle.chip_actor.proofs.actor.ActorState.finish.Goals as goal
-use Rattle.chip_actor.proofs.actor.ActorState.finish.Goals.{At-loop-event}
+use Rattle.chip_actor.proofs.actor.ActorState.finish.Goals.{At-loop-event, After-act-act}
 use Rattle.chip_actor.proofs.actor.ActorState.finish.Given.{Over}
 
 pub loop-event-init : goal.loop-event-init
-loop-event-init g c = record {
-  few = omega arith;
-  moved = moves_none (g.M.Medium.holds c.args.medium.now) c.args.self.now c.args.from;
-}
+loop-event-init g c = record { few = omega arith; moved = moves_none }
 
 -- some record is held here
 here : (g : Over) (c : At-loop-event g)
     → Meets (g.M.Medium.holds c.loop-event.medium) c.loop-event.self c.loop-event.cursor
-here g c = meets_after (g.M.Medium.holds c.args.medium.now) (g.M.Medium.holds c.loop-event.medium) c.args.self.now
-    c.loop-event.self c.args.from c.loop-event.cursor c.loop-event.work c.requires c.loop-event.invariant.moved
+here g c = meets_after c.requires c.loop-event.invariant.moved
+
+-- and the operation is due
+due : (g : Over) (c : After-act-act g)
+    → DueBy c.loop-event.self c.loop-event.cursor c.act-act.result c.in-Some.next
+due g c = due_at {e = c.in-Some.event} c.in-Some.ensures c.act-act.ensures
 
 pub due-requires : goal.due-requires
 due-requires g c =
@@ -33,66 +33,53 @@ act-act-requires g c =
     let d = c.in-Some.ensures h.0 h.2 h.4 h.5 in
     (h.0, h.2, h.4, (d.mine, d.met))
 
-pub make-requires-clause-some : goal.make-requires-clause-some
-make-requires-clause-some g c = not_end c.loop-event.self c.loop-event.cursor c.in-Some.next c.in-Some.event
-    c.act-act.result c.in-Some.ensures c.act-act.ensures (g.M.Medium.holds c.loop-event.medium)
-    (here g (goal.at.make-requires-clause-some g c).At-loop-event)
+pub perform-seen-requires-clause-some : goal.perform-seen-requires-clause-some
+perform-seen-requires-clause-some g c =
+    let at = goal.at.perform-seen-requires-clause-some g c in
+    let h = here g at.At-loop-event in
+    not_end (h.0, h.2, h.4, h.5) (due g at.After-act-act)
 
-pub make-requires-clause-due : goal.make-requires-clause-due
-make-requires-clause-due g c = meets_due c.loop-event.self c.loop-event.cursor c.in-Some.next c.in-Some.event
-    c.act-act.result c.in-Some.ensures c.act-act.ensures (g.M.Medium.holds c.loop-event.medium)
-    (here g (goal.at.make-requires-clause-due g c).At-loop-event)
+pub perform-seen-requires-clause-may : goal.perform-seen-requires-clause-may
+perform-seen-requires-clause-may g c =
+    let at = goal.at.perform-seen-requires-clause-may g c in
+    may_serve (here g at.At-loop-event) (due g at.After-act-act)
+
+pub apply-reply-requires : goal.apply-reply-requires
+apply-reply-requires g c =
+    let at = goal.at.apply-reply-requires g c in
+    can_apply (here g at.At-loop-event) (due g at.After-act-act) c.perform-seen.ensures
 
 pub returns-in_default-clause-moves : goal.returns-in_default-clause-moves
-returns-in_default-clause-moves g c =
-    then_over (g.M.Medium.holds c.args.medium.now) (g.M.Medium.holds c.loop-event.medium) c.args.self.now
-    c.loop-event.self c.args.from c.loop-event.cursor At.Over c.loop-event.work c.loop-event.invariant.moved
-    (turn_ends (g.M.Medium.holds c.loop-event.medium) c.loop-event.self c.loop-event.cursor
-    (subst (λ (o : Option (Event × Cursor)). DueAt c.loop-event.self c.loop-event.cursor o) c.in_default.is
+returns-in_default-clause-moves g c = then_over c.loop-event.invariant.moved
+    (turn_ends (subst (λ (o : Option (Event × Cursor)). DueAt c.loop-event.self c.loop-event.cursor o) c.in_default.is
     c.due.ensures))
 
 pub returns-in_default-clause-few : goal.returns-in_default-clause-few
-returns-in_default-clause-few g c = let few = few_left (g.M.Medium.holds c.args.medium.now) c.args.self.now c.args.from
-    c.args.from c.requires in let l = c.loop-event.invariant.few in omega arith
+returns-in_default-clause-few g c =
+    let h = c.requires in
+    let few = few_left c.args.from (h.0, h.2, h.4) in
+    let l = c.loop-event.invariant.few in omega arith
 
-pub loop-event-smaller-then-make : goal.loop-event-smaller-then-make
-loop-event-smaller-then-make g c = fewer_since (g.M.Medium.holds c.args.medium.now)
-    (g.M.Medium.holds c.loop-event.medium) c.args.self.now c.loop-event.self c.args.from c.loop-event.cursor
-    c.in-Some.next c.loop-event.work c.in-Some.event c.requires c.loop-event.invariant.moved c.in-Some.ensures
+pub loop-event-smaller-then-counts : goal.loop-event-smaller-then-counts
+loop-event-smaller-then-counts g c = fewer_since c.requires c.loop-event.invariant.moved c.in-Some.ensures
 
 pub loop-event-smaller : goal.loop-event-smaller
-loop-event-smaller g c = fewer_since (g.M.Medium.holds c.args.medium.now)
-    (g.M.Medium.holds c.loop-event.medium) c.args.self.now c.loop-event.self c.args.from c.loop-event.cursor
-    c.in-Some.next c.loop-event.work c.in-Some.event c.requires c.loop-event.invariant.moved c.in-Some.ensures
+loop-event-smaller g c = fewer_since c.requires c.loop-event.invariant.moved c.in-Some.ensures
 
-pub loop-event-preserved-then-make : goal.loop-event-preserved-then-make
-loop-event-preserved-then-make g c = record {
-  few = (let f = fewer_since (g.M.Medium.holds c.args.medium.now) (g.M.Medium.holds c.loop-event.medium) c.args.self.now
-      c.loop-event.self c.args.from c.loop-event.cursor c.in-Some.next c.loop-event.work c.in-Some.event c.requires
-      c.loop-event.invariant.moved c.in-Some.ensures in let l = c.loop-event.invariant.few in omega arith);
-  moved = moves_on (g.M.Medium.holds c.args.medium.now) (g.M.Medium.holds c.loop-event.medium)
-      (g.M.Medium.holds c.make.new.medium) c.args.self.now c.loop-event.self c.make.new.self c.args.from
-      c.loop-event.cursor c.in-Some.next c.loop-event.work 1 c.loop-event.invariant.moved
-      (moves_made c.loop-event.self c.loop-event.cursor c.in-Some.next c.in-Some.event c.act-act.result
-      c.in-Some.ensures c.act-act.ensures (g.M.Medium.holds c.loop-event.medium)
-      (g.M.Medium.holds c.make.new.medium) c.make.new.self true (rw c.if-make.true at c.make.ensures));
+pub loop-event-preserved-then-counts : goal.loop-event-preserved-then-counts
+loop-event-preserved-then-counts g c = record {
+  few = (let f = fewer_since c.requires c.loop-event.invariant.moved c.in-Some.ensures in
+      let l = c.loop-event.invariant.few in omega arith);
+  moved = moves_on c.loop-event.invariant.moved
+      (moves_one (due g (goal.at.loop-event-preserved-then-counts g c).After-act-act) c.perform-seen.ensures
+      c.apply-reply.ensures (ap one_if (sym c.if-counts.true ∙ c.counts.ensures)));
 }
 
 pub loop-event-preserved : goal.loop-event-preserved
 loop-event-preserved g c = record {
-  few = (let f = fewer_since (g.M.Medium.holds c.args.medium.now) (g.M.Medium.holds c.loop-event.medium) c.args.self.now
-      c.loop-event.self c.args.from c.loop-event.cursor c.in-Some.next c.loop-event.work c.in-Some.event c.requires
-      c.loop-event.invariant.moved c.in-Some.ensures in let l = c.loop-event.invariant.few in omega arith);
-  moved = then_over (g.M.Medium.holds c.args.medium.now) (g.M.Medium.holds c.make.new.medium) c.args.self.now
-      c.make.new.self c.args.from c.in-Some.next c.in-Some.next c.loop-event.work
-      (subst (λ (k : ℕ). Moves (g.M.Medium.holds c.args.medium.now) c.args.self.now c.args.from
-      (g.M.Medium.holds c.make.new.medium) c.make.new.self c.in-Some.next k) (let z : c.loop-event.work + 0
-      ≡ c.loop-event.work = omega arith in z)
-      (moves_on (g.M.Medium.holds c.args.medium.now) (g.M.Medium.holds c.loop-event.medium)
-      (g.M.Medium.holds c.make.new.medium) c.args.self.now c.loop-event.self c.make.new.self c.args.from
-      c.loop-event.cursor c.in-Some.next c.loop-event.work 0 c.loop-event.invariant.moved
-      (moves_made c.loop-event.self c.loop-event.cursor c.in-Some.next c.in-Some.event c.act-act.result
-      c.in-Some.ensures c.act-act.ensures (g.M.Medium.holds c.loop-event.medium)
-      (g.M.Medium.holds c.make.new.medium) c.make.new.self false (rw c.if-make.false at c.make.ensures))))
-      (moves_none (g.M.Medium.holds c.make.new.medium) c.make.new.self c.in-Some.next);
+  few = (let f = fewer_since c.requires c.loop-event.invariant.moved c.in-Some.ensures in
+      let l = c.loop-event.invariant.few in omega arith);
+  moved = then_over c.loop-event.invariant.moved
+      (moves_one (due g (goal.at.loop-event-preserved g c).After-act-act) c.perform-seen.ensures
+      c.apply-reply.ensures (ap one_if (sym c.if-counts.false ∙ c.counts.ensures)));
 }

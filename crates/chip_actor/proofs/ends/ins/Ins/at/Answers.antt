@@ -1,13 +1,12 @@
 use Rattle.std.proofs.Common.{◌∙◌, sym, ap, get_or, length, arith}
 use Rattle.std.proofs.lemmas.List.{get_or-map}
 use Rattle.chip_link.specs.Ends.{HeadState}
-use Rattle.chip_actor.specs.Ends.{InEnds, ins_of}
+use Rattle.chip_actor.specs.Ends.{InEnds}
 use Rattle.chip_actor.proofs.EndLemmas.{in_there}
 use Rattle.chip_actor.proofs.ends.ins.Ins.at.Goals as goal
 
 pub returns-clause-end : goal.returns-clause-end
-returns-clause-end c = in_there (ins_of c.self.inside.ends.items) c.args.self.now c.self.view_is c.self.invariant
-    c.args.index c.requires c.index.result.now c.index.ensures
+returns-clause-end c = in_there c.self.view_is c.self.invariant c.args.index c.requires c.index.ensures
 
 pub returns-clause-edge : goal.returns-clause-edge
 returns-clause-edge c =

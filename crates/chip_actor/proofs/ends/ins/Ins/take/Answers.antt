@@ -1,14 +1,13 @@
 use Rattle.std.proofs.Common.{◌≡◌, ◌<◌, ◌^◌, ◌∙◌, ap, sym, subst}
 use Rattle.chip_link.specs.Ends.{HeadState, message_taken, head_after_take}
-use Rattle.chip_actor.specs.Ends.{in_on, ins_of}
+use Rattle.chip_actor.specs.Ends.{in_on}
 use Rattle.chip_actor.proofs.EndLemmas.{found_in, written_in, apart_in, take_keeps}
 use Rattle.chip_actor.proofs.ends.ins.Ins.take.Goals as goal
 use Rattle.chip_actor.proofs.ends.ins.Ins.take.Goals.{After-index_mut-end, After-taken}
 
 -- the end that was found is the edge's
 is : (c : After-index_mut-end) → c.index_mut-end.result.now ≡ in_on c.args.self.now c.args.slot.edge
-is c = found_in (ins_of c.self.inside.ends.items) c.args.self.now
-    c.self.view_is c.self.invariant c.args.slot c.requires.slot c.index_mut-end.result.now c.index_mut-end.ensures.value
+is c = found_in c.self.view_is c.self.invariant c.requires.slot c.index_mut-end.ensures.value
 
 pub taken-requires : goal.taken-requires
 taken-requires c = subst (λ (h : HeadState). h.taken < 2 ^ 62) (sym (is c)) c.requires.few
@@ -22,11 +21,9 @@ keeps : (c : After-taken) → c.taken.new.self.edge ≡ c.index_mut-end.result.n
 keeps c = ap (λ (h : HeadState). h.edge) c.taken.ensures.after ∙ take_keeps c.args.cell c.index_mut-end.result.now
 
 pub returns-clause-after : goal.returns-clause-after
-returns-clause-after c = written_in c.self.inside.ends.items c.args.self.now c.self.view_is c.self.invariant c.args.slot
-    c.requires.slot c.index_mut-end.result.now c.index_mut-end.ensures.value c.taken.new.self
+returns-clause-after c = written_in c.self.view_is c.self.invariant c.requires.slot c.index_mut-end.ensures.value _
     (keeps (goal.at.returns-clause-after c).After-taken) (head_after_take c.args.cell) c.taken.ensures.after
 
 pub invariant_of-self : goal.invariant_of-self
-invariant_of-self c = apart_in c.self.inside.ends.items c.args.self.now c.self.view_is c.self.invariant c.args.slot
-    c.requires.slot c.index_mut-end.result.now c.index_mut-end.ensures.value c.taken.new.self
+invariant_of-self c = apart_in c.self.view_is c.self.invariant c.requires.slot c.index_mut-end.ensures.value _
     (keeps (goal.at.invariant_of-self c).After-taken)

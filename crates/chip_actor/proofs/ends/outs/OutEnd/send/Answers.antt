@@ -1,162 +1,113 @@
-use Rattle.std.proofs.Common.{◌+◌, ◌∙◌, ◌&&◌, eqb, refl, sym, ap, arith}
-use Rattle.chip_link.specs.Ends.{TailState, may_clear, tail_after_clear, claim_words, tail_after_claim, message_claimed}
-use Rattle.chip_actor.proofs.SendLemmas.{sends_nothing, asks_clear, sees_full, asks_claim, slot_in_books, fits_claim}
-use Rattle.chip_actor.proofs.SendLemmas.{has_room, is_refused, asks_put, is_sent, no_place, place_words}
-use Rattle.chip_actor.proofs.SendLemmas.{place_message, place_refused, sent_is}
+use Rattle.std.proofs.Common.{◌≡◌, ◌<◌, ◌∙◌, Some, length, sym, ap, arith}
+use Rattle.chip_link.specs.Ends.{TailState, place_for, tail_after_clear, tail_after_claim}
+use Rattle.chip_part.specs.declared.cursor.Cursor.TheVariants as At
+use Rattle.chip_actor.specs.Ends.{AreApart}
+use Rattle.chip_actor.specs.Actor.{Actor}
+use Rattle.chip_actor.specs.Medium.{Meets}
+use Rattle.chip_actor.proofs.SendLemmas.{sending, Looks, sends_nothing, asks_clear, sees_full, asks_claim, slot_in_books}
+use Rattle.chip_actor.proofs.SendLemmas.{fits_claim, has_room, is_refused, asks_put, is_sent}
 use Rattle.chip_actor.proofs.EndLemmas.{clear_keeps, claim_keeps}
 use Rattle.chip_actor.proofs.ends.outs.OutEnd.send.Goals as goal
+use Rattle.chip_actor.proofs.ends.outs.OutEnd.send.Goals.{After-cell-cell, In-Some}
+use Rattle.chip_actor.proofs.ends.outs.OutEnd.send.Given.{Over}
 
 pub returns-then-self-eq0-clause-moves : goal.returns-then-self-eq0-clause-moves
-returns-then-self-eq0-clause-moves g c =
-    λ a apart below meets. sends_nothing a c.args.index apart below c.args.self.now c.args.pending.now
-    c.args.refused.now c.args.detect.now (g.M.Medium.holds c.args.medium.now) meets c.if-self-eq0.true
+returns-then-self-eq0-clause-moves g c = λ a apart below meets.
+    sends_nothing a c.args.self.now apart below meets c.if-self-eq0.true
+
+-- an actor with this end stands before the look
+looks : (g : Over) (c : After-cell-cell g) (a : Actor) → AreApart a.outs.edges a.outs.ends
+    → c.args.index < length a.outs.edges
+    → Meets (g.M.Medium.holds c.args.medium.now)
+    (sending a c.args.index c.args.self.now c.args.pending.now c.args.refused.now c.args.detect.now)
+    (At.Send c.args.index)
+    → Looks a c.args.index c.edge-edge.result c.cell-cell.result c.args.self.now c.args.pending.now c.args.refused.now
+    c.args.detect.now (g.M.Medium.holds c.args.medium.now)
+looks g c a apart below meets = record {
+  apart = apart;
+  below = below;
+  tells = c.edge-edge.ensures;
+  at_cell = c.cell-cell.ensures.cell;
+  pends = c.if-self-eq0.false;
+  meets = meets;
+}
+
+-- the same of the actor that there is
+some : (g : Over) (c : After-cell-cell g) → Looks c.requires.0 c.args.index c.edge-edge.result c.cell-cell.result
+    c.args.self.now c.args.pending.now c.args.refused.now c.args.detect.now (g.M.Medium.holds c.args.medium.now)
+some g c = looks g c c.requires.0 c.requires.1 c.requires.2 c.requires.3
+
+-- the place that may be claimed
+place : (g : Over) (c : In-Some g) → Some c.in-Some.place ≡ place_for c.clear-looked.result c.args.self.now.link
+place g c = sym c.in-Some.is ∙ c.place_for.ensures.place
 
 pub clear-looked-requires : goal.clear-looked-requires
-clear-looked-requires g c =
-    asks_clear c.requires.0 c.args.index c.requires.1 c.requires.2 c.args.self.now c.args.pending.now c.args.refused.now
-    c.args.detect.now (g.M.Medium.holds c.args.medium.now) c.requires.3 c.if-self-eq0.false c.edge-edge.result c.cell-cell.result c.edge-edge.ensures
-    c.cell-cell.ensures.cell
+clear-looked-requires g c = asks_clear (some g (goal.at.clear-looked-requires g c).After-cell-cell)
 
 pub returns-in_default-clause-moves : goal.returns-in_default-clause-moves
-returns-in_default-clause-moves g c =
-    λ a apart below meets. sees_full a c.args.index apart below c.args.self.now c.args.pending.now c.args.refused.now
-    c.args.detect.now (g.M.Medium.holds c.args.medium.now) meets c.if-self-eq0.false c.edge-edge.result c.cell-cell.result c.edge-edge.ensures
-    c.cell-cell.ensures.cell
-    (g.M.Medium.holds c.clear-looked.new.self) c.clear-looked.result c.clear-looked.ensures
-    c.cleared-is_clear.new.self c.cleared-is_clear.ensures.after c.cleared-is_clear.result c.cleared-is_clear.ensures.answer
-    (c.cleared-is_clear.ensures.answer ∙ no_place c.args.self.now.link c.clear-looked.result
-    (sym c.in_default.is ∙ c.place_for.ensures.place))
+returns-in_default-clause-moves g c = λ a apart below meets.
+    sees_full (looks g (goal.at.returns-in_default-clause-moves g c).After-cell-cell a apart below meets)
+    c.clear-looked.ensures (sym c.in_default.is ∙ c.place_for.ensures.place) c.cleared-is_clear.ensures.after
 
 pub claim-seen-requires : goal.claim-seen-requires
 claim-seen-requires g c =
-    asks_claim c.requires.0 c.args.index c.requires.1 c.requires.2 c.args.self.now c.args.pending.now c.args.refused.now
-    c.args.detect.now (g.M.Medium.holds c.args.medium.now) c.requires.3 c.if-self-eq0.false c.edge-edge.result c.cell-cell.result c.edge-edge.ensures
-    c.cell-cell.ensures.cell
-    (g.M.Medium.holds c.clear-looked.new.self) c.clear-looked.result c.clear-looked.ensures
-    (tail_after_clear c.clear-looked.result c.args.self.now.link) refl
-    (may_clear c.args.self.now.link && eqb c.clear-looked.result 0) refl
-    (c.in-Some.place, c.in-Some.place + 1)
-    (place_words c.args.self.now.link c.clear-looked.result c.in-Some.place (sym c.in-Some.is ∙ c.place_for.ensures.place))
+    let at = goal.at.claim-seen-requires g c in
+    asks_claim (some g at.After-cell-cell) c.clear-looked.ensures (place g at.In-Some)
 
 pub claimed-message-requires-clause-word : goal.claimed-message-requires-clause-word
 claimed-message-requires-clause-word g c =
-    (fits_claim c.requires.0 c.args.index c.requires.1 c.requires.2 c.args.self.now c.args.pending.now c.args.refused.now
-    c.args.detect.now (g.M.Medium.holds c.args.medium.now) c.requires.3 c.if-self-eq0.false c.edge-edge.result c.cell-cell.result c.edge-edge.ensures
-    c.cell-cell.ensures.cell
-    (g.M.Medium.holds c.clear-looked.new.self) c.clear-looked.result c.clear-looked.ensures
-    c.cleared-is_clear-then-seen-place.new.self c.cleared-is_clear-then-seen-place.ensures.after
-    c.cleared-is_clear-then-seen-place.result c.cleared-is_clear-then-seen-place.ensures.answer
-    (c.in-Some.place, c.in-Some.place + 1)
-    (place_words c.args.self.now.link c.clear-looked.result c.in-Some.place (sym c.in-Some.is ∙ c.place_for.ensures.place)
-    ∙ sym (ap claim_words c.cleared-is_clear-then-seen-place.ensures.after)) (g.M.Medium.holds c.claim-seen.new.self) c.claim-seen.result c.claim-seen.ensures).1
+    let at = goal.at.claimed-message-requires-clause-word g c in
+    (fits_claim (some g at.After-cell-cell) c.clear-looked.ensures (place g at.In-Some) c.claim-seen.ensures).0
+    ∙ sym (ap (λ (t : TailState). t.claims) c.cleared-is_clear-then-seen-place.ensures.after)
 
 pub claimed-message-requires-clause-count : goal.claimed-message-requires-clause-count
 claimed-message-requires-clause-count g c =
-    let fits = fits_claim c.requires.0 c.args.index c.requires.1 c.requires.2 c.args.self.now c.args.pending.now c.args.refused.now
-    c.args.detect.now (g.M.Medium.holds c.args.medium.now) c.requires.3 c.if-self-eq0.false c.edge-edge.result c.cell-cell.result c.edge-edge.ensures
-    c.cell-cell.ensures.cell
-    (g.M.Medium.holds c.clear-looked.new.self) c.clear-looked.result c.clear-looked.ensures
-    c.cleared-is_clear-then-seen-place.new.self c.cleared-is_clear-then-seen-place.ensures.after
-    c.cleared-is_clear-then-seen-place.result c.cleared-is_clear-then-seen-place.ensures.answer
-    (c.in-Some.place, c.in-Some.place + 1)
-    (place_words c.args.self.now.link c.clear-looked.result c.in-Some.place (sym c.in-Some.is ∙ c.place_for.ensures.place)
-    ∙ sym (ap claim_words c.cleared-is_clear-then-seen-place.ensures.after)) (g.M.Medium.holds c.claim-seen.new.self) c.claim-seen.result c.claim-seen.ensures in
-    (fits.2, fits.3)
+    let at = goal.at.claimed-message-requires-clause-count g c in
+    let fits = fits_claim (some g at.After-cell-cell) c.clear-looked.ensures (place g at.In-Some) c.claim-seen.ensures in
+    (fits.1, fits.2)
 
 pub overflow_add-refused : goal.overflow_add-refused
 overflow_add-refused g c =
-    let few = (has_room c.requires.0 c.args.index c.requires.1 c.requires.2 c.args.self.now c.args.pending.now c.args.refused.now
-    c.args.detect.now (g.M.Medium.holds c.args.medium.now) c.requires.3 c.if-self-eq0.false c.edge-edge.result c.cell-cell.result c.edge-edge.ensures
-    c.cell-cell.ensures.cell
-    (g.M.Medium.holds c.clear-looked.new.self) c.clear-looked.result c.clear-looked.ensures
-    (tail_after_clear c.clear-looked.result c.args.self.now.link) refl
-    (may_clear c.args.self.now.link && eqb c.clear-looked.result 0) refl
-    (c.in-Some.place, c.in-Some.place + 1)
-    (place_words c.args.self.now.link c.clear-looked.result c.in-Some.place (sym c.in-Some.is ∙ c.place_for.ensures.place)) (g.M.Medium.holds c.claim-seen.new.self) c.claim-seen.result c.claim-seen.ensures).0 in omega arith
+    let at = goal.at.overflow_add-refused g c in
+    let few = (has_room (some g at.After-cell-cell) c.clear-looked.ensures (place g at.In-Some) c.claim-seen.ensures).0 in
+    omega arith
 
 pub returns-then-seen-place-clause-moves : goal.returns-then-seen-place-clause-moves
-returns-then-seen-place-clause-moves g c =
-    λ a apart below meets. is_refused a c.args.index apart below c.args.self.now c.args.pending.now c.args.refused.now
-    c.args.detect.now (g.M.Medium.holds c.args.medium.now) meets c.if-self-eq0.false c.edge-edge.result c.cell-cell.result c.edge-edge.ensures
-    c.cell-cell.ensures.cell
-    (g.M.Medium.holds c.clear-looked.new.self) c.clear-looked.result c.clear-looked.ensures
-    c.cleared-is_clear-then-seen-place.new.self c.cleared-is_clear-then-seen-place.ensures.after
-    c.cleared-is_clear-then-seen-place.result c.cleared-is_clear-then-seen-place.ensures.answer
-    (c.in-Some.place, c.in-Some.place + 1)
-    (place_words c.args.self.now.link c.clear-looked.result c.in-Some.place (sym c.in-Some.is ∙ c.place_for.ensures.place)
-    ∙ sym (ap claim_words c.cleared-is_clear-then-seen-place.ensures.after)) (g.M.Medium.holds c.claim-seen.new.self) c.claim-seen.result c.claim-seen.ensures
-    c.claimed-message.new.self c.claimed-message.ensures.after
-    (place_refused c.args.self.now.link c.clear-looked.result c.in-Some.place c.claim-seen.result c.args.self.now.pending
-    (sym c.in-Some.is ∙ c.place_for.ensures.place) c.if-seen-place.true
-    ∙ sym (ap (message_claimed c.claim-seen.result c.args.self.now.pending) c.cleared-is_clear-then-seen-place.ensures.after))
+returns-then-seen-place-clause-moves g c = λ a apart below meets.
+    let at = goal.at.returns-then-seen-place-clause-moves g c in
+    is_refused (looks g at.After-cell-cell a apart below meets) c.clear-looked.ensures (place g at.In-Some)
+    c.claim-seen.ensures c.if-seen-place.true
+    (c.claimed-message.ensures.after ∙ ap (tail_after_claim c.claim-seen.result c.args.self.now.pending)
+    c.cleared-is_clear-then-seen-place.ensures.after)
 
 pub overflow_sub-pending : goal.overflow_sub-pending
 overflow_sub-pending g c =
-    let enough = (fits_claim c.requires.0 c.args.index c.requires.1 c.requires.2 c.args.self.now c.args.pending.now c.args.refused.now
-    c.args.detect.now (g.M.Medium.holds c.args.medium.now) c.requires.3 c.if-self-eq0.false c.edge-edge.result c.cell-cell.result c.edge-edge.ensures
-    c.cell-cell.ensures.cell
-    (g.M.Medium.holds c.clear-looked.new.self) c.clear-looked.result c.clear-looked.ensures
-    (tail_after_clear c.clear-looked.result c.args.self.now.link) refl
-    (may_clear c.args.self.now.link && eqb c.clear-looked.result 0) refl
-    (c.in-Some.place, c.in-Some.place + 1)
-    (place_words c.args.self.now.link c.clear-looked.result c.in-Some.place (sym c.in-Some.is ∙ c.place_for.ensures.place)) (g.M.Medium.holds c.claim-seen.new.self) c.claim-seen.result c.claim-seen.ensures).4 in omega arith
+    let at = goal.at.overflow_sub-pending g c in
+    let enough = (fits_claim (some g at.After-cell-cell) c.clear-looked.ensures (place g at.In-Some)
+    c.claim-seen.ensures).3 in
+    omega arith
 
 pub sent_at-requires-clause-slot : goal.sent_at-requires-clause-slot
 sent_at-requires-clause-slot g c =
-    slot_in_books c.requires.0 c.args.index c.requires.1 c.requires.2 c.args.self.now c.args.pending.now c.args.refused.now
-    c.args.detect.now (g.M.Medium.holds c.args.medium.now) c.requires.3 c.if-self-eq0.false c.edge-edge.result c.cell-cell.result c.edge-edge.ensures
-    c.cell-cell.ensures.cell
-    (g.M.Medium.holds c.clear-looked.new.self) c.clear-looked.result c.clear-looked.ensures
-    (tail_after_clear c.clear-looked.result c.args.self.now.link) refl
-    (may_clear c.args.self.now.link && eqb c.clear-looked.result 0) refl
-    (c.in-Some.place, c.in-Some.place + 1)
-    (place_words c.args.self.now.link c.clear-looked.result c.in-Some.place (sym c.in-Some.is ∙ c.place_for.ensures.place))
+    slot_in_books (some g (goal.at.sent_at-requires-clause-slot g c).After-cell-cell) c.clear-looked.ensures
 
 pub sent_at-requires-clause-room : goal.sent_at-requires-clause-room
 sent_at-requires-clause-room g c =
-    (has_room c.requires.0 c.args.index c.requires.1 c.requires.2 c.args.self.now c.args.pending.now c.args.refused.now
-    c.args.detect.now (g.M.Medium.holds c.args.medium.now) c.requires.3 c.if-self-eq0.false c.edge-edge.result c.cell-cell.result c.edge-edge.ensures
-    c.cell-cell.ensures.cell
-    (g.M.Medium.holds c.clear-looked.new.self) c.clear-looked.result c.clear-looked.ensures
-    (tail_after_clear c.clear-looked.result c.args.self.now.link) refl
-    (may_clear c.args.self.now.link && eqb c.clear-looked.result 0) refl
-    (c.in-Some.place, c.in-Some.place + 1)
-    (place_words c.args.self.now.link c.clear-looked.result c.in-Some.place (sym c.in-Some.is ∙ c.place_for.ensures.place)) (g.M.Medium.holds c.claim-seen.new.self) c.claim-seen.result c.claim-seen.ensures).1
+    let at = goal.at.sent_at-requires-clause-room g c in
+    (has_room (some g at.After-cell-cell) c.clear-looked.ensures (place g at.In-Some) c.claim-seen.ensures).1
 
 pub put-stored-requires : goal.put-stored-requires
 put-stored-requires g c =
-    let told = place_message c.args.self.now.link c.clear-looked.result c.in-Some.place c.claim-seen.result
-    c.args.self.now.pending (sym c.in-Some.is ∙ c.place_for.ensures.place) c.if-seen-place.false in
-    asks_put c.requires.0 c.args.index c.requires.1 c.requires.2 c.args.self.now c.args.pending.now c.args.refused.now
-    c.args.detect.now (g.M.Medium.holds c.args.medium.now) c.requires.3 c.if-self-eq0.false c.edge-edge.result c.cell-cell.result c.edge-edge.ensures
-    c.cell-cell.ensures.cell
-    (g.M.Medium.holds c.clear-looked.new.self) c.clear-looked.result c.clear-looked.ensures
-    (tail_after_clear c.clear-looked.result c.args.self.now.link) refl
-    (may_clear c.args.self.now.link && eqb c.clear-looked.result 0) refl
-    (c.in-Some.place, c.in-Some.place + 1)
-    (place_words c.args.self.now.link c.clear-looked.result c.in-Some.place (sym c.in-Some.is ∙ c.place_for.ensures.place)) (g.M.Medium.holds c.claim-seen.new.self) c.claim-seen.result c.claim-seen.ensures
-    (tail_after_claim c.claim-seen.result c.args.self.now.pending
-    (tail_after_clear c.clear-looked.result c.args.self.now.link)) refl
-    told.0 told.1 c.sent_at.new.self c.sent_at.ensures.sends c.sent_at.ensures.sound
+    let at = goal.at.put-stored-requires g c in
+    asks_put (some g at.After-cell-cell) c.clear-looked.ensures (place g at.In-Some) c.claim-seen.ensures
+    c.if-seen-place.false c.sent_at.ensures.sends c.sent_at.ensures.sound
 
 pub returns-clause-moves : goal.returns-clause-moves
-returns-clause-moves g c =
-    let told = place_message c.args.self.now.link c.clear-looked.result c.in-Some.place c.claim-seen.result
-    c.args.self.now.pending (sym c.in-Some.is ∙ c.place_for.ensures.place) c.if-seen-place.false in
-    λ a apart below meets. is_sent a c.args.index apart below c.args.self.now c.args.pending.now c.args.refused.now
-    c.args.detect.now (g.M.Medium.holds c.args.medium.now) meets c.if-self-eq0.false c.edge-edge.result c.cell-cell.result c.edge-edge.ensures
-    c.cell-cell.ensures.cell
-    (g.M.Medium.holds c.clear-looked.new.self) c.clear-looked.result c.clear-looked.ensures
-    (tail_after_clear c.clear-looked.result c.args.self.now.link) refl
-    (may_clear c.args.self.now.link && eqb c.clear-looked.result 0) refl
-    (c.in-Some.place, c.in-Some.place + 1)
-    (place_words c.args.self.now.link c.clear-looked.result c.in-Some.place (sym c.in-Some.is ∙ c.place_for.ensures.place)) (g.M.Medium.holds c.claim-seen.new.self) c.claim-seen.result c.claim-seen.ensures
-    (tail_after_claim c.claim-seen.result c.args.self.now.pending
-    (tail_after_clear c.clear-looked.result c.args.self.now.link)) refl
-    told.0 told.1 c.sent_at.new.self c.sent_at.ensures.sends c.sent_at.ensures.sound
-    (g.M.Medium.holds c.put-stored.new.self) c.put-stored.result c.sent.new.self c.put-stored.ensures
-    (sent_is c.args.self.now.link c.sent.new.self c.clear-looked.result c.in-Some.place c.claim-seen.result
-    c.args.self.now.pending (sym c.in-Some.is ∙ c.place_for.ensures.place) c.if-seen-place.false c.sent.ensures)
+returns-clause-moves g c = λ a apart below meets.
+    let at = goal.at.returns-clause-moves g c in
+    is_sent (looks g at.After-cell-cell a apart below meets) c.clear-looked.ensures (place g at.In-Some)
+    c.claim-seen.ensures c.if-seen-place.false c.sent_at.ensures.sends c.sent_at.ensures.sound c.put-stored.ensures
+    c.sent.ensures
 
 pub returns-clause-edge : goal.returns-clause-edge
 returns-clause-edge g c =

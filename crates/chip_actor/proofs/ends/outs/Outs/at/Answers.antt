@@ -1,12 +1,11 @@
 use Rattle.std.proofs.Common.{◌∙◌, sym, ap, get_or, length, arith}
 use Rattle.std.proofs.lemmas.List.{get_or-map}
-use Rattle.chip_actor.specs.Ends.{OutEnd, OutEnds, outs_of}
+use Rattle.chip_actor.specs.Ends.{OutEnd, OutEnds}
 use Rattle.chip_actor.proofs.EndLemmas.{out_there}
 use Rattle.chip_actor.proofs.ends.outs.Outs.at.Goals as goal
 
 pub returns-clause-end : goal.returns-clause-end
-returns-clause-end c = out_there (outs_of c.self.inside.ends.items) c.args.self.now c.self.view_is c.self.invariant
-    c.args.index c.requires c.index.result.now c.index.ensures
+returns-clause-end c = out_there c.self.view_is c.self.invariant c.args.index c.requires c.index.ensures
 
 pub returns-clause-edge : goal.returns-clause-edge
 returns-clause-edge c =

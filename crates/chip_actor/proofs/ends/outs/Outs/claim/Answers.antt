@@ -8,8 +8,7 @@ use Rattle.chip_actor.proofs.ends.outs.Outs.claim.Goals.{After-index_mut-out}
 
 -- the end that was found is the edge's
 is : (c : After-index_mut-out) → c.index_mut-out.result.now ≡ out_on c.args.self.now c.args.slot.edge
-is c = found_out (outs_of c.self.inside.ends.items) c.args.self.now
-    c.self.view_is c.self.invariant c.args.slot c.requires.slot c.index_mut-out.result.now c.index_mut-out.ensures.value
+is c = found_out c.self.view_is c.self.invariant c.requires.slot c.index_mut-out.ensures.value
 
 pub claimed-requires-clause-clear : goal.claimed-requires-clause-clear
 claimed-requires-clause-clear c = subst
@@ -30,8 +29,7 @@ wrote : (c : After-index_mut-out) → (new : OutEnd) → new ≡ out_after_claim
     (out_after_claim c.args.word)
 wrote c new eq =
     let old : OutEnd = c.index_mut-out.result.now in
-    written_out c.self.inside.ends.items c.args.self.now c.self.view_is c.self.invariant c.args.slot c.requires.slot old
-    c.index_mut-out.ensures.value new
+    written_out c.self.view_is c.self.invariant c.requires.slot c.index_mut-out.ensures.value new
     (ap (λ (o : OutEnd). o.link.edge) eq ∙ claim_keeps c.args.word old.pending old.link) (out_after_claim c.args.word) eq
 
 pub returns-clause-message : goal.returns-clause-message
@@ -62,13 +60,13 @@ returns-in_err-message-clause-after c =
 pub invariant_of-self : goal.invariant_of-self
 invariant_of-self c =
     let old : OutEnd = c.index_mut-out.result.now in
-    apart_out c.self.inside.ends.items c.args.self.now c.self.view_is c.self.invariant c.args.slot c.requires.slot old
-    c.index_mut-out.ensures.value (record old { link = c.claimed.new.self })
+    apart_out c.self.view_is c.self.invariant c.requires.slot c.index_mut-out.ensures.value
+    (record old { link = c.claimed.new.self })
     (ap (λ (t : TailState). t.edge) c.claimed.ensures.after ∙ claim_keeps c.args.word old.pending old.link)
 
 pub invariant_of-self-2 : goal.invariant_of-self-2
 invariant_of-self-2 c =
     let old : OutEnd = c.index_mut-out.result.now in
-    apart_out c.self.inside.ends.items c.args.self.now c.self.view_is c.self.invariant c.args.slot c.requires.slot old
-    c.index_mut-out.ensures.value (record old { pending = 0; link = c.claimed.new.self })
+    apart_out c.self.view_is c.self.invariant c.requires.slot c.index_mut-out.ensures.value
+    (record old { pending = 0; link = c.claimed.new.self })
     (ap (λ (t : TailState). t.edge) c.claimed.ensures.after ∙ claim_keeps c.args.word old.pending old.link)

@@ -1,32 +1,26 @@
 use Rattle.std.proofs.Common.{◌≡◌, ◌∙◌, ℕ, ◌<◌, false, not, eqb, sym, ap, arith, length, get_or, subst, ne_eqb, eq-eqb}
-use Rattle.chip_actor.specs.Ends.{OutEnd, OutEnds, outs_of, out_on}
+use Rattle.chip_actor.specs.Ends.{OutEnd, OutEnds, out_on}
 use Rattle.chip_actor.proofs.EndLemmas.{out_there, from_more}
 use Rattle.chip_actor.proofs.ends.outs.Outs.next_pending.Goals as goal
+use Rattle.chip_actor.proofs.ends.outs.Outs.next_pending.Goals.{After-index}
+
+-- the place is one of the list, and what the test tells there
+within : (c : After-index) → c.loop-next.next < length c.args.self.now.edges
+within c = subst (λ (o : OutEnds). c.loop-next.next < length o.edges) c.self.view_is
+    (let a = c.self.invariant.one_each in omega arith)
+
+told : (c : After-index) → not (eqb (out_on c.args.self.now (get_or c.args.self.now.edges c.loop-next.next 0)).pending 0)
+    ≡ not (eqb c.index.result.now.pending 0)
+told c = sym (ap (λ (o : OutEnd). not (eqb o.pending 0))
+    (out_there c.self.view_is c.self.invariant c.loop-next.next (within c) c.index.ensures))
 
 pub returns-then-index-ne0 : goal.returns-then-index-ne0
 returns-then-index-ne0 c =
-    let now : OutEnds = c.args.self.now in
-    let n : ℕ = c.loop-next.next in
-    let within : n < length now.edges = subst (λ (o : OutEnds). n < length o.edges) c.self.view_is
-    (let a = c.self.invariant.one_each in omega arith) in
-    let there = out_there (outs_of c.self.inside.ends.items) now
-    c.self.view_is c.self.invariant n within c.index.result.now c.index.ensures in (
-      c.loop-next.auto.next,
-      within,
-      sym (ap (λ (o : OutEnd). not (eqb o.pending 0)) there)
-          ∙ ap not (ne_eqb c.index.result.now.pending 0 c.if-index-ne0.true),
-      c.loop-next.invariant,
-    )
+    let d = (goal.at.returns-then-index-ne0 c).After-index in
+    (c.loop-next.auto.next, within d, told d ∙ ap not (ne_eqb _ 0 c.if-index-ne0.true), c.loop-next.invariant)
 
 pub loop-next-preserved : goal.loop-next-preserved
-loop-next-preserved c =
-    let now : OutEnds = c.args.self.now in
-    let n : ℕ = c.loop-next.next in
-    let within : n < length now.edges = subst (λ (o : OutEnds). n < length o.edges) c.self.view_is
-    (let a = c.self.invariant.one_each in omega arith) in
-    let there = out_there (outs_of c.self.inside.ends.items) now
-    c.self.view_is c.self.invariant n within c.index.result.now c.index.ensures in
-    from_more (λ (k : ℕ). not (eqb (out_on now (get_or now.edges k 0)).pending 0) ≡ false) c.args.place n
-    c.loop-next.invariant
-    (sym (ap (λ (o : OutEnd). not (eqb o.pending 0)) there)
-    ∙ ap not (eq-eqb c.index.result.now.pending 0 c.if-index-ne0.false))
+loop-next-preserved c = from_more
+    (λ (k : ℕ). not (eqb (out_on c.args.self.now (get_or c.args.self.now.edges k 0)).pending 0) ≡ false) c.args.place
+    c.loop-next.next c.loop-next.invariant
+    (told (goal.at.loop-next-preserved c).After-index ∙ ap not (eq-eqb _ 0 c.if-index-ne0.false))

@@ -1,25 +1,19 @@
 use Rattle.std.proofs.Common.{◌∙◌, ap}
 use Rattle.chip_link.specs.Ends.{TailState, put_of}
-use Rattle.chip_actor.specs.Ends.{OutEnd, outs_of, out_after_put}
+use Rattle.chip_actor.specs.Ends.{OutEnd, out_after_put}
 use Rattle.chip_actor.proofs.EndLemmas.{written_out, apart_out, found_out}
 use Rattle.chip_actor.proofs.ends.outs.Outs.put.Goals as goal
 
 pub returns-clause-stored : goal.returns-clause-stored
 returns-clause-stored c =
-    let found = found_out (outs_of c.self.inside.ends.items)
-    c.args.self.now c.self.view_is c.self.invariant c.args.slot c.requires c.index_mut-out.result.now
-    c.index_mut-out.ensures.value in
-    c.put_value.ensures.value ∙ ap (λ (o : OutEnd). put_of o.link) found
+    c.put_value.ensures.value ∙ ap (λ (o : OutEnd). put_of o.link)
+    (found_out c.self.view_is c.self.invariant c.requires c.index_mut-out.ensures.value)
 
 pub returns-clause-after : goal.returns-clause-after
-returns-clause-after c = written_out c.self.inside.ends.items c.args.self.now c.self.view_is c.self.invariant c.args.slot
-    c.requires c.index_mut-out.result.now c.index_mut-out.ensures.value
-    (record c.index_mut-out.result.now { link = c.put_value.new.self })
+returns-clause-after c = written_out c.self.view_is c.self.invariant c.requires c.index_mut-out.ensures.value _
     (ap (λ (t : TailState). t.edge) c.put_value.ensures.after) out_after_put
     (ap (λ (t : TailState). record c.index_mut-out.result.now { link = t }) c.put_value.ensures.after)
 
 pub invariant_of-self : goal.invariant_of-self
-invariant_of-self c = apart_out c.self.inside.ends.items c.args.self.now c.self.view_is c.self.invariant c.args.slot
-    c.requires c.index_mut-out.result.now c.index_mut-out.ensures.value
-    (record c.index_mut-out.result.now { link = c.put_value.new.self })
+invariant_of-self c = apart_out c.self.view_is c.self.invariant c.requires c.index_mut-out.ensures.value _
     (ap (λ (t : TailState). t.edge) c.put_value.ensures.after)

@@ -34,7 +34,7 @@ use Rattle.chip_root.specs.Root.{ended_root}
 use Rattle.chip_part.proofs.EdgeLemmas.{tail_root}
 use Rattle.chip_part.proofs.RuleLemmas.{rules_met, met_rules, root_clear}
 use Rattle.chip_part.proofs.OpeningLemmas.{first_sent, first_fed}
-use Rattle.chip_root.proofs.RootLemmas.{all_outstanding}
+use Rattle.chip_root.proofs.RootLemmas.{first_claims, all_outstanding}
 
 -- ---- one tail
 
@@ -415,19 +415,6 @@ may_feed r e count seen (g, s, stands, can) =
 -- ---- the opening
 
 module _ (g : Setting) (game : IsGame g.game) where
-  first_claims : (v : ℕ) → claims_of ((opening_part g).out (root_edge g v)).link ≡ cond (eqb (start_of g v) 0) 0 1
-  first_claims v =
-      let past = le-ltb (root_edge g v) (graph_edges g) (omega arith) in
-      let at : root_edge g v - graph_edges g ≡ v = omega arith in
-      let put : first_put g (root_edge g v) ≡ cond (eqb (start_of g v) 0) [] (start_of g v ∷ []) =
-      cond_false (ltb (root_edge g v) (graph_edges g)) [] _ past
-      ∙ ap (λ (u : ℕ). cond (eqb (start_of g u) 0) [] (start_of g u ∷ [])) at in
-      ap (λ (l : List ℕ). length l + 0) put ∙ by_chips (eqb (start_of g v) 0) (start_of g v)
-    where
-      by_chips : (b : Bool) (n : ℕ) → length (cond b [] (n ∷ [])) + 0 ≡ cond b 0 1
-      by_chips true n = refl
-      by_chips false n = refl
-
   pub feeder_opens : (f : Feeder) → IsOpeningFeeder g f → Feeds g (opening_part g) f
   feeder_opens f opening = record {
     ended = opening.ended;
@@ -444,7 +431,7 @@ module _ (g : Setting) (game : IsGame g.game) where
         ∙ (λ j. let t : TailState = record {
           edge = root_edge g v;
           ring = g.ring;
-          claims = sym (first_claims v) j;
+          claims = sym (first_claims g v) j;
           held = None;
           clear = false;
           refused = false;
@@ -455,7 +442,7 @@ module _ (g : Setting) (game : IsGame g.game) where
     );
     kept = λ v l. record {
       sealed_never = refl;
-      counted = (let sent = first_sent g v in let n = first_claims v in let few = one_at_most (start_of g v) in
+      counted = (let sent = first_sent g v in let n = first_claims g v in let few = one_at_most (start_of g v) in
           omega arith);
       quiet = λ on. refl;
     };

@@ -2,7 +2,7 @@
 -- The root: what is outstanding at the opening, and how a settle of a root edge changes it.
 use Rattle.std.proofs.Common.{◌≡◌, ℕ, ◌+◌, ◌-◌, ◌<◌, ◌≤◌, cond, eqb, ltb, List, [], ◌∷◌, length}
 use Rattle.std.proofs.Common.{get_or, set, replicate, slice_index, le-ltb, eq-eqb, refl, None}
-use Rattle.std.proofs.Common.{sym, ap, ◌∙◌}
+use Rattle.std.proofs.Common.{sym, ap, ◌∙◌, Bool, true, false}
 use Rattle.std.proofs.Common.{subst, arith, length-set, get_or-set_same, get_or-set_other}
 use Rattle.std.proofs.lemmas.List.{get_or-replicate, length-replicate}
 use Rattle.std.proofs.lemmas.Bool.{leb-true}
@@ -26,19 +26,23 @@ use Rattle.chip_part.proofs.RuleLemmas.{rules_met}
 -- ---- the opening
 
 module _ (g : Setting) where
-  -- one message is outstanding on the root edge of a vertex that starts with chips
-  one_each : (v : ℕ) → outstanding ((opening_part g).out (root_edge g v)) ≡ cond (eqb (start_of g v) 0) 0 1
-  one_each v =
+  -- one message lies on the root edge of a vertex that starts with chips
+  pub first_root : (v : ℕ) → first_put g (root_edge g v) ≡ cond (eqb (start_of g v) 0) [] (start_of g v ∷ [])
+  first_root v =
       let past = le-ltb (root_edge g v) (graph_edges g) (omega arith) in
       let at : root_edge g v - graph_edges g ≡ v = omega arith in
-      let put : first_put g (root_edge g v) ≡ cond (eqb (start_of g v) 0) [] (start_of g v ∷ []) =
       cond_false (ltb (root_edge g v) (graph_edges g)) [] _ past
-      ∙ ap (λ (u : ℕ). cond (eqb (start_of g u) 0) [] (start_of g u ∷ [])) at in
-      ap (λ (l : List ℕ). (length l + 0) - 0) put ∙ dite (ℕ_discrete (start_of g v) 0)
-      (λ z. ap (λ (l : List ℕ). (length l + 0) - 0) (cond_yes (start_of g v) 0 [] (start_of g v ∷ []) z)
-      ∙ sym (cond_yes (start_of g v) 0 0 1 z))
-      (λ z. ap (λ (l : List ℕ). (length l + 0) - 0) (cond_no (start_of g v) 0 [] (start_of g v ∷ []) z)
-      ∙ sym (cond_no (start_of g v) 0 0 1 z))
+      ∙ ap (λ (u : ℕ). cond (eqb (start_of g u) 0) [] (start_of g u ∷ [])) at
+
+  pub first_claims : (v : ℕ) → claims_of ((opening_part g).out (root_edge g v)).link ≡ cond (eqb (start_of g v) 0) 0 1
+  first_claims v = ap (λ (l : List ℕ). length l + 0) (first_root v) ∙ by_chips (eqb (start_of g v) 0) (start_of g v)
+    where
+      by_chips : (b : Bool) (n : ℕ) → length (cond b [] (n ∷ [])) + 0 ≡ cond b 0 1
+      by_chips true n = refl
+      by_chips false n = refl
+
+  one_each : (v : ℕ) → outstanding ((opening_part g).out (root_edge g v)) ≡ cond (eqb (start_of g v) 0) 0 1
+  one_each v = let one = first_claims v in omega arith
 
   pub all_outstanding : IsGame g.game
       → with_chips g.game.start g.game.graph.vertices ≡ deficit g (root g) (opening_part g)

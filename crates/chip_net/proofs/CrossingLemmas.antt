@@ -13,7 +13,7 @@ use Rattle.chip_actor.proofs.actor.ActorState.TheSendSync as state
 use Rattle.chip_net.proofs.trace.Trace.TheSendSync as trace
 use Rattle.chip_net.proofs.net.Net.TheSendSync as shared
 use Rattle.chip_root.proofs.root.RootBooks.TheSendSync as root_state
-use Rattle.chip_net.proofs.reserve.Reserve.TheSendSync as reserve
+use Rattle.chip_net.proofs.readings.Readings.TheSendSync as readings
 use Rattle.chip_net.specs.contracts.root_actor.RootActor as root_actor
 use Rattle.chip_net.specs.contracts.root.Root as root
 use Rattle.chip_net.specs.contracts.actor.Owned as owned
@@ -31,7 +31,7 @@ pub root_actor_send : IsSend root_actor.the_row
 root_actor_send = search (crosses, sendable, seat.the_send, root_state.the_send) depth 60
 
 pub root_send : IsSend root.the_row
-root_send = search (crosses, sendable, root_actor_send, reserve.the_send) depth 60
+root_send = search (crosses, sendable, root_actor_send, readings.the_send) depth 60
 
 pub stopper_send : IsSend stopper.the_row
 stopper_send = search (crosses, sendable, seat.the_send) depth 60

@@ -16,19 +16,13 @@ use Rattle.chip_part.specs.Part.{first_put}
 use Rattle.chip_core.specs.Core.{Step}
 use Rattle.chip_core.specs.Words.{Word, of_edge, of_acks, of_cell, of_vertex, IsWord}
 use Rattle.chip_core.proofs.ShowingLemmas.{other_kind, other_owner, other_cell}
+use Rattle.chip_root.proofs.RootLemmas.{first_root}
 use Rattle.chip_net.specs.Layout.{index_of, word_count, value_in}
 use Rattle.chip_net.specs.Views.{View, find, opening_view}
 use Rattle.chip_net.specs.Rule.{Kept}
 use Rattle.chip_net.specs.Opening.{first_value, AreOpening}
 use Rattle.chip_net.proofs.LayingLemmas.{written_here, written_else}
 use Rattle.chip_net.proofs.ViewingLemmas.{part_there, part_empty}
-
-first_root : (g : Setting) (v : ℕ)
-    → first_put g (graph_edges g + v) ≡ cond (eqb (start_of g v) 0) [] (start_of g v ∷ [])
-first_root g v = cond_false (ltb (graph_edges g + v) (graph_edges g)) _ _
-    (le-ltb (graph_edges g + v) (graph_edges g) (omega arith))
-    ∙ ap (λ (n : ℕ). cond (eqb (start_of g n) 0) [] (start_of g n ∷ [])) (let is : (graph_edges g + v) - graph_edges g
-    ≡ v = omega arith in is)
 
 -- of a count of edges, one more only matters at that edge
 counted : (e n : ℕ) (x : ℕ) → (e ≡ n → x ≡ 0) → cond (ltb e n) x 0 ≡ cond (ltb e (n + 1)) x 0

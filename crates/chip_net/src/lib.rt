@@ -16,7 +16,6 @@ mod open;
 mod poll;
 mod readings;
 mod receipt;
-mod reserve;
 mod root;
 mod root_actor;
 mod rule;

@@ -197,13 +197,8 @@ impl Net {
             (record { net = r.0; root = r.1; actors = r.2; stopper = r.3 })) }
     {
         let setting = Setting::of_copy(alloc, game, Ring::of(ring), false)?;
-        let Opened {
-            net,
-            root,
-            actors,
-            stopper,
-        } = Net::of(alloc, setting, trace_rows, stoppable)?;
-        Ok((net, root, actors, stopper))
+        let opened = Net::of(alloc, setting, trace_rows, stoppable)?;
+        Ok((opened.net, opened.root, opened.actors, opened.stopper))
     }
 
     /// The same where the root may feed more chips, until it notes the end of feeding: the net can't close before.
@@ -219,12 +214,7 @@ impl Net {
             (record { net = r.0; root = r.1; actors = r.2; stopper = r.3 })) }
     {
         let setting = Setting::of_copy(alloc, game, Ring::of(ring), true)?;
-        let Opened {
-            net,
-            root,
-            actors,
-            stopper,
-        } = Net::of(alloc, setting, trace_rows, stoppable)?;
-        Ok((net, root, actors, stopper))
+        let opened = Net::of(alloc, setting, trace_rows, stoppable)?;
+        Ok((opened.net, opened.root, opened.actors, opened.stopper))
     }
 }

@@ -5,17 +5,18 @@ use chip_link::FiredWord;
 use std::alloc::{AllocError, Global};
 use std::marker::Model;
 
-/// What the fired words tell, of one vertex after another. All memory is taken at the beginning.
+/// What the fired words tell, of one vertex after another, and room for chips. All memory is taken at the beginning.
 #[derive(Drop)]
 pub(crate) struct Readings {
     pub(crate) fired: Vec<u64>,
     pub(crate) over: Vec<u64>,
     pub(crate) sealed: Vec<u64>,
+    pub(crate) chips: Vec<u64>,
     room: usize,
 }
 
 impl Model for Readings {
-    ghost use Rattle.std.specs.Prelude.{◌+◌, ◌≤◌, length};
+    ghost use Rattle.std.specs.Prelude.{◌≡◌, ◌+◌, ◌≤◌, length};
     ghost use Rattle.std.specs.Vec.{vec_capacity};
     ghost use Rattle.chip_net.specs.Finish.{ReadingsState};
 
@@ -25,11 +26,12 @@ impl Model for Readings {
 
     ghost invariant = { λ a. (length a.fired.items + a.room ≤ vec_capacity a.fired)
         × (length a.over.items + a.room ≤ vec_capacity a.over)
-        × (length a.sealed.items + a.room ≤ vec_capacity a.sealed) };
+        × (length a.sealed.items + a.room ≤ vec_capacity a.sealed)
+        × (length a.chips.items ≡ length a.fired.items + a.room) };
 }
 
 impl Readings {
-    /// A readings of no vertex, with room for so many.
+    /// Those of no vertex, with room for so many.
     pub(crate) fn new(alloc: Global, room: usize) -> Result<Readings, AllocError>
         ensures { IfOk result (λ readings. readings ≡ no_readings room) }
     {
@@ -37,6 +39,7 @@ impl Readings {
             fired: Vec::with_capacity(alloc, room)?,
             over: Vec::with_capacity(alloc, room)?,
             sealed: Vec::with_capacity(alloc, room)?,
+            chips: vec![in alloc; 0; room]?,
             room,
         })
     }

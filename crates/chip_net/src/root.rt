@@ -3,13 +3,12 @@ ghost use Rattle.chip_part.specs.Setting.{IsSetting};
 ghost use Rattle.chip_part.specs.Edges.{root, stopper};
 ghost use Rattle.chip_net.specs.Views.{find};
 ghost use Rattle.chip_net.specs.Roots.{new_root, with_stopper, IsOver, Feeds, RefusesFeed, Polls, Ends};
-ghost use Rattle.chip_net.specs.Finish.{Finishes};
+ghost use Rattle.chip_net.specs.Finish.{Finishes, no_readings};
 
 use crate::net::Net;
 use crate::poll::{FeedFault, RootState};
 use crate::readings::Readings;
 use crate::receipt::Receipt;
-use crate::reserve::Reserve;
 use crate::root_actor::RootActor;
 use crate::rule::PartSeat;
 use crate::stopper::Stopper;
@@ -23,19 +22,20 @@ use std::marker::{Brand, Model};
 #[derive(Drop)]
 pub struct Root {
     actor: Box<RootActor>,
-    reserve: Box<Reserve>,
+    readings: Box<Readings>,
 }
 
 impl Model for Root {
     ghost use Rattle.std.specs.Prelude.{◌≡◌};
     ghost use Rattle.chip_net.specs.Roots.{RootKnown, HoldsNothing};
+    ghost use Rattle.chip_net.specs.Finish.{no_readings};
 
     ghost Value = { RootKnown };
 
     ghost view = { λ a. a.actor.value };
 
     ghost invariant = { λ a. HoldsNothing a.actor.value
-        × (a.reserve.value ≡ a.actor.value.net.setting.game.graph.vertices) };
+        × (a.readings.value ≡ no_readings a.actor.value.net.setting.game.graph.vertices) };
 }
 
 impl Root {
@@ -46,7 +46,7 @@ impl Root {
             (find (stopper setting.now) seat.me.0.parts)) }
     {
         Ok(Root {
-            reserve: Box::new(alloc, Reserve::new(alloc, setting.vertices() as usize)?)?,
+            readings: Box::new(alloc, Readings::new(alloc, setting.vertices() as usize)?)?,
             actor: Box::new(alloc, RootActor::new(alloc, setting, seat)?)?,
         })
     }
@@ -120,27 +120,24 @@ impl Root {
         if !self.actor.is_closed() {
             return Err(self);
         }
-        let Root { actor, reserve } = self;
-        Ok(read_outcome(net, Box::into_inner(actor), Box::into_inner(reserve)))
+        let Root { actor, readings } = self;
+        Ok(read_outcome(net, Box::into_inner(actor), Box::into_inner(readings)))
     }
 }
 
 /// The end of a game that is over: the reads, and what is made of them.
-fn read_outcome(net: &Net, actor: RootActor, reserve: Reserve) -> (Outcome, Receipt)
+fn read_outcome(net: &Net, actor: RootActor, readings: Readings) -> (Outcome, Receipt)
     requires net { actor.net ≡ net.now }
     requires over { IsOver actor }
-    requires reserve { reserve ≡ actor.net.setting.game.graph.vertices }
+    requires readings { readings ≡ no_readings actor.net.setting.game.graph.vertices }
     ensures { Finishes actor result.1 result.0 }
 {
-    let Reserve {
-        mut chips,
-        readings,
-    } = reserve;
     let (state, mut receipt) = actor.into_receipt();
     let Readings {
         fired,
         over,
         sealed,
+        mut chips,
         ..
     } = receipt.read_all(net, readings);
     let graph = net.setting().game().graph();

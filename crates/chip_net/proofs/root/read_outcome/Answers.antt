@@ -1,7 +1,9 @@
-use Rattle.std.proofs.Common.{◌≡◌, ℕ, List, sym, ap, ◌∙◌, subst}
+use Rattle.std.proofs.Common.{◌≡◌, ℕ, List, length, sym, ap, ◌∙◌, subst, arith}
 use Rattle.std.specs.Vec.{with_items}
-use Rattle.std.proofs.lemmas.List.{with_items_is}
+use Rattle.std.proofs.lemmas.List.{with_items_is, length-map}
 use Rattle.chip_graph.specs.ChipGame.{ChipGame}
+use Rattle.chip_graph.specs.Multigraph.{Multigraph}
+use Rattle.chip_link.specs.Words.{fired_in}
 use Rattle.chip_sequence.specs.declared.outcome.Outcome.{Outcome}
 use Rattle.chip_sequence.specs.Counted.{IsAfter, game_from}
 use Rattle.chip_sequence.specs.Faults.{IsNegative}
@@ -32,19 +34,32 @@ abbrev played : After-deref_mut → ChipGame
 played c = game c.args.actor c.read_all.new.self c.into_receipt-state.ensures.setting c.read_all.result (reading c)
     c.given.result.now (are c)
 
+graph_is : (c : After-deref_mut) → c.graph-graph.result.now ≡ c.args.actor.net.setting.game.graph
+graph_is c = c.graph-graph.ensures.value
+    ∙ ap (λ (k : ChipGame). k.graph) (c.game.ensures.value ∙ ap (λ (g : Setting). g.game) (c.setting.ensures.value
+    ∙ ap (λ (n : NetId). n.setting) (sym c.requires.net)))
+
 game_is : (c : After-deref_mut)
     → game_from c.graph-graph.result.now c.given.result.now c.args.actor.net.setting.game.limit ≡ played c
 game_is c =
-    let graph : c.graph-graph.result.now ≡ c.args.actor.net.setting.game.graph = c.graph-graph.ensures.value
-    ∙ ap (λ (k : ChipGame). k.graph) (c.game.ensures.value ∙ ap (λ (g : Setting). g.game) (c.setting.ensures.value
-    ∙ ap (λ (n : NetId). n.setting) (sym c.requires.net))) in
-    λ j. game_from (graph j) c.given.result.now c.args.actor.net.setting.game.limit
+    λ j. game_from (graph_is c j) c.given.result.now c.args.actor.net.setting.game.limit
 
 pub after_from-requires-clause-few_chips : goal.after_from-requires-clause-few_chips
 after_from-requires-clause-few_chips c =
     let d = (goal.at.after_from-requires-clause-few_chips c).After-deref_mut in
     few c.args.actor c.read_all.new.self c.into_receipt-state.ensures.setting c.read_all.result (reading d)
     c.given.result.now (are d)
+
+-- there is room for the chips of each vertex
+pub after_from-requires-clause-chips_each : goal.after_from-requires-clause-chips_each
+after_from-requires-clause-chips_each c =
+    let d = (goal.at.after_from-requires-clause-chips_each c).After-deref_mut in
+    let reads = reading d in
+    let room = ap (λ (t : ReadingsState). t.room) c.fired.view_is ∙ reads.room_is in
+    let count = ap length (fired_is d ∙ reads.tallied.fired) ∙ length-map reads.words fired_in ∙ reads.count_is in
+    let graph = ap (λ (k : Multigraph). k.vertices) (graph_is d) in
+    let long = c.fired.invariant.3 in let at = c.deref_mut.ensures.len in
+    omega arith
 
 pub unreachable-requires : goal.unreachable-requires
 unreachable-requires c =
@@ -62,7 +77,7 @@ returns c =
     let d = (goal.at.returns c).After-deref_mut in
     let o : Outcome = record {
       fired = c.fired.inside.fired;
-      chips = with_items c.reserve.inside.chips c.after_from.new.into;
+      chips = with_items c.fired.inside.chips c.after_from.new.into;
       over = c.fired.inside.over;
       sealed = c.fired.inside.sealed;
     } in
@@ -73,7 +88,7 @@ returns c =
     (c.in-Ok.ensures.cases c.args.actor.net.setting.game.limit)) in
     let chips : IsAfter (played d) c.fired.inside.fired.items o.chips.items =
     subst (IsAfter (played d) c.fired.inside.fired.items)
-    (sym (with_items_is c.reserve.inside.chips c.after_from.new.into (c.after_from.auto.into ∙ c.deref_mut.ensures.len)))
+    (sym (with_items_is c.fired.inside.chips c.after_from.new.into (c.after_from.auto.into ∙ c.deref_mut.ensures.len)))
     into in
     finishes c.args.actor c.read_all.new.self c.into_receipt-state.ensures.setting c.read_all.result (reading d)
     c.given.result.now (are d) o (fired_is d) (ap (λ (t : ReadingsState). t.over) c.fired.view_is)

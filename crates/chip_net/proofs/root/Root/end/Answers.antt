@@ -1,6 +1,7 @@
 use Rattle.std.proofs.Common.{◌≡◌, ◌-◌, sym, ap, ◌∙◌, subst}
 use Rattle.chip_core.specs.Core.{End}
 use Rattle.chip_net.specs.Tokens.{NetId}
+use Rattle.chip_net.specs.Finish.{no_readings}
 use Rattle.chip_net.specs.Roots.{RootKnown, HoldsNothing, DoesMore, settles_from, Ends}
 use Rattle.chip_net.proofs.RootingLemmas.{does_after, holds_by, held_end, stays_over, over_by_end}
 use Rattle.chip_net.proofs.root.Root.end.Goals as goal
@@ -12,8 +13,9 @@ invariant_of-self c =
     ∙ ap (λ (r : RootKnown). r.net) c.make.ensures.made.record_is in (
       c.settle_from.ensures.holds (holds_by c.deref_mut-actor.result.now c.make.new.self End c.make.ensures.seen
           (held_end c.make.ensures.seen) c.make.ensures.made (subst HoldsNothing (sym c.deref_mut-actor.ensures.value) c.self.invariant.0)),
-      subst (λ (n : NetId). c.self.inside.reserve.value ≡ n.setting.game.graph.vertices) (sym net)
-          (c.self.invariant.1 ∙ ap (λ (r : RootKnown). r.net.setting.game.graph.vertices) (sym c.deref_mut-actor.ensures.value)),
+      subst (λ (n : NetId). c.self.inside.readings.value ≡ no_readings n.setting.game.graph.vertices) (sym net)
+          (c.self.invariant.1 ∙ ap (λ (r : RootKnown). no_readings r.net.setting.game.graph.vertices)
+          (sym c.deref_mut-actor.ensures.value)),
     )
 
 pub returns-clause-ends : goal.returns-clause-ends

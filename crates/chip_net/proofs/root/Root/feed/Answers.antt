@@ -1,6 +1,7 @@
 use Rattle.std.proofs.Common.{◌≡◌, ◌<◌, sym, ap, ◌∙◌, subst}
 use Rattle.chip_part.specs.Setting.{Setting}
 use Rattle.chip_part.specs.Edges.{root_edge}
+use Rattle.chip_net.specs.Finish.{no_readings}
 use Rattle.chip_net.specs.Tokens.{NetId}
 use Rattle.chip_net.specs.Roots.{RootKnown, HoldsNothing, Feeds}
 use Rattle.chip_net.proofs.SendingLemmas.{MayFeed, look_due, look_done, due2, due3, free1, free3, feeds}
@@ -23,12 +24,12 @@ may c = record {
   given = c.in_ok-may_feed.ensures.2;
 }
 
--- the reserve is as long as before
+-- there is as much room as before
 room : (c : In_ok-may_feed) (n : NetId) → n ≡ c.deref_mut-actor.result.now.net
-    → c.self.inside.reserve.value ≡ n.setting.game.graph.vertices
+    → c.self.inside.readings.value ≡ no_readings n.setting.game.graph.vertices
 room c n same = c.self.invariant.1
-    ∙ ap (λ (r : RootKnown). r.net.setting.game.graph.vertices) (sym c.deref_mut-actor.ensures.value)
-    ∙ ap (λ (m : NetId). m.setting.game.graph.vertices) (sym same)
+    ∙ ap (λ (r : RootKnown). no_readings r.net.setting.game.graph.vertices) (sym c.deref_mut-actor.ensures.value)
+    ∙ ap (λ (m : NetId). no_readings m.setting.game.graph.vertices) (sym same)
 
 pub make-requires-clause-due : goal.make-requires-clause-due
 make-requires-clause-due c = look_due _ _ _ _ (may (goal.at.make-requires-clause-due c).In_ok-may_feed)

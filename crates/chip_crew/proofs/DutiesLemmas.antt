@@ -6,6 +6,11 @@ use Rattle.std.proofs.Math.Nat.{add-mod_right}
 use Rattle.chip_crew.specs.Duties.{BeginsEach, EndsIf, Serves}
 use Rattle.chip_crew.proofs.DealingLemmas.{place_is}
 
+-- with a whole round more there are whole rounds
+pub round_over : (round m k : ℕ) → k ≡ round → m % round ≡ 0 → (m + k) % round ≡ 0
+round_over round m k whole begins =
+    ap (λ (n : ℕ). (m + n) % round) whole ∙ add-mod_right m round ∙ begins
+
 module _ {D : Type 0} (before : ℕ → D → D → Type 0) where
   -- one turn more
   pub begins_more : (from k : ℕ) (old was now : D) → BeginsEach before from k old was → before (from + k) was now
@@ -13,69 +18,45 @@ module _ {D : Type 0} (before : ℕ → D → D → Type 0) where
   begins_more from k old was now each here =
       subst (λ (n : ℕ). BeginsEach before from n old now) (sym (add-one k)) (was, each, here)
 
-  module _ (after : D → D → Type 0) where
-    -- turns of a round that is not over
-    pub serves_more : (round m k : ℕ) (old was now : D) → m % round ≡ 0 → k < round → Serves before after round m old was
-        → BeginsEach before m k was now → Serves before after round (m + k) old now
-    serves_more round m zero old was now begins less served same =
-        let here : m ≡ m + 0 = omega arith in
-        subst (λ (z : ℕ × D). Serves before after round z.0 old z.1) (λ i. (here i, sym same i)) served
-    serves_more round m (suc k) old was now begins less served each =
-        let next : suc (m + k) ≡ m + suc k = omega arith in
-        let place : suc (m + k) % round ≡ suc k =
-        ap (λ (n : ℕ). n % round) next ∙ place_is m (suc k) round begins less in
-        let on : (suc (m + k) % round == 0) ≡ false = ne_eqb (suc (m + k) % round) 0 (λ zero_is. absurd (omega (arith, place, zero_is))) in
-        subst (λ (n : ℕ). Serves before after round n old now) next (
-          each.0,
-          now,
-          serves_more round m k old was each.0 begins (omega (arith, less)) served each.1,
-          each.2,
-          subst (λ (b : Bool). EndsIf after b now now) (sym on) refl,
-        )
-
-    -- a whole round
-    whole_round : (round m : ℕ) (old was now end : D) → m % round ≡ 0 → 0 < round
-        → Serves before after round m old was → BeginsEach before m round was now → after now end
-        → Serves before after round (m + round) old end
-    whole_round zero m old was now end begins some served each done = absurd (omega (arith, some))
-    whole_round (suc j) m old was now end begins some served each done =
-        let next : suc (m + j) ≡ m + suc j = omega arith in
-        let over : (suc (m + j) % suc j == 0) ≡ true = eq-eqb (suc (m + j) % suc j) 0
-        (ap (λ (n : ℕ). n % suc j) next ∙ add-mod_right m (suc j) ∙ begins) in
-        subst (λ (n : ℕ). Serves before after (suc j) n old end) next (
-          each.0,
-          now,
-          serves_more (suc j) m j old was each.0 begins (omega arith) served each.1,
-          each.2,
-          subst (λ (b : Bool). EndsIf after b now end) (sym over) done,
-        )
-
-    pub serves_round : (round m k : ℕ) (old was now end : D) → k ≡ round → m % round ≡ 0 → 0 < round
-        → Serves before after round m old was → BeginsEach before m k was now → after now end
-        → Serves before after round (m + k) old end
-    serves_round round m k old was now end whole begins some served each done =
-        subst (λ (n : ℕ). Serves before after round (m + n) old end) (sym whole)
-        (whole_round round m old was now end begins some served
-        (subst (λ (n : ℕ). BeginsEach before m n was now) whole each) done)
-
+  module _ (after : D → D → Type 0) (round : ℕ) where
     -- one turn more, where a round is not over, and where it is
-    pub serves_turn : (round k : ℕ) (old was now : D) → Serves before after round k old was → before k was now
+    pub serves_turn : (k : ℕ) (old was now : D) → Serves before after round k old was → before k was now
         → ((k + 1) % round ≡ 0 → ⊥) → Serves before after round (k + 1) old now
-    serves_turn round k old was now served begun within =
+    serves_turn k old was now served begun within =
         let on : (suc k % round == 0) ≡ false =
         ne_eqb (suc k % round) 0 (λ over. within (ap (λ (n : ℕ). n % round) (add-one k) ∙ over)) in
         subst (λ (n : ℕ). Serves before after round n old now) (sym (add-one k))
         (was, now, served, begun, subst (λ (b : Bool). EndsIf after b now now) (sym on) refl)
 
-    pub serves_end : (round k : ℕ) (old was now end : D) → Serves before after round k old was → before k was now
+    pub serves_end : (k : ℕ) (old was now end : D) → Serves before after round k old was → before k was now
         → (k + 1) % round ≡ 0 → after now end → Serves before after round (k + 1) old end
-    serves_end round k old was now end served begun over done =
+    serves_end k old was now end served begun over done =
         let on : (suc k % round == 0) ≡ true =
         eq-eqb (suc k % round) 0 (ap (λ (n : ℕ). n % round) (sym (add-one k)) ∙ over) in
         subst (λ (n : ℕ). Serves before after round n old end) (sym (add-one k))
         (was, now, served, begun, subst (λ (b : Bool). EndsIf after b now end) (sym on) done)
 
--- with a whole round more there are whole rounds
-pub round_over : (round m k : ℕ) → k ≡ round → m % round ≡ 0 → (m + k) % round ≡ 0
-round_over round m k whole begins =
-    ap (λ (n : ℕ). (m + n) % round) whole ∙ add-mod_right m round ∙ begins
+    -- turns of a round that is not over
+    pub serves_more : (m k : ℕ) (old was now : D) → m % round ≡ 0 → k < round → Serves before after round m old was
+        → BeginsEach before m k was now → Serves before after round (m + k) old now
+    serves_more m zero old was now begins less served same =
+        let here : m ≡ m + 0 = omega arith in
+        subst (λ (z : ℕ × D). Serves before after round z.0 old z.1) (λ i. (here i, sym same i)) served
+    serves_more m (suc k) old was now begins less served each =
+        let next : m + k + 1 ≡ m + suc k = omega arith in
+        let place = ap (λ (n : ℕ). n % round) next ∙ place_is m (suc k) round begins less in
+        subst (λ (n : ℕ). Serves before after round n old now) next
+        (serves_turn (m + k) old each.0 now (serves_more m k old was each.0 begins (omega (arith, less)) served each.1) each.2
+        (λ over. absurd (omega (arith, place, over))))
+
+    -- a whole round
+    pub serves_round : (m k : ℕ) (old was now end : D) → k ≡ round → m % round ≡ 0 → 0 < round
+        → Serves before after round m old was → BeginsEach before m k was now → after now end
+        → Serves before after round (m + k) old end
+    serves_round m zero old was now end whole begins some served each done = absurd (omega (arith, whole, some))
+    serves_round m (suc j) old was now end whole begins some served each done =
+        let next : m + j + 1 ≡ m + suc j = omega arith in
+        subst (λ (n : ℕ). Serves before after round n old end) next
+        (serves_end (m + j) old each.0 now end
+        (serves_more m j old was each.0 begins (omega (arith, whole)) served each.1) each.2
+        (ap (λ (n : ℕ). n % round) next ∙ round_over round m (suc j) whole begins) done)

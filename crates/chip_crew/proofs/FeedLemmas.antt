@@ -158,24 +158,31 @@ goes_on a b c x y z first last = record {
   may = λ may. last.may (first.may may);
 }
 
+-- these were fed, of those that were left
+adds_some : (more left : List (ℕ × ℕ)) (old new : RootKnown) → Adds old new more (has_ended old)
+    → GoesOn (Some (more ++ left)) (Some left) old new
+adds_some more left old new adds = record {
+  net = adds.net;
+  stopper = adds.stopper;
+  fed = ap (λ (l : List (ℕ × ℕ)). l ++ left) adds.fed ∙ append_assoc (fed_by old) more left;
+  may = λ may. may_after old new more left adds may;
+}
+
+-- nothing was, and nothing is left
+adds_none : (feeds : Left) (ended : Bool) (old new : RootKnown) → pairs feeds ≡ [] → Adds old new [] ended
+    → GoesOn feeds None old new
+adds_none feeds ended old new none adds = record {
+  net = adds.net;
+  stopper = adds.stopper;
+  fed = ap (λ (l : List (ℕ × ℕ)). l ++ []) (adds.fed ∙ append-nil (fed_by old))
+      ∙ ap (λ (l : List (ℕ × ℕ)). fed_by old ++ l) (sym none);
+  may = λ may. tt;
+}
+
 -- a poll leaves what is left
 pub poll_goes_on : (left : Left) (old new : RootKnown) (n : ℕ) → IsPolling old new n → GoesOn left left old new
-poll_goes_on None old new n polling =
-    let adds = poll_adds old new n polling in
-    record {
-      net = adds.net;
-      stopper = adds.stopper;
-      fed = ap (λ (l : List (ℕ × ℕ)). l ++ []) (adds.fed ∙ append-nil (fed_by old));
-      may = λ may. tt;
-    }
-poll_goes_on (Some left) old new n polling =
-    let adds = poll_adds old new n polling in
-    record {
-      net = adds.net;
-      stopper = adds.stopper;
-      fed = ap (λ (l : List (ℕ × ℕ)). l ++ left) (adds.fed ∙ append-nil (fed_by old));
-      may = λ may. may_after old new [] left adds may;
-    }
+poll_goes_on None old new n polling = adds_none None (has_ended old) old new refl (poll_adds old new n polling)
+poll_goes_on (Some left) old new n polling = adds_some [] left old new (poll_adds old new n polling)
 
 -- the first that is left was fed, or is left still
 next_goes_on : (feeds left : List (ℕ × ℕ)) (old new : RootKnown) → FeedsNext feeds left old new
@@ -183,37 +190,18 @@ next_goes_on : (feeds left : List (ℕ × ℕ)) (old new : RootKnown) → FeedsN
 next_goes_on [] left old new next = stays (Some []) (Some left) old new (ap Some next.0) next.1
 next_goes_on (pair ∷ rest) left old new next = ⊎_elim
     (λ (h : (left ≡ rest) × ((place : ℕ) × Feeds old new pair.0 pair.1 place)).
-    let adds = feed_adds old new pair.0 pair.1 h.1.0 h.1.1 in
     subst (λ (l : List (ℕ × ℕ)). GoesOn (Some (pair ∷ rest)) (Some l) old new) (sym h.0)
-    (record {
-      net = adds.net;
-      stopper = adds.stopper;
-      fed = ap (λ (l : List (ℕ × ℕ)). l ++ rest) adds.fed ∙ append_assoc (fed_by old) (pair ∷ []) rest;
-      may = λ may. may_after old new (pair ∷ []) rest adds may;
-    }))
+    (adds_some (pair ∷ []) rest old new (feed_adds old new pair.0 pair.1 h.1.0 h.1.1)))
     (λ (h : (left ≡ pair ∷ rest) × LooksInVain old new pair.0).
-    let adds = look_adds old new pair.0 h.1 in
     subst (λ (l : List (ℕ × ℕ)). GoesOn (Some (pair ∷ rest)) (Some l) old new) (sym h.0)
-    (record {
-      net = adds.net;
-      stopper = adds.stopper;
-      fed = ap (λ (l : List (ℕ × ℕ)). l ++ (pair ∷ rest)) (adds.fed ∙ append-nil (fed_by old));
-      may = λ may. may_after old new [] (pair ∷ rest) adds may;
-    }))
+    (adds_some [] (pair ∷ rest) old new (look_adds old new pair.0 h.1)))
     next
 
 -- the end is noted where nothing is left
 end_goes_on : (rest : List (ℕ × ℕ)) (left : Left) (old new : RootKnown) → EndsAfter rest left old new
     → GoesOn (Some rest) left old new
-end_goes_on [] left old new ends =
-    let adds = end_adds old new ends.1.0 ends.1.1 in
-    subst (λ (l : Left). GoesOn (Some []) l old new) (sym ends.0)
-    (record {
-      net = adds.net;
-      stopper = adds.stopper;
-      fed = ap (λ (l : List (ℕ × ℕ)). l ++ []) (adds.fed ∙ append-nil (fed_by old));
-      may = λ may. tt;
-    })
+end_goes_on [] left old new ends = subst (λ (l : Left). GoesOn (Some []) l old new) (sym ends.0)
+    (adds_none (Some []) true old new refl (end_adds old new ends.1.0 ends.1.1))
 end_goes_on (pair ∷ rest) left old new ends = stays (Some (pair ∷ rest)) left old new ends.0 ends.1
 
 pub once_goes_on : (feeds left : Left) (old new : RootKnown) → FeedsOnce feeds left old new

@@ -1,5 +1,5 @@
 -- Serves Leading.antt.
--- What worker 0 does beside its turns is to leader the root, and to seal.
+-- What worker 0 does beside its turns is to lead the root, and to seal.
 use Rattle.std.proofs.Common.{◌≡◌, ℕ, zero, suc, ◌%◌, ◌==◌, ◌<◌, Bool, true, false, Option, Some, None, IfSome}
 use Rattle.std.proofs.Common.{sym, ap, ◌∙◌, subst, add-one}
 use Rattle.std.specs.Option.{option_copied}

@@ -2,24 +2,27 @@
 -- Where the run of a worker begins and ends, and what its turns leave of it.
 use Rattle.std.proofs.Common.{◌^◌, ◌≡◌, ℕ, zero, suc, ◌+◌, ◌*◌, ◌%◌, ◌<◌, ◌≤◌, ◌-◌, ◌==◌, max, Bool, true, false, if◌then◌else◌, List, [], ◌∷◌, length}
 use Rattle.std.proofs.Common.{Option, Some, None, take, length-append, length-take}
-use Rattle.std.proofs.Common.{◌++◌, get_or, set, refl, sym, ap, ◌∙◌, subst, arith, add-one, zero-add, mul-lt-mul_of_pos_right}
-use Rattle.std.proofs.Common.{mul_comm}
+use Rattle.std.proofs.Common.{get_or, set, refl, sym, ap, ◌∙◌, subst, arith, add-one, zero-add, mul-lt-mul_of_pos_right}
+use Rattle.std.proofs.Common.{mul_comm, le_antisymm}
 use Rattle.std.specs.Prelude.{slice_get}
 use Rattle.std.proofs.lemmas.Nat.{mul-le}
 use Rattle.std.proofs.Math.Nat.{mod-add-mod, mod-eq_of_lt}
-use Rattle.std.proofs.lemmas.List.{length-set, set-append_left}
+use Rattle.std.proofs.lemmas.List.{length-set}
 use mathlib.Core.Logic.{dite}
 use native.Mathlib.Decide.{ℕ_discrete, dec_lt}
-use Rattle.std.proofs.lemmas.Option.{slice_get-get_or}
+use Rattle.std.proofs.lemmas.Option.{slice_get_read, slice_get_past, slice_get_within, get_or_from_slice_get}
+use Rattle.std.proofs.lemmas.List.Sums.{sum_by-set}
 use Rattle.chip_graph.specs.Sums.{filter_below}
 use Rattle.chip_graph.specs.Multigraph.{Multigraph, edge_at, edges_out, edges_in}
 use Rattle.chip_net.specs.Tokens.{ActorKnown, MakesTurn}
 use Rattle.chip_net.specs.declared.actor.Turn.{Turn}
 use Rattle.chip_crew.specs.Crew.{CrewId, Turned, IsOurs, IsAt, AreFrom, turns_of, all_turns}
 use Rattle.chip_crew.specs.Dealing.{ends_at, ends_before, IsCut, IsFirstOf, AreOf}
-use Rattle.chip_crew.specs.Rounds.{TurnsThere, TurnsAt, RoundsMade, TurnsInRow}
+use Rattle.chip_crew.specs.Rounds.{TurnsThere, TurnsAt, RoundsMade}
+use Rattle.chip_crew.specs.Handed.{HasDealt}
+use Rattle.chip_crew.specs.Asked.{Asked, passes}
 use Rattle.chip_crew.proofs.TurnLemmas.{turn_counts}
-use Rattle.chip_crew.proofs.RunLemmas.{from_at, from_set, from_take, sum_at}
+use Rattle.chip_crew.proofs.RunLemmas.{from_at, from_set, from_take, from_all}
 
 -- at most so many are picked
 one_at_most : (b : Bool) (n : ℕ) → length (if b then n ∷ [] else []) ≤ 1
@@ -38,6 +41,9 @@ few_ends G v few =
     let outs = few_picked (λ e. (edge_at G e).tail == v) (length G.edges) in
     let ins = few_picked (λ e. (edge_at G e).head == v) (length G.edges) in omega (arith, few, outs, ins)
 
+no_more : (v w : ℕ) → (w < v → ⊥) → v ≤ w
+no_more v w less = omega (arith, less)
+
 module _ (G : Multigraph) where
   -- each vertex has an end of an edge
   one_more : (n a b : ℕ) → n < n + (a + b + 1)
@@ -54,9 +60,6 @@ module _ (G : Multigraph) where
 
   module _ (workers : ℕ) where
     -- the first worker begins at vertex 0
-    pub cut_zero : IsCut G workers 0 0
-    cut_zero = record { reached = omega arith; least = λ u less. absurd (omega (arith, less)) }
-
     pub cut_first : (v : ℕ) → IsCut G workers 0 v → v ≡ 0
     cut_first zero cut = refl
     cut_first (suc v) cut = let below = cut.least 0 (omega arith) in absurd (omega (arith, below))
@@ -67,47 +70,33 @@ module _ (G : Multigraph) where
         absurd (omega (arith, below, reached))
 
     pub cut_same : (worker v w : ℕ) → IsCut G workers worker v → IsCut G workers worker w → v ≡ w
-    cut_same worker v w cut other = dite (ℕ_discrete v w) (λ same. same)
-        (λ different. absurd (by_order (λ less. not_less worker v w cut other less)
-        (λ less. not_less worker w v other cut less) different))
-      where
-        by_order : (v < w → ⊥) → (w < v → ⊥) → (v ≡ w → ⊥) → ⊥
-        by_order a b c = absurd (omega (arith, a, b, c))
+    cut_same worker v w cut other = le_antisymm (no_more v w (λ less. not_less worker w v other cut less))
+        (no_more w v (λ less. not_less worker v w cut other less))
 
     -- it is a vertex, or the number of all
     pub cut_within : (worker v : ℕ) → worker ≤ workers → IsCut G workers worker v → v ≤ G.vertices
-    cut_within worker v few cut = by_order (λ less.
+    cut_within worker v few cut = no_more v G.vertices (λ less.
         let below = cut.least G.vertices less in
         let share = mul-le worker (ends_before G G.vertices) workers (ends_before G G.vertices) few (omega arith) in
         absurd (omega (arith, below, share)))
-      where
-        by_order : (G.vertices < v → ⊥) → v ≤ G.vertices
-        by_order a = omega (arith, a)
 
     -- after the last worker there is no vertex
     pub cut_last : (v : ℕ) → 0 < workers → IsCut G workers workers v → v ≡ G.vertices
-    cut_last v some cut =
-        let within = cut_within workers v (omega arith) cut in by_order within (λ less.
+    cut_last v some cut = le_antisymm (cut_within workers v (omega arith) cut) (no_more G.vertices v (λ less.
         let grown = ends_grow v G.vertices less in
         let more = mul-lt-mul_of_pos_right grown some in
         let turned = mul_comm workers (ends_before G v) in
         let turned_all = mul_comm workers (ends_before G G.vertices) in
         let reached = cut.reached in
-        absurd (omega (arith, more, turned, turned_all, reached)))
-      where
-        by_order : v ≤ G.vertices → (v < G.vertices → ⊥) → v ≡ G.vertices
-        by_order a b = omega (arith, a, b)
+        absurd (omega (arith, more, turned, turned_all, reached))))
 
     -- the next worker begins there or behind
     pub cut_grows : (worker v w : ℕ) → IsCut G workers worker v → IsCut G workers (worker + 1) w → v ≤ w
-    cut_grows worker v w cut next = by_order (λ less.
+    cut_grows worker v w cut next = no_more v w (λ less.
         let below = cut.least w less in let reached = next.reached in
         let share = mul-le worker (ends_before G G.vertices) (worker + 1) (ends_before G G.vertices) (omega arith)
         (omega arith) in
         absurd (omega (arith, below, reached, share)))
-      where
-        by_order : (w < v → ⊥) → v ≤ w
-        by_order a = omega (arith, a)
 
     -- so one goes on from there to the first vertex of the next
     pub cut_next : (worker v w share ends : ℕ) → IsCut G workers worker v
@@ -177,8 +166,10 @@ turns_there : (place : ℕ) (next : Option ActorKnown) (old new : List ActorKnow
     → TurnsThere place next old new → all_turns new ≤ all_turns old + 1
 turns_there place None old new at same = let all = ap all_turns same in omega (arith, all)
 turns_there place (Some next) old new at turns =
-    let all = ap all_turns turns.3 in let both = sum_at turns_of old place next turns.0 at in
-    let one = turn_counts next turns.0 turns.1 turns.2 in omega (arith, all, both, one)
+    let all = ap all_turns turns.3 in
+    let both = sum_by-set turns_of old place turns.0 next (slice_get_within old place next at) in
+    let was = ap turns_of (get_or_from_slice_get old place next next at) in
+    let one = turn_counts next turns.0 turns.1 turns.2 in omega (arith, all, both, was, one)
 
 pub rounds_turns : (passes : ℕ → Type 0) (k : ℕ) (first now : List ActorKnown) → RoundsMade passes k first now
     → all_turns now ≤ all_turns first + k
@@ -191,12 +182,16 @@ rounds_turns passes (suc k) first now made =
 -- ---- turns in a row
 
 -- the actor that stands there made its turn
-pub turn_at : (k i : ℕ) (actors : List ActorKnown) (d new : ActorKnown) (answer : Turn) → k ≡ i → i < length actors
-    → MakesTurn (get_or actors i d) new answer → TurnsAt k actors (set actors i new)
-turn_at k i actors d new answer same less turn =
-    subst (λ (o : Option ActorKnown). TurnsThere k o actors (set actors i new))
-    (sym (ap (slice_get actors) same ∙ slice_get-get_or actors i d less))
-    (new, answer, turn, ap (λ (j : ℕ). set actors j new) (sym same))
+pub turn_at : (k : ℕ) (actors : List ActorKnown) (a new : ActorKnown) (answer : Turn) → k < length actors
+    → a ≡ get_or actors k a → MakesTurn a new answer → TurnsAt k actors (set actors k new)
+turn_at k actors a new answer less read turn =
+    subst (λ (o : Option ActorKnown). TurnsThere k o actors (set actors k new))
+    (sym (slice_get_read actors (length actors) k a refl less read)) (new, answer, turn, refl)
+
+-- without an actor there nothing is done
+pub none_at : (k : ℕ) (actors : List ActorKnown) → length actors ≤ k → TurnsAt k actors actors
+none_at k actors few =
+    subst (λ (o : Option ActorKnown). TurnsThere k o actors actors) (sym (slice_get_past actors k few)) refl
 
 -- where a round begins, the turns of it stand at their places
 pub place_is : (m k round : ℕ) → m % round ≡ 0 → k < round → (m + k) % round ≡ k
@@ -204,72 +199,28 @@ place_is m k round begins less =
     sym (mod-add-mod m round k) ∙ ap (λ (n : ℕ). (n + k) % round) begins
     ∙ ap (λ (n : ℕ). n % round) (zero-add k) ∙ mod-eq_of_lt less
 
-get_first : (xs ys : List ActorKnown) (i : ℕ) → i < length xs → slice_get (xs ++ ys) i ≡ slice_get xs i
-get_first [] ys i less = absurd (omega (arith, less))
-get_first (x ∷ xs) ys zero less = refl
-get_first (x ∷ xs) ys (suc i) less = get_first xs ys i (omega (arith, less))
+-- what was dealt to a worker is of its net
+pub dealt_net : (asked : Asked) (worker m k : ℕ) (actors : List ActorKnown) (a : ActorKnown)
+    → HasDealt asked worker m actors → k < length actors → a ≡ get_or actors k a → a.net ≡ asked.crew.net
+dealt_net asked worker m k actors a made less read = ap (λ (b : ActorKnown). b.net) read
+    ∙ from_all (IsAt asked.crew) (λ (b : ActorKnown). b.net ≡ asked.crew.net) (λ n b here. here.0.net_is) made.1.from actors made.1.each k a less
 
-turn_there : (place : ℕ) (next : Option ActorKnown) (old new rest : List ActorKnown) → place < length old
-    → TurnsThere place next old new → TurnsThere place next (old ++ rest) (new ++ rest)
-turn_there place None old new rest less same = ap (λ (l : List ActorKnown). l ++ rest) same
-turn_there place (Some next) old new rest less turn = (
-  turn.0,
-  turn.1,
-  turn.2,
-  ap (λ (l : List ActorKnown). l ++ rest) turn.3 ∙ sym (set-append_left old rest place turn.0 less),
-)
-
--- a turn of one of the first actors is one of all
-turn_first : (place : ℕ) (old new rest : List ActorKnown) → place < length old → TurnsAt place old new
-    → TurnsAt place (old ++ rest) (new ++ rest)
-turn_first place old new rest less turn =
-    subst (λ (o : Option ActorKnown). TurnsThere place o (old ++ rest) (new ++ rest)) (sym (get_first old rest place less))
-    (turn_there place (slice_get old place) old new rest less turn)
-
-module _ (passes : ℕ → Type 0) (from : ℕ) where
-  pub row_many : (k : ℕ) (old now : List ActorKnown) → TurnsInRow passes from k old now → length now ≡ length old
-  row_many zero old now same = ap length same
-  row_many (suc k) old now row = as_many k row.0 now row.3 ∙ row_many k old row.0 row.1
-
-  -- one turn more
-  pub row_more : (k : ℕ) (old before now : List ActorKnown) → TurnsInRow passes from k old before → passes (from + k)
-      → TurnsAt k before now → TurnsInRow passes from (k + 1) old now
-  row_more k old before now row pass turn =
-      subst (λ (n : ℕ). TurnsInRow passes from n old now) (sym (add-one k)) (before, row, pass, turn)
-
-  -- turns of the first actors are turns of all
-  pub row_first : (k : ℕ) (old now rest : List ActorKnown) → k ≤ length old → TurnsInRow passes from k old now
-      → TurnsInRow passes from k (old ++ rest) (now ++ rest)
-  row_first zero old now rest few same = ap (λ (l : List ActorKnown). l ++ rest) same
-  row_first (suc k) old now rest few row =
-      let many = row_many k old row.0 row.1 in (
-        row.0 ++ rest,
-        row_first k old row.0 rest (omega (arith, few)) row.1,
-        row.2,
-        turn_first k row.0 now rest (omega (arith, few, many)) row.3,
-      )
-
-  -- after them the actors are the worker's still
-  pub row_of : (crew : CrewId) (worker k : ℕ) (old now : List ActorKnown) → TurnsInRow passes from k old now
-      → AreOf crew worker old → AreOf crew worker now
-  row_of crew worker zero old now same are = subst (AreOf crew worker) (sym same) are
-  row_of crew worker (suc k) old now row are = still_of crew worker k row.0 now row.3 (row_of crew worker k old row.0 row.1 are)
-
-  -- turns of a round that begins with them
-  pub round_more : (k : ℕ) (first old now : List ActorKnown) → RoundsMade passes from first old
-      → from % max 1 (length old) ≡ 0 → k ≤ max 1 (length old) → TurnsInRow passes from k old now
-      → RoundsMade passes (from + k) first now
-  round_more zero first old now made begins few same =
-      let here : from ≡ from + 0 = omega arith in
-      subst (λ (z : ℕ × List ActorKnown). RoundsMade passes z.0 first z.1) (λ i. (here i, sym same i)) made
-  round_more (suc k) first old now made begins few row =
-      let was = round_more k first old row.0 made begins (omega (arith, few)) row.1 in
-      let place : (from + k) % max 1 (length row.0) ≡ k =
-      ap (λ (n : ℕ). (from + k) % max 1 n) (row_many k old row.0 row.1)
-      ∙ place_is from k (max 1 (length old)) begins (omega (arith, few)) in
-      let next : suc (from + k) ≡ from + suc k = omega arith in
-      subst (λ (n : ℕ). RoundsMade passes n first now) next
-      (row.0, was, row.2, subst (λ (n : ℕ). TurnsAt n row.0 now) (sym place) row.3)
+-- one turn more of a round that began with the turn m
+pub dealt_turn : (asked : Asked) (worker m k : ℕ) (before now : List ActorKnown) → HasDealt asked worker (m + k) before
+    → m % max 1 (length before) ≡ 0 → k < max 1 (length before) → passes asked worker (m + k) → TurnsAt k before now
+    → HasDealt asked worker (m + (k + 1)) now
+dealt_turn asked worker m k before now made begins less pass turn =
+    let next : suc (m + k) ≡ m + (k + 1) = omega arith in
+    let place : (m + k) % max 1 (length before) ≡ k = place_is m k (max 1 (length before)) begins less in (
+      made.0,
+      still_of asked.crew worker k before now turn made.1,
+      (
+        made.2.0,
+        made.2.1,
+        subst (λ (n : ℕ). RoundsMade (passes asked worker) n made.2.0 now) next
+            (before, made.2.2, pass, subst (λ (n : ℕ). TurnsAt n before now) (sym place) turn),
+      ),
+    )
 
 -- ---- dealing
 

@@ -1,11 +1,11 @@
 -- Serves Crew.antt.
 -- The actors of a net that opens are the crew's, and stay so.
 use Rattle.std.proofs.lemmas.List.Sums.{sum_by-cons}
+use Rattle.std.proofs.lemmas.Option.{same_Some, slice_get_within}
 use Rattle.std.proofs.Common.{◌≡◌, ◌+◌, ◌<◌, ℕ, Bool, true, false, List, length, Some, ◌∙◌, refl, sym, subst, arith, suc, [], ◌∷◌, ap}
 use Rattle.std.specs.Prelude.{slice_get}
 use Rattle.chip_net.specs.Tokens.{ActorKnown, newcomer, NetId}
 use Rattle.chip_crew.specs.Crew.{CrewId, IsAt, AreFrom, turns_of, all_turns}
-use Rattle.chip_crew.proofs.GatheringLemmas.{placed, same_some}
 use Rattle.chip_crew.proofs.RunLemmas.{from_each}
 
 -- a test is not both
@@ -16,8 +16,8 @@ pub ours_by : (crew : CrewId) (n : ℕ) (actors : List ActorKnown) → crew.net.
     → length actors ≡ n → ((v : ℕ) → v < n → slice_get actors v ≡ Some (newcomer crew.net crew.room v))
     → AreFrom crew 0 actors
 ours_by crew n actors vertices count each = from_each (IsAt crew) 0 actors (λ i a at.
-    let inside : i < n = subst (λ (m : ℕ). i < m) count (placed actors i a at) in
-    let same = same_some (newcomer crew.net crew.room i) a (sym (each i inside) ∙ at) in
+    let inside : i < n = subst (λ (m : ℕ). i < m) count (slice_get_within actors i a at) in
+    let same = same_Some (newcomer crew.net crew.room i) a (sym (each i inside) ∙ at) in
     let here : i ≡ 0 + i = omega arith in
     subst (IsAt crew (0 + i)) same (
       record {
@@ -39,4 +39,4 @@ each_new (a ∷ rest) each =
 pub new_turns : (net : NetId) (room : ℕ) (actors : List ActorKnown)
     → ((v : ℕ) → v < length actors → slice_get actors v ≡ Some (newcomer net room v)) → all_turns actors ≡ 0
 new_turns net room actors each = each_new actors (λ v a at.
-    ap turns_of (sym (same_some (newcomer net room v) a (sym (each v (placed actors v a at)) ∙ at))))
+    ap turns_of (sym (same_Some (newcomer net room v) a (sym (each v (slice_get_within actors v a at)) ∙ at))))

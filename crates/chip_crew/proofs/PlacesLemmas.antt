@@ -14,7 +14,7 @@ use Rattle.chip_crew.specs.declared.queue.Ledger.{Ledger}
 use Rattle.chip_crew.specs.Crew.{CrewId, IsOurs, AreFrom, turns_of}
 use Rattle.chip_crew.specs.Ledger.{numbers_from, first_ledger, new_ledger, with_fewer, both_ledgers, no_ledger, with_taken}
 use Rattle.chip_crew.specs.Ledger.{with_put, got_turns, gave_turns}
-use Rattle.chip_crew.specs.Places.{times, actors_of, HasNothing, AreShared, AreAllThere, HaveRoom, HasOnce}
+use Rattle.chip_crew.specs.Places.{times, actors_of, HasNothing, AreShared, AreAllThere, HaveRoom}
 
 -- ---- sums over all ledgers
 
@@ -82,25 +82,22 @@ module _ (f : Ledger → ℕ) (nothing : (l : Ledger) → HasNothing l → f l �
 abbrev pub one_where : Bool → ℕ
 one_where b = cond b 1 0
 
-times_cons : (v u : ℕ) (us : List ℕ) → times v (u ∷ us) ≡ one_where (u == v) + times v us
+pub times_cons : (v u : ℕ) (us : List ℕ) → times v (u ∷ us) ≡ one_where (u == v) + times v us
 times_cons v u us = sum_by-cons (λ (w : ℕ). one_where (w == v)) u us
 
-pub times_push : (v : ℕ) (us : List ℕ) (u : ℕ) → times v (us ++ u ∷ []) ≡ times v us + one_where (u == v)
+times_push : (v : ℕ) (us : List ℕ) (u : ℕ) → times v (us ++ u ∷ []) ≡ times v us + one_where (u == v)
 times_push v us u = sum_by_push (λ (w : ℕ). one_where (w == v)) us u
 
 times_both : (v : ℕ) (us ws : List ℕ) → times v (us ++ ws) ≡ times v us + times v ws
 times_both v us ws = sum_by-append (λ (w : ℕ). one_where (w == v)) us ws
 
-actors_cons : (v : ℕ) (x : ActorKnown) (xs : List ActorKnown)
+pub actors_cons : (v : ℕ) (x : ActorKnown) (xs : List ActorKnown)
     → actors_of v (x ∷ xs) ≡ one_where (x.vertex == v) + actors_of v xs
 actors_cons v x xs = sum_by-cons (λ (a : ActorKnown). one_where (a.vertex == v)) x xs
 
 actors_push : (v : ℕ) (xs : List ActorKnown) (x : ActorKnown)
     → actors_of v (xs ++ x ∷ []) ≡ actors_of v xs + one_where (x.vertex == v)
 actors_push v xs x = sum_by_push (λ (a : ActorKnown). one_where (a.vertex == v)) xs x
-
-pub times_here : (v : ℕ) → one_where (v == v) ≡ 1
-times_here v = ap one_where (eq-eqb v v refl)
 
 -- where nothing is, no vertex is
 times_none : (v : ℕ) (us : List ℕ) → us ≡ [] → times v us ≡ 0
@@ -166,12 +163,11 @@ module _ (crew : CrewId) where
         (ours, refl),
       )
 
-  -- an actor comes out, and the thread had none of its vertex
+  -- an actor comes out, and the thread had not all of them
   pub takes : (pass : ℕ) (v : Ledger) → 0 < v.workers
-      → Pops Holds pass v (λ x w. IsOurs crew x × (times x.vertex v.has ≡ 0) × (w ≡ with_taken v x))
+      → Pops Holds pass v (λ x w. IsOurs crew x × (length v.has < vertices) × (w ≡ with_taken v x))
   takes pass v speaks x queued ledgers old at =
-      let w : Ledger = with_taken v x in
-      let ours = All-head (IsOurs crew) x queued old.ours in (
+      let w : Ledger = with_taken v x in (
         w,
         record {
           ours = All-tail (IsOurs crew) x queued old.ours;
@@ -200,14 +196,8 @@ module _ (crew : CrewId) where
           spent = All-set IsSpent ledgers pass w (λ none. absurd (omega (arith, none, speaks))) old.spent;
         },
         (
-          ours,
-          omega (
-            arith,
-            old.once x.vertex ours.inside,
-            actors_cons x.vertex x queued,
-            times_here x.vertex,
-            sum_least (has_times x.vertex) ledgers pass v at,
-          ),
+          All-head (IsOurs crew) x queued old.ours,
+          omega (arith, old.count, sum_least has_count ledgers pass v at),
           refl,
         ),
       )
@@ -312,30 +302,16 @@ module _ (crew : CrewId) where
   pub have_room : (pass : ℕ) (v : Ledger) → Learns Holds pass v (HaveRoom crew v)
   have_room pass v queued ledgers old at = omega (arith, old.count, sum_least has_count ledgers pass v at)
 
-  pub has_once : (pass : ℕ) (v : Ledger) → Learns Holds pass v (HasOnce crew v)
-  has_once pass v queued ledgers old at u less =
-      omega (arith, old.once u less, sum_least (has_times u) ledgers pass v at)
+-- who found the queue empty knows it of no actors
+pub none_queued : (crew : CrewId) (l : Ledger) → Held 0 (AreAllThere crew l) → AreAllThere crew l []
+none_queued crew l ([], empty, there) = there
+none_queued crew l (a ∷ rest, empty, there) = absurd (omega (arith, empty))
 
--- who found the queue empty, and speaks for all workers, has each vertex once
-pub once_there : (crew : CrewId) (l : Ledger) → Held 0 (AreAllThere crew l) → l.workers ≡ crew.workers
-    → (v : ℕ) → v < crew.net.setting.game.graph.vertices → times v l.has ≡ 1
-once_there crew l ([], empty, there) all v less = omega (arith, (there all).2 v less)
-once_there crew l (a ∷ rest, empty, there) all v less = absurd (omega (arith, empty))
-
--- what came out has as many turns as what went in
-pub got_gave : (crew : CrewId) (l : Ledger) → Held 0 (AreAllThere crew l) → l.workers ≡ crew.workers
-    → got_turns l ≡ gave_turns l
-got_gave crew l ([], empty, there) all = let turns = (there all).1 in omega (arith, turns)
-got_gave crew l (a ∷ rest, empty, there) all = absurd (omega (arith, empty))
-
--- who has as many as there are found the queue empty
-pub held_none : (crew : CrewId) (l : Ledger) (queued : List ActorKnown) → AreAllThere crew l queued
-    → l.workers ≡ crew.workers → crew.net.setting.game.graph.vertices ≤ length l.has → Held 0 (AreAllThere crew l)
-held_none crew l queued there all many = (
-  queued,
-  (let count = (there all).0 in omega (arith, count, many)),
-  there,
-)
+-- so does who has as many as there are
+pub none_left : (crew : CrewId) (l : Ledger) (queued : List ActorKnown) → AreAllThere crew l queued
+    → l.workers ≡ crew.workers → crew.net.setting.game.graph.vertices ≤ length l.has → AreAllThere crew l []
+none_left crew l [] there all many = there
+none_left crew l (a ∷ rest) there all many = absurd (let count = (there all).0 in omega (arith, count, many))
 
 -- ---- how it begins
 

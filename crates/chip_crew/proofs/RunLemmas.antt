@@ -1,21 +1,25 @@
 -- Serves Crew.antt.
 -- Lists whose elements fit numbers that grow by one.
-use Rattle.std.proofs.lemmas.List.Sums.{sum_by-cons}
-use Rattle.std.proofs.Common.{◌≡◌, ℕ, zero, suc, ◌+◌, List, [], ◌∷◌, ◌++◌, length, take, drop, set, All, Some, sum_by, ap}
+use Rattle.std.proofs.lemmas.Option.{same_Some, none-some}
+use Rattle.std.proofs.Common.{◌≡◌, ℕ, zero, suc, ◌+◌, List, [], ◌∷◌, ◌++◌, length, take, drop, set, All, Some}
 use Rattle.std.proofs.Common.{refl, sym, ◌∙◌, subst, arith, add-one}
 use Rattle.std.specs.Prelude.{slice_get}
 use Rattle.chip_net.specs.Tokens.{ActorKnown}
 use Rattle.chip_crew.specs.Crew.{CrewId, IsOurs, IsAt, EachFrom, AreFrom, AreInOrder}
-use Rattle.chip_crew.proofs.GatheringLemmas.{same_some, none_some}
 
 module _ {X : Type 0} (P : ℕ → X → Type 0) where
   at_number : (n m : ℕ) (x : X) → n ≡ m → P n x → P m x
   at_number n m x same here = subst (λ (k : ℕ). P k x) same here
 
-  pub from_push : (n : ℕ) (xs : List X) (x : X) → EachFrom P n xs → P (n + length xs) x → EachFrom P n (xs ++ x ∷ [])
-  from_push n [] x all here = (at_number (n + 0) n x (omega arith) here, tt)
-  from_push n (y ∷ ys) x all here =
-      (all.0, from_push (suc n) ys x all.1 (at_number (n + suc (length ys)) (suc n + length ys) x (omega arith) here))
+  pub from_append : (n : ℕ) (xs ys : List X) → EachFrom P n xs → EachFrom P (n + length xs) ys → EachFrom P n (xs ++ ys)
+  from_append n [] ys all rest = let same : n + 0 ≡ n = omega arith in subst (λ (m : ℕ). EachFrom P m ys) same rest
+  from_append n (x ∷ xs) ys all rest =
+      let same : n + suc (length xs) ≡ suc n + length xs = omega arith in
+      (all.0, from_append (suc n) xs ys all.1 (subst (λ (m : ℕ). EachFrom P m ys) same rest))
+
+  pub from_push : (n : ℕ) (xs now : List X) (x : X) → now ≡ xs ++ x ∷ [] → EachFrom P n xs → P (n + length xs) x
+      → EachFrom P n now
+  from_push n xs now x is all here = subst (EachFrom P n) (sym is) (from_append n xs (x ∷ []) all (here, tt))
 
   pub from_take : (n k : ℕ) (xs : List X) → EachFrom P n xs → EachFrom P n (take k xs)
   from_take n zero xs all = tt
@@ -30,8 +34,8 @@ module _ {X : Type 0} (P : ℕ → X → Type 0) where
       subst (λ (m : ℕ). EachFrom P m (drop k xs)) same (from_drop (suc n) k xs all.1)
 
   pub from_at : (n i : ℕ) (xs : List X) (x : X) → EachFrom P n xs → slice_get xs i ≡ Some x → P (n + i) x
-  from_at n i [] x all at = absurd (none_some x at)
-  from_at n zero (y ∷ ys) x all at = at_number n (n + 0) x (omega arith) (subst (P n) (same_some y x at) all.0)
+  from_at n i [] x all at = absurd (none-some x at)
+  from_at n zero (y ∷ ys) x all at = at_number n (n + 0) x (omega arith) (subst (P n) (same_Some y x at) all.0)
   from_at n (suc i) (y ∷ ys) x all at = at_number (suc n + i) (n + suc i) x (omega arith) (from_at (suc n) i ys x all.1 at)
 
   pub from_set : (n i : ℕ) (xs : List X) (x : X) → EachFrom P n xs → P (n + i) x → EachFrom P n (set xs i x)
@@ -54,21 +58,6 @@ module _ {X : Type 0} (P : ℕ → X → Type 0) where
   from_all Q each n [] all k d less = absurd (omega (arith, less))
   from_all Q each n (x ∷ xs) all zero d less = each n x all.0
   from_all Q each n (x ∷ xs) all (suc k) d less = from_all Q each (suc n) xs all.1 k d (omega (arith, less))
-
-module _ {X : Type 0} (f : X → ℕ) where
-  -- a sum where one is written for another
-  pub sum_at : (xs : List X) (i : ℕ) (x w : X) → slice_get xs i ≡ Some x → sum_by f (set xs i w) + f x ≡ sum_by f xs + f w
-  sum_at [] i x w at = absurd (none_some x at)
-  sum_at (y ∷ ys) zero x w at =
-      omega (arith, sum_by-cons f w ys, sum_by-cons f y ys, ap f (same_some y x at))
-  sum_at (y ∷ ys) (suc i) x w at =
-      omega (arith, sum_by-cons f y (set ys i w), sum_by-cons f y ys, sum_at ys i x w at)
-
-  -- and where a list is cut
-  pub sum_cut : (k : ℕ) (xs : List X) → sum_by f (take k xs) + sum_by f (drop k xs) ≡ sum_by f xs
-  sum_cut zero xs = omega arith
-  sum_cut (suc k) [] = omega arith
-  sum_cut (suc k) (x ∷ xs) = omega (arith, sum_by-cons f x (take k xs), sum_by-cons f x xs, sum_cut k xs)
 
 -- actors of consecutive vertices are the crew's
 pub ours_from : (crew : CrewId) (from : ℕ) (actors : List ActorKnown) → AreFrom crew from actors

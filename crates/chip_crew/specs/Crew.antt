@@ -1,5 +1,5 @@
 -- What a crew keeps of its net.
-use Rattle.std.specs.Prelude.{◌≡◌, ℕ, zero, suc, ◌<◌, List, [], ◌∷◌, length, slice_get, Option, Some, ⊤, ◌==◌, Bool, false, count_by, sum_by}
+use Rattle.std.specs.Prelude.{◌≡◌, ℕ, zero, suc, ◌<◌, List, [], ◌∷◌, length, slice_get, Some, ⊤, ◌==◌, Bool, false, count_by, sum_by}
 use Rattle.chip_part.specs.Setting.{Setting}
 use Rattle.chip_part.specs.Edges.{root_edge}
 use Rattle.chip_core.specs.Core.{Event, Take}
@@ -38,11 +38,6 @@ pub record IsOurs (crew : CrewId) (a : ActorKnown) : Type 0 where
   pub inside : a.vertex < crew.net.setting.game.graph.vertices
   pub room_is : a.room ≡ crew.room
   pub turned : Turned (turns_of a) a
-
--- the place of each vertex has its actor, or none yet
-pub record AreSeats (crew : CrewId) (seats : List (Option ActorKnown)) : Type 0 where
-  pub count : length seats ≡ crew.net.setting.game.graph.vertices
-  pub each : (v : ℕ) (a : ActorKnown) → slice_get seats v ≡ Some (Some a) → IsOurs crew a × (a.vertex ≡ v)
 
 -- each of these fits its number, which grows by one from the first on
 abbrev pub EachFrom : {X : Type 0} → (ℕ → X → Type 0) → ℕ → List X → Type 0

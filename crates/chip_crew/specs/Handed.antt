@@ -19,15 +19,18 @@ pub record IsRoundOf (asked : Asked) (worker most made : ℕ) : Type 0 where
   pub at_most : made ≤ most
   pub shut : made < most → ShutFor asked worker
 
+-- what became of the actors that were dealt to a worker in so many turns, each of which its gate let pass
+abbrev pub HasDealt : Asked → ℕ → ℕ → List ActorKnown → Type 0
+HasDealt asked worker turns actors = (asked.crew.sharing ≡ sharing.Dealt) × AreOf asked.crew worker actors
+    × ((first : List ActorKnown) × (all_turns first ≡ 0) × RoundsMade (passes asked worker) turns first actors)
+
 module _ {B : Type 0} where
   -- what a worker has after so many turns, each of which its gate let pass: where there is a queue, its pass of it and the
   -- net's actor that it kept; else the actors that were dealt to it
   abbrev pub HasMade : Asked → ℕ → ℕ → Share B → Type 0
   HasMade asked worker turns (share.Queue queue pass kept) = (asked.crew.sharing ≡ sharing.Queue)
       × IsPassOf queue.now pass × TurnsMade (passes asked worker) turns (view pass) kept × IfSome kept (IsOurs asked.crew)
-  HasMade asked worker turns (share.Dealt actors) = (asked.crew.sharing ≡ sharing.Dealt)
-      × AreOf asked.crew worker actors.items
-      × ((first : List ActorKnown) × (all_turns first ≡ 0) × RoundsMade (passes asked worker) turns first actors.items)
+  HasMade asked worker turns (share.Dealt actors) = HasDealt asked worker turns actors.items
 
   -- how many turns make a round of a worker
   abbrev pub round_of : Share B → ℕ

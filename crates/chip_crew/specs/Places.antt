@@ -39,7 +39,3 @@ AreAllThere crew ledger queued = ledger.workers ≡ crew.workers
 -- the queue and the thread have no more actors than there are
 abbrev pub HaveRoom : CrewId → Ledger → List ActorKnown → Type 0
 HaveRoom crew ledger queued = length queued + length ledger.has ≤ crew.net.setting.game.graph.vertices
-
--- of no vertex the thread has two actors
-abbrev pub HasOnce : CrewId → Ledger → List ActorKnown → Type 0
-HasOnce crew ledger queued = (v : ℕ) → v < crew.net.setting.game.graph.vertices → times v ledger.has ≤ 1

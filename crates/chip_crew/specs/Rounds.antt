@@ -1,5 +1,5 @@
 -- What a worker does with the actors that were dealt to it.
-use Rattle.std.specs.Prelude.{◌≡◌, ℕ, zero, suc, ◌+◌, ◌%◌, max, List, length, slice_get, slice_set, Option, Some, None}
+use Rattle.std.specs.Prelude.{◌≡◌, ℕ, zero, suc, ◌%◌, max, List, length, slice_get, slice_set, Option, Some, None}
 use Rattle.chip_net.specs.Tokens.{ActorKnown, MakesTurn}
 use Rattle.chip_net.specs.declared.actor.Turn.{Turn}
 
@@ -19,10 +19,3 @@ abbrev pub RoundsMade : (ℕ → Type 0) → ℕ → List ActorKnown → List Ac
 RoundsMade passes zero first now = now ≡ first
 RoundsMade passes (suc k) first now = (before : List ActorKnown) × RoundsMade passes k first before × passes k
     × TurnsAt (k % max 1 (length before)) before now
-
--- so many turns, the first of which has this number, and each of which the gate let pass: one of each of the first actors,
--- in their order
-abbrev pub TurnsInRow : (ℕ → Type 0) → ℕ → ℕ → List ActorKnown → List ActorKnown → Type 0
-TurnsInRow passes from zero old now = now ≡ old
-TurnsInRow passes from (suc k) old now = (before : List ActorKnown) × TurnsInRow passes from k old before
-    × passes (from + k) × TurnsAt k before now

@@ -10,14 +10,15 @@ ghost use Rattle.chip_crew.specs.Asked.{IsAsked};
 ghost use Rattle.chip_crew.specs.Crew.{IsOurs, all_turns};
 ghost use Rattle.chip_crew.specs.Leading.{IsLeader};
 ghost use Rattle.chip_crew.specs.Plans.{max_workers};
-ghost use Rattle.chip_crew.specs.Gathering.{IsGathering, AreSeated, AreBack, queue_for, seat_turns};
+ghost use Rattle.chip_crew.specs.Gathering.{AreBack, queue_for};
+ghost use Rattle.std.specs.Vec.{vec_capacity};
 ghost use Rattle.chip_crew.specs.Joining.{AreOpened, AreShares, HasJoined, queue_of_all};
 ghost use Rattle.chip_crew.specs.Finished.{HasFinished, IsFinished, IsStopped, IsFaultOf};
 
 use crate::dealing::deal;
 use crate::ending::{last_poll, take_back};
 use crate::fault::CrewFault;
-use crate::gathering::{Back, Collected, Gathering, gather, new_gathering};
+use crate::gathering::{Back, Collected, gather};
 use crate::joining::{Joined, join_all, start_all};
 use crate::leader::Leader;
 use crate::plan::{Gate, Plan, Sharing};
@@ -67,14 +68,14 @@ fn passes<'q, B: Crew>(
     alloc: Global,
     queue: &'q Queue<B>,
     mut pass: QueuePass,
-    gathering: Gathering,
+    row: Vec<Actor>,
     workers: u64,
 ) -> Result<(Vec<Share<'q, B>>, Back<'q, B>), AllocError>
     requires sharing { B.asked.crew.sharing ≡ shares.Queue }
     requires workers { (workers ≡ B.asked.crew.workers) × (0 < workers) × (workers ≤ max_workers) }
     requires pass { IsPassOf queue.now pass }
     requires has { HasNothing (view pass) × ((view pass).workers ≡ workers) }
-    requires gathering { IsGathering B.asked.crew gathering × AreSeated gathering.seats.items [] × (seat_turns gathering.seats.items ≡ 0) }
+    requires row { (row.items ≡ []) × (B.asked.crew.net.setting.game.graph.vertices ≤ vec_capacity row) }
     ensures shares { IfOk result (λ r. AreShares B.asked r.0.items × (queue_of_all r.0.items ≡ queue_for r.1)) }
     ensures back { IfOk result (λ r. AreBack B.asked 0 r.1) }
 {
@@ -86,12 +87,7 @@ fn passes<'q, B: Crew>(
             kept: None,
         });
     }
-    let back = Back::Queue {
-        queue,
-        pass,
-        gathering,
-    };
-    Ok((all, back))
+    Ok((all, Back::Queue { queue, pass, row }))
 }
 
 /// Goes on in the place of worker 0, polls once more, and tells how it ended, once all workers have.
@@ -181,10 +177,10 @@ fn play_by_queue<'a, R: Threads + Wait, B: Crew + Send + Sync, G: Gate + Sync>(
     ensures stopped { IfErr result (IsStopped B.asked) }
 {
     let vertices = actors.len();
-    let gathering = new_gathering::<B>(alloc, vertices)?;
+    let row = Vec::with_capacity(alloc, vertices)?;
     let (queue, mut pass) = Queue::<B>::ruled(alloc, vertices)?;
     fill(rt, &queue, &mut pass, actors);
-    let (own, back) = passes(alloc, &queue, pass, gathering, shared.plan.workers)?;
+    let (own, back) = passes(alloc, &queue, pass, row, shared.plan.workers)?;
     work_all(rt, alloc, shared, leader, own, back)
 }
 

@@ -46,19 +46,19 @@ impl<B: Crew> Protocol<Actor, Ledger> for Owned<B> {
     ghost first = { first_ledger B.asked.crew };
 }
 
-/// An actor comes out: it was opened by this net, the thread had none of its vertex, and the ledger has it as taken. Where
+/// An actor comes out: it was opened by this net, the thread had not all of them, and the ledger has it as taken. Where
 /// none comes, what the thread has is all that there is, if it speaks for all workers.
 pub(crate) struct Popped<B> {
     of: PhantomData<B>,
 }
 
 impl<B: Crew> Outcome<Actor, Ledger> for Popped<B> {
-    ghost use Rattle.std.specs.Prelude.{◌≡◌};
+    ghost use Rattle.std.specs.Prelude.{◌≡◌, ◌<◌, length};
     ghost use Rattle.chip_crew.specs.Crew.{IsOurs};
     ghost use Rattle.chip_crew.specs.Ledger.{with_taken};
-    ghost use Rattle.chip_crew.specs.Places.{times};
 
-    ghost then = { λ old a new. IsOurs B.asked.crew a × (times a.vertex old.has ≡ 0) × (new ≡ with_taken old a) };
+    ghost then = { λ old a new. IsOurs B.asked.crew a × (length old.has < B.asked.crew.net.setting.game.graph.vertices)
+        × (new ≡ with_taken old a) };
 }
 
 impl<B: Crew> Lesson<Actor, Ledger> for Popped<B> {
@@ -105,17 +105,6 @@ impl Join<Ledger> for SplitLedger {
     ghost both = { both_ledgers };
 
     ghost spent = { no_ledger };
-}
-
-/// No thread has two actors of one vertex.
-pub(crate) struct Unique<B> {
-    of: PhantomData<B>,
-}
-
-impl<B: Crew> Lesson<Actor, Ledger> for Unique<B> {
-    ghost use Rattle.chip_crew.specs.Places.{HasOnce};
-
-    ghost fact = { HasOnce B.asked.crew };
 }
 
 /// The queue of the actors that no worker has at the moment.

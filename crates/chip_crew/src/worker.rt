@@ -1,13 +1,12 @@
 //! What each worker does.
 
-ghost use Rattle.std.specs.Prelude.{◌≡◌, ◌+◌, ◌%◌, ◌<◌, ◌≤◌, [], All, IfSome, length};
+ghost use Rattle.std.specs.Prelude.{◌≡◌, ◌+◌, ◌%◌, ◌<◌, ◌≤◌, IfSome, length, max};
 ghost use Rattle.crossbeam_queue.specs.Passes.{view, IsPassOf};
 ghost use Rattle.chip_crew.specs.Crew.{IsOurs};
 ghost use Rattle.chip_crew.specs.Asked.{passes, ShutFor};
 ghost use Rattle.chip_crew.specs.Ledger.{HasJust, IsNext, MakesOneTurn};
-ghost use Rattle.chip_crew.specs.Rounds.{TurnsInRow};
 ghost use Rattle.chip_crew.specs.Duties.{Begins, BeginsEach};
-ghost use Rattle.chip_crew.specs.Handed.{HasMade, HasWorked, IsRoundOf, round_of, queue_of};
+ghost use Rattle.chip_crew.specs.Handed.{HasMade, HasDealt, HasWorked, IsRoundOf, round_of, queue_of};
 
 use crate::duties::Duties;
 use crate::plan::Gate;
@@ -129,56 +128,44 @@ impl<'a, B: Crew, G: Gate> Shared<'a, B, G> {
         true
     }
 
-    /// A turn of each of these actors, the first of which has this number, until the gate answers no: how many were made.
-    /// It yields where none of them had anything to do.
+    /// The turns of a round of a worker with actors of its own, one of each actor, and one if it has none: at most so
+    /// many, the first of which has this number, and fewer where the gate answers no. It tells how many were made, and
+    /// yields where no actor had anything to do.
     #[inline(always)]
     fn turn_each<D: Duties>(
         &self,
         worker: u64,
         first: u64,
-        actors: &mut [Actor],
+        most: u64,
+        actors: &mut Vec<Actor>,
         duties: &mut D,
     ) -> u64
-        requires turns { first + length actors.old ≤ B.asked.plan.turns }
-        requires nets { All (λ a. a.net ≡ B.asked.crew.net) actors.old }
+        requires most { (most ≤ max 1 (length actors.old.items)) × (first + most ≤ B.asked.plan.turns) }
+        requires first { first % max 1 (length actors.old.items) ≡ 0 }
+        requires made { HasDealt B.asked worker first actors.old.items }
         requires can { D.can B.asked.crew.net duties.old }
-        ensures round { IsRoundOf B.asked worker (length actors.old) result }
-        ensures turns { TurnsInRow (passes B.asked worker) first result actors.old actors.new }
+        ensures round { IsRoundOf B.asked worker most result }
+        ensures made { HasDealt B.asked worker (first + result) actors.new.items }
+        ensures count { length actors.new.items ≡ length actors.old.items }
         ensures can { D.can B.asked.crew.net duties.new }
         ensures done { BeginsEach D.before first result duties.old duties.new }
     {
         // Read once: behind an atomic operation it would be read again.
         let net = self.net;
-        let mut made = 0;
         let mut is_idle = true;
-        for actor in actors.iter_mut() {
-            if !self.begin(worker, first + made, duties) {
-                return made;
+        for place in 0..most {
+            if !self.begin(worker, first + place, duties) {
+                return place;
             }
-            let answer = actor.turn(net);
-            is_idle &= matches!(answer, Turn::Waiting | Turn::Idle);
-            made += 1;
+            if let Some(actor) = actors.get_mut(place as usize) {
+                let answer = actor.turn(net);
+                is_idle &= matches!(answer, Turn::Waiting | Turn::Idle);
+            }
         }
         if is_idle {
             thread::yield_now();
         }
-        made
-    }
-
-    /// The turn of a worker that has no actor, where the gate lets it pass: how many were made.
-    fn turn_idly<D: Duties>(&self, worker: u64, turn: u64, duties: &mut D) -> u64
-        requires turn { turn < B.asked.plan.turns }
-        requires can { D.can B.asked.crew.net duties.old }
-        ensures round { IsRoundOf B.asked worker 1 result }
-        ensures turns { TurnsInRow (passes B.asked worker) turn result [] [] }
-        ensures can { D.can B.asked.crew.net duties.new }
-        ensures done { BeginsEach D.before turn result duties.old duties.new }
-    {
-        if !self.begin(worker, turn, duties) {
-            return 0;
-        }
-        thread::yield_now();
-        1
+        most
     }
 
     /// The turns of a round of a worker, of which the first has this number: at most so many, and fewer where the gate
@@ -210,13 +197,7 @@ impl<'a, B: Crew, G: Gate> Shared<'a, B, G> {
                 *kept = turn_by_queue::<B>(self.net, queue, pass, kept.take());
                 1
             }
-            Share::Dealt(actors) => {
-                if actors.is_empty() {
-                    return self.turn_idly(worker, first, duties);
-                }
-                let (next, _) = actors.split_at_mut(most as usize);
-                self.turn_each(worker, first, next, duties)
-            }
+            Share::Dealt(actors) => self.turn_each(worker, first, most, actors, duties),
         }
     }
 }
@@ -237,11 +218,8 @@ impl<'a, B: Crew, G: Gate, D: Duties> Worker<'a, B, G, D> {
         let round = share.round();
         let mut turns = 0;
         let mut passed = true;
-        while turns < shared.plan.turns {
-            // Whoever told it hands back why.
-            if shared.stop.load(SeqCst) {
-                break;
-            }
+        // Whoever told it to stop hands back why.
+        while turns < shared.plan.turns && !shared.stop.load(SeqCst) {
             let most = round.min(shared.plan.turns - turns);
             let made = shared.round(number, turns, most, &mut share, &mut duties);
             turns += made;

@@ -3,9 +3,10 @@ use Rattle.chip_graph.specs.Multigraph.{Multigraph}
 use Rattle.chip_net.specs.Tokens.{ActorKnown}
 use Rattle.chip_crew.specs.Crew.{IsAt, AreFrom, turns_of, all_turns}
 use Rattle.chip_crew.specs.Dealing.{IsCut}
-use Rattle.chip_crew.specs.Handed.{AreReady, IsReady}
+use Rattle.chip_crew.specs.Handed.{IsReady}
 use Rattle.chip_crew.specs.declared.worker.Share.TheVariants as share
-use Rattle.chip_crew.proofs.RunLemmas.{from_push, from_drop, sum_cut}
+use Rattle.chip_crew.proofs.RunLemmas.{from_push, from_drop}
+use Rattle.std.proofs.lemmas.List.Sums.{sum_by-take-drop}
 use Rattle.chip_crew.proofs.DealingLemmas.{Follows, follows, are_of, cut_next}
 use Rattle.chip_crew.proofs.dealing.deal.Goals as goal
 
@@ -27,7 +28,7 @@ loop-worker-preserved g c =
     follows g.B.Crew.asked.crew G c.args.workers c.loop-worker.worker first next (length actors)
     c.requires.graph c.requires.workers.2 (search rules) i.first_is i.whole cut in
     let none : (all_turns c.split_off.new.self.items ≡ 0) × (all_turns c.in_ok-rest.rest.items ≡ 0) =
-    (let both = sum_cut turns_of (next - first) actors in let own = ap all_turns c.in_ok-rest.ensures.items in
+    (let both = sum_by-take-drop turns_of actors (next - first) in let own = ap all_turns c.in_ok-rest.ensures.items in
     let left = ap all_turns c.in_ok-rest.ensures.tail in let old = i.no_turns in
     (omega (arith, both, own, left, old), omega (arith, both, own, left, old))) in
     let end : first + (next - first) ≡ next = (let behind = step.behind in omega (arith, behind)) in
@@ -44,9 +45,8 @@ loop-worker-preserved g c =
           let left = length-drop (next - first) actors in
           subst (λ (xs : List ActorKnown). next + length xs ≡ g.B.Crew.asked.crew.net.setting.game.graph.vertices)
           (sym c.in_ok-rest.ensures.tail) (omega (arith, some, behind, whole, left)));
-      shares = subst (AreReady g.B.Crew.asked None) (sym c.push_reserved.ensures.items)
-          (from_push (IsReady g.B.Crew.asked None) 0 c.loop-worker.all.items (share.Dealt c.split_off.new.self) i.shares
-          (subst (λ (w : ℕ). IsReady {B = g.row.B.Denot} g.B.Crew.asked None w (share.Dealt c.split_off.new.self)) place (record {
+      shares = from_push (IsReady g.B.Crew.asked None) 0 c.loop-worker.all.items _ (share.Dealt c.split_off.new.self)
+          c.push_reserved.ensures.items i.shares (subst (λ (w : ℕ). IsReady {B = g.row.B.Denot} g.B.Crew.asked None w (share.Dealt c.split_off.new.self)) place (record {
             made = (
               c.requires.sharing,
               are_of g.B.Crew.asked.crew c.loop-worker.worker first next actors c.split_off.new.self.items i.first_is step
@@ -54,7 +54,7 @@ loop-worker-preserved g c =
               (c.split_off.new.self.items, none.0, refl),
             );
             uses = refl;
-          })));
+          }));
       count = search rules;
       room = search rules;
     }

@@ -6,6 +6,6 @@ use Rattle.chip_crew.proofs.gathering.drain.Given as goal
 abbrev pub invariant-loop : goal.invariant-loop
 invariant-loop g l = record {
   pass : IsPassOf l.queue l.pass;
-  gathers : IsGatheringFor g.B.Crew.asked g.B.Crew.asked.crew.workers (view l.pass) l.gathering;
+  gathers : IsGatheringFor g.B.Crew.asked g.B.Crew.asked.crew.workers (view l.pass) l.row;
   many : l.counter ≤ length (view l.pass).has;
 }

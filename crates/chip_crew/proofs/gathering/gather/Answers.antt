@@ -1,8 +1,25 @@
-use Rattle.std.proofs.Common.{subst}
+use Rattle.std.proofs.Common.{subst, rules, arith}
+use Rattle.std.proofs.lemmas.List.Sorted.{IsNonDecreasingBy-from_sort_by_key, sum_by-IsPermutation}
 use Rattle.std.specs.Vec.{vec_capacity}
+use Rattle.chip_net.specs.Tokens.{ActorKnown}
+use Rattle.chip_crew.specs.Crew.{turns_of}
 use Rattle.chip_crew.specs.Gathering.{AreBack}
 use Rattle.chip_crew.proofs.BackLemmas.{row_whole}
+use Rattle.chip_crew.proofs.GatheringLemmas.{sorted_actors}
 use Rattle.chip_crew.proofs.gathering.gather.Goals as goal
+
+pub returns-in-Queue : goal.returns-in-Queue
+returns-in-Queue g c =
+    let row = c.drain.new.row.items in
+    let now = c.sort_unstable_by_key.new.self.items in
+    let moves = c.sort_unstable_by_key.ensures.permutation in
+    record {
+      actors = sorted_actors g.B.Crew.asked.crew row now c.drain.ensures.all moves (search rules)
+          (IsNonDecreasingBy-from_sort_by_key (λ (a : ActorKnown). a.vertex) now c.sort_unstable_by_key.ensures.sorted
+          (λ a r q k. search rules));
+      turns = (let same = sum_by-IsPermutation turns_of row now moves in let few = c.drain.ensures.turns in
+          omega (arith, same, few));
+    }
 
 pub returns-in-Dealt : goal.returns-in-Dealt
 returns-in-Dealt g c =

@@ -24,13 +24,11 @@ loop-share-preserved g c =
       shares = from_tail (IsReady g.B.Crew.asked queue) c.loop-share.number _ _ c.in-Some-share.share steps i.shares;
       left = search rules;
       count = search rules;
-      started = subst (EachFrom (λ worker h. IsWorker g.B.Crew.asked queue worker h.promise) 1)
-          (sym c.push_reserved.ensures.items)
-          (from_push (λ worker h. IsWorker g.B.Crew.asked queue worker h.promise) 1 c.loop-share.others.items
-          c.in-Ok.started i.started (record {
+      started = from_push (λ worker h. IsWorker g.B.Crew.asked queue worker h.promise) 1 c.loop-share.others.items _
+          c.in-Ok.started c.push_reserved.ensures.items i.started (record {
             number_is = begun.0 ∙ place;
             ready = subst (λ (n : ℕ). IsReady g.B.Crew.asked queue n c.in-Ok.started.promise.share.value) place
                 (subst (IsReady g.B.Crew.asked queue c.loop-share.number) (sym begun.1) first);
-          }));
+          });
       room = search rules;
     }

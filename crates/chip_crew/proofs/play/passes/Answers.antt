@@ -7,6 +7,8 @@ use Rattle.chip_crew.specs.Joining.{queue_of_all}
 use Rattle.chip_crew.specs.declared.queue.Ledger.{Ledger}
 use Rattle.chip_crew.specs.declared.worker.Share.{Share}
 use Rattle.chip_crew.specs.declared.worker.Share.TheVariants as share
+use Rattle.crossbeam_queue.specs.Passes.{view}
+use Rattle.chip_crew.proofs.GatheringLemmas.{gathers_none}
 use Rattle.chip_crew.proofs.PlacesLemmas.{forks}
 use Rattle.chip_crew.proofs.RunLemmas.{from_push}
 use Rattle.chip_crew.proofs.play.passes.Goals as goal
@@ -24,14 +26,12 @@ loop-preserved g c =
     let left = i.left in
     let one = ap (λ (l : Ledger). l.workers) fewer in
     record {
-      ready = subst (AreReady g.B.Crew.asked (Some c.another.new.pass.table_id)) (sym c.push_reserved.ensures.items)
-          (from_push (IsReady g.B.Crew.asked (Some c.another.new.pass.table_id)) 0 c.loop.all.items
-          (share.Queue c.args.queue c.another.result None)
-          (subst (λ (t : TableId). AreReady g.B.Crew.asked (Some t) c.loop.all.items) (sym same.0.0) i.ready)
+      ready = from_push (IsReady g.B.Crew.asked (Some c.another.new.pass.table_id)) 0 c.loop.all.items _
+          (share.Queue c.args.queue c.another.result None) c.push_reserved.ensures.items (subst (λ (t : TableId). AreReady g.B.Crew.asked (Some t) c.loop.all.items) (sym same.0.0) i.ready)
           (record {
             made = (c.requires.sharing, same.1, (c.another.ensures.rule.1, refl), tt);
             uses = ap (λ (t : TableId). Some t) (same.1.0 ∙ sym i.pass.0 ∙ sym same.0.0);
-          }));
+          });
       count = search rules;
       room = search rules;
       pass = search rules;
@@ -60,3 +60,10 @@ returns-clause-shares g c =
       },
       uses,
     )
+
+pub returns-clause-back : goal.returns-clause-back
+returns-clause-back g c =
+    let i = c.loop.invariant in
+    let none : (view c.loop.pass).workers ≡ 0 = (let left = i.left in let all : c.loop.counter ≡ c.args.workers = search rules in
+    omega (arith, left, all)) in
+    (c.requires.sharing, i.pass, gathers_none g.B.Crew.asked (view c.loop.pass) c.args.row i.has none c.requires.row.0 c.requires.row.1)

@@ -1,30 +1,44 @@
-use Rattle.std.proofs.Common.{◌≡◌, ◌∙◌, rules, arith}
-use Rattle.std.proofs.lemmas.List.Elements.{All-set}
+use Rattle.std.proofs.Common.{◌≡◌, ◌∙◌, ◌+◌, ◌%◌, ◌<◌, ℕ, List, length, max, sym, subst, rules, arith}
+use Rattle.std.proofs.lemmas.List.{length-set}
+use Rattle.std.specs.Global.{Vec}
 use Rattle.chip_net.specs.Tokens.{ActorKnown}
-use Rattle.chip_crew.specs.Asked.{passes}
-use Rattle.chip_crew.specs.Asked.{passes}
-use Rattle.chip_crew.proofs.DealingLemmas.{row_more, turn_at}
+use Rattle.chip_crew.specs.Handed.{HasDealt}
+use Rattle.chip_crew.proofs.DealingLemmas.{turn_at, none_at, dealt_net, dealt_turn}
 use Rattle.chip_crew.proofs.DutiesLemmas.{begins_more}
 use Rattle.chip_crew.proofs.shared.Shared.turn_each.Goals as goal
+use Rattle.chip_crew.proofs.shared.Shared.turn_each.Goals.{in-Some, in_default}
 
-pub loop-actor-preserved : goal.loop-actor-preserved
-loop-actor-preserved g c =
-    let i = c.loop-actor.invariant in
-    let begins = c.if-not-begin.ensures.begins in
+pub turn-answer-requires : goal.turn-answer-requires
+turn-answer-requires g c = record {
+  net = dealt_net g.B.Crew.asked c.args.worker (c.args.first + c.loop-place.place) c.loop-place.place c.loop-place.actors.items
+      c.in-Some.actor.now c.loop-place.invariant.made (search rules) c.in-Some.ensures.value ∙ sym c.self.invariant.net_is;
+}
+
+pub loop-place-preserved : goal.loop-place-preserved
+loop-place-preserved g c =
+    let i = c.loop-place.invariant in
+    let place = c.loop-place.place in
+    let before = c.loop-place.actors.items in
+    let dealt : Vec ActorKnown → Type 0 =
+    λ v. HasDealt g.B.Crew.asked c.args.worker (c.args.first + (place + 1)) v.items × (length v.items ≡ length c.args.actors.now.items) in
+    let count = i.count in
+    let begins = subst (λ (n : ℕ). c.args.first % max 1 n ≡ 0) (sym count) c.requires.first in
+    let less : place < max 1 (length before) =
+    (let few = c.requires.most.0 in let test = c.loop-place-test.true in omega (arith, few, count, test)) in
+    let turned = λ (now : List ActorKnown). dealt_turn g.B.Crew.asked c.args.worker c.args.first place before now i.made begins
+    less c.if-not-begin.ensures.begins.0 in
+    let both : dealt c.match-get_mut.actors = elim c.match-get_mut.branch [
+      | in-Some w ↦ subst dealt (sym w.actors-is) (
+        turned _ (turn_at place before w.in-Some.actor.now w.turn-answer.new.self w.turn-answer.result (search rules)
+            w.in-Some.ensures.value w.turn-answer.ensures.turn),
+        length-set before place w.turn-answer.new.self ∙ count,
+      )
+      | in_default w ↦ subst dealt (sym w.actors-is) (turned before (none_at place before (search rules)), count)
+    ] in
     record {
-      made = search rules;
-      nets = All-set (λ (a : ActorKnown). a.net ≡ g.B.Crew.asked.crew.net) c.loop-actor.actors c.loop-actor.actor-index
-          c.turn-answer.new.self
-          (c.turn-answer.ensures.same.0 ∙ i.nets c.loop-actor.actor-index c.actor-item.result (search rules)) i.nets;
-      turns = row_more (passes g.B.Crew.asked c.args.worker) c.args.first c.loop-actor.made c.args.actors.now c.loop-actor.actors _
-          i.turns begins.0 (turn_at c.loop-actor.made c.loop-actor.actor-index c.loop-actor.actors c.actor-item.result
-          c.turn-answer.new.self c.turn-answer.result i.made (search rules) c.turn-answer.ensures.turn);
+      made = both.0;
+      count = both.1;
       can = search rules;
-      done = begins_more g.D.Duties.before c.args.first c.loop-actor.made c.args.duties.now c.loop-actor.duties _ i.done
-          begins.1;
+      done = begins_more g.D.Duties.before c.args.first place c.args.duties.now c.loop-place.duties _ i.done
+          c.if-not-begin.ensures.begins.1;
     }
-
-pub overflow_add-first : goal.overflow_add-first
-overflow_add-first g c =
-    let all = c.self.invariant.few_turns in
-    let turns = c.requires.turns in let made = c.loop-actor.invariant.made in omega (arith, all, turns, made)

@@ -1,14 +1,12 @@
-use Rattle.std.proofs.Common.{◌≡◌, All}
-use Rattle.chip_crew.specs.Asked.{passes}
+use Rattle.std.proofs.Common.{◌≡◌, ◌+◌, length}
 use Rattle.chip_crew.specs.Duties.{BeginsEach}
-use Rattle.chip_crew.specs.Rounds.{TurnsInRow}
+use Rattle.chip_crew.specs.Handed.{HasDealt}
 use Rattle.chip_crew.proofs.shared.Shared.turn_each.Given as goal
 
-abbrev pub invariant-loop-actor : goal.invariant-loop-actor
-invariant-loop-actor g l = record {
-  made : l.made ≡ l.actor-index;
-  nets : All (λ a. a.net ≡ g.B.Crew.asked.crew.net) l.actors;
-  turns : TurnsInRow (passes g.B.Crew.asked l.worker) l.first l.made l.fn.actors l.actors;
+abbrev pub invariant-loop-place : goal.invariant-loop-place
+invariant-loop-place g l = record {
+  made : HasDealt g.B.Crew.asked l.worker (l.first + l.place) l.actors.items;
+  count : length l.actors.items ≡ length l.fn.actors.items;
   can : g.D.Duties.can g.B.Crew.asked.crew.net l.duties;
-  done : BeginsEach g.D.Duties.before l.first l.made l.fn.duties l.duties;
+  done : BeginsEach g.D.Duties.before l.first l.place l.fn.duties l.duties;
 }

@@ -5,9 +5,9 @@ use Rattle.chip_crew.proofs.OwningLemmas.{true_or_false}
 use Rattle.chip_crew.proofs.ShareLemmas.{has_worked}
 use Rattle.chip_crew.proofs.DutiesLemmas.{serves_more, serves_round, round_over}
 use Rattle.chip_crew.proofs.worker.Worker.work.Goals as goal
-use Rattle.chip_crew.proofs.worker.Worker.work.Goals.{else-loop-turns-test, then-loop-turns-test+then-load}
-use Rattle.chip_crew.proofs.worker.Worker.work.Goals.{then-loop-turns-test+else-load+then-made-round}
-use Rattle.chip_crew.proofs.worker.Worker.work.Goals.{then-loop-turns-test+else-load+else-made-round+then-end_round}
+use Rattle.chip_crew.proofs.worker.Worker.work.Goals.{else-loop-turns-test, then-loop-turns-test+else-not-load}
+use Rattle.chip_crew.proofs.worker.Worker.work.Goals.{then-loop-turns-test+then-not-load+then-made-round}
+use Rattle.chip_crew.proofs.worker.Worker.work.Goals.{then-loop-turns-test+then-not-load+else-made-round+then-end_round}
 
 pub loop-turns-preserved : goal.loop-turns-preserved
 loop-turns-preserved g c =
@@ -38,10 +38,10 @@ returns g c =
     elim c.loop-turns-test.branch [
       | else-loop-turns-test w ↦ worked c.loop-turns.share _ c.loop-turns.duties _ c.loop-turns.passed _ c.loop-turns.turns _
           c.round-round.result w.share-is w.duties-is w.passed-is w.turns-is i.few i.made passed i.uses i.round i.served i.can
-      | then-loop-turns-test+then-load w ↦ worked c.loop-turns.share _ c.loop-turns.duties _ c.loop-turns.passed _
+      | then-loop-turns-test+else-not-load w ↦ worked c.loop-turns.share _ c.loop-turns.duties _ c.loop-turns.passed _
           c.loop-turns.turns _ c.round-round.result w.share-is w.duties-is w.passed-is w.turns-is i.few i.made passed i.uses
           i.round i.served i.can
-      | then-loop-turns-test+else-load+then-made-round w ↦
+      | then-loop-turns-test+then-not-load+then-made-round w ↦
           let made = w.round-made.ensures.round.at_most in
           worked w.round-made.new.share _ w.round-made.new.duties _ (w.round-made.result == w.min-most.result) _
           (c.loop-turns.turns + w.round-made.result) _ c.round-round.result w.share-is w.duties-is w.passed-is w.turns-is
@@ -51,7 +51,7 @@ returns g c =
           (serves_more g.D.Duties.before g.D.Duties.after c.round-round.result c.loop-turns.turns w.round-made.result
           c.args.self.duties c.loop-turns.duties w.round-made.new.duties i.begins w.if-made-round.true i.served
           w.round-made.ensures.done) w.round-made.ensures.can
-      | then-loop-turns-test+else-load+else-made-round+then-end_round w ↦
+      | then-loop-turns-test+then-not-load+else-made-round+then-end_round w ↦
           let made = w.round-made.ensures.round.at_most in
           let whole : w.round-made.result ≡ c.round-round.result = omega arith in
           worked w.round-made.new.share _ w.end_round.new.self _ c.loop-turns.passed _

@@ -28,7 +28,7 @@ _RULES = (
     ("nothing is pending, nor claimed and not put", "the vertex has not yet sent what its last firings made"),
     ("it fires at least once", "the vertex is to fire no times"),
     ("its firings stay within the limit", "the vertex would fire more often than the limit allows"),
-    ("the chips are there", "the vertex has not the chips for so many firings"),
+    ("the chips are there", "the vertex has too few chips for these firings"),
     ("something is pending on the edge", "nothing is pending on the edge"),
     ("no claim of the edge was refused", "a claim of the edge was refused, since the edge is sealed"),
     ("nothing is claimed and not put", "a message is claimed and not put"),
@@ -41,7 +41,7 @@ _RULES = (
     ("the end of feeding is not noted", "the end of feeding is noted"),
     (
         "with so many more, no more than 2^40 chips are given in all",
-        "with so many chips more, more than 1099511627776 were given in all",
+        "with these chips, more than 1099511627776 would be given in all",
     ),
 )
 #: What each rule says that the reply `not-now N` names; docs/CORE.md has the table.

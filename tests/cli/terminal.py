@@ -34,13 +34,13 @@ TOLD = {
     "run graph.json chips.csv --workers 1 --turns 1":
         ("61 Unfinished 1", ["fault 61 Unfinished n: the threads made all their turns before the game was over"]),
     "simulate graph.json chips.csv early.csv":
-        ("28 Kind 1", ["in early.csv: row 1, which is line 3 where no line is empty", "fault 28 Kind i: row i is of no kind that there is"]),
+        ("28 Kind 1", ["in early.csv: row 1, which is line 3 where no line is empty", "fault 28 Kind i: row i has an unknown kind"]),
     "replay graph.json none.csv trace.csv":
         ("70 Stuck 0 0", ["in trace.csv", "fault 70 Stuck v i: the rows of a trace fit together in no order"]),
     "resume graph.json report.json":
         ("52 Mismatch", ["in report.json", "fault 52 Mismatch: the report has another number of vertices than the graph"]),
     "verify graph.json chips.csv played.json":
-        ("53 Differs 0", ["in played.json", "fault 53 Differs v: the report is not that of this game, and v is the least vertex where it differs"]),
+        ("53 Differs 0", ["in played.json", "fault 53 Differs v: the report is not of this game, and v is the least vertex that differs"]),
     "explain 12": ("91 Usage", ["fault 91 Usage: the arguments are no command"]),
 }
 # Commands that are none, and the words that have to stand below the fault.

@@ -357,7 +357,7 @@ class Words(unittest.TestCase):
             ("halt", chipfire.Reply("done", (1,)), "Done: it fired as often as the limit allows."),
             ("settle", chipfire.Reply("done", (1,)), "Done: 1 new acknowledgement seen."),
             ("fire", chipfire.Reply("not-now", (7,)),
-             "Refused, by rule 7: the vertex has not the chips for so many firings. Nothing was done."),
+             "Refused, by rule 7: the vertex has too few chips for these firings. Nothing was done."),
         ]
         for kind, reply, words in said:
             self.assertEqual(self.words.reply(chipfire.Event(kind, 0), reply), words)

@@ -1,6 +1,6 @@
 -- Serves CommandAnswers.antt.
 -- From what a command has to write to what it answers.
-use Rattle.std.proofs.Common.{◌≡◌, ℕ, List, Option, Result, Ok, Err, inl, inr, sym, ap, subst}
+use Rattle.std.proofs.Common.{ℕ, List, Option, Result, Ok, Err, inl, inr, sym, ap, subst}
 use Rattle.std.specs.Result.{IsErrAnd}
 use Rattle.chip_command.specs.CommandAnswers.{Gives, DeliversGiven, CommandAnswers}
 use Rattle.chip_command.specs.Statuses.{number_of_status}

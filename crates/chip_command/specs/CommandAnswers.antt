@@ -19,7 +19,7 @@ abbrev pub Gives : (List ℕ → ℕ → Type 0) → (Fault → Type 0) → Resu
 Gives Writes Refuses (Ok answer) = Writes answer.text.items (number_of_status answer.status)
 Gives Writes Refuses (Err fault) = Refuses fault
 
--- what it has to write went out, or the output failed; where it has nothing it ends by the same fault, and nothing went out
+-- what it has to write went out, or the output failed; if it has nothing it ends by the same fault, and nothing went out
 abbrev pub DeliversGiven : Option (List ℕ) → Option (List ℕ) → Result Answer Fault → Result Ended Fault → Type 0
 DeliversGiven old new (Ok answer) result =
     Delivers old new answer.text.items (record { status = number_of_status answer.status; cut = false }) result

@@ -49,12 +49,12 @@ RefusesInputs limits graph_text chips_text limit fault =
     ⊎ ((g : ChipGame) × NamesGame limits graph_text chips_text limit g
     × (f : GameFault) × (fault_of_game g ≡ Some f) × (fault ≡ Game f))
 
--- two readers and a limit gave this game: where they tell their texts, it is the one that these mean
+-- two readers and a limit gave this game: if they know their texts, it is the one that these mean
 pub record GaveGame (limits : SizeLimits) (graph chips : Option (List ℕ)) (limit : ℕ) (g : ChipGame) : Type 0 where
   pub game : IsGame g
   pub means : ForSome graph (λ graph_text. ForSome chips (λ chips_text. MeansGame limits graph_text chips_text limit g))
 
--- they gave none: where they tell their texts, this is why
+-- they gave none: if they know their texts, this is why
 abbrev pub GaveNoGame : SizeLimits → Option (List ℕ) → Option (List ℕ) → ℕ → Fault → Type 0
 GaveNoGame limits graph chips limit fault =
     ForSome graph (λ graph_text. ForSome chips (λ chips_text. RefusesInputs limits graph_text chips_text limit fault))

@@ -17,7 +17,7 @@ PlainWrites limits graph chips limit text status =
 abbrev pub PlainRefuses : SizeLimits → Option (List ℕ) → Option (List ℕ) → ℕ → Fault → Type 0
 PlainRefuses limits graph chips limit = OrMemory (GaveNoGame limits graph chips limit)
 
--- what `plain` answers by these limits, whose readers may tell their texts
+-- what `plain` answers by these limits, whose readers may know their texts
 abbrev pub PlainAnswers : SizeLimits → Option (List ℕ) → Option (List ℕ) → ℕ → Option (List ℕ) → Option (List ℕ)
     → Result Ended Fault → Type 0
 PlainAnswers limits graph chips limit old new result =

@@ -14,11 +14,11 @@ use Rattle.chip_command.specs.declared.fault.Fault.TheVariants.{Write}
 use Rattle.chip_command.specs.declared.status.Status.{Status}
 use Rattle.chip_command.specs.declared.status.Status.TheVariants.{Done, Halted}
 
--- how a game ended: halted where a limit or a seal stopped some vertex
+-- how a game ended: halted if a limit or a seal stopped some vertex
 abbrev pub status_of_outcome : Outcome → Status
 status_of_outcome outcome = if is_closed outcome then Done else Halted
 
--- the number of its exit status: 2 where the limit left a vertex legal
+-- the number of its exit status: 2 if the limit left a vertex legal
 abbrev pub plain_status : Outcome → ℕ
 plain_status outcome = number_of_status (status_of_outcome outcome)
 

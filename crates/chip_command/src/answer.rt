@@ -1,4 +1,4 @@
-//! What a command has to say.
+//! What a command answers.
 
 ghost use Rattle.std.specs.Prelude.{◌≡◌, IfOk, string_bytes};
 ghost use Rattle.chip_command.specs.CommandAnswers.{DeliversGiven};
@@ -23,7 +23,7 @@ impl Answer {
     ghost use Rattle.chip_command.specs.Reports.{status_of_outcome};
     ghost use Rattle.chip_command.specs.declared.status.Status.TheVariants.{Done};
 
-    /// These lines, of a command that did what it should.
+    /// These lines, with status `Done`.
     pub fn of_lines(lines: String) -> Answer
         ensures text { result.text.items ≡ string_bytes lines }
         ensures status { result.status ≡ Done }
@@ -34,9 +34,7 @@ impl Answer {
         }
     }
 
-    /// The report of a game that ended so, and whether some vertex halted.
-    ///
-    /// Only `AllocError` where there is no memory for the report.
+    /// The report of a game that ended so, with the status that says whether some vertex halted.
     pub fn of_outcome(alloc: Global, outcome: &Outcome) -> Result<Answer, AllocError>
         ensures text { IfOk result (λ answer. answer.text.items ≡ report_text outcome.now) }
         ensures status { IfOk result (λ answer. answer.status ≡ status_of_outcome outcome.now) }
@@ -48,7 +46,7 @@ impl Answer {
     }
 }
 
-/// Writes what a command has to say, or hands on why it has nothing to say.
+/// Writes the answer of a command, or hands on its fault.
 pub fn deliver<W: Write>(output: &mut W, given: Result<Answer, Fault>) -> Result<Ended, Fault>
     ensures { DeliversGiven (W.contents output.old) (W.contents output.new) given result }
 {

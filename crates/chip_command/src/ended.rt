@@ -1,4 +1,4 @@
-//! How a command ended that wrote its output.
+//! How a command ended after it wrote its output.
 
 ghost use Rattle.std.specs.Prelude.{◌≡◌, false};
 ghost use Rattle.chip_command.specs.Reports.{status_of_outcome, Delivers};
@@ -10,17 +10,17 @@ use chip_report::{is_closed, write_all_of};
 use chip_sequence::Outcome;
 use std::io::Write;
 
-/// How a command ended that wrote its output.
+/// How a command ended after it wrote its output.
 #[derive(Clone, Copy, PartialEq, Eq)]
 pub struct Ended {
-    /// The number of its exit status.
+    /// The number of its exit status, 0 to 3.
     pub status: u8,
-    /// Whether a trace that was asked for was cut.
+    /// Whether its trace was cut.
     pub cut: bool,
 }
 
 impl Ended {
-    /// With this exit status, and no trace.
+    /// With this exit status, and no trace that was cut.
     pub fn of(status: Status) -> Ended
         ensures { result ≡ record { status = number_of_status status; cut = false } }
     {
@@ -31,7 +31,7 @@ impl Ended {
     }
 }
 
-/// Writes all that a command has to say, and tells that it ended so.
+/// Writes the whole text, and answers `ended`.
 pub fn conclude<W: Write>(output: &mut W, text: &[u8], ended: Ended) -> Result<Ended, Fault>
     ensures { Delivers (W.contents output.old) (W.contents output.new) text.now ended result }
 {
@@ -39,7 +39,7 @@ pub fn conclude<W: Write>(output: &mut W, text: &[u8], ended: Ended) -> Result<E
     Ok(ended)
 }
 
-/// The exit status that tells whether some vertex halted.
+/// The exit status that says whether some vertex halted.
 pub fn status_of(outcome: &Outcome) -> Status
     ensures { result ≡ status_of_outcome outcome.now }
 {

@@ -1,10 +1,7 @@
 //! What can go wrong with a command, and the line under which it is printed.
 
 ghost use Rattle.std.specs.Prelude.{◌≡◌};
-ghost use Rattle.chip_command.specs.FaultNumbers.{number_of_graph_fault, number_of_game_fault, number_of_file_fault};
-ghost use Rattle.chip_command.specs.FaultNumbers.{number_of_resume_fault, location_of_resume_fault};
-ghost use Rattle.chip_command.specs.FaultNumbers.{location_of_graph_fault, location_of_file_fault};
-ghost use Rattle.chip_command.specs.declared.fault.Location.TheVariants.{Nowhere};
+ghost use Rattle.chip_command.specs.FaultNumbers.{print_graph_fault, print_game_fault, print_file_fault, print_resume_fault};
 
 use crate::status::Status;
 use crate::table::name_of;
@@ -25,15 +22,15 @@ pub enum Fault {
     File(FileFault),
     /// The numbers of a game.
     Game(GameFault),
-    /// The bytes of a report are none.
+    /// The bytes are no report.
     NotReport,
-    /// The play that a report tells does not go on.
+    /// The play of a report does not go on.
     Resume(ResumeFault),
-    /// A report tells another end of a game, and this is the least vertex where it does.
+    /// A report has another end of a game, and this is the least vertex that differs.
     Differs(u64),
     /// A number of the plan for a crew is out of its range.
     Plan,
-    /// All turns of a crew were made, and so many of the root's messages are not acknowledged.
+    /// All turns of a crew were made, and this many of the root's messages are not acknowledged.
     Unfinished(u64),
     /// A gate let no worker pass.
     GateShut,
@@ -43,15 +40,15 @@ pub enum Fault {
     Doubled(u64),
     /// A thread could not be started.
     Spawn,
-    /// The recorded runs of a trace do not fit together; at greatest progress this row of this vertex is to blame.
+    /// The recorded runs of a trace do not fit together, and this row of this vertex is to blame.
     Stuck { vertex: u64, row: u64 },
-    /// The file of a recorded run, of which some bytes may have gone out.
+    /// The file of a trace could not be written to its end.
     WriteTrace,
-    /// The output, and how many bytes of it went out.
+    /// The output could not be written to its end.
     Write(WriteFault),
     /// The arguments are no command.
     Usage,
-    /// The file that this argument names, by its number from 1 behind the command, could not be opened.
+    /// The file that this argument names could not be opened. Arguments count from 1 after the command.
     Open(u64),
     /// Memory ran out.
     NoMemory,
@@ -171,11 +168,11 @@ impl<T: Drop> From<AllocFailed<T>> for Fault {
     }
 }
 
-/// Where a fault is, by the numbers that are printed behind its name.
-#[derive(Clone, Copy, Debug, PartialEq, Eq)]
+/// Where a fault is: the numbers that are printed after its name.
+#[derive(Clone, Copy)]
 pub enum Location {
     Nowhere,
-    /// An edge, a vertex, a row, an argument or a number of bytes or of messages.
+    /// An edge, a vertex, a row, an argument, or how many bytes or messages.
     At(u64),
     AtRow { vertex: u64, row: u64 },
 }
@@ -196,121 +193,87 @@ impl fmt::Display for Location {
 }
 
 /// A fault as it is printed: its number, its name, and where it is.
-#[derive(Clone, Copy, Debug, PartialEq, Eq, Error)]
-#[error("fault {number} {name}{location}")]
+#[derive(Clone, Copy)]
 pub struct FaultLine {
     pub number: u64,
     pub name: &'static str,
     pub location: Location,
 }
 
-/// The number of a fault of a graph.
-fn number_of_graph(fault: &GraphFault) -> u64
-    ensures { result ≡ number_of_graph_fault fault.now }
+impl fmt::Display for FaultLine {
+    fn fmt<W: fmt::Write>(&self, f: &mut fmt::Formatter<W>) -> fmt::Result {
+        write!(f, "fault {} {}{}", self.number, self.name, self.location)
+    }
+}
+
+/// The number of a fault of a graph, and where it is.
+fn print_graph(fault: &GraphFault) -> (u64, Location)
+    ensures { result ≡ print_graph_fault fault.now }
 {
     match fault {
-        GraphFault::Vertices => 1,
-        GraphFault::Sink => 2,
-        GraphFault::EdgeCount => 3,
-        GraphFault::Endpoint(_) => 4,
-        GraphFault::Mult(_) => 5,
-        GraphFault::Loop(_) => 6,
-        GraphFault::FromSink(_) => 7,
-        GraphFault::Unreached(_) => 8,
-        GraphFault::NoMemory => 90,
+        GraphFault::Vertices => (1, Location::Nowhere),
+        GraphFault::Sink => (2, Location::Nowhere),
+        GraphFault::EdgeCount => (3, Location::Nowhere),
+        GraphFault::Endpoint(edge) => (4, Location::At(*edge)),
+        GraphFault::Mult(edge) => (5, Location::At(*edge)),
+        GraphFault::Loop(edge) => (6, Location::At(*edge)),
+        GraphFault::FromSink(edge) => (7, Location::At(*edge)),
+        GraphFault::Unreached(vertex) => (8, Location::At(*vertex)),
+        GraphFault::NoMemory => (90, Location::Nowhere),
     }
 }
 
 /// The number of a fault of a game.
-fn number_of_game(fault: &GameFault) -> u64
-    ensures { result ≡ number_of_game_fault fault.now }
+fn print_game(fault: &GameFault) -> (u64, Location)
+    ensures { result ≡ print_game_fault fault.now }
 {
     match fault {
-        GameFault::StartLength => 9,
-        GameFault::Total => 10,
-        GameFault::Limit => 11,
+        GameFault::StartLength => (9, Location::Nowhere),
+        GameFault::Total => (10, Location::Nowhere),
+        GameFault::Limit => (11, Location::Nowhere),
     }
 }
 
-/// The number of a fault of a file.
-fn number_of_file(fault: &FileFault) -> u64
-    ensures { result ≡ number_of_file_fault fault.now }
+/// The number of a fault of a file, and where it is.
+fn print_file(fault: &FileFault) -> (u64, Location)
+    ensures { result ≡ print_file_fault fault.now }
 {
     match fault {
-        FileFault::Graph(fault) => number_of_graph(fault),
-        FileFault::Total => 10,
-        FileFault::NotJson => 20,
-        FileFault::Shape => 21,
-        FileFault::Version => 22,
-        FileFault::Header => 23,
-        FileFault::Row(_) => 24,
-        FileFault::Number(_) => 25,
-        FileFault::Vertex(_) => 26,
-        FileFault::Repeated(_) => 27,
-        FileFault::Kind(_) => 28,
-        FileFault::Read => 29,
-        FileFault::TooLong => 30,
-        FileFault::NoMemory => 90,
+        FileFault::Graph(fault) => print_graph(fault),
+        FileFault::Total => (10, Location::Nowhere),
+        FileFault::NotJson => (20, Location::Nowhere),
+        FileFault::Shape => (21, Location::Nowhere),
+        FileFault::Version => (22, Location::Nowhere),
+        FileFault::Header => (23, Location::Nowhere),
+        FileFault::Row(row) => (24, Location::At(*row)),
+        FileFault::Number(row) => (25, Location::At(*row)),
+        FileFault::Vertex(row) => (26, Location::At(*row)),
+        FileFault::Repeated(row) => (27, Location::At(*row)),
+        FileFault::Kind(row) => (28, Location::At(*row)),
+        FileFault::Read => (29, Location::Nowhere),
+        FileFault::TooLong => (30, Location::Nowhere),
+        FileFault::NoMemory => (90, Location::Nowhere),
     }
 }
 
-/// The number of a fault of resuming.
-fn number_of_resume(fault: &ResumeFault) -> u64
-    ensures { result ≡ number_of_resume_fault fault.now }
+/// The number of a fault of resuming, and where it is.
+fn print_resume(fault: &ResumeFault) -> (u64, Location)
+    ensures { result ≡ print_resume_fault fault.now }
 {
     match fault {
-        ResumeFault::Total => 10,
-        ResumeFault::Limit => 11,
-        ResumeFault::Prior(_) => 51,
-        ResumeFault::Mismatch => 52,
-        ResumeFault::NoMemory => 90,
-    }
-}
-
-/// Where a fault of a graph is.
-fn location_of_graph(fault: &GraphFault) -> Location
-    ensures { result ≡ location_of_graph_fault fault.now }
-{
-    match fault {
-        GraphFault::Endpoint(edge) => Location::At(*edge),
-        GraphFault::Mult(edge) => Location::At(*edge),
-        GraphFault::Loop(edge) => Location::At(*edge),
-        GraphFault::FromSink(edge) => Location::At(*edge),
-        GraphFault::Unreached(vertex) => Location::At(*vertex),
-        _ => Location::Nowhere,
-    }
-}
-
-/// Where a fault of a file is.
-fn location_of_file(fault: &FileFault) -> Location
-    ensures { result ≡ location_of_file_fault fault.now }
-{
-    match fault {
-        FileFault::Graph(fault) => location_of_graph(fault),
-        FileFault::Row(row) => Location::At(*row),
-        FileFault::Number(row) => Location::At(*row),
-        FileFault::Vertex(row) => Location::At(*row),
-        FileFault::Repeated(row) => Location::At(*row),
-        FileFault::Kind(row) => Location::At(*row),
-        _ => Location::Nowhere,
-    }
-}
-
-/// Where a fault of resuming is.
-fn location_of_resume(fault: &ResumeFault) -> Location
-    ensures { result ≡ location_of_resume_fault fault.now }
-{
-    match fault {
-        ResumeFault::Prior(vertex) => Location::At(*vertex),
-        _ => Location::Nowhere,
+        ResumeFault::Total => (10, Location::Nowhere),
+        ResumeFault::Limit => (11, Location::Nowhere),
+        ResumeFault::Prior(vertex) => (51, Location::At(*vertex)),
+        ResumeFault::Mismatch => (52, Location::Nowhere),
+        ResumeFault::NoMemory => (90, Location::Nowhere),
     }
 }
 
 impl Fault {
     ghost use Rattle.std.specs.Prelude.{◌≡◌};
-    ghost use Rattle.chip_command.specs.FaultNumbers.{number_of, location_of, status_of_fault};
+    ghost use Rattle.chip_command.specs.FaultNumbers.{print_fault, number_of, location_of, status_of_fault};
 
-    /// The exit status of a command that failed so: a crew that ran out of turns is no failure of its inputs.
+    /// The exit status of a command that failed so: turns that were too few are no failure of the inputs.
     pub fn status(&self) -> Status
         ensures { result ≡ status_of_fault self.now }
     {
@@ -320,60 +283,43 @@ impl Fault {
         }
     }
 
-    /// The number, the name and the location of this fault.
+    /// This fault as it is printed.
     pub fn line(&self) -> FaultLine
         ensures number { result.number ≡ number_of self.now }
         ensures location { result.location ≡ location_of self.now }
     {
-        let number = self.number();
+        let (number, location) = self.print();
         FaultLine {
             number,
             name: name_of(number),
-            location: self.location(),
+            location,
         }
     }
 
-    fn number(&self) -> u64
-        ensures { result ≡ number_of self.now }
+    fn print(&self) -> (u64, Location)
+        ensures { result ≡ print_fault self.now }
     {
         match self {
-            Fault::File(fault) => number_of_file(fault),
-            Fault::Game(fault) => number_of_game(fault),
-            Fault::NotReport => 50,
-            Fault::Resume(fault) => number_of_resume(fault),
-            Fault::Differs(_) => 53,
-            Fault::Plan => 60,
-            Fault::Unfinished(_) => 61,
-            Fault::GateShut => 62,
-            Fault::Lost(_) => 63,
-            Fault::Doubled(_) => 64,
-            Fault::Spawn => 65,
-            Fault::Stuck { .. } => 70,
-            Fault::NoMemory => 90,
-            Fault::Usage => 91,
-            Fault::Open(_) => 92,
-            Fault::Write(_) => 93,
-            Fault::WriteTrace => 93,
-        }
-    }
-
-    fn location(&self) -> Location
-        ensures { result ≡ location_of self.now }
-    {
-        match self {
-            Fault::File(fault) => location_of_file(fault),
-            Fault::Resume(fault) => location_of_resume(fault),
-            Fault::Differs(vertex) => Location::At(*vertex),
-            Fault::Unfinished(deficit) => Location::At(*deficit),
-            Fault::Lost(vertex) => Location::At(*vertex),
-            Fault::Doubled(vertex) => Location::At(*vertex),
+            Fault::File(fault) => print_file(fault),
+            Fault::Game(fault) => print_game(fault),
+            Fault::NotReport => (50, Location::Nowhere),
+            Fault::Resume(fault) => print_resume(fault),
+            Fault::Differs(vertex) => (53, Location::At(*vertex)),
+            Fault::Plan => (60, Location::Nowhere),
+            Fault::Unfinished(deficit) => (61, Location::At(*deficit)),
+            Fault::GateShut => (62, Location::Nowhere),
+            Fault::Lost(vertex) => (63, Location::At(*vertex)),
+            Fault::Doubled(vertex) => (64, Location::At(*vertex)),
+            Fault::Spawn => (65, Location::Nowhere),
             Fault::Stuck { vertex, row } => {
                 let (vertex, row) = (*vertex, *row);
-                Location::AtRow { vertex, row }
+                (70, Location::AtRow { vertex, row })
             }
-            Fault::Open(argument) => Location::At(*argument),
-            Fault::Write(fault) => Location::At(fault.written),
-            _ => Location::Nowhere,
+            Fault::NoMemory => (90, Location::Nowhere),
+            Fault::Usage => (91, Location::Nowhere),
+            Fault::Open(argument) => (92, Location::At(*argument)),
+            Fault::Write(fault) => (93, Location::At(fault.written)),
+            Fault::WriteTrace => (93, Location::Nowhere),
         }
     }
 }

@@ -4,7 +4,7 @@ ghost use Rattle.chip_command.specs.Laws.{WrittenIsRead, FileIsReadBack, ReadIsI
 ghost use Rattle.chip_command.specs.OneReport.{OneReport};
 ghost use Rattle.chip_command.specs.Worked.{TwoTracesComeBack, StatusesAreNumbered};
 
-/// What `write_trace` writes, `read_trace` reads back: all traces in the graph, and nothing else is ever read.
+/// What `write_trace` writes, `read_trace` reads back: all traces in the graph. It reads no other traces.
 pub fn written_traces()
     ensures meaning { WrittenIsRead }
     ensures answer { FileIsReadBack }

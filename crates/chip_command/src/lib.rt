@@ -1,7 +1,7 @@
 //! What all commands share: the game that their files mean, what can go wrong, and how they end.
 //!
-//! A `Fault` has a number, which its line shows with its name and where it is; that it has the number which it should
-//! have is proved (`specs/FaultNumbers.antt`). What tables say of it, and of each rule, is text: it is tested.
+//! The line of a `Fault` has its number, its name and where it is. That number and place are right is proved
+//! (`specs/FaultNumbers.antt`). What the tables say of faults and rules is tested.
 #![tactic(auto)]
 
 pub use answer::{Answer, deliver};

@@ -1,4 +1,4 @@
-//! The table of rules: why an event of a simulation is not made now, and what to do.
+//! The table of rules: why an event of a simulation does not happen now, and what to do.
 
 use crate::table::{Explanation, Place};
 
@@ -8,8 +8,8 @@ static NO_SUCH: Explanation = Explanation {
     place: Place::NOWHERE,
     meaning: "there is no such vertex or edge",
     advice: "\
-Vertices are numbers from 0 on, and so are edges: with m edges in the graph, edge m + v is
-the root edge of vertex v. A claim and a seal need an edge of the graph, a feed a root edge.
+Vertices and edges are numbers from 0 on. With m edges in the graph, edge m + v is the root
+edge of vertex v. Only edges of the graph are claimed and sealed, and only root edges fed.
 ",
 };
 
@@ -19,7 +19,7 @@ static SINK: Explanation = Explanation {
     place: Place::NOWHERE,
     meaning: "the vertex is the sink",
     advice: "\
-The sink takes and acknowledges, but it never fires and never halts.
+The sink takes and acknowledges. It never fires and never halts.
 ",
 };
 
@@ -40,7 +40,7 @@ static PENDING: Explanation = Explanation {
     meaning: "the vertex has not yet sent what its last firings made",
     advice: "\
 On some edge out of it chips are pending, or a message is claimed and not put. Clear, claim
-and put each such edge; then the vertex may fire again.
+and put on each such edge. Then the vertex may fire again.
 ",
 };
 
@@ -50,7 +50,7 @@ static ZERO: Explanation = Explanation {
     place: Place::NOWHERE,
     meaning: "the vertex is to fire no times",
     advice: "\
-The count of a fire is 1 or more, and so is that of a feed.
+The count of a fire or a feed is 1 or more.
 ",
 };
 
@@ -68,10 +68,10 @@ static NOT_LEGAL: Explanation = Explanation {
     number: 7,
     name: "NotLegal",
     place: Place::NOWHERE,
-    meaning: "the vertex has not the chips for so many firings",
+    meaning: "the vertex has too few chips for these firings",
     advice: "\
-One firing sends a chip along each edge out, times its multiplicity: see `degree` of
-`chipfire check`. Chips that are under way to a vertex count once it has taken them.
+A firing sends one chip along each edge out, times its multiplicity: `chipfire check` writes
+the sum as `degree`. Chips on their way to a vertex count after it took them.
 ",
 };
 
@@ -81,8 +81,7 @@ static NOTHING_PENDING: Explanation = Explanation {
     place: Place::NOWHERE,
     meaning: "nothing is pending on the edge",
     advice: "\
-Only a firing of its tail makes chips for an edge, and the message that is claimed next
-takes all of them.
+Only a firing of its tail makes chips pending, and the next claim takes all of them.
 ",
 };
 
@@ -102,7 +101,7 @@ static UNPUT: Explanation = Explanation {
     place: Place::NOWHERE,
     meaning: "a message is claimed and not put",
     advice: "\
-On the edge, or on some edge out of the vertex that is to halt. Put it first.
+It is on this edge, or on some edge out of the vertex that is to halt. Put it first.
 ",
 };
 
@@ -112,7 +111,7 @@ static NOT_CLEARED: Explanation = Explanation {
     place: Place::NOWHERE,
     meaning: "the next cell of the edge was not seen empty",
     advice: "\
-Clear the edge first. Where that answers `full`, its head has to take a message before; each
+Clear the edge first. If the answer is `full`, its head has to take a message before. Each
 claim and each feed needs a clear of its own.
 ",
 };
@@ -123,8 +122,7 @@ static NOT_CLAIMED: Explanation = Explanation {
     place: Place::NOWHERE,
     meaning: "no message is claimed on the edge and not put",
     advice: "\
-A put comes after a claim of the same edge that answered `sent`, or on a root edge after a
-feed, and once only.
+Each claim that answered `sent`, and each feed of a root edge, needs one put after it.
 ",
 };
 
@@ -134,8 +132,8 @@ static NO_CAUSE: Explanation = Explanation {
     place: Place::NOWHERE,
     meaning: "the vertex has no cause to halt",
     advice: "\
-There are two: a claim of an edge out of it was refused; or nothing is pending, it has the
-chips to fire, and it has fired as often as the limit allows.
+There are two causes. A claim of an edge out of it was refused. Or nothing is pending, and
+it has the chips to fire, but fired as often as the limit allows.
 ",
 };
 
@@ -145,7 +143,7 @@ static NOTHING_OWED: Explanation = Explanation {
     place: Place::NOWHERE,
     meaning: "no acknowledgement is owed on the edge",
     advice: "\
-Its head owes one for each message that it took from the edge.
+The head owes one for each message that it took from the edge.
 ",
 };
 
@@ -155,9 +153,9 @@ static ENGAGED: Explanation = Explanation {
     place: Place::NOWHERE,
     meaning: "the message that engaged the vertex may not be acknowledged yet",
     advice: "\
-It is the last one that the vertex acknowledges. Before, the vertex has nothing to fire and
-to send, owes nothing on any other edge, and all that it sent is settled: `--books` shows
-its deficit and what it owes.
+The vertex acknowledges it last. Before that it has nothing to fire or to send, owes nothing
+on other edges, and all that it sent is settled. `--books` shows its deficit and what it
+owes.
 ",
 };
 
@@ -167,8 +165,8 @@ static NOT_CLOSED: Explanation = Explanation {
     place: Place::NOWHERE,
     meaning: "the root is not closed",
     advice: "\
-A vertex is read once all is over: the end of feeding is noted, and on every root edge all
-that was sent is settled.
+A vertex is read only after the root closed: the end of feeding is noted, and all messages on
+root edges are settled.
 ",
 };
 
@@ -178,7 +176,7 @@ static ENDED: Explanation = Explanation {
     place: Place::NOWHERE,
     meaning: "the end of feeding is noted",
     advice: "\
-Nothing more is fed behind the event end. Without `--fed` it is noted from the beginning.
+Nothing is fed after the event end. Without `--fed` the end is noted from the beginning.
 ",
 };
 
@@ -186,13 +184,13 @@ static TOO_MUCH: Explanation = Explanation {
     number: 18,
     name: "TooMuch",
     place: Place::NOWHERE,
-    meaning: "with so many chips more, more than 1099511627776 were given in all",
+    meaning: "with these chips, more than 1099511627776 would be given in all",
     advice: "\
-That is 2^40. The chips that the vertices start with count, and all that was fed.
+That is 2^40. The chips at the start count, and all that were fed.
 ",
 };
 
-/// All rows, by their numbers.
+/// All rules, by their numbers.
 pub fn rules() -> [&'static Explanation; 18] {
     [
         &NO_SUCH,

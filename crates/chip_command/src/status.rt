@@ -2,15 +2,15 @@
 
 ghost use Rattle.std.specs.Prelude.{◌≡◌};
 
-/// How a command ended, as whoever started it is told.
+/// How a command ended.
 #[derive(Clone, Copy)]
 pub enum Status {
-    /// It did all it was to do; of a game, that no vertex halted.
+    /// It did all that it should, and no vertex of a game halted.
     Done = 0,
     Failed = 1,
     /// The game closed, and some vertex halted.
     Halted = 2,
-    /// The root of a simulation, or of a crew that has no turns left, is still open.
+    /// The root of a simulation, or of a crew without turns left, is still open.
     Unfinished = 3,
 }
 

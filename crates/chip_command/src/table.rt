@@ -1,11 +1,11 @@
 //! The table of faults: what each means, and what to do.
 
-/// What the numbers behind a fault's name are.
+/// What the numbers after a fault's name are.
 #[derive(Clone, Copy)]
 pub struct Place {
-    /// What stands for the numbers behind the name, each after a space.
+    /// A letter for each number, after a space each.
     pub letters: &'static str,
-    /// How to read the numbers, as lines.
+    /// What the letters mean, as lines.
     pub reading: &'static str,
 }
 
@@ -16,15 +16,15 @@ impl Place {
         reading: "",
     };
 
-    /// The number of an edge of the graph.
+    /// An edge of the graph.
     pub const EDGE: Place = Place {
         letters: " i",
         reading: "\
-i is an edge: the row of \"edges\" that has i rows before it. The first one is edge 0.
+i is an edge: the row of \"edges\" that has i rows before it.
 ",
     };
 
-    /// The number of a vertex.
+    /// A vertex.
     pub const VERTEX: Place = Place {
         letters: " v",
         reading: "\
@@ -32,12 +32,12 @@ v is a vertex: a number from 0 on.
 ",
     };
 
-    /// A row of a file of rows, from 0 below the header.
+    /// A row of a file of rows, from 0 after the header.
     pub const ROW: Place = Place {
         letters: " i",
         reading: "\
-i is a row below the header, and the first one is row 0. So it is line i + 2 of the
-file, where lines that are empty are not counted.
+i is a row after the header, from 0 on. It is line i + 2 of the file, if empty lines do not
+count.
 ",
     };
 
@@ -45,25 +45,24 @@ file, where lines that are empty are not counted.
     pub const TRACE_ROW: Place = Place {
         letters: " v i",
         reading: "\
-v is a vertex, and i one of its rows: the one that has i rows of v before it in the
-file, rows of other vertices left out.
+v is a vertex, and i one of its rows in the file, from 0 on.
 ",
     };
 
-    /// An argument behind the command, from 1.
+    /// An argument after the command, from 1.
     pub const ARGUMENT: Place = Place {
         letters: " n",
         reading: "\
-n is the argument that names the file: of the arguments behind the command the first
-one is 1, and options and their values count.
+n is the argument that names the file. The first after the command is 1, and options and
+their values count.
 ",
     };
 
-    /// How many bytes went out.
+    /// How many bytes were written.
     pub const BYTES: Place = Place {
         letters: " n",
         reading: "\
-n is how many bytes went out before.
+n bytes were written before.
 ",
     };
 
@@ -71,7 +70,7 @@ n is how many bytes went out before.
     pub const MESSAGES: Place = Place {
         letters: " n",
         reading: "\
-n is how many messages of the root were not acknowledged yet.
+n messages of the root were not acknowledged yet.
 ",
     };
 }
@@ -81,7 +80,7 @@ n is how many messages of the root were not acknowledged yet.
 pub struct Explanation {
     pub number: u64,
     pub name: &'static str,
-    /// What the numbers behind the name are.
+    /// What the numbers after the name are.
     pub place: Place,
     /// What is wrong, on one line.
     pub meaning: &'static str,
@@ -95,8 +94,8 @@ static VERTICES: Explanation = Explanation {
     place: Place::NOWHERE,
     meaning: "the graph has no vertices, or more than 4096",
     advice: "\
-\"vertices\" of the graph file says how many there are, 1 to 4096; they are the numbers
-from 0 on. With `--large` each command takes up to 1048576.
+\"vertices\" of the graph file is their number, 1 to 4096. With `--large` each command takes
+up to 1048576.
 ",
 };
 
@@ -106,8 +105,8 @@ static SINK: Explanation = Explanation {
     place: Place::NOWHERE,
     meaning: "the sink is no vertex",
     advice: "\
-\"sink\" of the graph file names the vertex that never fires: a number from 0 to one less
-than \"vertices\".
+\"sink\" of the graph file is the vertex that never fires: a number from 0 to below
+\"vertices\".
 ",
 };
 
@@ -117,9 +116,8 @@ static EDGE_COUNT: Explanation = Explanation {
     place: Place::NOWHERE,
     meaning: "the graph has more than 65536 edges",
     advice: "\
-Rows that join the same two vertices can be one row, whose third number is the sum of
-theirs: the same game is played on it. With `--large` each command takes up to 8388608
-edges.
+Rows with the same tail and head can be one row, with the sum of their third numbers: the
+game stays the same. With `--large` each command takes up to 8388608 edges.
 ",
 };
 
@@ -129,8 +127,8 @@ static ENDPOINT: Explanation = Explanation {
     place: Place::EDGE,
     meaning: "an end of edge i is no vertex",
     advice: "\
-A row is [tail, head, mult]; tail and head are numbers from 0 to one less than
-\"vertices\". A graph whose vertices are counted from 1 is refused so at its last one.
+A row is [tail, head, mult]. tail and head are numbers from 0 to below \"vertices\". If the
+file counts vertices from 1, count them from 0.
 ",
 };
 
@@ -140,8 +138,8 @@ static MULT: Explanation = Explanation {
     place: Place::EDGE,
     meaning: "edge i sends no chips, or more than 1048576",
     advice: "\
-A row is [tail, head, mult]; mult says how many chips each firing of the tail sends to the
-head, 1 to 1048576. Leave out an edge that sends none.
+A row is [tail, head, mult]. At each firing the tail sends mult chips to the head, 1 to
+1048576. Leave out an edge that sends none.
 ",
 };
 
@@ -151,8 +149,7 @@ static LOOP: Explanation = Explanation {
     place: Place::EDGE,
     meaning: "edge i goes back into its own tail",
     advice: "\
-A row is [tail, head, mult], and tail and head are two vertices. Games with loops are not
-played here.
+A row is [tail, head, mult], and tail and head differ. chipfire plays no games with loops.
 ",
 };
 
@@ -162,8 +159,8 @@ static FROM_SINK: Explanation = Explanation {
     place: Place::EDGE,
     meaning: "edge i leaves the sink",
     advice: "\
-The sink never fires, so such an edge would send nothing: leave it out. A graph without
-directions has an edge each way between two vertices, but none out of its sink.
+The sink never fires, so this edge sends nothing: leave it out. A graph without directions
+has an edge each way between two vertices, but none out of its sink.
 ",
 };
 
@@ -173,9 +170,9 @@ static UNREACHED: Explanation = Explanation {
     place: Place::VERTEX,
     meaning: "no walk leads from vertex v to the sink",
     advice: "\
-It is the least such vertex. Chips that come there could not leave, and a play might
-never end. Every vertex needs a walk along edges, from tail to head, that ends at the
-sink: add an edge, or leave the vertex out.
+v is the least such vertex. Chips could not leave it, and the game might never end. Every
+vertex needs a walk to the sink along edges, from tail to head. Add an edge, or leave the
+vertex out.
 ",
 };
 
@@ -185,8 +182,7 @@ static START_LENGTH: Explanation = Explanation {
     place: Place::NOWHERE,
     meaning: "the chips are not one number for each vertex",
     advice: "\
-Only callers of the library chip_graph meet this. The program reads its chips from rows
-that name their vertices.
+Only callers of the library chip_graph meet this.
 ",
 };
 
@@ -196,8 +192,8 @@ static TOTAL: Explanation = Explanation {
     place: Place::NOWHERE,
     meaning: "there are more than 1099511627776 chips in all",
     advice: "\
-That is 2^40. The chips of all vertices together count, those on the sink among them, those
-of the file of `--feed`, and those of all drops.
+That is 2^40. The chips of all vertices count, with the sink, and those of `--feed` and of
+all drops.
 ",
 };
 
@@ -207,8 +203,7 @@ static LIMIT: Explanation = Explanation {
     place: Place::NOWHERE,
     meaning: "the firing limit is above 1099511627776",
     advice: "\
-That is 2^40. Only callers of the libraries meet this: on the command line such a limit
-is fault 91.
+That is 2^40. Only callers of the libraries meet this. On the command line it is fault 91.
 ",
 };
 
@@ -218,10 +213,10 @@ static NOT_JSON: Explanation = Explanation {
     place: Place::NOWHERE,
     meaning: "the graph file is no JSON",
     advice: "\
-Its bytes are no UTF-8, or the whole of them is no JSON value: it is empty or was cut off,
-a comma or a bracket is missing, something stands behind the value, it begins with a
-byte-order mark. `python3 -m json.tool FILE` tells where. A chips file in place of the
-graph is refused so too: the graph comes first.
+The bytes are not UTF-8, or not one JSON value. Perhaps the file is empty or was cut off, a
+comma or a bracket is missing, something follows the value, or a byte-order mark begins it.
+`python3 -m json.tool FILE` shows the place. Perhaps a chips file stands in place of the
+graph: the graph comes first.
 ",
 };
 
@@ -233,9 +228,9 @@ static SHAPE: Explanation = Explanation {
     advice: "\
 A graph file is one object with exactly these four members, in any order:
     {\"edges\":[[0,1,1]],\"sink\":1,\"version\":1,\"vertices\":2}
-Look for four mistakes: a member is missing or its name is spelt otherwise; there is a
-fifth one; a row of \"edges\" has not three values; a value is no whole number as JSON
-writes one, but has a sign, a point, an exponent or quotes (-1, 1.0, 1e3, \"2\").
+Four mistakes are common. A member is missing or misspelt. There is a fifth one. A row of
+\"edges\" has not three values. A value is no whole number as JSON writes one: it has a sign,
+a point, an exponent or quotes (-1, 1.0, 1e3, \"2\").
 ",
 };
 
@@ -245,7 +240,7 @@ static VERSION: Explanation = Explanation {
     place: Place::NOWHERE,
     meaning: "the version of the graph file is not 1",
     advice: "\
-1 is the only version of graph files: write \"version\":1.
+Write \"version\":1. Graph files have no other version.
 ",
 };
 
@@ -260,8 +255,8 @@ The first line of each file is, without spaces,
     vertex,fired               of a guess
     event,at,count             of a schedule
     vertex,kind,edge,count     of a trace
-An empty file has none. Files in another order are refused so too: `--help` behind the
-command tells the order.
+An empty file has none. Perhaps the files are in another order: `--help` after the command
+shows it.
 ",
 };
 
@@ -271,8 +266,8 @@ static ROW: Explanation = Explanation {
     place: Place::ROW,
     meaning: "row i has not as many fields as the header",
     advice: "\
-A row of chips, of drops and of a guess has two fields, one of a schedule three, one of a
-trace four, with commas between them and none at the end.
+A row of chips, drops or a guess has two fields, of a schedule three, of a trace four.
+Commas stand between them, and none at the end.
 ",
 };
 
@@ -282,9 +277,8 @@ static NUMBER: Explanation = Explanation {
     place: Place::ROW,
     meaning: "a field of row i is no number",
     advice: "\
-A number is 1 to 20 digits, of a value up to 18446744073709551615. There is no sign, no
-space, no point and no exponent; in a schedule and a trace also a number that nobody
-looks at has to be one, as the count of a take.
+A number is 1 to 20 digits, at most 18446744073709551615, without a sign, a space, a point
+or an exponent. A field that is not used, as the count of a take, must be a number too.
 ",
 };
 
@@ -292,11 +286,11 @@ static VERTEX: Explanation = Explanation {
     number: 26,
     name: "Vertex",
     place: Place::ROW,
-    meaning: "row i names a vertex or an edge that is not there",
+    meaning: "row i names a vertex or an edge that does not exist",
     advice: "\
-Vertices are the numbers from 0 to one less than \"vertices\" of the graph file. Edges, in
-a schedule and a trace, are those of the graph from 0 on, and behind them one root edge
-for each vertex: with m edges, m + v brings vertex v its first chips.
+A vertex is a number from 0 to below \"vertices\" of the graph file. In a schedule and a trace
+an edge is a number too: edges of the graph come first, from 0 on, and then a root edge for
+each vertex. With m edges, m + v brings vertex v its first chips.
 ",
 };
 
@@ -306,8 +300,8 @@ static REPEATED: Explanation = Explanation {
     place: Place::ROW,
     meaning: "row i names a vertex that an earlier row named",
     advice: "\
-A chips file has one row for a vertex: add the chips of its rows up. So has a guess. A
-vertex that no row names has none.
+A file of chips or a guess has one row at most for a vertex: add up its rows. A vertex
+without a row has 0.
 ",
 };
 
@@ -315,10 +309,11 @@ static KIND: Explanation = Explanation {
     number: 28,
     name: "Kind",
     place: Place::ROW,
-    meaning: "row i is of no kind that there is",
+    meaning: "row i has an unknown kind",
     advice: "\
-In a schedule the first field is take, ack, fire, clear, claim, put, halt, settle, seal,
-read, feed or end; in a trace the second is take or fire. Small letters, and no spaces.
+The event of a schedule is take, ack, fire, clear, claim, put, halt, settle, seal, read,
+feed or end. The kind of a trace is take or fire. Write them in small letters, without
+spaces.
 ",
 };
 
@@ -326,10 +321,10 @@ static READ: Explanation = Explanation {
     number: 29,
     name: "Read",
     place: Place::NOWHERE,
-    meaning: "a file could be opened and not read",
+    meaning: "a file could be opened, but not read",
     advice: "\
-That is so of a folder, and of - where standard input is closed. Else the system refused
-a read: try again, or copy the file.
+A folder cannot be read, nor can - if standard input is closed. Else the system refused a
+read: try again, or copy the file.
 ",
 };
 
@@ -339,9 +334,8 @@ static TOO_LONG: Explanation = Explanation {
     place: Place::NOWHERE,
     meaning: "a file has more than 16777216 bytes",
     advice: "\
-That is 16 MiB, for each file. A graph of the greatest size is well below it if it is
-written without spaces. With `--large` each command reads up to 268435456 bytes of each
-file, which is 256 MiB.
+That is 16 MiB. The largest graph fits if it is written without spaces. With `--large` each
+command reads up to 268435456 bytes (256 MiB) of each file.
 ",
 };
 
@@ -349,10 +343,10 @@ static NOT_LEGAL: Explanation = Explanation {
     number: 40,
     name: "NotLegal",
     place: Place::NOWHERE,
-    meaning: "a vertex may not fire so often",
+    meaning: "a vertex may not fire this often",
     advice: "\
-Only callers of the library chip_sequence meet this. The vertex is the sink, or has not
-the chips for so many firings, or is to fire no times.
+Only callers of the library chip_sequence meet this. The vertex is the sink, or has too few
+chips for these firings, or is to fire 0 times.
 ",
 };
 
@@ -360,10 +354,10 @@ static NEGATIVE: Explanation = Explanation {
     number: 41,
     name: "Negative",
     place: Place::VERTEX,
-    meaning: "vertex v would be left with fewer than no chips",
+    meaning: "vertex v would have fewer than 0 chips",
     advice: "\
-Only callers of the library chip_sequence meet this. By the counts of firings that were
-given, v sends more chips than it has and gets, and it is the least such vertex.
+Only callers of the library chip_sequence meet this. By the given counts of firings v sends
+more chips than it has and gets. It is the least such vertex.
 ",
 };
 
@@ -373,7 +367,7 @@ static NOT_CLOSED: Explanation = Explanation {
     place: Place::NOWHERE,
     meaning: "the root is not closed, so there is no outcome",
     advice: "\
-Only callers of the library chip_world meet this. `simulate` says `root open` instead.
+Only callers of the library chip_world meet this. `simulate` writes `root open` instead.
 ",
 };
 
@@ -383,8 +377,8 @@ static NO_EDGE: Explanation = Explanation {
     place: Place::NOWHERE,
     meaning: "the graph has no edge with this number",
     advice: "\
-Only callers of the library chip_net meet this. Edges of the graph can be sealed, and
-root edges cannot.
+Only callers of the library chip_net meet this. They can seal the edges of the graph, and
+no root edges.
 ",
 };
 
@@ -394,8 +388,8 @@ static ENDED: Explanation = Explanation {
     place: Place::NOWHERE,
     meaning: "chips are fed after the end of feeding",
     advice: "\
-Only callers of the library chip_net meet this. A net that was opened without feeding
-has its end noted from the beginning.
+Only callers of the library chip_net meet this. In a net without feeding the end is noted
+from the beginning.
 ",
 };
 
@@ -403,10 +397,10 @@ static FULL: Explanation = Explanation {
     number: 45,
     name: "Full",
     place: Place::NOWHERE,
-    meaning: "chips are fed where the next cell of the ring is full",
+    meaning: "chips are fed while the next cell of the ring is full",
     advice: "\
-Only callers of the library chip_net meet this. Try again once the vertex has made a
-turn. `chipfire run --feed` does so by itself.
+Only callers of the library chip_net meet this. Try again after the vertex made a turn, as
+`chipfire run --feed` does.
 ",
 };
 
@@ -416,11 +410,9 @@ static NOT_REPORT: Explanation = Explanation {
     place: Place::NOWHERE,
     meaning: "the file is no report",
     advice: "\
-A report is read only as chipfire writes it, to the byte and with the newline at its end:
-no space, no other order, no number changed so that the rest does not fit. Keep what a
-command wrote in a file, and name that file. Of what `simulate` writes the last line
-alone is the report. A report of more than 4096 vertices is read only by
-`resume --large`.
+A report is read only as chipfire wrote it, to the byte and with its newline. Keep what the
+command wrote in a file, and name that file. Of what `simulate` wrote only the last line is
+the report. With `--large` a report may have up to 1048576 vertices, not 4096.
 ",
 };
 
@@ -430,8 +422,8 @@ static PRIOR: Explanation = Explanation {
     place: Place::VERTEX,
     meaning: "vertex v fired more than 1152921504606846976 times in all sittings",
     advice: "\
-That is 2^60, the most that a report counts. Begin anew: a chips file with the report's
-chips is the same position.
+That is 2^60, the most that a report counts. Begin again: a chips file with the chips of the
+report is the same configuration.
 ",
 };
 
@@ -441,8 +433,8 @@ static MISMATCH: Explanation = Explanation {
     place: Place::NOWHERE,
     meaning: "the report has another number of vertices than the graph",
     advice: "\
-A report belongs to the graph on which it was played. It does not tell which one that is,
-so name the graph file that the earlier command had.
+A report belongs to the graph that it was played on, and does not name it. Name the graph
+file of the earlier command.
 ",
 };
 
@@ -450,12 +442,12 @@ static DIFFERS: Explanation = Explanation {
     number: 53,
     name: "Differs",
     place: Place::VERTEX,
-    meaning: "the report is not that of this game, and v is the least vertex where it differs",
+    meaning: "the report is not of this game, and v is the least vertex that differs",
     advice: "\
-The game fires v more or less often in all, leaves it other chips, or halts it where the
-report does not. See that graph, chips and --limit are those of the report. The report of a
-sitting that was stopped, or of several with limits of their own, may be right and differ:
-`chipfire verify` plays without a stop, by one limit.
+The game fires v more or less often in all, leaves it other chips, or halts it when the
+report does not. Name the graph, the chips and the --limit of the report. If a sitting was
+stopped, or several had limits of their own, the report may be right and differ: `chipfire
+verify` plays without a stop, by one limit.
 ",
 };
 
@@ -465,9 +457,9 @@ static PLAN: Explanation = Explanation {
     place: Place::NOWHERE,
     meaning: "a number of the plan for the threads is out of its range",
     advice: "\
-A plan has 1 to 64 workers, rings of 1 to 64 cells, 1 to 2^40 turns of each worker, up to
-2^20 trace rows of each vertex, and seals an edge of the graph if any. `chipfire run`
-tests its options itself, so this comes from programs that call the engine.
+Only callers of the libraries meet this. A plan has 1 to 64 workers, rings of 1 to 64 cells,
+1 to 2^40 turns of each worker, and up to 2^20 trace rows of each vertex. If it seals an
+edge, the graph has that edge.
 ",
 };
 
@@ -477,9 +469,8 @@ static UNFINISHED: Explanation = Explanation {
     place: Place::MESSAGES,
     meaning: "the threads made all their turns before the game was over",
     advice: "\
-Nothing is wrong with the game, but its end was not reached, so no report was written.
-With --feed, n may be 0: then some chips were not fed yet.
-Allow more turns by `--turns`, or leave the option away.
+So there is no report. Allow more turns by `--turns`, or leave the option out. With --feed,
+n may be 0: then some chips were not fed.
 ",
 };
 
@@ -489,8 +480,7 @@ static GATE_SHUT: Explanation = Explanation {
     place: Place::NOWHERE,
     meaning: "a worker was not let into its next turn",
     advice: "\
-The gate that a program hands to the crew answered false. That of `chipfire run` never
-does.
+Only callers of the libraries meet this. The gate that they gave to the crew answered false.
 ",
 };
 
@@ -498,9 +488,9 @@ static LOST: Explanation = Explanation {
     number: 63,
     name: "Lost",
     place: Place::VERTEX,
-    meaning: "the actor of a vertex was not there when the threads had ended",
+    meaning: "the actor of vertex v was missing after the threads ended",
     advice: "\
-This should not happen: it is a mistake of the program. Please report it, with the files.
+This is a mistake of the program. Please report it, with the files.
 ",
 };
 
@@ -508,9 +498,9 @@ static DOUBLED: Explanation = Explanation {
     number: 64,
     name: "Doubled",
     place: Place::VERTEX,
-    meaning: "there were two actors of a vertex when the threads had ended",
+    meaning: "vertex v had two actors after the threads ended",
     advice: "\
-This should not happen: it is a mistake of the program. Please report it, with the files.
+This is a mistake of the program. Please report it, with the files.
 ",
 };
 
@@ -520,8 +510,8 @@ static SPAWN: Explanation = Explanation {
     place: Place::NOWHERE,
     meaning: "a thread could not be started",
     advice: "\
-The system allows no more threads, or has no memory for another. Try fewer by
-`--workers`. Those that were started have ended, and nothing was written.
+The system allows no more threads, or has no memory for one. Try fewer by `--workers`. The
+others have ended, and no report was written.
 ",
 };
 
@@ -531,10 +521,10 @@ static STUCK: Explanation = Explanation {
     place: Place::TRACE_ROW,
     meaning: "the rows of a trace fit together in no order",
     advice: "\
-However the rows of the vertices are put into one list, some row is not met where it
-stands: a message is taken that has another count or was not sent, or chips are fired
-that are not there. Row i of v is the one to look at first; docs/TRACES.md tells how. A
-trace of other chips, of another graph or limit, or one that was cut is refused so too.
+In each order some row does not fit: it takes a message that was not sent or that had
+another count, or it fires chips that are not there. Look first at row i of v;
+docs/TRACES.md says how. Perhaps the trace was cut, or is of other chips, another graph or
+another limit.
 ",
 };
 
@@ -544,7 +534,8 @@ static NO_MEMORY: Explanation = Explanation {
     place: Place::NOWHERE,
     meaning: "memory ran out",
     advice: "\
-Nothing was written. Let the process have more memory, or give it smaller files.
+Let the process have more memory, or give it smaller files. What was written is no whole
+answer.
 ",
 };
 
@@ -554,9 +545,9 @@ static USAGE: Explanation = Explanation {
     place: Place::NOWHERE,
     meaning: "the arguments are no command",
     advice: "\
-`chipfire --help` lists the commands, and `--help` behind a command its files and options
-with the range of each. Look for a file too few or too many, an option that the command
-has not, an option given twice, a number out of its range, a name that is no UTF-8.
+`chipfire --help` lists the commands. `--help` after a command lists its files and options,
+with their ranges. Perhaps a file is missing or one too many, the command does not have the
+option, an option stands twice, a number is out of its range, or a name is not UTF-8.
 ",
 };
 
@@ -566,9 +557,9 @@ static OPEN: Explanation = Explanation {
     place: Place::ARGUMENT,
     meaning: "the file that argument n names could not be opened",
     advice: "\
-There is no such file, or it may not be read. Names go from the folder in which the
-program was started. The file of `--trace` or of `--report` may be none of the inputs, which
-it would empty. Only one of the inputs may be -, which is standard input.
+The file does not exist, or may not be read or written. Names go from the folder in which
+the program was started. The file of `--trace` or `--report` may be none of the inputs,
+which it would empty. Only one input may be -, which is standard input.
 ",
 };
 
@@ -578,13 +569,13 @@ static WRITE: Explanation = Explanation {
     place: Place::BYTES,
     meaning: "the output could not be written to its end",
     advice: "\
-The disk is full, or who should read it ended first, as `head` does. What was written is
-no whole answer, so do not use it. Without a number it is the file of `--trace` that could
-not be written, and nothing of the report was.
+The disk is full, or the reader ended first, as `head` does. What was written is no whole
+answer, so do not use it. Without a number it is the file of `--trace`, and nothing of the
+report was written.
 ",
 };
 
-/// All rows, by their numbers.
+/// All faults, by their numbers.
 pub fn explanations() -> [&'static Explanation; 43] {
     [
         &VERTICES,

@@ -17,77 +17,21 @@ fn shows<R: Abort + AllocGlobal, F: Display>(rt: &R, fault: &F, text: &str) {
     assert!(rt; shown.as_str() == text, "{shown} and not {text}");
 }
 
-/// The line of each fault that is of no file.
+/// The lines of faults that no command line meets. `tests/cli/` has the others.
 const LINES: &[&(Fault, &str)] = &[
     &(Fault::Game(GameFault::StartLength), "fault 9 StartLength"),
-    &(Fault::Game(GameFault::Total), "fault 10 Total"),
     &(Fault::Game(GameFault::Limit), "fault 11 Limit"),
-    &(Fault::NotReport, "fault 50 NotReport"),
-    &(Fault::Resume(ResumeFault::Prior(3)), "fault 51 Prior 3"),
-    &(Fault::Resume(ResumeFault::Mismatch), "fault 52 Mismatch"),
-    &(Fault::Differs(7), "fault 53 Differs 7"),
-    &(Fault::Resume(ResumeFault::Total), "fault 10 Total"),
     &(Fault::Resume(ResumeFault::Limit), "fault 11 Limit"),
     &(Fault::Plan, "fault 60 Plan"),
-    &(Fault::Unfinished(1), "fault 61 Unfinished 1"),
     &(Fault::GateShut, "fault 62 GateShut"),
     &(Fault::Lost(5), "fault 63 Lost 5"),
     &(Fault::Doubled(0), "fault 64 Doubled 0"),
-    &(Fault::Spawn, "fault 65 Spawn"),
-    &(Fault::Stuck { vertex: 1, row: 0 }, "fault 70 Stuck 1 0"),
-    &(Fault::NoMemory, "fault 90 NoMemory"),
-    &(Fault::Usage, "fault 91 Usage"),
-    &(Fault::Open(2), "fault 92 Open 2"),
-    &(Fault::Write(WriteFault { written: 7 }), "fault 93 Write 7"),
-    &(Fault::WriteTrace, "fault 93 Write"),
 ];
 
 #[test]
 fn prints_each_line(rt: HostRuntime) {
     for (fault, text) in LINES {
         shows(&rt, fault, text);
-    }
-}
-
-/// The line of each fault of a file that is of no graph.
-const FILE_LINES: &[&(FileFault, &str)] = &[
-    &(FileFault::Total, "fault 10 Total"),
-    &(FileFault::NotJson, "fault 20 NotJson"),
-    &(FileFault::Shape, "fault 21 Shape"),
-    &(FileFault::Version, "fault 22 Version"),
-    &(FileFault::Header, "fault 23 Header"),
-    &(FileFault::Row(1), "fault 24 Row 1"),
-    &(FileFault::Number(3), "fault 25 Number 3"),
-    &(FileFault::Vertex(0), "fault 26 Vertex 0"),
-    &(FileFault::Repeated(2), "fault 27 Repeated 2"),
-    &(FileFault::Kind(5), "fault 28 Kind 5"),
-    &(FileFault::Read, "fault 29 Read"),
-    &(FileFault::TooLong, "fault 30 TooLong"),
-];
-
-#[test]
-fn prints_each_line_of_a_file(rt: HostRuntime) {
-    for (fault, text) in FILE_LINES {
-        shows(&rt, &Fault::File(*fault), text);
-    }
-}
-
-/// The line of each fault of a graph.
-const GRAPH_LINES: &[&(GraphFault, &str)] = &[
-    &(GraphFault::Vertices, "fault 1 Vertices"),
-    &(GraphFault::Sink, "fault 2 Sink"),
-    &(GraphFault::EdgeCount, "fault 3 EdgeCount"),
-    &(GraphFault::Endpoint(1), "fault 4 Endpoint 1"),
-    &(GraphFault::Mult(2), "fault 5 Mult 2"),
-    &(GraphFault::Loop(0), "fault 6 Loop 0"),
-    &(GraphFault::FromSink(3), "fault 7 FromSink 3"),
-    &(GraphFault::Unreached(4), "fault 8 Unreached 4"),
-];
-
-#[test]
-fn prints_each_line_of_a_graph(rt: HostRuntime) {
-    for (fault, text) in GRAPH_LINES {
-        shows(&rt, &Fault::File(FileFault::Graph(*fault)), text);
     }
 }
 

@@ -26,7 +26,7 @@ STARTS = {"plain": "chips.csv", "resume": "report.json", "run": "chips.csv"}
 # What a command is at where it makes no rounds or turns.
 ON_ONE_THREAD = re.compile(
     rb"chipfire: progress: (reading, [0-9]+ bytes|read [0-9]+ vertices, [0-9]+ edges"
-    rb"|guessing, [0-9]+ steps, [0-9]+ chips have still to move|writing [0-9]+ bytes)\n"
+    rb"|guessing, [0-9]+ steps, [0-9]+ chips still to move|writing [0-9]+ bytes)\n"
 )
 OTHERWISE = {
     "plain": ON_ONE_THREAD,

@@ -22,19 +22,19 @@ FILES = {
 NUMBER = "fault 25 Number i: a field of row i is no number"
 # For each command the fault, and what is told below it, without the line that names `explain`.
 TOLD = {
-    "plain graph.json words.csv": ("25 Number 1", ["in words.csv: row 1, which is line 3 where no line is empty", NUMBER]),
+    "plain graph.json words.csv": ("25 Number 1", ["in words.csv: row 1, which is line 3 if no line is empty", NUMBER]),
     "plain words.csv chips.csv": ("20 NotJson", ["in words.csv", "fault 20 NotJson: the graph file is no JSON"]),
     "check far.json": ("8 Unreached 0", ["in far.json", "fault 8 Unreached v: no walk leads from vertex v to the sink"]),
     "plain graph.json far.csv": ("92 Open 2", ["in far.csv", "fault 92 Open n: the file that argument n names could not be opened"]),
     "plain - chips.csv": ("20 NotJson", ["in -", "fault 20 NotJson: the graph file is no JSON"]),
     "run graph.json none.csv --feed words.csv":
-        ("25 Number 1", ["in words.csv: row 1, which is line 3 where no line is empty", NUMBER]),
+        ("25 Number 1", ["in words.csv: row 1, which is line 3 if no line is empty", NUMBER]),
     "run graph.json none.csv --trace chips.csv --feed chips.csv":
         ("92 Open 4", ["in chips.csv", "fault 92 Open n: the file that argument n names could not be opened"]),
     "run graph.json chips.csv --workers 1 --turns 1":
         ("61 Unfinished 1", ["fault 61 Unfinished n: the threads made all their turns before the game was over"]),
     "simulate graph.json chips.csv early.csv":
-        ("28 Kind 1", ["in early.csv: row 1, which is line 3 where no line is empty", "fault 28 Kind i: row i has an unknown kind"]),
+        ("28 Kind 1", ["in early.csv: row 1, which is line 3 if no line is empty", "fault 28 Kind i: row i has an unknown kind"]),
     "replay graph.json none.csv trace.csv":
         ("70 Stuck 0 0", ["in trace.csv", "fault 70 Stuck v i: the rows of a trace fit together in no order"]),
     "resume graph.json report.json":

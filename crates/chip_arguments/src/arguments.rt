@@ -13,78 +13,72 @@ use clap::error::ErrorKind;
 use clap::{Arg, ArgAction, ArgMatches, Command};
 use std::alloc::{AllocError, Global};
 
-/// How many cells a ring has where it is not said.
+// What numbers are if no option gives them.
 const USUAL_RING: u64 = 1;
-/// How many threads play where it is not said.
+
 const USUAL_WORKERS: u64 = 2;
-/// How many turns each makes at most where it is not said.
+
 const USUAL_TURNS: u64 = 1 << 30;
-/// How many trace rows of each vertex there is room for where a trace is asked for and it is not said.
+/// If there is a trace. Else it is 0.
 const USUAL_TRACE_ROWS: u64 = 1024;
 
 /// A file that an argument names.
 #[derive(Clone, Copy)]
 pub struct FileArgument<'a> {
     pub path: &'a str,
-    /// The number of the argument, from 1 for the first behind the command.
+    /// The number of the argument, from 1 for the first after the command.
     pub number: u64,
 }
 
-/// What the arguments name of a game: its graph, with what it starts, and how often each vertex may fire.
+/// A game, and what it starts with.
 #[derive(Clone, Copy)]
 pub struct GameArguments<'a> {
     pub graph: FileArgument<'a>,
     /// The chips, or the report of the play that goes on.
     pub start: FileArgument<'a>,
-    /// Up to 2^40.
+    /// How often each vertex may fire, 0 to 2^40.
     pub limit: u64,
     pub large: bool,
+    pub progress: bool,
 }
 
-/// A graph to look at that the arguments name.
+/// A graph to check.
 #[derive(Clone, Copy)]
 pub struct CheckArguments<'a> {
     pub graph: FileArgument<'a>,
     pub large: bool,
 }
 
-/// A play on one thread that the arguments ask for, from its beginning or from a report.
-#[derive(Clone, Copy)]
-pub struct PlayArguments<'a> {
-    pub game: GameArguments<'a>,
-    pub progress: bool,
-}
-
-/// A play on one thread that the arguments ask for, with the guess that it begins with.
+/// A play on one thread.
 #[derive(Clone, Copy)]
 pub struct PlainArguments<'a> {
-    pub play: PlayArguments<'a>,
+    pub game: GameArguments<'a>,
     pub guess: Option<FileArgument<'a>>,
 }
 
-/// Drops of chips, one after another, that the arguments ask for.
+/// Drops of chips, one row after another.
 #[derive(Clone, Copy)]
 pub struct AvalancheArguments<'a> {
-    pub play: PlayArguments<'a>,
+    pub game: GameArguments<'a>,
     pub drops: FileArgument<'a>,
-    /// The file into which the report goes.
+    /// Where the report goes.
     pub report: Option<FileArgument<'a>>,
 }
 
-/// A simulation that the arguments ask for.
+/// A simulation.
 #[derive(Clone, Copy)]
 pub struct SimulationArguments<'a> {
     pub game: GameArguments<'a>,
     pub schedule: FileArgument<'a>,
     /// How many cells the ring of an edge has, 1 to 64.
     pub ring: u64,
-    /// Up to 2^40.
+    /// 0 to 2^40.
     pub rounds: u64,
     pub books: bool,
     pub fed: bool,
 }
 
-/// A play on threads that the arguments ask for.
+/// A play on threads.
 #[derive(Clone, Copy)]
 pub struct RunArguments<'a> {
     pub game: GameArguments<'a>,
@@ -93,28 +87,27 @@ pub struct RunArguments<'a> {
     /// How many threads, 1 to 64.
     pub workers: u64,
     pub dealt: bool,
-    /// How many turns each of them makes at most, 1 to 2^40.
+    /// How many turns each thread makes at most, 1 to 2^40.
     pub turns: u64,
     pub feed: Option<FileArgument<'a>>,
     pub trace: Option<FileArgument<'a>>,
-    /// For how many rows of each vertex there is room in it, up to 2^20.
+    /// How many rows of each vertex the trace has room for, 0 to 2^20.
     pub trace_rows: u64,
-    pub progress: bool,
 }
 
-/// A run to replay that the arguments name.
+/// A recorded run to replay.
 #[derive(Clone, Copy)]
 pub struct ReplayArguments<'a> {
     pub game: GameArguments<'a>,
     pub trace: FileArgument<'a>,
-    /// Whether it is asked what is left when all rows are used.
+    /// Whether to list what is left.
     pub complete: bool,
 }
 
-/// A report to verify that the arguments name.
+/// A report to verify.
 #[derive(Clone, Copy)]
 pub struct VerifyArguments<'a> {
-    pub play: PlayArguments<'a>,
+    pub game: GameArguments<'a>,
     pub report: FileArgument<'a>,
 }
 
@@ -130,7 +123,7 @@ pub enum Request<'a> {
     Run(RunArguments<'a>),
     Replay(ReplayArguments<'a>),
     /// Its start is a report.
-    Resume(PlayArguments<'a>),
+    Resume(GameArguments<'a>),
     Verify(VerifyArguments<'a>),
     /// The number of a fault, if one is named.
     Explain(Option<u64>),
@@ -139,20 +132,20 @@ pub enum Request<'a> {
 }
 
 impl Request<'_> {
-    /// Whether it asks for lines on how it goes on.
+    /// Whether it asks for lines of progress.
     pub fn has_progress(&self) -> bool {
         match self {
-            Request::Plain(asked) => asked.play.progress,
-            Request::Avalanches(asked) => asked.play.progress,
-            Request::Run(asked) => asked.progress,
+            Request::Plain(asked) => asked.game.progress,
+            Request::Avalanches(asked) => asked.game.progress,
+            Request::Run(asked) => asked.game.progress,
             Request::Resume(asked) => asked.progress,
-            Request::Verify(asked) => asked.play.progress,
+            Request::Verify(asked) => asked.game.progress,
             _ => false,
         }
     }
 }
 
-/// Reads the arguments, the program's own name first.
+/// Reads the arguments of a process, the program's own name first.
 pub fn parse<'a>(alloc: Global, arguments: &'a [String]) -> Result<Request<'a>, ArgumentsFault> {
     match program(alloc)?.try_get_matches_from(arguments) {
         Ok(matches) => match request_of(&matches, arguments) {
@@ -169,7 +162,7 @@ pub fn parse<'a>(alloc: Global, arguments: &'a [String]) -> Result<Request<'a>, 
     }
 }
 
-/// What arguments that the command-line library took ask for.
+/// What the arguments ask for, if the command-line library took them.
 fn request_of<'a>(matches: &ArgMatches<'a>, arguments: &[String]) -> Option<Request<'a>> {
     let (name, matches) = matches.subcommand()?;
     let found = Found { matches, arguments };
@@ -179,11 +172,11 @@ fn request_of<'a>(matches: &ArgMatches<'a>, arguments: &[String]) -> Option<Requ
             large: matches.get_flag(LARGE.name),
         })),
         "plain" => Some(Request::Plain(PlainArguments {
-            play: found.play(CHIPS)?,
+            game: found.game(CHIPS)?,
             guess: found.file(GUESS.name),
         })),
         "avalanches" => Some(Request::Avalanches(AvalancheArguments {
-            play: found.play(CHIPS)?,
+            game: found.game(CHIPS)?,
             drops: found.file(DROPS.name)?,
             report: found.file(WRITTEN_REPORT.name),
         })),
@@ -194,9 +187,9 @@ fn request_of<'a>(matches: &ArgMatches<'a>, arguments: &[String]) -> Option<Requ
             trace: found.file(TRACE_FILE.name)?,
             complete: matches.get_flag(COMPLETE.name),
         })),
-        "resume" => Some(Request::Resume(found.play(REPORT)?)),
+        "resume" => Some(Request::Resume(found.game(REPORT)?)),
         "verify" => Some(Request::Verify(VerifyArguments {
-            play: found.play(CHIPS)?,
+            game: found.game(CHIPS)?,
             report: found.file(REPORT.name)?,
         })),
         "explain" => found.explanation(),
@@ -212,25 +205,6 @@ struct Found<'m, 'a> {
 }
 
 impl<'m, 'a> Found<'m, 'a> {
-    /// The play on one thread that is asked for, which starts with what this operand names.
-    fn play(&self, start: &OperandRow) -> Option<PlayArguments<'a>> {
-        Some(PlayArguments {
-            game: self.game(start)?,
-            progress: self.matches.get_flag(PROGRESS.name),
-        })
-    }
-
-    /// The explanation that is asked for: of a fault, or behind the word `rule` of a rule.
-    fn explanation(&self) -> Option<Request<'a>> {
-        let rule = self.matches.get_one::<u64>(RULE_NUMBER.name);
-        match self.matches.get_str(FAULT_NUMBER.name) {
-            None => Some(Request::Explain(None)),
-            Some("rule") => Some(Request::ExplainRule(rule)),
-            Some(number) if rule.is_none() => Some(Request::Explain(Some(number.parse().ok()?))),
-            Some(_) => None,
-        }
-    }
-
     /// The simulation that is asked for.
     fn simulation(&self) -> Option<SimulationArguments<'a>> {
         Some(SimulationArguments {
@@ -243,8 +217,7 @@ impl<'m, 'a> Found<'m, 'a> {
         })
     }
 
-    /// The play on threads that is asked for. There is room for no row of a trace where none is asked for and it is not
-    /// said.
+    /// The play on threads that is asked for.
     fn play_on_threads(&self) -> Option<RunArguments<'a>> {
         let game = self.game(CHIPS)?;
         let trace = self.file(TRACE.name);
@@ -258,21 +231,37 @@ impl<'m, 'a> Found<'m, 'a> {
             feed: self.file(FEED.name),
             trace,
             trace_rows: self.number_or(TRACE_ROWS, usual_rows),
-            progress: self.matches.get_flag(PROGRESS.name),
         })
     }
 
-    /// The game that is named, which starts with what this operand names.
+    /// The explanation that is asked for: of a fault, or after the word `rule` of a rule.
+    fn explanation(&self) -> Option<Request<'a>> {
+        let rule = self.matches.get_one::<u64>(RULE_NUMBER.name);
+        let Some(word) = self.matches.get_str(FAULT_NUMBER.name) else {
+            return Some(Request::Explain(None));
+        };
+        if word == "rule" {
+            return Some(Request::ExplainRule(rule));
+        }
+        let number = self.matches.get_one::<u64>(FAULT_NUMBER.name)?;
+        match rule {
+            None => Some(Request::Explain(Some(number))),
+            Some(_) => None,
+        }
+    }
+
+    /// The game that is asked for, which starts with the file of this operand.
     fn game(&self, start: &OperandRow) -> Option<GameArguments<'a>> {
         Some(GameArguments {
             graph: self.file(GRAPH.name)?,
             start: self.file(start.name)?,
             limit: self.number_or(LIMIT, MAX_LIMIT),
             large: self.matches.get_flag(LARGE.name),
+            progress: self.matches.get_flag(PROGRESS.name),
         })
     }
 
-    /// The file of an operand or an option, if it is there.
+    /// The file of an operand or an option, if there is one.
     fn file(&self, name: &str) -> Option<FileArgument<'a>> {
         Some(FileArgument {
             path: self.matches.get_str(name)?,
@@ -280,16 +269,16 @@ impl<'m, 'a> Found<'m, 'a> {
         })
     }
 
-    /// The number of an option, or the usual one where the option is not there.
+    /// The number of an option, or else the usual one.
     fn number_or(&self, option: &OptionRow, usual: u64) -> u64 {
         self.matches.get_one::<u64>(option.name).unwrap_or(usual)
     }
 }
 
-/// The number of the argument that has this place, to be told where its file cannot be opened.
+/// The number of the argument that has this place.
 ///
-/// The command-line library counts places from 1. An argument takes one, but an option with its value behind `=` takes
-/// two, and the first `--`, behind which there are operands alone, takes none.
+/// The command-line library counts places from 1. An argument takes one, but an option with its value after `=` takes
+/// two, and the first `--` takes none: only operands follow it.
 fn number_at(arguments: &[String], place: usize) -> Option<u64> {
     let mut left = place;
     let mut only_operands = false;
@@ -299,7 +288,9 @@ fn number_at(arguments: &[String], place: usize) -> Option<u64> {
             only_operands = true;
             continue;
         }
-        let has_value = !only_operands && argument.starts_with("--") && argument.contains('=');
+        let has_value = !only_operands
+            && argument.starts_with("--")
+            && argument.as_bytes().contains(&b'=');
         let taken = if has_value { 2 } else { 1 };
         if left <= taken {
             return Some(index as u64 - 1);

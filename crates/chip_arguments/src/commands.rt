@@ -1,6 +1,5 @@
 //! The commands of the program: a table of their operands, their options and what the help says of them.
 
-use crate::help_texts as texts;
 use crate::limits::{MAX_LIMIT, MAX_RING, MAX_ROUNDS, MAX_TRACE_ROWS, MAX_TURNS, MAX_WORKERS};
 
 /// A command.
@@ -8,11 +7,9 @@ pub struct CommandRow {
     pub name: &'static str,
     /// What it does, on one line.
     pub about: &'static str,
-    /// What stands below the lists of its help.
+    /// The end of its help: what the lists do not say, the exit statuses and an example.
     pub after_help: &'static str,
-    /// What belongs to no option, in this order.
     pub operands: &'static [&'static OperandRow],
-    /// Each stands there once at most.
     pub options: &'static [&'static OptionRow],
 }
 
@@ -25,11 +22,11 @@ pub struct OperandRow {
 
 /// What an operand is.
 pub enum Operand {
-    /// A file, which has to be named.
+    /// A file, which must be named.
     File,
-    /// A word, which may be left out.
+    /// A word, which may be missing.
     Word,
-    /// A number, which may be left out.
+    /// A number, which may be missing.
     Number,
 }
 
@@ -43,11 +40,10 @@ pub struct OptionRow {
 
 /// What an option takes.
 pub enum OptionValue {
-    /// Nothing: it stands there or not.
     Nothing,
     /// The name of a file.
     File,
-    /// A number from the least to the most; the help has this letter for it.
+    /// A number from the least to the most; the help calls it by this letter.
     Number {
         letter: &'static str,
         least: u64,
@@ -63,31 +59,31 @@ pub const GRAPH: &OperandRow = &OperandRow {
 
 pub const CHIPS: &OperandRow = &OperandRow {
     name: "CHIPS",
-    help: "The chips at the start, as rows",
+    help: "The chips at the start (the configuration): rows vertex,chips",
     is: Operand::File,
 };
 
 pub const DROPS: &OperandRow = &OperandRow {
     name: "DROPS",
-    help: "The chips that are dropped, one row after another",
+    help: "The chips to drop, in this order: rows vertex,chips",
     is: Operand::File,
 };
 
 pub const SCHEDULE: &OperandRow = &OperandRow {
     name: "SCHEDULE",
-    help: "What happens, one event after another, as rows",
+    help: "The events, in this order: rows event,at,count",
     is: Operand::File,
 };
 
 pub const TRACE_FILE: &OperandRow = &OperandRow {
     name: "TRACE",
-    help: "What each vertex took and fired, as rows",
+    help: "What each vertex took and fired: rows vertex,kind,edge,count",
     is: Operand::File,
 };
 
 pub const REPORT: &OperandRow = &OperandRow {
     name: "REPORT",
-    help: "The report of the play, of version 1 or 2",
+    help: "A report that chipfire wrote, of version 1 or 2",
     is: Operand::File,
 };
 
@@ -99,7 +95,7 @@ pub const FAULT_NUMBER: &OperandRow = &OperandRow {
 
 pub const RULE_NUMBER: &OperandRow = &OperandRow {
     name: "RULE",
-    help: "Behind the word `rule`: the number of a rule, as in `not-now 11`",
+    help: "After the word `rule`: the number of a rule, as in `not-now 11`",
     is: Operand::Number,
 };
 
@@ -115,31 +111,31 @@ pub const LIMIT: &OptionRow = &OptionRow {
 
 pub const LARGE: &OptionRow = &OptionRow {
     name: "large",
-    help: "Takes up to 2^20 vertices, 2^23 edges, and 2^28 bytes of a file",
+    help: "Allows 2^20 vertices, 2^23 edges, 2^28 bytes a file [default: 4096, 65536, 16777216]",
     takes: OptionValue::Nothing,
 };
 
 pub const GUESS: &OptionRow = &OptionRow {
     name: "guess",
-    help: "Begins with the counts of this file: rows vertex,fired, or a report",
+    help: "Begins with these counts of firings: rows vertex,fired, or a report",
     takes: OptionValue::File,
 };
 
 pub const WRITTEN_REPORT: &OptionRow = &OptionRow {
     name: "report",
-    help: "Writes the report of the start and all drops together into this file, after the rows",
+    help: "Writes the report of the start and all drops together into this file",
     takes: OptionValue::File,
 };
 
 pub const COMPLETE: &OptionRow = &OptionRow {
     name: "complete",
-    help: "Tells what is left when all rows are used",
+    help: "Lists what is left after all rows",
     takes: OptionValue::Nothing,
 };
 
 pub const RING: &OptionRow = &OptionRow {
     name: "ring",
-    help: "How many cells the ring of an edge has, 1 to 64 [default: 1]",
+    help: "How many messages an edge holds in its ring, 1 to 64 [default: 1]",
     takes: OptionValue::Number {
         letter: "R",
         least: 1,
@@ -149,7 +145,7 @@ pub const RING: &OptionRow = &OptionRow {
 
 pub const ROUNDS: &OptionRow = &OptionRow {
     name: "rounds",
-    help: "How many rounds of turns follow, until the root closes, 0 to 2^40 [default: 0]",
+    help: "How many rounds of turns follow at most, 0 to 2^40 [default: 0]",
     takes: OptionValue::Number {
         letter: "N",
         least: 0,
@@ -159,13 +155,13 @@ pub const ROUNDS: &OptionRow = &OptionRow {
 
 pub const BOOKS: &OptionRow = &OptionRow {
     name: "books",
-    help: "Writes the books of the detector behind each reply: deficits, parents, what is owed",
+    help: "Writes the books of the detector after each reply: deficits, parents, what is owed",
     takes: OptionValue::Nothing,
 };
 
 pub const FED: &OptionRow = &OptionRow {
     name: "fed",
-    help: "Lets the schedule feed chips; the root closes only after its event end",
+    help: "Lets the schedule feed chips, until its event `end`",
     takes: OptionValue::Nothing,
 };
 
@@ -181,7 +177,7 @@ pub const WORKERS: &OptionRow = &OptionRow {
 
 pub const DEALT: &OptionRow = &OptionRow {
     name: "dealt",
-    help: "Gives each thread vertices of its own, instead of one queue of all",
+    help: "Gives each thread vertices of its own [default: one queue for all threads]",
     takes: OptionValue::Nothing,
 };
 
@@ -197,7 +193,7 @@ pub const TURNS: &OptionRow = &OptionRow {
 
 pub const FEED: &OptionRow = &OptionRow {
     name: "feed",
-    help: "Gives the vertices the chips of this file, too, while they play",
+    help: "Adds the chips of this file while the vertices fire: rows vertex,chips",
     takes: OptionValue::File,
 };
 
@@ -209,7 +205,7 @@ pub const TRACE: &OptionRow = &OptionRow {
 
 pub const TRACE_ROWS: &OptionRow = &OptionRow {
     name: "trace-rows",
-    help: "How many rows of each vertex room is taken for at the start, 0 to 2^20 [default: 1024 with --trace]",
+    help: "How many trace rows each vertex has room for, 0 to 2^20 [default: 1024 with --trace]",
     takes: OptionValue::Number {
         letter: "K",
         least: 0,
@@ -219,80 +215,159 @@ pub const TRACE_ROWS: &OptionRow = &OptionRow {
 
 pub const PROGRESS: &OptionRow = &OptionRow {
     name: "progress",
-    help: "Tells on standard error, once a second at most, how the play goes on",
+    help: "Writes to standard error how far the play is, at most once a second",
     takes: OptionValue::Nothing,
 };
 
-const CHECK: &CommandRow = &CommandRow {
+static CHECK: CommandRow = CommandRow {
     name: "check",
     about: "Shows a graph: each vertex with its out-degree and its distance to the sink",
-    after_help: texts::CHECK,
+    after_help: "\
+Exit status: 0 it is a graph; 1 a fault, which `chipfire explain N` explains.
+
+Example: chipfire check graph.json",
     operands: &[GRAPH],
     options: &[LARGE],
 };
 
-const PLAIN: &CommandRow = &CommandRow {
+static PLAIN: CommandRow = CommandRow {
     name: "plain",
-    about: "Plays a game on one thread and writes its report",
-    after_help: texts::PLAIN,
+    about: "Plays a game to its end (stabilizes it) on one thread, and writes its report",
+    after_help: "\
+The report has the chips at the end, and how often each vertex fired (the odometer).
+
+A guess never changes the report. If its counts are good, a test certifies them and the report
+comes sooner. The play mends the others. A vertex that the guess does not name has 0. Of a
+report only the counts are read. The test can fail for true counts if some vertex has a
+greater in-degree than out-degree.
+
+Exit status: 0 no vertex can fire; 2 the limit stopped the vertices that the report lists
+under \"over\"; 1 a fault, which `chipfire explain N` explains.
+
+Example: chipfire plain graph.json chips.csv --limit 1000 >report.json",
     operands: &[GRAPH, CHIPS],
     options: &[LIMIT, LARGE, GUESS, PROGRESS],
 };
 
-const AVALANCHES: &CommandRow = &CommandRow {
+static AVALANCHES: CommandRow = CommandRow {
     name: "avalanches",
-    about: "Drops chips one after another, and writes the size of each avalanche",
-    after_help: texts::AVALANCHES,
+    about: "Drops chips one row after another, and writes the size of each avalanche",
+    after_help: "\
+chipfire plays the game to its end. Then it adds the chips of each row of DROPS, and plays to
+the end before the next row. DROPS may name a vertex again. Each row of the output has the
+vertex and its chips, how often all vertices fired (size), how many different ones did
+(extent), and how many chips their firings sent to the sink (lost).
+
+A vertex fires at most 2^40 times in all. A drop that this stops has no row, and no drop
+follows it.
+
+Exit status: 0 all drops were played; 2 some vertex was stopped after 2^40 firings; 1 a
+fault, which `chipfire explain N` explains.
+
+Example: chipfire avalanches graph.json chips.csv drops.csv >avalanches.csv",
     operands: &[GRAPH, CHIPS, DROPS],
     options: &[LARGE, WRITTEN_REPORT, PROGRESS],
 };
 
-const RUN: &CommandRow = &CommandRow {
+static RUN: CommandRow = CommandRow {
     name: "run",
-    about: "Plays a game on threads and writes its report, which is that of plain",
-    after_help: texts::RUN,
+    about: "Plays a game to its end on threads, and writes the same report as plain",
+    after_help: "\
+The number of threads, the ring and --dealt change the time alone: the report stays the same,
+to the byte. One thread is quickest for a small game. For a large one, use --dealt with a
+thread for each core of the machine. In the queue more than two threads gain little. With a
+longer ring a vertex can send again before its last message was taken.
+
+With --feed the report is the same as if all chips were there at the start. The trace is
+written before the report. If it was cut, a line on standard error says so, and it may not
+replay.
+
+Exit status: 0 no vertex can fire; 2 the limit stopped the vertices that the report lists
+under \"over\"; 3 the turns were too few; 1 another fault. `chipfire explain N` explains faults.
+
+Example: chipfire run graph.json chips.csv --dealt --workers 4 >report.json",
     operands: &[GRAPH, CHIPS],
     options: &[
         LIMIT, LARGE, RING, WORKERS, DEALT, TURNS, FEED, TRACE, TRACE_ROWS, PROGRESS,
     ],
 };
 
-const SIMULATE: &CommandRow = &CommandRow {
+static SIMULATE: CommandRow = CommandRow {
     name: "simulate",
-    about: "Runs a schedule on the detector, and writes each reply and the report where the root closes",
-    after_help: texts::SIMULATE,
+    about: "Runs a schedule on the detector, and writes each reply, and the report if the root closes",
+    after_help: "\
+With --fed the schedule feeds chips by the events clear, feed and put on root edges, and then
+needs the event `end`: the root closes only after it.
+
+In a round each vertex has a turn, and then the root looks at its edges. The rounds stop when
+the root closes. 2^40 rounds close every game in which vertices, firings and five times the
+messages are together fewer than 2^40. No number of rounds closes a game that is fed without
+`end`, or whose root claimed a message and did not put it.
+
+Exit status: 0 the root closed; 2 it closed, and the report lists halted vertices; 3 it is
+open; 1 a fault, which `chipfire explain N` explains.
+
+Example: chipfire simulate graph.json chips.csv schedule.csv --rounds 10",
     operands: &[GRAPH, CHIPS, SCHEDULE],
     options: &[LIMIT, LARGE, RING, ROUNDS, BOOKS, FED],
 };
 
-const REPLAY: &CommandRow = &CommandRow {
+static REPLAY: CommandRow = CommandRow {
     name: "replay",
-    about: "Replays a recorded run and writes its firings, in an order in which they fit together",
-    after_help: texts::REPLAY,
+    about: "Replays a recorded run, and writes its firings in an order that fits",
+    after_help: "\
+With --complete, lines after the firings list each edge with messages left, each vertex that
+can fire, and each that has the chips but fired as often as the limit allows.
+
+Exit status: 0 the rows fit together; 2 they do, and --complete lists something; 1 a fault,
+which `chipfire explain N` explains: 70 if they do not fit.
+
+Example: chipfire replay graph.json chips.csv trace.csv",
     operands: &[GRAPH, CHIPS, TRACE_FILE],
     options: &[LIMIT, LARGE, COMPLETE],
 };
 
-const RESUME: &CommandRow = &CommandRow {
+static RESUME: CommandRow = CommandRow {
     name: "resume",
-    about: "Goes on from where a report says that a play stopped, and writes the report of this sitting",
-    after_help: texts::RESUME,
+    about: "Goes on with a play from its report, and writes the report of this sitting",
+    after_help: "\
+The limit counts the firings of this sitting alone. A report does not name its graph, so
+name the one that it was played on.
+
+Exit status: 0 no vertex can fire; 2 the limit stopped the vertices that the report lists
+under \"over\"; 1 a fault, which `chipfire explain N` explains.
+
+Example: chipfire resume graph.json report.json --limit 1000 >next.json",
     operands: &[GRAPH, REPORT],
     options: &[LIMIT, LARGE, PROGRESS],
 };
 
-const VERIFY: &CommandRow = &CommandRow {
+static VERIFY: CommandRow = CommandRow {
     name: "verify",
-    about: "Tells whether a report is that of a game: its counts, chips and halted vertices",
-    after_help: texts::VERIFY,
+    about: "Says whether a report is true of a game: its counts, chips and halted vertices",
+    after_help: "\
+`verified` means that every play of this game within this limit fires each vertex as often in
+all, leaves the same chips, and halts the same vertices by the limit. If a sitting was
+stopped, or a vertex fired more often than the limit in several sittings, a report may be
+right and have fault 53.
+
+Exit status: 0 the report is true; 1 a fault, which `chipfire explain N` explains: 53 if it
+differs.
+
+Example: chipfire verify graph.json chips.csv report.json",
     operands: &[GRAPH, CHIPS, REPORT],
     options: &[LIMIT, LARGE, PROGRESS],
 };
 
-const EXPLAIN: &CommandRow = &CommandRow {
+static EXPLAIN: CommandRow = CommandRow {
     name: "explain",
-    about: "Explains the fault or the rule with a number, or lists all of them",
-    after_help: texts::EXPLAIN,
+    about: "Explains a fault or a rule by its number, or lists all",
+    after_help: "\
+If `simulate` answers `not-now N`, `chipfire explain rule N` explains it.
+
+Exit status: 0 done; 1 a fault: 91 if no fault or rule has this number.
+
+Example: chipfire explain 21",
     operands: &[FAULT_NUMBER, RULE_NUMBER],
     options: &[],
 };
@@ -300,6 +375,14 @@ const EXPLAIN: &CommandRow = &CommandRow {
 /// The commands, in the order in which the help lists them.
 pub fn commands() -> [&'static CommandRow; 9] {
     [
-        CHECK, PLAIN, AVALANCHES, RUN, SIMULATE, REPLAY, RESUME, VERIFY, EXPLAIN,
+        &CHECK,
+        &PLAIN,
+        &AVALANCHES,
+        &RUN,
+        &SIMULATE,
+        &REPLAY,
+        &RESUME,
+        &VERIFY,
+        &EXPLAIN,
     ]
 }

@@ -6,7 +6,7 @@ use thiserror::Error;
 /// Why arguments ask for nothing.
 #[derive(Debug, Drop, Error)]
 pub enum ArgumentsFault {
-    /// They are not as the help says; what the command-line library says of them, where it does.
+    /// They are not as the help says. The text is what the command-line library says of them, or empty.
     #[error("the arguments are not as `--help` says")]
     Usage(String),
     /// There is no memory for them.

@@ -1,11 +1,10 @@
 //! The arguments of the program: what they ask for, and the help.
 //!
-//! The crate waits for no engine, and promises nothing: what it reads is tested on the program. `chipfire` calls it,
-//! and holds the limits in it to those of the engines.
+//! The crate waits for no engine, and promises nothing: what it reads is tested on the program.
 #![tactic(auto)]
 
 pub use arguments::{
-    AvalancheArguments, CheckArguments, FileArgument, GameArguments, PlainArguments, PlayArguments,
+    AvalancheArguments, CheckArguments, FileArgument, GameArguments, PlainArguments,
     ReplayArguments, Request, RunArguments, SimulationArguments, VerifyArguments, parse,
 };
 pub use fault::ArgumentsFault;

@@ -1,4 +1,4 @@
-//! What a command reads, and the lines that it writes on standard error while it goes on.
+//! What a command reads, and when it writes lines of progress.
 
 use chip_arguments::FileArgument;
 use chip_command::Fault;
@@ -15,7 +15,7 @@ use std::{fs, io};
 /// The name of standard input.
 const STANDARD_INPUT: &str = "-";
 
-/// How many milliseconds lie between two lines of progress at least, and before the first.
+/// The least time between two lines of progress, and before the first, in milliseconds.
 const PAUSE: u64 = 1000;
 
 /// When lines of progress are written.
@@ -27,7 +27,7 @@ struct Pace {
 }
 
 impl Pace {
-    /// From now on, where lines are asked for and the clock can be read.
+    /// From now on. `None` if no lines are asked for, or the clock cannot be read.
     fn start(clock: &impl Clock, asked: bool) -> Option<Pace> {
         if !asked {
             return None;
@@ -38,7 +38,7 @@ impl Pace {
         })
     }
 
-    /// Whether a line is to be written now. Of threads that ask at one time it is one that writes.
+    /// Whether a line is due. If several threads ask at once, one of them writes.
     fn is_due(&self, clock: &impl Clock) -> bool {
         let Ok(passed) = self.start.elapsed(clock) else {
             return false;
@@ -58,14 +58,14 @@ impl Pace {
 pub struct Console<'a, R: Clock + Eprint> {
     pub rt: &'a R,
     pace: Option<Pace>,
-    /// The number of the argument whose file was opened or read last, 0 where there is none.
+    /// The number of the argument whose file was opened or read last, or 0.
     last: AtomicU64,
     /// Whether standard input is read.
     has_standard: AtomicBool,
 }
 
 impl<'a, R: Clock + Eprint> Console<'a, R> {
-    /// From now on, with lines of progress where they are asked for.
+    /// From now on, with lines of progress if they are asked for.
     pub fn start(rt: &'a R, has_progress: bool) -> Console<'a, R> {
         Console {
             rt,
@@ -80,7 +80,7 @@ impl<'a, R: Clock + Eprint> Console<'a, R> {
         self.pace.is_some()
     }
 
-    /// Whether a line of progress is to be written now.
+    /// Whether a line of progress is due.
     pub fn is_due(&self) -> bool {
         match &self.pace {
             Some(pace) => pace.is_due(self.rt),
@@ -88,7 +88,7 @@ impl<'a, R: Clock + Eprint> Console<'a, R> {
         }
     }
 
-    /// Which of the process's arguments names what was opened or read last, if one does.
+    /// The index of the process's argument that names what was opened or read last.
     pub fn last_argument(&self) -> Option<usize> {
         match self.last.load(SeqCst) {
             0 => None,
@@ -98,8 +98,8 @@ impl<'a, R: Clock + Eprint> Console<'a, R> {
 }
 
 impl<R: Files<File = File> + Input + Clock + Eprint> Console<'_, R> {
-    /// Opens the file that an argument names, or takes standard input, which is taken once. Nothing is allocated for it, so
-    /// where the system wants memory the file could not be opened.
+    /// Opens the file that an argument names, or takes standard input, which can be taken once. This allocates nothing, so
+    /// if the system is out of memory the fault is `Open`.
     pub fn open(&self, file: &FileArgument<'_>) -> Result<Reader<'_, R>, Fault> {
         self.last.store(file.number, SeqCst);
         let source = if file.path != STANDARD_INPUT {
@@ -118,7 +118,7 @@ impl<R: Files<File = File> + Input + Clock + Eprint> Console<'_, R> {
         })
     }
 
-    /// Makes the file that an argument names anew, unless it is one of these inputs.
+    /// Creates the file that an argument names, or empties it, unless it is one of these inputs.
     pub fn create(
         &self,
         file: &FileArgument<'_>,
@@ -143,8 +143,8 @@ impl<R: Files<File = File> + Input + Clock + Eprint> Console<'_, R> {
     }
 }
 
-/// A file may get the number of a standard stream that is closed, and then be read in its place, or get a fault's line. A
-/// copy has none of the first three numbers.
+/// A file may get the number of a closed standard stream. Then it would be read in its place, or get a fault's line. So a
+/// copy gets another number.
 fn above_streams(file: File) -> io::Result<File> {
     if file.as_raw_fd() > 2 {
         return Ok(file);
@@ -159,7 +159,7 @@ enum Source {
     Standard,
 }
 
-/// What a command reads. Its console knows when it is read, and tells how many bytes of it were.
+/// What a command reads. Its console notes each read, and says how many bytes were read.
 #[derive(Drop)]
 pub struct Reader<'a, R: Input + Clock + Eprint> {
     console: &'a Console<'a, R>,
@@ -171,7 +171,7 @@ pub struct Reader<'a, R: Input + Clock + Eprint> {
 }
 
 impl<R: Files<File = File> + Input + Clock + Eprint> Reader<'_, R> {
-    /// Whether it is the file that was found so.
+    /// Whether it is the file with this metadata.
     fn is_file(&self, found: &Metadata) -> bool {
         let now = match &self.source {
             Source::File(file) => file.metadata(),

@@ -1,13 +1,14 @@
-//! What the program does on one thread, and what people see of it: files are opened, the commands but `run` are called, and
-//! standard error has progress and what a fault means.
+//! What the program does on one thread, and what people see of it: it opens files, calls the commands but `run`, and writes
+//! progress and what a fault means to standard error.
 //!
 //! The crate waits for no threads, and promises nothing: it is tested on the program.
 #![tactic(auto)]
 
+pub use commands::limits_of;
 pub use console::{Console, Reader};
 pub use terminal::tell_more;
 
-pub mod commands;
+mod commands;
 mod console;
 mod progress;
 mod terminal;

@@ -1,14 +1,14 @@
-//! What is told of a long play on standard error, a line once a second at most.
+//! Lines on standard error about a long play, one a second at most.
 //!
-//! Nothing of it changes what is played. Where the clock cannot be read no line is written, and a line that
-//! cannot be written is left out.
+//! They change nothing of the play. If the clock cannot be read there is no line, and a line that cannot be written is left
+//! out.
 
 use crate::console::Console;
 use chip_fire::{GivenUse, Search, Watch};
 use chip_graph::Game;
 use std::rt::Clock;
 
-/// Tells of a play on one thread: what it is at, how many rounds it has made, and how many firings it has come to.
+/// Writes how far a play on one thread is: what it does, its rounds and its firings.
 #[derive(Drop)]
 pub struct RoundProgress<'a, R: Clock + Eprint> {
     console: &'a Console<'a, R>,
@@ -16,7 +16,7 @@ pub struct RoundProgress<'a, R: Clock + Eprint> {
 }
 
 impl<'a, R: Clock + Eprint> RoundProgress<'a, R> {
-    /// Of a play of which no round was made yet.
+    /// Before the first round.
     pub fn start(console: &'a Console<'a, R>) -> RoundProgress<'a, R> {
         RoundProgress { console, rounds: 0 }
     }
@@ -57,7 +57,7 @@ impl<R: Clock + Eprint> Watch for RoundProgress<'_, R> {
             let steps = search.steps();
             let chips = search.chips_to_move();
             let _ = eprintln!(self.console.rt;
-                "chipfire: progress: guessing, {steps} steps, {chips} chips have still to move"
+                "chipfire: progress: guessing, {steps} steps, {chips} chips still to move"
             );
         }
     }
@@ -80,7 +80,7 @@ impl<R: Clock + Eprint> Watch for RoundProgress<'_, R> {
     }
 }
 
-/// The sum of some numbers, up to 2^64 - 1, which the firings of a game never come to.
+/// The sum of some numbers, at most 2^64 - 1. The firings of a game are fewer.
 fn sum_of(numbers: &[u64]) -> u64 {
     let mut sum = 0u64;
     for number in numbers {

@@ -1,27 +1,24 @@
-//! What a person at a terminal is told of a fault, behind its line.
+//! What a person at a terminal reads of a fault, after its line.
 
-use chip_command::{Fault, explanations};
-use chip_file::FileFault;
+use chip_command::{Fault, Location, explanations};
 use std::io;
 
-/// Tells what is wrong with the arguments; or in which file a fault is, and what it means. `about` is what the command-line
+/// Writes what is wrong with the arguments; or in which file a fault is, and what it means. `about` is what the command-line
 /// library says of the arguments, or the name of the file.
 pub fn tell_more<R: Eprint>(rt: &R, fault: &Fault, about: &str) -> io::Result<()> {
     if *fault == Fault::Usage && !about.is_empty() {
         return eprint!(rt; "{about}");
     }
-    if is_about_a_file(fault) {
-        match row_of(fault) {
-            Some(row) => {
-                let line = row.saturating_add(2);
-                eprintln!(rt;
-                    "  in {about}: row {row}, which is line {line} where no line is empty"
-                )?;
-            }
-            None => eprintln!(rt; "  in {about}")?,
+    let said = fault.line();
+    let number = said.number;
+    match said.location {
+        Location::At(row) if is_in_a_row(number) => {
+            let line = row.saturating_add(2);
+            eprintln!(rt; "  in {about}: row {row}, which is line {line} if no line is empty")?;
         }
+        _ if is_about_a_file(number) => eprintln!(rt; "  in {about}")?,
+        _ => {}
     }
-    let number = fault.line().number;
     for row in &explanations() {
         if row.number == number {
             eprintln!(rt;
@@ -33,23 +30,12 @@ pub fn tell_more<R: Eprint>(rt: &R, fault: &Fault, about: &str) -> io::Result<()
     eprintln!(rt; "  `chipfire explain {number}` says more.")
 }
 
-/// Whether a fault is one of a file that was read or opened.
-fn is_about_a_file(fault: &Fault) -> bool {
-    match fault {
-        Fault::File(_) | Fault::Game(_) | Fault::NotReport | Fault::Resume(_) => true,
-        Fault::Differs(_) | Fault::Stuck { .. } | Fault::Open(_) => true,
-        _ => false,
-    }
+/// Whether faults with this number are in a row of a file of rows.
+fn is_in_a_row(number: u64) -> bool {
+    number >= 24 && number <= 28
 }
 
-/// The row below the header that a fault is in, where it is in one.
-fn row_of(fault: &Fault) -> Option<u64> {
-    let Fault::File(fault) = fault else {
-        return None;
-    };
-    match fault {
-        FileFault::Row(row) | FileFault::Number(row) | FileFault::Vertex(row) => Some(*row),
-        FileFault::Repeated(row) | FileFault::Kind(row) => Some(*row),
-        _ => None,
-    }
+/// Whether faults with this number are about a file: what it means, the game of it, or that it could not be opened.
+fn is_about_a_file(number: u64) -> bool {
+    number < 60 || number == 70 || number == 92
 }

@@ -8,10 +8,7 @@ ghost use Rattle.std.specs.Prelude.{◌≡◌, None};
 
 use chip_arguments::{ArgumentsFault, Request, RunArguments, limits, parse};
 use chip_command::{Ended, Fault, Status, conclude, explanations, rules};
-use chip_console::commands::{
-    check, drop_chips, limits_of, open_game, play, replay, resume, simulate, verify,
-};
-use chip_console::{Console, tell_more};
+use chip_console::{Console, limits_of, tell_more};
 use chip_crew::{MAX_TRACE_ROWS, MAX_TURNS, MAX_WORKERS, Plan, Sharing};
 use chip_engine::{explain_engine, plain_engine};
 use chip_graph::MAX_LIMIT;
@@ -56,7 +53,7 @@ fn main(rt: HostRuntime) -> ExitCode {
             ExitCode::from(ended.status)
         }
         Err(fault) => {
-            // Where even this cannot be written, the status still tells.
+            // If even this cannot be written, the status still says it.
             let _ = eprintln!(&rt; "chipfire: {fault}");
             if rt.stderr().is_terminal() {
                 let _ = tell_more(&rt, &fault, &about);
@@ -66,7 +63,7 @@ fn main(rt: HostRuntime) -> ExitCode {
     }
 }
 
-/// Does what the program's arguments ask for. Of a fault it tells what it is about, where there is memory for that.
+/// Does what the program's arguments ask for. Of a fault, `about` gets what it is about, if there is memory for that.
 fn run<
     R: Env
         + Files<File = File>
@@ -114,14 +111,14 @@ fn serve<
     let alloc = console.rt.alloc();
     match request {
         Request::Help(text) => conclude(output, text.as_bytes(), Ended::of(Status::Done)),
-        Request::Check(asked) => check(console, asked, output),
-        Request::Plain(asked) => play(console, asked, output),
-        Request::Avalanches(asked) => drop_chips(console, asked, output),
-        Request::Simulate(asked) => simulate(console, asked, output),
+        Request::Check(asked) => console.check(asked, output),
+        Request::Plain(asked) => console.play(asked, output),
+        Request::Avalanches(asked) => console.drop_chips(asked, output),
+        Request::Simulate(asked) => console.simulate(asked, output),
         Request::Run(asked) => play_on_threads(console, asked, output),
-        Request::Replay(asked) => replay(console, asked, output),
-        Request::Resume(asked) => resume(console, asked, output),
-        Request::Verify(asked) => verify(console, asked, output),
+        Request::Replay(asked) => console.replay(asked, output),
+        Request::Resume(asked) => console.resume(asked, output),
+        Request::Verify(asked) => console.verify(asked, output),
         Request::Explain(number) => explain_engine(
             alloc,
             "fault",
@@ -138,7 +135,7 @@ fn play_on_threads<
     R: Files<File = File> + Input + Clock + Eprint + AllocGlobal + Threads + Wait + Sync,
     W: io::Write,
 >(console: &Console<'_, R>, asked: &RunArguments<'_>, output: &mut W) -> Result<Ended, Fault> {
-    let (mut graph, mut chips) = open_game(console, &asked.game)?;
+    let (mut graph, mut chips) = console.open_game(&asked.game)?;
     let mut feed = match &asked.feed {
         Some(file) => Some(console.open(file)?),
         None => None,

@@ -1,10 +1,10 @@
-//! What is told of a long play on threads on standard error.
+//! Lines on standard error about a long play on threads.
 
 use chip_console::Console;
 use chip_crew::Gate;
 use std::rt::Clock;
 
-/// Lets every worker pass, and tells how many turns worker 0 has made and how many of the root's messages aren't
+/// Lets every worker pass, and writes how many turns worker 0 has made and how many of the root's messages are not
 /// acknowledged.
 #[derive(Drop)]
 pub struct TurnProgress<'a, R: Clock + Eprint> {
@@ -12,7 +12,7 @@ pub struct TurnProgress<'a, R: Clock + Eprint> {
 }
 
 impl<'a, R: Clock + Eprint> TurnProgress<'a, R> {
-    /// Of a play that begins.
+    /// Before the first turn.
     pub fn start(console: &'a Console<'a, R>) -> TurnProgress<'a, R> {
         TurnProgress { console }
     }

@@ -5,19 +5,17 @@ use crate::tallies::Tallies;
 use std::alloc::{AllocError, Global};
 use std::marker::Model;
 
-/// What one vertex knows of the detection. The root has none: no edge leads to it, so no message ever
-/// engages it.
+/// What one vertex knows of the detection. The root needs none: no edge leads to it, so no message ever engages it.
 ///
-/// Contracts see it as plain books: for each edge into the vertex how many messages were got and
-/// acknowledged, for each edge out of it how many were sent and settled, and the parent edge.
-/// An edge is found by binary search. Whoever goes through the edges in ascending order knows the
-/// slot of each, and gives it to the calls whose names end in `_at`, which look for nothing.
-/// The deficit is kept, and `new` alone takes memory.
+/// Contracts see it as plain books: for each edge into the vertex how many messages were got and acknowledged, for each
+/// edge out of it how many were sent and settled, and the parent edge. A call finds an edge by binary search. If the
+/// caller goes through the edges in ascending order, it knows the slot of each, and the calls whose names end in `_at`
+/// search nothing. Only `new` takes memory.
 #[derive(Drop)]
 pub struct Detect {
-    /// An open message here is one that the vertex owes an acknowledgement.
+    /// The vertex owes an acknowledgement for each open message here.
     ins: Tallies,
-    /// An open message here is one whose acknowledgement it waits for.
+    /// It waits for the acknowledgement of each open message here.
     outs: Tallies,
     /// The edge of the message that engaged the vertex, until that message is acknowledged.
     parent: Option<u64>,
@@ -41,9 +39,8 @@ impl Detect {
     ghost use Rattle.chip_detect.specs.Steps.{Gets, Acknowledges, Sends, Settles};
     ghost use Rattle.chip_detect.specs.Slot.{IsSlotOf};
 
-    /// The books of a neutral vertex with these edges into it and out of it, on which nothing was
-    /// got or sent yet. The lists may be in any order, and name an edge more than once. Refused
-    /// only for want of memory.
+    /// The books of a neutral vertex with these edges into it and out of it, on which nothing was got or sent yet. The
+    /// lists may be in any order, and name an edge more than once.
     pub fn new(alloc: Global, ins: &[u64], outs: &[u64]) -> Result<Self, AllocError>
         requires few_ins { length ins.now ≤ edge_limit }
         requires few_outs { length outs.now ≤ edge_limit }
@@ -68,7 +65,7 @@ impl Detect {
         self.got_at(slot);
     }
 
-    /// Notes a message that came on the edge at this slot of those into the vertex.
+    /// Notes a message that came on the edge into the vertex at this slot.
     pub fn got_at(&mut self, slot: Slot)
         requires slot { IsSlotOf (in_edges self.old) slot }
         requires room { got_of self.old slot.edge < message_limit }
@@ -89,7 +86,7 @@ impl Detect {
         self.may_ack_at(self.ins.slot_of(edge), passive)
     }
 
-    /// How many messages of the edge at this slot of those into the vertex may be acknowledged now.
+    /// How many messages of the edge into the vertex at this slot may be acknowledged now.
     pub fn may_ack_at(&self, slot: Slot, passive: bool) -> u64
         requires { IsSlotOf (in_edges self.now) slot }
         ensures { result ≡ may_ack self.now slot.edge passive }
@@ -103,8 +100,8 @@ impl Detect {
         if is_done { owed } else { owed - 1 }
     }
 
-    /// Whether the message that engaged the vertex is all that it owes, and may not be acknowledged yet; `passive` says
-    /// whether the vertex is.
+    /// Whether the vertex owes only the message that engaged it, and may not acknowledge it yet. `passive` says whether
+    /// it is passive.
     pub fn keeps_last(&self, passive: bool) -> bool
         ensures value { result ≡ keeps_last self.now passive }
         ensures none { IsTrue result → (p : ℕ) → self.now.parent ≡ Some p → may_ack self.now p passive ≡ 0 }
@@ -123,7 +120,7 @@ impl Detect {
         self.acked_at(slot, count);
     }
 
-    /// Notes that `count` messages of the edge at this slot of those into the vertex were acknowledged.
+    /// Notes that `count` messages of the edge into the vertex at this slot were acknowledged.
     pub fn acked_at(&mut self, slot: Slot, count: u64)
         requires slot { IsSlotOf (in_edges self.old) slot }
         requires allowed { count ≤ may_ack self.old slot.edge true }
@@ -147,7 +144,7 @@ impl Detect {
         self.sent_at(slot);
     }
 
-    /// Notes a message that was sent on the edge at this slot of those out of the vertex.
+    /// Notes a message that was sent on the edge out of the vertex at this slot.
     pub fn sent_at(&mut self, slot: Slot)
         requires slot { IsSlotOf (out_edges self.old) slot }
         requires room { sent_of self.old slot.edge < message_limit }
@@ -157,8 +154,7 @@ impl Detect {
         self.outs.add_message_at(slot);
     }
 
-    /// Notes that the edge's head has acknowledged `word` of its messages from the beginning on.
-    /// The answer is how many of these are new.
+    /// Notes that the edge's head acknowledged `word` messages so far, and answers how many of these are new.
     pub fn settled(&mut self, edge: u64, word: u64) -> u64
         requires out { Contains (out_edges self.old) edge }
         requires no_fewer { settled_of self.old edge ≤ word }
@@ -171,7 +167,7 @@ impl Detect {
         self.settled_at(slot, word)
     }
 
-    /// Notes the same of the edge at this slot of those out of the vertex.
+    /// Notes the same of the edge out of the vertex at this slot.
     pub fn settled_at(&mut self, slot: Slot, word: u64) -> u64
         requires slot { IsSlotOf (out_edges self.old) slot }
         requires no_fewer { settled_of self.old slot.edge ≤ word }
@@ -188,7 +184,7 @@ impl Detect {
         more
     }
 
-    /// How many acknowledgements of the edge at this slot of those out of the vertex are settled so far.
+    /// How many acknowledgements of the edge out of the vertex at this slot are settled so far.
     pub fn settled_so_far(&self, slot: Slot) -> u64
         requires { IsSlotOf (out_edges self.now) slot }
         ensures count { result ≡ settled_of self.now slot.edge }
@@ -220,14 +216,14 @@ impl Detect {
         self.ins.open_at(slot)
     }
 
-    /// Whether a message engaged the vertex and isn't acknowledged yet.
+    /// Whether a message engaged the vertex and is not acknowledged yet.
     pub fn engaged(&self) -> bool
         ensures { result ≡ is_engaged self.now }
     {
         self.parent.is_some()
     }
 
-    /// The edge of the message that engaged the vertex, where it is engaged.
+    /// The edge of the message that engaged the vertex, if it is engaged.
     pub fn parent(&self) -> Option<u64>
         ensures parent { result ≡ self.now.parent }
         ensures sound { IsSound self.now }

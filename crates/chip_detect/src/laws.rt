@@ -1,4 +1,4 @@
-//! What the rules of the books come to, for every vertex and every step.
+//! What follows from the rules of the books, for every vertex and every step.
 ghost use Rattle.chip_detect.specs.Laws.{StepsKeepSoundness, NeutralOnlyWhenDone, NoMoreThanOwed, ParentGoesWithAll};
 ghost use Rattle.chip_detect.specs.Worked.{SlotOfTheLast, EngagingMessageLast, TwoOnTheParentEdge};
 
@@ -8,7 +8,7 @@ pub fn soundness()
     ensures { StepsKeepSoundness }
 {}
 
-/// A vertex becomes neutral by its last acknowledgement alone.
+/// A vertex becomes neutral only by its last acknowledgement.
 pub fn last_acknowledgement()
     ensures { NeutralOnlyWhenDone }
 {}
@@ -18,8 +18,7 @@ pub fn no_more_than_owed()
     ensures { NoMoreThanOwed }
 {}
 
-/// A vertex loses its parent by acknowledging all that it owes on the parent edge, and by nothing
-/// less.
+/// A vertex loses its parent only when it acknowledges all that it owes on the parent edge.
 pub fn parent_goes_with_all()
     ensures { ParentGoesWithAll }
 {}

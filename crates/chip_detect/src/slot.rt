@@ -1,7 +1,7 @@
-/// Where an edge stands among the edges on one side of a vertex, which ascend.
+/// The place of an edge among the edges on one side of a vertex, which ascend.
 #[derive(Clone, Copy)]
 pub struct Slot {
-    /// How many of these edges stand before it.
+    /// Its index among them, from 0.
     pub index: usize,
     /// The number of the edge.
     pub edge: u64,

@@ -26,7 +26,7 @@ struct Search {
 }
 
 impl Search {
-    /// The sink alone is reached.
+    /// Only the sink is reached.
     fn begin(alloc: Global, vertices: usize, sink: u64) -> Result<Self, AllocError>
         requires { sink < vertices }
         ensures { IfOk result (λ search.
@@ -65,7 +65,7 @@ impl Search {
     }
 }
 
-/// How far each vertex is from the sink: the length of a shortest walk, or `None` where no walk leads there.
+/// How far each vertex is from the sink: the length of a shortest walk, or `None` if no walk leads there.
 ///
 /// `ins` has the edges into each vertex, ascending, by their numbers.
 pub(crate) fn distances(

@@ -2,14 +2,14 @@ ghost use Rattle.std.specs.Prelude.{◌≡◌};
 
 /// One row of a graph: `mult` parallel edges from `tail` to `head`.
 ///
-/// Several rows may join the same two vertices; each is an edge of its own, named by its number: its index in the list.
+/// Rows may join the same two vertices: each is an edge of its own. Its number is its index in the list, from 0.
 #[derive(Clone, Copy, PartialEq, Eq)]
 pub struct Edge {
     /// The vertex that it leaves.
     pub tail: u64,
     /// The vertex that it goes into.
     pub head: u64,
-    /// How many chips one firing of the tail sends along it.
+    /// How many chips one firing of the tail sends along it, 1 to 2^20 in a graph.
     pub mult: u64,
 }
 
@@ -18,7 +18,7 @@ pub struct Edge {
 pub enum AnyEdge {
     /// One of the graph's own.
     Own(Edge),
-    /// The root edge into a vertex, on which its chips at the start come.
+    /// The root edge into a vertex, which brings its first chips.
     Root {
         /// The vertex that it goes into.
         head: u64,

@@ -11,7 +11,8 @@ pub const MAX_TOTAL: u64 = 1 << 40;
 /// The greatest firing limit: 2^40.
 pub const MAX_LIMIT: u64 = 1 << 40;
 
-/// A chip-firing game: a graph, the chips at the start, and how often each vertex may fire.
+/// A chip-firing game (a sandpile): a graph, the chips at the start (the configuration), and how often each vertex may
+/// fire (topple).
 #[derive(Drop)]
 pub struct Game {
     graph: Graph,
@@ -59,7 +60,7 @@ impl Game {
         })
     }
 
-    /// An equal game; in time linear in vertices and edges.
+    /// An equal game, in time linear in vertices and edges.
     pub fn copy(&self, alloc: Global) -> Result<Game, AllocError>
         ensures { IfOk result (λ game. game ≡ self.now) }
     {
@@ -77,9 +78,8 @@ impl Game {
         })
     }
 
-    /// The game with more chips at the start. Each pair is a vertex of the game and how many chips more it has; a vertex
-    /// may stand in several. Where there would be more chips than `MAX_TOTAL`, the game comes back as it was. No memory
-    /// is taken.
+    /// The game with more chips at the start. Each pair is a vertex and how many chips it gets; a vertex may stand in
+    /// several. If there would be more chips than `MAX_TOTAL`, the error is the game as it was. This takes no memory.
     pub fn with_more(self, more: &[(u64, u64)]) -> Result<Game, Game>
         requires { AreOfVertices self more.now }
         ensures { AddsChips self more.now result }
@@ -118,7 +118,7 @@ impl Game {
         &self.start
     }
 
-    /// How often each vertex may fire at most, up to `MAX_LIMIT`.
+    /// How often each vertex may fire, 0 to `MAX_LIMIT`.
     pub fn limit(&self) -> u64
         ensures value { result ≡ self.now.limit }
         ensures game { IsGame self.now }
@@ -126,7 +126,7 @@ impl Game {
         self.limit
     }
 
-    /// How many chips there are in all, up to `MAX_TOTAL`.
+    /// How many chips there are in all, 0 to `MAX_TOTAL`.
     pub fn total(&self) -> u64
         ensures value { result ≡ sum self.now.start }
         ensures game { IsGame self.now }
@@ -135,7 +135,7 @@ impl Game {
     }
 }
 
-/// The sum, or `None` where it is above `MAX_TOTAL`.
+/// The sum, or `None` if it is above `MAX_TOTAL`.
 fn total_of(chips: &[u64]) -> Option<u64>
     ensures some { IfSome result (λ total. (total ≡ sum chips.now) × (total ≤ max_total)) }
     ensures none { IfNone result (max_total < sum chips.now) }
@@ -153,7 +153,7 @@ fn total_of(chips: &[u64]) -> Option<u64>
 ghost use Rattle.std.specs.Prelude.{ℕ, ◌+◌, length, slice_index, All};
 ghost use Rattle.chip_graph.specs.More.{brought_to, all_brought};
 
-/// The total with what the pairs bring, or `None` where it is above `MAX_TOTAL`.
+/// The total with what the pairs bring, or `None` if it is above `MAX_TOTAL`.
 fn total_with(total: u64, more: &[(u64, u64)]) -> Option<u64>
     requires { total ≤ max_total }
     ensures some { IfSome result (λ all. (all ≡ total + all_brought more.now) × (all ≤ max_total)) }

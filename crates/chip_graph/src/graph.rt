@@ -22,8 +22,8 @@ pub const MAX_MULT: u64 = 1_048_576;
 
 /// A directed multigraph with a global sink: a vertex with no edge out, which every vertex reaches.
 ///
-/// Vertices are the numbers below `vertices()`, and edges are named by their numbers: their indices in `edges()`.
-/// What is asked of a vertex is made once, with the graph, and answered in constant time.
+/// Vertices are the numbers below `vertices()`. The number of an edge is its index in `edges()`. Every question about a
+/// vertex is answered in constant time.
 #[derive(Drop)]
 pub struct Graph {
     rows: Box<Rows>,
@@ -52,7 +52,7 @@ struct Rows {
     outs: PackedLists<u64>,
     /// The edges into each vertex, ascending.
     ins: PackedLists<u64>,
-    /// The edges as they are in the order of `outs`, unless that is their own.
+    /// The edges in the order of `outs`, unless that is their own.
     links: Option<Vec<Edge>>,
 }
 
@@ -136,8 +136,8 @@ impl Graph {
     ghost use Rattle.chip_graph.specs.Edges.{all_edges, root_edge, IsNumbered};
     ghost use Rattle.chip_graph.specs.Faults.{MakesGraph};
 
-    /// A graph of these edges within the standard limits, or the first reason why it is none; in time linear in vertices
-    /// and edges.
+    /// A graph of these edges within the standard limits, or the first reason why they are none, in time linear in
+    /// vertices and edges.
     pub fn new(
         alloc: Global,
         vertices: u64,
@@ -149,8 +149,8 @@ impl Graph {
         Graph::within(alloc, Limits::standard(), vertices, sink, edges)
     }
 
-    /// A graph of these edges within these limits, or the first reason why it is none; in time linear in vertices and
-    /// edges.
+    /// A graph of these edges within these limits, or the first reason why they are none, in time linear in vertices
+    /// and edges.
     pub fn within(
         alloc: Global,
         limits: Limits,
@@ -166,7 +166,7 @@ impl Graph {
         })
     }
 
-    /// An equal graph; in time linear in vertices and edges.
+    /// An equal graph, in time linear in vertices and edges.
     pub fn copy(&self, alloc: Global) -> Result<Graph, AllocError>
         ensures { IfOk result (λ graph. graph ≡ self.now) }
     {
@@ -194,7 +194,7 @@ impl Graph {
         rows.sink
     }
 
-    /// The graph's own edges, named by their indices.
+    /// The graph's own edges, by their numbers.
     pub fn edges(&self) -> &[Edge]
         ensures value { result.now ≡ self.now.edges }
         ensures graph { IsGraph self.now }
@@ -222,7 +222,7 @@ impl Graph {
         rows.edges.len() as u64 + vertex
     }
 
-    /// The edge that has this number, or `None` from `all_edges()` on.
+    /// The edge with this number, or `None` from `all_edges()` on.
     pub fn edge(&self, number: u64) -> Option<AnyEdge>
         ensures edge { IsNumbered self.now number result }
         ensures graph { IsGraph self.now }
@@ -240,7 +240,7 @@ impl Graph {
         }
     }
 
-    /// The sum of `mult` over the edges out of this vertex, up to 2^43.
+    /// How many chips one firing of this vertex takes: the sum of `mult` over the edges out of it, 0 to 2^43.
     pub fn out_degree(&self, vertex: u64) -> u64
         requires { vertex < self.now.vertices }
         ensures { result ≡ degree self.now vertex }
@@ -249,7 +249,7 @@ impl Graph {
         rows.degrees[vertex as usize]
     }
 
-    /// The edges out of this vertex, ascending.
+    /// The numbers of the edges out of this vertex, ascending.
     pub fn outs(&self, vertex: u64) -> &[u64]
         requires { vertex < self.now.vertices }
         ensures { result.now ≡ edges_out self.now vertex }
@@ -258,7 +258,7 @@ impl Graph {
         rows.outs.list(vertex as usize)
     }
 
-    /// The edges into this vertex, ascending.
+    /// The numbers of the edges into this vertex, ascending.
     pub fn ins(&self, vertex: u64) -> &[u64]
         requires { vertex < self.now.vertices }
         ensures { result.now ≡ edges_in self.now vertex }
@@ -267,7 +267,7 @@ impl Graph {
         rows.ins.list(vertex as usize)
     }
 
-    /// The edges out of this vertex as they are, in the order of `outs`, side by side in memory.
+    /// The edges out of this vertex, in the order of `outs`, side by side in memory.
     pub fn links(&self, vertex: u64) -> &[Edge]
         requires { vertex < self.now.vertices }
         ensures { result.now ≡ map (edge_at self.now) (edges_out self.now vertex) }
@@ -280,7 +280,7 @@ impl Graph {
         rows.outs.beside(vertex as usize, links)
     }
 
-    /// The least number of edges from this vertex to the sink; 0 at the sink.
+    /// How many edges a shortest walk from this vertex to the sink has; 0 at the sink.
     pub fn distance(&self, vertex: u64) -> u64
         requires { vertex < self.now.vertices }
         ensures { IsDistance self.now vertex result }
@@ -293,7 +293,7 @@ impl Graph {
     }
 }
 
-/// The first thing wrong with edge `i`, if anything is.
+/// The first fault of edge `i`, if it has one.
 fn check_edge(vertices: u64, sink: u64, i: u64, edge: &Edge) -> Result<(), GraphFault>
     ensures { result ≡ refusal (fault_of_edge vertices sink i edge.now) }
 {
@@ -312,7 +312,7 @@ fn check_edge(vertices: u64, sink: u64, i: u64, edge: &Edge) -> Result<(), Graph
     Ok(())
 }
 
-/// The first thing wrong with these rows by these limits, walks aside.
+/// The first fault of these rows by these limits, walks aside.
 fn check_rows(limits: Limits, vertices: u64, sink: u64, edges: &[Edge]) -> Result<(), GraphFault>
     ensures first { result
         ≡ refusal (fault_of_rows limits (record { vertices = vertices; sink = sink; edges = edges.now })) }

@@ -2,8 +2,8 @@
 
 ghost use Rattle.chip_graph.specs.Laws.{OneAnswer};
 
-/// A graph has no fault, and nothing has two first faults: so `Graph::new` accepts exactly the graphs,
-/// and refuses all else by exactly its first fault, want of memory aside.
+/// A graph has no fault, and nothing has two first faults. So unless memory runs out, `Graph::new` accepts exactly the
+/// graphs, and refuses all else by its first fault.
 pub fn one_answer()
     ensures { OneAnswer }
 {}

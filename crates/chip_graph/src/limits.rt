@@ -1,4 +1,4 @@
-//! How large a graph may be, and the texts of its game.
+//! How large a graph and the texts of its game may be.
 
 ghost use Rattle.std.specs.Prelude.{◌≡◌};
 
@@ -34,7 +34,7 @@ impl Model for Limits {
 impl Limits {
     ghost use Rattle.chip_graph.specs.Limits.{limits_of, standard, large, AreLimits};
 
-    /// These limits, unless one of them is above the greatest.
+    /// These limits, or `None` if one of them is above the greatest.
     pub fn new(vertices: u64, edges: u64, bytes: u64) -> Option<Limits>
         ensures { result ≡ limits_of vertices edges bytes }
     {
@@ -48,7 +48,7 @@ impl Limits {
         })
     }
 
-    /// 4,096 vertices, 65,536 edges and 2^24 bytes: the limits of who asks for no others.
+    /// 4,096 vertices, 65,536 edges and 2^24 bytes: what a caller gets who asks for no others.
     pub fn standard() -> Limits
         ensures { result ≡ standard }
     {

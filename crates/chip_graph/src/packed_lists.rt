@@ -4,10 +4,10 @@ ghost use Rattle.chip_graph.specs.PackedLists.{flat, lists_of, AreStarts};
 use std::alloc::{AllocError, Global};
 use std::marker::Model;
 
-/// Lists that lie side by side in one vector, and are told apart by where they start.
+/// Lists that lie side by side in one vector.
 #[derive(Drop)]
 pub(crate) struct PackedLists<T> {
-    /// Where each list begins, and at last where all end.
+    /// Where each list begins, and then where the last one ends.
     starts: Vec<usize>,
     members: Vec<T>,
 }
@@ -33,7 +33,7 @@ impl<T: Copy> PackedLists<T> {
         PackedLists { starts, members }
     }
 
-    /// The members of all lists, one list behind the other.
+    /// The members of all lists, one list after the other.
     pub(crate) fn members(&self) -> &[T]
         ensures { result.now ≡ flat self.now }
     {
@@ -48,7 +48,7 @@ impl<T: Copy> PackedLists<T> {
         self.beside(i, self.members())
     }
 
-    /// What stands beside the list with this index, where one thing stands beside each member.
+    /// What stands beside the list with this index, if `things` has one for each member.
     pub(crate) fn beside<'a, U>(&self, i: usize, things: &'a [U]) -> &'a [U]
         requires inside { i < length self.now }
         requires one_each { length things.now ≡ length (flat self.now) }

@@ -10,7 +10,7 @@ pub enum JsonFault {
     /// It is no JSON.
     #[error("the text is no JSON")]
     NotJson,
-    /// It is not an object of the four members.
+    /// It is JSON, but not an object of exactly the four members.
     #[error("the JSON has not the shape of a graph")]
     Shape,
     /// Memory ran out.

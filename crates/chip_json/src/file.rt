@@ -22,7 +22,7 @@ use std::str;
 /// How deep arrays and objects nest at most.
 const MAX_DEPTH: usize = 127;
 
-/// What a graph file says. Of more edges than were asked for only the first are there.
+/// What a graph file says. If it has more edges than the caller asked for, only the first are here.
 #[derive(Drop)]
 pub struct GraphFile {
     pub version: u64,
@@ -94,7 +94,7 @@ impl Parts {
         Ok(())
     }
 
-    /// The file, where each part is there and no other member.
+    /// The file, if each part is there and no other member.
     fn into_file(self) -> Option<GraphFile>
         ensures { (most : ℕ) (found : Members) → Stands most found self
             → KeepsFile most (file_of_value (object found)) result }
@@ -106,7 +106,7 @@ impl Parts {
     }
 }
 
-/// The file of these parts, where each is there.
+/// The file of these parts, if each is there.
 fn all_of(
     version: Option<u64>,
     vertices: Option<u64>,
@@ -123,7 +123,7 @@ fn all_of(
     })
 }
 
-/// The graph file that a text is. Of more than `most` edges only the first are kept, one more than that.
+/// The graph file that a text is. Of more than `most` edges it has the first `most + 1`, so that the caller sees it.
 pub fn file_of_text(alloc: Global, text: &[u8], most: u64) -> Result<GraphFile, JsonFault>
     ensures { GivesFile most text.now result }
 {
@@ -136,7 +136,7 @@ pub fn file_of_text(alloc: Global, text: &[u8], most: u64) -> Result<GraphFile, 
     file_of_tokens(alloc, text, most)
 }
 
-/// The graph file of an object with these edges, and with what a text says behind them.
+/// The graph file of an object with these edges, and with what a text says after them.
 fn file_behind(
     alloc: Global,
     edges: Vec<Edge>,

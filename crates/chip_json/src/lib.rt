@@ -1,7 +1,7 @@
-//! Texts of JSON, read as they come: what is not needed of a text is passed over, and no value of it is made.
+//! Texts of JSON, read token by token: no value of a text is made.
 //!
-//! What a text means is a definition over the value that `serde_json` reads (`specs/GraphFile.antt`), and what is
-//! answered is that meaning, for every text (`GivesFile` in `specs/Parts.antt`).
+//! What a text means is a definition over the value that `serde_json` reads (`specs/GraphFile.antt`). The answer is
+//! that meaning, for every text (`GivesFile` in `specs/Parts.antt`).
 #![tactic(auto)]
 
 pub use fault::JsonFault;

@@ -11,10 +11,10 @@ ghost use Rattle.serde_json.specs.Read.{float_of, number_from, number_of};
 use fast_float::Numeral;
 use serde_json::Number;
 
-/// So many digits write a number that fits into 64 bits.
+/// A number with this many digits fits into 64 bits.
 const FEW_DIGITS: usize = 19;
 
-/// The number that the first digits of a text write, up to so many as fit, and how many they are.
+/// The number that the first digits of a text write, and how many they are: as many as surely fit.
 #[inline(always)]
 pub fn leading_number(text: &[u8]) -> (u64, usize)
     ensures digits { AllDigits 10 (take result.1 text.now) }
@@ -42,7 +42,7 @@ pub(crate) fn number_of(text: &str) -> Option<Number>
     }
 }
 
-/// The integer that digits alone write, where they are few. Nearly all numbers are such, and this is quick.
+/// The integer that few digits alone write. Nearly all numbers are such, and this is quick.
 pub(crate) fn integer(text: &str) -> Option<u64>
     ensures { IfSome result (λ n. number_of text.now ≡ Some (unsigned n)) }
 {
@@ -85,7 +85,7 @@ fn natural_number(numeral: &Numeral<'_>) -> Option<Number>
     }
 }
 
-/// The number of a numeral behind a minus sign.
+/// The number of a numeral after a minus sign.
 fn negative_number(numeral: &Numeral<'_>) -> Option<Number>
     ensures { option_map number_view result ≡ number_from true numeral.now }
 {

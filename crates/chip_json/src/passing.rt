@@ -11,7 +11,7 @@ use json::{Reader, Token};
 #[derive(Clone, Copy)]
 pub(crate) struct NotJson;
 
-/// Passes over a value, in which arrays and objects nest no deeper than so.
+/// Passes over a value, in which arrays and objects nest no deeper than `depth`.
 #[cycle(pass)]
 pub(crate) fn pass(reader: &mut Reader<'_>, depth: usize) -> Result<(), NotJson>
     ensures value { Reads depth reader.old reader.new (λ d x. ⊤) result }

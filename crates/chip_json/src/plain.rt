@@ -1,7 +1,7 @@
 //! The rows of a text that is written plainly, read byte by byte.
 //!
-//! What is found here is what the tokens of the text would give. Where a text is written otherwise, nothing is found, and
-//! the tokens are to say what it is.
+//! What is found here is what the tokens of the text would give. If a text is written otherwise, nothing is found, and
+//! the tokens say what it is.
 
 ghost use Rattle.std.specs.Prelude.{◌≡◌, ◌<◌, ◌≤◌, length, drop, codes, IfSome, IfOk, IfErr};
 ghost use Rattle.json.specs.Word.{is_space};
@@ -152,7 +152,7 @@ fn skip_name(text: &[u8], from: usize) -> Option<usize>
     None
 }
 
-/// Where the next member begins behind a value, or the object ends.
+/// Where the next member begins after a value, or the object ends.
 fn next_member(text: &[u8], from: usize) -> Option<usize>
     requires { from ≤ length text.now }
     ensures { IfSome result (λ next. GoesOnAs text.now from next) }

@@ -1,7 +1,7 @@
 /// What may happen in a net: one operation on one shared word, made by one vertex, by the root or by the stopper.
 #[derive(Clone, Copy, PartialEq, Eq)]
 pub enum Event {
-    /// The head of this edge takes the next message, where there is one.
+    /// The head of this edge takes the next message, if there is one.
     Take(u64),
     /// The head of this edge acknowledges all that it may.
     Ack(u64),
@@ -21,7 +21,7 @@ pub enum Event {
     Seal(u64),
     /// The root reads how often this vertex fired, after it closed.
     Read(u64),
-    /// The root claims the next place of this root edge for so many chips, which it feeds to the edge's head.
+    /// The root claims the next place of this root edge for `count` chips, which it feeds to the edge's head.
     Feed { edge: u64, count: u64 },
     /// The root settles its first edge, and notes that nothing more is fed.
     End,

@@ -29,7 +29,7 @@ impl Model for HeadLink {
 }
 
 impl HeadLink {
-    /// The head of an edge from which nothing was taken, with a ring of so many cells.
+    /// The head of an edge from which nothing was taken, whose ring has `ring` cells, 1 to 64.
     pub fn new(edge: u64, ring: u64) -> HeadLink
         requires { IsRing ring }
         ensures { result ≡ new_head edge ring }
@@ -42,14 +42,14 @@ impl HeadLink {
         }
     }
 
-    /// The edge that it is an end of.
+    /// The number of its edge.
     pub fn edge(&self) -> u64
         ensures { result ≡ self.now.edge }
     {
         self.edge
     }
 
-    /// The cell of the next place to take, from 0.
+    /// The cell of the next place to take, 0 to below the cells of the ring.
     pub fn cell(&self) -> u64
         ensures cell { result ≡ head_cell self.now }
         ensures inside { result < self.now.ring }
@@ -57,7 +57,7 @@ impl HeadLink {
         u64::from(self.cell)
     }
 
-    /// The message that was found in that cell, or `None` where it was empty. At most 2^62 messages are taken.
+    /// The message that was found in that cell, or `None` if it was empty. At most 2^62 messages are taken.
     pub fn taken(&mut self, old_cell: u64) -> Option<Message>
         requires { self.old.taken < 2 ^ 62 }
         ensures message { result ≡ message_taken old_cell self.old }

@@ -1,4 +1,4 @@
-//! What holds of every edge and every word, as the contracts of functions that do nothing.
+//! What holds for every edge and every word, as the contracts of functions that do nothing.
 
 ghost use Rattle.chip_link.specs.Laws.{TakesPrefix, ClaimsInOrder, NothingAfterSeal, WordTells, SealsAllClaims};
 ghost use Rattle.chip_link.specs.WordLaws.{EdgeWordReads, EdgeWordStands, AddsClaims, AddedReads, SealsWord};

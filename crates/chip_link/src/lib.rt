@@ -3,7 +3,7 @@
 //! An edge has a *word* (how many messages were claimed, and whether it is sealed) and a ring of *cells*, each 0 or
 //! the count of chips of one message. The tail looks for an empty cell, claims a place by one compare-and-exchange
 //! of the word, and puts the count into the cell. The head swaps its next cell with 0. A seal sets the top bit of
-//! the word, after which every claim is refused. `laws` says what comes of it, whatever the order of the steps.
+//! the word: every later claim is refused. `laws` says what follows, whatever the order of the steps.
 #![tactic(auto)]
 
 mod event;

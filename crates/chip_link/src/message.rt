@@ -4,6 +4,6 @@ pub struct Message {
     pub edge: u64,
     /// How many messages were sent on this edge before it.
     pub place: u64,
-    /// How many chips it carries, at least 1.
+    /// How many chips it has, at least 1.
     pub count: u64,
 }

@@ -27,7 +27,7 @@ impl Model for Ring {
 impl Ring {
     ghost use Rattle.chip_link.specs.Rings.{IsRing, ring_of};
 
-    /// A ring of so many cells, where that is in range.
+    /// A ring of 1 to `MAX_RING` cells, or else `None`.
     pub fn new(cells: u64) -> Option<Ring>
         ensures { result ≡ ring_of cells }
     {
@@ -37,7 +37,7 @@ impl Ring {
         Some(Ring::of(cells))
     }
 
-    /// The ring of so many cells, a number in range.
+    /// A ring of 1 to `MAX_RING` cells.
     pub fn of(cells: u64) -> Ring
         requires { IsRing cells }
         ensures { result ≡ cells }

@@ -32,11 +32,11 @@ enum Stage {
     Clear,
     /// A message is claimed and not put.
     Held,
-    /// A claim was refused by a seal: nothing is sent any more.
+    /// A seal refused a claim: nothing more is sent.
     Refused,
 }
 
-/// No place from here on is claimed, so that a count of claims stays far below the seal's bit.
+/// No place from here on is claimed, so a count of claims stays far below the seal's bit.
 const MOST_CLAIMS: u64 = 1 << 62;
 
 impl Model for TailLink {
@@ -60,7 +60,7 @@ impl Model for TailLink {
 }
 
 impl TailLink {
-    /// The tail of an edge on which nothing was sent, with a ring of so many cells.
+    /// The tail of an edge on which nothing was sent, whose ring has `ring` cells, 1 to 64.
     pub fn new(edge: u64, ring: u64) -> TailLink
         requires { IsRing ring }
         ensures { result ≡ new_tail edge ring }
@@ -75,14 +75,14 @@ impl TailLink {
         }
     }
 
-    /// The edge that it is an end of.
+    /// The number of its edge.
     pub fn edge(&self) -> u64
         ensures { result ≡ self.now.edge }
     {
         self.edge
     }
 
-    /// The cell of the next place to claim, from 0.
+    /// The cell of the next place to claim, 0 to below the cells of the ring.
     pub fn cell(&self) -> u64
         ensures cell { result ≡ tail_cell self.now }
         ensures inside { result < self.now.ring }
@@ -90,8 +90,8 @@ impl TailLink {
         u64::from(self.cell)
     }
 
-    /// Notes what was found in that cell, and says whether a claim may follow. It may not, and nothing changes,
-    /// while a message is claimed and not put, after a refusal, and once 2^62 places are claimed.
+    /// Notes what was found in that cell, and says whether a claim may follow. It may not, and nothing changes, while a
+    /// message is claimed and not put, after a refusal, and after 2^62 claims.
     pub fn cleared(&mut self, old_cell: u64) -> bool
         ensures answer { result ≡ (may_clear self.old && old_cell == 0) }
         ensures after { self.new ≡ tail_after_clear old_cell self.old }
@@ -118,7 +118,7 @@ impl TailLink {
     }
 
     /// Notes the word that the claim's exchange saw, for a message of `count` chips, 1 to 2^40.
-    /// The message is sent where that was the expected word; else the edge is sealed, and the refusal is noted.
+    /// If that was the expected word, the message is sent. Else the edge is sealed, and the refusal is noted.
     pub fn claimed(&mut self, old_word: u64, count: u64) -> Option<Message>
         requires clear { IsTrue self.old.clear }
         requires word { claims_in old_word ≡ self.old.claims }
@@ -143,8 +143,7 @@ impl TailLink {
         })
     }
 
-    /// The place that may be claimed next where this is in the cell of that place. `None` where no claim may follow.
-    /// Nothing is noted.
+    /// The place that may be claimed next if this is in its cell, or `None` if no claim may follow. Nothing is noted.
     pub fn place_for(&self, old_cell: u64) -> Option<u64>
         ensures place { result ≡ place_for old_cell self.now }
         ensures small { IfSome result (λ place. place < 2 ^ 62) }
@@ -169,7 +168,7 @@ impl TailLink {
         self.stage = Stage::Idle;
     }
 
-    /// The cell and the value of the message that is claimed and not put. `None` where there is none.
+    /// The cell and the value of the message that is claimed and not put, if there is one.
     pub fn held(&self) -> Option<(u64, u64)>
         ensures value { result ≡ put_of self.now }
         ensures inside { IfSome result (λ stored. stored.0 < self.now.ring) }
@@ -192,7 +191,7 @@ impl TailLink {
         Some(stored)
     }
 
-    /// Whether a claim was refused by a seal, after which nothing is sent any more.
+    /// Whether a seal refused a claim. After that nothing more is sent.
     pub fn refused(&self) -> bool
         ensures { result ≡ self.now.refused }
     {

@@ -1,4 +1,4 @@
-/// What a vertex writes down of its own run, in order.
+/// A row of what a vertex records of its own run, in order.
 #[derive(Clone, Copy, PartialEq, Eq)]
 pub enum TraceRow {
     /// It took a message of `count` chips from `edge`.

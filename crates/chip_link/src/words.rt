@@ -7,7 +7,7 @@ ghost use Rattle.chip_link.specs.Words.{is_by_limit_in, is_fired_word, halt_bits
 pub struct EdgeWord {
     /// How many messages were claimed on the edge.
     pub claims: u64,
-    /// Whether the edge is sealed, so that every further claim is refused.
+    /// Whether the edge is sealed: every later claim is refused.
     pub sealed: bool,
     pub ghost in_range: { claims < 2 ^ 63 },
 }
@@ -64,7 +64,7 @@ impl FiredWord {
 
     const LIMIT: u64 = 1 << 62;
 
-    /// What a halt sets in the word, by a `fetch_or`: more bits where the limit is its cause.
+    /// What a halt sets in the word, by a `fetch_or`: more bits if the limit is its cause.
     pub fn halt_bits(by_limit: bool) -> u64
         ensures { result ≡ halt_bits by_limit }
     {
@@ -91,7 +91,7 @@ impl FiredWord {
         }
     }
 
-    /// The value that a word stands for. `None` where it stands for none: a limit that is met, and no halt.
+    /// The value that a word stands for, or `None` if it has the limit's bit and no halt.
     #[tactic(auto, using(crate::proofs::WordLawsLemmas::limit_stands))]
     pub fn from_word(word: u64) -> Option<FiredWord>
         ensures some { is_some result ≡ is_fired_word word }

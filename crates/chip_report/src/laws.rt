@@ -2,7 +2,7 @@
 
 ghost use Rattle.chip_report.specs.Laws.{OneOutcome, RoundTrip, OneSitting, RoundTripTwo, NotBoth};
 
-/// A report tells its outcome.
+/// A report has one outcome.
 pub fn one_outcome()
     ensures { OneOutcome }
 {}
@@ -12,7 +12,7 @@ pub fn round_trip()
     ensures { RoundTrip }
 {}
 
-/// A report of a sitting that went on tells that sitting, is read back as it, and is no report of a first one.
+/// A report of a sitting that went on has that sitting alone, is read back as it, and is no report of a first one.
 pub fn sittings()
     ensures one_sitting { OneSitting }
     ensures round_trip { RoundTripTwo }

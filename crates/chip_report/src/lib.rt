@@ -1,6 +1,6 @@
 //! The report of an outcome, written and read, and exact writing.
 //!
-//! A report is one line of compact JSON (`specs/ReportText.antt`), made whole before anything of it is written. Only
+//! A report is one line of compact JSON (`specs/ReportText.antt`), made whole before its first byte is written. Only
 //! the report of an outcome that a game can have is read (`specs/Reportable.antt`).
 #![tactic(auto)]
 

@@ -1,4 +1,4 @@
-//! The lists of numbers in a text, whether or not it is a report.
+//! The lists of numbers in a text, be it a report or not.
 
 ghost use Rattle.std.specs.Prelude.{◌≡◌, ◌≤◌, length, IsUtf8, MatchOption};
 ghost use Rattle.chip_report.specs.Reportable.{Gives};
@@ -27,7 +27,7 @@ impl<'t> Lists<'t> {
         }
     }
 
-    /// Takes the numbers between the next brackets, if they are at most so many.
+    /// Takes the numbers between the next brackets, if they are at most `most`.
     pub(crate) fn take(&mut self, alloc: Global, most: u64) -> Result<Vec<u64>, ReportFault>
         ensures { Gives (λ numbers. (numbers.items ≡ numbers_of (first_list self.old.rest.now))
             × (self.new.rest.now ≡ text_behind_list self.old.rest.now) × (length numbers.items ≤ most))
@@ -44,7 +44,7 @@ impl<'t> Lists<'t> {
     }
 }
 
-/// The numbers of a list, if they are at most so many.
+/// The numbers of a list, if they are at most `most`.
 fn numbers_of(alloc: Global, most: u64, list: &str) -> Result<Vec<u64>, ReportFault>
     ensures { Gives (λ numbers. (numbers.items ≡ numbers_of list.now) × (length numbers.items ≤ most))
         (IsNoList most list.now) result }

@@ -1,4 +1,4 @@
-//! Reading a report: exactly what is written as one, and nothing else.
+//! Reading a report: exactly what is written as one.
 
 ghost use Rattle.std.specs.Prelude.{◌≡◌, IfOk};
 ghost use Rattle.chip_graph.specs.Limits.{standard};
@@ -57,8 +57,8 @@ pub fn read_any_within(alloc: Global, limits: Limits, bytes: &[u8]) -> Result<Re
 
 /// The sitting whose report the bytes are, as one that went on or as a first one.
 ///
-/// The numbers are those in the brackets, whatever else the bytes have; writing their report anew shows whether the
-/// bytes are it.
+/// The numbers come from the brackets, whatever else the bytes have. Their report is written again, and shows whether
+/// the bytes are it.
 fn read_version(
     alloc: Global,
     limits: Limits,
@@ -90,8 +90,7 @@ fn text_of(alloc: Global, went_on: bool, resumed: &Resumed) -> Result<Vec<u8>, A
     }
 }
 
-/// The sitting that a text tells, if it is a report within the limits. What was fired before a first one is in no
-/// list.
+/// The sitting of a text, if it is a report within the limits. No list has what was fired before a first one.
 fn sitting_of_text(
     alloc: Global,
     limits: Limits,

@@ -1,4 +1,4 @@
-//! A writer of one output, that counts what is asked of it.
+//! A writer of one output, which counts its writes.
 
 ghost use Rattle.std.specs.Prelude.{◌≡◌, ◌+◌, ◌^◌, ◌<◌, true};
 ghost use Rattle.std.specs.Io.{WritesAtMost};
@@ -21,7 +21,7 @@ pub enum LastWrite {
     Failure,
 }
 
-/// A writer of one output, which counts the writes that are made to it and notes how the last one went.
+/// A writer of one output, which counts its writes and notes how the last one went.
 #[derive(Drop)]
 pub struct Sink<'w, W> {
     writer: &'w mut W,

@@ -7,7 +7,7 @@ ghost use Rattle.chip_report.specs.ReportTwo.{report_two_text};
 use chip_sequence::{Outcome, Resumed};
 use std::alloc::{AllocError, Global};
 
-/// The report of an outcome, ending in a newline.
+/// The report of an outcome (version 1), with its newline.
 pub fn report(alloc: Global, outcome: &Outcome) -> Result<Vec<u8>, AllocError>
     ensures { IfOk result (λ bytes. bytes.items ≡ report_text outcome.now) }
 {
@@ -17,7 +17,7 @@ pub fn report(alloc: Global, outcome: &Outcome) -> Result<Vec<u8>, AllocError>
     Ok(text.into_bytes())
 }
 
-/// The report of a sitting with what was fired before it, ending in a newline.
+/// The report of a sitting and what was fired before it (version 2), with its newline.
 pub fn report_two(alloc: Global, resumed: &Resumed) -> Result<Vec<u8>, AllocError>
     ensures { IfOk result (λ bytes. bytes.items ≡ report_two_text resumed.now) }
 {
@@ -48,7 +48,7 @@ pub fn is_closed(outcome: &Outcome) -> bool
     outcome.over.is_empty() && outcome.sealed.is_empty()
 }
 
-/// Appends a truth value behind its key.
+/// Appends a truth value after its key.
 fn push_bool(text: &mut String, key: &str, value: bool) -> Result<(), AllocError>
     ensures { IfOk result (λ _. string_bytes text.new ≡ string_bytes text.old ++ key.now ++ bool_text value) }
 {
@@ -56,7 +56,7 @@ fn push_bool(text: &mut String, key: &str, value: bool) -> Result<(), AllocError
     text.push_str(if value { "true" } else { "false" })
 }
 
-/// Appends numbers as a JSON array behind their key.
+/// Appends numbers as a JSON array after their key.
 fn push_list(text: &mut String, key: &str, numbers: &[u64]) -> Result<(), AllocError>
     ensures { IfOk result (λ _. string_bytes text.new ≡ string_bytes text.old ++ key.now ++ array_text numbers.now) }
 {
@@ -75,7 +75,7 @@ fn push_array(text: &mut String, numbers: &[u64]) -> Result<(), AllocError>
     text.push_str("]")
 }
 
-/// Appends a number as the member of an array behind so many others.
+/// Appends a number to an array that has `before` members.
 fn push_member(text: &mut String, before: usize, number: u64) -> Result<(), AllocError>
     ensures { IfOk result (λ _. string_bytes text.new ≡ string_bytes text.old ++ member_text before number) }
 {

@@ -1,4 +1,4 @@
-//! Exact writing: all the bytes, or a fault that says how many went out.
+//! Exact writing: all the bytes, or a fault that says how many were written.
 
 ghost use Rattle.std.specs.Prelude.{◌≡◌, ◌≤◌, length, is_ok};
 ghost use Rattle.chip_report.specs.Sink.{IsFresh, bytes_out, goes_on, last_write, writes};
@@ -12,14 +12,14 @@ use thiserror::Error;
 #[derive(Clone, Copy, Debug, PartialEq, Eq, Error)]
 #[error("a write failed after {written} bytes")]
 pub struct WriteFault {
-    /// How many bytes went out before.
+    /// How many bytes were written before.
     pub written: u64,
 }
 
-/// Writes all the bytes, by as many writes as the writer needs, and in the sink how many these were.
+/// Writes all the bytes, by as many writes as the writer needs. The sink counts them.
 ///
-/// A write that fails for whatever reason, an interruption among them, is a fault, and so is one that takes no byte. No
-/// write is made after either.
+/// A write that fails for whatever reason, also an interruption, is a fault, and so is one that takes no byte. No write
+/// follows it.
 pub fn write_all_to<W: Write>(sink: &mut Sink<'_, W>, bytes: &[u8]) -> Result<(), WriteFault>
     requires { IsFresh sink.old }
     ensures bytes { WritesAll (bytes_out W.contents sink.old) (bytes_out W.contents sink.new) bytes.now result }

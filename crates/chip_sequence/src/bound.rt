@@ -5,8 +5,8 @@ ghost use Rattle.chip_sequence.specs.Bound.{greatest_degree, IsGreatestDistance,
 use chip_graph::Graph;
 use chip_graph::game::MAX_LIMIT;
 
-/// A limit that no vertex reaches while it is legal, on this graph and with so many chips: the firing
-/// bound at the greatest distance from the sink. `None` where that is above 2^40, the greatest limit.
+/// A limit that stops no vertex of this graph if the game has `total` chips: the firing bound at the greatest distance
+/// from the sink. `None` if that is above 2^40, the greatest limit.
 pub fn enough(graph: &Graph, total: u64) -> Option<u64>
     requires { total ≤ max_total }
     ensures { (distance : ℕ) × IsGreatestDistance graph.now distance

@@ -9,10 +9,10 @@ use chip_graph::{Game, Graph};
 use std::alloc::{AllocError, Global};
 use thiserror::Error;
 
-/// Why counts lead to no position.
+/// Why counts (an odometer) lead to no position.
 #[derive(Clone, Copy, Debug, Error)]
 pub enum AfterFault {
-    /// This vertex would have fired more chips than it ever got, and it is the least such vertex.
+    /// This vertex would have sent more chips than it had and got. It is the least such vertex.
     #[error("vertex {0} would be below 0")]
     Negative(u64),
     /// Memory ran out.
@@ -45,9 +45,8 @@ impl From<AllocError> for AfterFault {
     }
 }
 
-/// The chips of each vertex once each has fired as often as `fired` says, in whatever order.
-///
-/// Any counts may be asked for: nothing says that some firing sequence has them.
+/// The chips of each vertex after each fired as often as `fired` says, in whatever order. The counts may be any, also
+/// those of no firing sequence.
 pub fn after(alloc: Global, game: &Game, fired: &[u64]) -> Result<Vec<u64>, AfterFault>
     requires { length fired.now ≡ game.now.graph.vertices }
     ensures { MatchResult result (λ chips. IsAfter game.now fired.now chips.items)
@@ -58,8 +57,8 @@ pub fn after(alloc: Global, game: &Game, fired: &[u64]) -> Result<Vec<u64>, Afte
     Ok(chips)
 }
 
-/// What `after` answers, written into a slice that has a number for each vertex; it takes no memory.
-/// The slice stays as it was where some vertex would be below 0.
+/// What `after` answers, written into a slice with a number for each vertex. This takes no memory. If there is a fault,
+/// the slice stays as it was.
 pub fn after_into(game: &Game, fired: &[u64], into: &mut [u64]) -> Result<(), AfterFault>
     requires counts_each { length fired.now ≡ game.now.graph.vertices }
     requires chips_each { length into.old ≡ game.now.graph.vertices }
@@ -69,7 +68,7 @@ pub fn after_into(game: &Game, fired: &[u64], into: &mut [u64]) -> Result<(), Af
     after_from(game.graph(), game.start(), fired, into)
 }
 
-/// The same of a graph and the chips of each vertex at the start, 2^40 in all at most.
+/// The same for a graph and the chips of each vertex at the start, at most 2^40 in all.
 pub fn after_from(
     graph: &Graph,
     start: &[u64],
@@ -113,7 +112,7 @@ fn first_negative(graph: &Graph, start: &[u64], fired: &[u64]) -> Option<u64>
     None
 }
 
-/// How many chips a vertex ever has, at the start and along its edges, and how many its firings take away.
+/// How many chips a vertex has at the start and gets along its edges, and how many its firings take.
 fn income_and_cost(graph: &Graph, start: &[u64], fired: &[u64], vertex: u64) -> (u128, u128)
     requires is_vertex { vertex < graph.now.vertices }
     requires start_each { length start.now ≡ graph.now.vertices }

@@ -7,7 +7,7 @@ ghost use Rattle.chip_sequence.specs.Sequence.{position_after};
 use chip_graph::{Edge, Graph};
 use thiserror::Error;
 
-/// A vertex that may not fire so often: it is the sink, or has not the chips, or is to fire no times.
+/// A vertex may not fire (topple) this often: it is the sink, has too few chips, or is to fire 0 times.
 #[derive(Clone, Copy, Debug, Error)]
 #[error("the vertex is not legal")]
 pub struct NotLegal;
@@ -21,7 +21,7 @@ impl NotLegal {
     }
 }
 
-/// Fires a vertex `k` times in a row, where it may; else the position stays.
+/// Fires a vertex `k` times in a row, if it may. If not, the position stays as it was.
 pub fn fire(position: &mut [u64], graph: &Graph, vertex: u64, k: u64) -> Result<(), NotLegal>
     requires is_vertex { vertex < graph.now.vertices }
     requires one_each { length position.old ≡ graph.now.vertices }
@@ -43,8 +43,7 @@ pub fn fire(position: &mut [u64], graph: &Graph, vertex: u64, k: u64) -> Result<
     Ok(())
 }
 
-/// Fires a vertex `k` times in a row, where the caller knows that it has the chips for it: `fire` without its test,
-/// for a player that has just compared the chips.
+/// Fires a vertex `k` times in a row: `fire` without its test, for a player that has just compared the chips.
 #[inline]
 pub fn fire_batch(position: &mut [u64], graph: &Graph, vertex: u64, k: u64)
     requires graph_fits { IsGraph graph.now }

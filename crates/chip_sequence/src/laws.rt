@@ -1,7 +1,7 @@
 //! The laws of chip-firing: functions that do nothing, whose contracts are the laws.
 //!
-//! They speak of any directed multigraph and any position, limit and firing sequence on it; where a
-//! law needs the global sink it says so. `docs/GAME.md` goes through them in this order.
+//! They hold for any directed multigraph and any position, limit and firing sequence on it. If a law needs the global
+//! sink, it says so. `docs/GAME.md` goes through them in this order.
 
 ghost use Rattle.chip_sequence.specs.Worked.{SmallTriangle, OneChipShort};
 ghost use Rattle.chip_sequence.specs.Laws.{LegalVertices, PositionByCounts, Batch, Diamond, LeastAction, OneEnd};
@@ -75,25 +75,24 @@ pub fn more_chips()
     ensures { MoreChips }
 {}
 
-/// What is certified by whole numbers at each vertex is reached by every sequence that has ended.
+/// Every sequence that has ended reaches counts that whole numbers at each vertex certify.
 pub fn certified_counts()
     ensures { CertifiedCounts }
 {}
 
-/// What passes the burning test at each vertex is reached by every sequence that has ended: where no
-/// in-degree is above the degree.
+/// If no in-degree is above the degree, every sequence that has ended reaches counts that pass the burning test at each
+/// vertex.
 pub fn burnt_counts()
     ensures { BurntCounts }
 {}
 
-/// The burning test loses nothing where no in-degree is above the degree: what a sequence fires passes it,
-/// by the order in which its vertices fire for the last time.
+/// If no in-degree is above the degree, what a sequence fires passes the burning test, by the order in which its
+/// vertices fire for the last time.
 pub fn fired_burn()
     ensures { FiredBurn }
 {}
 
-/// The burning test for any graph: a sequence that could be played last takes the place of each vertex
-/// once.
+/// The burning test for any graph: a sequence that could be played last stands for each vertex once.
 pub fn script_counts()
     ensures { ScriptCounts }
 {}
@@ -103,7 +102,7 @@ pub fn playing_on()
     ensures { PlayingOn }
 {}
 
-/// Where nothing may go on, counts that must be reached are those of every whole play.
+/// If nothing may go on, counts that must be reached are the counts of every whole play.
 pub fn end_of_the_way()
     ensures { EndOfTheWay }
 {}

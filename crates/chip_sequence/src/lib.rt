@@ -1,7 +1,7 @@
 //! Chip-firing by itself: firings, firing sequences and their laws, positions by counts, and outcomes.
 //!
-//! Nothing here plays a game. The laws speak of every firing sequence, and of counts that every whole play must
-//! reach; who plays a game, by whatever order or guess, proves its outcome from them.
+//! Nothing here plays a game. The laws are about every firing sequence, and about counts that every whole play must
+//! reach. A player proves its outcome from them, whatever its order or guess.
 #![tactic(auto)]
 
 pub use bound::enough;

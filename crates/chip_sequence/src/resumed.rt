@@ -1,7 +1,7 @@
 use crate::outcome::Outcome;
 use std::alloc::{AllocError, Global};
 
-/// How often a vertex may have fired before a sitting, at most.
+/// The most that a vertex may have fired before a sitting: 2^60.
 pub const MAX_PRIOR: u64 = 1 << 60;
 
 /// How a sitting ended, and how often each vertex fired in the sittings before it.
@@ -9,7 +9,7 @@ pub const MAX_PRIOR: u64 = 1 << 60;
 pub struct Resumed {
     /// The last sitting's own outcome.
     pub outcome: Outcome,
-    /// One number for each vertex, up to 2^60.
+    /// A number for each vertex, 0 to `MAX_PRIOR`.
     pub prior: Vec<u64>,
 }
 

@@ -1,5 +1,5 @@
-ghost use Rattle.std.specs.Prelude.{◌≡◌, ◌≢◌, ℕ, ◌+◌, ◌<◌, ◌≤◌, ◌↔◌, nat_le, if◌then◌else◌, List, length, slice_index};
-ghost use Rattle.std.specs.Prelude.{IfOk, IsTrue, MatchOption};
+ghost use Rattle.std.specs.Prelude.{◌≡◌, ◌≢◌, ℕ, ◌+◌, ◌<◌, ◌≤◌, ◌↔◌, nat_le, if◌then◌else◌, length, slice_index};
+ghost use Rattle.std.specs.Prelude.{IfSome, IsTrue};
 ghost use Rattle.chip_graph.specs.Multigraph.{degree};
 ghost use Rattle.chip_graph.specs.ChipGame.{IsGame};
 ghost use Rattle.chip_sequence.specs.Counted.{IsAfter};
@@ -7,56 +7,46 @@ ghost use Rattle.chip_sequence.specs.Certificate.{AreForced, IsCertified, AreBur
 ghost use Rattle.chip_fire.specs.Rounds.{IsBegun};
 
 use chip_graph::{Game, Graph};
-use chip_sequence::{AfterFault, after};
-use std::alloc::{AllocError, Global};
+use chip_guess::burning_order;
+use chip_sequence::after;
+use std::alloc::Global;
 
-/// The position by these counts, where a test shows that every play within the limit that has ended
-/// fires each vertex at least so often: a play may begin there.
-///
-/// Any counts may be asked for, on top of some that every such play is known to reach. One test is
-/// passed where each vertex that fires beyond these lacks at most one chip then to fire once more; the
-/// other is the burning test, by these ranks, and finds more where no vertex has a greater in-degree
-/// than out-degree.
+/// A guess, or the counts to which a play has come if these are more, and their position, if a test shows that every
+/// play within the limit that has ended fires each vertex at least so often: a play may begin there. `None` also where
+/// memory runs out.
 pub(crate) fn certify(
     alloc: Global,
     game: &Game,
+    guess: &[u64],
     fired: &[u64],
-    counts: &[u64],
-    order: &[u64],
-) -> Result<Option<Vec<u64>>, AllocError>
+) -> Option<(Vec<u64>, Vec<u64>)>
     requires fired_each { length fired.now ≡ game.now.graph.vertices }
-    requires counts_each { length counts.now ≡ game.now.graph.vertices }
-    requires order_each { length order.now ≡ game.now.graph.vertices }
     requires within { (v : ℕ) → slice_index fired.now v ≤ game.now.limit }
     requires forced { AreForced game.now.graph (slice_index game.now.start) game.now.limit (slice_index fired.now) }
-    ensures { IfOk result
-        (λ found. MatchOption found
-        ((chips : List ℕ) → IsAfter game.now counts.now chips
-        → (IsCertified game.now.graph (slice_index game.now.start) game.now.limit
-        (slice_index fired.now) (slice_index counts.now) → ⊥)
-        × (AreBurnt game.now.graph (slice_index game.now.start) game.now.limit
-        (slice_index fired.now) (slice_index counts.now) (slice_index order.now) → ⊥))
-        (λ chips. IsBegun game.now chips.items counts.now)) }
+    ensures { IfSome result (λ begun. IsBegun game.now begun.0.items begun.1.items) }
 {
-    let chips = match after(alloc, game, counts) {
-        Ok(chips) => chips,
-        Err(AfterFault::Negative(_)) => return Ok(None),
-        Err(AfterFault::NoMemory) => return Err(AllocError),
-    };
-    if are_certified(game, fired, counts, order, &chips) {
-        return Ok(Some(chips));
+    let mut counts = Vec::from_slice(alloc, fired).ok()?;
+    raise(&mut counts, guess);
+    let chips = after(alloc, game, &counts).ok()?;
+    let order = burning_order(alloc, game.graph(), fired, &counts, &chips).ok()?;
+    if are_certified(game, fired, &counts, &order, &chips) {
+        Some((chips, counts))
+    } else {
+        None
     }
-    Ok(None)
 }
 
-/// Whether counts pass one of these tests, by the chips that they leave: a play may begin there if they do.
-pub(crate) fn are_certified(
-    game: &Game,
-    fired: &[u64],
-    counts: &[u64],
-    order: &[u64],
-    chips: &[u64],
-) -> bool
+/// Raises numbers that are below others to these.
+fn raise(numbers: &mut [u64], others: &[u64]) {
+    for (number, other) in numbers.iter_mut().zip(others) {
+        *number = (*number).max(*other);
+    }
+}
+
+/// Whether counts pass a test, by the chips that they leave. One is passed where each vertex that fires beyond `fired`
+/// lacks at most one chip then to fire once more; the other is the burning test, by these ranks, and finds more where no
+/// vertex has a greater in-degree than out-degree.
+fn are_certified(game: &Game, fired: &[u64], counts: &[u64], order: &[u64], chips: &[u64]) -> bool
     requires fired_each { length fired.now ≡ game.now.graph.vertices }
     requires counts_each { length counts.now ≡ game.now.graph.vertices }
     requires order_each { length order.now ≡ game.now.graph.vertices }

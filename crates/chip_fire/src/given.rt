@@ -5,12 +5,10 @@ ghost use Rattle.chip_sequence.specs.Certificate.{AreForced};
 ghost use Rattle.chip_fire.specs.Rounds.{IsAtRest, IsBegun};
 ghost use Rattle.chip_fire.specs.Given.{IsUse, TakesAll, TakesNone};
 
-use crate::certificate::are_certified;
-use crate::start::{jump, raise};
+use crate::certificate::certify;
 use crate::watch::{GivenUse, Watch};
 use chip_graph::Game;
-use chip_guess::{burning_order, lower_counts};
-use chip_sequence::after;
+use chip_guess::lower_counts;
 use std::alloc::Global;
 
 /// The counts that were given, if any were, and their position, or lower ones that are certified; where there are none,
@@ -29,53 +27,27 @@ pub(crate) fn use_given<W: Watch>(
     if given.is_empty() {
         return (chips, fired);
     }
-    let (chips, fired) = best_of(alloc, game, given, chips, fired);
+    let (chips, fired) = match best_of(alloc, game, given, &fired) {
+        Some(begun) => begun,
+        None => (chips, fired),
+    };
     let given_use = use_of(game, given, &chips, &fired);
     watch.used(game, given, &chips, &fired, given_use);
     (chips, fired)
 }
 
-/// The given counts, as they are or lowered, with their position; where they are not certified, the others.
-fn best_of(
-    alloc: Global,
-    game: &Game,
-    given: &[u64],
-    chips: Vec<u64>,
-    fired: Vec<u64>,
-) -> (Vec<u64>, Vec<u64>)
-    requires { IsBegun game.now chips.items fired.items }
-    ensures { IsBegun game.now result.0.items result.1.items }
-{
-    if let Some(begun) = as_they_are(alloc, game, given, &fired) {
-        return begun;
-    }
-    match lower_counts(alloc, game, given) {
-        Some(lowered) => jump(alloc, game, lowered, chips, fired),
-        None => (chips, fired),
-    }
-}
-
-/// The given counts and their position, where they are certified as they are: a few looks at each vertex and edge.
-fn as_they_are(
-    alloc: Global,
-    game: &Game,
-    given: &[u64],
-    fired: &[u64],
-) -> Option<(Vec<u64>, Vec<u64>)>
+/// The given counts and their position, as they are or lowered, if either are certified.
+fn best_of(alloc: Global, game: &Game, given: &[u64], fired: &[u64]) -> Option<(Vec<u64>, Vec<u64>)>
     requires fired_each { length fired.now ≡ game.now.graph.vertices }
     requires within { (v : ℕ) → slice_index fired.now v ≤ game.now.limit }
     requires forced { AreForced game.now.graph (slice_index game.now.start) game.now.limit (slice_index fired.now) }
     ensures { IfSome result (λ begun. IsBegun game.now begun.0.items begun.1.items) }
 {
-    let mut counts = vec![in alloc; 0; fired.len()].ok()?;
-    raise(&mut counts, given);
-    let position = after(alloc, game, &counts).ok()?;
-    let order = burning_order(alloc, game.graph(), &counts, &position).ok()?;
-    if are_certified(game, fired, &counts, &order, &position) {
-        Some((position, counts))
-    } else {
-        None
+    if let Some(begun) = certify(alloc, game, given, fired) {
+        return Some(begun);
     }
+    let lowered = lower_counts(alloc, game, given)?;
+    certify(alloc, game, &lowered, fired)
 }
 
 /// What became of counts that were given, by the chips and counts with which the play begins.

@@ -64,7 +64,8 @@ pub fn play_on<W: Watch>(
     ensures ended { IsAtRest game.now.graph game.now.limit result.0.items result.1.items }
 {
     let (mut chips, mut fired) = advance(alloc, game, chips, fired, watch);
-    play(game, &mut chips, &mut fired, watch);
+    let mut looks = 0u64;
+    'stretches: while rounds(game, STRETCH, &mut looks, &mut chips, &mut fired, watch) {}
     (chips, fired)
 }
 
@@ -86,16 +87,6 @@ pub fn outcome_at_rest(
         over,
         sealed: Vec::new(alloc),
     })
-}
-
-/// Makes rounds until none fires a vertex.
-fn play<W: Watch>(game: &Game, chips: &mut [u64], fired: &mut [u64], watch: &mut W)
-    requires { IsBegun game.now chips.old fired.old }
-    ensures begun { IsBegun game.now chips.new fired.new }
-    ensures ended { IsAtRest game.now.graph game.now.limit chips.new fired.new }
-{
-    let mut looks = 0u64;
-    'stretches: while rounds(game, STRETCH, &mut looks, chips, fired, watch) {}
 }
 
 /// The vertices that are legal, ascending.

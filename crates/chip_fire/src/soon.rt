@@ -4,7 +4,7 @@ ghost use Rattle.chip_fire.specs.Rounds.{IsBegun, IsInRange};
 use crate::rounds::ends_within;
 use crate::watch::Watch;
 use chip_graph::{Game, Graph};
-use chip_guess::tuning::{DOUBLINGS, FEW_LOOKS, FIRST_LOOKS};
+use chip_guess::tuning::{FEW_LOOKS, FIRST_LOOKS};
 
 /// Plays for as long as this takes it soon to an end: each time with twice the work, while that halves
 /// the chips that wait to move or the limit leaves little to do. Whether the play has ended. The looks are added to
@@ -24,7 +24,7 @@ pub(crate) fn ends_soon<W: Watch>(
     let few = looks_at_all(graph).saturating_mul(FEW_LOOKS);
     let mut work = looks_at_all(graph).saturating_mul(FIRST_LOOKS);
     let mut waited = u64::MAX;
-    'doublings: for _ in 0..DOUBLINGS {
+    'doublings: for _ in 0..u64::MAX {
         let waits = waiting_chips(graph, limit, chips, fired);
         if waits > waited / 2 && !leaves_little(limit, fired, *looks, few) {
             return false;
@@ -48,18 +48,13 @@ pub(crate) fn looks_at_all(graph: &Graph) -> u64
 /// Whether a play in which each vertex fires as often as the limit allows takes no more work than `few`,
 /// where so much was `done` for the firings so far.
 fn leaves_little(limit: u64, fired: &[u64], done: u64, few: u64) -> bool {
-    let mean = firings_of(fired) / (fired.len() as u64).max(1);
-    let product = |a: u64, b: u64| u128::from(a).wrapping_mul(u128::from(b));
-    product(done, limit) <= product(few, mean)
-}
-
-/// How often all vertices have fired, up to 2^64 - 1.
-pub(crate) fn firings_of(fired: &[u64]) -> u64 {
     let mut firings = 0u64;
     for times in fired {
         firings = firings.saturating_add(*times);
     }
-    firings
+    let mean = firings / (fired.len() as u64).max(1);
+    let product = |a: u64, b: u64| u128::from(a).wrapping_mul(u128::from(b));
+    product(done, limit) <= product(few, mean)
 }
 
 /// The chips that legal vertices have above what they may keep, up to 2^64 - 1.

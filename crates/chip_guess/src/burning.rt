@@ -1,5 +1,7 @@
+ghost use Rattle.std.specs.Prelude.{◌≡◌, ◌≤◌, ℕ, length, slice_index, IfOk};
+
 use crate::hierarchy::{Hierarchy, Kind};
-use crate::level::{Link, narrow};
+use crate::level::{Level, Link, Row, narrow};
 use crate::solver::{Progress, Target};
 use crate::tuning::{STALLED_STEPS, WALL_SPACING};
 use chip_graph::Graph;
@@ -13,19 +15,10 @@ struct Vertex {
     fires: i64,
     /// What comes in where each vertex that unfires fires once.
     comes: i64,
-    /// When it burnt, from 1 on; 0 where it did not.
-    rank: u32,
+    /// Whether it burnt.
+    is_burnt: bool,
     /// Whether its count stays as it is.
     is_pinned: bool,
-}
-
-/// What a vertex has when a test is passed.
-#[derive(Clone, Copy)]
-pub(crate) struct Passed {
-    /// How often it fires.
-    pub(crate) fires: i64,
-    /// When it burnt, from 1 on; 0 where it did not.
-    pub(crate) rank: u32,
 }
 
 /// Counts that are lowered until a test is passed.
@@ -40,8 +33,13 @@ pub(crate) struct Burning<'a> {
     /// The chips that the counts leave each vertex, less what its neighbours have taken back: it burns where this is
     /// not below 0.
     slacks: Vec<i64>,
-    /// The vertices that may burn, the last one next.
+    /// The vertices that burn in this step, the first one next: neighbours burn soon after each other.
     waiting: Vec<u32>,
+    /// The first vertex that unfires or into which something comes, and where such vertices end.
+    first: usize,
+    end: usize,
+    /// How many looks a step makes at most.
+    pub(crate) looks: u64,
     /// How many steps were made.
     pub(crate) steps: u64,
     /// In how many of them in a row no vertex burnt.
@@ -62,61 +60,57 @@ impl Vertex {
     /// Whether it has taken a firing back and did not burn.
     #[inline]
     fn is_unburnt(&self) -> bool {
-        self.rank == 0 && self.unfires()
+        !self.is_burnt && self.unfires()
     }
 }
 
 impl<'a> Burning<'a> {
-    /// No counts yet.
-    pub(crate) fn new(alloc: Global, hierarchy: &'a Hierarchy) -> Burning<'a> {
-        Burning {
+    /// Begins with these counts, rounded down; `None` where the position that they lead to does not fit 61 bits.
+    pub(crate) fn new(
+        alloc: Global,
+        hierarchy: &'a Hierarchy,
+        target: Target<'_>,
+        counts: &[f64],
+    ) -> Result<Option<Burning<'a>>, AllocError> {
+        let mut burning = Burning {
             hierarchy,
             vertices: Vec::new(alloc),
             slacks: Vec::new(alloc),
             waiting: Vec::new(alloc),
+            first: 0,
+            end: 0,
+            looks: 0,
             steps: 0,
             stalled: 0,
             unfired: 0,
             unburnt: 0,
-        }
-    }
-
-    /// Begins with these counts, rounded down; whether the position that they lead to fits 61 bits.
-    pub(crate) fn begin(&mut self, target: Target<'_>, counts: &[f64]) -> Result<bool, AllocError> {
-        self.vertices.clear();
-        self.slacks.clear();
-        for (fired, count) in target.fired.iter().zip(counts) {
-            self.slacks.push(0)?;
-            self.vertices.push(Vertex {
+        };
+        let given = target.game.start().iter().zip(target.fired).zip(counts);
+        for (row, ((chips, fired), count)) in hierarchy.finest.rows.iter().zip(given) {
+            let left = i128::from(*chips).wrapping_sub(times(row.degree, *count));
+            let left = left.wrapping_add(inflow(&hierarchy.finest, row, counts));
+            let Ok(slack) = i64::try_from(left) else {
+                return Ok(None);
+            };
+            burning.slacks.push(slack)?;
+            burning.vertices.push(Vertex {
                 fires: floor(*count).wrapping_sub(fired.cast_signed()),
                 comes: 0,
-                rank: 0,
+                is_burnt: false,
                 is_pinned: false,
             })?;
         }
-        let level = &self.hierarchy.finest;
-        let start = target.game.start().iter().zip(&mut self.slacks);
-        let mut fits = true;
-        for ((row, count), (chips, slack)) in level.rows.iter().zip(counts).zip(start) {
-            let mut left = i128::from(*chips).wrapping_sub(times(row.degree, *count));
-            for link in row.links(&level.links) {
-                if let Some(count) = counts.get(link.vertex as usize) {
-                    left = left.wrapping_add(times(link.chips(), *count));
-                }
-            }
-            match i64::try_from(left) {
-                Ok(left) => *slack = left,
-                Err(_) => fits = false,
-            }
-        }
-        self.begin_steps();
-        Ok(fits)
+        burning.begin_steps();
+        Ok(Some(burning))
     }
 
     /// Finds what comes in from all that unfire, of which none is unburnt.
     fn begin_steps(&mut self) {
         self.steps = 0;
         self.stalled = 0;
+        self.end = 0;
+        self.looks = 0;
+        let mut looks = 0u64;
         for vertex in 0..self.vertices.len() {
             let mut comes = 0i64;
             for link in self.hierarchy.finest.links_of(vertex) {
@@ -124,9 +118,19 @@ impl<'a> Burning<'a> {
                     comes = comes.wrapping_add(link.chips());
                 }
             }
-            if let Some(vertex) = self.vertices.get_mut(vertex) {
-                vertex.comes = comes;
-                vertex.rank = 1;
+            if let Some(own) = self.vertices.get_mut(vertex) {
+                own.comes = comes;
+                own.is_burnt = true;
+            }
+            if self.end == 0 {
+                self.first = vertex;
+                looks = 0;
+            }
+            let links = self.hierarchy.outs().links_of(vertex).len() as u64;
+            looks = looks.saturating_add(links).saturating_add(2);
+            if comes > 0 || self.unfires(vertex) {
+                self.end = vertex.saturating_add(1);
+                self.looks = looks;
             }
         }
     }
@@ -178,7 +182,7 @@ impl<'a> Burning<'a> {
     /// Has each vertex that fires take a firing back. Those that are unburnt lose the one that they took back before.
     fn unfire_all(&mut self) -> Result<(), AllocError> {
         self.unfired = 0;
-        for vertex in 0..self.vertices.len() {
+        for vertex in self.first..self.end {
             let gained = self.lower(vertex)?;
             let (Some(own), Some(slack)) = (
                 self.vertices.get_mut(vertex),
@@ -187,7 +191,7 @@ impl<'a> Burning<'a> {
                 continue;
             };
             *slack = slack.wrapping_add(gained).wrapping_sub(own.comes);
-            own.rank = 0;
+            own.is_burnt = false;
             if own.unfires() {
                 self.unfired = self.unfired.saturating_add(1);
                 if *slack >= 0 {
@@ -230,19 +234,19 @@ impl<'a> Burning<'a> {
     /// Burns the vertices that may burn, one after the other.
     fn burn(&mut self) -> Result<(), AllocError> {
         let outs = self.hierarchy.outs();
-        self.unburnt = self.unfired;
-        for rank in 1..u32::MAX {
-            let Some(vertex) = self.waiting.pop() else {
+        for next in 0..self.vertices.len() {
+            let Some(vertex) = self.waiting.get(next).copied() else {
                 break;
             };
-            self.unburnt = self.unburnt.saturating_sub(1);
             if let Some(own) = self.vertices.get_mut(vertex as usize) {
-                own.rank = rank;
+                own.is_burnt = true;
             }
             for link in outs.links_of(vertex as usize) {
                 bring(&self.vertices, &mut self.slacks, &mut self.waiting, *link)?;
             }
         }
+        self.unburnt = self.unfired.saturating_sub(self.waiting.len() as u64);
+        self.waiting.clear();
         Ok(())
     }
 
@@ -266,26 +270,19 @@ impl<'a> Burning<'a> {
     /// there was any.
     fn earn_all(&mut self) -> bool {
         let mut any = false;
-        for vertex in 0..self.vertices.len() {
-            any |= self.earn(vertex);
+        for vertex in self.first..self.end {
+            let degree = self.degree(vertex);
+            let fires = self.vertices.get(vertex).map_or(0, |own| own.fires);
+            let chips = self.slacks.get(vertex).copied().unwrap_or(0);
+            let lacks = degree.wrapping_sub(1).wrapping_sub(chips);
+            if fires <= 0 || lacks <= 0 || degree <= 0 {
+                continue;
+            }
+            let back = (lacks.wrapping_sub(1) / degree).wrapping_add(1);
+            self.fire(vertex, back.min(fires).wrapping_neg());
+            any = true;
         }
         any
-    }
-
-    /// Takes firings back from a vertex that fires and lacks more; whether it did.
-    fn earn(&mut self, vertex: usize) -> bool {
-        let degree = self.degree(vertex);
-        let (Some(own), Some(chips)) = (self.vertices.get(vertex), self.slacks.get(vertex)) else {
-            return false;
-        };
-        let lacks = degree.wrapping_sub(1).wrapping_sub(*chips);
-        if own.fires <= 0 || lacks <= 0 || degree <= 0 {
-            return false;
-        }
-        let back = (lacks.wrapping_sub(1) / degree).wrapping_add(1);
-        let back = back.min(own.fires).wrapping_neg();
-        self.fire(vertex, back);
-        true
     }
 
     /// Pins walls, whose counts stay as they are: the vertices at whose distance from the sink, divided by
@@ -323,11 +320,7 @@ impl<'a> Burning<'a> {
         if !own.unfires() {
             return None;
         }
-        let lost = if own.rank == 0 {
-            self.degree(vertex)
-        } else {
-            0
-        };
+        let lost = if own.is_burnt { 0 } else { self.degree(vertex) };
         Some((slack.wrapping_add(lost), own.fires))
     }
 
@@ -349,16 +342,32 @@ impl<'a> Burning<'a> {
         self.begin_steps();
     }
 
-    /// What each vertex has when a test is passed.
-    pub(crate) fn passed(&self, alloc: Global) -> Result<Vec<Passed>, AllocError> {
-        let mut passed = Vec::new(alloc);
-        for vertex in &self.vertices {
-            passed.push(Passed {
-                fires: vertex.fires,
-                rank: vertex.rank,
-            })?;
+    /// How often all vertices fire.
+    pub(crate) fn firings(&self) -> i64 {
+        let mut firings = 0i64;
+        for own in &self.vertices {
+            firings = firings.wrapping_add(own.fires);
         }
-        Ok(passed)
+        firings
+    }
+
+    /// The counts, where vertices had fired so often, up to a limit.
+    pub(crate) fn counts(
+        &self,
+        alloc: Global,
+        fired: &[u64],
+        limit: u64,
+    ) -> Result<Vec<u64>, AllocError>
+        ensures each { IfOk result (λ counts. length counts.items ≡ length fired.now) }
+        ensures within { IfOk result (λ counts. (v : ℕ) → slice_index counts.items v ≤ limit) }
+    {
+        let mut counts = Vec::new(alloc);
+        for (vertex, fired) in fired.iter().enumerate() {
+            let more = self.vertices.get(vertex).map_or(0, |own| own.fires);
+            let count = fired.saturating_add(more.max(0).cast_unsigned());
+            counts.push(count.min(limit))?;
+        }
+        Ok(counts)
     }
 }
 
@@ -370,6 +379,17 @@ fn floor(count: f64) -> i64 {
 /// So many chips, as often as a count says.
 fn times(chips: i64, count: f64) -> i128 {
     i128::from(chips).wrapping_mul(i128::from(floor(count)))
+}
+
+/// What these counts bring into a vertex.
+fn inflow(level: &Level, row: &Row, counts: &[f64]) -> i128 {
+    let mut sum = 0i128;
+    for link in row.links(&level.links) {
+        if let Some(count) = counts.get(link.vertex as usize) {
+            sum = sum.wrapping_add(times(link.chips(), *count));
+        }
+    }
+    sum
 }
 
 /// Brings a vertex what another one sends it along a link, and has it wait where it may burn by that.

@@ -1,5 +1,6 @@
 ghost use Rattle.std.specs.Prelude.{◌≡◌, ◌<◌, length};
 
+use crate::hierarchy::Kind;
 use crate::level::{Level, Link, Row};
 use std::alloc::{AllocError, Global};
 
@@ -39,15 +40,6 @@ enum Order {
     Descending,
 }
 
-/// How the factor is found by which a correction is made greater or smaller.
-#[derive(Clone, Copy)]
-pub(crate) enum LineSearch {
-    /// It has the least energy: where links go both ways.
-    Energy,
-    /// It leaves residuals whose sum is 0.
-    Mass,
-}
-
 impl Unknown {
     /// A count, or the bound that it is beyond.
     #[inline]
@@ -73,7 +65,7 @@ impl Unknown {
 
 /// A V-cycle over these problems, of which each is on the aggregates of the one before: smooths the counts, corrects
 /// them by the aggregates' own cycle, and smooths once more.
-pub(crate) fn v_cycle(problems: &mut [Problem<'_>], search: LineSearch) {
+pub(crate) fn v_cycle(problems: &mut [Problem<'_>], kind: Kind) {
     let Some((fine, coarser)) = problems.split_first_mut() else {
         return;
     };
@@ -84,12 +76,12 @@ pub(crate) fn v_cycle(problems: &mut [Problem<'_>], search: LineSearch) {
     if coarser.is_empty() {
         return;
     }
-    v_cycle(coarser, search);
+    v_cycle(coarser, kind);
     if let Some(coarse) = coarser.first() {
         fine.prolong(coarse);
     }
     fine.smooth(Order::Ascending);
-    fine.over_correct(search);
+    fine.over_correct(kind);
     fine.smooth(Order::Descending);
 }
 
@@ -203,16 +195,17 @@ impl<'a> Problem<'a> {
         }
     }
 
-    /// Makes a correction greater or smaller by one factor: aggregates that fire as one move too little.
-    fn over_correct(&mut self, search: LineSearch) {
+    /// Makes a correction greater or smaller by one factor: aggregates that fire as one move too little. It has the
+    /// least energy if links go both ways, and else leaves residuals whose sum is 0.
+    fn over_correct(&mut self, kind: Kind) {
         let mut had = 0.0;
         let mut sent = 0.0;
         let counts = self.counts.as_slice();
         let unknowns = self.unknowns.iter().zip(&self.before);
         for ((row, own), (unknown, before)) in self.level.rows.iter().zip(counts).zip(unknowns) {
-            let weight = match search {
-                LineSearch::Energy => *own - before.count,
-                LineSearch::Mass => 1.0,
+            let weight = match kind {
+                Kind::Symmetric => *own - before.count,
+                Kind::Balanced | Kind::General => 1.0,
             };
             let residual = row.residual(&self.level.links, counts, unknown.rhs, *own);
             had += weight * before.residual;

@@ -6,15 +6,6 @@ use crate::tuning::{CLEAR_LOSS, PATCH};
 use std::alloc::{AllocError, Global};
 use std::num::{nearest_i64_to_f64, nearest_u64_to_f64};
 
-/// Patches of a graph: vertices that lie together, on some level in one aggregate.
-#[derive(Drop)]
-struct Patches {
-    /// The patch of each vertex, if it is in one.
-    of: Vec<u32>,
-    /// How many there are.
-    count: usize,
-}
-
 /// What the vertices of a patch have that fire while counts are burnt.
 #[derive(Clone, Copy)]
 struct Sum {
@@ -25,59 +16,56 @@ struct Sum {
     vertices: f64,
 }
 
-impl Patches {
-    /// Patches of about `PATCH` vertices: the aggregates on the first level that has so few.
-    fn new(alloc: Global, hierarchy: &Hierarchy) -> Result<Patches, AllocError> {
-        let vertices = hierarchy.finest.rows.len();
-        let mut of = Vec::new(alloc);
-        for vertex in 0..vertices {
-            of.push(narrow(vertex))?;
-        }
-        let mut count = vertices;
-        let mut fine = &hierarchy.finest;
-        for level in &hierarchy.coarser {
-            if count <= vertices / PATCH {
-                break;
-            }
-            for patch in &mut of {
-                if let Some(aggregate) = fine.aggregates.get(*patch as usize) {
-                    *patch = *aggregate;
-                }
-            }
-            count = level.rows.len();
-            fine = level;
-        }
-        Ok(Patches { of, count })
+/// The patch of each vertex: of about `PATCH` vertices that lie together, the aggregates on the first level that has so
+/// few.
+fn patches_of(alloc: Global, hierarchy: &Hierarchy) -> Result<Vec<u32>, AllocError> {
+    let vertices = hierarchy.finest.rows.len();
+    let mut patches = Vec::new(alloc);
+    for vertex in 0..vertices {
+        patches.push(narrow(vertex))?;
     }
+    let mut fine = &hierarchy.finest;
+    for level in &hierarchy.coarser {
+        if fine.rows.len() <= vertices / PATCH {
+            break;
+        }
+        for patch in &mut patches {
+            if let Some(aggregate) = fine.aggregates.get(*patch as usize) {
+                *patch = *aggregate;
+            }
+        }
+        fine = level;
+    }
+    Ok(patches)
+}
 
-    /// The sums of each patch, where these counts were lowered.
-    fn sums(
-        &self,
-        alloc: Global,
-        burning: &Burning<'_>,
-        target: Target<'_>,
-        counts: &[f64],
-    ) -> Result<Vec<Sum>, AllocError> {
-        let none = Sum {
-            chips: 0.0,
-            degrees: 0.0,
-            lost: 0.0,
-            vertices: 0.0,
-        };
-        let mut sums = vec![in alloc; none; self.count]?;
-        let before = counts.iter().zip(target.fired);
-        for (vertex, (patch, (count, fired))) in self.of.iter().zip(before).enumerate() {
-            if let Some(sum) = sums.get_mut(*patch as usize) {
-                if let Some((chips, fires)) = burning.sample(vertex) {
-                    sum.chips += nearest_i64_to_f64(chips);
-                    sum.degrees += nearest_i64_to_f64(burning.degree(vertex));
-                    sum.lost += *count - nearest_u64_to_f64(*fired) - nearest_i64_to_f64(fires);
-                    sum.vertices += 1.0;
-                }
+/// The sums of each patch, where these counts were lowered.
+fn sums_of(
+    alloc: Global,
+    patches: &[u32],
+    burning: &Burning<'_>,
+    target: Target<'_>,
+    counts: &[f64],
+) -> Result<Vec<Sum>, AllocError> {
+    let none = Sum {
+        chips: 0.0,
+        degrees: 0.0,
+        lost: 0.0,
+        vertices: 0.0,
+    };
+    let mut sums = vec![in alloc; none; patches.len()]?;
+    let before = counts.iter().zip(target.fired);
+    for (vertex, (patch, (count, fired))) in patches.iter().zip(before).enumerate() {
+        if let Some(sum) = sums.get_mut(*patch as usize) {
+            if let Some((chips, fires)) = burning.sample(vertex) {
+                sum.chips += nearest_i64_to_f64(chips);
+                sum.degrees += nearest_i64_to_f64(burning.degree(vertex));
+                sum.lost += *count - nearest_u64_to_f64(*fired) - nearest_i64_to_f64(fires);
+                sum.vertices += 1.0;
             }
         }
-        Ok(sums)
     }
+    Ok(sums)
 }
 
 /// Fits target heights to what these counts, which were lowered between walls, leave in each patch. After the first fit
@@ -92,9 +80,9 @@ pub(crate) fn fit_heights(
     is_first: bool,
     heights: &mut [f64],
 ) -> Result<(), AllocError> {
-    let patches = Patches::new(alloc, hierarchy)?;
-    let sums = patches.sums(alloc, burning, target, counts)?;
-    for (vertex, (height, patch)) in heights.iter_mut().zip(&patches.of).enumerate() {
+    let patches = patches_of(alloc, hierarchy)?;
+    let sums = sums_of(alloc, &patches, burning, target, counts)?;
+    for (vertex, (height, patch)) in heights.iter_mut().zip(&patches).enumerate() {
         if let Some(sum) = sums.get(*patch as usize) {
             let degree = nearest_i64_to_f64(burning.degree(vertex));
             let full = (degree - 1.0).max(0.0);

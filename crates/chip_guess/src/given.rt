@@ -4,7 +4,6 @@ ghost use Rattle.std.specs.Prelude.{◌≡◌, length, IfOk, IfSome};
 
 use crate::burning::Burning;
 use crate::hierarchy::Hierarchy;
-use crate::search::{GuessedCounts, up_to};
 use crate::solver::{Progress, Target};
 use crate::tuning::AHEAD;
 use chip_graph::{Edge, Game, Graph};
@@ -13,9 +12,8 @@ use std::num::nearest_u64_to_f64;
 
 /// Counts that were given for a game, each up to its limit and 0 for the sink, lowered until they pass the test. `None`
 /// where many steps are too few for that, and where memory runs out. What is not given is 0.
-pub fn lower_counts(alloc: Global, game: &Game, given: &[u64]) -> Option<GuessedCounts>
-    ensures counts_each { IfSome result (λ guess. length guess.counts.items ≡ game.now.graph.vertices) }
-    ensures order_each { IfSome result (λ guess. length guess.order.items ≡ game.now.graph.vertices) }
+pub fn lower_counts(alloc: Global, game: &Game, given: &[u64]) -> Option<Vec<u64>>
+    ensures { IfSome result (λ counts. length counts.items ≡ game.now.graph.vertices) }
 {
     let graph = game.graph();
     let hierarchy = Hierarchy::flat(alloc, graph).ok()?;
@@ -25,17 +23,11 @@ pub fn lower_counts(alloc: Global, game: &Game, given: &[u64]) -> Option<Guessed
         game,
         fired: &fired,
     };
-    let mut burning = Burning::new(alloc, &hierarchy);
-    if !burning.begin(target, &counts).ok()? {
-        return None;
-    }
+    let mut burning = Burning::new(alloc, &hierarchy, target, &counts).ok()??;
     // A step looks about once at each vertex and edge.
     for _ in 0..AHEAD {
         match burning.step().ok()? {
-            Progress::Converged => {
-                let passed = burning.passed(alloc).ok()?;
-                return up_to(alloc, &passed, &fired, game.limit()).ok();
-            }
+            Progress::Converged => return burning.counts(alloc, &fired, game.limit()).ok(),
             Progress::Diverged => return None,
             Progress::Going => {}
         }
@@ -43,20 +35,21 @@ pub fn lower_counts(alloc: Global, game: &Game, given: &[u64]) -> Option<Guessed
     None
 }
 
-/// An order in which the vertices burn that fire by these counts and have these chips left: ranks from 1 on, and 0 for one
-/// that does not fire or does not burn. It looks about once at each vertex and at each edge whose tail fires.
+/// An order in which the vertices burn that fire more often by the counts than they have `fired`, by the chips that the
+/// counts leave: ranks from 1 on, and 0 for the others. It looks about once at each vertex, and at each edge out of these.
 pub fn burning_order(
     alloc: Global,
     graph: &Graph,
+    fired: &[u64],
     counts: &[u64],
     chips: &[u64],
 ) -> Result<Vec<u64>, AllocError>
     ensures { IfOk result (λ order. length order.items ≡ graph.now.vertices) }
 {
-    let mut comes = what_comes(alloc, graph, counts)?;
+    let mut slacks = slacks_of(alloc, graph, fired, counts, chips)?;
     let mut waiting = Vec::new(alloc);
-    for (vertex, (sum, (times, left))) in comes.iter().zip(counts.iter().zip(chips)).enumerate() {
-        if *times > 0 && *sum <= *left {
+    for (vertex, slack) in slacks.iter().enumerate() {
+        if *slack >= 0 {
             waiting.push(vertex as u64)?;
         }
     }
@@ -69,12 +62,10 @@ pub fn burning_order(
             *own = rank;
         }
         for edge in links_of(graph, vertex) {
-            let head = edge.head as usize;
-            let fires = counts.get(head).is_some_and(|times| *times > 0);
-            if let (Some(sum), Some(left)) = (comes.get_mut(head), chips.get(head)) {
-                let before = *sum;
-                *sum = before.wrapping_sub(edge.mult);
-                if fires && before > *left && *sum <= *left {
+            if let Some(slack) = slacks.get_mut(edge.head as usize) {
+                let before = *slack;
+                *slack = before.wrapping_add(edge.mult.cast_signed());
+                if before < 0 && *slack >= 0 {
                     waiting.push(edge.head)?;
                 }
             }
@@ -83,19 +74,34 @@ pub fn burning_order(
     Ok(order)
 }
 
-/// What comes into each vertex where each that fires by these counts fires once.
-fn what_comes(alloc: Global, graph: &Graph, counts: &[u64]) -> Result<Vec<u64>, AllocError> {
-    let mut comes = vec![in alloc; 0u64; graph.vertices() as usize]?;
-    for (vertex, times) in counts.iter().enumerate() {
-        if *times > 0 {
+/// The chips that the counts leave each vertex that fires, less what comes in where each of these fires once. The others
+/// have far less than comes in, so they do not burn.
+fn slacks_of(
+    alloc: Global,
+    graph: &Graph,
+    fired: &[u64],
+    counts: &[u64],
+    chips: &[u64],
+) -> Result<Vec<i64>, AllocError> {
+    let mut slacks = Vec::new(alloc);
+    for (left, (had, times)) in chips.iter().zip(fired.iter().zip(counts)) {
+        let least = i64::MIN / 2;
+        slacks.push(if times > had {
+            left.cast_signed()
+        } else {
+            least
+        })?;
+    }
+    for (vertex, (had, times)) in fired.iter().zip(counts).enumerate() {
+        if times > had {
             for edge in links_of(graph, vertex as u64) {
-                if let Some(sum) = comes.get_mut(edge.head as usize) {
-                    *sum = sum.wrapping_add(edge.mult);
+                if let Some(slack) = slacks.get_mut(edge.head as usize) {
+                    *slack = slack.wrapping_sub(edge.mult.cast_signed());
                 }
             }
         }
     }
-    Ok(comes)
+    Ok(slacks)
 }
 
 /// The edges out of a vertex, if it is there.

@@ -1,14 +1,10 @@
 ghost use Rattle.std.specs.Prelude.{◌≤◌};
 
-use crate::cycle::LineSearch;
-use crate::level::{Level, Link, NO_AGGREGATE, narrow};
+use crate::level::{Level, Link, NONE, narrow};
 use crate::solver::TargetHeight;
-use crate::tuning::{FREE_WEIGHT, LOOKS_OF_PHASE, MOST_LEVELS};
+use crate::tuning::{FREE_WEIGHT, LOOKS_OF_GRAPH, MOST_LEVELS};
 use chip_graph::Graph;
 use std::alloc::{AllocError, Global};
-
-/// No vertex, no aggregate or no place.
-const NONE: u32 = NO_AGGREGATE;
 
 /// What the links of a graph tell about the way to guess.
 #[derive(Clone, Copy)]
@@ -22,14 +18,6 @@ pub(crate) enum Kind {
 }
 
 impl Kind {
-    /// How corrections are scaled.
-    pub(crate) fn line_search(self) -> LineSearch {
-        match self {
-            Kind::Symmetric => LineSearch::Energy,
-            Kind::Balanced | Kind::General => LineSearch::Mass,
-        }
-    }
-
     /// The target heights that are tried, in order.
     pub(crate) fn heights(self) -> &'static [TargetHeight] {
         match self {
@@ -73,7 +61,7 @@ impl Hierarchy {
         ensures { looks.new ≤ most }
     {
         let size = graph.vertices().saturating_add(graph.edges().len() as u64);
-        if !spend(looks, size.saturating_mul(LOOKS_OF_PHASE), most) {
+        if !spend(looks, size.saturating_mul(LOOKS_OF_GRAPH), most) {
             return None;
         }
         let mut hierarchy = Hierarchy::flat(alloc, graph).ok()?;
@@ -101,10 +89,7 @@ impl Hierarchy {
 
     /// The graph by the links out of each vertex.
     pub(crate) fn outs(&self) -> &Level {
-        match &self.outs {
-            Some(outs) => outs,
-            None => &self.finest,
-        }
+        self.outs.as_ref().unwrap_or(&self.finest)
     }
 
     /// How many vertices and links there are on all levels.
@@ -258,10 +243,7 @@ fn strongest(links: &[Link], aggregates: &[u32]) -> u32 {
 /// The number of a vertex or an aggregate, or `NONE`.
 #[inline]
 fn at(numbers: &[u32], index: u32) -> u32 {
-    match numbers.get(index as usize) {
-        Some(number) => *number,
-        None => NONE,
-    }
+    numbers.get(index as usize).copied().unwrap_or(NONE)
 }
 
 /// Writes a number into a list where it has such an index.

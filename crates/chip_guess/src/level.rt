@@ -2,8 +2,8 @@ use chip_graph::{Edge, Graph};
 use std::alloc::{AllocError, Global};
 use std::num::nearest_i64_to_f64;
 
-/// No aggregate: that of the sink, and of a vertex into which no link leads.
-pub(crate) const NO_AGGREGATE: u32 = u32::MAX;
+/// No vertex, no place, or no aggregate, as that of the sink and of a vertex into which no link leads.
+pub(crate) const NONE: u32 = u32::MAX;
 
 /// An entry beside the diagonal: what a firing brings along a link.
 #[derive(Clone, Copy)]

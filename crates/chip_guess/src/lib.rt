@@ -11,7 +11,7 @@
 
 pub use given::{burning_order, lower_counts};
 pub use hierarchy::Hierarchy;
-pub use search::{GuessedCounts, Search};
+pub use search::Search;
 
 mod burning;
 mod cycle;

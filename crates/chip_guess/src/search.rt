@@ -1,16 +1,14 @@
-ghost use Rattle.std.specs.Prelude.{◌≡◌, ◌≤◌, ℕ, length, slice_index, IfOk};
+ghost use Rattle.std.specs.Prelude.{◌≡◌, ◌≤◌, ℕ, length, slice_index, IfSome};
 
-use crate::burning::{Burning, Passed};
+use crate::burning::Burning;
 use crate::fit::fit_heights;
 use crate::hierarchy::{Hierarchy, Kind, spend};
 use crate::solver::{Progress, Solver, Target};
-use crate::tuning::{
-    FIRST_RAISE, GREAT, LOOKS_OF_PHASE, STEPS_BEFORE_FIT, STEPS_OF_FIT, WALL_OFFSETS,
-};
+use crate::tuning::{FIRST_RAISE, GREAT, STEPS_BEFORE_FIT, STEPS_OF_FIT, WALL_OFFSETS};
 use chip_graph::Game;
 use std::alloc::{AllocError, Global};
 use std::mem;
-use std::num::{nearest_u64_to_f64, saturating_f64_to_u64};
+use std::num::nearest_u64_to_f64;
 
 /// What a search is at.
 #[derive(Drop)]
@@ -22,7 +20,7 @@ enum Stage<'a> {
     /// They are burnt until they pass.
     Burning(Burning<'a>),
     /// They passed, and nothing better is sought.
-    Found(Vec<Passed>),
+    Found(Burning<'a>),
     /// Nothing was found, and nothing more is tried.
     GivenUp,
 }
@@ -48,25 +46,14 @@ pub struct Search<'a> {
     fits: usize,
     /// Whether more may come of that.
     may_fit: bool,
-    /// The last counts that passed, or none.
-    passed: Vec<Passed>,
+    /// How often all vertices fire by the last counts that passed; 0 where none did.
+    passed: i64,
     /// How often more each vertex fires when counts pass.
     raise: i64,
-    /// How often all vertices fire by the first counts that were near.
-    firings: u64,
     /// How many steps were made.
     steps: u64,
     /// How often one phase ended and the next one began.
     phases: u64,
-}
-
-/// Counts, and an order of the vertices that may show that every play reaches them.
-#[derive(Drop)]
-pub struct GuessedCounts {
-    /// How often each vertex fires.
-    pub counts: Vec<u64>,
-    /// When each vertex burns, if all of them take one firing back: ranks from 1 on, and 0 where it does not.
-    pub order: Vec<u64>,
 }
 
 impl<'a> Search<'a> {
@@ -92,9 +79,8 @@ impl<'a> Search<'a> {
             tried: 0,
             fits: 0,
             may_fit: hierarchy.kind == Kind::Symmetric && fired.len() >= GREAT,
-            passed: Vec::new(alloc),
+            passed: 0,
             raise: FIRST_RAISE,
-            firings: 0,
             steps: 0,
             phases: 0,
         };
@@ -127,20 +113,15 @@ impl<'a> Search<'a> {
         Ok(false)
     }
 
-    /// The counts that were found, up to this limit; those of the start where none were.
-    pub fn found(
-        &self,
-        alloc: Global,
-        fired: &[u64],
-        limit: u64,
-    ) -> Result<GuessedCounts, AllocError>
-        ensures counts_each { IfOk result (λ guess. length guess.counts.items ≡ length fired.now) }
-        ensures order_each { IfOk result (λ guess. length guess.order.items ≡ length fired.now) }
-        ensures within { IfOk result (λ guess. (v : ℕ) → slice_index guess.counts.items v ≤ limit) }
+    /// The counts that were found, where each vertex had fired so often, up to this limit; `None` where none were, and
+    /// where memory runs out.
+    pub fn found(&self, alloc: Global, fired: &[u64], limit: u64) -> Option<Vec<u64>>
+        ensures each { IfSome result (λ counts. length counts.items ≡ length fired.now) }
+        ensures within { IfSome result (λ counts. (v : ℕ) → slice_index counts.items v ≤ limit) }
     {
         match &self.stage {
-            Stage::Found(passed) => up_to(alloc, passed, fired, limit),
-            _ => up_to(alloc, &[], fired, limit),
+            Stage::Found(burning) => burning.counts(alloc, fired, limit).ok(),
+            _ => None,
         }
     }
 
@@ -159,29 +140,27 @@ impl<'a> Search<'a> {
         }
     }
 
-    /// About how often all vertices fire from the start of the search on, up to 2^64 - 1; 0 while nothing is known
-    /// of it.
-    pub fn firings(&self) -> u64 {
-        self.firings
-    }
-
     /// What a step looks at at most: a cycle goes over each level five times, and over its vertices thrice more, and
-    /// twice over the finest one; a step of burning goes over the graph once, and over its vertices once more.
+    /// twice over the finest one.
     fn looks_of_step(&self) -> u64 {
-        let finest = &self.hierarchy.finest;
         match &self.stage {
-            Stage::Solving(_) => self
-                .hierarchy
-                .size()
-                .saturating_mul(6)
-                .saturating_add(finest.size().saturating_mul(2)),
-            _ => finest.size().saturating_add(finest.rows.len() as u64),
+            Stage::Fitting(burning) | Stage::Burning(burning) => burning.looks,
+            _ => {
+                let twice = self.hierarchy.finest.size().saturating_mul(2);
+                self.hierarchy
+                    .size()
+                    .saturating_mul(6)
+                    .saturating_add(twice)
+            }
         }
     }
 
-    /// What is looked at at most where one phase ends and the next one begins.
+    /// What is looked at at most where one phase ends and the next one begins, solving, burning or fitting: the graph
+    /// thrice, and its vertices ten times more.
     fn looks_of_phase(&self) -> u64 {
-        self.hierarchy.finest.size().saturating_mul(LOOKS_OF_PHASE)
+        let finest = &self.hierarchy.finest;
+        let vertices = (finest.rows.len() as u64).saturating_mul(10);
+        finest.size().saturating_mul(3).saturating_add(vertices)
     }
 
     /// Makes a step.
@@ -206,13 +185,6 @@ impl<'a> Search<'a> {
         self.begin_to_solve(alloc)
     }
 
-    /// Goes on with the next target heights.
-    fn try_next(&mut self, alloc: Global) -> Result<Stage<'a>, AllocError> {
-        self.may_fit = false;
-        self.tried = self.tried.saturating_add(1);
-        self.try_heights(alloc)
-    }
-
     /// Begins to solve for the target heights.
     fn begin_to_solve(&mut self, alloc: Global) -> Result<Stage<'a>, AllocError> {
         self.phases = self.phases.wrapping_add(1);
@@ -222,29 +194,37 @@ impl<'a> Search<'a> {
     }
 
     /// Makes a cycle, and begins to burn the counts where they are near.
-    fn solve(&mut self, alloc: Global, solver: Solver<'a>) -> Result<Stage<'a>, AllocError> {
-        let mut solver = solver;
+    fn solve(&mut self, alloc: Global, mut solver: Solver<'a>) -> Result<Stage<'a>, AllocError> {
         match solver.step() {
             Progress::Going => return Ok(Stage::Solving(solver)),
             Progress::Diverged => return Ok(Stage::GivenUp),
             Progress::Converged => {}
         }
-        self.phases = self.phases.wrapping_add(1);
         self.counts = solver.take_counts(alloc);
         drop(solver);
-        let mut burning = Burning::new(alloc, self.hierarchy);
-        if !burning.begin(self.target, &self.counts)? {
+        match self.begin_to_burn(alloc)? {
+            Some(burning) => Ok(Stage::Burning(burning)),
+            None => Ok(Stage::GivenUp),
+        }
+    }
+
+    /// Begins to burn the counts, if the position that they lead to is not too great.
+    fn begin_to_burn(&mut self, alloc: Global) -> Result<Option<Burning<'a>>, AllocError> {
+        self.phases = self.phases.wrapping_add(1);
+        Burning::new(alloc, self.hierarchy, self.target, &self.counts)
+    }
+
+    /// Begins to burn the counts between walls.
+    fn begin_to_fit(&mut self, alloc: Global, offset: u64) -> Result<Stage<'a>, AllocError> {
+        let Some(mut burning) = self.begin_to_burn(alloc)? else {
             return Ok(Stage::GivenUp);
-        }
-        if self.firings == 0 {
-            self.firings = firings_of(&self.counts, self.target.fired);
-        }
-        Ok(Stage::Burning(burning))
+        };
+        burning.pin(self.target.game.graph(), offset);
+        Ok(Stage::Fitting(burning))
     }
 
     /// Burns the counts between walls once, and solves for heights that are fitted to what is left after some times.
-    fn fit(&mut self, alloc: Global, burning: Burning<'a>) -> Result<Stage<'a>, AllocError> {
-        let mut burning = burning;
+    fn fit(&mut self, alloc: Global, mut burning: Burning<'a>) -> Result<Stage<'a>, AllocError> {
         let progress = burning.step()?;
         if progress == Progress::Going && burning.steps < STEPS_OF_FIT {
             return Ok(Stage::Fitting(burning));
@@ -266,22 +246,21 @@ impl<'a> Search<'a> {
     }
 
     /// Burns the counts once.
-    fn burn(&mut self, alloc: Global, burning: Burning<'a>) -> Result<Stage<'a>, AllocError> {
-        let mut burning = burning;
+    fn burn(&mut self, alloc: Global, mut burning: Burning<'a>) -> Result<Stage<'a>, AllocError> {
         match burning.step()? {
-            Progress::Converged => return self.pass(alloc, burning),
+            Progress::Converged => return Ok(self.pass(burning)),
             // Counts that are greater than some that passed come back to these.
-            Progress::Diverged if self.passed.is_empty() => {
+            Progress::Diverged if self.passed == 0 => {
                 drop(burning);
-                return self.try_next(alloc);
+                self.may_fit = false;
+                self.tried = self.tried.saturating_add(1);
+                return self.try_heights(alloc);
             }
             Progress::Going if self.may_fit && burning.steps >= STEPS_BEFORE_FIT => {
                 match WALL_OFFSETS.get(self.fits) {
                     Some(offset) if burning.is_far() => {
-                        self.phases = self.phases.wrapping_add(1);
-                        burning.begin(self.target, &self.counts)?;
-                        burning.pin(self.target.game.graph(), *offset);
-                        return Ok(Stage::Fitting(burning));
+                        drop(burning);
+                        return self.begin_to_fit(alloc, *offset);
                     }
                     _ => self.may_fit = false,
                 }
@@ -292,61 +271,18 @@ impl<'a> Search<'a> {
     }
 
     /// Keeps the counts that passed, and goes on from greater ones where they may be too low.
-    fn pass(&mut self, alloc: Global, burning: Burning<'a>) -> Result<Stage<'a>, AllocError> {
-        let mut burning = burning;
+    fn pass(&mut self, mut burning: Burning<'a>) -> Stage<'a> {
         self.phases = self.phases.wrapping_add(1);
-        let passed = burning.passed(alloc)?;
-        let is_same = sum_of(&passed) == sum_of(&self.passed);
+        let passed = burning.firings();
+        let is_same = passed == self.passed;
         self.may_fit = false;
         let may_rise = self.counts.len() >= GREAT && self.hierarchy.kind != Kind::General;
         if !may_rise || is_same || !burning.leaves_some_legal() {
-            return Ok(Stage::Found(passed));
+            return Stage::Found(burning);
         }
         self.passed = passed;
         burning.raise(self.raise, self.target);
         self.raise = self.raise.saturating_mul(2);
-        Ok(Stage::Burning(burning))
+        Stage::Burning(burning)
     }
-}
-
-/// About how often all vertices fire by these counts beyond what they had fired, up to 2^64 - 1.
-fn firings_of(counts: &[f64], fired: &[u64]) -> u64 {
-    let mut firings = 0.0;
-    for (count, fired) in counts.iter().zip(fired) {
-        firings += *count - nearest_u64_to_f64(*fired);
-    }
-    saturating_f64_to_u64(firings)
-}
-
-/// The sum of counts that passed.
-fn sum_of(passed: &[Passed]) -> i64 {
-    let mut sum = 0i64;
-    for passed in passed {
-        sum = sum.wrapping_add(passed.fires);
-    }
-    sum
-}
-
-/// The sums of these counts and of what vertices had fired, up to a limit.
-pub(crate) fn up_to(
-    alloc: Global,
-    passed: &[Passed],
-    fired: &[u64],
-    limit: u64,
-) -> Result<GuessedCounts, AllocError>
-    ensures counts_each { IfOk result (λ guess. length guess.counts.items ≡ length fired.now) }
-    ensures order_each { IfOk result (λ guess. length guess.order.items ≡ length fired.now) }
-    ensures within { IfOk result (λ guess. (v : ℕ) → slice_index guess.counts.items v ≤ limit) }
-{
-    let mut counts = Vec::new(alloc);
-    let mut order = Vec::new(alloc);
-    for (vertex, fired) in fired.iter().enumerate() {
-        let (more, rank) = match passed.get(vertex) {
-            Some(passed) => (passed.fires.max(0).cast_unsigned(), u64::from(passed.rank)),
-            None => (0, 0),
-        };
-        counts.push(fired.saturating_add(more).min(limit))?;
-        order.push(rank)?;
-    }
-    Ok(GuessedCounts { counts, order })
 }

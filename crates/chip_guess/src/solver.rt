@@ -1,5 +1,5 @@
-use crate::cycle::{LineSearch, Problem, Unknown, v_cycle};
-use crate::hierarchy::Hierarchy;
+use crate::cycle::{Problem, Unknown, v_cycle};
+use crate::hierarchy::{Hierarchy, Kind};
 use crate::tuning::{CYCLES_TO_HALVE, MOST_CYCLES, TOLERANCE};
 use chip_graph::Game;
 use std::alloc::{AllocError, Global};
@@ -59,7 +59,7 @@ pub(crate) enum Progress {
 pub(crate) struct Solver<'a> {
     /// The problem of the counts, and those of its corrections.
     problems: Vec<Problem<'a>>,
-    search: LineSearch,
+    kind: Kind,
     /// The residual that may be left.
     tolerance: f64,
     /// How many cycles were made.
@@ -100,7 +100,7 @@ impl<'a> Solver<'a> {
         }
         Ok(Solver {
             problems,
-            search: hierarchy.kind.line_search(),
+            kind: hierarchy.kind,
             tolerance: TOLERANCE * degrees,
             cycles: 0,
             norm: f64::INFINITY,
@@ -125,8 +125,8 @@ impl<'a> Solver<'a> {
             self.norm = norm;
         }
         self.cycles = self.cycles.saturating_add(1);
-        v_cycle(&mut self.problems, self.search);
-        if self.search == LineSearch::Mass {
+        v_cycle(&mut self.problems, self.kind);
+        if self.kind != Kind::Symmetric {
             if let Some(finest) = self.problems.first_mut() {
                 finest.rescale();
             }

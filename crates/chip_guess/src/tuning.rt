@@ -4,19 +4,13 @@
 /// How many looks at each vertex and edge a play makes before it is judged whether it ends soon. Doubled each time.
 pub const FIRST_LOOKS: u64 = 16;
 
-/// How often that work doubles at most: more than it takes to play any game.
-pub const DOUBLINGS: u64 = 40;
-
 /// How many looks at each vertex and edge are so few that no counts are searched, which takes about as many: grid-six
 /// and random-graph with limits.
 pub const FEW_LOOKS: u64 = 480;
 
-/// How many looks at each vertex and edge a search may be ahead of the play: about what reading the graph takes.
+/// How many looks at each vertex and edge a search may make beside two for each look of the play: about what reading the
+/// graph takes.
 pub const AHEAD: u64 = 160;
-
-/// Which part of the looks that the rest of the play would take a search may also be ahead, one by this number:
-/// random-graph with limits.
-pub const LEAD: u64 = 4;
 
 /// How many looks at each vertex and edge the search and the play make in each of their turns.
 pub const TURN: u64 = 16;
@@ -24,9 +18,8 @@ pub const TURN: u64 = 16;
 /// How many looks lie about between two times that it is told how far a play has come: some milliseconds.
 pub const STRETCH: u64 = 1 << 20;
 
-/// How many looks at each vertex and link at most are made where a search begins, and where it goes from one phase to
-/// the next: solving, burning, fitting.
-pub const LOOKS_OF_PHASE: u64 = 16;
+/// How many looks at each vertex and link at most are made before the levels are, and where a search begins.
+pub const LOOKS_OF_GRAPH: u64 = 16;
 
 /// How many levels there are at most: each has at most half as many vertices as the one before.
 pub const MOST_LEVELS: u32 = 64;

@@ -1,5 +1,10 @@
+use Rattle.std.proofs.Common.{◌≤◌}
 use Rattle.chip_fire.specs.Rounds.{IsBegun, IsShort}
 use Rattle.chip_fire.proofs.start.search_counts.Given as goal
 
 abbrev pub invariant-turns : goal.invariant-turns
-invariant-turns g l = record { begun : IsBegun l.game l.chips l.fired; short : IsShort l.game l.played l.searched }
+invariant-turns g l = record {
+  begun : IsBegun l.game l.chips l.fired;
+  short : IsShort l.game l.played l.searched;
+  below : l.searched ≤ l.part;
+}

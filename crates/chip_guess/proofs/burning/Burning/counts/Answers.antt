@@ -1,6 +1,6 @@
 use Rattle.std.proofs.Common.{ℕ, ◌+◌, ◌≤◌, List, length, slice_index, sym, ap, ◌∙◌, subst, arith}
 use Rattle.chip_guess.proofs.GuessLemmas.{length_more, within_more}
-use Rattle.chip_guess.proofs.search.up_to.Goals as goal
+use Rattle.chip_guess.proofs.burning.Burning.counts.Goals as goal
 
 pub loop-vertex-preserved : goal.loop-vertex-preserved
 loop-vertex-preserved c =
@@ -8,10 +8,8 @@ loop-vertex-preserved c =
     let pushed = c.in_ok-push.ensures.items in
     let least = c.min.ensures in
     record {
-      counts_each = ap length pushed ∙ length_more c.loop-vertex.counts.items c.min.result
-          ∙ ap (λ (n : ℕ). n + 1) so_far.counts_each;
-      order_each = ap length c.in_ok-push-2.ensures.items ∙ length_more c.loop-vertex.order.items _
-          ∙ ap (λ (n : ℕ). n + 1) so_far.order_each;
+      each = ap length pushed ∙ length_more c.loop-vertex.counts.items c.min.result
+          ∙ ap (λ (n : ℕ). n + 1) so_far.each;
       within = λ v. subst (λ (l : List ℕ). slice_index l v ≤ c.args.limit) (sym pushed)
           (within_more c.loop-vertex.counts.items c.min.result (λ w. c.args.limit) so_far.within (omega arith) v);
     }

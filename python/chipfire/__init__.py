@@ -47,8 +47,7 @@ and 8,388,608 edges. The argument `large` does nothing: what is large is seen by
 
 from chipfire import machine
 from chipfire.animation import Frames, frames, frames_by_chips
-from chipfire.burning import CHIPS_HEADER as CHIPS_HEADER
-from chipfire.chips import Chips, Configuration
+from chipfire.chips import CHIPS_HEADER as CHIPS_HEADER, Chips, Configuration
 from chipfire.dropped import Drops
 from chipfire.graphs import (
     Graph, aztec, complete, cycle, from_networkx, from_sage, grid, path, region, torus, wheel,

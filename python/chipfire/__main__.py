@@ -13,34 +13,29 @@ import sys
 from chipfire.detectors import DETECTORS
 from chipfire.layout import Point
 from chipfire.ledger import Disagreement
-from chipfire.machine import TRACE_HEADER, Setting, Simulation
+from chipfire.machine import TRACE_HEADER, Setting
 from chipfire.pages import page_text, recorded
 from chipfire.program import known_chips, known_graph, simulate
 from chipfire.values import begins, read_rows
 from chipfire.wrong import wrong_page_text
 
 
-def _simulation(asked: argparse.Namespace) -> Simulation:
-    game = (asked.graph, asked.chips, asked.events)
-    options = {"limit": asked.limit, "ring": asked.ring, "program": asked.program}
-    if begins(asked.events, TRACE_HEADER):
-        if asked.rounds is not None or asked.fed:
-            raise ValueError("--rounds and --fed go with a schedule; a trace is a run without them")
-        return recorded(*game, **options)
-    return simulate(*game, rounds=asked.rounds, fed=asked.fed, books=True, **options)
-
-
-def _positions(asked: argparse.Namespace) -> dict[int, Point] | None:
-    if asked.positions is None:
-        return None
-    rows = read_rows(asked.positions, ("vertex", "right", "down"))
+def _positions(file: str) -> dict[int, Point]:
+    rows = read_rows(file, ("vertex", "right", "down"))
     return {int(vertex): (float(right), float(down)) for vertex, right, down in rows}
 
 
 def _page(asked: argparse.Namespace) -> str:
-    return page_text(
-        _simulation(asked), title=asked.title or "A run of chipfire", positions=_positions(asked), program=asked.program
-    )
+    game = (asked.graph, asked.chips, asked.events)
+    options = {"limit": asked.limit, "ring": asked.ring, "program": asked.program}
+    if not begins(asked.events, TRACE_HEADER):
+        told = simulate(*game, rounds=asked.rounds, fed=asked.fed, books=True, **options)
+    elif asked.rounds is None and not asked.fed:
+        told = recorded(*game, **options)
+    else:
+        raise ValueError("--rounds and --fed go with a schedule; a trace is a run without them")
+    title = asked.title or "A run of chipfire"
+    return page_text(told, title=title, positions=asked.positions and _positions(asked.positions), program=asked.program)
 
 
 def _wrong(asked: argparse.Namespace) -> str:
@@ -48,12 +43,10 @@ def _wrong(asked: argparse.Namespace) -> str:
     if asked.game:
         if len(asked.game) != 2:
             raise ValueError("another game is GRAPH and CHIPS, two files")
-        graph, chips = asked.game
-        known = known_graph(graph, asked.program)
-        setting = Setting(known, known_chips(known, chips, asked.program))
-    return wrong_page_text(
-        asked.name, setting, title=asked.title, positions=_positions(asked), program=asked.program
-    )
+        known = known_graph(asked.game[0], asked.program)
+        setting = Setting(known, known_chips(known, asked.game[1], asked.program))
+    places = asked.positions and _positions(asked.positions)
+    return wrong_page_text(asked.name, setting, title=asked.title, positions=places, program=asked.program)
 
 
 def _arguments() -> argparse.ArgumentParser:
@@ -76,7 +69,7 @@ def _arguments() -> argparse.ArgumentParser:
         "wrong",
         help="a page of HTML on which a wrong detector says too early that all is over",
         description="Writes a page of the shortest schedule on which a wrong detector says too early that all is over, "
-        f"beside the right one. NAME is one of {', '.join(DETECTORS)}; where none is wrong, that is told.",
+        f"beside the right one. NAME is one of {', '.join(DETECTORS)}; if none is wrong, an error says so.",
     )
     wrong.add_argument("name", metavar="NAME", help="the detector")
     wrong.add_argument("game", metavar="GRAPH CHIPS", nargs="*", help="another game than that of the detector")

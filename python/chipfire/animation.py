@@ -1,7 +1,7 @@
 """Plays as animations: positions at growing limits, or by chips that are dropped, as a page with a slider or a GIF.
 
-Each position is an answer of the program, and proved: where every vertex may fire so often and no more, each order of
-the firings ends there. That the pictures show these positions is not proved.
+Each position is an answer of the program, and proved: if every vertex may fire so often and no more, each order of the
+firings ends there. That the pictures show these positions is not proved.
 """
 
 from __future__ import annotations
@@ -21,9 +21,9 @@ from chipfire.program import AnyGraph, AnyProgram, known_chips, known_graph, pla
 from chipfire.reports import Report
 from chipfire.values import FileName, own_text, whole, write
 
-#: How many limits there are, where they are not said.
+#: How many limits there are, if none are given.
 COUNT = 24
-#: Up to so many vertices plays go on side by side.
+#: Up to so many vertices plays go on side by side; more would take too much memory.
 _MOST_AT_ONCE = 200_000
 
 
@@ -61,12 +61,11 @@ class Frames:
     def page(self) -> str:
         """The text of a page with a slider: one file that loads nothing."""
         shown = [{"source": it.data(), "caption": caption} for it, caption in zip(self.pictures, self.captions())]
-        seen = set().union(*(row for picture in self.pictures for row in picture.rows))
-        first = self.pictures[0]
+        first, used = self.pictures[0], {it for picture in self.pictures for row in picture.rows for it in {*row}}
         return string.Template(own_text("web", "animation.html")).substitute(
             frames=json.dumps(shown).replace("<", "\\u003c"), last=len(self) - 1, source=shown[0]["source"],
             caption=html.escape(shown[0]["caption"]), columns=len(first.rows[0]), rows=len(first.rows),
-            legend=first.legend(seen),
+            legend=first.legend(used),
         )
 
     def _repr_html_(self) -> str:
@@ -77,10 +76,10 @@ def frames(
     graph: AnyGraph, chips: Chips, limits: Iterable[int] | None = None, *, columns: int | None = None,
     palette: Palette | None = None, large: bool = False, program: AnyProgram = None,
 ) -> Frames:
-    """The play of these chips as it stands at growing limits: where each vertex may fire so often at most.
+    """The play of these chips as it stands at growing limits: each vertex may fire so often at most.
 
-    Where the limits are not said, they are spread evenly from 0, the start, to the end of the play, 24 at most.
-    `columns` and `palette` are those of `Report.image`. Each limit is a play of its own.
+    Without `limits`, up to 24 are spread evenly from 0, the start, to the end of the play. `columns` and `palette` are
+    those of `Report.image`. Each limit is a play of its own.
     Proved: the position at each limit, which no order of the firings changes. Not proved: that the pictures show it.
     """
     graph, known = known_graph(graph, program), dict[int, Report]()
@@ -94,7 +93,6 @@ def frames(
     def at(limit: int) -> Report:
         return known.get(limit) or plain(graph, chips, limit=limit, program=program)
 
-    # (the plays of a graph of a million vertices would take too much memory side by side)
     with ThreadPoolExecutor(1 if graph.vertices > _MOST_AT_ONCE else os.cpu_count()) as pool:
         return _shown(limits, list(pool.map(at, limits)), columns, palette)
 

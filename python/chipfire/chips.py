@@ -1,22 +1,35 @@
-"""Configurations: the chips of all vertices but the sink."""
+"""Configurations: the chips of all vertices but the sink, and what the program is asked about them."""
 
 from __future__ import annotations
 
+import functools
+import json
 import operator
 from collections.abc import Callable, Hashable, Iterator, Mapping, Sequence
-from typing import TYPE_CHECKING, Any, Union
+from typing import TYPE_CHECKING, Any, TypeVar, Union
 
-from chipfire import burning, smith
+from chipfire import smith
 from chipfire.pictures import Drawn
-from chipfire.values import FileName, counted, whole
+from chipfire.process import Kept, ask
+from chipfire.values import MAX_CHIPS, FileName, counted, whole
 
 if TYPE_CHECKING:
     from chipfire.graphs import Graph
 
+T = TypeVar("T")
+CHIPS_HEADER = ("vertex", "chips")
+GUESS_HEADER = ("vertex", "fired")
 #: Numbers of vertices: by their names, as a dict or a Series of pandas; as an array of the graph's shape; one for each
-#: vertex, or for each but the sink; one for all; what a report has; or where the program is asked the name of a chips
-#: file. A vertex that is not named has 0.
+#: vertex, or for each but the sink; one for all; what a report has; or the name of a chips file. A vertex that is not
+#: named has 0.
 Chips = Union[int, Sequence[Any], Mapping[Any, int], Any]
+
+
+def chips_text(chips: Sequence[int], header: Sequence[str] = CHIPS_HEADER) -> str:
+    """The text of a chips file, or of a guess. (What is too much anyway becomes a number that the program reads.)"""
+    if max(chips, default=0) > MAX_CHIPS:
+        chips = [min(count, MAX_CHIPS + 1) for count in chips]
+    return "".join([",".join(header), "\n", *(f"{at},{count}\n" for at, count in enumerate(chips) if count)])
 
 
 class Configuration(Drawn, Mapping[Hashable, int]):
@@ -29,8 +42,11 @@ class Configuration(Drawn, Mapping[Hashable, int]):
     __array_ufunc__ = None  # (so that an array of NumPy and a configuration are added here)
 
     def __init__(self, graph: Graph, chips: Chips) -> None:
+        numbers = list(graph.numbers(chips))
+        if graph.sink < graph.vertices:
+            numbers[graph.sink] = 0
         self.graph: Graph = graph
-        self.numbers = tuple(burning.inner(graph, graph.numbers(chips)))
+        self.numbers = tuple(numbers)
 
     def __getitem__(self, name: Hashable) -> int:
         vertex = self.graph.number(name)
@@ -86,18 +102,16 @@ class Configuration(Drawn, Mapping[Hashable, int]):
 
     def stabilize(self, *, program: FileName | None = None) -> Configuration:
         """What lies there when no vertex can fire any more: `chipfire.stabilize`."""
-        return Configuration(self.graph, burning.stabilized(self.graph, self.numbers, program)[0])
+        return Configuration(self.graph, played(self, program)[0])
 
     def is_stable(self) -> bool:
         """Whether no vertex can fire: `chipfire.is_stable`."""
-        return all(map(operator.le, self.numbers, burning.most_stable(self.graph)))
+        return all(map(operator.le, self.numbers, self.graph.max_stable().numbers))
 
     def is_recurrent(self, *, program: FileName | None = None) -> bool:
         """Whether it is recurrent: `chipfire.is_recurrent`."""
-        if min(self.numbers) < 0:
-            return False
-        burning_one: Configuration = self + burning.burning(self.graph, program)[1]
-        return burning_one.stabilize(program=program) == self
+        more: Configuration = self + burning(self.graph, program)[1]
+        return min(self.numbers) >= 0 and more.stabilize(program=program) == self
 
     def is_superstable(self, *, program: FileName | None = None) -> bool:
         """Whether it is superstable: `chipfire.is_superstable`."""
@@ -105,7 +119,7 @@ class Configuration(Drawn, Mapping[Hashable, int]):
 
     def order(self) -> int:
         """How many times it is added to itself until that is equivalent to no chips. Nothing of this is proved."""
-        return smith.order_of(smith.reduced(self.graph), dict(enumerate(self.numbers)))
+        return smith.order_of(smith.reduced(self.graph), dict(enumerate(self.values())))
 
     def _values(self, of: str) -> Sequence[int]:
         if of != "chips":
@@ -114,3 +128,52 @@ class Configuration(Drawn, Mapping[Hashable, int]):
 
     def _title(self, of: str) -> str:
         return counted(self.degree, "chip")
+
+
+def played(chips: Configuration, program: FileName | None = None) -> tuple[list[int], list[int]]:
+    """What lies there when no vertex can fire any more, and how often each fired, by numbers. The program plays."""
+    if min(chips.numbers) < 0:
+        name = next(name for name, count in chips.items() if count < 0)
+        others = "recurrent_representative and superstable_representative take such chips"
+        raise ValueError(f"the chips of vertex {name!r} are below 0, so nothing is played; {others}")
+    files = [("graph", chips.graph.kept), ("chips", Kept([chips_text(chips.numbers).encode()]))]
+    told = json.loads(ask(program, "plain", files, graph=chips.graph))
+    if told["over"]:
+        raise ValueError("a vertex fired 2^40 times, and the chips are not stable then")
+    return told["chips"], told["fired"]
+
+
+def once(question: Callable[[Graph, FileName | None], T]) -> Callable[[Graph, FileName | None], T]:
+    """A question that is asked once of each graph and program; the graph keeps the answer."""
+
+    @functools.wraps(question)
+    def answer(graph: Graph, program: FileName | None) -> T:
+        key = question.__name__, program
+        if key not in graph.answers:
+            graph.answers[key] = question(graph, program)
+        found: T = graph.answers[key]
+        return found
+
+    return answer
+
+
+@once
+def burning(graph: Graph, program: FileName | None) -> tuple[Sequence[int], Sequence[int]]:
+    """The least burning script, and the chips that it takes away, by numbers.
+
+    It is one more than the counts of a play that begins with one chip less on each vertex than edges lead into it. (On
+    an undirected graph nobody fires in it.)
+    """
+    none = [0] * graph.vertices
+    entering = graph.position_after(graph.degrees(), [1] * graph.vertices)
+    start = Configuration(graph, [max(count - 1, 0) for count in entering])
+    fired = none if start.is_stable() else played(start, program)[1]
+    script = Configuration(graph, [count + 1 for count in fired]).numbers
+    return script, (-Configuration(graph, graph.position_after(none, script))).numbers
+
+
+@once
+def identity(graph: Graph, program: FileName | None) -> Sequence[int]:
+    """The recurrent identity, by numbers: with `m` the most stable chips, 2m less its stabilization, stabilized."""
+    twice = 2 * graph.max_stable()
+    return (twice - twice.stabilize(program=program)).stabilize(program=program).numbers

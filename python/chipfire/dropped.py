@@ -9,8 +9,7 @@ from collections.abc import Hashable, Iterable, Iterator
 from dataclasses import dataclass
 from typing import TYPE_CHECKING, Any
 
-from chipfire.burning import CHIPS_HEADER
-from chipfire.chips import Configuration
+from chipfire.chips import CHIPS_HEADER, Configuration
 from chipfire.reports import Report
 from chipfire.values import counted, library
 
@@ -32,8 +31,8 @@ class Drops:
     lost    how many chips the firings brought to the sink
     report  the report of all together: of a play from the chips at the start and those that were dropped
 
-    The columns are arrays of NumPy where it is installed, else of the standard library. A drop whose play was stopped
-    since a vertex has fired 2^40 times in all has no row, and is the last; `report.closed` is false then.
+    The columns are arrays of NumPy if it is installed, else of the standard library. If a vertex has fired 2^40 times
+    in all, that stops the play of a drop: the drop is the last, and has no row; `report.closed` is false then.
     """
 
     size: Any

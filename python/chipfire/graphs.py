@@ -12,7 +12,9 @@ from typing import Any, NamedTuple
 
 from chipfire.chips import Chips, Configuration
 from chipfire.process import Kept
-from chipfire.values import MAX_EDGES, MAX_MULT, MAX_VERTICES, FileName, library, whole
+from chipfire.values import (
+    MAX_EDGES, MAX_LARGE_EDGES, MAX_LARGE_VERTICES, MAX_MULT, MAX_VERTICES, FileName, whole, wholes,
+)
 
 #: Which squares lie beside one of a lattice, as (rows down, columns to the right) by the parity of its row and column.
 _BESIDE: dict[str, Sequence[Sequence[tuple[int, int]]]] = {
@@ -32,34 +34,18 @@ class Columns(NamedTuple):
     mults: array[int]
 
 
-def _columns(rows: Iterable[Sequence[Any]]) -> Columns:
+def _columns(edges: Iterable[Sequence[Any]]) -> Columns:
     """Rows (tail, head) or (tail, head, mult) by columns."""
-    rows = list(rows)
-    try:
-        found = Columns(*(array("i", [row[place] for row in rows]) for place in range(3)))
-        if min(itertools.chain(*found), default=0) >= 0 and {*map(len, rows)} <= {3}:
-            return found
-    except (IndexError, KeyError, OverflowError, TypeError):
-        pass
-    found = Columns(array("i"), array("i"), array("i"))
-    for index, row in enumerate(rows):
+    rows = []
+    for edge, row in enumerate(edges):
         if len(row) not in (2, 3):
-            raise ValueError(f"edge {index} is neither (tail, head) nor (tail, head, mult): {row!r}")
-        for column, value, what in zip(found, (*row, 1), ("tail", "head", "multiplicity")):
-            column.append(whole(value, f"the {what} of edge {index}", 0, 2**31 - 1))
-    return found
+            raise ValueError(f"edge {edge} is neither (tail, head) nor (tail, head, mult): {row!r}")
+        rows.append(row if len(row) == 3 else (*row, 1))
 
+    def column(place: int, what: str) -> array[int]:
+        return array("i", wholes([row[place] for row in rows], lambda edge: f"the {what} of edge {edge}", 0, 2**31 - 1))
 
-def _digits(numpy: Any, numbers: Any, end: bytes) -> Any:
-    """Numbers as rows of bytes, by an array of NumPy: their digits, with zero bytes before them, and an end behind."""
-    width = len(str(numbers.max()))
-    text = numpy.empty((len(numbers), width + len(end)), "u1")
-    text[:, width:] = numpy.frombuffer(end, "u1")
-    for place in reversed(range(width)):
-        left = numbers // 10
-        text[:, place] = (numbers - 10 * left + 48) * ((numbers > 0) | (place == width - 1))
-        numbers = left
-    return text
+    return Columns(column(0, "tail"), column(1, "head"), column(2, "multiplicity"))
 
 
 class Graph:
@@ -68,11 +54,11 @@ class Graph:
     vertices  how many there are; they have the numbers from 0 on
     sink      the number of the vertex that never fires
     edges     rows (tail, head) or (tail, head, mult); a firing of the tail sends `mult` chips, or one, to the head
-    names     what the vertices are called in dicts, by number; their numbers, if it is not said
+    names     what the vertices are called in dicts, by number; their numbers, if none are given
     shape     how many rows and columns a picture of it has, or None; `squares` has the place of each vertex in them,
-              by rows, but for a sink that is the last vertex and has none
+              by rows; a sink that is the last vertex has none
 
-    A graph is never changed. Whether it is one that chipfire takes, the program says: `check(graph)`.
+    A graph is never changed. The program says whether chipfire takes it: `check(graph)`.
     """
 
     vertices: int
@@ -80,24 +66,21 @@ class Graph:
     columns: Columns
     names: Sequence[Hashable]
     squares: Sequence[int]
+    #: What was found out about it.
     answers: dict[Any, Any]
 
     def __init__(
         self, vertices: int, sink: int, edges: Iterable[Sequence[int]], names: Sequence[Hashable] = (),
         shape: tuple[int, int] | None = None, squares: Sequence[int] | None = None,
     ) -> None:
-        known = vars(self)
-        known["answers"] = {}  # (what was found out about it)
-        known["vertices"] = whole(vertices, "the number of vertices")
-        known["sink"] = whole(sink, "the sink")
-        known["columns"] = edges if isinstance(edges, Columns) else _columns(edges)
-        names = tuple(names)
-        if names and (len(names) != self.vertices or len(set(names)) != self.vertices):
+        vertices, sink, names = whole(vertices, "the number of vertices"), whole(sink, "the sink"), tuple(names)
+        if names and not len(names) == len(set(names)) == vertices:
             raise ValueError("each vertex has one name, and no two the same")
-        known["names"] = names or range(self.vertices)
-        if shape is not None:
-            known["shape"] = shape
-        known["squares"] = range(self.vertices - (self.sink == self.vertices - 1)) if squares is None else squares
+        vars(self).update(
+            vertices=vertices, sink=sink, columns=edges if isinstance(edges, Columns) else _columns(edges),
+            names=names or range(vertices), answers={}, **({} if shape is None else {"shape": shape}),
+            squares=range(vertices - (sink == vertices - 1)) if squares is None else squares,
+        )
 
     def __setattr__(self, name: str, value: Any) -> None:
         raise AttributeError("a graph is never changed: make another one")
@@ -124,7 +107,7 @@ class Graph:
 
     @property
     def is_large(self) -> bool:
-        """Whether there are more than 4,096 vertices or 65,536 edges, which the program takes with `--large`."""
+        """Whether it has more than 4,096 vertices or 65,536 edges; the program takes it with `--large`."""
         return self.vertices > MAX_VERTICES or len(self.columns.tails) > MAX_EDGES
 
     @functools.cached_property
@@ -145,19 +128,19 @@ class Graph:
         """The graph of edges (name, name) or (name, name, mult), each of which is one edge each way.
 
         A list or a set of sinks becomes one vertex, whose name is "sink". The vertices are numbered in the order of
-        their names, or as they come, where names have no order.
+        their names, or as they come, if names have no order.
         """
         rows: list[tuple[Any, ...]] = [(*edge, 1)[:3] for edge in edges]
-        names: list[Hashable] = list(dict.fromkeys(name for row in rows for name in row[:2]))
+        names: list[Any] = list(dict.fromkeys(name for row in rows for name in row[:2]))
         try:
-            names.sort(key=lambda name: name)  # type: ignore[arg-type,return-value]
+            names.sort()
         except TypeError:
             pass
         return _named(names, sink, rows, False)
 
     @classmethod
     def read(cls, file: FileName) -> Graph:
-        """The graph of a graph file. What exactly is wrong with a file that is none, `check(file)` tells."""
+        """The graph of a graph file. `check(file)` says what exactly is wrong with one that is none."""
         with open(file, encoding="utf-8") as text:
             value = json.load(text)
         if not isinstance(value, dict) or sorted(value) != ["edges", "sink", "version", "vertices"]:
@@ -167,7 +150,7 @@ class Graph:
         return cls(value["vertices"], value["sink"], value["edges"])
 
     def text(self) -> str:
-        """The text of the graph file. Names do not stand in it."""
+        """The text of the graph file, which has no names."""
         return b"".join(self._parts()).decode()
 
     def write(self, file: FileName) -> None:
@@ -177,21 +160,15 @@ class Graph:
 
     @functools.cached_property
     def kept(self) -> Kept:
-        """The graph file that the program reads, which is there as long as this graph is."""
+        """The graph file that the program reads. It stays as long as this graph does."""
         return Kept(self._parts())
 
     def _parts(self) -> Iterator[bytes]:
         """The text of the graph file in parts."""
         yield b'{"edges":['
-        numpy = library("numpy")
         for start in range(0, len(self.columns.tails), _PART):
-            part = Columns(*(column[start : start + _PART] for column in self.columns))
-            if numpy:
-                fields = [_digits(numpy, numpy.array(column), end) for column, end in zip(part, (b",", b",", b"],["))]
-                text = numpy.hstack(fields).tobytes().translate(None, b"\0")[:-3]
-            else:
-                text = "],[".join([f"{tail},{head},{mult}" for tail, head, mult in zip(*part)]).encode()
-            yield (b",[" if start else b"[") + text + b"]"
+            rows = zip(*(column[start : start + _PART] for column in self.columns))
+            yield (b",[" if start else b"[") + "],[".join(["%d,%d,%d" % row for row in rows]).encode() + b"]"
         yield f'],"sink":{self.sink},"version":1,"vertices":{self.vertices}}}\n'.encode()
 
     def number(self, name: Hashable) -> int:
@@ -207,19 +184,14 @@ class Graph:
 
     def degrees(self) -> tuple[int, ...]:
         """How many chips each vertex sends away when it fires, by numbers; 0 for the sink."""
-        return self._sums[0]
-
-    def entering(self) -> tuple[int, ...]:
-        """How many chips each vertex gets when all fire once, by numbers."""
-        return self._sums[1]
+        return self._degrees
 
     @functools.cached_property
-    def _sums(self) -> tuple[tuple[int, ...], tuple[int, ...]]:
-        out, into = [0] * self.vertices, [0] * self.vertices
-        for tail, head, mult in zip(*self.columns):
-            out[tail] += mult
-            into[head] += mult
-        return tuple(out), tuple(into)
+    def _degrees(self) -> tuple[int, ...]:
+        found = [0] * self.vertices
+        for tail, mult in zip(self.columns.tails, self.columns.mults):
+            found[tail] += mult
+        return tuple(found)
 
     def position_after(self, chips: Sequence[int], counts: Sequence[int]) -> list[int]:
         """The chips of each vertex after so many firings of each, legal or not; counts below 0 take firings back."""
@@ -233,7 +205,7 @@ class Graph:
         return [edge for edge, tail in enumerate(self.columns.tails) if tail == vertex]
 
     def ins(self, vertex: int) -> list[int]:
-        """The numbers of the edges into a vertex, ascending; its root edge is not among them."""
+        """The numbers of the edges into a vertex, ascending, without its root edge."""
         return [edge for edge, head in enumerate(self.columns.heads) if head == vertex]
 
     def root_edge(self, vertex: int) -> int:
@@ -245,50 +217,40 @@ class Graph:
         is_same = (self.vertices, self.sink) == (other.vertices, other.sink)
         return is_same and (self.columns == other.columns or sorted(self.edges) == sorted(other.edges))
 
-    def wrong(self, vertices: int | None = None, edges: int | None = None) -> str:
-        """What makes it no graph with a global sink, by the names of its vertices, and with so many vertices and edges
-        at most; an empty text where it is one."""
-        if vertices is not None and self.vertices > vertices:
-            return f"the graph has {self.vertices} vertices, and {vertices} at most can be played on"
-        if edges is not None and len(self.columns.tails) > edges:
-            return f"the graph has {len(self.columns.tails)} edges, and {edges} at most can be played on"
-        return self._wrong
-
     @functools.cached_property
-    def _wrong(self) -> str:
+    def wrong(self) -> str:
+        """What makes it no graph to play on, by the names of its vertices; an empty text if it is one."""
         tails, heads, _ = self.columns
-        most = max(self.sink, max(tails, default=0), max(heads, default=0))
-        if most >= self.vertices:
-            return f"the sink or an end of an edge is {most}, and there are {self.vertices} vertices"
+        sizes = (self.vertices, MAX_LARGE_VERTICES, "vertices"), (len(tails), MAX_LARGE_EDGES, "edges")
+        for count, most, word in sizes:
+            if count > most:
+                return f"the graph has {count} {word}, and {most} at most can be played on"
+        last = max(self.sink, max(tails, default=0), max(heads, default=0))
+        if last >= self.vertices:
+            return f"the sink or an end of an edge is {last}, and there are {self.vertices} vertices"
         into: list[list[int]] = [[] for _ in range(self.vertices)]
         for tail, head, mult in zip(*self.columns):
             if not 1 <= mult <= MAX_MULT or tail in (head, self.sink):
                 ends = f"from {self.names[tail]!r} to {self.names[head]!r}"
                 return f"the edge {ends} sends no chip or more than {MAX_MULT}, is a loop or leaves the sink"
             into[head].append(tail)
-        is_lost, reached = [True] * self.vertices, [self.sink]
-        is_lost[self.sink] = False
-        for vertex in reached:
-            for tail in into[vertex]:
-                if is_lost[tail]:
-                    is_lost[tail] = False
-                    reached.append(tail)
-        lost = [repr(name) for name, is_so in zip(self.names, is_lost) if is_so]
+        reached, waiting = {self.sink}, [self.sink]
+        for vertex in waiting:
+            new = {*into[vertex]} - reached
+            reached |= new
+            waiting += new
+        lost = [repr(name) for vertex, name in enumerate(self.names) if vertex not in reached]
         return f"no walk leads to the sink from {len(lost)} of the vertices: {', '.join(lost[:5])}" if lost else ""
 
     def require(self) -> None:
-        """Refuses what is no graph with a global sink, where the program is not asked."""
-        if self.wrong():
-            raise ValueError(self.wrong())
+        """Refuses what is no graph to play on, if the program is not asked."""
+        if self.wrong:
+            raise ValueError(self.wrong)
 
     def max_stable(self) -> Configuration:
         """The maximal stable configuration: each vertex but the sink has one chip less than it needs to fire."""
         self.require()
-        return self.without_sink([degree - 1 for degree in self.degrees()])
-
-    def without_sink(self, values: Sequence[int]) -> Configuration:
-        """Numbers of all vertices as a configuration: those of all but the sink, by names."""
-        return Configuration(self, values)
+        return Configuration(self, [degree - 1 for degree in self.degrees()])
 
     def chips(self, chips: Chips) -> tuple[int, ...]:
         """Chips as one number for each vertex, 0 or more.
@@ -300,43 +262,37 @@ class Graph:
         return self.numbers(chips, least=0)
 
     def numbers(self, values: Any, least: int | None = None) -> tuple[int, ...]:
-        """The same, of `least` or more where that is said."""
+        """The same, of `least` or more if that is said."""
         if hasattr(values, "fired") and hasattr(values, "chips"):
             if values.graph is not None and not values.graph.is_like(self):
                 raise ValueError("the report is one of another graph")
             values = values.chips
         if isinstance(values, Configuration) and values.graph is self:
-            values = values.numbers
-        elif hasattr(values, "items"):
-            return self._by_names(values, least)
-        values = values.tolist() if hasattr(values, "tolist") else values
-        if not isinstance(values, Iterable):
-            values = [values] * (self.vertices - 1)
-        rows: list[Any] = list(values)
-        if rows and all(isinstance(row, Iterable) for row in rows):
-            rows = self._by_squares([list(row) for row in rows])
-        elif len(rows) == self.vertices - 1:
-            rows.insert(self.sink, 0)
-        if len(rows) != self.vertices:
-            raise ValueError(f"there are chips for {len(rows)} vertices, and the graph has {self.vertices}")
-        try:
-            found = array("q", rows)
-            if least is None or min(found, default=least) >= least:
-                return tuple(found)
-        except (OverflowError, TypeError):
-            pass
-        return tuple(whole(it, f"the number of chips of vertex {name!r}", least) for name, it in zip(self.names, rows))
+            rows: Sequence[Any] = values.numbers
+        else:
+            rows = self._by_names(values) if hasattr(values, "items") else self._in_order(values)
+        return tuple(wholes(rows, lambda vertex: f"the number of chips of vertex {self.names[vertex]!r}", least))
 
-    def _by_names(self, values: Mapping[Hashable, Any], least: int | None) -> tuple[int, ...]:
-        found = [0] * self.vertices
-        named: set[int] = set()
+    def _by_names(self, values: Mapping[Hashable, Any]) -> list[Any]:
+        found, named = [0] * self.vertices, set[int]()
         for name, count in values.items():
             vertex = self.number(name)
             if vertex in named:
                 raise ValueError(f"vertex {name!r} is named twice")
             named.add(vertex)
-            found[vertex] = whole(count, f"the number of chips of vertex {name!r}", least)
-        return tuple(found)
+            found[vertex] = count
+        return found
+
+    def _in_order(self, values: Any) -> list[Any]:
+        values = values.tolist() if hasattr(values, "tolist") else values
+        rows = list(values) if isinstance(values, Iterable) else [values] * (self.vertices - 1)
+        if rows and all(isinstance(row, Iterable) for row in rows):
+            return self._by_squares([list(row) for row in rows])
+        if len(rows) == self.vertices - 1:
+            rows.insert(self.sink, 0)
+        if len(rows) != self.vertices:
+            raise ValueError(f"there are chips for {len(rows)} vertices, and the graph has {self.vertices}")
+        return rows
 
     def _by_squares(self, rows: list[list[Any]]) -> list[Any]:
         """What stands in rows of the graph's shape, by numbers of vertices; the sink's square counts for nothing."""
@@ -361,41 +317,33 @@ def _both_ways(
 
 
 def grid(width: int, height: int) -> Graph:
-    """The grid: vertex `width * row + column`, and the sink behind them all.
+    """The grid: vertex `width * row + column`, and the sink after them all.
 
-    A vertex on the border loses a chip to the sink on each side where it has no neighbour, so each has degree 4.
+    A vertex on the border loses a chip to the sink on each side without a neighbour, so each has degree 4.
     Sage: `sandpiles.Grid(height, width)`.
     """
     width, height = whole(width, "the width", 1), whole(height, "the height", 1)
-    sink = width * height
+    sink, columns = width * height, Columns(array("i"), array("i"), array("i"))
 
     def at(row: int, column: int) -> int | None:
         return width * row + column if 0 <= row < height and 0 <= column < width else None
 
-    # (most edges of a large grid come at once, column by column: up, left, right, down, and at a border to the sink)
-    quick = range(width, width * (height - 1)) if width > 1 and height > 2 else range(0)
-    first, last = range(quick.start), range(quick.stop, sink) if quick else range(sink)
-    ends = [[(it, *divmod(it, width)) for it in part] for part in (first, last)]
-    before, after = (_columns(_beside(part, at, "square", sink)) for part in ends)
-    many = len(quick)
-    tails, heads = array("i", [0]) * (4 * many), array("i", [0]) * (4 * many)
-    squares = array("i", range(quick.start - width, quick.stop + width)) if quick else array("i")
-    for place, way in enumerate((-width, -1, 1, width)):
-        tails[place::4] = squares[width : width + many]
-        heads[place::4] = squares[width + way : width + way + many]
-    if quick:
-        step, sinks, end = 4 * width, array("i", [sink]) * (height - 2), 4 * width - 4
-        heads[1::step], heads[2::step], heads[3::step] = heads[2::step], heads[3::step], sinks
-        heads[end + 2 :: step], heads[end + 3 :: step] = heads[end + 3 :: step], sinks
-    middle = Columns(tails, heads, array("i", [1]) * (4 * many))
-    columns = Columns(*(one + two + three for one, two, three in zip(before, middle, after)))
+    for row in range(height):
+        if row in (0, 1, height - 1):
+            squares = [(width * row + column, row, column) for column in range(width)]
+            tails, heads, mults = _columns(_beside(squares, at, "square", sink))
+        else:  # (it is like the row above it)
+            tails = array("i", [tail + width for tail in tails])
+            heads = array("i", [head if head == sink else head + width for head in heads])
+        for known, more in zip(columns, (tails, heads, mults)):
+            known.extend(more)
     return Graph(sink + 1, sink, columns, shape=(height, width))
 
 
 def _beside(
     squares: Iterable[tuple[int, int, int]], at: Callable[[int, int], int | None], lattice: str, sink: int
 ) -> list[tuple[int, int, int]]:
-    """The edges out of squares (vertex, row, column) to those beside them, and to the sink where there is none."""
+    """The edges out of squares (vertex, row, column) to those beside them, and to the sink if there is none."""
     edges = []
     for vertex, row, column in squares:
         beside = [at(row + down, column + right) for down, right in _BESIDE[lattice][(row + column) % 2]]
@@ -406,11 +354,11 @@ def _beside(
 
 
 def region(mask: Iterable[Iterable[Any]], lattice: str = "square") -> Graph:
-    """The squares of a mask (rows of true and false, or an array of NumPy), numbered by rows, and the sink behind them.
+    """The squares of a mask (rows of true and false, or an array of NumPy), numbered by rows, and the sink after them.
 
-    A vertex loses a chip to the sink for each neighbour that it has not. The lattice is "square", with 4 neighbours;
+    A vertex loses a chip to the sink for each neighbour that it lacks. The lattice is "square", with 4 neighbours;
     "triangular", with 6: also those above to the right and below to the left; or "hexagonal", with 3: left, right, and
-    below where row and column together are even, else above.
+    below if row and column together are even, else above.
     """
     rows = [[bool(it) for it in row] for row in mask]
     if lattice not in _BESIDE:
@@ -467,7 +415,7 @@ def complete(vertices: int) -> Graph:
 
 
 def _named(names: Iterable[Hashable], sink: Any, edges: Iterable[tuple[Any, ...]], is_directed: bool) -> Graph:
-    """A graph of named vertices. Edges out of the sink are left out, since it never fires.
+    """A graph of named vertices, without the edges out of the sink, since it never fires.
 
     A list or a set of sinks becomes one vertex, the last, with the name "sink".
     """
@@ -492,9 +440,9 @@ def _named(names: Iterable[Hashable], sink: Any, edges: Iterable[tuple[Any, ...]
 def from_networkx(graph: Any, sink: Any, weight: str | None = "weight") -> Graph:
     """A graph of NetworkX, of any of its four kinds, with one of its vertices as the sink, or a list or set of them.
 
-    An edge sends as many chips as its attribute of the name `weight` says, a whole number above 0, or one where it has
-    none; where `weight` is None each sends one. An undirected edge is one edge each way. Edges out of the sink are left
-    out. The vertices keep their names; several sinks become one vertex, whose name is "sink".
+    An edge sends as many chips as its attribute of the name `weight` says, a whole number above 0; without that, or if
+    `weight` is None, it sends one. An undirected edge is one edge each way. Edges out of the sink are left out. The
+    vertices keep their names; several sinks become one vertex, whose name is "sink".
     """
     return _named(graph.nodes(), sink, graph.edges(data=weight, default=1), graph.is_directed())
 
@@ -502,7 +450,7 @@ def from_networkx(graph: Any, sink: Any, weight: str | None = "weight") -> Graph
 def from_sage(graph: Any, sink: Any = None) -> Graph:
     """A graph of SageMath: a `Sandpile` with the sink that it has, or a `DiGraph` or `Graph` and its sink.
 
-    An edge sends as many chips as its label says, or one where it has none. An undirected edge is one edge each way.
+    An edge sends as many chips as its label says, or one if it has none. An undirected edge is one edge each way.
     Edges out of the sink are left out, and those of label 0, which Sage adds in some graphs. The vertices keep their
     names.
     """

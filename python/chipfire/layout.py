@@ -4,8 +4,7 @@ from __future__ import annotations
 
 import cmath
 import math
-from collections import deque
-from collections.abc import Hashable, Iterable, Mapping, Sequence
+from collections.abc import Iterable, Mapping, Sequence
 from dataclasses import dataclass
 from typing import Any
 
@@ -23,7 +22,7 @@ _WORK = 1_000_000
 class Places:
     """Where each vertex stands, and the root; a step to the right is 1 in the first number, one down in the second.
 
-    frame  the corners, upper left and lower right, of a frame that stands for the sink; None where the sink has a place
+    frame  the corners, upper left and lower right, of a frame that stands for the sink; None if the sink has a place
     """
 
     vertices: Sequence[Point]
@@ -32,7 +31,7 @@ class Places:
 
 
 def columns_of(graph: Graph) -> int | None:
-    """How many columns a graph has that is a grid as `chipfire.grid` makes it; None where it is none."""
+    """How many columns a graph has that is a grid as `chipfire.grid` makes it; None if it is none."""
     height, width = graph.shape or (0, 0)
     return width if width and graph.is_like(grid(width, height)) else None
 
@@ -46,31 +45,32 @@ def places_of(graph: Graph, started: Iterable[int], given: Mapping[Any, Point] |
         for name in graph.names:
             if name not in given or not all(map(math.isfinite, given[name])):
                 raise ValueError(f"the position of vertex {name!r} is no point: {given.get(name)!r}")
-        places = [(float(given[name][0]), float(given[name][1])) for name in graph.names]
-        return Places(places, _above(places))
+        return _below_root([(float(given[name][0]), float(given[name][1])) for name in graph.names])
     columns = columns_of(graph)
     if columns:
         return _grid_places(columns, (graph.vertices - 1) // columns)
     if graph.vertices > MOST_BY_DISTANCE:
-        columns = math.isqrt(graph.vertices - 1) + 1
-        places = [(float(vertex % columns), float(vertex // columns)) for vertex in range(graph.vertices)]
-        return Places(places, _above(places))
+        return _below_root(_in_rows(graph.vertices, math.isqrt(graph.vertices - 1) + 1))
     return _from_distances(graph, sorted(started))
 
 
-def _above(places: Sequence[Point]) -> Point:
-    """A point over the middle of others, as far off as they are from each other."""
+def _below_root(places: Sequence[Point]) -> Places:
+    """These places, and the root over their middle, as far off as they are from each other."""
     across, down = zip(*places)
     width, height = max(across) - min(across), max(down) - min(down)
     apart = max(width, height) / math.sqrt(len(places)) or 1.0
-    return min(across) + width / 2, min(down) - apart
+    return Places(places, (min(across) + width / 2, min(down) - apart))
+
+
+def _in_rows(count: int, columns: int) -> list[Point]:
+    return [(float(place % columns), float(place // columns)) for place in range(count)]
 
 
 def _grid_places(columns: int, rows: int) -> Places:
     """Squares in rows; the sink is the frame round them, since it takes what falls over the border."""
-    squares = [(float(square % columns), float(square // columns)) for square in range(columns * rows)]
     frame = ((-0.8, -0.8), (columns - 0.2, rows - 0.2))
-    return Places([*squares, ((columns - 1) / 2, rows - 0.2)], ((columns - 1) / 2, -1.45), frame)
+    places = [*_in_rows(columns * rows, columns), ((columns - 1) / 2, rows - 0.2)]
+    return Places(places, ((columns - 1) / 2, -1.45), frame)
 
 
 def _from_distances(graph: Graph, started: Sequence[int]) -> Places:
@@ -79,8 +79,10 @@ def _from_distances(graph: Graph, started: Sequence[int]) -> Places:
     The root stands above who gets its chips. What would be much higher than wide is laid on its side.
     """
     points = _stressed(_distances(graph))
-    first = sum(points[vertex] for vertex in started) / len(started) if started else points[graph.sink]
-    vertices = _upright(points, first, points[graph.sink])
+    down = points[graph.sink]
+    away = down - (sum(points[vertex] for vertex in started) / len(started) if started else down)
+    turn = 1j * abs(away) / away if abs(away) > 1e-9 else 1  # (so that the sink is right below who gets chips)
+    vertices = [(round((point * turn).real, 3), round((point * turn).imag, 3)) for point in points]
     across = [vertices[vertex][0] for vertex in started or [graph.sink]]
     root = (round(sum(across) / len(across), 3), min(down for _, down in vertices) - 1)
     widths, heights = zip(*vertices, root)
@@ -97,12 +99,11 @@ def _distances(graph: Graph) -> list[list[int]]:
         beside[head].add(tail)
     rows = []
     for start in range(graph.vertices):
-        found, waiting = {start: 0}, deque([start])
-        while waiting:
-            vertex = waiting.popleft()
-            for other in beside[vertex] - found.keys():
-                found[other] = found[vertex] + 1
-                waiting.append(other)
+        found, waiting = {start: 0}, [start]
+        for vertex in waiting:
+            new = beside[vertex] - found.keys()
+            found |= dict.fromkeys(new, found[vertex] + 1)
+            waiting += new
         rows.append([found[vertex] for vertex in range(graph.vertices)])
     return rows
 
@@ -125,11 +126,3 @@ def _stressed(distances: Sequence[Sequence[int]]) -> list[complex]:
                     weights += weight
             points[vertex] = total / weights
     return points
-
-
-def _upright(points: Sequence[complex], top: complex, bottom: complex) -> list[Point]:
-    """Points turned such that one place is right above another."""
-    down = bottom - top
-    turn = 1j * abs(down) / down if abs(down) > 1e-9 else 1
-    turned = [point * turn for point in points]
-    return [(round(point.real, 3), round(point.imag, 3)) for point in turned]

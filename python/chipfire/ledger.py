@@ -1,8 +1,8 @@
-"""What stands where after each event of a simulation: a game of the model that is held against the program's answers.
+"""What stands where after each event of a simulation: a game of the model that is compared with the program's answers.
 
 A `Ledger` plays the schedule on `chipfire.model`, and shows the chips and firings of each vertex, the messages of each
-edge, and what the detector has in its books. Each reply is to be that of the program (`note`), after each event the
-books (`compare`), and at the end the report (`close`). docs/CORE.md says what each event does.
+edge, and what the detector has in its books. It compares each reply with that of the program (`note`), after each event
+the books (`compare`), and at the end the report (`close`). docs/CORE.md says what each event does.
 """
 
 from __future__ import annotations
@@ -33,8 +33,8 @@ class Ledger:
         self.core = opened(setting, detector)
         self.facts: State = {
             "root": [self._root(0)],
-            "vertices": [self._vertices(vertex) for vertex in range(len(self.core.vertices))],
-            "edges": [self._edges(edge) for edge in range(len(self.core.edges))],
+            "vertices": list(map(self._vertices, range(len(self.core.vertices)))),
+            "edges": list(map(self._edges, range(len(self.core.edges)))),
         }
         #: The books of the engaged vertices.
         self._books: dict[int, Books] = {}
@@ -59,11 +59,13 @@ class Ledger:
         cells as (place, chips), what its tail noted of cell and claim, its seal; and how many messages were sent,
         taken, acknowledged and settled, and how many acknowledgements its head owes."""
         its = self.core.edges[edge]
-        cells = [(place, its.sent[place]) for place in range(its.delivered, its.put)]
-        facts = {"pending": its.pending, "claimed": sum(its.sent[its.put :]), "cells": cells}
-        facts |= {"clear": its.clear, "refused": its.refused, "sealed": its.sealed, "sent": len(its.sent)}
-        counts = {"taken": its.delivered, "acknowledged": its.acked, "settled": its.settled}
-        return {**facts, **counts, "owed": its.delivered - its.acked}
+        return {
+            "pending": its.pending, "claimed": sum(its.sent[its.put :]),
+            "cells": [(place, its.sent[place]) for place in range(its.delivered, its.put)],
+            "clear": its.clear, "refused": its.refused, "sealed": its.sealed, "sent": len(its.sent),
+            "taken": its.delivered, "acknowledged": its.acked, "settled": its.settled,
+            "owed": its.delivered - its.acked,
+        }
 
     def note(self, event: Event, reply: Reply) -> list[Change]:
         """Makes an event that has this reply, and returns what it changed."""
@@ -76,7 +78,11 @@ class Ledger:
             changes += [(kind, index, name, value) for name, value in now.items() if before[name] != value]
             self.facts[kind][index] = now
             if kind == "vertices":
-                self._enter(index)
+                self._books.pop(index, None)
+                if now["parent"] is not None:
+                    owed = {edge.number: edge.delivered - edge.acked for edge in self.core.ins(index)}
+                    owed = {edge: count for edge, count in owed.items() if count}
+                    self._books[index] = Books(now["parent"], now["deficit"], owed)
         return changes
 
     def _touched(self, event: Event) -> list[tuple[str, int]]:
@@ -89,24 +95,15 @@ class Ledger:
             edges, vertices = [edge], [vertex for vertex in (edge.head, edge.tail) if vertex >= 0]
         return [*(("edges", edge.number) for edge in edges), *(("vertices", it) for it in vertices), ("root", 0)]
 
-    def _enter(self, vertex: int) -> None:
-        """Brings the books of a vertex up to date."""
-        facts = self.facts["vertices"][vertex]
-        self._books.pop(vertex, None)
-        if facts["parent"] is not None:
-            owed = {edge.number: edge.delivered - edge.acked for edge in self.core.ins(vertex)}
-            owed = {edge: count for edge, count in owed.items() if count}
-            self._books[vertex] = Books(facts["parent"], facts["deficit"], owed)
-
     def compare(self, board: Board) -> None:
-        """Holds what the detector has in its books against what the program says that it has."""
+        """Compares what the detector has in its books with what the program says that it has."""
         self._agree("the root's deficit", board.root_deficit, self.facts["root"][0]["deficit"])
         self._agree("the books", board.engaged, self._books)
         # (most books of the next board are the very objects of this one, and so are equal at a glance)
         self._books = dict(board.engaged)
 
     def close(self, report: Union[Report, None]) -> None:
-        """Holds the end against the report, which comes exactly where the root is closed."""
+        """Compares the end with the report, which comes exactly if the root is closed."""
         self._agree("the end", report and report.text().strip(), self.core.report() if self.core.is_closed() else None)
 
     @staticmethod

@@ -20,7 +20,7 @@ SCHEDULE_HEADER = ("event", "at", "count")
 NOTED_HEADER = (*SCHEDULE_HEADER, "note")
 TRACE_HEADER = ("vertex", "kind", "edge", "count")
 
-#: Of each rule what it says, and what is so where it is not met; `chipfire explain rule` has the same words.
+#: Of each rule what it says, and what is so if it is not met; `chipfire explain rule` has the same words.
 _RULES = (
     ("the vertex or edge is there", "there is no such vertex or edge"),
     ("the vertex is not the sink", "the vertex is the sink"),
@@ -46,7 +46,7 @@ _RULES = (
 )
 #: What each rule says that the reply `not-now N` names; docs/CORE.md has the table.
 RULES = {number: met for number, (met, _) in enumerate(_RULES, 1)}
-#: What it is called and what is so where it is not met.
+#: What it is called and what is so if it is not met.
 UNMET = {number: (name, unmet) for (name, number), (_, unmet) in zip(model.RULES.items(), _RULES)}
 
 
@@ -59,11 +59,11 @@ class Event(NamedTuple):
 
 
 class Schedule(list[Event]):
-    """A list of events, with a method for each kind of event that puts one more behind it. A note that is put to an
-    event is for those who read the schedule or its page; the program never sees it."""
+    """A list of events, with a method for each kind of event that adds one at the end. A note to an event is for those
+    who read the schedule or its page; the program never sees it."""
 
-    def __init__(self, events: Iterable[Event] = ()) -> None:
-        super().__init__(events)
+    def __init__(self, events: Iterable[Sequence[Any]] = ()) -> None:
+        super().__init__(Event(*event) for event in events)
         #: The notes, by the index of their event.
         self.notes: dict[int, str] = dict(getattr(events, "notes", {}))
 
@@ -77,7 +77,7 @@ class Schedule(list[Event]):
         return self
 
     def take(self, edge: int) -> Schedule:
-        """The head of an edge takes the next message, where there is one."""
+        """The head of an edge takes the next message, if there is one."""
         return self._add("take", edge)
 
     def ack(self, edge: int) -> Schedule:
@@ -105,7 +105,7 @@ class Schedule(list[Event]):
         return self.clear(edge).claim(edge).put(edge)
 
     def halt(self, vertex: int) -> Schedule:
-        """A vertex halts, where it has a cause."""
+        """A vertex halts, if it has a cause."""
         return self._add("halt", vertex)
 
     def settle(self, edge: int) -> Schedule:
@@ -156,11 +156,11 @@ def trace_text(trace: Iterable[Sequence[Any]]) -> str:
 def write_schedule(file: FileName, schedule: Iterable[Sequence[Any]]) -> None:
     """Writes a schedule: a row for each event, which is a tuple of a kind, an edge or a vertex, and perhaps a count.
 
-    Where there are notes they are a fourth column, which the program does not read, but this package and its page.
+    Notes, if there are any, are a fourth column, which this package and its page read, and the program does not.
     """
-    notes = getattr(schedule, "notes", {})
-    noted = ((*Event(*event), notes.get(index, "")) for index, event in enumerate(schedule))
-    write(file, rows_text(NOTED_HEADER, noted) if notes else schedule_text(schedule))
+    events = Schedule(schedule)
+    noted = ((*event, events.notes.get(index, "")) for index, event in enumerate(events))
+    write(file, rows_text(NOTED_HEADER, noted) if events.notes else rows_text(SCHEDULE_HEADER, events))
 
 
 def has_notes(file: FileName) -> bool:
@@ -192,7 +192,7 @@ def read_trace(file: FileName) -> list[TraceRow]:
 @dataclass(frozen=True)
 class Reply:
     """The reply to one event of a schedule: `kind` is its first word ("done", "got", "sent", "empty", "full", "sealed"
-    or "not-now"), `numbers` are those behind it."""
+    or "not-now"), `numbers` are those after it."""
 
     kind: str
     numbers: tuple[int, ...] = ()
@@ -223,8 +223,8 @@ class Reply:
 
 @dataclass(frozen=True)
 class Books:
-    """What an engaged vertex has in its books: its parent edge, how many acknowledgements it waits for, and of each
-    edge on which it owes some, how many."""
+    """What an engaged vertex has in its books: its parent edge, how many acknowledgements it waits for, and how many it
+    owes on each edge on which it owes some."""
 
     parent: int | None
     deficit: int
@@ -247,9 +247,9 @@ class Board:
 @functools.lru_cache(maxsize=MAX_VERTICES)
 def _engaged(line: str) -> tuple[int, Books]:
     """A vertex and its books, of their line. Most lines of a board are those of the board before it."""
-    words = line.split()
-    owed = (map(int, word.split(":")) for word in words[7:])
-    return int(words[1]), Books(int(words[3]), int(words[5]), {edge: count for edge, count in owed})
+    _, vertex, _, parent, _, deficit, _, *owed = line.split()
+    counts = (map(int, word.split(":")) for word in owed)
+    return int(vertex), Books(int(parent), int(deficit), {edge: count for edge, count in counts})
 
 
 @dataclass(frozen=True)
@@ -266,12 +266,12 @@ class Setting:
 
 @dataclass(frozen=True)
 class Simulation:
-    """What a schedule came to: a reply for each event, the report where the root closed, and a board for each reply
-    where the books were asked for.
+    """What a schedule came to: a reply for each event, the report if the root closed, and a board for each reply if the
+    books were asked for.
 
     That the root is closed says that all is over. `report.closed` says besides that no limit and no seal stopped a
-    vertex. What was asked stands beside it: the schedule with its notes, how many rounds were to follow it, and the
-    setting; and in words what of the schedule nobody wrote, if there is such."""
+    vertex. The rest is what was asked: the schedule with its notes, how many rounds were to follow it, and the setting;
+    and in words what of the schedule nobody wrote, if there is such."""
 
     replies: tuple[Reply, ...]
     report: Report | None
@@ -286,11 +286,10 @@ class Simulation:
     def parse(cls, text: str, graph: Graph | None = None) -> Simulation:
         """The simulation of a text as the program writes it."""
         lines = text.splitlines()
-        is_closed = "root closed" in lines[-2:]
-        report = Report.parse(lines[-1], graph) if is_closed else None
+        report = Report.parse(lines.pop(), graph) if "root closed" in lines[-2:] else None
         replies: list[Reply] = []
         boards: list[list[str]] = []
-        for line in lines[: -2 if is_closed else -1]:
+        for line in lines[:-1]:
             if line.startswith(" "):
                 boards[-1].append(line)
             else:
@@ -305,7 +304,7 @@ class Simulation:
 
     @property
     def game(self) -> Setting:
-        """The setting, where this simulation is one that `simulate` answered."""
+        """The setting, if `simulate` answered this simulation."""
         if self.setting is None:
             raise ValueError("this simulation does not know what was asked: take what `simulate` answers")
         return self.setting

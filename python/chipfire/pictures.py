@@ -1,20 +1,19 @@
 """Pictures of chips and of counts: files, notebooks, NumPy and Matplotlib.
 
-The numbers are the program's; that pictures show them is not proved. A picture has a square for each vertex, where the
-graph has it in its shape, or in the order of the numbers, so many in a row. A sink that is the last vertex has no
-square; one that stands elsewhere has one of a colour of its own, and so has all that lies outside of a region.
+The numbers are the program's; that pictures show them is not proved. A picture has a square for each vertex, placed by
+the graph's shape, or in the order of the numbers, so many in a row. A sink that is the last vertex has no square; one
+that stands elsewhere has one of a colour of its own, and so has all that lies outside of a region.
 """
 
 from __future__ import annotations
 
 import base64
 import html
-import importlib
 import itertools
 import math
 import os
 import sys
-from collections.abc import Callable, Hashable, Iterable, Mapping, Sequence
+from collections.abc import Callable, Iterable, Mapping, Sequence
 from dataclasses import dataclass
 from typing import TYPE_CHECKING, Any, Union
 
@@ -46,7 +45,7 @@ PALETTES: dict[str, Sequence[str]] = {
 }
 SINK_COLOUR = "#a5d8c2"
 SCALE = 8
-#: What is more than so many squares wide or high is shown in notebooks as points, at most so many points wide.
+#: In notebooks, what is more than so many squares wide or high is shown as points, and at most so many points wide.
 _MOST_SQUARES, _MOST_POINTS = 100, 800
 
 #: The name of a palette, or its colours, each `#rrggbb`.
@@ -65,7 +64,7 @@ class Picture:
     rows     the squares
     palette  the colours, each `#rrggbb`; the last one is that of the sink
     title    what the picture shows, in words
-    most     what the last colour but that of the sink stands for, where the colours are spread from 0 to there
+    most     what the last colour but that of the sink stands for, if the colours are spread from 0 to there
     """
 
     rows: Sequence[Sequence[int]]
@@ -90,9 +89,9 @@ class Picture:
             lines += [bytes(line)] * scale
         return lines
 
-    def colours(self) -> list[tuple[int, int, int]]:
-        """The palette as numbers of red, green and blue."""
-        return [(red, green, blue) for red, green, blue in (bytes.fromhex(colour[1:]) for colour in self.palette)]
+    def colours(self) -> bytes:
+        """The palette as bytes of red, green and blue."""
+        return bytes.fromhex("".join(colour[1:] for colour in self.palette))
 
     def svg(self, scale: int = SCALE) -> str:
         """The text of an SVG file, which can be made as large as one likes."""
@@ -109,19 +108,15 @@ class Picture:
         head = f'<svg xmlns="http://www.w3.org/2000/svg" {size} shape-rendering="crispEdges" role="img">'
         return "\n".join([head, f"<title>{html.escape(self.title)}</title>", *shapes, "</svg>\n"])
 
-    def labels(self) -> list[str]:
-        """What each colour stands for; of colours that are spread, the first and the last."""
-        most = len(self.palette) - 2
-        if self.most is not None:
-            return ["0", *[""] * (most - 1), f"{self.most:,}", "the sink"]
-        return [*map(str, range(most)), f"{most} or more", "the sink"]
-
     def legend(self, used: Iterable[int] | None = None) -> str:
-        """The colours that are used, or that stand in the picture, and what they mean, as HTML."""
-        used = set(itertools.chain(*self.rows) if used is None else used)
+        """What the colours mean that are used, or that stand in the picture, as HTML; of spread ones, the two ends."""
+        last = len(self.palette) - 2
+        labels = [*map(str, range(last)), f"{last} or more", "the sink"]
+        if self.most is not None:
+            labels = ["0", *[""] * (last - 1), f"{self.most:,}", "the sink"]
         box = '<span style="display:inline-block;width:1em;height:1em;border:1px solid #555;background:{}"></span> {}'
-        named = enumerate(zip(self.palette, self.labels()))
-        return "&ensp;".join(box.format(*it) for at, it in named if at in used and it[1])
+        shown = sorted({*(itertools.chain(*self.rows) if used is None else used)})
+        return "&ensp;".join(box.format(self.palette[it], labels[it]) for it in shown if labels[it])
 
     def __str__(self) -> str:
         """The picture as text: the number of each square's colour, and a gap for the sink."""
@@ -136,18 +131,18 @@ class Picture:
         return f"data:image/png;base64,{base64.b64encode(rasters.png(self.points(1), self.colours())).decode()}"
 
     def _repr_html_(self) -> str:
-        width = len(self.rows[0])
-        if max(width, len(self.rows)) > _MOST_SQUARES:
-            shown = max(1, min(SCALE, _MOST_POINTS // max(width, len(self.rows))))
-            size = f'width="{min(shown * width, _MOST_POINTS)}" style="image-rendering:pixelated"'
-            drawn = f'<img alt="{html.escape(self.title)}" src="{self.data()}" {size}>'
-        else:
+        width, title = len(self.rows[0]), html.escape(self.title)
+        longest = max(width, len(self.rows))
+        if longest <= _MOST_SQUARES:
             drawn = self.svg()
-        return f"<figure>{drawn}<figcaption>{html.escape(self.title)}<br>{self.legend()}</figcaption></figure>"
+        else:
+            size = min(max(1, min(SCALE, _MOST_POINTS // longest)) * width, _MOST_POINTS)
+            drawn = f'<img alt="{title}" src="{self.data()}" width="{size}" style="image-rendering:pixelated">'
+        return f"<figure>{drawn}<figcaption>{title}<br>{self.legend()}</figcaption></figure>"
 
 
 def colours_of(palette: Palette) -> tuple[str, ...]:
-    """The colours of a palette, by its name or as they are given, and that of the sink behind them."""
+    """The colours of a palette, by its name or as they are given, and that of the sink after them."""
     if isinstance(palette, str):
         if palette not in PALETTES:
             raise ValueError(f"no palette is named {palette!r}; there are {', '.join(PALETTES)}")
@@ -161,60 +156,47 @@ def colours_of(palette: Palette) -> tuple[str, ...]:
 
 
 def in_rows(graph: Graph | None, values: Sequence[int], columns: int | None, empty: int) -> list[Sequence[int]]:
-    """Values of all vertices in rows: so many in each, or in the graph's shape, with what stands where no vertex is.
-
-    A sink behind them all is left out.
-    """
+    """Values of all vertices but a last sink in rows: of so many, or of the graph's shape, with what is `empty`."""
     if columns is not None:
         columns = whole(columns, "the number of columns", 1)
         is_last = len(values) % columns == 1 if graph is None else graph.sink == len(values) - 1
         squares = len(values) - is_last
         if not squares or squares % columns:
             raise ValueError(f"{squares} squares do not make rows of {columns}")
-        return [values[start : start + columns] for start in range(0, squares, columns)]
-    if graph is None or graph.shape is None:
+    elif graph is None or graph.shape is None:
         unknown = "the report does not know its graph" if graph is None else "the graph is no grid"
         raise ValueError(f"{unknown}: say how many columns the picture has")
-    height, width = graph.shape
-    flat = values
-    if not isinstance(graph.squares, range):
-        flat = [empty] * (height * width)
-        for square, value in zip(graph.squares, values):
-            flat[square] = value
-    return [flat[start : start + width] for start in range(0, height * width, width)]
+    else:
+        squares, columns = math.prod(graph.shape), graph.shape[1]
+        if not isinstance(graph.squares, range):
+            known = dict(zip(graph.squares, values))
+            values = [known.get(square, empty) for square in range(squares)]
+    return [values[start : start + columns] for start in range(0, squares, columns)]
 
 
-def _least(values: Sequence[int], most: int) -> bytearray:
-    """Each value, but `most` instead of more, and 0 instead of less."""
-    numbers = [most if count > most else count for count in values]
-    try:
-        return bytearray(numbers)
-    except ValueError:
-        return bytearray(max(count, 0) for count in numbers)
-
-
-def placed(graph: Graph, values: Sequence[int], positions: Positions, empty: int) -> list[list[int]]:
+def placed(graph: Graph, values: Sequence[int], positions: Positions, empty: int) -> list[Sequence[int]]:
     """Values of the vertices that have positions, (to the right, down) by names, in rows of squares round them."""
-    found: dict[tuple[int, int], tuple[Hashable, int]] = {}
+    found: dict[tuple[int, int], Any] = {}
     for name, (right, down) in positions.items():
-        square = round(down), round(right)
-        if square in found:
-            raise ValueError(f"vertices {found[square][0]!r} and {name!r} stand on one square: spread the positions")
-        found[square] = name, values[graph.number(name)]
+        other = found.setdefault((round(down), round(right)), name)
+        if other != name:
+            raise ValueError(f"vertices {other!r} and {name!r} stand on one square: spread the positions")
     if not found:
         raise ValueError("there are no positions, and so no squares")
+    numbers = {square: values[graph.number(name)] for square, name in found.items()}
     ys, xs = (range(min(side), max(side) + 1) for side in zip(*found))
-    return [[found.get((y, x), ("", empty))[1] for x in xs] for y in ys]
+    return [[numbers.get((y, x), empty) for x in xs] for y in ys]
 
 
 class Drawn:
     """What reports and configurations have besides: pictures of their chips, and of how often vertices fired.
 
-    `columns` is how many squares stand in a row; where the graph has a shape, that need not be said. `positions` has
-    the places of vertices by names instead, (to the right, down), each of which becomes a square. `of` is "chips" or
-    "odometer". `palette` names colours, "colours", "greys" or "viridis", or has them, each as `#rrggbb`. Chips have the
-    colour of 0, of 1, of 2 and so on; the last one is that of all larger numbers. What has a `scale`, "linear" or
-    "log", has the first colour for 0, the last one for the largest number, and is spread between: so odometers are.
+    `columns` is how many squares stand in a row; a graph with a shape knows that. `positions` has the places of
+    vertices by names instead, (to the right, down), each of which becomes a square. `of` is "chips" or "odometer".
+    `palette` names colours, "colours", "greys" or "viridis", or has them, each as `#rrggbb`. Chips have the colour of
+    0, of 1, of 2 and so on; the last one is that of all larger numbers. With a `scale`, "linear" or "log", the first
+    colour is that of 0 and the last one that of the largest number, and the others are spread between: so odometers
+    are.
     """
 
     graph: Graph | None
@@ -230,27 +212,26 @@ class Drawn:
         scale: str | None = None, positions: Positions | None = None,
     ) -> Picture:
         """The picture of the chips, or of how often each vertex fired. That it shows them is not proved."""
-        values = self._values(of)
+        values, sink = self._values(of), None if self.graph is None else self.graph.sink
         scale = "linear" if scale is None and of == "odometer" else scale
         colours = colours_of(palette or ("viridis" if scale else "colours"))
-        sink, last = len(colours) - 1, len(colours) - 2
-        numbers, most = _least(values, last), None
+        last, most = len(colours) - 2, None
+        numbers = [last if count > last else count if count > 0 else 0 for count in values]
         if scale:
             if scale not in _SPREADS:
                 raise ValueError(f"a scale is 'linear' or 'log', and not {scale!r}")
             spread = _SPREADS[scale]
-            others = [count for vertex, count in enumerate(values) if not self.graph or vertex != self.graph.sink]
-            most = max(others, default=0)
+            most = max((count for vertex, count in enumerate(values) if vertex != sink), default=0)
             top = spread(most) or 1
-            numbers = bytearray(min(int(last * spread(max(count, 0)) / top), last) for count in values)
-        if self.graph is not None:
-            numbers[self.graph.sink] = sink
-        if positions is not None:
-            if self.graph is None:
-                raise ValueError("the report does not know its graph, and so no positions")
-            rows: Sequence[Sequence[int]] = placed(self.graph, numbers, positions, sink)
+            numbers = [min(int(last * spread(max(count, 0)) / top), last) for count in values]
+        if sink is not None:
+            numbers[sink] = last + 1
+        if positions is None:
+            rows = in_rows(self.graph, numbers, columns, last + 1)
+        elif self.graph is None:
+            raise ValueError("the report does not know its graph, and so no positions")
         else:
-            rows = in_rows(self.graph, numbers, columns, sink)
+            rows = placed(self.graph, numbers, positions, last + 1)
         return Picture(tuple(map(bytes, rows)), colours, self._title(of), most)
 
     def image(
@@ -259,11 +240,10 @@ class Drawn:
     ) -> None:
         """Writes the picture: `.png`, `.svg`, or with Pillow any other form. That it shows the numbers is not proved.
 
-        A square's side has as many points as `scale`, or as `points` where `scale` is "linear" or "log".
+        A square's side has as many points as `scale`, or as `points` if `scale` is "linear" or "log".
         """
-        spread = scale if isinstance(scale, str) else None
-        picture = self.picture(columns, palette, of=of, scale=spread, positions=positions)
-        picture.save(file, points if isinstance(scale, str) else scale)
+        spread, points = (scale, points) if isinstance(scale, str) else (None, scale)
+        self.picture(columns, palette, of=of, scale=spread, positions=positions).save(file, points)
 
     def show(self, columns: int | None = None, palette: Palette | None = None, *, of: str = "chips") -> None:
         """Shows the picture in a notebook; elsewhere prints it as text, with the number of chips on each square."""
@@ -275,14 +255,12 @@ class Drawn:
             print(picture)
 
     def array(self, of: str | int = "chips", columns: int | None = None) -> Any:
-        """The chips, or the "odometer", as an array of NumPy, by rows of the picture; 0 where the sink or none is."""
+        """The chips, or the "odometer", as an array of NumPy, by rows of the picture; 0 on the squares without any."""
         columns = columns if isinstance(of, str) else of
         values = list(self._values(of if isinstance(of, str) else "chips"))
         if self.graph is not None:
             values[self.graph.sink] = 0
-        numpy = library("numpy")
-        if numpy is None:
-            raise ImportError("an array is one of NumPy, which is not installed")
+        numpy = library("numpy", "an array is one of NumPy")
         return numpy.array(in_rows(self.graph, values, columns, 0), dtype=numpy.int64)
 
     def __array__(self, dtype: Any = None, copy: bool | None = None) -> Any:
@@ -292,7 +270,7 @@ class Drawn:
         self, columns: int | None = None, palette: Palette | None = None, axes: Any = None, *, of: str = "chips"
     ) -> Any:
         """Draws the picture by Matplotlib into axes, or into new ones, which it returns."""
-        colors, pyplot = (importlib.import_module(f"matplotlib.{name}") for name in ("colors", "pyplot"))
+        colors, pyplot = (library(f"matplotlib.{it}", "a plot is one of Matplotlib") for it in ("colors", "pyplot"))
         picture = self.picture(columns, palette, of=of)
         axes = pyplot.subplots()[1] if axes is None else axes
         cmap = colors.ListedColormap(picture.palette)
@@ -302,5 +280,5 @@ class Drawn:
         return axes
 
     def _repr_html_(self) -> str | None:
-        """What a notebook shows: the picture where the graph has a shape, and else nothing but the text."""
+        """What a notebook shows: the picture if the graph has a shape, and else the text."""
         return None if self.graph is None or self.graph.shape is None else self.picture()._repr_html_()

@@ -25,19 +25,19 @@ from chipfire.values import HERE, MAX_LARGE_EDGES, MAX_LARGE_VERTICES, FileName,
 if TYPE_CHECKING:
     from chipfire.graphs import Graph
 
-#: Where the package carries the program if it does, and the repository that it lies in if it does.
+#: The program that the package may carry, and the repository that it may lie in.
 _CARRIED = os.path.join(HERE, "program", "chipfire")
 _REPOSITORY = os.path.dirname(os.path.dirname(HERE))
 #: How a line begins that tells of a long play.
 _PROGRESS = "chipfire: progress: "
-#: Which of the given files a fault of a number can be of.
+#: The faults of a graph file, and of a file of rows.
 _OF_GRAPH, _OF_ROWS = (*range(1, 9), 20, 21, 22), (*range(23, 29), 10)
-#: What makes a process end with the one that started it (PR_SET_PDEATHSIG), where the system has that.
+#: What makes a process end with the one that started it (PR_SET_PDEATHSIG), if the system has that.
 _PRCTL = ctypes.CDLL(None).prctl if sys.platform == "linux" else None
 
 
 class ProgramNotFound(FileNotFoundError):
-    """There is no program chipfire where it was looked for, or it cannot be started."""
+    """There is no program chipfire in any place that was looked at, or it cannot be started."""
 
 
 class TraceCut(UserWarning):
@@ -45,13 +45,13 @@ class TraceCut(UserWarning):
 
 
 class Fault(ValueError):
-    """The program refused: what it was given, or what it was to do with it.
+    """The program refused what it was given, or what it was to do with it.
 
     number       the number of the fault, as in `fault 24 Row 3`: 24
     name         its name: "Row"
-    place        the numbers behind the name: (3,)
-    explanation  what `chipfire explain` says of the number; empty where the program does not say
-    status       the exit status: 1, or 3 where a run was not finished
+    place        the numbers after the name: (3,)
+    explanation  what `chipfire explain` says of the number; empty if the program does not say
+    status       the exit status: 1, or 3 if a run was not finished
     words        which file is meant, or what is wrong with the graph, by the names of its vertices
     """
 
@@ -65,7 +65,7 @@ class Fault(ValueError):
     def __str__(self) -> str:
         line = " ".join(["fault", str(self.number), self.name, *map(str, self.place)])
         line += f": {self.words}" if self.words else ""
-        # (what is explained is of files and of a shell: of --large, and of options that Python calls otherwise)
+        # (an explanation speaks of files and a shell: of --large, and of options that Python calls otherwise)
         told = re.sub(r"[^.]*--large`[^.]*\.", "", self.explanation)
         told = re.sub(r"--([a-z-]+)", lambda option: option[1].replace("-", "_"), told)
         return f"{line}\n{told}" if told and not self.words.endswith(".") else line
@@ -82,34 +82,36 @@ class Kept:
         weakref.finalize(self, file.close)
 
     def text(self) -> str:
-        """What stands in it, which the program may have written."""
+        """What stands in it, also what the program wrote."""
         with open(f"/dev/fd/{self.number}", encoding="utf-8", newline="") as file:
             return file.read()
 
 
-#: What is meant by a file, or the option that names it, and the file, by its name or as it is kept here.
+#: What a file is called in faults, or the option that names it; and its name, or the file as it is kept here.
 Input = tuple[str, Union[FileName, Kept]]
 
 
-def _repository() -> str:
-    """The repository that the package was installed from, as `build_wheel.py` noted, or else that it may lie in."""
-    noted = os.path.join(HERE, "repository")
-    return own_text("repository") if os.path.isfile(noted) else _REPOSITORY
+def _noted(name: str) -> str | None:
+    """What `build_wheel.py` noted in the package, if it did."""
+    return own_text(name) if os.path.isfile(os.path.join(HERE, name)) else None
 
 
 def version() -> str:
-    """The version: it stands in the program's source, or was noted where the package was installed."""
+    """The version: the program's source has it, or it was noted when the package was installed."""
     source = os.path.join(_REPOSITORY, "crates", "chip_arguments", "src", "help_texts.rt")
     if os.path.isfile(source):
         with open(source, encoding="utf-8") as file:
             return str(re.findall('VERSION: &str = "(.*)"', file.read())[0])
-    return own_text("version") if os.path.isfile(os.path.join(HERE, "version")) else "unknown"
+    return _noted("version") or "unknown"
 
 
 @functools.cache
 def _released(repository: str) -> str | None:
-    """What starts the program in the release of a repository: target/chipfire, once `./chipfire` there has taken it, or
-    that itself, where nothing can be kept. None where the program is not taken; standard error says why, or whence it is."""
+    """What starts the program in the release of a repository, or None if `./chipfire` there does not take it.
+
+    It is target/chipfire, once `./chipfire` has put the program there, or `./chipfire` itself if nothing can be put.
+    Standard error says why the program is not taken, or whence it is.
+    """
     starter, taken = (os.path.join(repository, name) for name in ("chipfire", os.path.join("target", "chipfire")))
     if not os.path.isfile(os.path.join(repository, "release", "PROVED")) or not os.access(starter, os.X_OK):
         return None
@@ -119,14 +121,10 @@ def _released(repository: str) -> str | None:
 
 
 def find_program() -> str:
-    """The program's file; the head of the package says where it is looked for."""
-    named = os.environ.get("CHIPFIRE")
-    if named:
-        return named
-    for place in (_CARRIED, os.path.join(_repository(), "target", "chipfire")):
-        if os.access(place, os.X_OK):
-            return place
-    found = _released(_repository()) or shutil.which("chipfire")
+    """The program's file; the head of the package says in which order it is looked for."""
+    repository = _noted("repository") or _REPOSITORY
+    built = (it for it in (_CARRIED, os.path.join(repository, "target", "chipfire")) if os.access(it, os.X_OK))
+    found = os.environ.get("CHIPFIRE") or next(built, None) or _released(repository) or shutil.which("chipfire")
     if found:
         return found
     hint = "./chipfire in the repository builds target/chipfire; name it by the environment variable CHIPFIRE"
@@ -144,7 +142,7 @@ def ask(
 ) -> str:
     """Runs a command, and returns what it writes, which `begins` so; a fault is raised.
 
-    `graph` is the one that the question is about, where Python has it. An option that is None or False is left out, and
+    `graph` is the one that the question is about, if Python has it. An option that is None or False is left out, and
     one that is True has no value.
     """
     path = find_program() if program is None else os.fspath(program)
@@ -177,11 +175,11 @@ def _meant(
     number: int, place: tuple[int, ...], words: Sequence[str], inputs: Sequence[Input], graph: Graph | None
 ) -> str:
     """Which of the files a fault is about, by its name, or what is wrong with the graph that Python has."""
-    vertices, edges, size = MAX_LARGE_VERTICES, MAX_LARGE_EDGES, 2**28
     if number <= 8 and graph is not None:
-        return f"{graph.wrong(vertices, edges)}."
+        return f"{graph.wrong}."
     if number in (1, 3, 30):
-        return f"{words[0]} takes 1 to {vertices} vertices, up to {edges} edges, and files of up to {size} bytes."
+        most = f"{MAX_LARGE_VERTICES} vertices, up to {MAX_LARGE_EDGES} edges, and files of up to {2**28} bytes"
+        return f"{words[0]} takes 1 to {most}."
     if number == 92:
         return f"{re.sub('^--[a-z]+=', '', words[place[0]])} cannot be opened, or is also written"
     kinds = {kind: file for kind, file in inputs if not isinstance(file, Kept) or kind in ("schedule", "trace")}
@@ -192,16 +190,25 @@ def _meant(
 
 
 def _started(words: Sequence[str], kept: Sequence[int] = ()) -> tuple[int, str, list[str]]:
-    """Runs the program to its end. Returns its status, its output, and the lines of its errors.
+    """Runs the program to its end, and returns its status, its output, and the lines of its errors.
 
-    What it tells meanwhile of its progress goes to `sys.stderr`.
+    What it tells meanwhile of its progress goes to `sys.stderr`. It ends when this Python does, however that ends.
     """
     errors: list[str] = []
+    parent = os.getpid()
+
+    def bind() -> None:
+        if _PRCTL is not None:
+            _PRCTL(1, signal.SIGKILL)
+            if os.getppid() != parent:
+                os._exit(1)
+
     with tempfile.TemporaryFile("w+", encoding="utf-8", newline="") as output:
-        how: dict[str, Any] = {"stdin": subprocess.DEVNULL, "stdout": output, "stderr": subprocess.PIPE}
-        how |= {"encoding": "utf-8", "errors": "replace", "pass_fds": kept}
         try:
-            running = subprocess.Popen(words, preexec_fn=functools.partial(_bind, os.getpid()), **how)
+            running = subprocess.Popen(
+                words, stdin=subprocess.DEVNULL, stdout=output, stderr=subprocess.PIPE, encoding="utf-8",
+                errors="replace", pass_fds=kept, preexec_fn=bind,
+            )
         except (FileNotFoundError, PermissionError) as error:
             raise ProgramNotFound(error.errno, "no program that can be started", words[0]) from None
         with running:
@@ -216,11 +223,3 @@ def _started(words: Sequence[str], kept: Sequence[int] = ()) -> tuple[int, str, 
                 raise
         output.seek(0)
         return running.returncode, output.read(), errors
-
-
-def _bind(parent: int) -> None:
-    """Said in the new process: it ends when this Python does, however that ends."""
-    if _PRCTL is not None:
-        _PRCTL(1, signal.SIGKILL)
-        if os.getppid() != parent:
-            os._exit(1)

@@ -9,12 +9,12 @@ from collections.abc import Callable, Hashable, Iterable, Sequence
 from dataclasses import dataclass, replace
 from typing import TYPE_CHECKING, Any, TypeVar, Union
 
-from chipfire import burning
-from chipfire.chips import Chips, Configuration
+from chipfire import chips as configurations
+from chipfire.chips import CHIPS_HEADER, GUESS_HEADER, Chips, Configuration, chips_text
 from chipfire.dropped import ROWS_HEADER, Drops, columns_of, parts_of
 from chipfire.graphs import Graph
 from chipfire.machine import (
-    Event, Firing, Schedule, Setting, Simulation, has_notes, read_schedule, schedule_text, trace_text,
+    Firing, Schedule, Setting, Simulation, has_notes, read_schedule, schedule_text, trace_text,
 )
 from chipfire.process import Fault, Input, Kept, ask, find_program
 from chipfire.reports import Report
@@ -29,6 +29,11 @@ T = TypeVar("T")
 #: A graph, or the name of its file; the name of a program, or None for the one that is found.
 AnyGraph = Union[Graph, str, "os.PathLike[str]"]
 AnyProgram = Union[FileName, None]
+#: The least and the most that options may be which are whole numbers.
+_RANGES = {
+    "limit": (0, MAX_LIMIT), "ring": (1, 64), "workers": (1, 64), "turns": (1, 2**40), "trace_rows": (0, 2**20),
+    "rounds": (0, 2**40),
+}
 
 
 @dataclass(frozen=True)
@@ -44,7 +49,7 @@ class Check:
 
 
 def known_graph(graph: AnyGraph, program: AnyProgram = None) -> Graph:
-    """A graph, or that of a file. What is wrong with a file, the program says."""
+    """A graph, or that of a file. The program says what is wrong with a file."""
     if isinstance(graph, Graph):
         return graph
     if not isinstance(graph, FILE):
@@ -57,8 +62,13 @@ def known_graph(graph: AnyGraph, program: AnyProgram = None) -> Graph:
 
 
 def known_chips(graph: Graph, chips: Chips, program: AnyProgram = None) -> tuple[int, ...]:
-    """Chips by the numbers of the vertices, which may come from a file, and else may be below 0."""
+    """Chips by the numbers of the vertices, from a file or any other form; the latter may be below 0."""
     return read_chips(chips, graph, program=program) if isinstance(chips, FILE) else graph.numbers(chips)
+
+
+def _input(kind: str, given: Any, text: Callable[[Any], str]) -> Input:
+    """What is given, if it is the name of a file, and else its text."""
+    return kind, given if isinstance(given, FILE) else Kept([text(given).encode()])
 
 
 class _Question:
@@ -73,25 +83,20 @@ class _Question:
     def graph(self) -> Graph:
         return known_graph(self.given, self.program)
 
-    def chips(self, chips: Chips, kind: str = "chips", header: Sequence[str] = burning.CHIPS_HEADER) -> Input:
-        return kind, chips if isinstance(chips, FILE) else Kept(burning.chips_parts(self.graph.chips(chips), header))
+    def chips(self, chips: Chips, kind: str = "chips", header: Sequence[str] = CHIPS_HEADER) -> Input:
+        return _input(kind, chips, lambda given: chips_text(self.graph.chips(given), header))
 
-    def ask(self, command: str, inputs: Sequence[Input], options: dict[str, Any], *begins: str) -> str:
-        return ask(self.program, command, [self.file, *inputs], options, self.own, *begins)
-
-
-def _numbers(**options: tuple[int | None, int, int]) -> dict[str, Any]:
-    """Options with the least and the most that they may be, each a whole number or None."""
-    return {
-        name.replace("_", "-"): None if value is None else whole(value, name, least, most)
-        for name, (value, least, most) in options.items()
-    }
+    def ask(self, command: str, inputs: Sequence[Input], *begins: str, **options: Any) -> str:
+        for name, value in options.items():
+            if name in _RANGES and value is not None:
+                options[name] = whole(value, name, *_RANGES[name])
+        words = {name.replace("_", "-"): value for name, value in options.items()}
+        return ask(self.program, command, [self.file, *inputs], words, self.own, *begins)
 
 
 def check(graph: AnyGraph, *, large: bool = False, program: AnyProgram = None) -> Check:
-    """Looks whether a graph is one: each vertex with its degree and its distance to the sink. `large` is not needed."""
-    text = _Question(graph, program).ask("check", [], {}, "vertices ")
-    lines = [line.split() for line in text.splitlines()]
+    """Looks whether a graph is one that chipfire takes: each vertex with its degree and its distance to the sink."""
+    lines = [line.split() for line in _Question(graph, program).ask("check", [], "vertices ").splitlines()]
     vertices, edges, sink = (int(words[1]) for words in lines[:3])
     degrees, distances = (tuple(int(words[place]) for words in lines[3:]) for place in (3, 5))
     return Check(vertices, edges, sink, degrees, distances)
@@ -104,17 +109,15 @@ def plain(
     """Stabilizes: plays on one thread until no vertex is legal, or all that are have fired `limit` times.
 
     `guess` says how often each vertex may have fired in the end, in one of the forms of chips, or by a report. It
-    changes no answer; one that is true or nearly so saves the most of the play. With `progress` there is a line on
-    `sys.stderr`, once a second at most, that tells how the play goes on. `large` is not needed: a graph may have up to
-    1,048,576 vertices and 8,388,608 edges.
+    changes no answer; one that is true or nearly so saves the most of the play. With `progress`, `sys.stderr` gets a
+    line about once a second that tells how the play goes on. `large` does nothing.
     """
     question = _Question(graph, program)
-    options = {**_numbers(limit=(limit, 0, MAX_LIMIT)), "progress": progress}
-    counts = guess.total if isinstance(guess, Report) else guess
     files = [question.chips(chips)]
-    if counts is not None:
-        files.append(question.chips(counts, "--guess", burning.GUESS_HEADER))
-    return Report.parse(question.ask("plain", files, options), question.graph)
+    if guess is not None:
+        counts = guess.total if isinstance(guess, Report) else guess
+        files.append(question.chips(counts, "--guess", GUESS_HEADER))
+    return Report.parse(question.ask("plain", files, limit=limit, progress=progress), question.graph)
 
 
 def verify(
@@ -134,10 +137,9 @@ def verify(
         if min(*left, *counts) < 0 or max(*left, *counts) > MAX_CHIPS or counts[question.graph.sink]:
             return False
         report = Report(tuple(left), counts, tuple(over))
-    file = Kept([report.text().encode()]) if isinstance(report, Report) else report
-    options = {**_numbers(limit=(limit, 0, MAX_LIMIT)), "progress": progress}
+    files = [question.chips(chips), _input("report", report, Report.text)]
     try:
-        question.ask("verify", [question.chips(chips), ("report", file)], options, "verified\n")
+        question.ask("verify", files, "verified\n", limit=limit, progress=progress)
     except Fault as fault:
         if fault.name == "Differs":
             return False
@@ -159,7 +161,7 @@ def drops(
     question, report = _Question(graph, program), Kept([])
     file = vertices if isinstance(vertices, FILE) else Kept(parts_of(question.graph, vertices))
     files: list[Input] = [question.chips(chips), ("drops", file), ("--report", report)]
-    size, extent, lost = columns_of(question.ask("avalanches", files, {"progress": progress}, ROWS_HEADER))
+    size, extent, lost = columns_of(question.ask("avalanches", files, ROWS_HEADER, progress=progress))
     return Drops(size, extent, lost, Report.parse(report.text(), question.graph))
 
 
@@ -170,18 +172,19 @@ def run(
 ) -> Report:
     """Plays as `plain` does, with an actor for each vertex, on so many threads, by a program that has this command.
 
-    The threads share one queue of all vertices. Where the vertices are `dealt` out, each thread keeps its own: large
+    The threads share one queue of all vertices. If the vertices are `dealt` out, each thread keeps its own: large
     graphs are then played quicker, by as many threads as there are processors. The report is the same.
     `feed` are chips that the vertices get while they play; the report is that of a game which has all of them from
-    the start. `trace` names a file that is written: what each vertex took and fired, up to `trace_rows` rows each.
-    Where that was not enough for a vertex, the warning `TraceCut` says so. `progress` is as in `plain`.
+    the start. `trace` names a file that is written: what each vertex took and fired, up to `trace_rows` rows each. If
+    a vertex did more, the warning `TraceCut` says so. `progress` is as in `plain`.
     """
     question = _Question(graph, program)
-    options = _numbers(limit=(limit, 0, MAX_LIMIT), ring=(ring, 1, 64), workers=(workers, 1, 64))
-    options |= _numbers(turns=(turns, 1, 2**40), trace_rows=(trace_rows, 0, 2**20))
-    options |= {"dealt": dealt, "progress": progress, "trace": None if trace is None else os.path.abspath(trace)}
     files = [question.chips(chips), *([] if feed is None else [question.chips(feed, "--feed")])]
-    return Report.parse(question.ask("run", files, options), question.graph)
+    told = question.ask(
+        "run", files, limit=limit, ring=ring, workers=workers, turns=turns, trace_rows=trace_rows, dealt=dealt,
+        progress=progress, trace=None if trace is None else os.path.abspath(trace),
+    )
+    return Report.parse(told, question.graph)
 
 
 def simulate(
@@ -189,25 +192,23 @@ def simulate(
     ring: int | None = None, rounds: int | None = None, books: bool = False, fed: bool = False,
     program: AnyProgram = None,
 ) -> Simulation:
-    """Runs a schedule on the detector: a reply for each event, and the report where the root is closed then, or after
-    so many rounds of turns. With `books` there is also what stands in the books after each event; where it is `fed`,
-    the schedule may give the vertices more chips, on the edges that come from the root. The program never sees the
-    notes of a schedule."""
+    """Runs a schedule on the detector: a reply for each event, and the report if the root is closed then, or after so
+    many rounds of turns. With `books` there is also what stands in the books after each event; if it is `fed`, the
+    schedule may give the vertices more chips, on the edges that come from the root. The program never sees the notes of
+    a schedule."""
     question = _Question(graph, program)
-    options = _numbers(limit=(limit, 0, MAX_LIMIT), ring=(ring, 1, 64), rounds=(rounds, 0, 2**40))
     if not isinstance(schedule, FILE):
-        notes, schedule = getattr(schedule, "notes", {}), Schedule(Event(*event) for event in schedule)
-        schedule.notes = notes
+        schedule = Schedule(schedule)
     elif has_notes(schedule):
         schedule = read_schedule(schedule)
     chips = chips if isinstance(chips, FILE) else question.graph.chips(chips)
-    file: Input = ("schedule", schedule if isinstance(schedule, FILE) else Kept([schedule_text(schedule).encode()]))
-    text = question.ask("simulate", [question.chips(chips), file], {**options, "books": books, "fed": fed}, "")
-    given: dict[str, Any] = {name: options[name] for name in ("limit", "ring") if options[name] is not None}
+    files = [question.chips(chips), _input("schedule", schedule, schedule_text)]
+    text = question.ask("simulate", files, "", limit=limit, ring=ring, rounds=rounds, books=books, fed=fed)
+    given = {name: int(value) for name, value in (("limit", limit), ("ring", ring)) if value is not None}
     setting = Setting(question.graph, known_chips(question.graph, chips, program), fed=fed, **given)
-    told = Simulation.parse(text, question.graph)
     events = read_schedule(schedule) if isinstance(schedule, FILE) else schedule
-    return replace(told, schedule=tuple(events), notes=events.notes, rounds=options["rounds"] or 0, setting=setting)
+    told = Simulation.parse(text, question.graph)
+    return replace(told, schedule=tuple(events), notes=events.notes, rounds=int(rounds or 0), setting=setting)
 
 
 def replay(
@@ -216,9 +217,9 @@ def replay(
 ) -> list[Firing]:
     """The firings of a recorded run, in an order in which all that the vertices wrote down fits together."""
     question = _Question(graph, program)
-    file: Input = ("trace", trace if isinstance(trace, FILE) else Kept([trace_text(trace).encode()]))
-    text = question.ask("replay", [question.chips(chips), file], _numbers(limit=(limit, 0, MAX_LIMIT)), "")
-    return [Firing(int(vertex), int(count)) for _, vertex, count in map(str.split, text.splitlines())]
+    files = [question.chips(chips), _input("trace", trace, trace_text)]
+    lines = question.ask("replay", files, "", limit=limit).splitlines()
+    return [Firing(int(vertex), int(count)) for _, vertex, count in map(str.split, lines)]
 
 
 def resume(
@@ -227,12 +228,11 @@ def resume(
 ) -> Report:
     """Goes on from where a limit or a seal stopped a play; `total` of what comes is what was fired in all.
 
-    A report of another graph is refused, where it knows its own or cannot be one of this; `prior` is not checked.
-    `large` is not needed.
+    A report of another graph is refused if it knows its own, or cannot be one of this; `prior` is not checked.
     """
     question, own = _Question(graph, program), None if isinstance(report, FILE) else report
-    file: Input = ("report", report if isinstance(report, FILE) else Kept([report.text().encode()]))
-    found = Report.parse(question.ask("resume", [file], _numbers(limit=(limit, 0, MAX_LIMIT))), question.graph)
+    text = question.ask("resume", [_input("report", report, Report.text)], limit=limit)
+    found = Report.parse(text, question.graph)
     if own and not (own.graph.is_like(question.graph) if own.graph else own.fits(question.graph)):
         raise ValueError("the report is one of another graph")
     return found
@@ -250,12 +250,12 @@ def identity(graph: AnyGraph, *, large: bool = False, program: AnyProgram = None
     With `m` the maximal stable configuration it is the stabilization of `2m` less the stabilization of `2m`.
     """
     graph = known_graph(graph, program)
-    return Configuration(graph, burning.identity(graph, program))
+    return Configuration(graph, configurations.identity(graph, program))
 
 
 def write_chips(file: FileName, graph: Graph, chips: Chips) -> None:
     """Writes a chips file: a row for each vertex that has a chip."""
-    write(file, b"".join(burning.chips_parts(graph.chips(chips))).decode())
+    write(file, chips_text(graph.chips(chips)))
 
 
 def read_chips(file: FileName, graph: Graph, *, program: AnyProgram = None) -> tuple[int, ...]:

@@ -1,12 +1,11 @@
-"""Pictures of points as files: by Pillow where it is installed, else as PNG by what stands here.
+"""Pictures of points as files: by Pillow if it is installed, else as PNG by what stands here.
 
 A picture is its rows of points, each row bytes and each point the number of a colour; several of one size are an
-animation. Colours are tuples of red, green and blue, 256 at most.
+animation. Colours are bytes of red, green and blue, one after the other; there are 256 at most.
 """
 
 from __future__ import annotations
 
-import itertools
 import os
 import struct
 import zlib
@@ -16,21 +15,20 @@ from typing import Any
 from chipfire.values import FileName, library
 
 Rows = Sequence[bytes]
-Colours = Sequence[tuple[int, int, int]]
 
 
 def pillow() -> Any:
-    """The module that Pillow makes pictures with, or None where it is not installed."""
+    """The module that Pillow makes pictures with, or None if it is not installed."""
     return library("PIL.Image")
 
 
-def write(file: FileName, frames: Sequence[Rows], colours: Colours, milliseconds: int = 0) -> None:
+def write(file: FileName, frames: Sequence[Rows], colours: bytes, milliseconds: int = 0) -> None:
     """Writes a picture, or several that are shown for so long each; the end of the file's name says in which form."""
     maker = pillow()
     if maker is not None:
         images = [maker.frombytes("P", (len(rows[0]), len(rows)), b"".join(rows)) for rows in frames]
         for image in images:
-            image.putpalette(bytes(itertools.chain(*colours)))
+            image.putpalette(colours)
         several = {"save_all": True, "append_images": images[1:], "duration": milliseconds, "loop": 0}
         images[0].save(file, bits=8, **(several if len(images) > 1 else {}))
     elif os.fspath(file).lower().endswith(".png") and len(frames) == 1:
@@ -40,16 +38,13 @@ def write(file: FileName, frames: Sequence[Rows], colours: Colours, milliseconds
         raise ValueError(f"{os.fspath(file)}: without Pillow there are .png and .svg of one picture, .html of several")
 
 
-def png(rows: Rows, colours: Colours) -> bytes:
+def png(rows: Rows, colours: bytes) -> bytes:
     """The bytes of a PNG file: a table of colours, and a byte for each point."""
 
     def chunk(kind: bytes, data: bytes) -> bytes:
         return struct.pack(">I", len(data)) + kind + data + struct.pack(">I", zlib.crc32(kind + data))
 
     header = struct.pack(">IIBBBBB", len(rows[0]), len(rows), 8, 3, 0, 0, 0)
-    table = bytes(itertools.chain(*colours))
     points = zlib.compress(b"".join(b"\0" + row for row in rows))
-    signature = b"\x89PNG\r\n\x1a\n"
-    return signature + b"".join(
-        [chunk(b"IHDR", header), chunk(b"PLTE", table), chunk(b"IDAT", points), chunk(b"IEND", b"")]
-    )
+    parts = (b"IHDR", header), (b"PLTE", colours), (b"IDAT", points), (b"IEND", b"")
+    return b"\x89PNG\r\n\x1a\n" + b"".join(chunk(*part) for part in parts)

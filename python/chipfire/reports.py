@@ -5,13 +5,15 @@ from __future__ import annotations
 import json
 import operator
 from collections.abc import Sequence
-from dataclasses import dataclass, field
+from dataclasses import dataclass
 from typing import Any
 
 from chipfire.chips import Configuration
 from chipfire.graphs import Graph
 from chipfire.pictures import Drawn
 from chipfire.values import FileName, counted, write
+
+_KEY = operator.attrgetter("chips", "fired", "over", "sealed", "prior")
 
 
 @dataclass(frozen=True, repr=False, eq=False)
@@ -23,9 +25,9 @@ class Report(Drawn):
     over    the vertices that could fire once more and had fired as often as the limit allows
     sealed  the vertices that stopped because an edge was sealed
     prior   how often each vertex fired in the sittings before; None in a report of the first one
-    graph   the graph that was played on, where it is known; it is not part of the report's text
+    graph   the graph that was played on, if it is known; it is not part of the report's text
 
-    Two reports are equal where all their numbers are, and their graphs as far as both are known.
+    Two reports are equal if all their numbers are, and so are their graphs, if both are known.
     """
 
     chips: tuple[int, ...]
@@ -33,27 +35,23 @@ class Report(Drawn):
     over: tuple[int, ...] = ()
     sealed: tuple[int, ...] = ()
     prior: tuple[int, ...] | None = None
-    graph: Graph | None = field(default=None)
+    graph: Graph | None = None
 
     def __post_init__(self) -> None:
-        counts = [self.chips, self.fired, *([] if self.prior is None else [self.prior])]
         vertices = len(self.chips) if self.graph is None else self.graph.vertices
-        is_known = all(0 <= vertex < vertices for vertex in (*self.over, *self.sealed))
-        if not is_known or any(len(numbers) != vertices for numbers in counts):
+        sizes = {len(self.chips), len(self.fired), vertices if self.prior is None else len(self.prior)}
+        if sizes != {vertices} or not all(0 <= vertex < vertices for vertex in (*self.over, *self.sealed)):
             raise ValueError(f"the lists of the report do not fit a graph of {vertices} vertices")
         if self.graph is not None and self.total[self.graph.sink]:
             raise ValueError("the sink of the graph fired in the report")
 
-    def _key(self) -> tuple[Any, ...]:
-        return self.chips, self.fired, self.over, self.sealed, self.prior
-
     def __eq__(self, other: object) -> bool:
-        if not isinstance(other, Report) or self._key() != other._key():
+        if not isinstance(other, Report) or _KEY(self) != _KEY(other):
             return False
         return self.graph is None or other.graph is None or self.graph.is_like(other.graph)
 
     def __hash__(self) -> int:
-        return hash(self._key())
+        return hash(_KEY(self))
 
     def __repr__(self) -> str:
         lists = f"chips={self.chips}, fired={self.fired}, " if len(self.chips) <= 12 else ""
@@ -71,13 +69,13 @@ class Report(Drawn):
 
     @property
     def configuration(self) -> Configuration:
-        """The chips of all vertices but the sink, by names: where `closed` holds, the stabilization."""
-        return self._known_graph().without_sink(self.chips)
+        """The chips of all vertices but the sink, by names; if the report is `closed`, the stabilization."""
+        return Configuration(self._known_graph(), self.chips)
 
     @property
     def odometer(self) -> Configuration:
         """How often each vertex but the sink fired, by names, in this sitting and those before it."""
-        return self._known_graph().without_sink(self.total)
+        return Configuration(self._known_graph(), self.total)
 
     def _known_graph(self) -> Graph:
         if self.graph is None:
@@ -88,19 +86,19 @@ class Report(Drawn):
     def parse(cls, text: str, graph: Graph | None = None) -> Report:
         """The report of a text as the program writes it."""
         value = json.loads(text)
-        if not isinstance(value, dict) or value.get("version") not in (1, 2):
-            raise ValueError("the text is no report")
         try:
-            lists = {key: tuple(value[key]) for key in ("chips", "fired", "over", "sealed", "prior") if key in value}
-            return cls(**lists, graph=graph)
-        except TypeError:
-            raise ValueError("the text is no report") from None
+            if value.pop("version") in (1, 2):
+                value.pop("closed", None)
+                return cls(**{name: tuple(numbers) for name, numbers in value.items()}, graph=graph)
+        except (AttributeError, KeyError, TypeError):
+            pass
+        raise ValueError("the text is no report")
 
     @classmethod
     def read(cls, file: FileName, graph: Graph | None = None) -> Report:
         """The report of a file. Whether it is one to the byte, `resume` tells.
 
-        A report does not name its graph. One that it cannot be of is refused: where a vertex would have begun with less
+        A report does not name its graph. One that it cannot be of is refused: then a vertex would have begun with less
         than no chip, or is not stopped and could fire.
         """
         with open(file, encoding="utf-8", newline="") as text:
@@ -120,11 +118,9 @@ class Report(Drawn):
 
     def text(self) -> str:
         """The text of the report, to the byte that of the program."""
-        value: dict[str, Any] = {"chips": self.chips, "closed": self.closed, "fired": self.fired, "over": self.over}
-        if self.prior is not None:
-            value["prior"] = self.prior
-        value |= {"sealed": self.sealed, "version": 1 if self.prior is None else 2}
-        return json.dumps(value, separators=(",", ":")) + "\n"
+        told = {name: value for name, value in vars(self).items() if name != "graph" and value is not None}
+        told |= {"closed": self.closed, "version": 1 if self.prior is None else 2}
+        return json.dumps(told, separators=(",", ":"), sort_keys=True) + "\n"
 
     def write(self, file: FileName) -> None:
         """Writes the report, for `resume` to go on from."""

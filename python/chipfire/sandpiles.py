@@ -1,10 +1,10 @@
 """The words of sandpiles, over the player: sums, recurrent and superstable, the sandpile group, avalanches.
 
-A graph may be the name of its file, and so may chips. They come in every form that `Graph.chips` takes; where a number
-of the sink is among them, it counts for nothing. Graphs may be large, and `large` need not be said.
+A graph may be the name of its file, and so may chips. They come in every form that `Graph.chips` takes, and a number of
+the sink counts for nothing. `large` does nothing.
 
-What is proved: wherever chips are stabilized, the program is asked, and its chips and counts are those of every play
-that comes to its end. What is not: all that stands here, which says what to ask and compares what comes.
+Proved: whenever chips are stabilized, the program is asked, and its chips and counts are those of every play to the
+end. Not proved: all that stands here, which says what to ask and compares what comes.
 """
 
 from __future__ import annotations
@@ -13,13 +13,14 @@ import functools
 import itertools
 import random
 from collections import Counter
-from collections.abc import Hashable, Iterable, Iterator, Sequence
+from collections.abc import Callable, Hashable, Iterable, Iterator, Sequence
 from dataclasses import dataclass, field
 from typing import Any
 
-from chipfire import burning, smith
-from chipfire.chips import Chips, Configuration
+from chipfire import smith
+from chipfire.chips import Chips, Configuration, burning, identity, once, played
 from chipfire.dropped import PART
+from chipfire.graphs import Graph
 from chipfire.program import AnyGraph, AnyProgram, drops, known_chips, known_graph
 from chipfire.values import library, whole
 
@@ -46,8 +47,8 @@ def add(
 
     Proved: the stabilization. Not proved: that Python adds.
     """
-    graph = known_graph(graph, program)
-    return (_held(graph, first, program) + _held(graph, second, program)).stabilize(program=program)
+    known = known_graph(graph, program)
+    return (_held(known, first, program) + _held(known, second, program)).stabilize(program=program)
 
 
 def is_stable(graph: AnyGraph, chips: Chips) -> bool:
@@ -61,31 +62,31 @@ def is_stable(graph: AnyGraph, chips: Chips) -> bool:
 def burning_script(graph: AnyGraph, *, large: bool = False, program: AnyProgram = None) -> Configuration:
     """The least burning script, by Speer: how often each vertex fires when a recurrent configuration burns.
 
-    It is the least of the scripts that fire each vertex at least once and leave no vertex with more chips than before.
-    On an undirected graph each vertex fires once, and the method is Dhar's. Else a vertex that got more than it sent
-    fires again, and so on. That is a play of its own, which begins with one chip less on each vertex than edges lead
-    into it; the script is one more than its counts.
+    It fires each vertex at least once and leaves no vertex with more chips than before, with the fewest firings. On an
+    undirected graph each vertex fires once, and the method is Dhar's. Else a vertex that got more than it sent fires
+    again, and so on: the script is one more than the counts of a play that begins with one chip less on each vertex
+    than edges lead into it.
     Proved: the counts of that play. Not proved: that they are the script.
     """
-    graph = known_graph(graph, program)
-    return Configuration(graph, burning.burning(graph, program)[0])
+    known = known_graph(graph, program)
+    return Configuration(known, burning(known, program)[0])
 
 
 def burning_configuration(graph: AnyGraph, *, large: bool = False, program: AnyProgram = None) -> Configuration:
     """The chips that `burning_script` takes away. Added to a recurrent configuration and stabilized, it comes back.
 
-    Proved: the chips of the play that `burning_script` tells of. Not proved: that they come to these.
+    Proved: the counts of the play that `burning_script` tells of. Not proved: that they come to these chips.
     """
-    graph = known_graph(graph, program)
-    return Configuration(graph, burning.burning(graph, program)[1])
+    known = known_graph(graph, program)
+    return Configuration(known, burning(known, program)[1])
 
 
 def is_recurrent(graph: AnyGraph, chips: Chips, *, large: bool = False, program: AnyProgram = None) -> bool:
     """Whether a configuration is recurrent: stable, and what each can become by more chips and firings.
 
-    The method is the burning test, for directed multigraphs too: a configuration is recurrent exactly where it comes
-    back when `burning_configuration` is added to it and the sum stabilized.
-    Proved: the stabilizations that are asked for. Not proved: the comparison, and that the test is right.
+    This is the burning test, for directed multigraphs too: a configuration is recurrent exactly if it comes back when
+    `burning_configuration` is added to it and the sum is stabilized.
+    Proved: the stabilizations. Not proved: the comparison, and that the test is right.
     """
     return _held(graph, chips, program).is_recurrent(program=program)
 
@@ -95,18 +96,30 @@ def recurrent_representative(
 ) -> Configuration:
     """The one recurrent configuration to which firings, also backward, lead from this one; chips may be below 0.
 
-    It is the stable sum with the recurrent identity; where some are below 0, chips that are equivalent to none come in.
-    Proved: the stabilizations that are asked for. Not proved: the sums between them.
+    It is the stable sum with the recurrent identity; if some are below 0, chips that are equivalent to none are added.
+    Proved: the stabilizations. Not proved: the sums between them.
     """
     held = _held(graph, chips, program)
-    return Configuration(held.graph, burning.recurrent(held.graph, held.numbers, program))
+    held += identity(held.graph, program)
+    if min(held.numbers) < 0:
+        lift = _lift(held.graph, program)
+        times = max(-count // more + 1 for count, more in zip(held.numbers, lift) if more)
+        held += [times * more for more in lift]
+    return held.stabilize(program=program)
+
+
+@once
+def _lift(graph: Graph, program: AnyProgram) -> Sequence[int]:
+    """Chips that are equivalent to none, 1 on each vertex at least: one for each edge out, less what these become."""
+    degrees = Configuration(graph, graph.degrees())
+    return (degrees - degrees.stabilize(program=program)).numbers
 
 
 def superstable_representative(graph: AnyGraph, chips: Chips, *, program: AnyProgram = None) -> Configuration:
     """The one superstable configuration that is equivalent to this one, the q-reduced one; chips may be below 0.
 
     With `m` the maximal stable configuration, it is `m` less the recurrent representative of `m` less this one.
-    Proved: the stabilizations that are asked for. Not proved: the sums between them.
+    Proved: the stabilizations. Not proved: the sums between them.
     """
     held = _held(graph, chips, program)
     most = held.graph.max_stable()
@@ -116,9 +129,9 @@ def superstable_representative(graph: AnyGraph, chips: Chips, *, program: AnyPro
 def is_superstable(graph: AnyGraph, chips: Chips, *, large: bool = False, program: AnyProgram = None) -> bool:
     """Whether a configuration is superstable: no vertices can fire together, not even several times each.
 
-    Together they may fire where none is left with fewer than 0 chips, whether or not one of them could fire alone. On
-    an undirected graph these are the parking functions. A configuration is superstable exactly where it is stable and
-    what it lacks to the maximal stable configuration is recurrent, and this is asked.
+    Together they may fire if none is left with fewer than 0 chips, whether or not one of them could fire alone. On an
+    undirected graph these are the parking functions. A configuration is superstable exactly if it is stable and what
+    it lacks to the maximal stable configuration is recurrent, and this is asked.
     Proved and not proved: as of `is_recurrent`.
     """
     return _held(graph, chips, program).is_superstable(program=program)
@@ -130,7 +143,43 @@ def superstables(graph: AnyGraph, *, program: AnyProgram = None) -> Iterator[Con
     Nothing of this is proved but the burning script, as it says: Python burns each of them itself.
     """
     known = known_graph(graph, program)
-    return (Configuration(known, numbers) for numbers in burning.superstables(known, program))
+    burns, waiting = _burns(known, program), [((0,) * known.vertices, 0)]
+    while waiting:
+        chips, first = waiting.pop()
+        yield Configuration(known, chips)
+        # (what is left of superstable chips without one of them is superstable, too)
+        for vertex in range(first, known.vertices):
+            more = (*chips[:vertex], chips[vertex] + 1, *chips[vertex + 1 :])
+            if vertex != known.sink and burns(more):
+                waiting.append((more, vertex))
+
+
+def _burns(graph: Graph, program: AnyProgram) -> Callable[[Sequence[int]], bool]:
+    """What tells of chips whether they are superstable, by burning.
+
+    As long as a vertex has less than nothing, it gives a firing of the burning script back. Chips are superstable if
+    all are given back.
+    """
+    script, fuel = burning(graph, program)
+    outs: list[list[tuple[int, int]]] = [[] for _ in range(graph.vertices)]
+    for tail, head, mult in zip(*graph.columns):
+        if head != graph.sink:
+            outs[tail].append((head, mult))
+
+    def burns(chips: Sequence[int]) -> bool:
+        left, firings = list(map(int.__sub__, chips, fuel)), sum(script)
+        poor = [vertex for vertex, count in enumerate(left) if count < 0]
+        for vertex in poor:
+            while left[vertex] < 0:
+                left[vertex] += graph.degrees()[vertex]
+                firings -= 1
+                for head, mult in outs[vertex]:
+                    if left[head] >= 0 > left[head] - mult:
+                        poor.append(head)
+                    left[head] -= mult
+        return firings == 0
+
+    return burns
 
 
 def recurrents(graph: AnyGraph, *, program: AnyProgram = None) -> Iterator[Configuration]:
@@ -143,40 +192,30 @@ def recurrents(graph: AnyGraph, *, program: AnyProgram = None) -> Iterator[Confi
 
 
 def laplacian(graph: AnyGraph, *, sparse: bool = False) -> Any:
-    """The Laplacian, rows as lists, or `sparse` by SciPy: what each vertex sends away, less what it sends to each.
-
-    Nothing of this is proved, and the program is not asked.
-    """
-    known = known_graph(graph)
-    return _matrix(smith.laplacian(known), range(known.vertices), sparse)
+    """The Laplacian, rows as lists, or `sparse` by SciPy: what each vertex sends away, less what it sends to each."""
+    return _matrix(smith.laplacian(known_graph(graph)), sparse)
 
 
 def reduced_laplacian(graph: AnyGraph, *, sparse: bool = False) -> Any:
-    """The Laplacian without the row and the column of the sink.
-
-    Nothing of this is proved, and the program is not asked.
-    """
-    known = known_graph(graph)
-    return _matrix(smith.reduced(known), [it for it in range(known.vertices) if it != known.sink], sparse)
+    """The Laplacian without the row and the column of the sink."""
+    return _matrix(smith.reduced(known_graph(graph)), sparse)
 
 
-def _matrix(rows: list[smith.Row], columns: Iterable[int], sparse: bool) -> Any:
-    places = {column: place for place, column in enumerate(columns)}
+def _matrix(rows: list[smith.Row], sparse: bool) -> Any:
+    size = len(rows)
     if not sparse:
-        return [[row.get(column, 0) for column in places] for row in rows]
-    scipy = library("scipy.sparse")
-    if scipy is None:
-        raise ImportError("a sparse matrix is one of SciPy, which is not installed")
-    found = [(at, places[column], x) for at, row in enumerate(rows) for column, x in row.items() if x]
-    at, to, values = zip(*found) if found else ((), (), ())
-    return scipy.csr_matrix((values, (at, to)), shape=(len(places), len(places)), dtype="int64")
+        return [[row.get(column, 0) for column in range(size)] for row in rows]
+    entries = [(x, at, to) for at, row in enumerate(rows) for to, x in row.items()]
+    values, at, to = zip(*entries) if entries else ((), (), ())
+    made = library("scipy.sparse", "a sparse matrix is one of SciPy").csr_matrix
+    return made((values, (at, to)), shape=(size, size), dtype="int64")
 
 
 def invariant_factors(graph: AnyGraph) -> tuple[int, ...]:
     """The invariant factors of the sandpile group, above 1 and ascending; each divides the next.
 
-    (4, 4) says that the group is that of the pairs of numbers modulo 4. A graph whose group has one element has none.
-    A grid of 40 by 40 takes a second, one of 50 by 50 some four.
+    (4, 4) says that the group is that of the pairs of numbers modulo 4. A group of one element has none. A grid of 40
+    by 40 takes a second, one of 50 by 50 some four.
     Nothing of this is proved, and the program is not asked.
     """
     return tuple(smith.invariant_factors(smith.reduced(known_graph(graph))))
@@ -192,10 +231,7 @@ def order(graph: AnyGraph) -> int:
 
 
 def random_drops(graph: AnyGraph, count: int, seed: Any, *, program: AnyProgram = None) -> Iterator[Hashable]:
-    """The names of so many vertices but the sink, drawn evenly by `random.Random(seed)`, one after the other.
-
-    Nothing of this is proved, and the program is not asked.
-    """
+    """The names of so many vertices but the sink, drawn evenly by `random.Random(seed)`, one after the other."""
     known, draw, count = known_graph(graph, program), random.Random(seed), whole(count, "the number of drops")
     inner = [name for vertex, name in enumerate(known.names) if vertex != known.sink]
     parts = (draw.choices(inner, k=min(PART, count - done)) for done in range(0, count, PART))
@@ -226,8 +262,7 @@ class Avalanche:
     def _after(self, more: int) -> tuple[list[int], list[int]]:
         """The chips after the drops before this one and so many more, and the firings of all of them together."""
         held, names, count, program = self._known
-        held += Counter(names[: count + more])
-        return burning.stabilized(held.graph, held.numbers, program)
+        return played(held + Counter(names[: count + more]), program)
 
     @functools.cached_property
     def configuration(self) -> Configuration:
@@ -258,20 +293,15 @@ def avalanches(
     `drops` has the numbers of all of them in columns.
     Proved: `size`, `extent` and `lost`, and the plays of which `fired` and `configuration` come. Not proved: the rest.
     """
-    held = _held(graph, chips, program)
+    held, names = _held(graph, chips, program), iter(vertices)
     if not held.is_stable():
         raise ValueError("the chips are not stable: stabilize them first")
-    return _dropped(held, iter(vertices), program)
-
-
-def _dropped(held: Configuration, vertices: Iterator[Hashable], program: AnyProgram) -> Iterator[Avalanche]:
-    """The avalanches from a stable configuration on."""
     some = 1
-    while names := list(itertools.islice(vertices, some)):
-        found = drops(held.graph, held, names, program=program)
+    while part := list(itertools.islice(names, some)):
+        found = drops(held.graph, held, part, program=program)
         columns = (column.tolist() for column in (found.size, found.extent, found.lost))
-        for place, (name, size, extent, lost) in enumerate(zip(names, *columns)):
-            yield Avalanche(name, size, extent, lost, (held, names, place, program))
+        for place, (name, size, extent, lost) in enumerate(zip(part, *columns)):
+            yield Avalanche(name, size, extent, lost, (held, part, place, program))
         if not found.report.closed:
             raise ValueError("a vertex fired 2^40 times, and the chips are not stable then")
         held, some = found.configuration, min(2 * some, 1024)

@@ -1,4 +1,4 @@
-"""What all modules stand on: limits, whole numbers, files and their rows, and libraries that may be there."""
+"""What all modules stand on: limits, whole numbers, files and their rows, and libraries that may be missing."""
 
 from __future__ import annotations
 
@@ -8,7 +8,8 @@ import io
 import itertools
 import operator
 import os
-from collections.abc import Iterable, Iterator, Sequence
+from array import array
+from collections.abc import Callable, Iterable, Iterator, Sequence
 from typing import Any, Union
 
 MAX_VERTICES = 4096
@@ -21,7 +22,7 @@ MAX_MULT = 2**20
 MAX_CHIPS = MAX_LIMIT = 2**40
 
 FileName = Union[str, "os.PathLike[str]"]
-#: What the name of a file is, where it was given in place of what stands in the file.
+#: What the name of a file is, if it is given in place of what stands in the file.
 FILE = (str, os.PathLike)
 
 HERE = os.path.dirname(os.path.realpath(__file__))
@@ -30,7 +31,7 @@ HERE = os.path.dirname(os.path.realpath(__file__))
 def whole(value: Any, what: str, least: int | None = 0, most: int | None = None) -> int:
     """A whole number of a range: an int, what stands for one, as the numbers of NumPy and Sage do, or a float like 4.0.
 
-    `least` and `most` are the ends of the range, None where it has none there.
+    `least` and `most` are the ends of the range; None sets no end.
     """
     try:
         is_like_one = callable(getattr(value, "is_integer", None)) and value.is_integer()
@@ -44,11 +45,26 @@ def whole(value: Any, what: str, least: int | None = 0, most: int | None = None)
     return number
 
 
-def library(name: str) -> Any:
-    """A module of a library that need not be there, or None where it is not."""
+def wholes(
+    values: Sequence[Any], what: Callable[[int], str], least: int | None = 0, most: int | None = None
+) -> Sequence[int]:
+    """Many numbers, each as `whole` has it; `what` says which is in a place."""
+    try:
+        found = array("q", values)  # (as long as each is an int of up to 64 bits)
+        if (least is None or min(found, default=least) >= least) and (most is None or max(found, default=most) <= most):
+            return found
+    except (OverflowError, TypeError):
+        pass
+    return [whole(value, what(place), least, most) for place, value in enumerate(values)]
+
+
+def library(name: str, wanted: str = "") -> Any:
+    """A module of a library. If it is not installed, None, or an ImportError that says what was `wanted` of it."""
     try:
         return importlib.import_module(name)
     except ImportError:
+        if wanted:
+            raise ImportError(f"{wanted}, which is not installed") from None
         return None
 
 
@@ -81,7 +97,7 @@ def begins(file: FileName, header: Sequence[str]) -> bool:
 
 
 def read_rows(file: FileName, header: Sequence[str]) -> Iterator[list[str]]:
-    """The rows of a file of rows. What exactly is wrong with a file, the program tells that reads it."""
+    """The rows of a file after its header. The program says what exactly is wrong with a file that it reads."""
     with open(file, encoding="utf-8-sig", newline="") as text:
         rows = [row for row in csv.reader(text) if row]
     if not rows or rows[0] != list(header):

@@ -15,14 +15,14 @@ HERE = os.path.dirname(os.path.realpath(__file__))
 REPOSITORY = os.path.dirname(HERE)
 SOURCE = f"{REPOSITORY}/crates/chip_arguments/src/help_texts.rt"
 SUMMARY = "Graphs, chips and reports of chipfire, a chip-firing machine that is proved right, as Python objects"
-#: Where the version stands: in the program's source, and in an archive of these files alone in its PKG-INFO.
+#: What has the version: the program's source, and in an archive of these files alone its PKG-INFO.
 VERSIONS = {
     SOURCE: r'VERSION: &str = "(.*)"',
     f"{HERE}/PKG-INFO": r"Version: (.*)",
 }
 #: The wheel without the program is for every machine.
 PURE = "py3-none-any"
-#: The command that pip installs where the package carries the program.
+#: The command that pip installs, if the package carries the program.
 COMMAND = b"[console_scripts]\nchipfire = chipfire:start_program\n"
 
 

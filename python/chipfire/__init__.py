@@ -6,17 +6,13 @@
     report = chipfire.plain(grid, {190: 1000})
     print(report.chips, report.fired)
 
-`page` writes a page on which a run of the distributed machine is watched in a browser, event by event, and `wrong_page`
-one on which a wrong detector fails.
-
-The package stands on the standard library alone. `pip install ./python` installs it, and a copy of its folder works
-too. The answers are the program's, whose contracts are proved; nothing of the package is. What `explore`, `judge` and
-`random_schedule` say is computed in Python, on the small model of `chipfire.model`. The program is found in this order:
-the `program` that a call or a `Program` names, the environment variable CHIPFIRE, the program that an installed package
+The answers are the program's, whose contracts are proved; nothing of the package is. It stands on the standard library
+alone: `pip install ./python` installs it, and a copy of its folder works too. The program is found in this order: the
+`program` that a call or a `Program` names, the environment variable CHIPFIRE, the program that an installed package
 carries, `target/chipfire` of the repository that the package lies in or was installed from, the program in the
-`release` there, where `./chipfire` would take it, and `chipfire` on the PATH.
+`release` there, if `./chipfire` would take it, and `chipfire` on the PATH.
 
-Who comes from sandpiles finds the usual words under these names:
+The usual words of sandpiles are found under these names:
 
     sandpile graph             Graph; its sink is the global sink, edges have a multiplicity
     configuration              the chips of all vertices but the sink: Configuration, a mapping by vertex
@@ -34,15 +30,15 @@ Who comes from sandpiles finds the usual words under these names:
     avalanche                  avalanche(graph, chips, vertex), avalanches(graph, chips, vertices); by the million:
                                drops(graph, chips, vertices), with random_drops(graph, count, seed)
 
-Reports and configurations are drawn by `image` and `show`, plays by `frames`. The words of the distributed machine
-(schedules, replies, books, traces) are told of in `chipfire.machine`.
+`image` and `show` draw reports and configurations, `frames` draws plays. `page` makes a page for the browser on which
+one watches a run of the distributed machine, event by event, and `wrong_page` one on which a wrong detector fails;
+`chipfire.machine` has the words of the machine (schedules, replies, books, traces). `explore`, `judge` and
+`random_schedule` compute in Python, on the small model of `chipfire.model`.
 
-Wherever a graph, chips, a schedule, a trace or a report is wanted, the name of its file does too. `Graph.chips` tells
-in which forms chips come, and `Report.picture` what can be drawn.
-
-A vertex has a number from 0 on, and where a graph comes from elsewhere also a name. Sequences and arrays go by numbers,
-dicts and Series of pandas by names. Numbers of chips and firings go up to 2^40. A graph has up to 1,048,576 vertices
-and 8,388,608 edges. The argument `large` does nothing: what is large is seen by itself.
+A graph, chips, a schedule, a trace or a report may be the name of its file. `Graph.chips` tells in which forms chips
+come, and `Report.picture` what can be drawn. A vertex has a number from 0 on, and may have a name. Sequences and arrays
+go by numbers, dicts and Series of pandas by names. Numbers of chips and firings go up to 2^40. A graph has up to
+1,048,576 vertices and 8,388,608 edges. The argument `large` does nothing: what is large is seen by itself.
 """
 
 from chipfire import machine
@@ -60,8 +56,9 @@ from chipfire.machine import (
 )
 from chipfire.pages import page, recorded
 from chipfire.pictures import PALETTES, Picture
-from chipfire.process import Fault, ProgramNotFound, TraceCut, version
-from chipfire.process import find_program as find_program, start_program as start_program
+from chipfire.process import (
+    Fault, ProgramNotFound, TraceCut, find_program as find_program, start_program as start_program, version,
+)
 from chipfire.program import (
     Check, Program, check, drops, explain, identity, plain, read_chips, replay, resume, run, simulate, verify,
     write_chips,
@@ -82,20 +79,14 @@ from chipfire.wrong import wrong_page
 
 __version__ = version()
 
+#: What is handed on besides is reachable too, and told of by `chipfire.machine`.
 __all__ = [
-    # graphs, chips and pictures
-    "Chips", "Configuration", "Frames", "Graph", "PALETTES", "Picture", "Report", "aztec", "complete", "cycle",
-    "frames", "frames_by_chips", "from_networkx", "from_sage", "grid", "path", "read_chips", "region", "torus",
-    "wheel", "write_chips",
-    # the words of sandpiles
-    "Avalanche", "Drops", "add", "avalanche", "avalanches", "burning_configuration", "burning_script", "drops",
-    "identity", "invariant_factors", "is_recurrent", "is_stable", "is_superstable", "laplacian", "order",
-    "random_drops", "recurrent_representative", "recurrents", "reduced_laplacian", "stabilize",
-    "superstable_representative", "superstables",
-    # the program
-    "Check", "Fault", "Program", "ProgramNotFound", "check", "explain", "plain", "resume", "verify",
-    # the machine; its words are in chipfire.machine, and here too
-    "TraceCut", "machine", "page", "recorded", "replay", "run", "simulate",
-    # schedules, on a model that is not proved
-    "explore", "judge", "random_schedule", "shiviz", "shrink", "wrong_page",
+    "Avalanche", "Check", "Chips", "Configuration", "Drops", "Fault", "Frames", "Graph", "PALETTES", "Picture",
+    "Program", "ProgramNotFound", "Report", "TraceCut", "add", "avalanche", "avalanches", "aztec",
+    "burning_configuration", "burning_script", "check", "complete", "cycle", "drops", "explain", "explore", "frames",
+    "frames_by_chips", "from_networkx", "from_sage", "grid", "identity", "invariant_factors", "is_recurrent",
+    "is_stable", "is_superstable", "judge", "laplacian", "machine", "order", "page", "path", "plain",
+    "random_drops", "random_schedule", "read_chips", "recorded", "recurrent_representative", "recurrents",
+    "reduced_laplacian", "region", "replay", "resume", "run", "shiviz", "shrink", "simulate", "stabilize",
+    "superstable_representative", "superstables", "torus", "verify", "wheel", "write_chips", "wrong_page",
 ]

@@ -34,8 +34,8 @@ def _page(asked: argparse.Namespace) -> str:
         told = recorded(*game, **options)
     else:
         raise ValueError("--rounds and --fed go with a schedule; a trace is a run without them")
-    title = asked.title or "A run of chipfire"
-    return page_text(told, title=title, positions=asked.positions and _positions(asked.positions), program=asked.program)
+    title, places = asked.title or "A run of chipfire", asked.positions and _positions(asked.positions)
+    return page_text(told, title=title, positions=places, program=asked.program)
 
 
 def _wrong(asked: argparse.Namespace) -> str:

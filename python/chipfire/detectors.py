@@ -62,8 +62,8 @@ class _Otherwise(Core):
 
 
 class Probe(NamedTuple):
-    """What Safra's detector keeps: of each part what it sent less what it took, which parts are black, where the token
-    is, and what stands on it. The root is the last part."""
+    """What Safra's detector keeps: of each part what it sent less what it took, which parts are black, who has the
+    token, and what stands on it. The root is the last part."""
 
     counts: tuple[int, ...]
     black: frozenset[int]
@@ -103,7 +103,7 @@ class Safra(_Otherwise):
 
     def pass_on(self, at: int) -> str:
         """Whoever has the token sends it to the next, a vertex once it is passive."""
-        if (("pass_on", at, 0)) not in self.own_events():
+        if ("pass_on", at, 0) not in self.own_events():
             return "not-now"
         own, root = self.own, len(self.vertices)
         if at == root:
@@ -150,7 +150,7 @@ class Credit(_Otherwise):
         super().__init__(graph, chips, *options)
 
     def _give(self, vertex: int, credit: Fraction) -> None:
-        """Makes the credit of a vertex another, or of the root where the vertex is -1."""
+        """Makes the credit of a vertex another, or of the root, if the vertex is -1."""
         if vertex < 0:
             self.own = self.own._replace(root=credit)
         else:

@@ -127,8 +127,7 @@ class Graph:
     def undirected(cls, edges: Iterable[Sequence[Any]], sink: Any) -> Graph:
         """The graph of edges (name, name) or (name, name, mult), each of which is one edge each way.
 
-        A list or a set of sinks becomes one vertex, whose name is "sink". The vertices are numbered in the order of
-        their names, or as they come, if names have no order.
+        The order of the names, or else that in which they come, gives the numbers. Sinks are as in `from_networkx`.
         """
         rows: list[tuple[Any, ...]] = [(*edge, 1)[:3] for edge in edges]
         names: list[Any] = list(dict.fromkeys(name for row in rows for name in row[:2]))
@@ -255,9 +254,9 @@ class Graph:
     def chips(self, chips: Chips) -> tuple[int, ...]:
         """Chips as one number for each vertex, 0 or more.
 
-        They come by names from what has items, as dicts and Series of pandas have; as an array of the graph's shape, or
-        rows of one; as a sequence with a number for each vertex, or for each but the sink; as one number for each but
-        the sink; and a report has its own.
+        They come by names from what has items, as dicts and Series of pandas; as an array of the graph's shape, or rows
+        of one; as a sequence with a number for each vertex, or for each but the sink; as one number for each but the
+        sink; and a report has its own.
         """
         return self.numbers(chips, least=0)
 
@@ -274,14 +273,12 @@ class Graph:
         return tuple(wholes(rows, lambda vertex: f"the number of chips of vertex {self.names[vertex]!r}", least))
 
     def _by_names(self, values: Mapping[Hashable, Any]) -> list[Any]:
-        found, named = [0] * self.vertices, set[int]()
+        found: dict[int, Any] = {}
         for name, count in values.items():
-            vertex = self.number(name)
-            if vertex in named:
+            if self.number(name) in found:
                 raise ValueError(f"vertex {name!r} is named twice")
-            named.add(vertex)
-            found[vertex] = count
-        return found
+            found[self.number(name)] = count
+        return [found.get(vertex, 0) for vertex in range(self.vertices)]
 
     def _in_order(self, values: Any) -> list[Any]:
         values = values.tolist() if hasattr(values, "tolist") else values
@@ -415,17 +412,14 @@ def complete(vertices: int) -> Graph:
 
 
 def _named(names: Iterable[Hashable], sink: Any, edges: Iterable[tuple[Any, ...]], is_directed: bool) -> Graph:
-    """A graph of named vertices, without the edges out of the sink, since it never fires.
-
-    A list or a set of sinks becomes one vertex, the last, with the name "sink".
-    """
-    names, edges = list(names), list(edges)
+    """A graph of named vertices, without the edges out of the sink, since it never fires."""
+    names, edges, is_one = list(names), list(edges), not isinstance(sink, (list, set, frozenset))
     edges += [] if is_directed else [(head, tail, mult) for tail, head, mult in edges]
-    several = [*sink] if isinstance(sink, (list, set, frozenset)) else [sink]
+    several = [sink] if is_one else [*sink]
     for name in several:
         if name not in names:
             raise KeyError(f"the graph has no vertex {name!r}")
-    if isinstance(sink, (list, set, frozenset)):
+    if not is_one:
         names, sink = [*(name for name in names if name not in several), "sink"], "sink"
     numbers = {name: vertex for vertex, name in enumerate(names)}
     numbers |= dict.fromkeys(several, numbers[sink])
@@ -442,7 +436,7 @@ def from_networkx(graph: Any, sink: Any, weight: str | None = "weight") -> Graph
 
     An edge sends as many chips as its attribute of the name `weight` says, a whole number above 0; without that, or if
     `weight` is None, it sends one. An undirected edge is one edge each way. Edges out of the sink are left out. The
-    vertices keep their names; several sinks become one vertex, whose name is "sink".
+    vertices keep their names; a list or a set of sinks becomes one vertex, the last, whose name is "sink".
     """
     return _named(graph.nodes(), sink, graph.edges(data=weight, default=1), graph.is_directed())
 
@@ -450,9 +444,8 @@ def from_networkx(graph: Any, sink: Any, weight: str | None = "weight") -> Graph
 def from_sage(graph: Any, sink: Any = None) -> Graph:
     """A graph of SageMath: a `Sandpile` with the sink that it has, or a `DiGraph` or `Graph` and its sink.
 
-    An edge sends as many chips as its label says, or one if it has none. An undirected edge is one edge each way.
-    Edges out of the sink are left out, and those of label 0, which Sage adds in some graphs. The vertices keep their
-    names.
+    An edge sends as many chips as its label says, or one if it has none; one of label 0, which Sage adds in some
+    graphs, is left out. All else is as in `from_networkx`.
     """
     if sink is None:
         if not hasattr(graph, "sink") or not hasattr(graph, "nonsink_vertices"):

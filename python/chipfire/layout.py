@@ -111,8 +111,8 @@ def _distances(graph: Graph) -> list[list[int]]:
 def _stressed(distances: Sequence[Sequence[int]]) -> list[complex]:
     """Points whose distances come near to those that are wanted, near ones above all: stress majorization.
 
-    It begins on a circle, in the order of numbers, and moves each point to the mean of where the others want it, each
-    as much as it is near.
+    It begins on a circle, in the order of numbers, and moves each point to the mean of the places that the others want,
+    each weighed by its nearness.
     """
     size = len(distances)
     points = [cmath.rect(size / 6, 2 * math.pi * vertex / size) for vertex in range(size)]

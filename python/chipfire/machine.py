@@ -6,6 +6,7 @@ docs/CORE.md says what each event does, docs/DETECTOR.md what stands in the book
 from __future__ import annotations
 
 import functools
+import json
 import os
 from collections.abc import Iterable, Mapping, Sequence
 from dataclasses import dataclass, field
@@ -14,36 +15,14 @@ from typing import Any, NamedTuple
 from chipfire import model
 from chipfire.graphs import Graph
 from chipfire.reports import Report
-from chipfire.values import MAX_LIMIT, MAX_VERTICES, FileName, begins, read_rows, rows_text, write
+from chipfire.values import MAX_LIMIT, MAX_VERTICES, FileName, begins, own_text, read_rows, rows_text, write
 
 SCHEDULE_HEADER = ("event", "at", "count")
 NOTED_HEADER = (*SCHEDULE_HEADER, "note")
 TRACE_HEADER = ("vertex", "kind", "edge", "count")
 
 #: Of each rule what it says, and what is so if it is not met; `chipfire explain rule` has the same words.
-_RULES = (
-    ("the vertex or edge is there", "there is no such vertex or edge"),
-    ("the vertex is not the sink", "the vertex is the sink"),
-    ("the vertex, or the tail of the edge, is not halted", "the vertex is halted; for an edge, its tail is"),
-    ("nothing is pending, nor claimed and not put", "the vertex has not yet sent what its last firings made"),
-    ("it fires at least once", "the vertex is to fire no times"),
-    ("its firings stay within the limit", "the vertex would fire more often than the limit allows"),
-    ("the chips are there", "the vertex has too few chips for these firings"),
-    ("something is pending on the edge", "nothing is pending on the edge"),
-    ("no claim of the edge was refused", "a claim of the edge was refused, since the edge is sealed"),
-    ("nothing is claimed and not put", "a message is claimed and not put"),
-    ("the next cell of the edge was seen empty", "the next cell of the edge was not seen empty"),
-    ("a message is claimed and not put", "no message is claimed on the edge and not put"),
-    ("there is a cause to halt", "the vertex has no cause to halt"),
-    ("something is owed on the edge", "no acknowledgement is owed on the edge"),
-    ("something may be acknowledged on it now", "the message that engaged the vertex may not be acknowledged yet"),
-    ("the root is closed", "the root is not closed"),
-    ("the end of feeding is not noted", "the end of feeding is noted"),
-    (
-        "with so many more, no more than 2^40 chips are given in all",
-        "with these chips, more than 1099511627776 would be given in all",
-    ),
-)
+_RULES: list[tuple[str, str]] = json.loads(own_text("web", "words.json"))["rules"]
 #: What each rule says that the reply `not-now N` names; docs/CORE.md has the table.
 RULES = {number: met for number, (met, _) in enumerate(_RULES, 1)}
 #: What it is called and what is so if it is not met.

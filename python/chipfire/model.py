@@ -172,7 +172,7 @@ class Core:
         return [*found, *self.own_events()]
 
     def left(self) -> list[str]:
-        """What is still to do, in words; none of it where the game is over."""
+        """What is still to do, in words; nothing if the game is over."""
         found = []
         for e in self.edges:
             count = len(e.sent) - e.delivered
@@ -206,7 +206,7 @@ class Core:
         return ("Halted", lambda: self.vertices[self.edges[at].tail if is_edge else at].halt is None)
 
     def step(self, kind: str, at: int, count: int = 0) -> str:
-        """Makes an event where its rules are met, and returns the reply, as a line."""
+        """Makes an event, if its rules are met, and returns the reply, as a line."""
         made: str = getattr(self, kind)(at, count) if kind in ("fire", "feed") else getattr(self, kind)(at)
         return made
 
@@ -418,7 +418,7 @@ def main() -> None:
         words.add_argument(name)
     for name, least in (("limit", 2**40), ("ring", 1), ("rounds", 0)):
         words.add_argument(f"--{name}", type=int, default=least)
-    words.add_argument("--books", action="store_true", help="what stands in the books behind each reply")
+    words.add_argument("--books", action="store_true", help="what stands in the books after each reply")
     words.add_argument("--fed", action="store_true", help="the root may feed chips until the end is noted")
     asked = words.parse_args()
     with open(asked.graph, encoding="utf-8") as file:

@@ -2,8 +2,8 @@
 
 `page(simulation, file)` writes it, `recorded(graph, chips, trace)` makes a simulation of a run that was recorded.
 Replies and books are the program's. What stands where is the model's, and so are the events of rounds and of recorded
-runs that nobody wrote down: a `Ledger` is held against each reply, the books after each event, and the report at the
-end. The page simulates nothing: it gets the facts that each event changed.
+runs that nobody wrote down: a `Ledger` compares each reply, the books after each event, and the report at the end. The
+page simulates nothing: it gets the facts that each event changed.
 """
 
 from __future__ import annotations
@@ -22,12 +22,17 @@ from chipfire.ledger import Disagreement, Ledger
 from chipfire.machine import Event, Reply, Schedule, Setting, Simulation, TraceRow, read_trace
 from chipfire.model import Core
 from chipfire.program import AnyGraph, AnyProgram, known_chips, known_graph, replay, simulate
-from chipfire.schedules import opening
+from chipfire.schedules import opened
 from chipfire.sentences import Sentences
 from chipfire.values import FILE, MAX_LIMIT, FileName, counted, own_text, write
 
 #: The sizes of rings that are tried for a trace, which does not tell its own.
 RINGS = (1, 2, 4, 8, 16, 32, 64)
+_MADE_UP = (
+    "The run was recorded, in a trace of {rows} which the program can replay. Here each vertex takes and fires what "
+    "its rows say, and in their order. When it sent and acknowledged no trace tells, nor how the rows of different "
+    "vertices lie beside each other. These events are made up, each as early as it can be, with {cells} on each edge."
+)
 
 
 def page(
@@ -37,7 +42,7 @@ def page(
     """Writes a page on which a run can be watched, event by event.
 
     simulation  what `simulate` or `recorded` answered; the program is asked once more, with books, and with the events
-                of the rounds spelled out where rounds of turns followed the schedule
+                of the rounds spelled out, if rounds of turns followed the schedule
     positions   where the vertices stand, by names: (to the right, down); else a grid is drawn as one, and other graphs
                 by the distances of their vertices, the same graph always alike
     program     the program to ask, if not the one that is found
@@ -51,30 +56,24 @@ def page_text(
 ) -> str:
     """The text of the page that `page` writes."""
     told = spelled_out(simulation, program)
-    ledger = Ledger(told.game)
-    data = page_data(told, positions)
-    words = Words(told.game)
+    ledger, words = Ledger(told.game), Words(told.game)
     steps = [words.step(ledger, *row) for row in compared(told, ledger)]
     ledger.close(told.report)
     for index, note in told.notes.items():
         steps[index]["note"] = note
+    end = "report at the end: chips, firings and halts" if told.report else "word at the end that the root is open"
     parts = {"events": counted(len(steps), "event"), "made_up": f"<p>{html.escape(told.made_up)}</p>"}
-    parts["end"] = "program's word at the end that the root is open"
-    if told.report is not None:
-        parts["end"] = "program's report at the end: chips, firings and halts"
+    parts["end"] = f"program's {end}"
+    data = page_data(told, positions)
     data |= {"steps": steps, "words": list(words.numbers), "end": {"text": _end(told, ledger), "isWrong": False}}
-    return filled(title, data, "run-proved.html", parts)
+    return filled(title, data, "run-proved.html", parts, _DRAWING)
 
 
 #: The drawing of a run.
-_DRAWING = (
-    '<svg id="drawing" role="img" aria-label="The graph after this event; the tables say the same in words"></svg>'
-)
+_DRAWING = '<svg id="drawing" role="img" aria-label="The graph after this event; the tables say it in words"></svg>'
 
 
-def filled(
-    title: str, data: Mapping[str, Any], proved: str, parts: Mapping[str, str], drawings: str = _DRAWING
-) -> str:
+def filled(title: str, data: Mapping[str, Any], proved: str, parts: Mapping[str, str], drawings: str) -> str:
     """The page of a run, with what it says about proofs from a file of the folder web, and its parts."""
     # (in a script of HTML no text may look like a tag)
     text = json.dumps(data, separators=(",", ":")).replace("<", "\\u003c")
@@ -87,8 +86,7 @@ def filled(
 def _end(told: Simulation, ledger: Ledger) -> str:
     """The last word of a run."""
     if told.report is not None:
-        stopped = " A limit or a seal stopped a vertex." if not told.report.closed else ""
-        return f"The root is closed: all is over.{stopped}"
+        return "The root is closed: all is over." + " A limit or a seal stopped a vertex." * (not told.report.closed)
     if not ledger.core.ended:
         return "The root is open: it has not noted the end of feeding."
     return f"The root is open: it waits for {counted(ledger.facts['root'][0]['deficit'], 'acknowledgement')}."
@@ -101,8 +99,8 @@ def recorded(
     """A recorded run (`run` with `trace`) as a simulation with books: each vertex takes and fires what it wrote down.
 
     No trace tells when a vertex sent and acknowledged, nor how the rows of different vertices lie beside each other:
-    such events are made up, as early as they can be. Where rows do not fit together, the program refuses them (fault
-    70). The ring is that of the run; if it is not told, the least of 1, 2, 4 and so on that plays all rows.
+    such events are made up, as early as they can be. Rows that do not fit together the program refuses (fault 70). The
+    ring is that of the run; if it is not told, the least of 1, 2, 4 and so on that plays all rows.
     """
     rows = read_trace(trace) if isinstance(trace, FILE) else [TraceRow(*row) for row in trace]
     known = known_graph(graph, program)
@@ -113,7 +111,8 @@ def recorded(
         events = spell_trace(replace(setting, ring=cells), rows)
         if events is not None:
             told = simulate(known, start, events, limit=limit, ring=cells, books=True, program=program)
-            return replace(told, made_up=_made_up(rows, cells))
+            sizes = {"rows": counted(len(rows), "row"), "cells": counted(cells, "cell")}
+            return replace(told, made_up=_MADE_UP.format(**sizes))
     raise ValueError(f"the rows of the trace cannot be played over rings of {cells} cells: which ring had the run?")
 
 
@@ -133,7 +132,7 @@ class _Spelled(Core):
 
 def spell_rounds(setting: Setting, schedule: Sequence[Event], rounds: int) -> tuple[Event, ...]:
     """A schedule, and after it the events of so many rounds of turns, or of those until the root is closed."""
-    core = opening(setting, _Spelled)
+    core = opened(setting, _Spelled)
     for event in schedule:
         core.step(*event)
     core.events = Schedule()
@@ -175,7 +174,7 @@ def spell_trace(setting: Setting, trace: Sequence[TraceRow]) -> tuple[Event, ...
     Sends come as soon as there is room in the rings, acknowledgements as soon as they are allowed. The rows of a run
     are all played, if the rings of the setting have as many cells as those of the run had; else it may be None.
     """
-    core, made = opening(setting, _Recorded), -1
+    core, made = opened(setting, _Recorded), -1
     core.rows = [deque() for _ in core.vertices]
     for row in trace:
         core.rows[row.vertex].append(row)
@@ -185,26 +184,17 @@ def spell_trace(setting: Setting, trace: Sequence[TraceRow]) -> tuple[Event, ...
     return None if any(core.rows) else tuple(core.events)
 
 
-def _made_up(rows: Sequence[TraceRow], cells: int) -> str:
-    return (
-        f"The run was recorded, in a trace of {counted(len(rows), 'row')} which the program can replay. Here each "
-        "vertex takes and fires what its rows say, and in their order. When it sent and acknowledged no trace tells, "
-        "nor how the rows of different vertices lie beside each other. These events are made up, each as early as it "
-        f"can be, with {counted(cells, 'cell')} on each edge."
-    )
-
-
 def spelled_out(simulation: Simulation, program: AnyProgram = None) -> Simulation:
-    """What the program answers to a simulation now: a reply and a board for each event, and no rounds behind them.
+    """What the program answers to a simulation now: a reply and a board for each event, and no rounds after them.
 
-    It is asked in any case, so that a page tells answers of the program and nothing else. Where the simulation was told
+    It is asked in any case, so that a page tells answers of the program and nothing else. If the simulation was told
     others, that is a Disagreement.
     """
     setting, schedule, made_up = simulation.game, simulation.schedule, simulation.made_up
     if simulation.rounds:
         schedule = spell_rounds(setting, schedule, simulation.rounds)
         made_up = (
-            f"The schedule has {counted(len(simulation.schedule), 'event')}. Those behind it are the rounds of turns "
+            f"The schedule has {counted(len(simulation.schedule), 'event')}. Those after it are the rounds of turns "
             "that followed, spelled out without the looks that would find nothing. The program was asked both ways, "
             "and came to the same end."
         )
@@ -227,8 +217,9 @@ def asked(setting: Setting, schedule: Iterable[Sequence[Any]], program: AnyProgr
 
 def page_data(told: Simulation, positions: Mapping[Any, Point] | None) -> dict[str, Any]:
     """What the page shows but for the events: the graph and its places, and the opening."""
-    setting, graph = told.game, told.game.graph
-    started = _started(told)
+    setting, graph, events = told.game, told.game.graph, zip(told.schedule, told.replies)
+    fed = {event.at - len(graph.edges) for event, reply in events if event.kind == "feed" and reply.is_done}
+    started = sorted(fed | {vertex for vertex, count in enumerate(setting.chips) if count})
     chips = counted(sum(setting.chips), "chip")
     return {
         "names": [str(name) for name in graph.names],
@@ -242,15 +233,8 @@ def page_data(told: Simulation, positions: Mapping[Any, Point] | None) -> dict[s
     }
 
 
-def _started(told: Simulation) -> list[int]:
-    """The vertices that get chips from the root, at the start or later."""
-    events = zip(told.schedule, told.replies)
-    fed = {event.at - len(told.game.graph.edges) for event, reply in events if event.kind == "feed" and reply.is_done}
-    return sorted(fed | {vertex for vertex, count in enumerate(told.game.chips) if count})
-
-
 def compared(told: Simulation, ledger: Ledger) -> Iterator[tuple[Event, Reply]]:
-    """The events with their replies; behind each the ledger is held against the books."""
+    """The events with their replies; after each the ledger is compared with the books."""
     for event, reply, board in zip(told.schedule, told.replies, told.boards):
         yield event, reply
         ledger.compare(board)
@@ -268,11 +252,10 @@ class Words:
 
     def step(self, ledger: Ledger, event: Event, reply: Reply) -> dict[str, Any]:
         """Notes an event, and returns the numbers of its words and what it changed."""
-        says = self.sentences
+        says, question = self.sentences, self.sentences.ask(event)
         step: dict[str, Any] = {"kind": event.kind, "at": event.at, "done": reply.is_done}
         step["event"] = self.number(says.event(event, reply))
         step["reply"] = self.number(says.reply(event, reply, ledger.core))
-        question = says.ask(event)
         if question is not None:
             is_vain = reply.kind in ("empty", "full") or event.kind == "settle" and reply.numbers == (0,)
             step |= {"ask": self.number(question), "yes": reply.is_done and not is_vain}

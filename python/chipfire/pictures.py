@@ -193,10 +193,9 @@ class Drawn:
 
     `columns` is how many squares stand in a row; a graph with a shape knows that. `positions` has the places of
     vertices by names instead, (to the right, down), each of which becomes a square. `of` is "chips" or "odometer".
-    `palette` names colours, "colours", "greys" or "viridis", or has them, each as `#rrggbb`. Chips have the colour of
-    0, of 1, of 2 and so on; the last one is that of all larger numbers. With a `scale`, "linear" or "log", the first
-    colour is that of 0 and the last one that of the largest number, and the others are spread between: so odometers
-    are.
+    `palette` names colours, "colours", "greys" or "viridis", or has them, each as `#rrggbb`: of 0, 1, 2 .. chips, and
+    the last one of all larger numbers. With a `scale`, "linear" or "log", they are spread from 0 to the largest number
+    instead; an odometer has the linear one.
     """
 
     graph: Graph | None
@@ -254,10 +253,9 @@ class Drawn:
         else:
             print(picture)
 
-    def array(self, of: str | int = "chips", columns: int | None = None) -> Any:
+    def array(self, of: str = "chips", columns: int | None = None) -> Any:
         """The chips, or the "odometer", as an array of NumPy, by rows of the picture; 0 on the squares without any."""
-        columns = columns if isinstance(of, str) else of
-        values = list(self._values(of if isinstance(of, str) else "chips"))
+        values = list(self._values(of))
         if self.graph is not None:
             values[self.graph.sink] = 0
         numpy = library("numpy", "an array is one of NumPy")

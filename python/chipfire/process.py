@@ -109,8 +109,7 @@ def version() -> str:
 def _released(repository: str) -> str | None:
     """What starts the program in the release of a repository, or None if `./chipfire` there does not take it.
 
-    It is target/chipfire, once `./chipfire` has put the program there, or `./chipfire` itself if nothing can be put.
-    Standard error says why the program is not taken, or whence it is.
+    It is target/chipfire, once `./chipfire` has put the program there, or `./chipfire` itself if it cannot.
     """
     starter, taken = (os.path.join(repository, name) for name in ("chipfire", os.path.join("target", "chipfire")))
     if not os.path.isfile(os.path.join(repository, "release", "PROVED")) or not os.access(starter, os.X_OK):

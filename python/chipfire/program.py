@@ -38,8 +38,8 @@ _RANGES = {
 
 @dataclass(frozen=True)
 class Check:
-    """What `check` tells of a graph: how many vertices and edges it has, and its sink; and by the numbers of vertices
-    how many chips each sends when it fires, and the least number of edges from it to the sink."""
+    """What `check` tells of a graph: its size and its sink; and of each vertex, by numbers, how many chips it sends
+    when it fires, and the least number of edges from it to the sink."""
 
     vertices: int
     edges: int
@@ -131,10 +131,11 @@ def verify(
     """
     question = _Question(graph, program)
     if not isinstance(report, (Report, *FILE)):
-        counts = question.graph.numbers(report)
-        left = question.graph.position_after(known_chips(question.graph, chips, program), counts)
-        over = [vertex for vertex, degree in enumerate(question.graph.degrees()) if 0 < degree <= left[vertex]]
-        if min(*left, *counts) < 0 or max(*left, *counts) > MAX_CHIPS or counts[question.graph.sink]:
+        known, counts = question.graph, question.graph.numbers(report)
+        chips = known_chips(known, chips, program)
+        left = known.position_after(chips, counts)
+        over = [vertex for vertex, degree in enumerate(known.degrees()) if 0 < degree <= left[vertex]]
+        if min(*left, *counts) < 0 or max(*left, *counts) > MAX_CHIPS or counts[known.sink]:
             return False
         report = Report(tuple(left), counts, tuple(over))
     files = [question.chips(chips), _input("report", report, Report.text)]
@@ -194,8 +195,7 @@ def simulate(
 ) -> Simulation:
     """Runs a schedule on the detector: a reply for each event, and the report if the root is closed then, or after so
     many rounds of turns. With `books` there is also what stands in the books after each event; if it is `fed`, the
-    schedule may give the vertices more chips, on the edges that come from the root. The program never sees the notes of
-    a schedule."""
+    schedule may give the vertices more chips, on the edges that come from the root."""
     question = _Question(graph, program)
     if not isinstance(schedule, FILE):
         schedule = Schedule(schedule)
@@ -259,8 +259,7 @@ def write_chips(file: FileName, graph: Graph, chips: Chips) -> None:
 
 
 def read_chips(file: FileName, graph: Graph, *, program: AnyProgram = None) -> tuple[int, ...]:
-    """The chips of a chips file, one number for each vertex of the graph. The program reads them, and refuses what is
-    wrong with the file."""
+    """The chips of a chips file, one number for each vertex of the graph. The program reads it, or refuses it."""
     return plain(graph, file, limit=0, program=program).chips
 
 
@@ -279,14 +278,12 @@ def _method(function: Callable[P, T]) -> Callable[Concatenate[Program, P], T]:
 
 
 class Program:
-    """The program chipfire, and its commands as methods.
+    """The program chipfire of this name, or the one that is found, and its commands as methods.
 
-    Wherever a graph, chips, a schedule, a trace or a report is wanted, the name of a file does too. What the program
-    refuses is raised as a `Fault`. An option that is None is left out, so the program's own value stands.
+    What it refuses is raised as a `Fault`. An option that is None is left out, so the program's own value stands.
     """
 
     def __init__(self, program: AnyProgram = None) -> None:
-        """The program of this name, or the one that is found; see the head of the package."""
         self.path = find_program() if program is None else os.fspath(program)
 
     check = _method(check)

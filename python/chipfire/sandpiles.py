@@ -32,9 +32,8 @@ def _held(graph: AnyGraph, chips: Chips, program: AnyProgram) -> Configuration:
 
 
 def stabilize(graph: AnyGraph, chips: Chips, *, large: bool = False, program: AnyProgram = None) -> Configuration:
-    """The stabilization: what lies there when no vertex can fire any more.
+    """What lies there when no vertex can fire any more: `plain(graph, chips).configuration`.
 
-    It is `plain(graph, chips).configuration`; `odometer` of that report tells how often each vertex fired.
     Proved: the chips, which are those of every play to the end, in any order. Not proved: that they are passed on.
     """
     return _held(graph, chips, program).stabilize(program=program)
@@ -62,10 +61,8 @@ def is_stable(graph: AnyGraph, chips: Chips) -> bool:
 def burning_script(graph: AnyGraph, *, large: bool = False, program: AnyProgram = None) -> Configuration:
     """The least burning script, by Speer: how often each vertex fires when a recurrent configuration burns.
 
-    It fires each vertex at least once and leaves no vertex with more chips than before, with the fewest firings. On an
-    undirected graph each vertex fires once, and the method is Dhar's. Else a vertex that got more than it sent fires
-    again, and so on: the script is one more than the counts of a play that begins with one chip less on each vertex
-    than edges lead into it.
+    It fires each vertex at least once, on an undirected graph exactly once, and leaves no vertex with more chips than
+    before. It is one more than the counts of a play that begins with one chip less on each vertex than edges lead in.
     Proved: the counts of that play. Not proved: that they are the script.
     """
     known = known_graph(graph, program)
@@ -129,9 +126,8 @@ def superstable_representative(graph: AnyGraph, chips: Chips, *, program: AnyPro
 def is_superstable(graph: AnyGraph, chips: Chips, *, large: bool = False, program: AnyProgram = None) -> bool:
     """Whether a configuration is superstable: no vertices can fire together, not even several times each.
 
-    Together they may fire if none is left with fewer than 0 chips, whether or not one of them could fire alone. On an
-    undirected graph these are the parking functions. A configuration is superstable exactly if it is stable and what
-    it lacks to the maximal stable configuration is recurrent, and this is asked.
+    Together they may fire if none is left with fewer than 0 chips. On an undirected graph these are the parking
+    functions. What is asked is whether that which it lacks to the maximal stable configuration is recurrent.
     Proved and not proved: as of `is_recurrent`.
     """
     return _held(graph, chips, program).is_superstable(program=program)
@@ -140,7 +136,7 @@ def is_superstable(graph: AnyGraph, chips: Chips, *, large: bool = False, progra
 def superstables(graph: AnyGraph, *, program: AnyProgram = None) -> Iterator[Configuration]:
     """All superstable configurations of a small graph, one after the other; `order` says how many there are.
 
-    Nothing of this is proved but the burning script, as it says: Python burns each of them itself.
+    Nothing of this is proved but the burning script: Python burns each of them itself.
     """
     known = known_graph(graph, program)
     burns, waiting = _burns(known, program), [((0,) * known.vertices, 0)]
@@ -174,19 +170,15 @@ def _burns(graph: Graph, program: AnyProgram) -> Callable[[Sequence[int]], bool]
                 left[vertex] += graph.degrees()[vertex]
                 firings -= 1
                 for head, mult in outs[vertex]:
-                    if left[head] >= 0 > left[head] - mult:
-                        poor.append(head)
                     left[head] -= mult
+                    poor += [head] * (left[head] < 0)
         return firings == 0
 
     return burns
 
 
 def recurrents(graph: AnyGraph, *, program: AnyProgram = None) -> Iterator[Configuration]:
-    """All recurrent configurations of a small graph: what the superstable ones lack to the maximal stable one.
-
-    Nothing of this is proved but the burning script, as it says: Python burns each of them itself.
-    """
+    """All recurrent configurations of a small graph: what its `superstables` lack to the maximal stable one."""
     most = known_graph(graph, program).max_stable()
     return (most - chips for chips in superstables(most.graph, program=program))
 
@@ -222,9 +214,9 @@ def invariant_factors(graph: AnyGraph) -> tuple[int, ...]:
 
 
 def order(graph: AnyGraph) -> int:
-    """The order of the sandpile group: how many recurrent configurations there are, and superstable ones.
+    """The order of the sandpile group: how many recurrent configurations there are, superstable ones, and spanning
+    trees whose edges lead to the sink, each edge counted as often as its multiplicity.
 
-    As many are the spanning trees whose edges lead to the sink, each edge counted as often as its multiplicity.
     Nothing of this is proved, and the program is not asked.
     """
     return smith.order(smith.reduced(known_graph(graph)))
@@ -242,14 +234,12 @@ def random_drops(graph: AnyGraph, count: int, seed: Any, *, program: AnyProgram 
 class Avalanche:
     """What one chip causes that is dropped on a stable configuration.
 
-    vertex         where it was dropped, by name
+    vertex         the name of the vertex that got it
     size           how many firings it has
     extent         how many vertices fired
     lost           how many chips the firings brought to the sink
-    fired          how often each vertex fired, of those that did, by names
-    configuration  the chips that lie there after it
-
-    The program is asked for the last two when they are wanted.
+    fired          how often each vertex fired, of those that did, by names; the program is asked when it is wanted
+    configuration  the chips that lie there after it, in the same way
     """
 
     vertex: Hashable

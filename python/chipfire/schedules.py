@@ -13,7 +13,7 @@ import random
 from collections import deque
 from collections.abc import Callable, Iterable, Iterator, Sequence
 from dataclasses import dataclass
-from typing import Any, TypeVar, Union
+from typing import Any, Union
 
 from chipfire.detectors import known_detector
 from chipfire.machine import Event, Schedule, Setting
@@ -22,7 +22,6 @@ from chipfire.values import FILE, FileName, counted, read_rows
 
 #: A name of DETECTORS, or a class.
 Detector = Union[str, type[Core]]
-AnyCore = TypeVar("AnyCore", bound=Core)
 #: The header of a log, and what its last row may name: the root, with the reply `closed` or `open`.
 LOG_HEADER = ("event", "at", "count", "reply")
 CLAIM = "root"
@@ -32,13 +31,9 @@ EVENTS = ("take", "ack", "fire", "clear", "claim", "put", "halt", "settle", "sea
 _SEND = ("clear", "claim", "put")
 
 
-def opened(setting: Setting, detector: Detector = "right") -> Core:
-    """A game at its start, on the model."""
-    return opening(setting, known_detector(detector).make if isinstance(detector, str) else detector)
-
-
-def opening(setting: Setting, make: type[AnyCore]) -> AnyCore:
-    """The same of a class."""
+def opened(setting: Setting, detector: Detector = "right") -> Any:
+    """A game at its start, on the model: a `Core` of the detector's class."""
+    make = known_detector(detector).make if isinstance(detector, str) else detector
     graph = {"vertices": setting.graph.vertices, "sink": setting.graph.sink, "edges": setting.graph.edges}
     return make(graph, setting.chips, setting.limit, setting.ring, setting.fed)
 
@@ -52,10 +47,10 @@ def is_early(core: Core) -> bool:
 class Explored:
     """What all schedules of a game come to.
 
-    states    how many states the game has, up to where a schedule was found
-    schedule  a shortest schedule after which the root is closed and something is left; None where there is none
+    states    how many states the game has, or had until a schedule was found
+    schedule  a shortest schedule after which the root is closed and something is left; None if there is none
     left      what is left then
-    stuck     a shortest schedule after which the root is open and nothing can happen; None where there is none
+    stuck     a shortest schedule after which the root is open and nothing can happen; None if there is none
     """
 
     states: int
@@ -69,8 +64,8 @@ def explore(
 ) -> Explored:
     """Goes through all schedules of a game, breadth first, until the root is closed and something is left.
 
-    A firing of several at a time is one step, and so is a send, unless `whole_sends` is False: clear, claim and put. A
-    ValueError tells where the game has more than `most` states.
+    A firing of several at a time is one step, and so is a send, unless `whole_sends` is False: clear, claim and put.
+    More than `most` states are a ValueError.
     """
     start = opened(setting, detector)
     came: dict[Any, tuple[Any, tuple[Event, ...]]] = {start.state(): (None, ())}
@@ -116,7 +111,7 @@ def _way(came: dict[Any, tuple[Any, tuple[Event, ...]]], state: Any) -> Schedule
 def random_schedule(setting: Setting, seed: Any, detector: Detector = "right") -> Schedule:
     """A schedule in which each event does something, drawn until the root is closed; the same seed draws the same.
 
-    With the right detector each such schedule closes the root. With another it may end where nothing can happen any
+    With the right detector each such schedule closes the root. With another it may end because nothing can happen any
     more. One whose events go round for ever, as Safra's token does, may take long.
     """
     core, draw, made = opened(setting, detector), random.Random(seed), Schedule()
@@ -131,7 +126,7 @@ def random_schedule(setting: Setting, seed: Any, detector: Detector = "right") -
 
 def played(setting: Setting, detector: Detector, events: Iterable[Sequence[Any]]) -> Core:
     """The game after a schedule, on the model."""
-    core = opened(setting, detector)
+    core: Core = opened(setting, detector)
     for event in events:
         core.step(*event)
     return core
@@ -142,7 +137,7 @@ def shrink(
 ) -> Schedule:
     """A schedule after which the game is still bad, and no longer so if any one of its events is left out.
 
-    Bad is, where nothing else is said, that the root is closed and something is left.
+    Bad is, if nothing else is said, that the root is closed and something is left.
     """
     kept = [Event(*event) for event in events]
     if not is_bad(played(setting, detector, kept)):
@@ -164,11 +159,11 @@ def shrink(
 class Judged:
     """What a log came to.
 
-    row       the index of the first row whose reply is not that of the right detector; None where there is none
+    row       the index of the first row whose reply is not that of the right detector; None if there is none
     told      the log's reply there
     right     the right detector's
-    claim     what the log's last row says of the root: "closed", "open", or None where it says nothing
-    is_true   whether the claim is true: of a root that is closed, that nothing is left; True where nothing is claimed
+    claim     what the log's last row says of the root: "closed", "open", or None if it says nothing
+    is_true   whether the claim is true: of a root that is closed, that nothing is left; True if nothing is claimed
     left      what is left after the log
     """
 
@@ -226,11 +221,9 @@ def shiviz(setting: Setting, events: Iterable[Sequence[Any]], detector: Detector
         if reply.startswith("not-now") or reply in ("empty", "full"):
             continue
         host = _host(core, kind, at)
-        clock = clocks[host]
-        if kind == "take":
-            _merge(clock, messages[at].popleft())
-        elif kind == "settle":
-            _merge(clock, answers.get(at, {}))
+        clock, seen = clocks[host], messages[at].popleft() if kind == "take" else {}
+        seen = answers.get(at, {}) if kind == "settle" else seen
+        clock |= {name: max(clock.get(name, 0), count) for name, count in seen.items()}
         clock[host] = clock.get(host, 0) + 1
         if kind == "put":
             messages[at].append(dict(clock))
@@ -239,11 +232,6 @@ def shiviz(setting: Setting, events: Iterable[Sequence[Any]], detector: Detector
         told = ", ".join(f'"{name}":{count}' for name, count in sorted(clock.items()))
         lines += [f"{host} {{{told}}}", f"{kind} {at}: {reply}"]
     return "".join(f"{line}\n" for line in lines)
-
-
-def _merge(clock: dict[str, int], other: dict[str, int]) -> None:
-    for name, count in other.items():
-        clock[name] = max(clock.get(name, 0), count)
 
 
 def _host(core: Core, kind: str, at: int) -> str:

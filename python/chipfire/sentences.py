@@ -41,12 +41,12 @@ class Sentences:
         return self.vertex(tail), self.vertex(head)
 
     def event(self, event: Event, reply: Reply | None = None) -> str:
-        """What happens, or what is tried where the reply says that it was refused or found nothing."""
+        """What happens, or what is tried, if the reply says that it was refused or found nothing."""
         is_vain = reply is not None and reply.kind in ("not-now", "empty")
         return self._said(self.words["tries" if is_vain else "events"][event.kind], event) + "."
 
     def ask(self, event: Event) -> str | None:
-        """What can be asked about an event before its reply is known; None where there is nothing to ask."""
+        """What can be asked about an event before its reply is known; None if there is nothing to ask."""
         asked = self.words["asks"].get(event.kind)
         return asked and self._said(asked, event)
 

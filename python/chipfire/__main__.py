@@ -52,11 +52,8 @@ def _wrong(asked: argparse.Namespace) -> str:
 def _arguments() -> argparse.ArgumentParser:
     parser = argparse.ArgumentParser(prog="python -m chipfire", description="chipfire's Python package.")
     commands = parser.add_subparsers(required=True, metavar="COMMAND")
-    page = commands.add_parser(
-        "page",
-        help="a page of HTML on which a run can be watched",
-        description="Writes a page of HTML on which a run can be watched event by event. The page needs nothing else.",
-    )
+    says = "writes a page of HTML on which a run can be watched event by event"
+    page = commands.add_parser("page", help=says, description=says)
     page.add_argument("graph", metavar="GRAPH", help="a graph file")
     page.add_argument("chips", metavar="CHIPS", help="a chips file")
     page.add_argument("events", metavar="SCHEDULE", help="a schedule, or the trace of a recorded run (run --trace)")
@@ -65,13 +62,9 @@ def _arguments() -> argparse.ArgumentParser:
     page.add_argument("--rounds", type=int, metavar="N", help="how many rounds of turns follow a schedule at most")
     page.add_argument("--fed", action="store_true", help="the schedule may feed chips")
     page.set_defaults(make=_page)
-    wrong = commands.add_parser(
-        "wrong",
-        help="a page of HTML on which a wrong detector says too early that all is over",
-        description="Writes a page of the shortest schedule on which a wrong detector says too early that all is over, "
-        f"beside the right one. NAME is one of {', '.join(DETECTORS)}; if none is wrong, an error says so.",
-    )
-    wrong.add_argument("name", metavar="NAME", help="the detector")
+    says = "writes a page of the shortest schedule on which a wrong detector says too early that all is over"
+    wrong = commands.add_parser("wrong", help=says, description=f"{says}, beside the right one")
+    wrong.add_argument("name", metavar="NAME", help=f"the detector: {', '.join(DETECTORS)}")
     wrong.add_argument("game", metavar="GRAPH CHIPS", nargs="*", help="another game than that of the detector")
     wrong.set_defaults(make=_wrong)
     for command in (page, wrong):

@@ -1,8 +1,4 @@
-"""Plays as animations: positions at growing limits, or by chips that are dropped, as a page with a slider or a GIF.
-
-Each position is an answer of the program, and proved: if every vertex may fire so often and no more, each order of the
-firings ends there. That the pictures show these positions is not proved.
-"""
+"""Plays as animations: positions at growing limits, or by chips that are dropped, as a page with a slider or a GIF."""
 
 from __future__ import annotations
 
@@ -106,13 +102,11 @@ def frames_by_chips(
     Proved: each position, to which all orders of drops and firings lead. Not proved: that the pictures show it.
     """
     graph, counts, reports, held = known_graph(graph, program), tuple(counts), [], 0
-    at = graph.number(vertex)
-    chips, total = [0] * graph.vertices, (0,) * graph.vertices
+    at, chips, total = graph.number(vertex), [0] * graph.vertices, (0,) * graph.vertices
     for count in counts:
         chips[at] += whole(count, "the number of chips", held) - held
-        report = replace(plain(graph, chips, program=program), prior=total)
-        reports.append(report)
-        chips, total, held = list(report.chips), report.total, count
+        reports.append(replace(plain(graph, chips, program=program), prior=total))
+        chips, total, held = list(reports[-1].chips), reports[-1].total, count
     return _shown(counts, reports, columns, palette, "Chips")
 
 

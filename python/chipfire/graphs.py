@@ -12,9 +12,7 @@ from typing import Any, NamedTuple
 
 from chipfire.chips import Chips, Configuration
 from chipfire.process import Kept
-from chipfire.values import (
-    MAX_EDGES, MAX_LARGE_EDGES, MAX_LARGE_VERTICES, MAX_MULT, MAX_VERTICES, FileName, whole, wholes,
-)
+from chipfire.values import MAX_LARGE_EDGES, MAX_LARGE_VERTICES, MAX_MULT, FileName, library, whole, wholes
 
 #: Which squares lie beside one of a lattice, as (rows down, columns to the right) by the parity of its row and column.
 _BESIDE: dict[str, Sequence[Sequence[tuple[int, int]]]] = {
@@ -46,6 +44,18 @@ def _columns(edges: Iterable[Sequence[Any]]) -> Columns:
         return array("i", wholes([row[place] for row in rows], lambda edge: f"the {what} of edge {edge}", 0, 2**31 - 1))
 
     return Columns(column(0, "tail"), column(1, "head"), column(2, "multiplicity"))
+
+
+def _digits(numpy: Any, numbers: Any, end: bytes) -> Any:
+    """Numbers as rows of bytes, by an array of NumPy: their digits, after zero bytes, and an end."""
+    width = len(str(numbers.max()))
+    text = numpy.empty((len(numbers), width + len(end)), "u1")
+    text[:, width:] = numpy.frombuffer(end, "u1")
+    for place in reversed(range(width)):
+        left = numbers // 10
+        text[:, place] = (numbers - 10 * left + 48) * ((numbers > 0) | (place == width - 1))
+        numbers = left
+    return text
 
 
 class Graph:
@@ -105,11 +115,6 @@ class Graph:
         """The edges as rows (tail, head, mult)."""
         return tuple(zip(*self.columns))
 
-    @property
-    def is_large(self) -> bool:
-        """Whether it has more than 4,096 vertices or 65,536 edges; the program takes it with `--large`."""
-        return self.vertices > MAX_VERTICES or len(self.columns.tails) > MAX_EDGES
-
     @functools.cached_property
     def shape(self) -> tuple[int, int] | None:
         """The shape of a grid that was not made as one; a single line of vertices is a row."""
@@ -165,9 +170,17 @@ class Graph:
     def _parts(self) -> Iterator[bytes]:
         """The text of the graph file in parts."""
         yield b'{"edges":['
+        numpy = library("numpy")
         for start in range(0, len(self.columns.tails), _PART):
-            rows = zip(*(column[start : start + _PART] for column in self.columns))
-            yield (b",[" if start else b"[") + "],[".join(["%d,%d,%d" % row for row in rows]).encode() + b"]"
+            part = [column[start : start + _PART] for column in self.columns]
+            if numpy:
+                fields = [_digits(numpy, numpy.array(column), end) for column, end in zip(part, (b",", b",", b"],["))]
+                text = numpy.hstack(fields).tobytes().translate(None, b"\0")
+            else:
+                numbers = array("i", bytes(4)) * (3 * len(part[0]))
+                numbers[::3], numbers[1::3], numbers[2::3] = part
+                text = ("%d,%d,%d],[" * len(part[0]) % tuple(numbers)).encode()
+            yield (b",[" if start else b"[") + text[:-2]
         yield f'],"sink":{self.sink},"version":1,"vertices":{self.vertices}}}\n'.encode()
 
     def number(self, name: Hashable) -> int:

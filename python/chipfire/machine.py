@@ -8,7 +8,7 @@ from __future__ import annotations
 import functools
 import json
 import os
-from collections.abc import Iterable, Mapping, Sequence
+from collections.abc import Callable, Iterable, Mapping, Sequence
 from dataclasses import dataclass, field
 from typing import Any, NamedTuple
 
@@ -37,6 +37,17 @@ class Event(NamedTuple):
     count: int = 0  # type: ignore[assignment]
 
 
+def _event(kind: str, says: str) -> Callable[[Schedule, int], Schedule]:
+    """A method of schedules that adds an event of a kind, of which it says what happens."""
+
+    def add(self: Schedule, at: int) -> Schedule:
+        self.append(Event(kind, at))
+        return self
+
+    add.__name__, add.__doc__ = kind, says
+    return add
+
+
 class Schedule(list[Event]):
     """A list of events, with a method for each kind of event that adds one at the end. A note to an event is for those
     who read the schedule or its page; the program never sees it."""
@@ -46,66 +57,43 @@ class Schedule(list[Event]):
         #: The notes, by the index of their event.
         self.notes: dict[int, str] = dict(getattr(events, "notes", {}))
 
-    def note(self, text: str) -> Schedule:
-        """Puts a note to the last event."""
-        self.notes[len(self) - 1] = text
+    take = _event("take", "The head of this edge takes the next message, if there is one.")
+    ack = _event("ack", "The head of this edge acknowledges what it may acknowledge there now.")
+    claim = _event("claim", "The tail of this edge claims the next place for all that is pending.")
+    put = _event("put", "The tail of this edge puts the message that it claimed into its cell.")
+    halt = _event("halt", "This vertex halts, if it has a cause.")
+    settle = _event("settle", "The tail of this edge, or the root, looks how many of its messages are acknowledged.")
+    seal = _event("seal", "Nothing is sent on this edge from now on.")
+    read = _event("read", "The root reads how often this vertex fired, once it is closed.")
+
+    def clear(self, edge: int) -> Schedule:  # type: ignore[override]
+        """The tail of this edge looks whether the next cell is empty."""
+        self.append(Event("clear", edge))
         return self
-
-    def _add(self, kind: str, at: int, count: int = 0) -> Schedule:
-        self.append(Event(kind, at, count))
-        return self
-
-    def take(self, edge: int) -> Schedule:
-        """The head of an edge takes the next message, if there is one."""
-        return self._add("take", edge)
-
-    def ack(self, edge: int) -> Schedule:
-        """The head of an edge acknowledges what it may acknowledge there now."""
-        return self._add("ack", edge)
 
     def fire(self, vertex: int, count: int = 1) -> Schedule:
         """A vertex fires so many times in a row."""
-        return self._add("fire", vertex, count)
-
-    def clear(self, edge: int) -> Schedule:  # type: ignore[override]
-        """The tail of an edge looks whether the next cell is empty."""
-        return self._add("clear", edge)
-
-    def claim(self, edge: int) -> Schedule:
-        """The tail of an edge claims the next place for all that is pending."""
-        return self._add("claim", edge)
-
-    def put(self, edge: int) -> Schedule:
-        """The tail of an edge puts the message that it claimed into its cell."""
-        return self._add("put", edge)
+        self.append(Event("fire", vertex, count))
+        return self
 
     def send(self, edge: int) -> Schedule:
         """What a tail does to send: clear, claim and put."""
         return self.clear(edge).claim(edge).put(edge)
 
-    def halt(self, vertex: int) -> Schedule:
-        """A vertex halts, if it has a cause."""
-        return self._add("halt", vertex)
-
-    def settle(self, edge: int) -> Schedule:
-        """The tail of an edge, or the root, looks how many of its messages are acknowledged."""
-        return self._add("settle", edge)
-
-    def seal(self, edge: int) -> Schedule:
-        """Nothing is sent on this edge from now on."""
-        return self._add("seal", edge)
-
-    def read(self, vertex: int) -> Schedule:
-        """The root reads how often a vertex fired, once it is closed."""
-        return self._add("read", vertex)
-
     def feed(self, edge: int, count: int) -> Schedule:
         """What the root does to feed chips on one of its edges: clear, feed and put."""
-        return self.clear(edge)._add("feed", edge, count).put(edge)
+        self.clear(edge).append(Event("feed", edge, count))
+        return self.put(edge)
 
     def end(self) -> Schedule:
         """The root notes that nothing more is fed; before that it never closes in a simulation that is `fed`."""
-        return self._add("end", 0)
+        self.append(Event("end", 0))
+        return self
+
+    def note(self, text: str) -> Schedule:
+        """Puts a note to the last event."""
+        self.notes[len(self) - 1] = text
+        return self
 
 
 class TraceRow(NamedTuple):

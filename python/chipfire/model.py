@@ -17,7 +17,7 @@ import argparse
 import copy
 import csv
 import json
-from collections.abc import Callable, Iterable, Iterator, Mapping, Sequence
+from collections.abc import Iterable, Iterator, Mapping, Sequence
 from typing import Any, Union
 
 RULES = {
@@ -28,8 +28,10 @@ RULES = {
 
 #: A kind of event, the edge or vertex that it is at, and a count.
 Event = tuple[str, int, int]
-#: The name of a rule, and whether it is met.
-Rule = tuple[str, Callable[[], bool]]
+
+
+class NotNow(Exception):
+    """A rule is not met: its name."""
 
 
 class Edge:
@@ -193,27 +195,28 @@ class Core:
             return "over"
         return None
 
-    def first_unmet(self, *rules: Rule) -> Union[str, None]:
-        for name, is_met in rules:
-            if not is_met():
-                return f"not-now {RULES[name]}"
-        return None
-
-    def is_there(self, at: int, bound: int) -> Rule:
-        return ("NoSuch", lambda: at < bound)
-
-    def running(self, at: int, is_edge: bool) -> Rule:
-        return ("Halted", lambda: self.vertices[self.edges[at].tail if is_edge else at].halt is None)
-
     def step(self, kind: str, at: int, count: int = 0) -> str:
         """Makes an event, if its rules are met, and returns the reply, as a line."""
-        made: str = getattr(self, kind)(at, count) if kind in ("fire", "feed") else getattr(self, kind)(at)
+        try:
+            made: str = getattr(self, kind)(at, count) if kind in ("fire", "feed") else getattr(self, kind)(at)
+        except NotNow as unmet:
+            return f"not-now {RULES[unmet.args[0]]}"
         return made
 
+    def need(self, rule: str, is_met: bool) -> None:
+        if not is_met:
+            raise NotNow(rule)
+
+    def edge(self, at: int, most: Union[int, None] = None) -> Edge:
+        self.need("NoSuch", at < (len(self.edges) if most is None else most))
+        return self.edges[at]
+
+    def vertex(self, at: int) -> Vertex:
+        self.need("NoSuch", at < len(self.vertices))
+        return self.vertices[at]
+
     def take(self, at: int) -> str:
-        if unmet := self.first_unmet(self.is_there(at, len(self.edges))):
-            return unmet
-        e = self.edges[at]
+        e = self.edge(at)
         if e.delivered == e.put:
             return "empty"
         place, count = e.delivered, e.sent[e.delivered]
@@ -223,30 +226,23 @@ class Core:
         return f"got {place} {count}"
 
     def ack(self, at: int) -> str:
-        if unmet := self.first_unmet(
-            self.is_there(at, len(self.edges)),
-            ("NothingOwed", lambda: self.edges[at].delivered > self.edges[at].acked),
-            ("Engaged", lambda: self.may_ack(self.edges[at]) > 0),
-        ):
-            return unmet
-        e, many = self.edges[at], self.may_ack(self.edges[at])
+        e = self.edge(at)
+        self.need("NothingOwed", e.delivered > e.acked)
+        many = self.may_ack(e)
+        self.need("Engaged", many > 0)
         e.acked += many
-        if self.vertices[e.head].parent == e.number and e.acked == e.delivered:
+        if self.vertices[e.head].parent == at and e.acked == e.delivered:
             self.vertices[e.head].parent = None
         return f"done {many}"
 
     def fire(self, at: int, count: int) -> str:
-        if unmet := self.first_unmet(
-            self.is_there(at, len(self.vertices)),
-            ("Sink", lambda: at != self.sink),
-            self.running(at, False),
-            ("Pending", lambda: not self.is_pending(at) and not self.has_unput(at)),
-            ("Zero", lambda: count >= 1),
-            ("Limit", lambda: self.vertices[at].fired + count <= self.limit),
-            ("NotLegal", lambda: self.vertices[at].chips >= count * self.degree(at)),
-        ):
-            return unmet
-        vertex = self.vertices[at]
+        vertex = self.vertex(at)
+        self.need("Sink", at != self.sink)
+        self.need("Halted", vertex.halt is None)
+        self.need("Pending", not self.is_pending(at) and not self.has_unput(at))
+        self.need("Zero", count >= 1)
+        self.need("Limit", vertex.fired + count <= self.limit)
+        self.need("NotLegal", vertex.chips >= count * self.degree(at))
         vertex.chips -= count * self.degree(at)
         vertex.fired += count
         for e in self.outs(at):
@@ -254,25 +250,21 @@ class Core:
         return f"done {vertex.fired}"
 
     def clear(self, at: int) -> str:
-        of_graph = [
-            self.running(at, True),
-            ("Refused", lambda: not self.edges[at].refused),
-            ("NothingPending", lambda: self.edges[at].pending > 0),
-        ]
-        of_root = [("Ended", lambda: not self.ended), ("Unput", lambda: self.edges[at].put == len(self.edges[at].sent))]
-        own = of_graph if at < self.graph_edges else of_root
-        if unmet := self.first_unmet(self.is_there(at, len(self.edges)), *own):
-            return unmet
-        e = self.edges[at]
+        e = self.edge(at)
+        if at < self.graph_edges:
+            self.need("Halted", self.vertices[e.tail].halt is None)
+            self.need("Refused", not e.refused)
+            self.need("NothingPending", e.pending > 0)
+        else:
+            self.need("Ended", not self.ended)
+            self.need("Unput", e.put == len(e.sent))
         e.clear = len(e.sent) - e.delivered < self.ring
         return f"done {len(e.sent)}" if e.clear else "full"
 
     def claim(self, at: int) -> str:
-        if unmet := self.first_unmet(
-            self.is_there(at, self.graph_edges), self.running(at, True), ("NotCleared", lambda: self.edges[at].clear)
-        ):
-            return unmet
-        e = self.edges[at]
+        e = self.edge(at, self.graph_edges)
+        self.need("Halted", self.vertices[e.tail].halt is None)
+        self.need("NotCleared", e.clear)
         e.clear = False
         if e.sealed:
             e.refused = True
@@ -282,52 +274,42 @@ class Core:
         return f"sent {len(e.sent) - 1} {e.sent[-1]}"
 
     def put(self, at: int) -> str:
-        if unmet := self.first_unmet(
-            self.is_there(at, len(self.edges)), ("NotClaimed", lambda: self.edges[at].put < len(self.edges[at].sent))
-        ):
-            return unmet
-        self.edges[at].put += 1
-        return f"done {self.edges[at].sent[-1]}"
+        e = self.edge(at)
+        self.need("NotClaimed", e.put < len(e.sent))
+        e.put += 1
+        return f"done {e.sent[-1]}"
 
     def halt(self, at: int) -> str:
-        if unmet := self.first_unmet(
-            self.is_there(at, len(self.vertices)),
-            ("Sink", lambda: at != self.sink),
-            self.running(at, False),
-            ("Unput", lambda: not self.has_unput(at)),
-            ("NoCause", lambda: self.cause(at) is not None),
-        ):
-            return unmet
-        self.vertices[at].halt = self.cause(at)
-        return f"done {1 if self.vertices[at].halt == 'over' else 0}"
+        vertex = self.vertex(at)
+        self.need("Sink", at != self.sink)
+        self.need("Halted", vertex.halt is None)
+        self.need("Unput", not self.has_unput(at))
+        self.need("NoCause", self.cause(at) is not None)
+        vertex.halt = self.cause(at)
+        return f"done {1 if vertex.halt == 'over' else 0}"
 
     def settle(self, at: int) -> str:
-        if unmet := self.first_unmet(self.is_there(at, len(self.edges))):
-            return unmet
-        e = self.edges[at]
+        e = self.edge(at)
         more, e.settled = e.acked - e.settled, e.acked
         return f"done {more}"
 
     def seal(self, at: int) -> str:
-        if unmet := self.first_unmet(self.is_there(at, self.graph_edges)):
-            return unmet
-        self.edges[at].sealed = True
-        return f"done {len(self.edges[at].sent)}"
+        e = self.edge(at, self.graph_edges)
+        e.sealed = True
+        return f"done {len(e.sent)}"
 
     def read(self, at: int) -> str:
-        unmet = self.first_unmet(self.is_there(at, len(self.vertices)), ("NotClosed", self.is_closed))
-        return unmet or f"done {self.vertices[at].fired}"
+        fired = self.vertex(at).fired
+        self.need("NotClosed", self.is_closed())
+        return f"done {fired}"
 
     def feed(self, at: int, count: int) -> str:
-        if unmet := self.first_unmet(
-            ("NoSuch", lambda: self.graph_edges <= at < len(self.edges)),
-            ("Ended", lambda: not self.ended),
-            ("Zero", lambda: count >= 1),
-            ("TooMuch", lambda: sum(sum(e.sent) for e in self.edges[self.graph_edges :]) + count <= 2**40),
-            ("NotCleared", lambda: self.edges[at].clear),
-        ):
-            return unmet
-        e = self.edges[at]
+        self.need("NoSuch", self.graph_edges <= at)
+        e = self.edge(at)
+        self.need("Ended", not self.ended)
+        self.need("Zero", count >= 1)
+        self.need("TooMuch", sum(sum(it.sent) for it in self.edges[self.graph_edges :]) + count <= 2**40)
+        self.need("NotCleared", e.clear)
         e.clear, e.sent = False, (*e.sent, count)
         self.on_send(e)
         return f"sent {len(e.sent) - 1} {count}"

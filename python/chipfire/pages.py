@@ -22,7 +22,7 @@ from chipfire.ledger import Disagreement, Ledger
 from chipfire.machine import Event, Reply, Schedule, Setting, Simulation, TraceRow, read_trace
 from chipfire.model import Core
 from chipfire.program import AnyGraph, AnyProgram, known_chips, known_graph, replay, simulate
-from chipfire.schedules import opened
+from chipfire.schedules import opened, played
 from chipfire.sentences import Sentences
 from chipfire.values import FILE, MAX_LIMIT, FileName, counted, own_text, write
 
@@ -132,9 +132,7 @@ class _Spelled(Core):
 
 def spell_rounds(setting: Setting, schedule: Sequence[Event], rounds: int) -> tuple[Event, ...]:
     """A schedule, and after it the events of so many rounds of turns, or of those until the root is closed."""
-    core = opened(setting, _Spelled)
-    for event in schedule:
-        core.step(*event)
+    core = played(setting, _Spelled, schedule)
     core.events = Schedule()
     core.drive(rounds)
     return (*schedule, *core.events)

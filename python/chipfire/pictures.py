@@ -1,8 +1,7 @@
 """Pictures of chips and of counts: files, notebooks, NumPy and Matplotlib.
 
-The numbers are the program's; that pictures show them is not proved. A picture has a square for each vertex, placed by
-the graph's shape, or in the order of the numbers, so many in a row. A sink that is the last vertex has no square; one
-that stands elsewhere has one of a colour of its own, and so has all that lies outside of a region.
+A picture has a square for each vertex, placed by the graph's shape, or in the order of the numbers, so many in a row. A
+sink that is the last vertex has no square; another one has a colour of its own, which all outside of a region has too.
 """
 
 from __future__ import annotations

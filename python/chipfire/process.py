@@ -1,8 +1,4 @@
-"""The program chipfire as a process: where it is, how it is asked, and what it refuses.
-
-What Python has and the program is to read goes into files without names. So nothing is left of them, however Python
-ends, and the program ends with it.
-"""
+"""The program chipfire as a process: where it is, how it is asked, and what it refuses."""
 
 from __future__ import annotations
 
@@ -20,7 +16,7 @@ import weakref
 from collections.abc import Iterable, Mapping, Sequence
 from typing import TYPE_CHECKING, Any, Union
 
-from chipfire.values import HERE, MAX_LARGE_EDGES, MAX_LARGE_VERTICES, FileName, own_text
+from chipfire.values import HERE, MAX_EDGES, MAX_LARGE_EDGES, MAX_LARGE_VERTICES, MAX_VERTICES, FileName, own_text
 
 if TYPE_CHECKING:
     from chipfire.graphs import Graph
@@ -72,7 +68,8 @@ class Fault(ValueError):
 
 
 class Kept:
-    """A file without a name that the program reads or writes. It goes with this object, at the latest with Python."""
+    """A file without a name that the program reads or writes. It goes with this object, or with Python, however that
+    ends."""
 
     def __init__(self, parts: Iterable[bytes]) -> None:
         file = tempfile.TemporaryFile()
@@ -145,9 +142,12 @@ def ask(
     one that is True has no value.
     """
     path = find_program() if program is None else os.fspath(program)
-    options = {"large": graph is None or graph.is_large, **(options or {})}
+    is_large = graph is None or graph.vertices > MAX_VERTICES or len(graph.columns.tails) > MAX_EDGES
+    options = {"large": is_large, **(options or {})}
     given = {name: value for name, value in options.items() if value is not None and value is not False}
-    words = [command, *(f"{kind}=" * kind.startswith("--") + _word(file) for kind, file in inputs)]
+    names = [f"/dev/fd/{it.number}" if isinstance(it, Kept) else os.fspath(it) for _, it in inputs]
+    names = [f"./{name}" if name.startswith("-") else name for name in names]  # (it is no option)
+    words = [command, *(f"{kind}=" * kind.startswith("--") + name for (kind, _), name in zip(inputs, names))]
     words += [f"--{name}" if value is True else f"--{name}={value}" for name, value in given.items()]
     kept = [file.number for _, file in inputs if isinstance(file, Kept)]
     status, output, errors = _started([path, *words], kept)
@@ -162,12 +162,6 @@ def ask(
     if "chipfire: trace cut" in errors:
         warnings.warn("a vertex took and fired more often than its trace has rows", TraceCut, stacklevel=3)
     return output
-
-
-def _word(file: FileName | Kept) -> str:
-    """A file as an argument that is no option."""
-    name = f"/dev/fd/{file.number}" if isinstance(file, Kept) else os.fspath(file)
-    return f"./{name}" if name.startswith("-") else name
 
 
 def _meant(

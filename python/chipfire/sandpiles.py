@@ -1,10 +1,7 @@
 """The words of sandpiles, over the player: sums, recurrent and superstable, the sandpile group, avalanches.
 
-A graph may be the name of its file, and so may chips. They come in every form that `Graph.chips` takes, and a number of
-the sink counts for nothing. `large` does nothing.
-
-Proved: whenever chips are stabilized, the program is asked, and its chips and counts are those of every play to the
-end. Not proved: all that stands here, which says what to ask and compares what comes.
+Chips come in every form that `Graph.chips` takes, and a number of the sink counts for nothing. Whenever they are
+stabilized, the program is asked, whose answer is proved. What stands here, what to ask and how to compare it, is not.
 """
 
 from __future__ import annotations

@@ -124,9 +124,9 @@ def random_schedule(setting: Setting, seed: Any, detector: Detector = "right") -
     return made
 
 
-def played(setting: Setting, detector: Detector, events: Iterable[Sequence[Any]]) -> Core:
+def played(setting: Setting, detector: Detector, events: Iterable[Sequence[Any]]) -> Any:
     """The game after a schedule, on the model."""
-    core: Core = opened(setting, detector)
+    core = opened(setting, detector)
     for event in events:
         core.step(*event)
     return core

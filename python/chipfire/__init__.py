@@ -45,9 +45,7 @@ from chipfire import machine
 from chipfire.animation import Frames, frames, frames_by_chips
 from chipfire.chips import CHIPS_HEADER as CHIPS_HEADER, Chips, Configuration
 from chipfire.dropped import Drops
-from chipfire.graphs import (
-    Graph, aztec, complete, cycle, from_networkx, from_sage, grid, path, region, torus, wheel,
-)
+from chipfire.graphs import Graph, aztec, complete, cycle, from_networkx, from_sage, grid, path, region, torus, wheel
 from chipfire.machine import (
     RULES as RULES, SCHEDULE_HEADER as SCHEDULE_HEADER, TRACE_HEADER as TRACE_HEADER, Board as Board, Books as Books,
     Event as Event, Firing as Firing, Reply as Reply, Schedule as Schedule, Setting as Setting,

@@ -42,8 +42,7 @@ class Frames:
         return len(self.limits)
 
     def save(self, file: FileName, scale: int = SCALE, seconds: float = 0.25) -> None:
-        """Writes the animation: `.html` is a page with a slider. With Pillow, `.gif` and other forms that it knows show
-        each picture for so many seconds."""
+        """Writes the animation: `.html` is a page with a slider. With Pillow, `.gif` shows each picture for `seconds`."""
         if os.fspath(file).lower().endswith(".html"):
             write(file, self.page())
         else:

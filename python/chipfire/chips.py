@@ -148,10 +148,8 @@ def once(question: Callable[[Graph, FileName | None], T]) -> Callable[[Graph, Fi
 
     @functools.wraps(question)
     def answer(graph: Graph, program: FileName | None) -> T:
-        key = question.__name__, program
-        if key not in graph.answers:
-            graph.answers[key] = question(graph, program)
-        found: T = graph.answers[key]
+        known, key = graph.answers, (question.__name__, program)
+        found: T = known[key] if key in known else known.setdefault(key, question(graph, program))
         return found
 
     return answer
@@ -159,11 +157,8 @@ def once(question: Callable[[Graph, FileName | None], T]) -> Callable[[Graph, Fi
 
 @once
 def burning(graph: Graph, program: FileName | None) -> tuple[Sequence[int], Sequence[int]]:
-    """The least burning script, and the chips that it takes away, by numbers.
-
-    It is one more than the counts of a play that begins with one chip less on each vertex than edges lead into it. (On
-    an undirected graph nobody fires in it.)
-    """
+    """The least burning script, and the chips that it takes away, by numbers. The script is one more than the counts of
+    a play that begins with one chip less on each vertex than edges lead into it."""
     none = [0] * graph.vertices
     entering = graph.position_after(graph.degrees(), [1] * graph.vertices)
     start = Configuration(graph, [max(count - 1, 0) for count in entering])

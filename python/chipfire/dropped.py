@@ -72,9 +72,8 @@ def columns_of(text: str) -> list[Any]:
     at = len(ROWS_HEADER)
     while at < len(text):
         end = text.rindex("\n", at, at + _BYTES)
-        row = text[at:end].replace("\n", ",")
-        numbers = numpy.fromstring(row, "q", sep=",") if numpy else array("q", map(int, row.split(",")))
+        numbers = array("q", map(int, text[at:end].replace("\n", ",").split(",")))
         for place, column in enumerate(columns, 2):
-            column.frombytes(numbers[place::5].tobytes())
+            column.extend(numbers[place::5])
         at = end + 1
     return [numpy.frombuffer(column, "q") for column in columns] if numpy else columns

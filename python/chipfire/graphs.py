@@ -96,12 +96,12 @@ class Graph:
         raise AttributeError("a graph is never changed: make another one")
 
     def __getstate__(self) -> dict[str, Any]:
-        return {name: value for name, value in vars(self).items() if name != "kept"} | {"answers": {}}
+        return {name: value for name, value in vars(self).items() if name != "kept"}
 
     def __eq__(self, other: object) -> bool:
-        if not isinstance(other, Graph) or (self.vertices, self.sink) != (other.vertices, other.sink):
+        if not isinstance(other, Graph):
             return False
-        return self.names == other.names and self.columns == other.columns
+        return all(getattr(self, it) == getattr(other, it) for it in ("vertices", "sink", "names", "columns"))
 
     def __hash__(self) -> int:
         return hash((self.vertices, self.sink, *(column.tobytes() for column in self.columns)))
@@ -184,11 +184,10 @@ class Graph:
         yield f'],"sink":{self.sink},"version":1,"vertices":{self.vertices}}}\n'.encode()
 
     def number(self, name: Hashable) -> int:
-        """The number of the vertex with this name."""
-        try:
-            return self._numbers[name]
-        except KeyError:
-            raise KeyError(f"the graph has no vertex {name!r}") from None
+        """The number of the vertex with this name; a KeyError says that there is none."""
+        if name not in self._numbers:
+            raise KeyError(f"the graph has no vertex {name!r}")
+        return self._numbers[name]
 
     @functools.cached_property
     def _numbers(self) -> dict[Hashable, int]:
@@ -318,9 +317,7 @@ class Graph:
         return found
 
 
-def _both_ways(
-    vertices: int, sink: int, pairs: Iterable[tuple[int, int]], shape: tuple[int, int] | None = None
-) -> Graph:
+def _both_ways(vertices: int, sink: int, pairs: Iterable[tuple[int, int]], shape: Any = None) -> Graph:
     """The graph with an edge each way for each pair, but none out of the sink."""
     rows = sorted((tail, head, 1) for u, v in pairs for tail, head in ((u, v), (v, u)) if tail != sink)
     return Graph(vertices, sink, rows, shape=shape)
@@ -366,9 +363,9 @@ def _beside(
 def region(mask: Iterable[Iterable[Any]], lattice: str = "square") -> Graph:
     """The squares of a mask (rows of true and false, or an array of NumPy), numbered by rows, and the sink after them.
 
-    A vertex loses a chip to the sink for each neighbour that it lacks. The lattice is "square", with 4 neighbours;
-    "triangular", with 6: also those above to the right and below to the left; or "hexagonal", with 3: left, right, and
-    below if row and column together are even, else above.
+    A vertex loses a chip to the sink for each neighbour that it lacks. The lattice is "square", "triangular", where
+    those above to the right and below to the left are neighbours too, or "hexagonal": left, right, and below if row and
+    column together are even, else above.
     """
     rows = [[bool(it) for it in row] for row in mask]
     if lattice not in _BESIDE:

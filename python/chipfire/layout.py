@@ -47,8 +47,10 @@ def places_of(graph: Graph, started: Iterable[int], given: Mapping[Any, Point] |
                 raise ValueError(f"the position of vertex {name!r} is no point: {given.get(name)!r}")
         return _below_root([(float(given[name][0]), float(given[name][1])) for name in graph.names])
     columns = columns_of(graph)
-    if columns:
-        return _grid_places(columns, (graph.vertices - 1) // columns)
+    if columns:  # (the frame round the squares stands for the sink, since it takes what falls over the border)
+        places, rows = _in_rows(graph.vertices - 1, columns), (graph.vertices - 1) // columns
+        places.append(((columns - 1) / 2, rows - 0.2))
+        return Places(places, ((columns - 1) / 2, -1.45), ((-0.8, -0.8), (columns - 0.2, rows - 0.2)))
     if graph.vertices > MOST_BY_DISTANCE:
         return _below_root(_in_rows(graph.vertices, math.isqrt(graph.vertices - 1) + 1))
     return _from_distances(graph, sorted(started))
@@ -64,13 +66,6 @@ def _below_root(places: Sequence[Point]) -> Places:
 
 def _in_rows(count: int, columns: int) -> list[Point]:
     return [(float(place % columns), float(place // columns)) for place in range(count)]
-
-
-def _grid_places(columns: int, rows: int) -> Places:
-    """Squares in rows; the sink is the frame round them, since it takes what falls over the border."""
-    frame = ((-0.8, -0.8), (columns - 0.2, rows - 0.2))
-    places = [*_in_rows(columns * rows, columns), ((columns - 1) / 2, rows - 0.2)]
-    return Places(places, ((columns - 1) / 2, -1.45), frame)
 
 
 def _from_distances(graph: Graph, started: Sequence[int]) -> Places:

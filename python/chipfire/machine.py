@@ -21,12 +21,12 @@ SCHEDULE_HEADER = ("event", "at", "count")
 NOTED_HEADER = (*SCHEDULE_HEADER, "note")
 TRACE_HEADER = ("vertex", "kind", "edge", "count")
 
-#: Of each rule what it says, and what is so if it is not met; `chipfire explain rule` has the same words.
-_RULES: list[tuple[str, str]] = json.loads(own_text("web", "words.json"))["rules"]
+#: The words for what happens; of each rule what it says, and what is so if it is not met, as `chipfire explain rule`.
+WORDS: dict[str, Any] = json.loads(own_text("web", "words.json"))
 #: What each rule says that the reply `not-now N` names; docs/CORE.md has the table.
-RULES = {number: met for number, (met, _) in enumerate(_RULES, 1)}
+RULES: dict[int, str] = {number: met for number, (met, _) in enumerate(WORDS["rules"], 1)}
 #: What it is called and what is so if it is not met.
-UNMET = {number: (name, unmet) for (name, number), (_, unmet) in zip(model.RULES.items(), _RULES)}
+UNMET = {number: (name, str(unmet)) for (name, number), (_, unmet) in zip(model.RULES.items(), WORDS["rules"])}
 
 
 class Event(NamedTuple):
@@ -190,8 +190,8 @@ class Reply:
 
 @dataclass(frozen=True)
 class Books:
-    """What an engaged vertex has in its books: its parent edge, how many acknowledgements it waits for, and how many it
-    owes on each edge on which it owes some."""
+    """The books of an engaged vertex: its parent edge, how many acknowledgements it waits for, and how many it owes on
+    each edge on which it owes some."""
 
     parent: int | None
     deficit: int
@@ -234,11 +234,10 @@ class Setting:
 @dataclass(frozen=True)
 class Simulation:
     """What a schedule came to: a reply for each event, the report if the root closed, and a board for each reply if the
-    books were asked for.
+    books were asked for. The rest is what was asked, and in words what of the schedule nobody wrote.
 
     That the root is closed says that all is over. `report.closed` says besides that no limit and no seal stopped a
-    vertex. The rest is what was asked: the schedule with its notes, how many rounds were to follow it, and the setting;
-    and in words what of the schedule nobody wrote, if there is such."""
+    vertex."""
 
     replies: tuple[Reply, ...]
     report: Report | None

@@ -19,7 +19,7 @@ from typing import Any
 from chipfire.chips import Chips
 from chipfire.layout import Point, places_of
 from chipfire.ledger import Disagreement, Ledger
-from chipfire.machine import Event, Reply, Schedule, Setting, Simulation, TraceRow, read_trace
+from chipfire.machine import WORDS, Event, Reply, Schedule, Setting, Simulation, TraceRow, read_trace
 from chipfire.model import Core
 from chipfire.program import AnyGraph, AnyProgram, known_chips, known_graph, replay, simulate
 from chipfire.schedules import opened, played
@@ -28,11 +28,7 @@ from chipfire.values import FILE, MAX_LIMIT, FileName, counted, own_text, write
 
 #: The sizes of rings that are tried for a trace, which does not tell its own.
 RINGS = (1, 2, 4, 8, 16, 32, 64)
-_MADE_UP = (
-    "The run was recorded, in a trace of {rows} which the program can replay. Here each vertex takes and fires what "
-    "its rows say, and in their order. When it sent and acknowledged no trace tells, nor how the rows of different "
-    "vertices lie beside each other. These events are made up, each as early as it can be, with {cells} on each edge."
-)
+_SAYS: dict[str, str] = WORDS["pages"]
 
 
 def page(
@@ -61,35 +57,29 @@ def page_text(
     ledger.close(told.report)
     for index, note in told.notes.items():
         steps[index]["note"] = note
-    end = "report at the end: chips, firings and halts" if told.report else "word at the end that the root is open"
     parts = {"events": counted(len(steps), "event"), "made_up": f"<p>{html.escape(told.made_up)}</p>"}
-    parts["end"] = f"program's {end}"
+    parts["end"] = _SAYS["report" if told.report else "no report"]
     data = page_data(told, positions)
     data |= {"steps": steps, "words": list(words.numbers), "end": {"text": _end(told, ledger), "isWrong": False}}
-    return filled(title, data, "run-proved.html", parts, _DRAWING)
+    return filled(title, data, parts, "run-proved.html", "drawing.html")
 
 
-#: The drawing of a run.
-_DRAWING = '<svg id="drawing" role="img" aria-label="The graph after this event; the tables say it in words"></svg>'
-
-
-def filled(title: str, data: Mapping[str, Any], proved: str, parts: Mapping[str, str], drawings: str) -> str:
-    """The page of a run, with what it says about proofs from a file of the folder web, and its parts."""
+def filled(title: str, data: Mapping[str, Any], parts: Mapping[str, str], proved: str, drawings: str) -> str:
+    """The page of a run: what it says about proofs and its drawings come from files of the folder web, with parts."""
     # (in a script of HTML no text may look like a tag)
     text = json.dumps(data, separators=(",", ":")).replace("<", "\\u003c")
-    held = {"title": html.escape(title), "data": text, "drawings": drawings}
-    held |= {name: own_text("web", f"run.{kind}") for name, kind in (("style", "css"), ("script", "js"))}
-    held["proved"] = string.Template(own_text("web", proved)).substitute(parts)
+    held = {"title": html.escape(title), "data": text, "style": own_text("web", "run.css")}
+    held |= {"script": own_text("web", "run.js"), "proved": string.Template(own_text("web", proved)).substitute(parts)}
+    held["drawings"] = string.Template(own_text("web", drawings)).substitute(parts)
     return string.Template(own_text("web", "run.html")).substitute(held)
 
 
 def _end(told: Simulation, ledger: Ledger) -> str:
     """The last word of a run."""
     if told.report is not None:
-        return "The root is closed: all is over." + " A limit or a seal stopped a vertex." * (not told.report.closed)
-    if not ledger.core.ended:
-        return "The root is open: it has not noted the end of feeding."
-    return f"The root is open: it waits for {counted(ledger.facts['root'][0]['deficit'], 'acknowledgement')}."
+        return _SAYS["closed" if told.report.closed else "stopped"]
+    waits = counted(ledger.facts["root"][0]["deficit"], "acknowledgement")
+    return _SAYS["open" if ledger.core.ended else "not ended"].format(acknowledgements=waits)
 
 
 def recorded(
@@ -112,7 +102,7 @@ def recorded(
         if events is not None:
             told = simulate(known, start, events, limit=limit, ring=cells, books=True, program=program)
             sizes = {"rows": counted(len(rows), "row"), "cells": counted(cells, "cell")}
-            return replace(told, made_up=_MADE_UP.format(**sizes))
+            return replace(told, made_up=_SAYS["recorded"].format(**sizes))
     raise ValueError(f"the rows of the trace cannot be played over rings of {cells} cells: which ring had the run?")
 
 
@@ -191,11 +181,7 @@ def spelled_out(simulation: Simulation, program: AnyProgram = None) -> Simulatio
     setting, schedule, made_up = simulation.game, simulation.schedule, simulation.made_up
     if simulation.rounds:
         schedule = spell_rounds(setting, schedule, simulation.rounds)
-        made_up = (
-            f"The schedule has {counted(len(simulation.schedule), 'event')}. Those after it are the rounds of turns "
-            "that followed, spelled out without the looks that would find nothing. The program was asked both ways, "
-            "and came to the same end."
-        )
+        made_up = _SAYS["rounds"].format(events=counted(len(simulation.schedule), "event"))
     told = asked(setting, schedule, program)
     if told.report != simulation.report:
         raise Disagreement("the program comes to another end than before")
@@ -218,7 +204,6 @@ def page_data(told: Simulation, positions: Mapping[Any, Point] | None) -> dict[s
     setting, graph, events = told.game, told.game.graph, zip(told.schedule, told.replies)
     fed = {event.at - len(graph.edges) for event, reply in events if event.kind == "feed" and reply.is_done}
     started = sorted(fed | {vertex for vertex, count in enumerate(setting.chips) if count})
-    chips = counted(sum(setting.chips), "chip")
     return {
         "names": [str(name) for name in graph.names],
         "sink": graph.sink,
@@ -227,7 +212,7 @@ def page_data(told: Simulation, positions: Mapping[Any, Point] | None) -> dict[s
         "rootEdges": [graph.root_edge(vertex) for vertex in started],
         "places": vars(places_of(graph, started, positions)),
         "start": Ledger(setting).state(),
-        "opening": f"The root has put the chips of the start on its edges: {chips} in all.",
+        "opening": _SAYS["opening"].format(chips=counted(sum(setting.chips), "chip")),
     }
 
 

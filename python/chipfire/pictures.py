@@ -38,9 +38,7 @@ def _blend(corners: Sequence[str], count: int) -> tuple[str, ...]:
 PALETTES: dict[str, Sequence[str]] = {
     "colours": ("#ffffff", "#f0c83c", "#286ebe", "#14141e", "#ec7050"),
     "greys": ("#ffffff", "#c8c8c8", "#8c8c8c", "#505050", "#000000"),
-    "viridis": _blend(
-        "#440154 #482878 #3e4989 #31688e #26828e #1f9e89 #35b779 #6ece58 #b5de2b #fde725".split(), 255
-    ),
+    "viridis": _blend("#440154 #482878 #3e4989 #31688e #26828e #1f9e89 #35b779 #6ece58 #b5de2b #fde725".split(), 255),
 }
 SINK_COLOUR = "#a5d8c2"
 SCALE = 8

@@ -9,8 +9,8 @@ from collections.abc import Callable, Hashable, Iterable, Sequence
 from dataclasses import dataclass, replace
 from typing import TYPE_CHECKING, Any, TypeVar, Union
 
-from chipfire import chips as configurations
 from chipfire.chips import CHIPS_HEADER, GUESS_HEADER, Chips, Configuration, chips_text
+from chipfire.chips import identity as identity_numbers
 from chipfire.dropped import ROWS_HEADER, Drops, columns_of, parts_of
 from chipfire.graphs import Graph
 from chipfire.machine import (
@@ -109,8 +109,8 @@ def plain(
     """Stabilizes: plays on one thread until no vertex is legal, or all that are have fired `limit` times.
 
     `guess` says how often each vertex may have fired in the end, in one of the forms of chips, or by a report. It
-    changes no answer; one that is true or nearly so saves the most of the play. With `progress`, `sys.stderr` gets a
-    line about once a second that tells how the play goes on. `large` does nothing.
+    changes no answer; one that is nearly true saves most of the play. With `progress`, `sys.stderr` gets a line about
+    once a second that tells how the play goes on.
     """
     question = _Question(graph, program)
     files = [question.chips(chips)]
@@ -245,12 +245,9 @@ def explain(number: int | None = None, *, program: AnyProgram = None) -> str:
 
 
 def identity(graph: AnyGraph, *, large: bool = False, program: AnyProgram = None) -> Configuration:
-    """The recurrent identity: of the recurrent configurations, the one that adds nothing to any of them.
-
-    With `m` the maximal stable configuration it is the stabilization of `2m` less the stabilization of `2m`.
-    """
+    """The recurrent identity: of the recurrent configurations, the one that adds nothing to any of them."""
     graph = known_graph(graph, program)
-    return Configuration(graph, configurations.identity(graph, program))
+    return Configuration(graph, identity_numbers(graph, program))
 
 
 def write_chips(file: FileName, graph: Graph, chips: Chips) -> None:

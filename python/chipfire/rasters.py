@@ -1,7 +1,6 @@
 """Pictures of points as files: by Pillow if it is installed, else as PNG by what stands here.
 
-A picture is its rows of points, each row bytes and each point the number of a colour; several of one size are an
-animation. Colours are bytes of red, green and blue, one after the other; there are 256 at most.
+A picture is rows of bytes, each the number of a point's colour. Colours are bytes of red, green and blue; 256 at most.
 """
 
 from __future__ import annotations

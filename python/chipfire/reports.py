@@ -96,11 +96,8 @@ class Report(Drawn):
 
     @classmethod
     def read(cls, file: FileName, graph: Graph | None = None) -> Report:
-        """The report of a file. Whether it is one to the byte, `resume` tells.
-
-        A report does not name its graph. One that it cannot be of is refused: then a vertex would have begun with less
-        than no chip, or is not stopped and could fire.
-        """
+        """The report of a file. A graph that it cannot be of is refused: a vertex would have begun with less than no
+        chip, or could still fire, though nothing stopped it."""
         with open(file, encoding="utf-8", newline="") as text:
             report = cls.parse(text.read(), graph)
         if graph is not None and not report.fits(graph):
@@ -108,7 +105,7 @@ class Report(Drawn):
         return report
 
     def fits(self, graph: Graph) -> bool:
-        """Whether some play on the graph, from no less than 0 chips anywhere, could have ended as the report says."""
+        """Whether some play on the graph, from 0 chips or more on each vertex, could have ended as the report says."""
         if graph.vertices != len(self.chips):
             return False
         degrees, start = graph.degrees(), graph.position_after(self.chips, [-count for count in self.total])

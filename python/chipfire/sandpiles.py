@@ -15,7 +15,7 @@ from dataclasses import dataclass, field
 from typing import Any
 
 from chipfire import smith
-from chipfire.chips import Chips, Configuration, burning, identity, once, played
+from chipfire.chips import Chips, Configuration, burning, identity, played
 from chipfire.dropped import PART
 from chipfire.graphs import Graph
 from chipfire.program import AnyGraph, AnyProgram, drops, known_chips, known_graph
@@ -96,17 +96,11 @@ def recurrent_representative(
     held = _held(graph, chips, program)
     held += identity(held.graph, program)
     if min(held.numbers) < 0:
-        lift = _lift(held.graph, program)
-        times = max(-count // more + 1 for count, more in zip(held.numbers, lift) if more)
-        held += [times * more for more in lift]
+        # (a chip for each edge out, less what these become, is equivalent to none, and 1 on each vertex at least)
+        degrees = Configuration(held.graph, held.graph.degrees())
+        lift = degrees - degrees.stabilize(program=program)
+        held += max(-count // more + 1 for count, more in zip(held.numbers, lift.numbers) if more) * lift
     return held.stabilize(program=program)
-
-
-@once
-def _lift(graph: Graph, program: AnyProgram) -> Sequence[int]:
-    """Chips that are equivalent to none, 1 on each vertex at least: one for each edge out, less what these become."""
-    degrees = Configuration(graph, graph.degrees())
-    return (degrees - degrees.stabilize(program=program)).numbers
 
 
 def superstable_representative(graph: AnyGraph, chips: Chips, *, program: AnyProgram = None) -> Configuration:
@@ -140,7 +134,7 @@ def superstables(graph: AnyGraph, *, program: AnyProgram = None) -> Iterator[Con
     while waiting:
         chips, first = waiting.pop()
         yield Configuration(known, chips)
-        # (what is left of superstable chips without one of them is superstable, too)
+        # (superstable chips without one of them are superstable, too)
         for vertex in range(first, known.vertices):
             more = (*chips[:vertex], chips[vertex] + 1, *chips[vertex + 1 :])
             if vertex != known.sink and burns(more):
@@ -148,11 +142,8 @@ def superstables(graph: AnyGraph, *, program: AnyProgram = None) -> Iterator[Con
 
 
 def _burns(graph: Graph, program: AnyProgram) -> Callable[[Sequence[int]], bool]:
-    """What tells of chips whether they are superstable, by burning.
-
-    As long as a vertex has less than nothing, it gives a firing of the burning script back. Chips are superstable if
-    all are given back.
-    """
+    """What tells of chips whether they are superstable: as long as a vertex has less than nothing, it gives a firing of
+    the burning script back, and in the end all are given back."""
     script, fuel = burning(graph, program)
     outs: list[list[tuple[int, int]]] = [[] for _ in range(graph.vertices)]
     for tail, head, mult in zip(*graph.columns):

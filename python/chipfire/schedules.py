@@ -64,8 +64,8 @@ def explore(
 ) -> Explored:
     """Goes through all schedules of a game, breadth first, until the root is closed and something is left.
 
-    A firing of several at a time is one step, and so is a send, unless `whole_sends` is False: clear, claim and put.
-    More than `most` states are a ValueError.
+    A firing of several at a time is one step, and so is a send (clear, claim, put), unless `whole_sends` is False. More
+    than `most` states are a ValueError.
     """
     start = opened(setting, detector)
     came: dict[Any, tuple[Any, tuple[Event, ...]]] = {start.state(): (None, ())}

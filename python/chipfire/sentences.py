@@ -2,14 +2,13 @@
 
 from __future__ import annotations
 
-import json
 from typing import Any
 
 from chipfire.graphs import Graph
 from chipfire.ledger import Change
-from chipfire.machine import Event, Reply
+from chipfire.machine import WORDS, Event, Reply
 from chipfire.model import Core
-from chipfire.values import counted, own_text
+from chipfire.values import counted
 
 _COUNTED = ("chip", "firing", "message", "acknowledgement")
 
@@ -24,7 +23,7 @@ class Sentences:
 
     def __init__(self, graph: Graph) -> None:
         self.graph = graph
-        self.words: dict[str, dict[str, str]] = json.loads(own_text("web", "words.json"))
+        self.words: dict[str, dict[str, str]] = WORDS
 
     def vertex(self, vertex: int) -> str:
         """What a vertex is called."""

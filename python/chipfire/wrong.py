@@ -14,15 +14,6 @@ from chipfire.program import AnyProgram
 from chipfire.schedules import EVENTS, explore, opened
 from chipfire.values import FileName, counted, write
 
-#: The two drawings, and what stands above each.
-_BESIDE = """<div id="two">
-<p>The wrong detector: {says}</p>
-<p>The right detector: <span id="reply-beside"></span></p>
-<svg id="drawing" role="img" aria-label="The graph after this event, with the wrong detector"></svg>
-<svg id="drawing-beside" role="img" aria-label="The graph after this event, with the right detector"></svg>
-</div>"""
-
-
 def wrong_page(
     name: str, file: FileName, setting: Setting | None = None, *, title: str | None = None,
     positions: Mapping[Any, Point] | None = None, program: AnyProgram = None,
@@ -59,5 +50,4 @@ def wrong_page_text(
     data["end"] = {"text": f"The root is closed; {left}.", "isWrong": True}
     known = known_detector(name)
     parts = {"says": known.says, "kind": known.make.__name__, "states": counted(found.states, "state")}
-    drawings = _BESIDE.format(says=known.says)
-    return filled(title or f"A wrong detector: {name}", data, "run-wrong.html", parts, drawings)
+    return filled(title or f"A wrong detector: {name}", data, parts, "run-wrong.html", "two-drawings.html")

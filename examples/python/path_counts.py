@@ -1,5 +1,5 @@
 #!/usr/bin/env python3
-"""How often the vertices of a path fire, where 2n + 1 chips lie on its middle.
+"""How often the vertices of a path fire, if 2n + 1 chips lie on its middle.
 
 At the end one chip lies on each of the 2n + 1 vertices around it, and the vertex at distance d from the middle has
 fired (n - d)(n - d + 1) / 2 times: 1, 3, 6 and so on from the ends inward (Anderson, Lovász, Shor, Spencer, Tardos and

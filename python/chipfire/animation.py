@@ -38,11 +38,15 @@ class Frames:
     pictures: tuple[Picture, ...] = field(repr=False)
     unit: str = "Limit"
 
+    def __post_init__(self) -> None:
+        if not self.limits:
+            raise ValueError("there are no pictures to show")
+
     def __len__(self) -> int:
         return len(self.limits)
 
     def save(self, file: FileName, scale: int = SCALE, seconds: float = 0.25) -> None:
-        """Writes the animation: `.html` is a page with a slider. With Pillow, `.gif` shows each picture for `seconds`."""
+        """Writes the animation: `.html` is a page with a slider; with Pillow, `.gif` shows each picture so long."""
         if os.fspath(file).lower().endswith(".html"):
             write(file, self.page())
         else:
@@ -89,7 +93,8 @@ def frames(
         return known.get(limit) or plain(graph, chips, limit=limit, program=program)
 
     with ThreadPoolExecutor(1 if graph.vertices > _MOST_AT_ONCE else os.cpu_count()) as pool:
-        return _shown(limits, list(pool.map(at, limits)), columns, palette)
+        reports = tuple(pool.map(at, limits))
+    return Frames(limits, reports, tuple(report.picture(columns, palette) for report in reports))
 
 
 def frames_by_chips(
@@ -106,12 +111,4 @@ def frames_by_chips(
         chips[at] += whole(count, "the number of chips", held) - held
         reports.append(replace(plain(graph, chips, program=program), prior=total))
         chips, total, held = list(reports[-1].chips), reports[-1].total, count
-    return _shown(counts, reports, columns, palette, "Chips")
-
-
-def _shown(
-    limits: tuple[int, ...], reports: list[Report], columns: int | None, palette: Palette | None, unit: str = "Limit"
-) -> Frames:
-    if not limits:
-        raise ValueError("there are no pictures to show")
-    return Frames(limits, tuple(reports), tuple(report.picture(columns, palette) for report in reports), unit)
+    return Frames(counts, tuple(reports), tuple(report.picture(columns, palette) for report in reports), "Chips")

@@ -37,6 +37,8 @@ class Configuration(Drawn, Mapping[Hashable, int]):
 
     graph    the graph
     numbers  the chips by the numbers of the vertices, 0 for the sink
+
+    NumPy takes it as the array of its picture, and pandas as a Series, or in a DataFrame as `dict(configuration)`.
     """
 
     __array_ufunc__ = None  # (so that an array of NumPy and a configuration are added here)

@@ -37,10 +37,8 @@ def columns_of(graph: Graph) -> int | None:
 
 
 def places_of(graph: Graph, started: Iterable[int], given: Mapping[Any, Point] | None = None) -> Places:
-    """The places of a graph of which the root sends chips to the vertices `started`.
-
-    They are those that are given, by names; else those of a grid; else they come from distances along edges.
-    """
+    """The places of a graph of which the root sends chips to the vertices `started`: those that are given, by names;
+    else those of a grid; else they come from distances along edges."""
     if given is not None:
         for name in graph.names:
             if name not in given or not all(map(math.isfinite, given[name])):
@@ -70,9 +68,7 @@ def _in_rows(count: int, columns: int) -> list[Point]:
 
 def _from_distances(graph: Graph, started: Sequence[int]) -> Places:
     """Places as far from each other as the walks between them are long: who gets the first chips up, and the sink down.
-
-    The root stands above who gets its chips. What would be much higher than wide is laid on its side.
-    """
+    The root stands above who gets its chips. What would be much higher than wide is laid on its side."""
     points = _stressed(_distances(graph))
     down = points[graph.sink]
     away = down - (sum(points[vertex] for vertex in started) / len(started) if started else down)
@@ -104,11 +100,8 @@ def _distances(graph: Graph) -> list[list[int]]:
 
 
 def _stressed(distances: Sequence[Sequence[int]]) -> list[complex]:
-    """Points whose distances come near to those that are wanted, near ones above all: stress majorization.
-
-    It begins on a circle, in the order of numbers, and moves each point to the mean of the places that the others want,
-    each weighed by its nearness.
-    """
+    """Points whose distances come near to those that are wanted, near ones above all: stress majorization. It begins on
+    a circle, and moves each point to the mean of the places that the others want, each weighed by its nearness."""
     size = len(distances)
     points = [cmath.rect(size / 6, 2 * math.pi * vertex / size) for vertex in range(size)]
     for _ in range(min(2000, _WORK // size**2 + 1) if size > 1 else 0):

@@ -122,9 +122,7 @@ def trace_text(trace: Iterable[Sequence[Any]]) -> str:
 
 def write_schedule(file: FileName, schedule: Iterable[Sequence[Any]]) -> None:
     """Writes a schedule: a row for each event, which is a tuple of a kind, an edge or a vertex, and perhaps a count.
-
-    Notes, if there are any, are a fourth column, which this package and its page read, and the program does not.
-    """
+    Notes, if there are any, are a fourth column, which this package and its page read, and the program does not."""
     events = Schedule(schedule)
     noted = ((*event, events.notes.get(index, "")) for index, event in enumerate(events))
     write(file, rows_text(NOTED_HEADER, noted) if events.notes else rows_text(SCHEDULE_HEADER, events))

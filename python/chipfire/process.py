@@ -104,10 +104,8 @@ def version() -> str:
 
 @functools.cache
 def _released(repository: str) -> str | None:
-    """What starts the program in the release of a repository, or None if `./chipfire` there does not take it.
-
-    It is target/chipfire, once `./chipfire` has put the program there, or `./chipfire` itself if it cannot.
-    """
+    """What starts the program in the release of a repository, if `./chipfire` there takes it: target/chipfire, once
+    that has put it there, or `./chipfire` itself."""
     starter, taken = (os.path.join(repository, name) for name in ("chipfire", os.path.join("target", "chipfire")))
     if not os.path.isfile(os.path.join(repository, "release", "PROVED")) or not os.access(starter, os.X_OK):
         return None
@@ -136,11 +134,8 @@ def ask(
     program: FileName | None, command: str, inputs: Sequence[Input] = (), options: Mapping[str, Any] | None = None,
     graph: Graph | None = None, begins: str = '{"chips":[',
 ) -> str:
-    """Runs a command, and returns what it writes, which `begins` so; a fault is raised.
-
-    `graph` is the one that the question is about, if Python has it. An option that is None or False is left out, and
-    one that is True has no value.
-    """
+    """Runs a command, and returns what it writes, which `begins` so; a fault is raised. `graph` is the one that is
+    asked about, if Python has it. An option that is None or False is left out, and one that is True has no value."""
     path = find_program() if program is None else os.fspath(program)
     is_large = graph is None or graph.vertices > MAX_VERTICES or len(graph.columns.tails) > MAX_EDGES
     options = {"large": is_large, **(options or {})}
@@ -183,10 +178,8 @@ def _meant(
 
 
 def _started(words: Sequence[str], kept: Sequence[int] = ()) -> tuple[int, str, list[str]]:
-    """Runs the program to its end, and returns its status, its output, and the lines of its errors.
-
-    What it tells meanwhile of its progress goes to `sys.stderr`. It ends when this Python does, however that ends.
-    """
+    """Runs the program to its end, or to that of this Python, and returns its status, its output, and the lines of its
+    errors. What it tells meanwhile of its progress goes to `sys.stderr`."""
     errors: list[str] = []
     parent = os.getpid()
 

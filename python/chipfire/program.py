@@ -275,10 +275,8 @@ def _method(function: Callable[P, T]) -> Callable[Concatenate[Program, P], T]:
 
 
 class Program:
-    """The program chipfire of this name, or the one that is found, and its commands as methods.
-
-    What it refuses is raised as a `Fault`. An option that is None is left out, so the program's own value stands.
-    """
+    """The program chipfire of this name, or the one that is found, and its commands as methods. What it refuses is
+    raised as a `Fault`. An option that is None is left out, so the program's own value stands."""
 
     def __init__(self, program: AnyProgram = None) -> None:
         self.path = find_program() if program is None else os.fspath(program)

@@ -204,7 +204,6 @@ def invariant_factors(graph: AnyGraph) -> tuple[int, ...]:
 def order(graph: AnyGraph) -> int:
     """The order of the sandpile group: how many recurrent configurations there are, superstable ones, and spanning
     trees whose edges lead to the sink, each edge counted as often as its multiplicity.
-
     Nothing of this is proved, and the program is not asked.
     """
     return smith.order(smith.reduced(known_graph(graph)))
@@ -271,15 +270,19 @@ def avalanches(
     `drops` has the numbers of all of them in columns.
     Proved: `size`, `extent` and `lost`, and the plays of which `fired` and `configuration` come. Not proved: the rest.
     """
-    held, names = _held(graph, chips, program), iter(vertices)
-    if not held.is_stable():
+    start = _held(graph, chips, program)
+    if not start.is_stable():
         raise ValueError("the chips are not stable: stabilize them first")
-    some = 1
-    while part := list(itertools.islice(names, some)):
-        found = drops(held.graph, held, part, program=program)
-        columns = (column.tolist() for column in (found.size, found.extent, found.lost))
-        for place, (name, size, extent, lost) in enumerate(zip(part, *columns)):
-            yield Avalanche(name, size, extent, lost, (held, part, place, program))
-        if not found.report.closed:
-            raise ValueError("a vertex fired 2^40 times, and the chips are not stable then")
-        held, some = found.configuration, min(2 * some, 1024)
+
+    def dropped() -> Iterator[Avalanche]:
+        held, names, some = start, iter(vertices), 1
+        while part := list(itertools.islice(names, some)):
+            found = drops(held.graph, held, part, program=program)
+            columns = (column.tolist() for column in (found.size, found.extent, found.lost))
+            for place, (name, size, extent, lost) in enumerate(zip(part, *columns)):
+                yield Avalanche(name, size, extent, lost, (held, part, place, program))
+            if not found.report.closed:
+                raise ValueError("a vertex fired 2^40 times, and the chips are not stable then")
+            held, some = found.configuration, min(2 * some, 1024)
+
+    return dropped()

@@ -1,6 +1,6 @@
 """A browser without a window, for the tests of pages: Chromium, driven over the pipe of its debugging protocol.
 
-The protocol is that of DevTools (chromedevtools.github.io): messages of JSON, each with a zero byte behind it, on the
+The protocol is that of DevTools (chromedevtools.github.io): messages of JSON, each with a zero byte after it, on the
 file descriptors 3 and 4 of the browser. Only the standard library is wanted.
 """
 import base64
@@ -16,7 +16,7 @@ KEYS = {"ArrowLeft": 37, "ArrowRight": 39, "ArrowUp": 38, "ArrowDown": 40, "Home
 
 
 def found():
-    """The browser's file, or None where none is installed."""
+    """The browser's file, or None if none is installed."""
     return next(filter(None, map(shutil.which, NAMES)), None)
 
 
@@ -77,7 +77,7 @@ class Browser:
         return json.loads(message)
 
     def go(self, address):
-        """Opens a page anew and waits until it is there."""
+        """Opens a page again and waits until it is there."""
         self.ask("Page.navigate", url="about:blank")
         self.wait("location.href === 'about:blank'")
         self.events.clear()

@@ -90,7 +90,7 @@ def with_at(values, at, value):
 def searched(game, rule, only_once=False):
     """How many states all schedules reach, and the least steps to one where the root is closed too early, or None.
 
-    Behind a state in which the root is closed too early it goes on like behind any other.
+    After a state in which the root is closed too early it goes on as after any other.
     """
     least, waiting, early = {game.start: 0}, [game.start], []
     while waiting:

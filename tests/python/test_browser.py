@@ -63,7 +63,7 @@ AT = "Number(document.getElementById('slider').value)"
 
 
 def books_of(simulation):
-    """The lines of the books behind each reply, as the program writes them."""
+    """The lines of the books after each reply, as the program writes them."""
     setting = simulation.setting
     with tempfile.TemporaryDirectory(prefix="chipfire-python-") as folder:
         setting.graph.write(f"{folder}/graph.json")
@@ -140,7 +140,7 @@ class InBrowser(unittest.TestCase):
         return told
 
     def picture(self, name):
-        """Leaves a picture for somebody to look at, where one is wanted."""
+        """Leaves a picture for somebody to look at, if one is wanted."""
         if os.environ.get("CHIPFIRE_PICTURES"):
             self.browser.picture(os.path.join(os.environ["CHIPFIRE_PICTURES"], f"{name}.png"))
 

@@ -13,7 +13,7 @@ from test_sandpile_words import DIRECTED, random_graph
 from test_sandpiles import CASES, has
 
 GRID = chipfire.grid(3, 2)
-#: On GRID, where each square has one number more than the one before it.
+#: On GRID, each square has one number more than the one before it.
 ROWS = [[0, 1, 2], [3, 4, 5]]
 #: A region of four squares, the sink round it, with squares that are none: numbered by rows.
 TEE = chipfire.region([[1, 1, 1], [0, 1, 0]])
@@ -45,6 +45,7 @@ class Forms(unittest.TestCase):
         self.assertEqual(chipfire.simulate(GRID, iter(range(6)), [], rounds=9).game.chips, (0, 1, 2, 3, 4, 5, 0))
         self.assertEqual(len(chipfire.frames(GRID, iter(range(6)), [0, 1])), 2)
         self.assertEqual(chipfire.add(GRID, iter(range(6)), iter([0] * 6)), chipfire.stabilize(GRID, ROWS))
+        self.assertTrue(chipfire.verify(GRID, iter(range(6)), chipfire.plain(GRID, ROWS).fired))
 
     def test_one_number_is_that_of_all_but_the_sink(self):
         self.assertEqual(GRID.chips(4), (4,) * 6 + (0,))

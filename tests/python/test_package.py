@@ -92,6 +92,9 @@ class Graphs(WithFolder):
         for vertices, edges, names in [(2, [(0,)], ()), (2, [(0, -1)], ()), (2, [], ["a"]), (2, [], ["a", "a"])]:
             with self.assertRaises(ValueError):
                 chipfire.Graph(vertices, 1, edges, names)
+        for many in (2**31, 2**70):
+            with self.assertRaisesRegex(ValueError, f"the head of edge 1 is above 2147483647: {many}"):
+                chipfire.Graph(2, 1, [(0, 1), (0, many)])
         for chips in [[1], [1, 2, 3, 4], [1, 2, -3], {0: -1}, -1, [[1, 2, 3]], [[1], [2]]]:
             with self.assertRaises(ValueError):
                 TRIANGLE.chips(chips)
@@ -686,7 +689,7 @@ class Finding(WithFolder):
 
 
 class Running(WithFolder):
-    """The command `run`, where the program has it."""
+    """The command `run`, if the program has it."""
 
     def setUp(self):
         super().setUp()

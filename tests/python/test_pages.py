@@ -1,6 +1,6 @@
 """Pages of runs: what stands where after each event, how rounds and traces are spelled out, and the text of a page.
 
-What stands where is held against the program's replies, books and reports, and against what the replies come to when
+What stands where is compared with the program's replies, books and reports, and with what the replies come to when
 they are added up, on the schedules of examples/detector and on random ones.
 """
 import dataclasses

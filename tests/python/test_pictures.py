@@ -30,7 +30,7 @@ SINK = "#a5d8c2"
 
 
 def slowly(graph, chips, limit=2**40):
-    """The chips that lie there where each vertex may fire so often, and how often each fired, by the slow player."""
+    """The chips that lie there if each vertex may fire so often, and how often each fired, by the slow player."""
     position = list(graph.chips(chips))
     of_file = {"vertices": graph.vertices, "sink": graph.sink, "edges": graph.edges}
     fired = play.play(of_file, position, limit, random.Random(1))
@@ -231,6 +231,9 @@ class Odometers(WithFolder):
         spread = heap.picture(scale="linear", palette=["#000000", "#888888", "#ffffff"])
         self.assertEqual({colour for row in svg_squares(spread.svg()) for colour in row}, {(0, 0, 0), (255, 255, 255)})
         self.assertEqual(chipfire.plain(self.grid, 0).picture(of="odometer").most, 0)
+        # (the chips in the sink are more than those of any square, and spread no colours)
+        self.assertGreater(self.report.chips[35], 3)
+        self.assertEqual(self.report.picture(scale="linear").most, max(self.report.chips[:35]))
 
 
 class Regions(WithFolder):
@@ -385,6 +388,10 @@ class Animations(Played):
         self.assertEqual([png_points(self.inside(frame["source"], "png")) for frame in frames], self.wanted)
         self.assertNotIn("http", page)
         self.assertNotIn("$", page)
+        used = {min(count, 4) for position, _ in self.plays for count in position[:24]}
+        self.assertGreater(len(used), len({min(count, 4) for count in self.plays[0][0][:24]}))
+        named = {f"{count} or more" if count == 4 else str(count) for count in used}
+        self.assertEqual(set(re.findall(r"</span> ([^&<]+)", page)), named)
 
     def inside(self, source, kind):
         """The file that an address has inside."""
@@ -512,6 +519,8 @@ class ByPillow(Played):
                 yield [points[start : start + width] for start in range(0, len(points), width)]
 
     def test_pillow_reads_what_the_package_writes_and_writes_the_same(self):
+        from PIL import Image
+
         self.frames.reports[-1].image(self.file("own.png"))
         mock.patch.stopall()
         with mock.patch.object(rasters, "png", side_effect=AssertionError):
@@ -521,6 +530,10 @@ class ByPillow(Played):
             self.assertEqual(list(self.points_of(name)), wanted[-1:])
         self.frames.save(self.file("a.gif"), seconds=0.1)
         self.assertEqual(list(self.points_of("a.gif")), wanted)
+        with Image.open(self.file("a.gif")) as shown:
+            self.assertEqual((shown.info["duration"], shown.info["loop"]), (100, 0))
+        self.frames.save(self.file("small.gif"), scale=3)
+        self.assertEqual(list(self.points_of("small.gif")), [enlarged(rows, 3) for rows in self.wanted])
 
     def test_pillow_writes_other_forms_too(self):
         mock.patch.stopall()

@@ -106,6 +106,16 @@ class Pandas(unittest.TestCase):
                 with self.subTest(labels=labels), self.assertRaises(refusal):
                     graph.chips(series([7, 5], index=labels))
 
+    @unittest.skipUnless(has("pandas"), "pandas is not here")
+    def test_series_and_frames_of_what_comes_go_by_names(self):
+        pandas = importlib.import_module("pandas")
+        graph = chipfire.Graph(3, 0, [(1, 0), (2, 0)], ["out", 1, "b"])
+        report = chipfire.plain(graph, {"b": 7, 1: 2})
+        self.assertEqual(pandas.Series(report.odometer).to_dict(), {1: 2, "b": 7})
+        frame = pandas.DataFrame({"chips": dict(report.configuration), "fired": dict(report.odometer)})
+        self.assertEqual(frame.to_dict(), {"chips": {1: 0, "b": 0}, "fired": {1: 2, "b": 7}})
+        self.assertEqual(graph.chips(frame["fired"]), (0, 2, 7))
+
 
 @unittest.skipUnless(has("networkx"), "NetworkX is not here")
 class NetworkX(unittest.TestCase):

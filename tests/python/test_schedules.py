@@ -20,7 +20,7 @@ TWO = chipfire.Setting(chipfire.Graph(2, 1, ((0, 1), (0, 1))), (2, 0))
 FOUR = chipfire.Setting(TRIANGLE, (4, 0, 0))
 
 #: By hand, on the triangle with four chips on vertex 0, whose root edge is 4; and what is left then.
-#: - Whoever acknowledges at once, or also while at work, does so behind the first take, and the root sees it: 3 steps,
+#: - Whoever acknowledges at once, or also while at work, does so after the first take, and the root sees it: 3 steps,
 #:   and no fewer, since the root closes by a settle, which needs an acknowledgement, which needs a take.
 #: - Whoever is passive and forgets its deficit has to be passive: vertex 0 fires twice at once and sends both messages
 #:   before it acknowledges. Both are on their way.

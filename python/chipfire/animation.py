@@ -78,7 +78,7 @@ def frames(
     """The play of these chips as it stands at growing limits: each vertex may fire so often at most.
 
     Without `limits`, up to 24 are spread evenly from 0, the start, to the end of the play. `columns` and `palette` are
-    those of `Report.image`. Each limit is a play of its own.
+    those of `Report.picture`. Each limit is a play of its own.
     Proved: the position at each limit, which no order of the firings changes. Not proved: that the pictures show it.
     """
     graph, known = known_graph(graph, program), dict[int, Report]()

@@ -363,9 +363,9 @@ def _beside(
 def region(mask: Iterable[Iterable[Any]], lattice: str = "square") -> Graph:
     """The squares of a mask (rows of true and false, or an array of NumPy), numbered by rows, and the sink after them.
 
-    A vertex loses a chip to the sink for each neighbour that it lacks. The lattice is "square", "triangular", where
-    those above to the right and below to the left are neighbours too, or "hexagonal": left, right, and below if row and
-    column together are even, else above.
+    A vertex loses a chip to the sink for each neighbour that it lacks. The lattice is "square"; "triangular", with 6
+    neighbours: also those above to the right and below to the left; or "hexagonal", with 3: left, right, and below if
+    row and column together are even, else above.
     """
     rows = [[bool(it) for it in row] for row in mask]
     if lattice not in _BESIDE:

@@ -186,14 +186,7 @@ def placed(graph: Graph, values: Sequence[int], positions: Positions, empty: int
 
 
 class Drawn:
-    """What reports and configurations have besides: pictures of their chips, and of how often vertices fired.
-
-    `columns` is how many squares stand in a row; a graph with a shape knows that. `positions` has the places of
-    vertices by names instead, (to the right, down), each of which becomes a square. `of` is "chips" or "odometer".
-    `palette` names colours, "colours", "greys" or "viridis", or has them, each as `#rrggbb`: of 0, 1, 2 .. chips, and
-    the last one of all larger numbers. With a `scale`, "linear" or "log", they are spread from 0 to the largest number
-    instead; an odometer has the linear one.
-    """
+    """What reports and configurations have besides: pictures of their chips, and of how often vertices fired."""
 
     graph: Graph | None
 
@@ -207,7 +200,14 @@ class Drawn:
         self, columns: int | None = None, palette: Palette | None = None, *, of: str = "chips",
         scale: str | None = None, positions: Positions | None = None,
     ) -> Picture:
-        """The picture of the chips, or of how often each vertex fired. That it shows them is not proved."""
+        """The picture of the chips, or `of` the "odometer": how often each vertex fired. It is tested, and not proved.
+
+        `columns` is how many squares stand in a row; a graph with a shape knows that. `positions` has the places of
+        vertices by names instead, (to the right, down), each of which becomes a square. `palette` names colours,
+        "colours", "greys" or "viridis", or has them, each as `#rrggbb`: of 0, 1, 2 .. chips, and the last one of all
+        larger numbers. With a `scale`, "linear" or "log", they are spread from 0 to the largest number instead; an
+        odometer has the linear one.
+        """
         values, sink = self._values(of), None if self.graph is None else self.graph.sink
         scale = "linear" if scale is None and of == "odometer" else scale
         colours = colours_of(palette or ("viridis" if scale else "colours"))
@@ -234,10 +234,8 @@ class Drawn:
         self, file: FileName, columns: int | None = None, palette: Palette | None = None, scale: int | str = SCALE, *,
         of: str = "chips", positions: Positions | None = None, points: int = SCALE,
     ) -> None:
-        """Writes the picture: `.png`, `.svg`, or with Pillow any other form. That it shows the numbers is not proved.
-
-        A square's side has as many points as `scale`, or as `points` if `scale` is "linear" or "log".
-        """
+        """Writes what `picture` makes: `.png`, `.svg`, or with Pillow any other form. A square's side has as many
+        points as `scale`, or as `points` if `scale` is "linear" or "log"."""
         spread, points = (scale, points) if isinstance(scale, str) else (None, scale)
         self.picture(columns, palette, of=of, scale=spread, positions=positions).save(file, points)
 

@@ -118,7 +118,7 @@ def is_superstable(graph: AnyGraph, chips: Chips, *, large: bool = False, progra
     """Whether a configuration is superstable: no vertices can fire together, not even several times each.
 
     Together they may fire if none is left with fewer than 0 chips. On an undirected graph these are the parking
-    functions. What is asked is whether that which it lacks to the maximal stable configuration is recurrent.
+    functions. The question is the same as whether what it lacks to the maximal stable configuration is recurrent.
     Proved and not proved: as of `is_recurrent`.
     """
     return _held(graph, chips, program).is_superstable(program=program)

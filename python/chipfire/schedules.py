@@ -62,7 +62,8 @@ class Explored:
 def explore(
     setting: Setting, detector: Detector = "right", *, most: int = 100_000, whole_sends: bool = True
 ) -> Explored:
-    """Goes through all schedules of a game, breadth first, until the root is closed and something is left.
+    """Goes through all schedules of a game, breadth first, until the root is closed and something is left. The game is
+    a `Setting`, the detector a name or a class; `chipfire.detectors` has both.
 
     A firing of several at a time is one step, and so is a send (clear, claim, put), unless `whole_sends` is False. More
     than `most` states are a ValueError.

@@ -482,6 +482,10 @@ class Mistakes(WithFolder):
         with self.assertRaises(chipfire.Fault) as caught:
             chipfire.run(TRIANGLE, {}, feed=wrong)
         self.assertEqual((caught.exception.number, caught.exception.words), (23, f"in {wrong}"))
+        none = self.file("none.csv")
+        for call, option in [(chipfire.run, {"feed": none}), (chipfire.plain, {"guess": none})]:
+            fault = self.fault(call, TRIANGLE, {}, **option)
+            self.assertEqual((fault.number, fault.words), (92, f"{none} cannot be opened, or is also written"))
 
     def test_vertices_are_called_by_their_names(self):
         for edges, said in [
@@ -513,9 +517,9 @@ class Mistakes(WithFolder):
         no_chips = self.file("chips.csv", "vertex,chips\n")
         self.assertIn("run takes 1 to 1048576 vertices", str(self.fault(chipfire.run, few, no_chips)))
 
-    def fault(self, call, *arguments):
+    def fault(self, call, *arguments, **options):
         with self.assertRaises(chipfire.Fault) as caught:
-            call(*arguments)
+            call(*arguments, **options)
         return caught.exception
 
     def test_an_option_out_of_its_range_is_named(self):

@@ -79,8 +79,7 @@ def frames(
 
     Without `limits`, up to 24 are spread evenly from 0, the start, to the end of the play. `columns` and `palette` are
     those of `Report.picture`. Each limit is a play of its own.
-    Proved: the position at each limit, which no order of the firings changes. Not proved: that the pictures show it.
-    """
+    Proved: the position at each limit, which no order of the firings changes. Not proved: that the pictures show it."""
     graph, known = known_graph(graph, program), dict[int, Report]()
     chips = known_chips(graph, chips, program)
     if limits is None:
@@ -102,9 +101,7 @@ def frames_by_chips(
     palette: Palette | None = None, program: AnyProgram = None,
 ) -> Frames:
     """What becomes of so many chips that are dropped on a vertex, for each of these growing numbers of chips.
-
-    Proved: each position, to which all orders of drops and firings lead. Not proved: that the pictures show it.
-    """
+    Proved: each position, to which all orders of drops and firings lead. Not proved: that the pictures show it."""
     graph, counts, reports, held = known_graph(graph, program), tuple(counts), [], 0
     at, chips, total = graph.number(vertex), [0] * graph.vertices, (0,) * graph.vertices
     for count in counts:

@@ -74,16 +74,13 @@ class Configuration(Drawn, Mapping[Hashable, int]):
         said = f"<Configuration of {len(self)} vertices: {self._title('chips')}>"
         return repr(dict(self)) if len(self) <= 20 else said
 
-    def _with(self, action: Callable[[int, int], int], other: Chips) -> Configuration:
-        return Configuration(self.graph, list(map(action, self.numbers, self.graph.numbers(other))))
-
     def __add__(self, other: Chips) -> Configuration:
-        return self._with(operator.add, other)
+        return Configuration(self.graph, list(map(operator.add, self.numbers, self.graph.numbers(other))))
 
     __radd__ = __add__
 
     def __sub__(self, other: Chips) -> Configuration:
-        return self._with(operator.sub, other)
+        return self + -Configuration(self.graph, other)
 
     def __rsub__(self, other: Chips) -> Configuration:
         return -self + other

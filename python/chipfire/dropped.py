@@ -7,14 +7,12 @@ from array import array
 from collections import Counter
 from collections.abc import Hashable, Iterable, Iterator
 from dataclasses import dataclass
-from typing import TYPE_CHECKING, Any
+from typing import Any
 
 from chipfire.chips import CHIPS_HEADER, Configuration
+from chipfire.graphs import Graph
 from chipfire.reports import Report
 from chipfire.values import counted, library
-
-if TYPE_CHECKING:
-    from chipfire.graphs import Graph
 
 ROWS_HEADER = "vertex,chips,size,extent,lost\n"
 #: How many drops become text at a time, and how many bytes of rows become numbers.

@@ -2,6 +2,7 @@
 
 from __future__ import annotations
 
+import contextlib
 import functools
 import itertools
 import json
@@ -76,8 +77,7 @@ class Graph:
     columns: Columns
     names: Sequence[Hashable]
     squares: Sequence[int]
-    #: What was found out about it.
-    answers: dict[Any, Any]
+    answers: dict[Any, Any]  # (what was found out about it)
 
     def __init__(
         self, vertices: int, sink: int, edges: Iterable[Sequence[int]], names: Sequence[Hashable] = (),
@@ -131,15 +131,11 @@ class Graph:
     @classmethod
     def undirected(cls, edges: Iterable[Sequence[Any]], sink: Any) -> Graph:
         """The graph of edges (name, name) or (name, name, mult), each of which is one edge each way.
-
-        The order of the names, or else that in which they come, gives the numbers. Sinks are as in `from_networkx`.
-        """
+        The order of the names, or else that in which they come, gives the numbers. Sinks are as in `from_networkx`."""
         rows: list[tuple[Any, ...]] = [(*edge, 1)[:3] for edge in edges]
         names: list[Any] = list(dict.fromkeys(name for row in rows for name in row[:2]))
-        try:
+        with contextlib.suppress(TypeError):
             names.sort()
-        except TypeError:
-            pass
         return _named(names, sink, rows, False)
 
     @classmethod
@@ -147,10 +143,9 @@ class Graph:
         """The graph of a graph file. `check(file)` says what exactly is wrong with one that is none."""
         with open(file, encoding="utf-8") as text:
             value = json.load(text)
-        if not isinstance(value, dict) or sorted(value) != ["edges", "sink", "version", "vertices"]:
-            raise ValueError(f"{os.fspath(file)} is no graph file")
-        if value["version"] != 1:
-            raise ValueError(f"{os.fspath(file)} has version {value['version']!r}, and 1 is known")
+        wanted = ["edges", "sink", "version", "vertices"]
+        if not isinstance(value, dict) or sorted(value) != wanted or value["version"] != 1:
+            raise ValueError(f"{os.fspath(file)} is no graph file of version 1")
         return cls(value["vertices"], value["sink"], value["edges"])
 
     def text(self) -> str:
@@ -268,8 +263,7 @@ class Graph:
 
         They come by names from what has items, as dicts and Series of pandas; as an array of the graph's shape, or rows
         of one; as a sequence with a number for each vertex, or for each but the sink; as one number for each but the
-        sink; and a report has its own.
-        """
+        sink; and a report has its own."""
         return self.numbers(chips, least=0)
 
     def numbers(self, values: Any, least: int | None = None) -> tuple[int, ...]:
@@ -325,10 +319,8 @@ def _both_ways(vertices: int, sink: int, pairs: Iterable[tuple[int, int]], shape
 
 def grid(width: int, height: int) -> Graph:
     """The grid: vertex `width * row + column`, and the sink after them all.
-
     A vertex on the border loses a chip to the sink on each side without a neighbour, so each has degree 4.
-    Sage: `sandpiles.Grid(height, width)`.
-    """
+    Sage: `sandpiles.Grid(height, width)`."""
     width, height = whole(width, "the width", 1), whole(height, "the height", 1)
     sink, columns = width * height, Columns(array("i"), array("i"), array("i"))
 
@@ -365,8 +357,7 @@ def region(mask: Iterable[Iterable[Any]], lattice: str = "square") -> Graph:
 
     A vertex loses a chip to the sink for each neighbour that it lacks. The lattice is "square"; "triangular", with 6
     neighbours: also those above to the right and below to the left; or "hexagonal", with 3: left, right, and below if
-    row and column together are even, else above.
-    """
+    row and column together are even, else above."""
     rows = [[bool(it) for it in row] for row in mask]
     if lattice not in _BESIDE:
         raise ValueError(f"no lattice is named {lattice!r}; there are {', '.join(_BESIDE)}")
@@ -446,17 +437,14 @@ def from_networkx(graph: Any, sink: Any, weight: str | None = "weight") -> Graph
 
     An edge sends as many chips as its attribute of the name `weight` says, a whole number above 0; without that, or if
     `weight` is None, it sends one. An undirected edge is one edge each way. Edges out of the sink are left out. The
-    vertices keep their names; a list or a set of sinks becomes one vertex, the last, whose name is "sink".
-    """
+    vertices keep their names; a list or a set of sinks becomes one vertex, the last, whose name is "sink"."""
     return _named(graph.nodes(), sink, graph.edges(data=weight, default=1), graph.is_directed())
 
 
 def from_sage(graph: Any, sink: Any = None) -> Graph:
     """A graph of SageMath: a `Sandpile` with the sink that it has, or a `DiGraph` or `Graph` and its sink.
-
     An edge sends as many chips as its label says, or one if it has none; one of label 0, which Sage adds in some
-    graphs, is left out. All else is as in `from_networkx`.
-    """
+    graphs, is left out. All else is as in `from_networkx`."""
     if sink is None:
         if not hasattr(graph, "sink") or not hasattr(graph, "nonsink_vertices"):
             raise ValueError("which vertex is the sink?")

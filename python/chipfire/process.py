@@ -24,8 +24,6 @@ if TYPE_CHECKING:
 #: The program that the package may carry, and the repository that it may lie in.
 _CARRIED = os.path.join(HERE, "program", "chipfire")
 _REPOSITORY = os.path.dirname(os.path.dirname(HERE))
-#: How a line begins that tells of a long play.
-_PROGRESS = "chipfire: progress: "
 #: The faults of a graph file, and of a file of rows.
 _OF_GRAPH, _OF_ROWS = (*range(1, 9), 20, 21, 22), (*range(23, 29), 10)
 #: What makes a process end with the one that started it (PR_SET_PDEATHSIG), if the system has that.
@@ -200,7 +198,7 @@ def _started(words: Sequence[str], kept: Sequence[int] = ()) -> tuple[int, str, 
         with running:
             try:
                 for line in running.stderr or ():
-                    if line.startswith(_PROGRESS):
+                    if line.startswith("chipfire: progress: "):
                         print(line, end="", file=sys.stderr, flush=True)
                     else:
                         errors.append(line.rstrip("\n"))

@@ -6,8 +6,8 @@ import functools
 import inspect
 import os
 from collections.abc import Callable, Hashable, Iterable, Sequence
-from dataclasses import dataclass, replace
-from typing import TYPE_CHECKING, Any, TypeVar, Union
+from dataclasses import replace
+from typing import TYPE_CHECKING, Any, NamedTuple, TypeVar, Union
 
 from chipfire.chips import CHIPS_HEADER, GUESS_HEADER, Chips, Configuration, chips_text
 from chipfire.chips import identity as identity_numbers
@@ -36,8 +36,7 @@ _RANGES = {
 }
 
 
-@dataclass(frozen=True)
-class Check:
+class Check(NamedTuple):
     """What `check` tells of a graph: its size and its sink; and of each vertex, by numbers, how many chips it sends
     when it fires, and the least number of edges from it to the sink."""
 
@@ -110,8 +109,7 @@ def plain(
 
     `guess` says how often each vertex may have fired in the end, in one of the forms of chips, or by a report. It
     changes no answer; one that is nearly true saves most of the play. With `progress`, `sys.stderr` gets a line about
-    once a second that tells how the play goes on.
-    """
+    once a second that tells how the play goes on."""
     question = _Question(graph, program)
     files = [question.chips(chips)]
     if guess is not None:
@@ -125,10 +123,8 @@ def verify(
     progress: bool = False, program: AnyProgram = None,
 ) -> bool:
     """Whether a report is what `plain` finds for this game and limit; or, in a form of chips, whether counts are those.
-
     A name is that of the file of a report. One that was stopped by a smaller limit may be honest, and is not verified.
-    Proved: the verdict on a report. Not proved: the chips that counts alone leave, which Python computes.
-    """
+    Proved: the verdict on a report. Not proved: the chips that counts alone leave, which Python computes."""
     question = _Question(graph, program)
     if not isinstance(report, (Report, *FILE)):
         known, counts = question.graph, question.graph.numbers(report)
@@ -157,8 +153,7 @@ def drops(
     Before the first the chips are played to their end, if they are not stable. `vertices` are the names of the vertices
     in the order of the drops, from anything that can be gone through once, as `random_drops`; or the name of a file of
     rows `vertex,chips`, by which several chips may be dropped at once.
-    Proved: each row, and the report. Not proved: that Python reads them, and the histogram.
-    """
+    Proved: each row, and the report. Not proved: that Python reads them, and the histogram."""
     question, report = _Question(graph, program), Kept([])
     file = vertices if isinstance(vertices, FILE) else Kept(parts_of(question.graph, vertices))
     files: list[Input] = [question.chips(chips), ("drops", file), ("--report", report)]
@@ -177,8 +172,7 @@ def run(
     graphs are then played quicker, by as many threads as there are processors. The report is the same.
     `feed` are chips that the vertices get while they play; the report is that of a game which has all of them from
     the start. `trace` names a file that is written: what each vertex took and fired, up to `trace_rows` rows each. If
-    a vertex did more, the warning `TraceCut` says so. `progress` is as in `plain`.
-    """
+    a vertex did more, the warning `TraceCut` says so. `progress` is as in `plain`."""
     question = _Question(graph, program)
     files = [question.chips(chips), *([] if feed is None else [question.chips(feed, "--feed")])]
     told = question.ask(
@@ -227,9 +221,7 @@ def resume(
     program: AnyProgram = None,
 ) -> Report:
     """Goes on from where a limit or a seal stopped a play; `total` of what comes is what was fired in all.
-
-    A report of another graph is refused if it knows its own, or cannot be one of this; `prior` is not checked.
-    """
+    A report of another graph is refused if it knows its own, or cannot be one of this; `prior` is not checked."""
     question, own = _Question(graph, program), None if isinstance(report, FILE) else report
     text = question.ask("resume", [_input("report", report, Report.text)], limit=limit)
     found = Report.parse(text, question.graph)

@@ -30,9 +30,7 @@ def _held(graph: AnyGraph, chips: Chips, program: AnyProgram) -> Configuration:
 
 def stabilize(graph: AnyGraph, chips: Chips, *, large: bool = False, program: AnyProgram = None) -> Configuration:
     """What lies there when no vertex can fire any more: `plain(graph, chips).configuration`.
-
-    Proved: the chips, which are those of every play to the end, in any order. Not proved: that they are passed on.
-    """
+    Proved: the chips, which are those of every play to the end, in any order. Not proved: that they are passed on."""
     return _held(graph, chips, program).stabilize(program=program)
 
 
@@ -40,18 +38,14 @@ def add(
     graph: AnyGraph, first: Chips, second: Chips, *, large: bool = False, program: AnyProgram = None
 ) -> Configuration:
     """The stable sum: both configurations together, stabilized. The recurrent ones are a group under it.
-
-    Proved: the stabilization. Not proved: that Python adds.
-    """
+    Proved: the stabilization. Not proved: that Python adds."""
     known = known_graph(graph, program)
     return (_held(known, first, program) + _held(known, second, program)).stabilize(program=program)
 
 
 def is_stable(graph: AnyGraph, chips: Chips) -> bool:
     """Whether no vertex can fire: each but the sink has fewer chips than edges lead out of it.
-
-    Nothing of this is proved: Python compares each number with the vertex's degree.
-    """
+    Nothing of this is proved: Python compares each number with the vertex's degree."""
     return _held(graph, chips, None).is_stable()
 
 
@@ -60,17 +54,14 @@ def burning_script(graph: AnyGraph, *, large: bool = False, program: AnyProgram 
 
     It fires each vertex at least once, on an undirected graph exactly once, and leaves no vertex with more chips than
     before. It is one more than the counts of a play that begins with one chip less on each vertex than edges lead in.
-    Proved: the counts of that play. Not proved: that they are the script.
-    """
+    Proved: the counts of that play. Not proved: that they are the script."""
     known = known_graph(graph, program)
     return Configuration(known, burning(known, program)[0])
 
 
 def burning_configuration(graph: AnyGraph, *, large: bool = False, program: AnyProgram = None) -> Configuration:
     """The chips that `burning_script` takes away. Added to a recurrent configuration and stabilized, it comes back.
-
-    Proved: the counts of the play that `burning_script` tells of. Not proved: that they come to these chips.
-    """
+    Proved: the counts of the play that `burning_script` tells of. Not proved: that they come to these chips."""
     known = known_graph(graph, program)
     return Configuration(known, burning(known, program)[1])
 
@@ -80,8 +71,7 @@ def is_recurrent(graph: AnyGraph, chips: Chips, *, large: bool = False, program:
 
     This is the burning test, for directed multigraphs too: a configuration is recurrent exactly if it comes back when
     `burning_configuration` is added to it and the sum is stabilized.
-    Proved: the stabilizations. Not proved: the comparison, and that the test is right.
-    """
+    Proved: the stabilizations. Not proved: the comparison, and that the test is right."""
     return _held(graph, chips, program).is_recurrent(program=program)
 
 
@@ -89,10 +79,8 @@ def recurrent_representative(
     graph: AnyGraph, chips: Chips, *, large: bool = False, program: AnyProgram = None
 ) -> Configuration:
     """The one recurrent configuration to which firings, also backward, lead from this one; chips may be below 0.
-
     It is the stable sum with the recurrent identity; if some are below 0, chips that are equivalent to none are added.
-    Proved: the stabilizations. Not proved: the sums between them.
-    """
+    Proved: the stabilizations. Not proved: the sums between them."""
     held = _held(graph, chips, program)
     held += identity(held.graph, program)
     if min(held.numbers) < 0:
@@ -105,10 +93,8 @@ def recurrent_representative(
 
 def superstable_representative(graph: AnyGraph, chips: Chips, *, program: AnyProgram = None) -> Configuration:
     """The one superstable configuration that is equivalent to this one, the q-reduced one; chips may be below 0.
-
     With `m` the maximal stable configuration, it is `m` less the recurrent representative of `m` less this one.
-    Proved: the stabilizations. Not proved: the sums between them.
-    """
+    Proved: the stabilizations. Not proved: the sums between them."""
     held = _held(graph, chips, program)
     most = held.graph.max_stable()
     return most - recurrent_representative(held.graph, most - held, program=program)
@@ -119,16 +105,13 @@ def is_superstable(graph: AnyGraph, chips: Chips, *, large: bool = False, progra
 
     Together they may fire if none is left with fewer than 0 chips. On an undirected graph these are the parking
     functions. The question is the same as whether what it lacks to the maximal stable configuration is recurrent.
-    Proved and not proved: as of `is_recurrent`.
-    """
+    Proved and not proved: as of `is_recurrent`."""
     return _held(graph, chips, program).is_superstable(program=program)
 
 
 def superstables(graph: AnyGraph, *, program: AnyProgram = None) -> Iterator[Configuration]:
     """All superstable configurations of a small graph, one after the other; `order` says how many there are.
-
-    Nothing of this is proved but the burning script: Python burns each of them itself.
-    """
+    Nothing of this is proved but the burning script: Python burns each of them itself."""
     known = known_graph(graph, program)
     burns, waiting = _burns(known, program), [((0,) * known.vertices, 0)]
     while waiting:
@@ -142,8 +125,8 @@ def superstables(graph: AnyGraph, *, program: AnyProgram = None) -> Iterator[Con
 
 
 def _burns(graph: Graph, program: AnyProgram) -> Callable[[Sequence[int]], bool]:
-    """What tells of chips whether they are superstable: as long as a vertex has less than nothing, it gives a firing of
-    the burning script back, and in the end all are given back."""
+    """A test of chips. They are superstable if all firings of the burning script are given back, when each vertex gives
+    one back as long as it has less than nothing."""
     script, fuel = burning(graph, program)
     outs: list[list[tuple[int, int]]] = [[] for _ in range(graph.vertices)]
     for tail, head, mult in zip(*graph.columns):
@@ -196,16 +179,14 @@ def invariant_factors(graph: AnyGraph) -> tuple[int, ...]:
 
     (4, 4) says that the group is that of the pairs of numbers modulo 4. A group of one element has none. A grid of 40
     by 40 takes a second, one of 50 by 50 some four.
-    Nothing of this is proved, and the program is not asked.
-    """
+    Nothing of this is proved, and the program is not asked."""
     return tuple(smith.invariant_factors(smith.reduced(known_graph(graph))))
 
 
 def order(graph: AnyGraph) -> int:
     """The order of the sandpile group: how many recurrent configurations there are, superstable ones, and spanning
     trees whose edges lead to the sink, each edge counted as often as its multiplicity.
-    Nothing of this is proved, and the program is not asked.
-    """
+    Nothing of this is proved, and the program is not asked."""
     return smith.order(smith.reduced(known_graph(graph)))
 
 
@@ -255,9 +236,7 @@ def avalanche(
     graph: AnyGraph, chips: Chips, vertex: Hashable, *, large: bool = False, program: AnyProgram = None
 ) -> Avalanche:
     """What happens when one chip is dropped on a vertex of a stable configuration.
-
-    Proved: `size`, `extent` and `lost`, and the plays of which `fired` and `configuration` come. Not proved: the rest.
-    """
+    Proved: `size`, `extent`, `lost`, and the plays that `fired` and `configuration` come from. Not proved: the rest."""
     return next(avalanches(graph, chips, [vertex], program=program))
 
 
@@ -268,8 +247,7 @@ def avalanches(
 
     They come as they are found: the program finds one first, and each time twice as many as before, up to 1,024.
     `drops` has the numbers of all of them in columns.
-    Proved: `size`, `extent` and `lost`, and the plays of which `fired` and `configuration` come. Not proved: the rest.
-    """
+    Proved: `size`, `extent`, `lost`, and the plays that `fired` and `configuration` come from. Not proved: the rest."""
     start = _held(graph, chips, program)
     if not start.is_stable():
         raise ValueError("the chips are not stable: stabilize them first")

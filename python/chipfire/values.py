@@ -30,9 +30,7 @@ HERE = os.path.dirname(os.path.realpath(__file__))
 
 def whole(value: Any, what: str, least: int | None = 0, most: int | None = None) -> int:
     """A whole number of a range: an int, what stands for one, as the numbers of NumPy and Sage do, or a float like 4.0.
-
-    `least` and `most` are the ends of the range; None sets no end.
-    """
+    `least` and `most` are the ends of the range; None sets no end."""
     try:
         is_like_one = callable(getattr(value, "is_integer", None)) and value.is_integer()
         number = int(value) if is_like_one else operator.index(value)

@@ -71,10 +71,10 @@ class Kept:
 
     def __init__(self, parts: Iterable[bytes]) -> None:
         file = tempfile.TemporaryFile()
+        weakref.finalize(self, file.close)
         file.writelines(parts)
         file.flush()
         self.number = file.fileno()
-        weakref.finalize(self, file.close)
 
     def text(self) -> str:
         """What stands in it, also what the program wrote."""

@@ -612,6 +612,17 @@ class CommandLine(unittest.TestCase):
         self.assertEqual(ran.stdout, chipfire.pages.page_text(chipfire.recorded(*files), title="Recorded"))
         self.assertEqual(self.ask("page", *files, "--rounds", "3").returncode, 1)
 
+    def test_the_limit_and_the_ring_of_a_game(self):
+        files = [f"{EXAMPLES}/triangle/{name}" for name in ("graph.json", "chips.csv")]
+        schedule, trace = f"{EXAMPLES}/detector/deficit.csv", f"{EXAMPLES}/triangle/trace.csv"
+        told = chipfire.simulate(*files, schedule, limit=1, ring=2, rounds=9)
+        self.assertEqual((told.report.over, told.setting.ring), ((0,), 2))
+        ran = self.ask("page", *files, schedule, "--limit", "1", "--ring", "2", "--rounds", "9")
+        self.assertEqual(ran.stdout, chipfire.pages.page_text(told))
+        ran = self.ask("page", *files, trace, "--limit", "7", "--ring", "4")
+        told = chipfire.recorded(*files, trace, limit=7, ring=4)
+        self.assertEqual((ran.stdout, told.setting.limit), (chipfire.pages.page_text(told), 7))
+
     def test_places_from_a_file(self):
         files = [f"{EXAMPLES}/triangle/{name}" for name in ("graph.json", "chips.csv", "trace.csv")]
         with tempfile.NamedTemporaryFile("w", suffix=".csv") as places:

@@ -165,6 +165,52 @@ class NetworkX(unittest.TestCase):
             chipfire.from_networkx(networkx.path_graph(3), "elsewhere")
 
 
+class Labelled:
+    """What a graph of SageMath has: vertices, and edges with labels."""
+
+    def __init__(self, vertices, edges, directed=True):
+        self.vertices, self.edges, self.directed = vertices, edges, directed
+
+    def vertex_iterator(self):
+        return iter(self.vertices)
+
+    def edge_iterator(self, labels=False):
+        return iter(self.edges if labels else [edge[:2] for edge in self.edges])
+
+    def is_directed(self):
+        return self.directed
+
+
+class Sunk(Labelled):
+    """What a sandpile of SageMath has besides."""
+
+    def sink(self):
+        return self.vertices[-1]
+
+    def nonsink_vertices(self):
+        return self.vertices[:-1]
+
+
+class LikeSage(unittest.TestCase):
+    """Graphs that answer as those of SageMath do, which need not be here."""
+
+    EDGES = [("a", "b", 3), ("b", "a", None), ("b", "out", 2), ("out", "a", 1), ("a", "out", 0)]
+
+    def test_labels_are_multiplicities_and_those_of_0_are_no_edges(self):
+        wanted = (("a", "b", "out"), 2, ((0, 1, 3), (1, 0, 1), (1, 2, 2)))
+        for graph in (chipfire.from_sage(Sunk(["a", "b", "out"], self.EDGES)),
+                      chipfire.from_sage(Labelled(["a", "b", "out"], self.EDGES), "out")):
+            self.assertEqual((graph.names, graph.sink, graph.edges), wanted)
+
+    def test_an_undirected_graph_has_an_edge_each_way_but_none_out_of_the_sink(self):
+        drawn = Labelled([0, 1, 2], [(0, 1, None), (1, 2, 4)], directed=False)
+        self.assertEqual(sorted(chipfire.from_sage(drawn, 2).edges), [(0, 1, 1), (1, 0, 1), (1, 2, 4)])
+        with self.assertRaisesRegex(ValueError, "which vertex is the sink"):
+            chipfire.from_sage(drawn)
+        with self.assertRaises(KeyError):
+            chipfire.from_sage(drawn, 3)
+
+
 @unittest.skipUnless(has("sage"), "SageMath is not here")
 class FromSage(unittest.TestCase):
     def test_a_sandpile_keeps_its_sink_and_names(self):

@@ -131,7 +131,7 @@ def verify(
         chips = known_chips(known, chips, program)
         left = known.position_after(chips, counts)
         over = [vertex for vertex, degree in enumerate(known.degrees()) if 0 < degree <= left[vertex]]
-        if min(*left, *counts) < 0 or max(*left, *counts) > MAX_CHIPS or counts[known.sink]:
+        if min(*left, *counts) < 0 or max(*left, *counts) > MAX_CHIPS:
             return False
         report = Report(tuple(left), counts, tuple(over))
     files = [question.chips(chips), _input("report", report, Report.text)]

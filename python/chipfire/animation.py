@@ -19,8 +19,6 @@ from chipfire.values import FileName, own_text, whole, write
 
 #: How many limits there are, if none are given.
 COUNT = 24
-#: Up to so many vertices plays go on side by side; more would take too much memory.
-_MOST_AT_ONCE = 200_000
 
 
 @dataclass(frozen=True)
@@ -91,7 +89,8 @@ def frames(
     def at(limit: int) -> Report:
         return known.get(limit) or plain(graph, chips, limit=limit, program=program)
 
-    with ThreadPoolExecutor(1 if graph.vertices > _MOST_AT_ONCE else os.cpu_count()) as pool:
+    # (side by side, the plays of large graphs would take too much memory)
+    with ThreadPoolExecutor(1 if graph.vertices > 200_000 else os.cpu_count()) as pool:
         reports = tuple(pool.map(at, limits))
     return Frames(limits, reports, tuple(report.picture(columns, palette) for report in reports))
 

@@ -322,21 +322,27 @@ def grid(width: int, height: int) -> Graph:
     A vertex on the border loses a chip to the sink on each side without a neighbour, so each has degree 4.
     Sage: `sandpiles.Grid(height, width)`."""
     width, height = whole(width, "the width", 1), whole(height, "the height", 1)
-    sink, columns = width * height, Columns(array("i"), array("i"), array("i"))
+    sink, inner = width * height, range(width, width * (height - 1)) if width > 1 else range(0)
 
     def at(row: int, column: int) -> int | None:
         return width * row + column if 0 <= row < height and 0 <= column < width else None
 
-    for row in range(height):
-        if row in (0, 1, height - 1):
-            squares = [(width * row + column, row, column) for column in range(width)]
-            tails, heads, mults = _columns(_beside(squares, at, "square", sink))
-        else:  # (it is like the row above it)
-            tails = array("i", [tail + width for tail in tails])
-            heads = array("i", [head if head == sink else head + width for head in heads])
-        for known, more in zip(columns, (tails, heads, mults)):
-            known.extend(more)
-    return Graph(sink + 1, sink, columns, shape=(height, width))
+    def edges(squares: range) -> Columns:
+        return _columns(_beside([(it, *divmod(it, width)) for it in squares], at, "square", sink))
+
+    if not inner:
+        return Graph(sink + 1, sink, edges(range(sink)), shape=(height, width))
+    # (between the first row and the last each square has four edges: up, left, right, down, or some to the sink)
+    squares, tails, heads = array("i", range(sink)), array("i", inner) * 4, array("i", inner) * 4
+    for place, way in enumerate((-width, -1, 1, width)):
+        tails[place::4] = squares[width:-width]
+        heads[place::4] = squares[width + way : width + way + len(inner)]
+    step, sinks = 4 * width, array("i", [sink]) * (height - 2)
+    heads[1::step], heads[2::step], heads[3::step] = heads[2::step], heads[3::step], sinks
+    heads[step - 2 :: step], heads[step - 1 :: step] = heads[step - 1 :: step], sinks
+    middle = Columns(tails, heads, array("i", [1]) * len(tails))
+    parts = zip(edges(range(width)), middle, edges(range(sink - width, sink)))
+    return Graph(sink + 1, sink, Columns(*(one + two + three for one, two, three in parts)), shape=(height, width))
 
 
 def _beside(

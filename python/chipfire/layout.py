@@ -14,8 +14,6 @@ Point = tuple[float, float]
 
 #: Up to so many vertices the places come from distances; more are put in rows.
 MOST_BY_DISTANCE = 100
-#: How much work goes into places from distances: pairs of vertices times rounds.
-_WORK = 1_000_000
 
 
 @dataclass(frozen=True)
@@ -104,7 +102,7 @@ def _stressed(distances: Sequence[Sequence[int]]) -> list[complex]:
     a circle, and moves each point to the mean of the places that the others want, each weighed by its nearness."""
     size = len(distances)
     points = [cmath.rect(size / 6, 2 * math.pi * vertex / size) for vertex in range(size)]
-    for _ in range(min(2000, _WORK // size**2 + 1) if size > 1 else 0):
+    for _ in range(min(2000, 1_000_000 // size**2 + 1) if size > 1 else 0):
         for vertex, wanted in enumerate(distances):
             total, weights = 0j, 0.0
             for other, distance in enumerate(wanted):

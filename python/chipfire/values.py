@@ -12,11 +12,9 @@ from array import array
 from collections.abc import Callable, Iterable, Iterator, Sequence
 from typing import Any, Union
 
-MAX_VERTICES = 4096
-MAX_EDGES = 65_536
-#: The same of a large graph.
-MAX_LARGE_VERTICES = 2**20
-MAX_LARGE_EDGES = 2**23
+#: The most of a graph, and of a large one.
+MAX_VERTICES, MAX_EDGES = 4096, 65_536
+MAX_LARGE_VERTICES, MAX_LARGE_EDGES = 2**20, 2**23
 MAX_MULT = 2**20
 #: The most chips of a game, the most firings of a vertex, and the greatest limit.
 MAX_CHIPS = MAX_LIMIT = 2**40

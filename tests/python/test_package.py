@@ -380,6 +380,9 @@ class Rows(WithFolder):
         self.assertEqual(chipfire.read_chips(chips, TRIANGLE), (4, 0, 0))
         schedule = self.file("schedule.csv", "\ufeffevent,at,count\nfire,0,2\n")
         self.assertEqual(chipfire.read_schedule(schedule), [("fire", 0, 2)])
+        noted = self.file("noted.csv", "\ufeffevent,at,count,note\ntake,4,0,all four\n")
+        for found in (chipfire.read_schedule(noted), chipfire.simulate(TRIANGLE, {0: 4}, noted)):
+            self.assertEqual(found.notes, {0: "all four"})
         trace = self.file("trace.csv", "\ufeffvertex,kind,edge,count\n0,fire,0,2\n")
         self.assertEqual(chipfire.read_trace(trace), [(0, "fire", 0, 2)])
 

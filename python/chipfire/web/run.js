@@ -52,7 +52,7 @@ class Game {
         facts[name] = value;
     }
 
-    // Marks what changed since a state before, and returns the parts of the game that have to be shown anew.
+    // Marks what changed since a state before, and returns the parts of the game that have to be shown again.
     mark(from) {
         const marked = [...this.changed.keys()];
         this.changed = new Map();
@@ -111,7 +111,7 @@ const frame = run.places.frame && run.places.frame.map(point);
 const isFramed = (vertex) => frame !== null && vertex === run.sink;
 const placeOf = (vertex) => point(vertex === null ? run.places.root : run.places.vertices[vertex]);
 
-// The least distance of two places: neighbours in the order from left to right suffice where many stand in rows.
+// The least distance of two places: neighbours in the order from left to right suffice if many stand in rows.
 function nearest(places) {
     let least = Infinity;
     const sorted = [...places].sort((a, b) => a[0] - b[0] || a[1] - b[1]);
@@ -148,7 +148,7 @@ function bends() {
         const tails = [...new Set(edges.map((edge) => run.edges[edge][0]))];
         for (const tail of tails) {
             const same = edges.filter((edge) => run.edges[edge][0] === tail);
-            // (where others come back each keeps to its right, else they lie on both sides)
+            // (if others come back each keeps to its right, else they lie on both sides)
             const least = tails.length > 1 ? 1 : 1 - same.length;
             same.forEach((edge, i) => found.set(edge, least + 2 * i));
         }
@@ -237,7 +237,7 @@ function alongEdge(way) {
     return [...Array(25).keys()].map((i) => ({ ...way.on(i / 24), width: 7, height: 7 }));
 }
 
-// --- The drawing of a game: made once, and again where a vertex is dragged, then changed
+// --- The drawing of a game: made once, and again if a vertex is dragged, then changed
 
 const vertexTitle = (vertex) =>
     vertex === run.sink && run.names[vertex] === "sink" ? "sink" : `${vertex === run.sink ? "sink" : "vertex"} ${run.names[vertex]}`;
@@ -523,7 +523,7 @@ function makeStops() {
     stops = [...Array(last + 1).keys()].filter((step) => !isCoarse || !isInSend(step));
 }
 
-// The number of the first stop at a state or behind it.
+// The number of the first stop at a state or after it.
 function stopOf(step) {
     let [low, high] = [0, stops.length - 1];
     while (low < high) {
@@ -714,7 +714,7 @@ let asked = null;
 let verdict = "";
 const answered = new Map();
 
-// The event that comes next, where there is something to predict of it.
+// The event that comes next, if there is something to predict of it.
 function nextQuestion() {
     const step = stops[stopOf(at) + 1];
     return isPredicting && step === at + 1 && run.steps[at].ask !== undefined ? step : null;
@@ -759,7 +759,7 @@ function show() {
     showControls();
 }
 
-// What is drawn ends with the screen, also where the words above it are long.
+// What is drawn ends with the screen, also if the words above it are long.
 function fit() {
     const top = byId(byId("picture").dataset.view === "diagram" ? "diagram" : "drawing").getBoundingClientRect().top;
     const room = window.innerHeight - top - window.scrollY - 8;
@@ -781,7 +781,7 @@ function showWords(from) {
     byId("changes").replaceChildren(...(words.length ? words : ["nothing"]).map((text) => element("li", {}, text)));
 }
 
-// The last word, in large letters: red where the root is closed and something is left.
+// The last word, in large letters: red if the root is closed and something is left.
 function showEnd() {
     const isEnd = at === last && asked === null;
     byId("end").hidden = !isEnd;

@@ -548,9 +548,11 @@ class Mistakes(WithFolder):
                     call(value)
 
     def test_a_program_that_is_another_one(self):
+        chipfire.identity(TRIANGLE)  # (what one program answered is no answer of another)
         for program in ("/bin/true", "/bin/echo", self.program("exit 7")):
             for call in (lambda **it: chipfire.plain(TRIANGLE, {}, **it), lambda **it: chipfire.check(TRIANGLE, **it),
-                         lambda **it: chipfire.is_recurrent(TRIANGLE, {}, **it)):
+                         lambda **it: chipfire.is_recurrent(TRIANGLE, {}, **it),
+                         lambda **it: chipfire.identity(TRIANGLE, **it)):
                 with self.subTest(program), self.assertRaisesRegex(RuntimeError, "no answer of chipfire"):
                     call(program=program)
 

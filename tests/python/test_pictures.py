@@ -129,6 +129,10 @@ class Files(WithFolder):
         self.assertEqual(svg_squares(self.text_of("a.svg")), coloured(self.position, 7, 35))
         said = f"<title>{sum(self.fired)} firings, {self.position[35]} chips in the sink</title>"
         self.assertIn(said, self.text_of("a.svg"))
+        for scale in (8, 3):
+            self.report.image(self.file("a.svg"), scale=scale)
+            tree = xml.etree.ElementTree.fromstring(self.text_of("a.svg"))
+            self.assertEqual((tree.get("width"), tree.get("height")), (str(7 * scale), str(5 * scale)))
 
     def test_palettes_by_name_and_by_colours(self):
         mine = ["#000000", "#00FF00", "#ff0000"]

@@ -1,6 +1,6 @@
 -- Serves SharedWords.antt, World.antt, Makers.antt.
 -- One step of a world.
-use Rattle.std.proofs.Common.{◌≡◌, ◌≢◌, ℕ, ◌<◌, ◌≤◌, Bool, true, false, ◌&&◌, ltb, leb, lt-ltb, leb-true}
+use Rattle.std.proofs.Common.{◌≡◌, ℕ, ◌<◌, ◌≤◌, Bool, true, false, ◌&&◌, ltb, leb, lt-ltb, leb-true}
 use Rattle.std.proofs.Common.{List, ◌∷◌, length, get_or, Option, Some, None, Result, Ok, Err, refl, sym}
 use Rattle.std.proofs.Common.{ap, ◌∙◌, subst, arith, length-set, true≢false}
 use Rattle.std.proofs.lemmas.Bool.{lt-leb}

@@ -446,8 +446,8 @@ static DIFFERS: Explanation = Explanation {
     advice: "\
 The game fires v more or less often in all, leaves it other chips, or halts it when the
 report does not. Name the graph, the chips and the --limit of the report. If a sitting was
-stopped, or several had limits of their own, the report may be right and differ: `chipfire
-verify` plays without a stop, by one limit.
+stopped, or several had limits of their own, the report may be right and differ:
+`chipfire verify` plays without a stop, by one limit.
 ",
 };
 

@@ -3,35 +3,15 @@
 use Rattle.std.proofs.Common.{◌≡◌, ℕ, ◌+◌, cond, eqb, List, [], ◌∷◌}
 use Rattle.std.proofs.Common.{refl, sym, ap, ◌∙◌, subst, arith}
 use Rattle.std.proofs.lemmas.List.Sums.{sum_by-cons}
-use Rattle.chip_graph.specs.Multigraph.{Multigraph}
 use Rattle.chip_graph.proofs.SumLemmas.{sum_below_add, sum_below_ext}
 use Rattle.chip_sequence.specs.Firing.{IsLegal}
 use Rattle.chip_sequence.specs.Sequence.{position_after, IsFiringSequence, counts, HasEnded}
-use Rattle.chip_sequence.specs.Sittings.{Leads, LeadsTo}
-use Rattle.chip_sequence.proofs.FiringLemmas.{led_once, position_is, more_chips}
+use Rattle.chip_sequence.specs.Sittings.{LeadsTo}
 use Rattle.chip_sequence.proofs.SittingLemmas.{leads_both, ends_alike}
 use Rattle.chip_drops.specs.declared.avalanche.Avalanche.{Avalanche}
 use Rattle.chip_drops.specs.Avalanches.{dropped, IsAvalanche}
 use Rattle.chip_drops.specs.Laws.{all_dropped, DropsAddUp}
-use Rattle.chip_drops.proofs.AvalancheLemmas.{length_counts}
-
--- what leads from x to y leads with d more from the one to the other
-leads_more : (G : Multigraph) (x y f d : ℕ → ℕ) → LeadsTo G x f y → LeadsTo G (λ u. x u + d u) f (λ u. y u + d u)
-leads_more G x y f d one =
-    let vs : List ℕ = one.0 in
-    let first : Leads G x f y vs = one.1 in
-    let ok : IsFiringSequence G (λ u. x u + d u) vs =
-    more_chips G x (λ u. x u + d u) (λ u. omega arith) vs first.sequence in (
-      vs,
-      record {
-        sequence = ok;
-        counted = first.counted;
-        position = led_once G (λ u. x u + d u) (counts vs) (counts vs) (λ u. y u + d u)
-            (position_after G (λ u. x u + d u) vs)
-            (λ u. let a = position_is G vs x first.sequence u in let b = first.position u in omega arith)
-            (position_is G vs (λ u. x u + d u) ok) (λ u. refl);
-      },
-    )
+use Rattle.chip_drops.proofs.AvalancheLemmas.{length_counts, leads_more}
 
 -- the same drops, the first one at once
 all_at_once : (x : ℕ → ℕ) (d : ℕ × ℕ) (ds : List (ℕ × ℕ))

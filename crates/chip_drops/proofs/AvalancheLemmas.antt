@@ -6,29 +6,30 @@ use Rattle.std.proofs.Common.{get_or-set_other, length-set, mul-zero}
 use mathlib.Core.Logic.{dite}
 use native.Mathlib.Decide.{ℕ_discrete, dec_lt}
 use Rattle.std.proofs.lemmas.List.Sums.{sum_by-set, sum_by-cons}
-use Rattle.std.proofs.lemmas.List.{get_or_past, get_or_default}
+use Rattle.std.proofs.lemmas.List.{get_or_past}
 use Rattle.chip_graph.specs.Limits.{max_total}
 use Rattle.chip_graph.specs.Sums.{sum_below}
 use Rattle.chip_graph.specs.Multigraph.{Multigraph, IsGraph, degree}
 use Rattle.chip_graph.specs.ChipGame.{ChipGame, IsGame}
-use Rattle.chip_graph.specs.More.{HasMore, brought_to}
+use Rattle.chip_graph.specs.More.{HasMore}
 use Rattle.chip_graph.proofs.SumLemmas.{cond_yes, cond_no, sum_below_ext, sum_below_none, sum_below_move, sum_by_place}
 use Rattle.chip_sequence.specs.Firing.{IsLegal}
 use Rattle.chip_sequence.specs.Sequence.{position_after, IsFiringSequence, counts, HasEnded, IsWholePlay}
 use Rattle.chip_sequence.specs.Certificate.{AreForced, IsOnTheWay}
 use Rattle.chip_sequence.specs.Play.{IsPlayed}
 use Rattle.chip_sequence.specs.declared.outcome.Outcome.{Outcome}
-use Rattle.chip_sequence.specs.Sittings.{LeadsTo}
+use Rattle.chip_sequence.specs.Sittings.{Leads, LeadsTo}
 use Rattle.chip_sequence.proofs.FiringLemmas.{counts_here, counts_else, led_once, position_is, sink_never, more_chips}
 use Rattle.chip_sequence.proofs.EndLemmas.{least_action, continued}
 use Rattle.chip_sequence.proofs.BoundLemmas.{led_total, ends}
 use Rattle.chip_sequence.proofs.CertificateLemmas.{led, on_the_way, end_of_the_way, same_way, playing_on}
 use Rattle.chip_sequence.proofs.CertificateLemmas.{start_on_the_way}
 use Rattle.chip_sequence.proofs.SittingLemmas.{ends_alike}
-use Rattle.chip_fire.specs.Rounds.{IsBegun, IsAtRest, IsInRange, StaysOnTheWay}
+use Rattle.chip_fire.specs.Rounds.{IsBegun, IsAtRest}
 use Rattle.chip_drops.specs.declared.avalanche.Avalanche.{Avalanche}
 use Rattle.chip_drops.specs.Avalanches.{dropped, IsAvalanche}
-use Rattle.chip_drops.specs.Pile.{IsStable}
+use Rattle.chip_drops.specs.declared.pile.Pile.{Pile}
+use Rattle.chip_drops.specs.Pile.{IsPile, IsStable}
 use Rattle.chip_drops.specs.WorkList.{size_between, extent_between}
 
 -- ---- lists that fire
@@ -44,6 +45,24 @@ length_counts G (v ∷ vs) x ok =
     let c = counts_here v v vs refl in
     omega arith
 
+-- ---- where a play rests
+
+-- who is on the way and rests has the counts and the position of a whole play
+rest_whole : (G : Multigraph) (x : ℕ → ℕ) (limit : ℕ) (y f : ℕ → ℕ) → IsOnTheWay G x limit y f
+    → ((v : ℕ) → IsLegal G y v → f v ≡ limit)
+    → (ws : List ℕ) × IsWholePlay G x limit ws × ((v : ℕ) → f v ≡ counts ws v) × ((v : ℕ) → y v ≡ position_after G x ws v)
+rest_whole G x limit y f is rests =
+    let whole = continued G x limit [] tt (λ v. omega arith) in
+    let end = end_of_the_way G x limit y f is rests whole.0 whole.1 in
+    (whole.0, whole.1, end.0, end.1)
+
+-- so it was led there
+rest_leads : (G : Multigraph) (x : ℕ → ℕ) (limit : ℕ) (y f : ℕ → ℕ) → IsOnTheWay G x limit y f
+    → ((v : ℕ) → IsLegal G y v → f v ≡ limit) → LeadsTo G x f y
+rest_leads G x limit y f is rests =
+    let whole = rest_whole G x limit y f is rests in
+    (whole.0, record { sequence = whole.1.sequence; counted = whole.2; position = whole.3 })
+
 -- ---- more chips
 
 -- what is forced stays so with more chips
@@ -57,6 +76,24 @@ forced_more G x x' limit f more forced vs ok ended u =
     let b = least_action G x' limit vs ok ended ws (more_chips G x x' more ws play.sequence) play.within u in
     omega arith
 
+-- what leads from x to y leads with d more from the one to the other
+pub leads_more : (G : Multigraph) (x y f d : ℕ → ℕ) → LeadsTo G x f y → LeadsTo G (λ u. x u + d u) f (λ u. y u + d u)
+leads_more G x y f d one =
+    let vs : List ℕ = one.0 in
+    let first : Leads G x f y vs = one.1 in
+    let ok : IsFiringSequence G (λ u. x u + d u) vs =
+    more_chips G x (λ u. x u + d u) (λ u. omega arith) vs first.sequence in (
+      vs,
+      record {
+        sequence = ok;
+        counted = first.counted;
+        position = led_once G (λ u. x u + d u) (counts vs) (counts vs) (λ u. y u + d u)
+            (position_after G (λ u. x u + d u) vs)
+            (λ u. let a = position_is G vs x first.sequence u in let b = first.position u in omega arith)
+            (position_is G vs (λ u. x u + d u) ok) (λ u. refl);
+      },
+    )
+
 -- who is on the way stays so where chips are added at the start and here
 pub way_more : (G : Multigraph) (x y d x' y' : ℕ → ℕ) (limit : ℕ) (f : ℕ → ℕ) → IsOnTheWay G x limit y f
     → ((u : ℕ) → x' u ≡ x u + d u) → ((u : ℕ) → y' u ≡ y u + d u) → IsOnTheWay G x' limit y' f
@@ -67,41 +104,26 @@ way_more G x y d x' y' limit f is start here =
 
 -- ---- the avalanche of a drop
 
-module _ (G : Multigraph) (good : IsGraph G) (limit : ℕ) (x y f x' y' z f' d : ℕ → ℕ) (is : IsOnTheWay G x limit y f)
+module _ (G : Multigraph) (good : IsGraph G) (limit : ℕ) (x y f x' z f' d : ℕ → ℕ) (is : IsOnTheWay G x limit y f)
     (rests : (v : ℕ) → IsLegal G y v → f v ≡ limit) (start : (u : ℕ) → x' u ≡ x u + d u)
-    (here : (u : ℕ) → y' u ≡ y u + d u) (is' : IsOnTheWay G x' limit z f') (stable : IsStable G z) where
-  -- the counts so far lead to the position with the drop
-  leads : LeadsTo G x' f y'
-  leads =
-      let whole = continued G x limit [] tt (λ v. omega arith) in
-      let ws : List ℕ = whole.0 in
-      let play : IsWholePlay G x limit ws = whole.1 in
-      let end = end_of_the_way G x limit y f is rests ws play in
-      let ok : IsFiringSequence G x' ws = more_chips G x x' (λ u. let a = start u in omega arith) ws play.sequence in (
-        ws,
-        record {
-          sequence = ok;
-          counted = end.0;
-          position = led_once G x' f (counts ws) y' (position_after G x' ws)
-              (λ u. let a = led G x limit y f is u in let b = start u in let c = here u in omega arith)
-              (position_is G ws x' ok) end.0;
-        },
-      )
+    (is' : IsOnTheWay G x' limit z f') (stable : IsStable G z) where
+  -- the position with the drop
+  abbrev y' : ℕ → ℕ
+  y' u = y u + d u
 
   -- each sequence that ends from there fires what is between the counts, and ends where the play did
   pub drop_ends : (vs : List ℕ) → IsFiringSequence G y' vs → HasEnded G y' vs → ((v : ℕ) → f v + counts vs v ≡ f' v)
       × ((v : ℕ) → z v ≡ position_after G y' vs v)
   drop_ends vs ok ended =
-      let whole = continued G x' limit [] tt (λ v. omega arith) in
-      let us : List ℕ = whole.0 in
-      let play : IsWholePlay G x' limit us = whole.1 in
-      let end = end_of_the_way G x' limit z f' is' (λ v can. absurd (stable v can)) us play in
-      let there : z ≡ position_after G x' us = (λ i u. end.1 u i) in
-      let over : HasEnded G x' us = (λ v can. stable v (subst (λ (p : ℕ → ℕ). IsLegal G p v) (sym there) can)) in
-      let alike = ends_alike G good x' f y' leads vs ok ended us play.sequence over in (
-        (λ v. let a = alike.0 v in let b = end.0 v in omega arith),
-        (λ v. let a = alike.1 v in let b = end.1 v in omega arith),
-      )
+      let one : LeadsTo G x' f y' = subst (λ (p : ℕ → ℕ). LeadsTo G p f y') (λ i u. sym (start u) i)
+      (leads_more G x y f d (rest_leads G x limit y f is rests)) in
+      let two = rest_leads G x' limit z f' is' (λ v can. absurd (stable v can)) in
+      let us : List ℕ = two.0 in
+      let second : Leads G x' f' z us = two.1 in
+      let there : z ≡ position_after G x' us = (λ i u. second.position u i) in
+      let alike = ends_alike G good x' f y' one vs ok ended us second.sequence
+      (λ v can. stable v (subst (λ (p : ℕ → ℕ). IsLegal G p v) (sym there) can)) in
+      ((λ v. alike.0 v ∙ sym (second.counted v)), (λ v. second.position v ∙ sym (alike.1 v)))
 
   -- told by what is between the counts
   pub drop_tells : (a : Avalanche) → a.size ≡ sum_below G.vertices (λ v. f' v - f v)
@@ -128,10 +150,10 @@ module _ (G : Multigraph) (good : IsGraph G) (limit : ℕ) (x y f x' y' z f' d :
     leaves = λ vs ok ended. (drop_ends vs ok ended).1;
   }
 
--- ---- the game with the drop
+-- ---- a drop on a pile
 
 -- a play keeps its chips
-pub begun_total : (g : ChipGame) → IsGame g → (chips fired : List ℕ) → IsBegun g chips fired → sum chips ≡ sum g.start
+begun_total : (g : ChipGame) → IsGame g → (chips fired : List ℕ) → IsBegun g chips fired → sum chips ≡ sum g.start
 begun_total g ok chips fired begun =
     sum_by_place chips
     ∙ ap (λ (n : ℕ). sum_below n (slice_index chips)) begun.in_range.chips_each
@@ -139,124 +161,84 @@ begun_total g ok chips fired begun =
     (λ u l. led g.graph (slice_index g.start) g.limit (slice_index chips) (slice_index fired) begun.on_the_way u)
     ∙ sym (sum_by_place g.start ∙ ap (λ (n : ℕ). sum_below n (slice_index g.start)) ok.start_fits)
 
--- a list with more at one place
-pub set_more : (xs : List ℕ) (v c : ℕ) → v < length xs → (u : ℕ)
-    → get_or (set xs v (get_or xs v 0 + c)) u 0 ≡ dropped (slice_index xs) v c u
-set_more xs v c inside u = dite (ℕ_discrete v u)
-    (λ e. let a = cond_yes v u c 0 e in
-    let b : get_or (set xs v (get_or xs v 0 + c)) u 0 ≡ get_or xs v 0 + c =
-    subst (λ (w : ℕ). get_or (set xs v (get_or xs v 0 + c)) w 0 ≡ get_or xs v 0 + c) e
-    (get_or-set_same xs v (get_or xs v 0 + c) 0 inside) in
-    let d : get_or xs v 0 ≡ get_or xs u 0 = ap (λ (w : ℕ). get_or xs w 0) e in omega arith)
-    (λ ne. let a = cond_no v u c 0 ne in
-    let b = get_or-set_other xs v u (get_or xs v 0 + c) 0 (λ z. ne (sym z)) in omega arith)
+module _ (p : Pile) (is : IsPile p) (g' : ChipGame) (v c : ℕ) (more : HasMore p.game ((v, c) ∷ []) g')
+    (inside : v < p.game.graph.vertices) (few : sum p.game.start + c ≤ max_total) where
+  -- how many chips more there are on a vertex
+  abbrev drop : ℕ → ℕ
+  drop u = cond (eqb v u) c 0
 
-module _ (g g' : ChipGame) (v c : ℕ) (more : HasMore g ((v, c) ∷ []) g') (ok : IsGame g) (ok' : IsGame g')
-    (inside : v < g.graph.vertices) where
-  brought : (u : ℕ) → brought_to ((v, c) ∷ []) u ≡ cond (eqb v u) c 0
-  brought u = let a = sum_by-cons (λ (pair : ℕ × ℕ). cond (eqb pair.0 u) pair.1 0) (v, c) [] in omega arith
-
-  start_more : (u : ℕ) → slice_index g'.start u ≡ dropped (slice_index g.start) v c u
-  start_more u = dite (dec_lt u (length g.start))
-      (λ l. let a = more.start u l in let b = brought u in omega arith)
+  start_more : (u : ℕ) → slice_index g'.start u ≡ slice_index p.game.start u + drop u
+  start_more u = dite (dec_lt u (length p.game.start))
+      (λ l. let a = more.start u l in
+      let b = sum_by-cons (λ (pair : ℕ × ℕ). cond (eqb pair.0 u) pair.1 0) (v, c) [] in omega arith)
       (λ past.
       let a = get_or_past g'.start u 0 (let b = more.start_each in omega arith) in
-      let b = get_or_past g.start u 0 (omega arith) in
-      let d = cond_no v u c 0 (λ e. let f = ok.start_fits in absurd (omega arith)) in
+      let b = get_or_past p.game.start u 0 (omega arith) in
+      let d = cond_no v u c 0 (λ e. let f = is.game.start_fits in absurd (omega arith)) in
       omega arith)
 
-  module _ (chips fired : List ℕ) (begun : IsBegun g chips fired) where
-    now : List ℕ
-    now = set chips v (get_or chips v 0 + c)
+  -- the chips with the drop
+  abbrev now : List ℕ
+  now = set p.chips.items v (get_or p.chips.items v 0 + c)
 
-    here : (u : ℕ) → get_or now u 0 ≡ dropped (slice_index chips) v c u
-    unfolding now
-    here = set_more chips v c (let a = begun.in_range.chips_each in omega arith)
+  vertex_in : v < length p.chips.items
+  vertex_in = let a = is.begun.in_range.chips_each in omega arith
 
-    range : IsInRange g.graph g.limit now fired
-    unfolding now
-    range = record {
-      graph_fits = ok.graph_fits;
-      chips_each = length-set chips v (get_or chips v 0 + c) ∙ begun.in_range.chips_each;
-      fired_each = begun.in_range.fired_each;
-      few_chips =
-          let a = sum_by-set (λ (n : ℕ). n) chips v (get_or chips v 0 + c) 0
-          (let b = begun.in_range.chips_each in omega arith) in
-          let b = begun_total g ok chips fired begun in
-          let d = ok'.few_chips in
-          let e = more.total in
-          let f = sum_by-cons (λ (pair : ℕ × ℕ). pair.1) (v, c) [] in
-          omega arith;
-      low_counts = begun.in_range.low_counts;
-      low_limit = ok.low_limit;
-    }
+  here : (u : ℕ) → get_or now u 0 ≡ get_or p.chips.items u 0 + drop u
+  here u = dite (ℕ_discrete v u)
+      (λ e. subst (λ (w : ℕ). get_or now w 0 ≡ get_or p.chips.items w 0 + drop w) e
+      (let a = cond_yes v v c 0 refl in
+      let b = get_or-set_same p.chips.items v (get_or p.chips.items v 0 + c) 0 vertex_in in omega arith))
+      (λ ne. let a = cond_no v u c 0 ne in
+      let b = get_or-set_other p.chips.items v u (get_or p.chips.items v 0 + c) 0 (λ z. ne (sym z)) in omega arith)
 
-    -- with the drop on it the play goes on
-    pub begun_drop : IsBegun g' (set chips v (get_or chips v 0 + c)) fired
-    unfolding now
-    begun_drop = record {
-      in_range = subst (λ (G : Multigraph). IsInRange G g'.limit now fired) (sym more.same_graph)
-          (subst (λ (limit : ℕ). IsInRange g.graph limit now fired) (sym more.same_limit) range);
-      on_the_way = subst (λ (G : Multigraph). IsOnTheWay G (slice_index g'.start) g'.limit (slice_index now)
-          (slice_index fired)) (sym more.same_graph)
-          (subst (λ (limit : ℕ). IsOnTheWay g.graph (slice_index g'.start) limit (slice_index now)
-          (slice_index fired)) (sym more.same_limit)
-          (way_more g.graph (slice_index g.start) (slice_index chips) (λ u. cond (eqb v u) c 0) (slice_index g'.start)
-          (slice_index now) g.limit (slice_index fired) begun.on_the_way start_more here));
-    }
+  -- with the drop on it the play goes on
+  pub begun_drop : IsBegun g' (set p.chips.items v (get_or p.chips.items v 0 + c)) p.fired.items
+  begun_drop =
+      let ok = is.begun.in_range in
+      record {
+        in_range = rw (more.same_graph, more.same_limit) (record {
+          graph_fits = ok.graph_fits;
+          chips_each = length-set p.chips.items v (get_or p.chips.items v 0 + c) ∙ ok.chips_each;
+          fired_each = ok.fired_each;
+          few_chips =
+              let a = sum_by-set (λ (n : ℕ). n) p.chips.items v (get_or p.chips.items v 0 + c) 0 vertex_in in
+              let b = begun_total p.game is.game p.chips.items p.fired.items is.begun in
+              omega arith;
+          low_counts = ok.low_counts;
+          low_limit = ok.low_limit;
+        });
+        on_the_way = rw (more.same_graph, more.same_limit)
+            (way_more p.game.graph (slice_index p.game.start) (slice_index p.chips.items) drop (slice_index g'.start)
+            (slice_index now) p.game.limit (slice_index p.fired.items) is.begun.on_the_way start_more here);
+      }
 
-    -- what the play comes to that goes on from there, where no vertex is legal at its end
-    pub pile_drop : IsAtRest g.graph g.limit chips fired → (chips' fired' : List ℕ) → IsBegun g' chips' fired'
-        → IsStable g'.graph (slice_index chips') → (a : Avalanche) → a.size ≡ size_between g'.graph fired fired'
-        → a.extent ≡ extent_between g'.graph fired fired'
-        → a.lost ≡ slice_index chips' g.graph.sink - dropped (slice_index chips) v c g.graph.sink
-        → IsAvalanche g.graph (dropped (slice_index chips) v c) a (slice_index chips')
-    pile_drop rest chips' fired' begun' stable a size extent lost =
-        drop_tells g.graph ok.graph_fits g.limit (slice_index g.start) (slice_index chips) (slice_index fired)
-        (slice_index g'.start) (dropped (slice_index chips) v c) (slice_index chips') (slice_index fired')
-        (λ u. cond (eqb v u) c 0) begun.on_the_way rest start_more (λ u. refl)
-        (subst (λ (G : Multigraph). IsOnTheWay G (slice_index g'.start) g.limit (slice_index chips')
-        (slice_index fired')) more.same_graph
-        (subst (λ (limit : ℕ). IsOnTheWay g'.graph (slice_index g'.start) limit (slice_index chips')
-        (slice_index fired')) more.same_limit begun'.on_the_way))
-        (subst (λ (G : Multigraph). IsStable G (slice_index chips')) more.same_graph stable) a
-        (subst (λ (G : Multigraph). a.size ≡ size_between G fired fired') more.same_graph size)
-        (subst (λ (G : Multigraph). a.extent ≡ extent_between G fired fired') more.same_graph extent) lost
+  module _ (chips fired : List ℕ) (begun : IsBegun g' chips fired) where
+    -- where the play rests that goes on from there, no vertex has fired less often
+    pub drop_more : IsAtRest g'.graph g'.limit chips fired → (u : ℕ) → slice_index p.fired.items u ≤ slice_index fired u
+    drop_more rest u =
+        let whole = rest_whole g'.graph (slice_index g'.start) g'.limit (slice_index chips) (slice_index fired)
+        begun.on_the_way rest in
+        let a = begun_drop.on_the_way.forced whole.0 whole.1.sequence whole.1.ended u in
+        let b = whole.2 u in
+        omega arith
 
--- the game with a drop is a game
-pub game_with : (g g' : ChipGame) (v c : ℕ) → HasMore g ((v, c) ∷ []) g' → IsGame g → sum g.start + c ≤ max_total
-    → IsGame g'
-game_with g g' v c more ok few = record {
-  graph_fits = subst IsGraph (sym more.same_graph) ok.graph_fits;
-  start_fits = more.start_each ∙ ok.start_fits ∙ sym (ap (λ (G : Multigraph). G.vertices) more.same_graph);
-  few_chips = (let a = more.total in let b = sum_by-cons (λ (pair : ℕ × ℕ). pair.1) (v, c) [] in omega arith);
-  low_limit = (let a = more.same_limit in let b = ok.low_limit in omega arith);
-}
+    -- if no vertex is legal there, this is the avalanche
+    pub pile_drop : IsStable g'.graph (slice_index chips) → (a : Avalanche)
+        → a.size ≡ size_between (length fired) p.fired.items fired
+        → a.extent ≡ extent_between (length fired) p.fired.items fired
+        → a.lost ≡ slice_index chips p.game.graph.sink
+        - get_or (set p.chips.items v (get_or p.chips.items v 0 + c)) p.game.graph.sink 0
+        → IsAvalanche p.game.graph (dropped (slice_index p.chips.items) v c) a (slice_index chips)
+    pile_drop stable a size extent lost =
+        let each = begun.in_range.fired_each in
+        drop_tells p.game.graph is.game.graph_fits p.game.limit (slice_index p.game.start) (slice_index p.chips.items)
+        (slice_index p.fired.items) (slice_index g'.start) (slice_index chips) (slice_index fired) drop
+        is.begun.on_the_way is.at_rest start_more (rw (more.same_graph, more.same_limit) at begun.on_the_way)
+        (rw more.same_graph at stable) a (rw (each, more.same_graph) at size) (rw (each, more.same_graph) at extent)
+        (lost ∙ ap (λ (n : ℕ). slice_index chips p.game.graph.sink - n) (here p.game.graph.sink))
 
--- what an index reads
-pub read_is : (xs : List ℕ) (i n : ℕ) → n ≡ get_or xs i n → i < length xs → n ≡ get_or xs i 0
-read_is xs i n is inside = is ∙ get_or_default xs i n 0 inside
-
--- ---- how a play goes on
-
--- what stays on the way goes on with the play
-pub begun_worked : (g : ChipGame) (chips fired chips' fired' : List ℕ) → IsBegun g chips fired
-    → IsInRange g.graph g.limit chips' fired' → StaysOnTheWay g.graph g.limit chips fired chips' fired'
-    → IsBegun g chips' fired'
-begun_worked g chips fired chips' fired' begun ok stays =
-    record { in_range = ok; on_the_way = stays (slice_index g.start) begun.on_the_way }
-
--- a play fires no vertex less often than where it began
-pub played_more : (g : ChipGame) (chips fired chips' fired' : List ℕ) → IsBegun g chips fired → IsBegun g chips' fired'
-    → IsAtRest g.graph g.limit chips' fired' → (v : ℕ) → slice_index fired v ≤ slice_index fired' v
-played_more g chips fired chips' fired' begun begun' rest v =
-    let x : ℕ → ℕ = slice_index g.start in
-    let whole = continued g.graph x g.limit [] tt (λ u. omega arith) in
-    let ws : List ℕ = whole.0 in
-    let play : IsWholePlay g.graph x g.limit ws = whole.1 in
-    let a = begun.on_the_way.forced ws play.sequence play.ended v in
-    let b = (end_of_the_way g.graph x g.limit (slice_index chips') (slice_index fired') begun'.on_the_way rest ws play).0 v in
-    omega arith
+-- ---- the first play
 
 module _ (g : ChipGame) (ok : IsGame g) (o : Outcome) (played : IsPlayed g o) where
   -- the outcome of a game is where its play may begin

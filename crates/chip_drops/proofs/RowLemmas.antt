@@ -1,14 +1,13 @@
 -- Serves Rows.antt, Out.antt.
 -- Drops one after another, and the bytes of their rows.
 use Rattle.std.proofs.Common.{◌≡◌, ℕ, ◌+◌, ◌<◌, ◌≤◌, List, [], ◌∷◌, ◌++◌, length, take, get_or, sum}
-use Rattle.std.proofs.Common.{slice_index, refl, sym, ap, ◌∙◌, subst, arith, append_assoc, append-nil, Option, None, Some, Result, Ok, Err}
-use Rattle.std.proofs.Common.{MatchOption, cond, eqb}
+use Rattle.std.proofs.Common.{slice_index, refl, sym, ap, ◌∙◌, subst, arith, append_assoc, append-nil, Option}
+use Rattle.std.proofs.Common.{cond, eqb}
 use Rattle.std.proofs.Common.{length-append, length-take, take-append-drop, drop}
-use Rattle.std.proofs.lemmas.List.{take_at, take_more, take_all}
+use Rattle.std.proofs.lemmas.List.{take_at, take_more}
 use Rattle.std.proofs.lemmas.List.Sums.{sum_by-append, sum_by_more_le}
 use Rattle.std.specs.Io.KnownBytes.{Appends}
-use Rattle.std.proofs.KnownBytes.{Appends-trans, Appends-nil}
-use Rattle.std.specs.Result.{IsErrAnd}
+use Rattle.std.proofs.KnownBytes.{Appends-trans}
 use Rattle.chip_graph.specs.Limits.{max_total}
 use Rattle.chip_graph.specs.Multigraph.{Multigraph}
 use Rattle.chip_graph.specs.ChipGame.{ChipGame}
@@ -17,36 +16,27 @@ use Rattle.chip_drops.specs.declared.avalanche.Avalanche.{Avalanche}
 use Rattle.chip_drops.specs.declared.pile.Pile.{Pile}
 use Rattle.chip_drops.specs.Avalanches.{dropped, IsAvalanche, AreAvalanches}
 use Rattle.chip_drops.specs.Pile.{IsPile, IsStable}
-use Rattle.chip_drops.specs.Rows.{row_text, rows_of, rows_text, IsAfter, AreRows, FailsRows, WritesRows}
-use Rattle.chip_drops.specs.Out.{IsOut, GoesOut}
-use Rattle.chip_drops.specs.declared.rows.Dropped.{Dropped}
-use Rattle.chip_drops.specs.declared.rows.RowsFault.{RowsFault}
-use Rattle.chip_drops.specs.declared.rows.RowsFault.TheVariants.{Write, NoMemory}
+use Rattle.chip_drops.specs.Rows.{row_text, rows_of, rows_text, IsAfter, LeavesRows}
+use Rattle.chip_drops.specs.Out.{IsOut}
 
 -- ---- drops
 
--- one more avalanche
-avalanches_more : (G : Multigraph) (x : ℕ → ℕ) (ds : List (ℕ × ℕ)) (told : List Avalanche) (y : ℕ → ℕ) (d : ℕ × ℕ)
+-- one more avalanche, and its row
+told_more : (G : Multigraph) (x : ℕ → ℕ) (ds : List (ℕ × ℕ)) (told : List Avalanche) (y : ℕ → ℕ) (d : ℕ × ℕ)
     (a : Avalanche) (z : ℕ → ℕ) → AreAvalanches G x ds told y → IsAvalanche G (dropped y d.0 d.1) a z
     → AreAvalanches G x (ds ++ d ∷ []) (told ++ a ∷ []) z
-avalanches_more G x [] [] y d a z are is =
-    let there : y ≡ x = (λ i v. are v i) in
-    (z, subst (λ (p : ℕ → ℕ). IsAvalanche G (dropped p d.0 d.1) a z) there is, (λ v. refl))
-avalanches_more G x [] (b ∷ told) y d a z are is = absurd are
-avalanches_more G x (c ∷ ds) [] y d a z are is = absurd are
-avalanches_more G x (c ∷ ds) (b ∷ told) y d a z are is =
-    (are.0, are.1, avalanches_more G are.0 ds told y d a z are.2 is)
-
--- one more row
-rows_more : (G : Multigraph) (x : ℕ → ℕ) (ds : List (ℕ × ℕ)) (told : List Avalanche) (y : ℕ → ℕ) (d : ℕ × ℕ)
-    (a : Avalanche) → AreAvalanches G x ds told y
-    → rows_of (ds ++ d ∷ []) (told ++ a ∷ []) ≡ rows_of ds told ++ row_text d a
-rows_more G x [] [] y d a are = append-nil (row_text d a)
-rows_more G x [] (b ∷ told) y d a are = absurd are
-rows_more G x (c ∷ ds) [] y d a are = absurd are
-rows_more G x (c ∷ ds) (b ∷ told) y d a are =
-    ap (λ (l : List ℕ). row_text c b ++ l) (rows_more G are.0 ds told y d a are.2)
-    ∙ sym (append_assoc (row_text c b) (rows_of ds told) (row_text d a))
+    × (rows_of (ds ++ d ∷ []) (told ++ a ∷ []) ≡ rows_of ds told ++ row_text d a)
+told_more G x [] [] y d a z are is =
+    let there : y ≡ x = (λ i v. are v i) in (
+      (z, subst (λ (p : ℕ → ℕ). IsAvalanche G (dropped p d.0 d.1) a z) there is, (λ v. refl)),
+      append-nil (row_text d a),
+    )
+told_more G x (c ∷ ds) (b ∷ told) y d a z are is =
+    let more = told_more G are.0 ds told y d a z are.2 is in (
+      (are.0, are.1, more.0),
+      ap (λ (l : List ℕ). row_text c b ++ l) more.1 ∙ sym (append_assoc (row_text c b) (rows_of ds told) (row_text d a)),
+    )
+told_more G x _ _ y d a z are is = absurd are
 
 -- no drops, and one more
 game_none : (g : ChipGame) → HasMore g [] g
@@ -76,83 +66,53 @@ pub after_none : (p : Pile) → IsPile p → IsStable p.game.graph (slice_index 
 after_none p is stable =
     record { pile = is; stable = stable; game = game_none p.game; avalanches = λ v. refl }
 
-module _ (p : Pile) (ds : List (ℕ × ℕ)) (told : List Avalanche) (p' p'' : Pile) (so_far : IsAfter p ds told p')
-    (d : ℕ × ℕ) (game : HasMore p'.game (d ∷ []) p''.game) (is : IsPile p'') where
-  pub game_after : HasMore p.game (ds ++ d ∷ []) p''.game
-  game_after = game_more p.game p'.game p''.game ds d so_far.game game
-
-  -- one drop more
-  pub after_more : (a : Avalanche) → IsStable p''.game.graph (slice_index p''.chips.items)
-      → IsAvalanche p'.game.graph (dropped (slice_index p'.chips.items) d.0 d.1) a (slice_index p''.chips.items)
-      → IsAfter p (ds ++ d ∷ []) (told ++ a ∷ []) p''
-  after_more a stable avalanche = record {
-    pile = is;
-    stable = stable;
-    game = game_after;
-    avalanches =
-        avalanches_more p.game.graph (slice_index p.chips.items) ds told (slice_index p'.chips.items) d a
-        (slice_index p''.chips.items) so_far.avalanches
-        (subst (λ (G : Multigraph). IsAvalanche G (dropped (slice_index p'.chips.items) d.0 d.1) a
-        (slice_index p''.chips.items)) so_far.game.same_graph avalanche);
-  }
-
-  -- and its row
-  pub text_more : (a : Avalanche) → rows_text (ds ++ d ∷ []) (told ++ a ∷ []) ≡ rows_text ds told ++ row_text d a
-  text_more a =
-      ap (λ (l : List ℕ). rows_text [] [] ++ l)
-      (rows_more p.game.graph (slice_index p.chips.items) ds told (slice_index p'.chips.items) d a so_far.avalanches)
-
 -- the chips of the next drop have room
-pub room_for_drop : (p : Pile) (ds : List (ℕ × ℕ)) (i : ℕ) (told : List Avalanche) (p' : Pile)
-    → IsAfter p (take i ds) told p' → i < length ds → sum p.game.start + all_brought ds ≤ max_total → (d : ℕ × ℕ)
-    → sum p'.game.start + (get_or ds i d).1 ≤ max_total
-room_for_drop p ds i told p' so_far l few d =
-    let a = so_far.game.total in
-    let b = sum_by_more_le (λ (pair : ℕ × ℕ). pair.1) ds i d l in
+pub room_for_drop : (p : Pile) (ds : List (ℕ × ℕ)) (i : ℕ) (p' : Pile) (text : List ℕ) → LeavesRows p ds i p' text
+    → i < length ds → sum p.game.start + all_brought ds ≤ max_total
+    → sum p'.game.start + (get_or ds i (0, 0)).1 ≤ max_total
+room_for_drop p ds i p' text so_far l few =
+    let a = so_far.1.game.total in
+    let b = sum_by_more_le (λ (pair : ℕ × ℕ). pair.1) ds i (0, 0) l in
     omega arith
 
 -- the drop at i, after those before it
-module _ (p : Pile) (ds : List (ℕ × ℕ)) (i : ℕ) (told : List Avalanche) (p' p'' : Pile)
-    (so_far : IsAfter p (take i ds) told p') (inside : i < length ds)
-    (game : HasMore p'.game (get_or ds i (0, 0) ∷ []) p''.game) (is : IsPile p'') where
+module _ (p : Pile) (ds : List (ℕ × ℕ)) (i : ℕ) (p' p'' : Pile) (text : List ℕ) (so_far : LeavesRows p ds i p' text)
+    (inside : i < length ds) (game : HasMore p'.game (get_or ds i (0, 0) ∷ []) p''.game) where
   taken : take (i + 1) ds ≡ take i ds ++ get_or ds i (0, 0) ∷ []
   taken = take_more ds i (0, 0) inside
 
   pub next_game : HasMore p.game (take (i + 1) ds) p''.game
   next_game = subst (λ (l : List (ℕ × ℕ)). HasMore p.game l p''.game) (sym taken)
-      (game_after p (take i ds) told p' p'' so_far (get_or ds i (0, 0)) game is)
+      (game_more p.game p'.game p''.game (take i ds) (get_or ds i (0, 0)) so_far.1.game game)
 
-  module _ (a : Avalanche) (told_by : IsStable p''.game.graph (slice_index p''.chips.items)
+  pub next_rows : IsPile p'' → (a : Avalanche) → IsStable p''.game.graph (slice_index p''.chips.items)
       × IsAvalanche p'.game.graph (dropped (slice_index p'.chips.items) (get_or ds i (0, 0)).0 (get_or ds i (0, 0)).1) a
-      (slice_index p''.chips.items)) where
-    pub next_after : IsAfter p (take (i + 1) ds) (told ++ a ∷ []) p''
-    next_after = subst (λ (l : List (ℕ × ℕ)). IsAfter p l (told ++ a ∷ []) p'') (sym taken)
-        (after_more p (take i ds) told p' p'' so_far (get_or ds i (0, 0)) game is a told_by.0 told_by.1)
-
-    pub next_text : rows_text (take (i + 1) ds) (told ++ a ∷ [])
-        ≡ rows_text (take i ds) told ++ row_text (get_or ds i (0, 0)) a
-    next_text = ap (λ (l : List (ℕ × ℕ)). rows_text l (told ++ a ∷ [])) taken
-        ∙ text_more p (take i ds) told p' p'' so_far (get_or ds i (0, 0)) game is a
-
--- all were made
-pub all_after : (p : Pile) (ds : List (ℕ × ℕ)) (i : ℕ) (told : List Avalanche) (p' : Pile)
-    → IsAfter p (take i ds) told p' → length ds ≤ i → IsAfter p ds told p'
-all_after p ds i told p' so_far past = subst (λ (l : List (ℕ × ℕ)). IsAfter p l told p') (take_all i ds past) so_far
+      (slice_index p''.chips.items)
+      → LeavesRows p ds (i + 1) p'' (text ++ row_text (get_or ds i (0, 0)) a)
+  next_rows is a told_by =
+      let told : List Avalanche = so_far.0 in
+      let more = told_more p.game.graph (slice_index p.chips.items) (take i ds) told (slice_index p'.chips.items)
+      (get_or ds i (0, 0)) a (slice_index p''.chips.items) so_far.1.avalanches
+      (subst (λ (G : Multigraph). IsAvalanche G
+      (dropped (slice_index p'.chips.items) (get_or ds i (0, 0)).0 (get_or ds i (0, 0)).1) a
+      (slice_index p''.chips.items)) so_far.1.game.same_graph told_by.1) in (
+        told ++ a ∷ [],
+        record {
+          pile = is;
+          stable = told_by.0;
+          game = next_game;
+          avalanches = subst (λ (l : List (ℕ × ℕ)). AreAvalanches p.game.graph (slice_index p.chips.items) l
+              (told ++ a ∷ []) (slice_index p''.chips.items)) (sym taken) more.0;
+        },
+        ap (λ (l : List ℕ). l ++ row_text (get_or ds i (0, 0)) a) so_far.2
+            ∙ sym (ap (λ (l : List (ℕ × ℕ)). rows_text l (told ++ a ∷ [])) taken
+            ∙ ap (λ (l : List ℕ). rows_text [] [] ++ l) more.1),
+      )
 
 -- ---- bytes
 
 module _ (old now : Option (List ℕ)) (pending : List ℕ) (written : ℕ) (all : List ℕ)
     (is : IsOut old now pending written all) where
-  -- more is put to what is pending
-  pub out_more : (more pending' : List ℕ) → pending' ≡ pending ++ more → IsOut old now pending' written (all ++ more)
-  out_more more pending' same = record {
-    front = is.front;
-    went = is.went;
-    whole = ap (λ (l : List ℕ). is.front ++ l) same ∙ sym (append_assoc is.front pending more)
-        ∙ ap (λ (l : List ℕ). l ++ more) is.whole;
-    counted = is.counted;
-  }
-
   -- all goes out
   pub out_all : (now' : Option (List ℕ)) (written' : ℕ) → Appends now now' pending → written' ≡ written + length pending
       → IsOut old now' [] written' all
@@ -192,59 +152,9 @@ module _ (old now : Option (List ℕ)) (pending : List ℕ) (written : ℕ) (all
   )
 
   pub out_none : (k : ℕ) × Appends old now (take k all)
-  out_none = (
-    written,
-    subst (Appends old now) (sym (ap (take written) (sym is.whole) ∙ take_at is.front pending written is.counted))
-        is.went,
-  )
+  out_none = subst (λ (l : List ℕ). (k : ℕ) × Appends old now (take k l)) (append-nil all) (out_stopped [])
 
   -- nothing is pending
   pub out_end : pending ≡ [] → Appends old now all
   out_end none = subst (Appends old now) (sym (append-nil is.front) ∙ ap (λ (l : List ℕ). is.front ++ l) (sym none)
       ∙ is.whole) is.went
-
-  -- want of memory
-  pub out_refused : (more : List ℕ) (now-pending : List ℕ) (now-written : ℕ) (result : Result (Unit {0}) RowsFault)
-      (P : RowsFault → Type 0) → IsErrAnd result P → ((fault : RowsFault) → P fault → fault ≡ NoMemory)
-      → GoesOut old now now-pending now-written (all ++ more) result
-  out_refused more now-pending now-written (Ok done) P err why = absurd err
-  out_refused more now-pending now-written (Err fault) P err why =
-      subst (λ (f : RowsFault). GoesOut old now now-pending now-written (all ++ more) (Err f)) (sym (why fault err))
-      (out_stopped more)
-
--- ---- what writing answers
-
--- what is known of no avalanche, and of one
-pub told_none : (P : Type 0) (Q : Avalanche → Type 0) (o : Option Avalanche) → MatchOption o P Q → o ≡ None → P
-told_none P Q o is none = subst (λ (x : Option Avalanche). MatchOption x P Q) none is
-
-pub told_some : (P : Type 0) (Q : Avalanche → Type 0) (o : Option Avalanche) (a : Avalanche) → MatchOption o P Q
-    → o ≡ Some a → Q a
-told_some P Q o a is some = subst (λ (x : Option Avalanche). MatchOption x P Q) some is
-
--- a fault of the bytes is one of the rows
-pub fails_out : (p : Pile) (ds : List (ℕ × ℕ)) (n : ℕ) (all : List ℕ) → AreRows p ds n all → (old now : Option (List ℕ))
-    (pending : List ℕ) (written : ℕ) (fault : RowsFault) → GoesOut old now pending written all (Err fault)
-    → FailsRows p ds old now fault
-fails_out p ds n all are old now pending written (Write w) goes = (n, all, are, goes)
-fails_out p ds n all are old now pending written NoMemory goes = (n, all, are, goes.0, goes.1)
-
-pub fails_at : (p : Pile) (ds : List (ℕ × ℕ)) (n : ℕ) (all : List ℕ) → AreRows p ds n all → (old now : Option (List ℕ))
-    (pending : List ℕ) (written : ℕ) (fault fault' : RowsFault) → fault' ≡ fault
-    → GoesOut old now pending written all (Err fault) → FailsRows p ds old now fault'
-fails_at p ds n all are old now pending written fault fault' same goes =
-    subst (FailsRows p ds old now) (sym same) (fails_out p ds n all are old now pending written fault goes)
-
--- who fails so answers so
-pub rows_failed : (p : Pile) (ds : List (ℕ × ℕ)) (old new : Option (List ℕ)) (result : Result Dropped RowsFault)
-    (P : RowsFault → Type 0) → IsErrAnd result P → ((fault : RowsFault) → P fault → FailsRows p ds old new fault)
-    → WritesRows p ds old new result
-rows_failed p ds old new (Ok end) P err why = absurd err
-rows_failed p ds old new (Err fault) P err why = why fault err
-
--- no memory for the first byte
-pub rows_refused : (p : Pile) → IsPile p → IsStable p.game.graph (slice_index p.chips.items) → (ds : List (ℕ × ℕ))
-    (old : Option (List ℕ)) (fault : RowsFault) → fault ≡ NoMemory → FailsRows p ds old old fault
-rows_refused p is stable ds old fault none =
-    subst (FailsRows p ds old old) (sym none)
-    (0, rows_text [] [], ([], p, after_none p is stable, refl), 0, Appends-nil old)

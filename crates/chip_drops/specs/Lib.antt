@@ -11,8 +11,7 @@ pub use Rattle.chip_fire.specs.Player
 pub mod Avalanches
 pub mod Pile
 pub mod WorkList
-pub mod PlayedOut
-pub mod Rows
 pub mod Out
+pub mod Rows
 pub mod Laws
 pub mod Worked

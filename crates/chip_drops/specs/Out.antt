@@ -12,8 +12,12 @@ pub record IsOut (old now : Option (List ℕ)) (pending : List ℕ) (written : �
   pub whole : front ++ pending ≡ all
   pub counted : length front ≡ written
 
--- all bytes are written or pending; or a fault says how many were written, or there was no memory
+-- a fault says how many bytes were written, or there was no memory after a front of them
+abbrev pub FailsOut : Option (List ℕ) → Option (List ℕ) → List ℕ → RowsFault → Type 0
+FailsOut old now all (Write w) = WritesAll old now all (Err w)
+FailsOut old now all NoMemory = (k : ℕ) × Appends old now (take k all)
+
+-- all bytes are written or pending, or there is a fault
 abbrev pub GoesOut : Option (List ℕ) → Option (List ℕ) → List ℕ → ℕ → List ℕ → Result (Unit {0}) RowsFault → Type 0
 GoesOut old now pending written all (Ok done) = IsOut old now pending written all
-GoesOut old now pending written all (Err (Write w)) = WritesAll old now all (Err w)
-GoesOut old now pending written all (Err NoMemory) = (k : ℕ) × Appends old now (take k all)
+GoesOut old now pending written all (Err fault) = FailsOut old now all fault

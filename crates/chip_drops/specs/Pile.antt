@@ -1,5 +1,5 @@
 -- What a pile keeps from drop to drop.
-use Rattle.std.specs.Prelude.{◌≡◌, ℕ, ◌<◌, ◌≤◌, length, slice_index}
+use Rattle.std.specs.Prelude.{◌≡◌, ℕ, ◌<◌, length}
 use Rattle.chip_graph.specs.Multigraph.{Multigraph}
 use Rattle.chip_graph.specs.ChipGame.{IsGame}
 use Rattle.chip_sequence.specs.Firing.{IsLegal}
@@ -16,7 +16,6 @@ pub record IsPile (p : Pile) : Type 0 where
   pub game : IsGame p.game
   pub begun : IsBegun p.game p.chips.items p.fired.items
   pub at_rest : IsAtRest p.game.graph p.game.limit p.chips.items p.fired.items
-  pub before_each : length p.before.items ≡ p.game.graph.vertices
-  pub stamps_each : length p.stamps.items ≡ p.game.graph.vertices
+  pub before : p.before.items ≡ p.fired.items
+  pub support_each : length p.support.items ≡ p.game.graph.vertices
   pub list_room : 0 < length p.list.items
-  pub stamped : (v : ℕ) → slice_index p.stamps.items v ≤ p.drops

@@ -4,13 +4,12 @@ use Rattle.std.specs.Prelude.{Option, Result, Ok, Err}
 use Rattle.std.specs.Fmt.{decimal}
 use Rattle.std.specs.Io.KnownBytes.{Appends}
 use Rattle.chip_graph.specs.More.{HasMore}
-use Rattle.chip_report.specs.Written.{WritesAll}
 use Rattle.chip_drops.specs.declared.avalanche.Avalanche.{Avalanche}
 use Rattle.chip_drops.specs.declared.pile.Pile.{Pile}
 use Rattle.chip_drops.specs.declared.rows.Dropped.{Dropped}
 use Rattle.chip_drops.specs.declared.rows.RowsFault.{RowsFault}
-use Rattle.chip_drops.specs.declared.rows.RowsFault.TheVariants.{Write, NoMemory}
 use Rattle.chip_drops.specs.Avalanches.{AreAvalanches}
+use Rattle.chip_drops.specs.Out.{FailsOut}
 use Rattle.chip_drops.specs.Pile.{IsPile, IsStable}
 
 -- the row of a drop and its avalanche
@@ -44,9 +43,13 @@ pub record IsStoppedAt (p : Pile) (ds : List (ℕ × ℕ)) (i : ℕ) (p' : Pile)
   pub legal : IsStable p'.game.graph (slice_index p'.chips.items) → ⊥
   pub game : HasMore p.game (take (i + 1) ds) p'.game
 
+-- the first n drops left p', and these are their rows
+abbrev pub LeavesRows : Pile → List (ℕ × ℕ) → ℕ → Pile → List ℕ → Type 0
+LeavesRows p ds n p' text = (told : List Avalanche) × IsAfter p (take n ds) told p' × (text ≡ rows_text (take n ds) told)
+
 -- the rows of the first n drops
 abbrev pub AreRows : Pile → List (ℕ × ℕ) → ℕ → List ℕ → Type 0
-AreRows p ds n text = (told : List Avalanche) × (p' : Pile) × IsAfter p (take n ds) told p' × (text ≡ rows_text (take n ds) told)
+AreRows p ds n text = (p' : Pile) × LeavesRows p ds n p' text
 
 -- the rows went out, of all drops or of those before the one that the limit stopped
 abbrev pub EndsRows : Pile → List (ℕ × ℕ) → Option (List ℕ) → Option (List ℕ) → Pile → Bool → Type 0
@@ -56,9 +59,7 @@ EndsRows p ds old new p' false =
 
 -- the output failed or there was no memory, and only a front of some rows went out
 abbrev pub FailsRows : Pile → List (ℕ × ℕ) → Option (List ℕ) → Option (List ℕ) → RowsFault → Type 0
-FailsRows p ds old new (Write w) = (n : ℕ) × (text : List ℕ) × AreRows p ds n text × WritesAll old new text (Err w)
-FailsRows p ds old new NoMemory =
-    (n : ℕ) × (text : List ℕ) × AreRows p ds n text × (k : ℕ) × Appends old new (take k text)
+FailsRows p ds old new fault = (n : ℕ) × (text : List ℕ) × AreRows p ds n text × FailsOut old new text fault
 
 -- what writing the rows of drops answers
 abbrev pub WritesRows : Pile → List (ℕ × ℕ) → Option (List ℕ) → Option (List ℕ) → Result Dropped RowsFault → Type 0

@@ -10,7 +10,7 @@ ghost use Rattle.chip_drops.specs.Avalanches.{IsAvalanche, dropped};
 ghost use Rattle.chip_drops.specs.Pile.{IsPile, IsStable};
 
 use crate::avalanche::Avalanche;
-use crate::play::{PlayedOut, play_out};
+use crate::play::{play_out, tally};
 use chip_fire::outcome_at_rest;
 use chip_graph::Game;
 use chip_sequence::Outcome;
@@ -24,14 +24,12 @@ pub struct Pile {
     chips: Vec<u64>,
     /// How often each vertex has fired in all.
     fired: Vec<u64>,
-    /// Room for as many counts.
+    /// The same, for comparison while a play goes on.
     before: Vec<u64>,
-    /// The number of the last drop after which each vertex fired.
-    stamps: Vec<u64>,
+    /// Room for the vertices that fire after a drop.
+    support: Vec<u64>,
     /// Room for a work list.
     list: Vec<u64>,
-    /// How many drops were made.
-    drops: u64,
 }
 
 impl Pile {
@@ -43,21 +41,19 @@ impl Pile {
         ensures pile { IfOk result IsPile }
         ensures game { IfOk result (λ pile. pile.game ≡ game) }
         ensures chips { IfOk result (λ pile. pile.chips.items ≡ outcome.chips.items) }
-        ensures drops { IfOk result (λ pile. pile.drops ≡ 0) }
     {
         let vertices = game.graph().vertices() as usize;
-        let before = vec![in alloc; 0; vertices]?;
-        let stamps = vec![in alloc; 0; vertices]?;
-        let list = vec![in alloc; 0; 2 * vertices]?;
         let Outcome { fired, chips, .. } = outcome;
+        let before = fired.clone()?;
+        let support = vec![in alloc; 0; vertices]?;
+        let list = vec![in alloc; 0; 2 * vertices]?;
         Ok(Pile {
             game,
             chips,
             fired,
             before,
-            stamps,
+            support,
             list,
-            drops: 0,
         })
     }
 
@@ -67,10 +63,8 @@ impl Pile {
         requires stable { IsStable self.game.graph (slice_index self.chips.items) }
         requires is_vertex { vertex < self.game.graph.vertices }
         requires few_chips { sum self.game.start + count ≤ max_total }
-        requires few_drops { self.drops + 1 < 2 ^ 64 }
         ensures pile { IsPile result.0 }
         ensures game { HasMore self.game ((vertex, count) ∷ []) result.0.game }
-        ensures drops { result.0.drops ≡ self.drops + 1 }
         ensures avalanche { MatchOption result.1
             (IsStable result.0.game.graph (slice_index result.0.chips.items) → ⊥)
             (λ avalanche. IsStable result.0.game.graph (slice_index result.0.chips.items)
@@ -82,41 +76,32 @@ impl Pile {
             mut chips,
             fired,
             mut before,
-            mut stamps,
+            mut support,
             mut list,
-            drops,
         } = self;
         let sink = game.graph().sink() as usize;
         let game = with_drop(game, vertex, count);
         chips[vertex as usize] += count;
         let arrived = chips[sink];
-        let stamp = drops + 1;
-        let PlayedOut {
-            chips,
-            fired,
-            size,
-            extent,
-            stable,
-        } = play_out(
+        let (chips, fired, found, stable) = play_out(
             alloc,
             &game,
-            stamp,
             vertex,
             chips,
             fired,
-            &mut before,
-            &mut stamps,
+            &before,
+            &mut support,
             &mut list,
         );
+        let (size, extent) = tally(&support[..found], &fired, &mut before);
         let lost = chips[sink].saturating_sub(arrived);
         let pile = Pile {
             game,
             chips,
             fired,
             before,
-            stamps,
+            support,
             list,
-            drops: stamp,
         };
         if stable {
             (pile, Some(Avalanche { size, extent, lost }))

@@ -126,7 +126,6 @@ pub fn write_rows<W: Write>(
     requires stable { IsStable pile.game.graph (slice_index pile.chips.items) }
     requires vertices { AreOfVertices pile.game drops.now }
     requires few_chips { sum pile.game.start + all_brought drops.now ≤ max_total }
-    requires first { pile.drops ≡ 0 }
     ensures { WritesRows pile drops.now (W.contents output.old) (W.contents output.new) result }
 {
     let mut text = String::with_capacity(alloc, STRETCH + ROW)?;

@@ -1,18 +1,17 @@
 -- Serves AvalanchesCommand.antt.
 -- Drops that a file names, and what playing them comes to.
 use Rattle.std.proofs.Common.{◌≡◌, ℕ, ◌+◌, ◌<◌, ◌≤◌, Bool, true, false, List, [], ◌∷◌, ◌++◌, length, map, take}
-use Rattle.std.proofs.Common.{slice_index, Option, None, Some, Result, Ok, Err, refl, sym, ap, ◌∙◌, subst, arith, inl, inr}
-use Rattle.std.proofs.Common.{ltb, ltb-true}
+use Rattle.std.proofs.Common.{slice_index, Option, None, Some, refl, sym, ap, ◌∙◌, subst, arith, inl, inr}
 use Rattle.std.specs.Prelude.{All, is_none, if◌then◌else◌}
-use Rattle.std.specs.Result.{IsErrAnd}
-use Rattle.std.specs.Io.KnownBytes.{Appends, Keeps}
+use Rattle.std.proofs.Common.{ltb, ltb-true}
+use Rattle.std.proofs.lemmas.Bool.{false_from_ne_true}
+use Rattle.chip_graph.specs.Faults.{first_of_faults, fault_unless}
+use Rattle.std.specs.Io.KnownBytes.{Appends}
 use Rattle.std.proofs.lemmas.List.{take_all}
 use Rattle.std.proofs.lemmas.List.Elements.{All-nil, All-cons}
-use Rattle.chip_graph.specs.Limits.{SizeLimits}
 use Rattle.chip_graph.specs.ChipGame.{ChipGame}
 use Rattle.chip_graph.specs.Multigraph.{Multigraph, degree}
 use Rattle.chip_graph.specs.More.{HasMore}
-use Rattle.chip_graph.specs.Faults.{first_of_faults, fault_unless}
 use Rattle.chip_file.specs.declared.fault.FileFault.{FileFault}
 use Rattle.chip_file.specs.DropsText.{drop_in, drops_of_text, drops_text_fault}
 use Rattle.chip_file.specs.Rows.{Row, records_of, rows_under_header, by_index, first_row_fault}
@@ -25,14 +24,9 @@ use Rattle.chip_drops.specs.declared.avalanche.Avalanche.{Avalanche}
 use Rattle.chip_drops.specs.declared.pile.Pile.{Pile}
 use Rattle.chip_drops.specs.Avalanches.{AreAvalanches}
 use Rattle.chip_drops.specs.Pile.{IsPile, IsStable}
-use Rattle.chip_drops.specs.Rows.{rows_text, IsAfter, AreRows, EndsRows, FailsRows}
-use Rattle.chip_drops.specs.declared.rows.RowsFault.{RowsFault}
-use Rattle.chip_drops.specs.declared.rows.RowsFault.TheVariants as rows_fault
+use Rattle.chip_drops.specs.Rows.{rows_text, IsAfter, AreRows, EndsRows}
 use Rattle.chip_report.specs.ReportText.{is_closed}
-use Rattle.chip_command.specs.declared.ended.Ended.{Ended}
-use Rattle.chip_command.specs.declared.fault.Fault.{Fault}
-use Rattle.chip_engine.specs.AvalanchesCommand.{TellsDrops, ComesTo, FailsDrops, PlaysDrops, Outputs}
-use Rattle.chip_engine.specs.AvalanchesCommand.{AvalanchesAnswers, fault_of_rows}
+use Rattle.chip_engine.specs.AvalanchesCommand.{TellsDrops, ComesTo}
 
 -- ---- the vertices of drops
 
@@ -81,10 +75,6 @@ tells_none g ds o played = record {
   text_is = refl;
 }
 
-false_unless : (b : Bool) → (b ≡ true → ⊥) → b ≡ false
-false_unless true none = absurd (none refl)
-false_unless false none = refl
-
 -- the play of a pile on which a vertex is legal was stopped
 stopped_open : (p : Pile) → IsPile p → (IsStable p.game.graph (slice_index p.chips.items) → ⊥) → (o : Outcome)
     → IsPlayed p.game o → is_closed o ≡ false
@@ -95,7 +85,7 @@ stopped_open p pile legal o played =
     (slice_index p.fired.items) pile.begun.on_the_way pile.at_rest vs whole in
     let same : (v : ℕ) → slice_index o.chips.items v ≡ slice_index p.chips.items v =
     (λ v. played.position vs whole v ∙ sym (end.1 v)) in
-    false_unless (is_closed o) (λ closed. legal (λ v can. none_legal p.game o played closed v (record {
+    false_from_ne_true (is_closed o) (λ closed. legal (λ v can. none_legal p.game o played closed v (record {
       is_vertex = can.is_vertex;
       not_sink = can.not_sink;
       enough_chips = subst (λ (n : ℕ). degree p.game.graph v ≤ n) (sym (same v)) can.enough_chips;
@@ -121,8 +111,8 @@ module _ (g : ChipGame) (ds : List (ℕ × ℕ)) (o : Outcome) (played : IsPlaye
     text_is = refl;
   }
 
-  tells_rows : (n : ℕ) (text : List ℕ) → AreRows p ds n text → TellsDrops g ds n text
-  tells_rows n text are = subst (TellsDrops g ds n) (sym are.3) (tells n are.0 are.1 are.2)
+  pub tells_rows : (n : ℕ) (text : List ℕ) → AreRows p ds n text → TellsDrops g ds n text
+  tells_rows n text are = subst (TellsDrops g ds n) (sym are.1.2) (tells n are.1.0 are.0 are.1.1)
 
   -- the rows went out
   pub ends_come : (old new : Option (List ℕ)) (p' : Pile) (all : Bool) → EndsRows p ds old new p' all
@@ -156,30 +146,3 @@ module _ (g : ChipGame) (ds : List (ℕ × ℕ)) (o : Outcome) (played : IsPlaye
         told,
         ends.4,
       )
-
-  -- or not all of them did
-  pub fails_come : (old new : Option (List ℕ)) (fault : RowsFault) (f : Fault) → FailsRows p ds old new fault
-      → f ≡ fault_of_rows fault → FailsDrops g ds old new f
-  fails_come old new (rows_fault.Write w) f fails is =
-      inr (inl (fails.0, fails.1, tells_rows fails.0 fails.1 fails.2, w, is, fails.3))
-  fails_come old new rows_fault.NoMemory f fails is =
-      inr (inr (fails.0, fails.1, tells_rows fails.0 fails.1 fails.2, is, fails.3, fails.4))
-
--- who fails so answers so
-pub plays_failed : (g : ChipGame) (ds : List (ℕ × ℕ)) (old new : Option (List ℕ)) (result : Result Outcome Fault)
-    (P : Fault → Type 0) → IsErrAnd result P → ((f : Fault) → P f → FailsDrops g ds old new f)
-    → PlaysDrops g ds old new result
-plays_failed g ds old new (Ok o) P err why = absurd err
-plays_failed g ds old new (Err f) P err why = why f err
-
-pub answers_failed : (limits : SizeLimits) (graph chips drops : Option (List ℕ)) (limit : ℕ) (old new : Outputs)
-    (result : Result Ended Fault) (P : Fault → Type 0) → IsErrAnd result P
-    → ((f : Fault) → P f → AvalanchesAnswers limits graph chips drops limit old new (Err f))
-    → AvalanchesAnswers limits graph chips drops limit old new result
-answers_failed limits graph chips drops limit old new (Ok ended) P err why = absurd err
-answers_failed limits graph chips drops limit old new (Err f) P err why = why f err
-
--- known bytes that stay are kept
-pub keeps : (known : Option (List ℕ)) → Keeps known known
-keeps None = tt
-keeps (Some l) = refl

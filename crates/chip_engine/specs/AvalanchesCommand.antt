@@ -12,6 +12,7 @@ use Rattle.chip_sequence.specs.Play.{IsPlayed}
 use Rattle.chip_sequence.specs.declared.outcome.Outcome.{Outcome}
 use Rattle.chip_drops.specs.declared.avalanche.Avalanche.{Avalanche}
 use Rattle.chip_drops.specs.Avalanches.{AreAvalanches}
+use Rattle.chip_drops.specs.Out.{FailsOut}
 use Rattle.chip_drops.specs.Rows.{rows_text}
 use Rattle.chip_drops.specs.declared.rows.RowsFault.{RowsFault}
 use Rattle.chip_drops.specs.declared.rows.RowsFault.TheVariants as rows_fault
@@ -91,14 +92,12 @@ FailsReport (Some old) (Some new) text fault =
 FailsReport (Some old) None text fault = ⊥
 FailsReport None new text fault = ⊥
 
--- the rows failed: there was no memory for the play, or the output failed or there was no memory after a front of the rows of
--- some drops
+-- the rows failed: there was no memory for the play, or a fault came after a front of the rows of some drops
 abbrev pub FailsDrops : ChipGame → List (ℕ × ℕ) → Option (List ℕ) → Option (List ℕ) → Fault → Type 0
 FailsDrops g ds old new fault =
     ((fault ≡ NoMemory) × Keeps old new)
     ⊎ ((n : ℕ) × (text : List ℕ) × TellsDrops g ds n text
-    × (w : WriteFault) × (fault ≡ Write w) × WritesAll old new text (Err w))
-    ⊎ ((n : ℕ) × (text : List ℕ) × TellsDrops g ds n text × (fault ≡ NoMemory) × (k : ℕ) × Appends old new (take k text))
+    × (f : RowsFault) × (fault ≡ fault_of_rows f) × FailsOut old new text f)
 
 -- what playing the game and then the drops answers: the outcome of the game with the chips that were dropped
 abbrev pub PlaysDrops : ChipGame → List (ℕ × ℕ) → Option (List ℕ) → Option (List ℕ) → Result Outcome Fault → Type 0

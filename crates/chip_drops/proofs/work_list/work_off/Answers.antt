@@ -1,69 +1,61 @@
-use Rattle.std.proofs.Common.{◌≡◌, ℕ, ◌-◌, ◌<◌, eqb, length, get_or, slice_index, refl, subst, arith}
-use Rattle.chip_drops.specs.WorkList.{IsBatch}
-use Rattle.chip_drops.proofs.WorkLemmas.{worked_none, worked_fires, worked_rests, size_small, extent_small, one_small}
+use Rattle.std.proofs.Common.{eqb, ℕ, ◌-◌, ◌*◌, ◌<◌, get_or, refl, arith, length-set}
+use Rattle.chip_sequence.proofs.BatchLemmas.{links_inside, taken_room}
+use Rattle.chip_drops.proofs.WorkLemmas.{worked_first, worked_step, supported}
 use Rattle.chip_drops.proofs.work_list.work_off.Goals as goal
-use Rattle.chip_drops.proofs.work_list.work_off.Goals.{then-k-gt0, else-k-gt0}
 
 pub turns-init : goal.turns-init
 turns-init c =
-    worked_none c.args.graph.now c.args.limit c.args.chips.now c.args.fired.now c.args.list.now c.args.listed
-    c.args.stamps.now c.args.stamp c.requires.in_range c.requires.listed_fit c.requires.vertices c.requires.legal
-    c.requires.fresh
+    let begun = c.requires.begun in
+    let can = c.is_legal.ensures.0 c.if-not-is_legal.false in
+    rw (c.graph-graph.ensures.value, c.limit-limit.ensures.value)
+    (worked_first c.args.game.now.graph c.args.game.now.limit _ c.args.before.now c.args.chips.now c.args.fired.now
+    c.args.list.now c.args.vertex c.args.support.now begun.in_range begun.on_the_way c.requires.before
+    (rw c.graph-graph.ensures.value at can) c.requires.legal c.requires.room)
 
-pub overflow_add-size : goal.overflow_add-size
-overflow_add-size c =
+pub send-listed-requires-clause-heads : goal.send-listed-requires-clause-heads
+send-listed-requires-clause-heads c k d l =
     let so_far = c.turns.invariant in
-    let a = size_small c.args.graph.now so_far.in_range.graph_fits c.args.limit so_far.in_range.low_limit
-    c.args.fired.now c.turns.fired so_far.in_range.low_counts in
-    let b = so_far.size_is in
-    let d = c.if-k-limit.false in
-    let e = so_far.in_range.low_limit in
+    let v : ℕ = get_or c.turns.list (c.turns.listed - 1) 0 in
+    let a = (rw (← c.links-links.ensures) at
+    (links_inside c.graph-graph.result.now so_far.in_range.graph_fits v)) k d l in
+    let b = length-set c.turns.chips v (get_or c.turns.chips v 0 - c.times_in-k.result * c.out_degree-degree.result) in
+    let e = so_far.in_range.chips_each in
     omega arith
 
-pub overflow_add-extent : goal.overflow_add-extent
-overflow_add-extent c =
-    let so_far = c.turns.invariant in
-    let a = extent_small c.args.graph.now so_far.in_range.graph_fits c.args.fired.now c.turns.fired in
-    let b = so_far.extent_is in
-    let d = c.mark-extent.ensures.result in
-    let e = one_small (eqb (get_or c.turns.stamps (get_or c.turns.list (c.turns.listed - 1) 0) 0) c.args.stamp) in
-    omega arith
+pub send-listed-requires-clause-few : goal.send-listed-requires-clause-few
+send-listed-requires-clause-few c =
+    let ok = c.turns.invariant.in_range in
+    let v : ℕ = get_or c.turns.list (c.turns.listed - 1) 0 in
+    let room = taken_room c.graph-graph.result.now ok.graph_fits v c.times_in-k.result c.turns.chips
+    (c.turns.invariant.vertices (c.turns.listed - 1) (let a = c.if-listed-eq0.false in omega arith)) ok.chips_each
+    (rw c.out_degree-degree.ensures at c.times_in-k.ensures.enough) in
+    rw (c.links-links.ensures, c.out_degree-degree.ensures) (let a = ok.few_chips in omega arith)
+
+pub send-listed-requires-clause-vertices : goal.send-listed-requires-clause-vertices
+send-listed-requires-clause-vertices c i l = c.turns.invariant.vertices i (omega arith)
+
+pub send-listed-requires-clause-edges : goal.send-listed-requires-clause-edges
+send-listed-requires-clause-edges c i l = c.turns.invariant.edges i (omega arith)
 
 pub turns-preserved : goal.turns-preserved
 turns-preserved c =
     let so_far = c.turns.invariant in
-    let some : 0 < c.turns.listed = (let a = c.if-listed-eq0.false in omega arith) in
     let v : ℕ = get_or c.turns.list (c.turns.listed - 1) 0 in
-    let is_vertex : v < c.args.graph.now.vertices = so_far.vertices (c.turns.listed - 1) (omega arith) in
-    let each : length c.turns.stamps ≡ c.args.graph.now.vertices =
-    (let a = c.turns.auto.stamps in let b = c.requires.stamps_each in omega arith) in
-    elim c.if-k-gt0.branch [
-      | then-k-gt0 w ↦
-          rw (
-            w.listed-is,
-            w.list-is,
-            w.chips-is,
-            w.fired-is,
-            w.stamps-is,
-            w.size-is,
-            w.extent-is,
-            w.mark-extent.ensures.marked,
-            w.mark-extent.ensures.result,
-          )
-          (worked_fires c.args.graph.now c.args.limit c.args.chips.now c.args.fired.now c.turns.chips c.turns.fired
-          c.turns.list c.turns.listed c.turns.stamps c.args.stamp c.turns.size c.turns.extent so_far each v is_vertex
-          c.firings_of-k.result w.if-k-gt0.true
-          (let a = c.if-k-limit.false in let b = so_far.in_range.low_counts v in omega arith) c.firings_of-k.ensures
-          w.turn-listed.new.chips w.turn-listed.new.list w.turn-listed.result
-          (let a = w.turn-listed.auto.chips in let b = so_far.in_range.chips_each in omega arith)
-          w.turn-listed.ensures.fired w.turn-listed.ensures.kept
-          (let a = w.turn-listed.ensures.room in let b = w.turn-listed.auto.list in omega arith)
-          w.turn-listed.ensures.vertices w.turn-listed.ensures.legal)
-      | else-k-gt0 w ↦
-          rw (w.listed-is, w.list-is, w.chips-is, w.fired-is, w.stamps-is, w.size-is, w.extent-is)
-          (worked_rests c.args.graph.now c.args.limit c.args.chips.now c.args.fired.now c.turns.chips c.turns.fired
-          c.turns.list c.turns.listed c.turns.stamps c.args.stamp c.turns.size c.turns.extent so_far each v is_vertex
-          (c.turns.listed - 1) (omega arith) refl
-          (subst (λ (k : ℕ). IsBatch c.args.graph.now (slice_index c.turns.chips) v k)
-          (let a = w.if-k-gt0.false in let b : c.firings_of-k.result ≡ 0 = omega arith in b) c.firings_of-k.ensures))
-    ]
+    let some : 0 < c.turns.listed = (let a = c.if-listed-eq0.false in omega arith) in
+    let degree = c.out_degree-degree.ensures in
+    let sent = rw (degree, c.links-links.ensures) at c.send-listed.ensures.each in
+    let all = rw (degree, c.links-links.ensures) at c.send-listed.ensures.all in
+    let lists = rw degree at c.send-listed.ensures.lists in
+    let found = supported c.graph-graph.result.now c.limit-limit.result _ c.args.before.now c.turns.chips c.turns.fired
+    c.turns.list c.turns.listed c.turns.support c.turns.found so_far some c.times_in-k.result
+    (let a = c.if-found-support.false in let b = so_far.found in omega arith)
+    (eqb (get_or c.turns.fired v 0) (get_or c.args.before.now v 0)) refl in
+    rw c.from-found.ensures
+    (worked_step c.graph-graph.result.now c.limit-limit.result _ c.args.before.now c.turns.chips c.turns.fired c.turns.list
+    c.turns.listed c.turns.support c.turns.found so_far some c.times_in-k.result
+    (let a = c.if-k-limit.false in let b = so_far.in_range.low_counts v in omega arith)
+    (rw degree at c.times_in-k.ensures.enough) (rw degree at c.times_in-k.ensures.no_more) c.send-listed.new.chips
+    c.send-listed.new.list c.send-listed.result
+    (let a = c.send-listed.auto.chips in let b = length-set c.turns.chips v (get_or c.turns.chips v 0 - c.times_in-k.result
+    * c.out_degree-degree.result) in let e = so_far.in_range.chips_each in omega arith)
+    lists (let a = c.send-listed.ensures.room in let b = c.send-listed.auto.list in omega arith) sent all _ _ found.0 found.1)

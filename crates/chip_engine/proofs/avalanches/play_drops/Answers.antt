@@ -1,22 +1,23 @@
-use Rattle.std.proofs.Common.{◌≡◌, [], length, true, refl, sym, ◌∙◌, inl, inr}
+use Rattle.std.proofs.Common.{◌≡◌, [], length, true, refl, sym, ◌∙◌, inr}
+use Rattle.std.proofs.lemmas.Result.{err_from_is_err_and}
 use Rattle.chip_drops.specs.Rows.{rows_text}
+use Rattle.chip_drops.specs.declared.rows.RowsFault.TheVariants as rows_fault
 use Rattle.chip_report.specs.ReportText.{is_closed}
-use Rattle.chip_engine.proofs.DropLemmas.{tells_none, all_out, ends_come, fails_come, plays_failed}
+use Rattle.chip_engine.proofs.DropLemmas.{tells_none, all_out, ends_come, tells_rows}
 use Rattle.chip_engine.proofs.SittingLemmas.{none_legal}
 use Rattle.chip_engine.proofs.avalanches.play_drops.Goals as goal
 
 pub returns-in_err-write_all_of : goal.returns-in_err-write_all_of
 returns-in_err-write_all_of g c =
-    plays_failed c.args.game c.args.drops.now _ _ c.from_residual-in_err-write_all_of.result _
-    c.from_residual-in_err-write_all_of.ensures.1
-    (λ f is. inr (inl (
+    let p = err_from_is_err_and c.from_residual-in_err-write_all_of.result c.from_residual-in_err-write_all_of.ensures.1 in
+    rw (p.1, p.2) (inr (
       0,
       rows_text [] [],
       tells_none c.args.game c.args.drops.now c.in_ok-outcome.outcome c.in_ok-outcome.ensures.played,
-      _,
-      is,
+      rows_fault.Write _,
+      refl,
       c.in_err-write_all_of.ensures,
-    )))
+    ))
 
 pub returns-then-not-is_closed : goal.returns-then-not-is_closed
 returns-then-not-is_closed g c = (
@@ -42,9 +43,8 @@ returns-in_err-outcome-in-Ok g c =
     let come = ends_come c.args.game c.args.drops.now c.in_ok-outcome.outcome c.in_ok-outcome.ensures.played
     c.in_ok-pile.pile c.in_ok-pile.ensures.game c.in_ok-pile.ensures.chips _ _ c.in-Ok.end.pile c.in-Ok.end.all
     c.in-Ok.ensures in
-    plays_failed c.args.game c.args.drops.now _ _ c.from_residual-in_err-outcome-in-Ok.result _
-    c.from_residual-in_err-outcome-in-Ok.ensures.1
-    (λ f is. inr (inr (come.2, come.0, come.3, is, length come.0, all_out _ _ come.0 come.4)))
+    let p = err_from_is_err_and c.from_residual-in_err-outcome-in-Ok.result c.from_residual-in_err-outcome-in-Ok.ensures.1 in
+    rw (p.1, p.2) (inr (come.2, come.0, come.3, rows_fault.NoMemory, refl, (length come.0, all_out _ _ come.0 come.4)))
 
 pub returns-in_ok-outcome-in-Ok : goal.returns-in_ok-outcome-in-Ok
 returns-in_ok-outcome-in-Ok g c =
@@ -60,6 +60,13 @@ returns-in_ok-outcome-in-Ok g c =
 
 pub returns-in-Err : goal.returns-in-Err
 returns-in-Err g c =
-    fails_come c.args.game c.args.drops.now c.in_ok-outcome.outcome c.in_ok-outcome.ensures.played c.in_ok-pile.pile
-    c.in_ok-pile.ensures.game c.in_ok-pile.ensures.chips _ _ c.in-Err.fault c.fault_of_rows.result c.in-Err.ensures
-    c.fault_of_rows.ensures
+    let fails = c.in-Err.ensures in
+    inr (
+      fails.0,
+      fails.1,
+      tells_rows c.args.game c.args.drops.now c.in_ok-outcome.outcome c.in_ok-outcome.ensures.played c.in_ok-pile.pile
+          c.in_ok-pile.ensures.game c.in_ok-pile.ensures.chips fails.0 fails.1 fails.2,
+      c.in-Err.fault,
+      c.fault_of_rows.ensures,
+      fails.3,
+    )

@@ -348,6 +348,11 @@ class Words(unittest.TestCase):
         }
         self.assertEqual({event: self.words.event(chipfire.Event(*event)) for event in said}, said)
 
+    def test_a_sink_of_that_name_is_called_so_once(self):
+        words = sentences.Sentences(chipfire.Graph(2, 1, [(0, 1)], ["a", "sink"]))
+        said = "The stopper seals the edge from vertex a to the sink (edge 0)."
+        self.assertEqual(words.event(chipfire.Event("seal", 0, 0)), said)
+
     def test_replies(self):
         said = [
             ("take", chipfire.Reply("got", (0, 4)), "Got the message with place 0: 4 chips."),

@@ -333,7 +333,8 @@ def grid(width: int, height: int) -> Graph:
     if not inner:
         return Graph(sink + 1, sink, edges(range(sink)), shape=(height, width))
     # (between the first row and the last each square has four edges: up, left, right, down, or some to the sink)
-    squares, tails, heads = array("i", range(sink)), array("i", inner) * 4, array("i", inner) * 4
+    squares, tails = array("i", range(sink)), array("i", [0]) * (4 * len(inner))
+    heads = tails[:]
     for place, way in enumerate((-width, -1, 1, width)):
         tails[place::4] = squares[width:-width]
         heads[place::4] = squares[width + way : width + way + len(inner)]

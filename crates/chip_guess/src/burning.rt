@@ -33,7 +33,7 @@ pub(crate) struct Burning<'a> {
     /// The chips that the counts leave each vertex, less what its neighbours have taken back: it burns where this is
     /// not below 0.
     slacks: Vec<i64>,
-    /// The vertices that burn in this step, the first one next: neighbours burn soon after each other.
+    /// The vertices that are to burn in this step, the last one next: its neighbours are still at hand.
     waiting: Vec<u32>,
     /// The first vertex that unfires or into which something comes, and where such vertices end.
     first: usize,
@@ -234,10 +234,12 @@ impl<'a> Burning<'a> {
     /// Burns the vertices that may burn, one after the other.
     fn burn(&mut self) -> Result<(), AllocError> {
         let outs = self.hierarchy.outs();
-        for next in 0..self.vertices.len() {
-            let Some(vertex) = self.waiting.get(next).copied() else {
+        self.unburnt = self.unfired;
+        for _ in 0..self.vertices.len() {
+            let Some(vertex) = self.waiting.pop() else {
                 break;
             };
+            self.unburnt = self.unburnt.saturating_sub(1);
             if let Some(own) = self.vertices.get_mut(vertex as usize) {
                 own.is_burnt = true;
             }
@@ -245,8 +247,6 @@ impl<'a> Burning<'a> {
                 bring(&self.vertices, &mut self.slacks, &mut self.waiting, *link)?;
             }
         }
-        self.unburnt = self.unfired.saturating_sub(self.waiting.len() as u64);
-        self.waiting.clear();
         Ok(())
     }
 

@@ -1,15 +1,17 @@
 //! The commands, over texts in memory.
 
-ghost use Rattle.std.specs.Prelude.{IfOk};
+ghost use Rattle.std.specs.Prelude.{IfOk, Some, option_map};
 ghost use Rattle.chip_graph.specs.ChipGame.{ChipGame};
 ghost use Rattle.chip_graph.specs.Limits.{standard};
 ghost use Rattle.chip_link.specs.Rings.{IsRing};
 ghost use Rattle.chip_command.specs.Inputs.{MeansGame};
 ghost use Rattle.chip_command.specs.Reports.{Reports};
+ghost use Rattle.chip_engine.specs.AvalanchesCommand.{AvalanchesAnswers};
 
 use chip_command::{Ended, Fault};
 use chip_engine::{
-    check_engine, plain_engine, replay_engine, resume_engine, simulate_engine, verify_engine,
+    avalanches_engine, check_engine, plain_engine, replay_engine, resume_engine, simulate_engine,
+    verify_engine,
 };
 use chip_run::run_engine;
 use std::alloc::Global;
@@ -60,6 +62,26 @@ pub fn run_all<W: Write>(
         &mut rows,
         limit,
         output,
+    )
+}
+
+/// Drops the chips of a text on the game of two others, and writes a row for each, and the report if it has a place.
+pub fn rows_of_drops<W: Write, T: Write>(
+    alloc: Global,
+    graph: &[u8],
+    chips: &[u8],
+    drops: &[u8],
+    limit: u64,
+    output: &mut W,
+    report: &mut Option<T>,
+) -> Result<Ended, Fault>
+    ensures { AvalanchesAnswers standard (Some graph.now) (Some chips.now) (Some drops.now) limit
+        (record { rows = W.contents output.old; report = option_map T.contents report.old })
+        (record { rows = W.contents output.new; report = option_map T.contents report.new }) result }
+{
+    let (mut graph, mut chips, mut drops) = (graph, chips, drops);
+    avalanches_engine(
+        alloc, &mut graph, &mut chips, &mut drops, limit, output, report,
     )
 }
 

@@ -1,16 +1,20 @@
 //! Graphs, games and the plain player.
 
-ghost use Rattle.std.specs.Prelude.{◌≡◌, ◌<◌, ◌≤◌, IsTrue, length, sum};
+ghost use Rattle.std.specs.Prelude.{◌≡◌, ◌+◌, ◌<◌, ◌≤◌, IfOk, IsTrue, length, slice_index, sum};
 ghost use Rattle.chip_graph.specs.Limits.{max_total};
-ghost use Rattle.chip_graph.specs.More.{AreOfVertices};
+ghost use Rattle.chip_graph.specs.ChipGame.{IsGame};
+ghost use Rattle.chip_graph.specs.More.{AreOfVertices, all_brought};
 ghost use Rattle.chip_sequence.specs.Play.{IsEnough};
 ghost use Rattle.chip_sequence.specs.Sittings.{IsResumed};
+ghost use Rattle.chip_drops.specs.Pile.{IsPile, IsStable};
 
+use chip_drops::{Avalanche, Dropped, Pile, RowsFault, write_rows};
 use chip_fire::{
     AfterFault, Outcome, ResumeFault, Resumed, after, after_into, enough, fire, plain, resume,
 };
 use chip_graph::{Edge, Game, GameFault, Graph, GraphFault};
 use std::alloc::{AllocError, Global};
+use std::io::Write;
 
 /// Two vertices, the second the sink, and the edges from one to the other.
 pub fn pair(alloc: Global, edges: Vec<Edge>) -> Result<Graph, GraphFault> {
@@ -89,4 +93,45 @@ pub fn go_on(alloc: Global, graph: Graph, earlier: &Resumed) -> Result<Resumed, 
     requires { IsResumed earlier.now }
 {
     resume(alloc, graph, earlier, 1 << 40)
+}
+
+/// The pile that the play of a game leaves.
+pub fn rested(alloc: Global, game: Game) -> Result<Pile, AllocError>
+    requires { IsGame game }
+    ensures { IfOk result IsPile }
+{
+    let outcome = plain(alloc, &game)?;
+    Pile::new(alloc, game, outcome)
+}
+
+/// The avalanche of one drop, none if the limit stops it, and the outcome of all chips.
+pub fn one_drop(
+    alloc: Global,
+    pile: Pile,
+    vertex: u64,
+    count: u64,
+) -> Result<(Option<Avalanche>, Outcome), AllocError>
+    requires pile { IsPile pile }
+    requires stable { IsStable pile.game.graph (slice_index pile.chips.items) }
+    requires is_vertex { vertex < pile.game.graph.vertices }
+    requires few_chips { sum pile.game.start + count ≤ max_total }
+{
+    let (pile, avalanche) = pile.drop_chips(alloc, vertex, count);
+    Ok((avalanche, pile.outcome(alloc)?))
+}
+
+/// Whether each drop has a row.
+pub fn all_drops<W: Write>(
+    alloc: Global,
+    pile: Pile,
+    drops: &[(u64, u64)],
+    output: &mut W,
+) -> Result<bool, RowsFault>
+    requires pile { IsPile pile }
+    requires stable { IsStable pile.game.graph (slice_index pile.chips.items) }
+    requires vertices { AreOfVertices pile.game drops.now }
+    requires few_chips { sum pile.game.start + all_brought drops.now ≤ max_total }
+{
+    let Dropped { all, .. } = write_rows(alloc, pile, drops, output)?;
+    Ok(all)
 }

@@ -17,10 +17,10 @@ use std::io;
 use std::io::Write;
 use std::process::Abort;
 
-const TRIANGLE: &str =
+pub(crate) const TRIANGLE: &str =
     "{\"edges\":[[0,1,1],[0,2,1],[1,0,1],[1,2,1]],\"sink\":2,\"version\":1,\"vertices\":3}";
 
-const NO_LIMIT: u64 = 1 << 40;
+pub(crate) const NO_LIMIT: u64 = 1 << 40;
 
 /// The report of the triangle with four chips on vertex 0.
 const PLAYED: &str =
@@ -39,7 +39,7 @@ fn play(alloc: Global, graph: &str, chips: &str, limit: u64) -> (Result<Ended, F
     (ended, output)
 }
 
-fn closed(status: u8) -> Result<Ended, Fault> {
+pub(crate) fn closed(status: u8) -> Result<Ended, Fault> {
     Ok(Ended { status, cut: false })
 }
 

@@ -2,6 +2,8 @@
 #![tactic(auto)]
 
 #[cfg(test)]
+mod avalanches;
+#[cfg(test)]
 mod engines;
 #[cfg(test)]
 mod faults;

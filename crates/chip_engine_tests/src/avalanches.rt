@@ -1,8 +1,16 @@
 //! Chips dropped one after another, by hand on the triangle.
 
+ghost use Rattle.std.specs.Prelude.{◌≡◌, sum, slice_index};
+ghost use Rattle.chip_drops.specs.Pile.{IsPile, IsStable};
+
 use crate::engines::{NO_LIMIT, TRIANGLE, closed};
+use chip_command::read_game;
+use chip_drops::{Avalanche, Pile, write_rows};
 use chip_engine::{PlayOptions, avalanches_engine, avalanches_engine_with};
-use chip_fire::Unwatched;
+use chip_fire::{Unwatched, plain};
+use chip_graph::Limits;
+use chip_report::is_closed;
+use std::process::Abort;
 
 /// The play leaves 1 and 0, and 3 on the sink.
 const CHIPS: &str = "vertex,chips\n0,4\n";
@@ -19,6 +27,53 @@ const TOGETHER: &str =
 /// And with limit 3, which stops the last drop at 5 and 1.
 const STOPPED: &str =
     "{\"chips\":[5,1,11],\"closed\":false,\"fired\":[3,1,0],\"over\":[0],\"sealed\":[],\"version\":1}\n";
+
+/// The pile of these chips.
+#[tactic(auto, using(chip_engine::proofs::SittingLemmas::none_legal))]
+fn rested(rt: &(impl AllocGlobal + Abort)) -> Box<Pile>
+    ensures pile { IsPile result.value }
+    ensures stable { IsStable result.value.game.graph (slice_index result.value.chips.items) }
+    ensures three { result.value.game.graph.vertices ≡ 3 }
+    ensures four { sum result.value.game.start ≡ 4 }
+{
+    let (graph, chips) = (&mut TRIANGLE.as_bytes(), &mut CHIPS.as_bytes());
+    let game = read_game(rt.alloc(), Limits::standard(), graph, chips, NO_LIMIT).expect(
+        rt, "a game",
+    );
+    assert!(rt; game.graph().vertices() == 3);
+    assert!(rt; game.total() == 4);
+    let outcome = plain(rt.alloc(), &game).expect(rt, "memory");
+    assert!(rt; is_closed(&outcome));
+    let pile = Pile::new(rt.alloc(), game, outcome).expect(rt, "memory");
+    Box::new(rt.alloc(), pile).expect(rt, "memory")
+}
+
+/// Six on 0: it fires three times, and 1 once.
+#[test]
+fn tells_an_avalanche(rt: HostRuntime) {
+    let pile = Box::into_inner(rested(&rt));
+    let (pile, avalanche) = pile.drop_chips(rt.alloc(), 0, 5);
+    assert!(rt;
+        avalanche
+            == Some(Avalanche {
+                size: 4,
+                extent: 2,
+                lost: 4
+            })
+    );
+    let outcome = pile.outcome(rt.alloc()).expect(&rt, "memory");
+    assert!(rt; outcome.fired.as_slice() == [5, 2, 0].as_slice());
+    assert!(rt; outcome.chips.as_slice() == [1, 1, 7].as_slice());
+}
+
+#[test]
+fn writes_a_row_for_each_drop(rt: HostRuntime) {
+    let mut rows = Vec::new(rt.alloc());
+    let drops = [(0, 1), (2, 7), (0, 5)];
+    let end = write_rows(rt.alloc(), Box::into_inner(rested(&rt)), &drops, &mut rows);
+    assert!(rt; end.is_ok_and(|end| end.all));
+    assert!(rt; rows.as_slice() == ROWS.as_bytes());
+}
 
 #[test]
 fn drops_on_the_triangle(rt: HostRuntime) {

@@ -31,16 +31,15 @@ TARGET = f"{ROOT}/target"
 # How many crates are proved at a time at most. The longest chain of crates bounds the time: what goes on beside it ends
 # sooner anyway, and slows it.
 LANES = 3
-# How many copies of the prover share a crate at most, where no other crate can be proved meanwhile.
-JOBS = 4
 # What one check takes at most, in bytes.
 MEMORY = 3 << 30
 # What a crate costs that has no line in tools/costs.txt, in seconds.
 USUAL_COST = 60
 # What proves a crate: a library for the crates above it, the program, which rt builds only to run it, or another program.
-LIBRARY = ["rt", "lib"]
-PROGRAM = ["rt", "run"]
-OTHER_PROGRAM = ["rt", "check"]
+# (Copies of the prover that share a crate take longer than one alone, even where no other crate can be proved.)
+LIBRARY = ["rt", "lib", "--jobs", "1"]
+PROGRAM = ["rt", "run", "--jobs", "1", "--", "--help"]
+OTHER_PROGRAM = ["rt", "check", "--jobs", "1"]
 # The commands that run, by crate.
 COMMANDS = {}
 
@@ -113,17 +112,16 @@ def keep(name, room):
         os.rename(f"{room}/crates/{name}/out", f"{CRATES}/{name}/out")
 
 
-def words_for(name, jobs):
-    """Returns the command that proves a crate by so many copies of the prover."""
-    jobs = ["--jobs", str(jobs)]
+def words_for(name):
+    """Returns the command that proves a crate."""
     if not os.path.isfile(f"{CRATES}/{name}/src/main.rt"):
-        return [*LIBRARY, *jobs]
-    return [*PROGRAM, *jobs, "--", "--help"] if name == "chipfire" else [*OTHER_PROGRAM, *jobs]
+        return LIBRARY
+    return PROGRAM if name == "chipfire" else OTHER_PROGRAM
 
 
-def prove(name, lower, jobs):
-    """Proves a crate in a room, by so many copies of the prover, over what was kept of it and of those that it stands on.
-    Returns its status and its seconds."""
+def prove(name, lower):
+    """Proves a crate in a room, over what was kept of it and of those that it stands on. Returns its status and its
+    seconds."""
     begun, room = time.monotonic(), f"{TARGET}/rooms/{name}"
     # (a run that was killed left its room)
     keep(name, room)
@@ -140,7 +138,7 @@ def prove(name, lower, jobs):
         os.rename(f"{CRATES}/{name}/out", f"{room}/crates/{name}/out")
     with open(f"{TARGET}/{name}.log", "w", encoding="utf-8") as log:
         how = {"stdin": subprocess.DEVNULL, "stdout": log, "stderr": log}
-        COMMANDS[name] = subprocess.Popen(words_for(name, jobs), cwd=f"{room}/crates/{name}", **how)
+        COMMANDS[name] = subprocess.Popen(words_for(name), cwd=f"{room}/crates/{name}", **how)
         status = COMMANDS[name].wait()
         del COMMANDS[name]
     keep(name, room)
@@ -174,11 +172,6 @@ class Work:
         self.left.remove(first)
         return first
 
-    def jobs(self, idle):
-        """Returns how many of the idle processors go to the crate taken last: one, or where no other crate is ready, all."""
-        waits = any(self.proved.issuperset(self.direct[it]) for it in self.left)
-        return 1 if waits else max(1, min(idle, JOBS))
-
     def end(self, name, seconds):
         self.proved.add(name)
         self.spent += seconds
@@ -204,14 +197,13 @@ def prove_all(names, direct, neighbour):
     Two processors are left to the neighbour, a process that works too, as long as it does: what slows the first crate of
     the longest chain delays all."""
     work, places, running = Work(names, direct), lanes(), {}
-    processors, few = len(os.sched_getaffinity(0)), lanes(taken=2)
+    few = lanes(taken=2)
     with ThreadPoolExecutor(places) as pool, ended_by_signals():
         while work.left or running:
             if neighbour and not is_alive(neighbour):
                 neighbour = None
             while len(running) < (few if neighbour else places) and (name := work.next()):
-                jobs = 1 if neighbour else work.jobs(processors - len(running))
-                running[pool.submit(prove, name, below(name, direct), jobs)] = name
+                running[pool.submit(prove, name, below(name, direct))] = name
             for done in wait(running, 1 if neighbour else None, FIRST_COMPLETED).done:
                 name, (status, seconds) = running.pop(done), done.result()
                 if status:

@@ -1,7 +1,8 @@
 -- Serves GraphText.antt.
 -- A text of more edges than a graph has is refused alike, whether all of them are kept or only the first.
-use Rattle.std.proofs.Common.{◌≡◌, ℕ, ◌<◌, ◌≤◌, ◌⊎◌, Bool, true, false, leb, ltb, ◌&&◌, List, length, Option, Some, None}
-use Rattle.std.proofs.Common.{Ok, Err, refl, sym, ap, ◌∙◌, subst, arith, leb-true, inl, inr}
+use Rattle.std.proofs.Common.{◌≡◌, ℕ, ◌<◌, ◌≤◌, ◌⊎◌, leb, ltb, ◌&&◌, List, length, Option, Some, None}
+use Rattle.std.proofs.Common.{Ok, Err, refl, sym, ap, ◌∙◌, subst, arith, inl, inr}
+use Rattle.std.proofs.lemmas.Bool.{lt-leb}
 use Rattle.std.specs.Prelude.{option_and_then, Result}
 use Rattle.std.specs.Result.{IsErrAnd}
 use Rattle.chip_graph.specs.declared.edge.Edge.{Edge}
@@ -9,7 +10,7 @@ use Rattle.chip_graph.specs.declared.fault.GraphFault.{GraphFault}
 use Rattle.chip_graph.specs.declared.fault.GraphFault.TheVariants as graph_fault
 use Rattle.chip_graph.specs.Limits.{SizeLimits}
 use Rattle.chip_graph.specs.Multigraph.{Multigraph, IsGraphWithin}
-use Rattle.chip_graph.specs.Faults.{first_of_faults, fault_unless, fault_of_edges, fault_of_rows, IsGraphFault}
+use Rattle.chip_graph.specs.Faults.{first_of_faults, fault_unless, fault_of_rows, IsGraphFault}
 use Rattle.chip_graph.specs.Faults.{MakesGraph}
 use Rattle.chip_graph.proofs.FaultLemmas.{rows_few}
 use Rattle.chip_json.specs.declared.fault.JsonFault.{JsonFault}
@@ -68,18 +69,9 @@ crowded_fault limits v s =
     first_of_faults (fault_unless (ltb 0 v && leb v limits.vertices) graph_fault.Vertices)
     (first_of_faults (fault_unless (ltb s v) graph_fault.Sink) (Some graph_fault.EdgeCount))
 
-crowded_by : (limits : SizeLimits) (v s : ℕ) (edges : List Edge) (b : Bool) → leb (length edges) limits.edges ≡ b
-    → limits.edges < length edges
-    → fault_of_rows limits (record { vertices = v; sink = s; edges = edges }) ≡ crowded_fault limits v s
-crowded_by limits v s edges true is many = let few : length edges ≤ limits.edges = leb-true _ _ is in absurd (omega arith)
-crowded_by limits v s edges false is many =
-    ap (λ (b : Bool). first_of_faults (fault_unless (ltb 0 v && leb v limits.vertices) graph_fault.Vertices)
-    (first_of_faults (fault_unless (ltb s v) graph_fault.Sink)
-    (first_of_faults (fault_unless b graph_fault.EdgeCount) (fault_of_edges v s 0 edges)))) is
-
 crowded : (limits : SizeLimits) (v s : ℕ) (edges : List Edge) → limits.edges < length edges
     → fault_of_rows limits (record { vertices = v; sink = s; edges = edges }) ≡ crowded_fault limits v s
-crowded limits v s edges many = crowded_by limits v s edges (leb (length edges) limits.edges) refl many
+crowded limits v s edges many = rw (lt-leb (length edges) limits.edges many) refl
 
 fault_of_many : (limits : SizeLimits) (v s : ℕ) (all kept : List Edge) (f : GraphFault) → limits.edges < length all
     → limits.edges < length kept
@@ -127,15 +119,8 @@ means_graph limits text kept made (graph, is, keeps) (same, ok) = record {
 is_text_fault : (limits : SizeLimits) (text : List ℕ) (graph : Multigraph) (f : GraphFault)
     → graph_of_text text ≡ Some graph
     → IsGraphFault limits graph f → (of_graph_fault f ≡ fault.NoMemory) ⊎ IsGraphTextFault limits text (of_graph_fault f)
-is_text_fault limits text graph graph_fault.Vertices is h = inr (graph, is, h)
-is_text_fault limits text graph graph_fault.Sink is h = inr (graph, is, h)
-is_text_fault limits text graph graph_fault.EdgeCount is h = inr (graph, is, h)
-is_text_fault limits text graph (graph_fault.Endpoint e) is h = inr (graph, is, h)
-is_text_fault limits text graph (graph_fault.Mult e) is h = inr (graph, is, h)
-is_text_fault limits text graph (graph_fault.Loop e) is h = inr (graph, is, h)
-is_text_fault limits text graph (graph_fault.FromSink e) is h = inr (graph, is, h)
-is_text_fault limits text graph (graph_fault.Unreached v) is h = inr (graph, is, h)
 is_text_fault limits text graph graph_fault.NoMemory is h = inl refl
+is_text_fault limits text graph f is h = inr (graph, is, h)
 
 pub text_fault : (limits : SizeLimits) (text : List ℕ) (kept : Kept) (f : GraphFault) → IsKeptText limits text kept
     → MakesGraph limits (kept_rows kept) (Err f)

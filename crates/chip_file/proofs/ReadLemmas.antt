@@ -135,12 +135,9 @@ tells_end T f other = refl
 
 tells_failed : (T : Type 0) (f : FileFault) (kind : LastRead) → IsOfMachine f ⊎ (f ≡ fault.TooLong)
     → kind ≡ last_of_whole {T = Vec ℕ} (Err f) → Tells {T = T} (Err f) kind
-tells_failed T f kind (inl (inl e)) =
-    subst (λ (g : FileFault). kind ≡ last_of_whole {T = Vec ℕ} (Err g) → Tells {T = T} (Err g) kind) (sym e) (λ is. is)
-tells_failed T f kind (inl (inr e)) =
-    subst (λ (g : FileFault). kind ≡ last_of_whole {T = Vec ℕ} (Err g) → Tells {T = T} (Err g) kind) (sym e) (λ is. inl is)
-tells_failed T f kind (inr e) =
-    subst (λ (g : FileFault). kind ≡ last_of_whole {T = Vec ℕ} (Err g) → Tells {T = T} (Err g) kind) (sym e) (λ is. is)
+tells_failed T f kind (inl (inl e)) = rw e (λ is. is)
+tells_failed T f kind (inl (inr e)) = rw e (λ is. inl is)
+tells_failed T f kind (inr e) = rw e (λ is. is)
 
 means_failed : {T : Type 0} (limits : SizeLimits) (IsMeant : List ℕ → T → Type 0) (IsFault : List ℕ → FileFault → Type 0)
     (input : Option (List ℕ)) (f : FileFault)

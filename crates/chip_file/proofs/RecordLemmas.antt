@@ -1,84 +1,41 @@
--- Serves Rows.antt.
--- How reading the rows under a header, one after another, gives the first fault of the records.
-use Rattle.std.proofs.Common.{◌≡◌, ℕ, ◌<◌, ◌≤◌, ◌+◌, ◌-◌, ◌^◌, Bool, true, false, List, [], ◌∷◌, ◌++◌, length, Option, None}
-use Rattle.std.proofs.Common.{Some, refl, ap, sym, ◌∙◌, arith, inl, inr, ◌⊎◌, append_assoc, length-append}
+-- Serves Rows.antt, Standing.antt.
+-- How visiting the rows under a header, one after another, gives the first fault of the records.
+use Rattle.std.proofs.Common.{◌≡◌, ℕ, ◌+◌, true, List, [], ◌∷◌, ◌++◌, length, None, refl, ap, sym, ◌∙◌, append_assoc}
+use Rattle.std.proofs.Common.{length-append}
 use Rattle.std.proofs.lemmas.List.{append-nil}
-use Rattle.chip_graph.specs.Faults.{first_of_faults, fault_unless}
-use Rattle.chip_file.specs.declared.fault.FileFault.{FileFault}
-use Rattle.chip_file.specs.declared.fault.FileFault.TheVariants as fault
-use Rattle.chip_file.specs.Rows.{Row, records_of, has_header, rows_under_header, first_row_fault, records_fault}
-use Rattle.chip_file.proofs.RowLemmas.{few_records}
+use Rattle.chip_file.specs.Rows.{Row, RowFault, has_fields, rows_under_header, first_row_fault, records_fault}
 
--- the parts of a chain of faults that has none
-pub none_first : {F : Type 0} (a b : Option F) → first_of_faults a b ≡ None → (a ≡ None) × (b ≡ None)
-none_first None b e = (refl, e)
-none_first (Some f) b e = cc e
-
-pub passes : {F : Type 0} (test : Bool) (f : F) → fault_unless test f ≡ None → test ≡ true
-passes true f e = refl
-passes false f e = cc e
-
--- of the rows under the header, `before` were read and nothing is wrong with them, and `left` come next
-pub record HasRead (row_fault : List Row → Row → Option FileFault) (records before left : List Row)
-    (index : ℕ) : Type 0 where
-  pub parts : rows_under_header records ≡ before ++ left
+-- of these rows some were visited, in which there is no fault, and `left` come next
+pub record HasRead {C V : Type 0} (row_fault : C → RowFault) (HasVisited : C → List Row → V → Type 0) (first : V)
+    (rows left : List Row) (index : ℕ) (visitor : V) : Type 0 where
+  pub before : List Row
+  pub parts : rows ≡ before ++ left
   pub counted : length before ≡ index
-  pub no_fault : first_row_fault row_fault [] (rows_under_header records) ≡ first_row_fault row_fault before left
+  pub visited : (context : C) → HasVisited context [] first
+      → (first_row_fault (row_fault context) [] rows ≡ first_row_fault (row_fault context) before left)
+      × HasVisited context before visitor
 
-pub HasRead-none : (row_fault : List Row → Row → Option FileFault) (records left : List Row)
-    → left ≡ rows_under_header records → HasRead row_fault records [] left 0
-HasRead-none row_fault records left e = record { parts = sym e; counted = refl; no_fault = rw e refl }
-
-pub HasRead-more : (row_fault : List Row → Row → Option FileFault) (records before rest left : List Row) (index : ℕ)
-    (row : Row)
-    → HasRead row_fault records before left index → left ≡ row ∷ rest → row_fault before row ≡ None
-    → HasRead row_fault records (before ++ row ∷ []) rest (index + 1)
-HasRead-more row_fault records before rest left index row read e fine = record {
-  parts = read.parts ∙ rw e (sym (append_assoc before (row ∷ []) rest));
-  counted = length-append before (row ∷ []) ∙ ap (λ n. n + 1) read.counted;
-  no_fault = read.no_fault ∙ rw (e, fine) refl;
+pub HasRead-more : {C V : Type 0} {row_fault : C → RowFault} {HasVisited : C → List Row → V → Type 0} {first : V}
+    {rows left rest : List Row} {index : ℕ} {visitor new : V} {row : Row}
+    → HasRead row_fault HasVisited first rows left index visitor → left ≡ row ∷ rest
+    → ((context : C) (before : List Row) → HasVisited context before visitor → length before ≡ index
+    → (row_fault context before row ≡ None) × HasVisited context (before ++ row ∷ []) new)
+    → HasRead row_fault HasVisited first rows rest (index + 1) new
+HasRead-more {rest = rest} {row = row} read e step = record {
+  before = read.before ++ row ∷ [];
+  parts = read.parts ∙ rw e (sym (append_assoc read.before (row ∷ []) rest));
+  counted = length-append read.before (row ∷ []) ∙ ap (λ n. n + 1) read.counted;
+  visited = λ context h.
+      let was = read.visited context h in
+      let fine = step context read.before was.1 read.counted in (was.0 ∙ rw (e, fine.0) refl, fine.1);
 }
 
--- the row that was read has this fault
-pub HasRead-fails : (header : Row) (row_fault : List Row → Row → Option FileFault) (records before rest left : List Row)
-    (index : ℕ) (row : Row) (f : FileFault)
-    → HasRead row_fault records before left index → left ≡ row ∷ rest → has_header header records ≡ true
-    → row_fault before row ≡ Some f
-    → records_fault header row_fault records ≡ Some f
-HasRead-fails header row_fault records before rest left index row f read e headed bad =
-    let first : first_row_fault row_fault [] (rows_under_header records) ≡ Some f = read.no_fault ∙ rw (e, bad) refl in
-    rw (headed, first) refl
-
--- all rows were read
-pub HasRead-all : (header : Row) (row_fault : List Row → Row → Option FileFault) (records before left : List Row)
-    (index : ℕ)
-    → HasRead row_fault records before left index → left ≡ [] → has_header header records ≡ true
-    → (records_fault header row_fault records ≡ None) × (rows_under_header records ≡ before)
-HasRead-all header row_fault records before left index read e headed =
-    let none : first_row_fault row_fault [] (rows_under_header records) ≡ None = read.no_fault ∙ rw e refl in
-    (rw (headed, none) refl, read.parts ∙ rw e (append-nil before))
-
--- the first record is not the header, or memory ran out
-pub header_fails : (header : Row) (row_fault : List Row → Row → Option FileFault) (records left : List Row)
-    (f : FileFault) → left ≡ records
-    → (f ≡ fault.NoMemory) ⊎ ((f ≡ fault.Header) × (has_header header left ≡ false))
-    → (f ≡ fault.NoMemory) ⊎ (records_fault header row_fault records ≡ Some f)
-header_fails header row_fault records left f e (inl memory) = inl memory
-header_fails header row_fault records left f e (inr other) = inr (rw (← e, other.1, other.0) refl)
-
-length-under : (records : List Row) → length (rows_under_header records) ≤ length records - 1
-length-under [] = omega arith
-length-under (row ∷ rows) = omega arith
-
--- there are fewer rows than a counter counts
-pub index_fits : (row_fault : List Row → Row → Option FileFault) (text : List ℕ) (before rest left : List Row)
-    (index : ℕ) (row : Row)
-    → HasRead row_fault (records_of text) before left index → left ≡ row ∷ rest → length text < 2 ^ 64
-    → index + 1 < 2 ^ 64
-index_fits row_fault text before rest left index row read e few =
-    let all = ap length read.parts ∙ length-append before left in
-    let one = ap length e in
-    let under = length-under (records_of text) in
-    let records = few_records text in
-    let counted = read.counted in
-    omega arith
+-- all rows were visited
+pub HasRead-all : {C V : Type 0} {row_fault : C → RowFault} {HasVisited : C → List Row → V → Type 0} {first : V}
+    {head : Row} {records rows left : List Row} {index : ℕ} {visitor : V} (header : Row)
+    → HasRead row_fault HasVisited first rows left index visitor → left ≡ [] → records ≡ head ∷ rows
+    → has_fields header head ≡ true → (context : C) → HasVisited context [] first
+    → (records_fault header (row_fault context) records ≡ None) × HasVisited context (rows_under_header records) visitor
+HasRead-all header read e under headed = λ context h.
+    let was = read.visited context h in
+    (rw (under, headed, was.0, e) refl, rw (under, read.parts, e, append-nil) was.1)

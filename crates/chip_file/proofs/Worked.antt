@@ -27,188 +27,110 @@ triangle_text = codes "{\"edges\":[[0,1,1],[0,2,1],[1,0,1],[1,2,1]],\"sink\":2,\
 abbrev triangle_graph : Multigraph
 triangle_graph = record { vertices = 3; sink = 2; edges = edge 0 1 1 ∷ edge 0 2 1 ∷ edge 1 0 1 ∷ edge 1 2 1 ∷ [] }
 
--- the triangle
-triangle : graph_of_text triangle_text ≡ Some triangle_graph
+-- the triangle; and the last of two members of one name counts
+graphs :
+    (graph_of_text triangle_text ≡ Some triangle_graph)
+    × (graph_of_text (codes " {\"sink\":7,\"version\":1, \"vertices\":1,\"edges\":[],\"sink\":0}\n")
+    ≡ Some (record { vertices = 1; sink = 0; edges = [] }))
 unfolding serde_json_on_literals is_utf8 chars
-triangle = refl
+graphs = (refl, refl)
 
--- its first 20 bytes are no JSON
-cut_off : json_of (take 20 triangle_text) ≡ None
+-- its first 20 bytes are no JSON; and a member more and a row of two numbers are another shape
+no_graphs :
+    (json_of (take 20 triangle_text) ≡ None)
+    × (file_of_text (codes "{\"edges\":[],\"sink\":0,\"version\":1,\"vertices\":1,\"x\":0}") ≡ None)
+    × (file_of_text (codes "{\"edges\":[[0,1]],\"sink\":1,\"version\":1,\"vertices\":2}") ≡ None)
 unfolding serde_json_on_literals is_utf8 chars
-cut_off = refl
-
--- a member more, a fraction and a row of two numbers are another shape
-member_more : file_of_text (codes "{\"edges\":[],\"sink\":0,\"version\":1,\"vertices\":1,\"x\":0}") ≡ None
-unfolding serde_json_on_literals is_utf8 chars
-member_more = refl
-
-short_row : file_of_text (codes "{\"edges\":[[0,1]],\"sink\":1,\"version\":1,\"vertices\":2}") ≡ None
-unfolding serde_json_on_literals is_utf8 chars
-short_row = refl
-
--- the last of two members of one name counts
-last_counts : graph_of_text (codes " {\"sink\":7,\"version\":1, \"vertices\":1,\"edges\":[],\"sink\":0}\n")
-    ≡ Some (record { vertices = 1; sink = 0; edges = [] })
-unfolding serde_json_on_literals is_utf8 chars
-last_counts = refl
+no_graphs = (refl, refl, refl)
 
 -- four chips on the first of three vertices, with leading zeros, quotes, another line's end and none at the end
-leading_zeros : chips_of_text 3 (codes "vertex,chips\n00,04") ≡ Some (4 ∷ 0 ∷ 0 ∷ [])
+chips :
+    (chips_of_text 3 (codes "vertex,chips\n00,04") ≡ Some (4 ∷ 0 ∷ 0 ∷ []))
+    × (chips_of_text 3 (codes "vertex,\"chips\"\r\n\r\n\"2\",7\r\n0,4\r\n") ≡ Some (4 ∷ 0 ∷ 7 ∷ []))
 unfolding csv_on_literals field_at
-leading_zeros = refl
-
-quoted : chips_of_text 3 (codes "vertex,\"chips\"\r\n\r\n\"2\",7\r\n0,4\r\n") ≡ Some (4 ∷ 0 ∷ 7 ∷ [])
-unfolding csv_on_literals field_at
-quoted = refl
+chips = (refl, refl)
 
 -- the refusals of rows
-no_bytes : chips_text_fault 3 [] ≡ Some fault.Header
+no_chips :
+    (chips_text_fault 3 [] ≡ Some fault.Header)
+    × (chips_text_fault 3 (codes "vertex,chips\n0,4\n0,1\n") ≡ Some (fault.Repeated 1))
+    × (chips_text_fault 3 (codes "vertex,chips\n0,-1\n") ≡ Some (fault.Number 0))
+    × (chips_text_fault 3 (codes "vertex,chips\n3,1\n") ≡ Some (fault.Vertex 0))
+    × (chips_text_fault 3 (codes "vertex,chips\n0\n") ≡ Some (fault.Row 0))
+    × (chips_text_fault 2 (codes "vertex,chips\n0,1099511627776\n1,1\n") ≡ Some fault.Total)
 unfolding csv_on_literals field_at
-no_bytes = refl
-
-named_twice : chips_text_fault 3 (codes "vertex,chips\n0,4\n0,1\n") ≡ Some (fault.Repeated 1)
-unfolding csv_on_literals field_at
-named_twice = refl
-
-below_zero : chips_text_fault 3 (codes "vertex,chips\n0,-1\n") ≡ Some (fault.Number 0)
-unfolding csv_on_literals field_at
-below_zero = refl
-
-no_vertex : chips_text_fault 3 (codes "vertex,chips\n3,1\n") ≡ Some (fault.Vertex 0)
-unfolding csv_on_literals field_at
-no_vertex = refl
-
-one_field_short : chips_text_fault 3 (codes "vertex,chips\n0\n") ≡ Some (fault.Row 0)
-unfolding csv_on_literals field_at
-one_field_short = refl
-
-one_chip_too_many : chips_text_fault 2 (codes "vertex,chips\n0,1099511627776\n1,1\n") ≡ Some fault.Total
-unfolding csv_on_literals field_at
-one_chip_too_many = refl
+no_chips = (refl, refl, refl, refl, refl, refl)
 
 -- drops in the order of the file, two of them on one vertex, and more chips than a game holds
-dropped_twice : drops_of_text 3 (codes "vertex,chips\n2,1\n0,1099511627777\n2,0\n")
-    ≡ Some ((2, 1) ∷ (0, 1099511627777) ∷ (2, 0) ∷ [])
+drops :
+    (drops_of_text 3 (codes "vertex,chips\n2,1\n0,1099511627777\n2,0\n")
+    ≡ Some ((2, 1) ∷ (0, 1099511627777) ∷ (2, 0) ∷ []))
+    × (drops_of_text 3 (codes "vertex,chips") ≡ Some [])
 unfolding csv_on_literals field_at
-dropped_twice = refl
-
-no_drops : drops_of_text 3 (codes "vertex,chips") ≡ Some []
-unfolding csv_on_literals field_at
-no_drops = refl
+drops = (refl, refl)
 
 -- the refusals of drops: each before those after it
-drops_of_a_guess : drops_text_fault 3 (codes "vertex,fired\n0,1\n") ≡ Some fault.Header
+no_drops :
+    (drops_text_fault 3 (codes "vertex,fired\n0,1\n") ≡ Some fault.Header)
+    × (drops_text_fault 3 (codes "vertex,chips\n0,1\nx,1,1\n") ≡ Some (fault.Row 1))
+    × (drops_text_fault 3 (codes "vertex,chips\n3,x\n") ≡ Some (fault.Number 0))
+    × (drops_text_fault 3 (codes "vertex,chips\n0,1\n0,1\n3,1\n") ≡ Some (fault.Vertex 2))
 unfolding csv_on_literals field_at
-drops_of_a_guess = refl
-
-drop_of_three_fields : drops_text_fault 3 (codes "vertex,chips\n0,1\nx,1,1\n") ≡ Some (fault.Row 1)
-unfolding csv_on_literals field_at
-drop_of_three_fields = refl
-
-drop_of_no_number : drops_text_fault 3 (codes "vertex,chips\n3,x\n") ≡ Some (fault.Number 0)
-unfolding csv_on_literals field_at
-drop_of_no_number = refl
-
-drop_on_no_vertex : drops_text_fault 3 (codes "vertex,chips\n0,1\n0,1\n3,1\n") ≡ Some (fault.Vertex 2)
-unfolding csv_on_literals field_at
-drop_on_no_vertex = refl
+no_drops = (refl, refl, refl, refl)
 
 -- a guess: vertex 1 is not named, and a count may be the greatest number of 64 bits
-largest_count : guess_of_text 3 (codes "vertex,fired\n2,18446744073709551615\n0,2\n")
+guess : guess_of_text 3 (codes "vertex,fired\n2,18446744073709551615\n0,2\n")
     ≡ Some (2 ∷ 0 ∷ 18446744073709551615 ∷ [])
 unfolding csv_on_literals field_at
-largest_count = refl
+guess = refl
 
 -- the refusals of a guess: each before those after it
-guess_of_chips : guess_text_fault 3 (codes "vertex,chips\n0,1\n") ≡ Some fault.Header
+no_guess :
+    (guess_text_fault 3 (codes "vertex,chips\n0,1\n") ≡ Some fault.Header)
+    × (guess_text_fault 3 (codes "vertex,fired\n0\n") ≡ Some (fault.Row 0))
+    × (guess_text_fault 3 (codes "vertex,fired\n3,18446744073709551616\n") ≡ Some (fault.Number 0))
+    × (guess_text_fault 3 (codes "vertex,fired\n3,1\n3,1\n") ≡ Some (fault.Vertex 0))
+    × (guess_text_fault 3 (codes "vertex,fired\n1,0\n0,1\n1,0\n") ≡ Some (fault.Repeated 2))
 unfolding csv_on_literals field_at
-guess_of_chips = refl
+no_guess = (refl, refl, refl, refl, refl)
 
-count_missing : guess_text_fault 3 (codes "vertex,fired\n0\n") ≡ Some (fault.Row 0)
-unfolding csv_on_literals field_at
-count_missing = refl
-
-count_too_large : guess_text_fault 3 (codes "vertex,fired\n3,18446744073709551616\n") ≡ Some (fault.Number 0)
-unfolding csv_on_literals field_at
-count_too_large = refl
-
-count_of_no_vertex : guess_text_fault 3 (codes "vertex,fired\n3,1\n3,1\n") ≡ Some (fault.Vertex 0)
-unfolding csv_on_literals field_at
-count_of_no_vertex = refl
-
-counted_twice : guess_text_fault 3 (codes "vertex,fired\n1,0\n0,1\n1,0\n") ≡ Some (fault.Repeated 2)
-unfolding csv_on_literals field_at
-counted_twice = refl
-
--- the schedule of sealed half way, on the triangle
-sealed_half_way : schedule_of_text triangle_graph
+-- the schedule of sealed half way, on the triangle; and the other kinds, at the last root edge and the last vertex
+schedules :
+    (schedule_of_text triangle_graph
     (codes "event,at,count\nseal,1,0\ntake,4,0\nfire,0,2\nclear,0,0\nclaim,0,0\nput,0,0\nclear,1,0\nclaim,1,0\nhalt,0,0\n")
     ≡ Some (event.Seal 1 ∷ event.Take 4 ∷ event.Fire 0 2 ∷ event.Clear 0 ∷ event.Claim 0 ∷ event.Put 0 ∷ event.Clear 1
-    ∷ event.Claim 1 ∷ event.Halt 0 ∷ [])
+    ∷ event.Claim 1 ∷ event.Halt 0 ∷ []))
+    × (schedule_of_text triangle_graph (codes "event,at,count\nack,6,0\nsettle,6,0\nread,2,7")
+    ≡ Some (event.Ack 6 ∷ event.Settle 6 ∷ event.Read 2 ∷ []))
 unfolding csv_on_literals field_at
-sealed_half_way = refl
-
--- the other kinds, at the last root edge and the last vertex
-last_sites : schedule_of_text triangle_graph (codes "event,at,count\nack,6,0\nsettle,6,0\nread,2,7")
-    ≡ Some (event.Ack 6 ∷ event.Settle 6 ∷ event.Read 2 ∷ [])
-unfolding csv_on_literals field_at
-last_sites = refl
+schedules = (refl, refl)
 
 -- the refusals of a schedule's rows: each before those after it
-header_of_traces : schedule_text_fault triangle_graph (codes "vertex,kind,edge,count\n") ≡ Some fault.Header
+no_schedules :
+    (schedule_text_fault triangle_graph (codes "vertex,kind,edge,count\n") ≡ Some fault.Header)
+    × (schedule_text_fault triangle_graph (codes "event,at,count\nseal,1,0\nspin,9\n") ≡ Some (fault.Row 1))
+    × (schedule_text_fault triangle_graph (codes "event,at,count\nTake,x,0\n") ≡ Some (fault.Kind 0))
+    × (schedule_text_fault triangle_graph (codes "event,at,count\ntake,7,x\n") ≡ Some (fault.Number 0))
+    × (schedule_text_fault triangle_graph (codes "event,at,count\ntake,7,0\n") ≡ Some (fault.Vertex 0))
+    × (schedule_text_fault triangle_graph (codes "event,at,count\ntake,3,0\nhalt,3,0\n") ≡ Some (fault.Vertex 1))
 unfolding csv_on_literals field_at
-header_of_traces = refl
+no_schedules = (refl, refl, refl, refl, refl, refl)
 
-no_count : schedule_text_fault triangle_graph (codes "event,at,count\nseal,1,0\nspin,9\n") ≡ Some (fault.Row 1)
-unfolding csv_on_literals field_at
-no_count = refl
-
-kind_before_number : schedule_text_fault triangle_graph (codes "event,at,count\nTake,x,0\n") ≡ Some (fault.Kind 0)
-unfolding csv_on_literals field_at
-kind_before_number = refl
-
-number_before_site : schedule_text_fault triangle_graph (codes "event,at,count\ntake,7,x\n") ≡ Some (fault.Number 0)
-unfolding csv_on_literals field_at
-number_before_site = refl
-
-no_such_edge : schedule_text_fault triangle_graph (codes "event,at,count\ntake,7,0\n") ≡ Some (fault.Vertex 0)
-unfolding csv_on_literals field_at
-no_such_edge = refl
-
-no_such_vertex : schedule_text_fault triangle_graph (codes "event,at,count\ntake,3,0\nhalt,3,0\n")
-    ≡ Some (fault.Vertex 1)
-unfolding csv_on_literals field_at
-no_such_vertex = refl
-
--- the recorded runs of the small triangle, the rows of vertex 1 first and those of the others mixed
-mixed_rows : traces_of_text triangle_graph
+-- the recorded runs of the small triangle, the rows of vertex 1 first and those of the others mixed; and nothing recorded
+traces :
+    (traces_of_text triangle_graph
     (codes "vertex,kind,edge,count\n1,take,0,2\n1,fire,0,1\n0,take,4,4\n2,take,1,2\n0,fire,9,2\n2,take,3,1\n0,take,2,1\n")
     ≡ Some ((row.Take 4 4 ∷ row.Fire 2 ∷ row.Take 2 1 ∷ []) ∷ (row.Take 0 2 ∷ row.Fire 1 ∷ [])
-    ∷ (row.Take 1 2 ∷ row.Take 3 1 ∷ []) ∷ [])
+    ∷ (row.Take 1 2 ∷ row.Take 3 1 ∷ []) ∷ []))
+    × (traces_of_text triangle_graph (codes "vertex,kind,edge,count") ≡ Some ([] ∷ [] ∷ [] ∷ []))
 unfolding csv_on_literals field_at
-mixed_rows = refl
-
--- nothing was recorded
-no_rows : traces_of_text triangle_graph (codes "vertex,kind,edge,count") ≡ Some ([] ∷ [] ∷ [] ∷ [])
-unfolding csv_on_literals field_at
-no_rows = refl
+traces = (refl, refl)
 
 -- the refusals of rows of recorded runs
-no_kind : trace_text_fault triangle_graph (codes "vertex,kind,edge,count\nx,put,0,0\n") ≡ Some (fault.Kind 0)
+no_traces :
+    (trace_text_fault triangle_graph (codes "vertex,kind,edge,count\nx,put,0,0\n") ≡ Some (fault.Kind 0))
+    × (trace_text_fault triangle_graph (codes "vertex,kind,edge,count\n3,fire,,1\n") ≡ Some (fault.Number 0))
+    × (trace_text_fault triangle_graph (codes "vertex,kind,edge,count\n0,take,6,1\n0,take,7,1\n") ≡ Some (fault.Vertex 1))
+    × (trace_text_fault triangle_graph (codes "vertex,kind,edge,count\n3,fire,0,1\n") ≡ Some (fault.Vertex 0))
 unfolding csv_on_literals field_at
-no_kind = refl
-
-edge_is_no_number : trace_text_fault triangle_graph (codes "vertex,kind,edge,count\n3,fire,,1\n")
-    ≡ Some (fault.Number 0)
-unfolding csv_on_literals field_at
-edge_is_no_number = refl
-
-edge_out_of_range : trace_text_fault triangle_graph (codes "vertex,kind,edge,count\n0,take,6,1\n0,take,7,1\n")
-    ≡ Some (fault.Vertex 1)
-unfolding csv_on_literals field_at
-edge_out_of_range = refl
-
-vertex_out_of_range : trace_text_fault triangle_graph (codes "vertex,kind,edge,count\n3,fire,0,1\n")
-    ≡ Some (fault.Vertex 0)
-unfolding csv_on_literals field_at
-vertex_out_of_range = refl
+no_traces = (refl, refl, refl, refl)

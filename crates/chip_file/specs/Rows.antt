@@ -28,18 +28,22 @@ abbrev pub rows_under_header : List Row → List Row
 rows_under_header [] = []
 rows_under_header (row ∷ rows) = rows
 
+-- how the fault of a row follows from the rows before it and from the row
+abbrev pub RowFault : Type 0
+RowFault = List Row → Row → Option FileFault
+
 -- the first fault of rows, by the fault of a row below those before it, where `before` come before all of them
-abbrev pub first_row_fault : (List Row → Row → Option FileFault) → List Row → List Row → Option FileFault
+abbrev pub first_row_fault : RowFault → List Row → List Row → Option FileFault
 first_row_fault row_fault before [] = None
 first_row_fault row_fault before (row ∷ rows) =
     first_of_faults (row_fault before row) (first_row_fault row_fault (before ++ row ∷ []) rows)
 
 -- the fault of a row that its index decides
-abbrev pub by_index : (ℕ → Row → Option FileFault) → List Row → Row → Option FileFault
+abbrev pub by_index : (ℕ → Row → Option FileFault) → RowFault
 by_index row_fault before row = row_fault (length before) row
 
 -- the first thing wrong with records that have this header: the header itself, or a row under it
-abbrev pub records_fault : Row → (List Row → Row → Option FileFault) → List Row → Option FileFault
+abbrev pub records_fault : Row → RowFault → List Row → Option FileFault
 records_fault header row_fault records =
     first_of_faults (fault_unless (has_header header records) fault.Header)
     (first_row_fault row_fault [] (rows_under_header records))

@@ -1,11 +1,14 @@
--- Where a reader of rows stands in a text.
-use Rattle.std.specs.Prelude.{◌≡◌, ℕ, ◌+◌, Bool, true, false, List, [], ◌∷◌, length, Option, Some, IsSome, unwrap_or}
+-- Where a reader of rows stands in a text, and what visiting its rows answers.
+use Rattle.std.specs.Prelude.{◌≡◌, ℕ, ◌+◌, Bool, true, false, List, [], ◌∷◌, length, Option, Some, None, IsSome}
+use Rattle.std.specs.Prelude.{unwrap_or, Result}
 use Rattle.std.specs.Borrow.{Bor}
 use Rattle.csv.specs.Reading.{Ready, default_config, reader_config, reader_state, reader_trim, is_flexible, source_of}
 use Rattle.csv.specs.Reading.{records_from}
 use Rattle.csv.specs.declared.reader.Reader.{Reader}
 use Rattle.csv.specs.declared.reader.Trim.TheVariants as trim
-use Rattle.chip_file.specs.Rows.{Row}
+use Rattle.chip_file.specs.declared.fault.FileFault.{FileFault}
+use Rattle.chip_file.specs.Answer.{Gives}
+use Rattle.chip_file.specs.Rows.{Row, RowFault, records_fault, rows_under_header}
 
 -- csv's reader of a text
 abbrev pub Records : Type 0
@@ -32,3 +35,12 @@ pub record IsOpen (reader : Records) : Type 0 where
 abbrev pub TakesRow : Bool → Row → List Row → List Row → Type 0
 TakesRow true row old new = old ≡ row ∷ new
 TakesRow false row old new = old ≡ []
+
+-- the rows under a header were visited, or the first fault of the records is told
+abbrev pub VisitsRecords : {C V T : Type 0} → (C → RowFault) → (C → List Row → V → Type 0) → Row → List Row → V → V
+    → Result T FileFault → Type 0
+VisitsRecords {C} row_fault HasVisited header records old new result =
+    (context : C) → HasVisited context [] old → Gives
+    (λ _. (records_fault header (row_fault context) records ≡ None)
+    × HasVisited context (rows_under_header records) new)
+    (λ f. records_fault header (row_fault context) records ≡ Some f) result

@@ -1,12 +1,12 @@
 -- Rows that give vertices numbers: what they mean, and what is wrong with them.
-use Rattle.std.specs.Prelude.{◌≡◌, ℕ, Bool, ◌<◌, ◌==◌, nat_lt, ◌&&◌, not, if◌then◌else◌, List, [], ◌∷◌, length, map}
+use Rattle.std.specs.Prelude.{◌≡◌, ℕ, ◌<◌, ◌==◌, nat_lt, ◌&&◌, not, if◌then◌else◌, List, [], ◌∷◌, length, map}
 use Rattle.std.specs.Prelude.{slice_index_or, Option, None, Some, is_some, is_none, unwrap_or}
 use Rattle.std.specs.List.{range_with_len}
 use Rattle.chip_graph.specs.Faults.{first_of_faults, fault_unless}
 use Rattle.chip_file.specs.declared.fault.FileFault.{FileFault}
 use Rattle.chip_file.specs.declared.fault.FileFault.TheVariants as fault
 use Rattle.chip_file.specs.Numbers.{number_at, number_in}
-use Rattle.chip_file.specs.Rows.{Row, records_of, rows_under_header, records_fault}
+use Rattle.chip_file.specs.Rows.{Row, RowFault, records_of, rows_under_header, records_fault}
 
 -- the vertex that a row names
 abbrev pub vertex_in : Row → ℕ
@@ -23,20 +23,16 @@ vertex_row_fault vertices index row =
     (first_of_faults (fault_unless (is_some (number_at 0 row) && is_some (number_at 1 row)) (fault.Number index))
     (fault_unless (nat_lt (vertex_in row) vertices) (fault.Vertex index)))
 
--- the same, where no two rows may name one vertex, and the test tells the vertices that rows before it named
-abbrev pub row_fault : ℕ → (ℕ → Bool) → ℕ → Row → Option FileFault
-row_fault vertices is_named index row =
-    first_of_faults (vertex_row_fault vertices index row)
-    (fault_unless (not (is_named (vertex_in row))) (fault.Repeated index))
-
 -- the number that rows give a vertex, if one of them names it
 abbrev pub number_named : List Row → ℕ → Option ℕ
 number_named [] vertex = None
 number_named (row ∷ rows) vertex = if vertex_in row == vertex then Some (given_in row) else number_named rows vertex
 
--- the first thing wrong with a row below those before it
-abbrev pub new_row_fault : ℕ → List Row → Row → Option FileFault
-new_row_fault vertices before row = row_fault vertices (λ v. is_some (number_named before v)) (length before) row
+-- the first thing wrong with a row below those before it, of which none may name its vertex
+abbrev pub new_row_fault : ℕ → RowFault
+new_row_fault vertices before row =
+    first_of_faults (vertex_row_fault vertices (length before) row)
+    (fault_unless (not (is_some (number_named before (vertex_in row)))) (fault.Repeated (length before)))
 
 -- the number of each vertex by the rows; one that no row names has 0
 abbrev pub numbers_of_rows : ℕ → List Row → List ℕ
@@ -53,9 +49,7 @@ numbers_of_text header vertices text =
     then Some (numbers_of_rows vertices (rows_under_header (records_of text)))
     else None
 
--- nothing is wrong with the text, and these are the numbers of each vertex that a row names
-pub record AreNamed (header : Row) (vertices : ℕ) (text : List ℕ) (named : List (Option ℕ)) : Type 0 where
-  pub no_fault : numbers_text_fault header vertices text ≡ None
+-- these are the numbers that rows give the vertices
+pub record AreNamed (vertices : ℕ) (rows : List Row) (named : List (Option ℕ)) : Type 0 where
   pub as_many : length named ≡ vertices
-  pub each : (v : ℕ) → v < vertices
-      → slice_index_or named v None ≡ number_named (rows_under_header (records_of text)) v
+  pub each : (v : ℕ) → v < vertices → slice_index_or named v None ≡ number_named rows v

@@ -1,15 +1,38 @@
 //! Drops of chips, one after another, as rows of text.
 
-ghost use Rattle.std.specs.Prelude.{◌≡◌, Some};
+ghost use Rattle.std.specs.Prelude.{◌≡◌, map, Some};
 ghost use Rattle.chip_file.specs.Answer.{Gives};
-ghost use Rattle.chip_file.specs.DropsText.{drops_of_text, drops_text_fault};
+ghost use Rattle.chip_file.specs.DropsText.{drop_in, drops_of_text, drops_text_fault};
+ghost use Rattle.chip_file.specs.Rows.{by_index};
+ghost use Rattle.chip_file.specs.VertexRows.{vertex_row_fault};
 
 use crate::chips::HEADER;
 use crate::fault::FileFault;
-use crate::rows::{read_header, read_record, records_of};
+use crate::rows::{RowVisitor, visit_text};
 use crate::vertex_rows::vertex_and_number;
 use csv::ByteRecord;
 use std::alloc::Global;
+
+/// The drops of the rows so far, on a graph of so many vertices.
+#[derive(Drop)]
+struct Drops {
+    vertices: u64,
+    drops: Vec<(u64, u64)>,
+}
+
+impl RowVisitor for Drops {
+    type Context = u64;
+
+    ghost row_fault = { λ vertices. by_index (vertex_row_fault vertices) };
+
+    ghost HasVisited = { λ vertices rows s. (s.vertices ≡ vertices) × (s.drops.items ≡ map drop_in rows) };
+
+    fn visit(&mut self, row: &ByteRecord, index: u64) -> Result<(), FileFault> {
+        self.drops
+            .push(vertex_and_number(row, self.vertices, index)?)?;
+        Ok(())
+    }
+}
 
 /// The drops on a graph of so many vertices that a text means, in order, or its first fault.
 ///
@@ -23,14 +46,10 @@ pub fn drops_of_text(
     ensures { Gives (λ drops. drops_of_text vertices text.now ≡ Some drops.items)
         (λ f. drops_text_fault vertices text.now ≡ Some f) result }
 {
-    let mut records = records_of(alloc, text)?;
-    let mut row = ByteRecord::new(alloc);
-    read_header(&mut records, &mut row, &HEADER)?;
-    let mut drops = Vec::new(alloc);
-    let mut index = 0;
-    while read_record(&mut records, &mut row)? {
-        drops.push(vertex_and_number(&row, vertices, index)?)?;
-        index += 1;
-    }
-    Ok(drops)
+    let mut visitor = Drops {
+        vertices,
+        drops: Vec::new(alloc),
+    };
+    visit_text(alloc, text, &HEADER, &mut visitor)?;
+    Ok(visitor.drops)
 }

@@ -23,6 +23,7 @@ mod drops;
 mod fault;
 mod graph;
 mod guess;
+mod kind;
 mod number;
 mod rows;
 mod schedule;

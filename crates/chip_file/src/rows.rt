@@ -1,62 +1,91 @@
 //! Files of rows: a header, and the rows under it.
 
-ghost use Rattle.std.specs.Prelude.{◌≡◌, ◌⊎◌, ◌<◌, ◌^◌, true, false, length, map, IfOk, OnOk, IfErr};
+ghost use Rattle.std.specs.Prelude.{◌≡◌, ◌≤◌, ◌^◌, ◌∷◌, [], ◌++◌, List, length, map, Some, None, IfOk};
 ghost use Rattle.csv.specs.Records.{fields_of};
-ghost use Rattle.chip_file.specs.Rows.{records_of, has_fields, has_header, rows_under_header};
-ghost use Rattle.chip_file.specs.Standing.{IsOpen, TakesRow, rows_left};
-ghost use Rattle.chip_file.specs.declared.fault.FileFault.TheVariants as fault;
+ghost use Rattle.chip_file.specs.Answer.{Gives};
+ghost use Rattle.chip_file.specs.Rows.{Row, RowFault, records_of, has_fields};
+ghost use Rattle.chip_file.specs.Standing.{IsOpen, TakesRow, VisitsRecords, rows_left};
 
 use crate::fault::FileFault;
 use csv::{ByteRecord, Reader, ReaderBuilder};
 use std::alloc::{AllocError, Global};
 
 /// What `csv` reads of a text.
-pub(crate) type Records<'t> = Reader<&'t [u8]>;
+type Records<'t> = Reader<&'t [u8]>;
 
-/// The records of a text, the header among them.
+/// What is made of the rows of a file, which it visits in order.
+pub(crate) trait RowVisitor {
+    /// What the faults of rows depend on.
+    type Context;
+
+    // The fault of a row.
+    ghost row_fault: { Self.Context → RowFault };
+
+    // It visited these rows.
+    ghost HasVisited: { Self.Context → List Row → Self → Type 0 };
+
+    /// Visits the row with this index, or tells its fault.
+    fn visit(&mut self, row: &ByteRecord, index: u64) -> Result<(), FileFault>
+        ensures { (context : Self.Context) (before : List Row) → HasVisited context before self.old
+            → length before ≡ index
+            → Gives (λ _. (row_fault context before (fields_of row.now) ≡ None)
+            × HasVisited context (before ++ fields_of row.now ∷ []) self.new)
+            (λ f. row_fault context before (fields_of row.now) ≡ Some f) result };
+}
+
+/// Has the rows of a text under this header visited, or tells the text's first fault.
 ///
 /// `csv` keeps two copies of a header, or of the first record where there is none. So it is given one that is empty.
-pub(crate) fn records_of(alloc: Global, text: &[u8]) -> Result<Records<'_>, AllocError>
-    ensures ready { IfOk result IsOpen }
-    ensures rows { IfOk result (λ records. rows_left records ≡ records_of text.now) }
-    ensures few { length text.now < 2 ^ 64 }
+pub(crate) fn visit_text<V: RowVisitor>(
+    alloc: Global,
+    text: &[u8],
+    header: &[&str],
+    visitor: &mut V,
+) -> Result<(), FileFault>
+    ensures { VisitsRecords V.row_fault V.HasVisited (map (λ name. name.now) header.now) (records_of text.now)
+        visitor.old visitor.new result }
 {
     // (Any length is below 2^64.)
     let _length = text.len();
-    let mut records = ReaderBuilder::new().flexible(true).from_reader(alloc, text);
+    let mut builder = ReaderBuilder::new();
+    let mut records = builder.flexible(true).from_reader(alloc, text);
+    let mut row = ByteRecord::new(alloc);
     match records.set_byte_headers(ByteRecord::new(alloc)) {
-        Ok(()) => Ok(records),
-        Err(_) => Err(AllocError),
+        Ok(()) => visit_records(&mut records, &mut row, header, visitor),
+        Err(_) => Err(FileFault::NoMemory),
     }
 }
 
-/// Reads the header, which has exactly these fields.
-pub(crate) fn read_header(
+/// The same of the records that are left.
+fn visit_records<V: RowVisitor>(
     records: &mut Records<'_>,
     row: &mut ByteRecord,
     header: &[&str],
+    visitor: &mut V,
 ) -> Result<(), FileFault>
-    requires { IsOpen records.old }
-    ensures ok { OnOk result (IsOpen records.new
-        × (has_header (map (λ name. name.now) header.now) (rows_left records.old) ≡ true)
-        × (rows_left records.new ≡ rows_under_header (rows_left records.old))) }
-    ensures err { IfErr result (λ f. (f ≡ fault.NoMemory) ⊎ ((f ≡ fault.Header)
-        × (has_header (map (λ name. name.now) header.now) (rows_left records.old) ≡ false))) }
+    requires ready { IsOpen records.old }
+    requires few { length (rows_left records.old) ≤ 2 ^ 64 }
+    ensures { VisitsRecords V.row_fault V.HasVisited (map (λ name. name.now) header.now) (rows_left records.old)
+        visitor.old visitor.new result }
 {
-    if read_record(records, row)? && has_fields(row, header) {
-        Ok(())
-    } else {
-        Err(FileFault::Header)
+    if !read_record(records, row)? {
+        return Err(FileFault::Header);
     }
+    if !has_fields(row, header) {
+        return Err(FileFault::Header);
+    }
+    let mut index = 0;
+    while read_record(records, row)? {
+        visitor.visit(row, index)?;
+        index += 1;
+    }
+    Ok(())
 }
 
 /// Reads the next record into `row`, and says whether there was one.
 ///
 /// The text lies in memory, so that nothing is left to fail but an allocation.
-pub(crate) fn read_record(
-    records: &mut Records<'_>,
-    row: &mut ByteRecord,
-) -> Result<bool, AllocError>
+fn read_record(records: &mut Records<'_>, row: &mut ByteRecord) -> Result<bool, AllocError>
     requires { IsOpen records.old }
     ensures { IfOk result (λ found. IsOpen records.new
         × TakesRow found (fields_of row.new) (rows_left records.old) (rows_left records.new)) }

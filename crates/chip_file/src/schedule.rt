@@ -1,16 +1,17 @@
 //! Schedules as rows of text.
 
-ghost use Rattle.std.specs.Prelude.{◌≡◌, Some, None, IfOk, IfErr};
+ghost use Rattle.std.specs.Prelude.{◌≡◌, map, Some, None, IfOk, IfErr};
 ghost use Rattle.csv.specs.Records.{fields_of};
 ghost use Rattle.chip_file.specs.Answer.{Gives, ReadsText};
-ghost use Rattle.chip_file.specs.Kinds.{kind_named, kind_at};
-ghost use Rattle.chip_file.specs.ScheduleText.{event_kinds, may_be_at, event_of_kind, event_in};
+ghost use Rattle.chip_file.specs.Rows.{by_index};
+ghost use Rattle.chip_file.specs.ScheduleText.{may_be_at, event_of_kind, event_in};
 ghost use Rattle.chip_file.specs.ScheduleText.{event_fault, schedule_text_fault, schedule_of_text};
 ghost use Rattle.chip_file.specs.Source.{IsFresh, ReadsSource};
 
 use crate::fault::FileFault;
+use crate::kind::kind_at;
 use crate::number::number_at;
-use crate::rows::{read_header, read_record, records_of};
+use crate::rows::{RowVisitor, visit_text};
 use crate::source::Source;
 use crate::whole::read_source;
 use chip_graph::{Graph, Limits};
@@ -39,47 +40,23 @@ enum EventKind {
     End,
 }
 
+/// The kinds of events, by their names.
+static KINDS: [(&str, EventKind); 12] = [
+    ("take", EventKind::Take),
+    ("ack", EventKind::Ack),
+    ("fire", EventKind::Fire),
+    ("clear", EventKind::Clear),
+    ("claim", EventKind::Claim),
+    ("put", EventKind::Put),
+    ("halt", EventKind::Halt),
+    ("settle", EventKind::Settle),
+    ("seal", EventKind::Seal),
+    ("read", EventKind::Read),
+    ("feed", EventKind::Feed),
+    ("end", EventKind::End),
+];
+
 impl EventKind {
-    /// The kind of this name.
-    fn from_name(name: &[u8]) -> Option<EventKind>
-        ensures { result ≡ kind_named event_kinds name.now }
-    {
-        if name == "take".as_bytes() {
-            Some(EventKind::Take)
-        } else if name == "ack".as_bytes() {
-            Some(EventKind::Ack)
-        } else if name == "fire".as_bytes() {
-            Some(EventKind::Fire)
-        } else if name == "clear".as_bytes() {
-            Some(EventKind::Clear)
-        } else if name == "claim".as_bytes() {
-            Some(EventKind::Claim)
-        } else if name == "put".as_bytes() {
-            Some(EventKind::Put)
-        } else if name == "halt".as_bytes() {
-            Some(EventKind::Halt)
-        } else if name == "settle".as_bytes() {
-            Some(EventKind::Settle)
-        } else if name == "seal".as_bytes() {
-            Some(EventKind::Seal)
-        } else if name == "read".as_bytes() {
-            Some(EventKind::Read)
-        } else if name == "feed".as_bytes() {
-            Some(EventKind::Feed)
-        } else if name == "end".as_bytes() {
-            Some(EventKind::End)
-        } else {
-            None
-        }
-    }
-
-    /// The kind in a row's field at a column, if it is one.
-    fn at(row: &ByteRecord, column: usize) -> Option<EventKind>
-        ensures { result ≡ kind_at event_kinds column (fields_of row.now) }
-    {
-        EventKind::from_name(row.get(column)?)
-    }
-
     /// Whether an event of this kind may be at this number: a vertex, an edge, or any number for the end of feeding.
     fn may_be_at(self, graph: &Graph, at: u64) -> bool
         ensures { result ≡ may_be_at graph.now self at }
@@ -112,6 +89,26 @@ impl EventKind {
             EventKind::Feed => Event::Feed { edge: at, count },
             EventKind::End => Event::End,
         }
+    }
+}
+
+/// The events of the rows so far, of a schedule for a graph.
+#[derive(Drop)]
+struct Schedule<'g> {
+    graph: &'g Graph,
+    events: Vec<Event>,
+}
+
+impl RowVisitor for Schedule<'_> {
+    type Context = Graph;
+
+    ghost row_fault = { λ graph. by_index (event_fault graph) };
+
+    ghost HasVisited = { λ graph rows s. (s.graph.now ≡ graph) × (s.events.items ≡ map event_in rows) };
+
+    fn visit(&mut self, row: &ByteRecord, index: u64) -> Result<(), FileFault> {
+        self.events.push(event_of(self.graph, row, index)?)?;
+        Ok(())
     }
 }
 
@@ -150,16 +147,12 @@ pub fn schedule_of_text(alloc: Global, text: &[u8], graph: &Graph) -> Result<Vec
     ensures { Gives (λ events. schedule_of_text graph.now text.now ≡ Some events.items)
         (λ f. schedule_text_fault graph.now text.now ≡ Some f) result }
 {
-    let mut records = records_of(alloc, text)?;
-    let mut row = ByteRecord::new(alloc);
-    read_header(&mut records, &mut row, &HEADER)?;
-    let mut events = Vec::new(alloc);
-    let mut index = 0;
-    while read_record(&mut records, &mut row)? {
-        events.push(event_of(graph, &row, index)?)?;
-        index += 1;
-    }
-    Ok(events)
+    let mut visitor = Schedule {
+        graph,
+        events: Vec::new(alloc),
+    };
+    visit_text(alloc, text, &HEADER, &mut visitor)?;
+    Ok(visitor.events)
 }
 
 /// The event of the row with this index.
@@ -171,7 +164,7 @@ fn event_of(graph: &Graph, row: &ByteRecord, index: u64) -> Result<Event, FileFa
     if row.len() != HEADER.len() {
         return Err(FileFault::Row(index));
     }
-    let kind = EventKind::at(row, 0).ok_or(FileFault::Kind(index))?;
+    let kind = kind_at(&KINDS, row, 0).ok_or(FileFault::Kind(index))?;
     let at = number_at(row, 1).ok_or(FileFault::Number(index))?;
     let count = number_at(row, 2).ok_or(FileFault::Number(index))?;
     if !kind.may_be_at(graph, at) {

@@ -3,15 +3,16 @@
 ghost use Rattle.std.specs.Prelude.{◌≡◌, [], length, map, replicate, Some, None, IfOk, IfErr};
 ghost use Rattle.csv.specs.Records.{fields_of};
 ghost use Rattle.chip_file.specs.Answer.{Gives};
-ghost use Rattle.chip_file.specs.Kinds.{kind_named, kind_at};
 ghost use Rattle.chip_file.specs.Numbers.{number_in};
+ghost use Rattle.chip_file.specs.Rows.{by_index};
 ghost use Rattle.chip_file.specs.Source.{IsFresh, ReadsSource};
-ghost use Rattle.chip_file.specs.TraceText.{trace_kinds, row_of_kind, names_edge, trace_row_in, trace_row_fault};
-ghost use Rattle.chip_file.specs.TraceText.{trace_text_fault, traces_of_text, ReadsTraces};
+ghost use Rattle.chip_file.specs.TraceText.{row_of_kind, names_edge, trace_row_in, trace_row_fault};
+ghost use Rattle.chip_file.specs.TraceText.{trace_text_fault, traces_of_text, HaveRecorded, ReadsTraces};
 
 use crate::fault::FileFault;
+use crate::kind::kind_at;
 use crate::number::number_at;
-use crate::rows::{read_header, read_record, records_of};
+use crate::rows::{RowVisitor, visit_text};
 use crate::source::Source;
 use crate::whole::read_source;
 use chip_graph::{Graph, Limits};
@@ -30,25 +31,10 @@ enum TraceKind {
     Fire,
 }
 
+/// The kinds of its rows, by their names.
+static KINDS: [(&str, TraceKind); 2] = [("take", TraceKind::Take), ("fire", TraceKind::Fire)];
+
 impl TraceKind {
-    /// The kind of this name.
-    fn from_name(name: &[u8]) -> Option<TraceKind>
-        ensures { result ≡ kind_named trace_kinds name.now }
-    {
-        match name {
-            b"take" => Some(TraceKind::Take),
-            b"fire" => Some(TraceKind::Fire),
-            _ => None,
-        }
-    }
-
-    /// The kind in a row's field at a column, if it is one.
-    fn at(row: &ByteRecord, column: usize) -> Option<TraceKind>
-        ensures { result ≡ kind_at trace_kinds column (fields_of row.now) }
-    {
-        TraceKind::from_name(row.get(column)?)
-    }
-
     /// The row of this kind; a firing is over no edge.
     fn row(self, edge: u64, count: u64) -> TraceRow
         ensures { result ≡ row_of_kind self edge count }
@@ -57,6 +43,30 @@ impl TraceKind {
             TraceKind::Take => TraceRow::Take { edge, count },
             TraceKind::Fire => TraceRow::Fire { k: count },
         }
+    }
+}
+
+/// The recorded run of each vertex of a graph by the rows so far.
+#[derive(Drop)]
+struct Traces<'g> {
+    graph: &'g Graph,
+    traces: Vec<Vec<TraceRow>>,
+    ghost each: { length traces.items ≡ graph.now.vertices },
+}
+
+impl RowVisitor for Traces<'_> {
+    type Context = Graph;
+
+    ghost row_fault = { λ graph. by_index (trace_row_fault graph) };
+
+    ghost HasVisited = { λ graph rows s. (s.graph.now ≡ graph)
+        × HaveRecorded graph rows (map (λ trace. trace.items) s.traces.items) };
+
+    fn visit(&mut self, row: &ByteRecord, index: u64) -> Result<(), FileFault> {
+        let (vertex, recorded) = row_of(self.graph, row, index)?;
+        let trace = &mut self.traces[vertex as usize];
+        trace.push(recorded)?;
+        Ok(())
     }
 }
 
@@ -103,18 +113,10 @@ pub fn trace_of_text(
         (λ f. trace_text_fault graph.now text.now ≡ Some f) result }
     ensures each { IfOk result (λ traces. length traces.items ≡ graph.now.vertices) }
 {
-    let mut records = records_of(alloc, text)?;
-    let mut row = ByteRecord::new(alloc);
-    read_header(&mut records, &mut row, &HEADER)?;
-    let mut traces = empty_traces(alloc, graph.vertices())?;
-    let mut index = 0;
-    while read_record(&mut records, &mut row)? {
-        let (vertex, recorded) = row_of(graph, &row, index)?;
-        let trace = &mut traces[vertex as usize];
-        trace.push(recorded)?;
-        index += 1;
-    }
-    Ok(traces)
+    let traces = empty_traces(alloc, graph.vertices())?;
+    let mut visitor = Traces { graph, traces };
+    visit_text(alloc, text, &HEADER, &mut visitor)?;
+    Ok(visitor.traces)
 }
 
 /// So many runs of which nothing is recorded.
@@ -139,7 +141,7 @@ fn row_of(graph: &Graph, row: &ByteRecord, index: u64) -> Result<(u64, TraceRow)
     if row.len() != HEADER.len() {
         return Err(FileFault::Row(index));
     }
-    let kind = TraceKind::at(row, 1).ok_or(FileFault::Kind(index))?;
+    let kind = kind_at(&KINDS, row, 1).ok_or(FileFault::Kind(index))?;
     let vertex = number_at(row, 0).ok_or(FileFault::Number(index))?;
     let edge = number_at(row, 2).ok_or(FileFault::Number(index))?;
     let count = number_at(row, 3).ok_or(FileFault::Number(index))?;

@@ -1,20 +1,38 @@
 //! Rows that give vertices numbers.
 
-ghost use Rattle.std.specs.Prelude.{◌≡◌, Some, None, is_some, unwrap_or, IfOk, OnOk, IfErr};
-ghost use Rattle.std.specs.Prelude.{length, map, replicate, slice_index_or, slice_set};
+ghost use Rattle.std.specs.Prelude.{◌≡◌, Some, None, IfOk, IfErr, map, replicate, unwrap_or};
 ghost use Rattle.csv.specs.Records.{fields_of};
 ghost use Rattle.chip_file.specs.Answer.{Gives};
 ghost use Rattle.chip_file.specs.VertexRows.{AreNamed, numbers_of_text, numbers_text_fault};
-ghost use Rattle.chip_file.specs.VertexRows.{row_fault, vertex_row_fault, vertex_in, given_in};
+ghost use Rattle.chip_file.specs.VertexRows.{vertex_row_fault, new_row_fault, vertex_in, given_in};
 
 use crate::fault::FileFault;
 use crate::number::number_at;
-use crate::rows::{read_header, read_record, records_of};
+use crate::rows::{RowVisitor, visit_text};
 use csv::ByteRecord;
 use std::alloc::{AllocError, Global};
 
 /// How many fields a row has.
 const FIELDS: usize = 2;
+
+/// The number of each vertex that a row names.
+impl RowVisitor for Vec<Option<u64>> {
+    type Context = u64;
+
+    ghost row_fault = { new_row_fault };
+
+    ghost HasVisited = { λ vertices rows named. AreNamed vertices rows named.items };
+
+    fn visit(&mut self, row: &ByteRecord, index: u64) -> Result<(), FileFault> {
+        let (vertex, number) = vertex_and_number(row, self.len() as u64, index)?;
+        let named = &mut self[vertex as usize];
+        if named.is_some() {
+            return Err(FileFault::Repeated(index));
+        }
+        *named = Some(number);
+        Ok(())
+    }
+}
 
 /// The number of each of so many vertices that a text with this header means, or its first fault.
 ///
@@ -29,7 +47,8 @@ pub(crate) fn numbers_of_text(
         Gives (λ numbers. numbers_of_text names vertices text.now ≡ Some numbers.items)
         (λ f. numbers_text_fault names vertices text.now ≡ Some f) result }
 {
-    let named = numbers_by_vertex(alloc, text, header, vertices)?;
+    let mut named = no_numbers(alloc, vertices)?;
+    visit_text(alloc, text, header, &mut named)?;
     Ok(numbers_or_none(alloc, &named)?)
 }
 
@@ -54,52 +73,11 @@ pub(crate) fn vertex_and_number(
     Ok((vertex, number))
 }
 
-/// The number of each vertex that a row names.
-fn numbers_by_vertex(
-    alloc: Global,
-    text: &[u8],
-    header: &[&str],
-    vertices: u64,
-) -> Result<Vec<Option<u64>>, FileFault>
-    ensures { let names = map (λ name. name.now) header.now in
-        Gives (λ named. AreNamed names vertices text.now named.items)
-        (λ f. numbers_text_fault names vertices text.now ≡ Some f) result }
-{
-    let mut records = records_of(alloc, text)?;
-    let mut row = ByteRecord::new(alloc);
-    read_header(&mut records, &mut row, header)?;
-    let mut named = no_numbers(alloc, vertices)?;
-    let mut index = 0;
-    while read_record(&mut records, &mut row)? {
-        note_row(&mut named, &row, index)?;
-        index += 1;
-    }
-    Ok(named)
-}
-
 /// No number yet for any vertex.
 fn no_numbers(alloc: Global, vertices: u64) -> Result<Vec<Option<u64>>, AllocError>
     ensures { IfOk result (λ named. named.items ≡ replicate vertices None) }
 {
     vec![in alloc; None; vertices as usize]
-}
-
-/// Notes what the row with this index gives; `named` has the numbers of the vertices that the rows before it named.
-fn note_row(named: &mut [Option<u64>], row: &ByteRecord, index: u64) -> Result<(), FileFault>
-    ensures ok { OnOk result (
-        (row_fault (length named.old) (λ v. is_some (slice_index_or named.old v None)) index (fields_of row.now) ≡ None)
-        × (named.new ≡ slice_set named.old (vertex_in (fields_of row.now)) (Some (given_in (fields_of row.now))))) }
-    ensures err { IfErr result (λ f.
-        row_fault (length named.old) (λ v. is_some (slice_index_or named.old v None)) index (fields_of row.now)
-        ≡ Some f) }
-{
-    let (vertex, number) = vertex_and_number(row, named.len() as u64, index)?;
-    let vertex = vertex as usize;
-    if named[vertex].is_some() {
-        return Err(FileFault::Repeated(index));
-    }
-    named[vertex] = Some(number);
-    Ok(())
 }
 
 /// The number of each vertex, 0 for one that no row named.

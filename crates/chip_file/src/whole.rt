@@ -32,11 +32,11 @@ pub fn read_source<R: Read>(
     let mut bytes = Vec::new(alloc);
     let mut chunk = [0u8; CHUNK];
     while bytes.len() as u64 <= most {
-        let count = source.read(&mut chunk).map_err(|_| FileFault::Read)?;
-        if count == 0 {
-            return Ok(bytes);
+        match source.read(&mut chunk) {
+            Ok(0) => return Ok(bytes),
+            Ok(count) => bytes.extend_from_slice(&chunk[..count])?,
+            Err(_) => return Err(FileFault::Read),
         }
-        bytes.extend_from_slice(&chunk[..count])?;
     }
     Err(FileFault::TooLong)
 }

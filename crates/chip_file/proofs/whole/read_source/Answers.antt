@@ -3,8 +3,8 @@ use Rattle.std.proofs.lemmas.Grind.{common_steps}
 use Rattle.chip_file.proofs.ReadLemmas.{taken_more}
 use Rattle.chip_file.proofs.whole.read_source.Goals as goal
 
-pub returns-in_err-extend_from_slice-clause-whole : goal.returns-in_err-extend_from_slice-clause-whole
-returns-in_err-extend_from_slice-clause-whole g c = record {
+pub returns-in_err-extend_from_slice-in-Ok-clause-whole : goal.returns-in_err-extend_from_slice-in-Ok-clause-whole
+returns-in_err-extend_from_slice-in-Ok-clause-whole g c = record {
   known = first_of (search rules, grind (arith, common_steps));
   end = first_of (search rules, grind (arith, common_steps));
   read = first_of (search rules, grind (arith, common_steps));

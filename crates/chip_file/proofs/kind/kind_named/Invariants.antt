@@ -1,0 +1,7 @@
+use Rattle.std.proofs.Common.{◌≡◌, drop}
+use Rattle.chip_file.specs.Kinds.{kind_named, named_kinds}
+use Rattle.chip_file.proofs.kind.kind_named.Given as goal
+
+abbrev pub invariant-loop-kind_name : goal.invariant-loop-kind_name
+invariant-loop-kind_name g l =
+    kind_named (named_kinds l.kinds) l.name ≡ kind_named (named_kinds (drop l.kind_name-index l.kinds)) l.name

@@ -3,9 +3,10 @@
 use Rattle.std.proofs.Common.{◌≡◌, ℕ, ◌⊎◌, Bool, true, false, List, [], ◌∷◌, ◌++◌, length, Option, None, Some, Result, Ok}
 use Rattle.std.proofs.Common.{Err, refl, sym, subst, inl, inr, ◌+◌, ◌≤◌, take, arith, length-append}
 use Rattle.std.proofs.KnownBytes.{Consumes-trans, Consumes-kept}
+use Rattle.std.proofs.lemmas.Grind.{common_steps}
 use Rattle.std.specs.Io.{ReadsAtMost}
 use Rattle.std.specs.Io.KnownBytes.{Consumes, ReadConsumes}
-use Rattle.std.specs.Prelude.{◌==◌, nat_lt, nat_le, ◌&&◌, not, is_some, sum, IfSome}
+use Rattle.std.specs.Prelude.{◌==◌, nat_le, ◌&&◌, is_some, sum, IfSome}
 use Rattle.std.specs.Global.{Vec}
 use Rattle.std.specs.Result.{IsErrAnd}
 use Rattle.chip_graph.specs.Limits.{SizeLimits, max_total}
@@ -21,13 +22,13 @@ use Rattle.chip_file.specs.Source.{ReadsSource, Tells, bytes_left, last_of_whole
 use Rattle.chip_file.specs.Rows.{Row, records_of, has_header, rows_under_header, first_row_fault, records_fault}
 use Rattle.chip_file.specs.Rows.{by_index}
 use Rattle.chip_file.specs.ChipsText.{chips_text_fault, chips_of_rows}
-use Rattle.chip_file.specs.VertexRows.{new_row_fault, number_named, vertex_in}
+use Rattle.chip_file.specs.VertexRows.{new_row_fault}
 use Rattle.chip_file.specs.ScheduleText.{schedule_text_fault, event_fault, event_kinds, may_be_at}
 use Rattle.chip_file.specs.ScheduleText as schedule
 use Rattle.chip_file.specs.GraphText.{IsGraphTextFault}
 use Rattle.chip_file.specs.Kinds.{kind_at}
 use Rattle.chip_file.specs.Numbers.{number_at, number_in}
-use Rattle.chip_file.specs.TraceText.{trace_text_fault, trace_row_fault, trace_kinds, trace_row_in, names_edge}
+use Rattle.chip_file.specs.TraceText.{trace_text_fault, trace_row_fault}
 
 -- a read into a buffer takes no more than the buffer has room for, above what was taken before it
 pub taken_more : {E : Type 0} (most : ℕ) (a b c : Option (List ℕ)) (done buf : List ℕ) (r : Result ℕ E)
@@ -63,16 +64,6 @@ first_of_text : (first later : Option FileFault) → IsOfText first → IsOfText
 first_of_text None later no_first no_later = no_later
 first_of_text (Some f) later no_first no_later = no_first
 
--- the same of four tests, one after another
-four_of_text : (a b c d : Bool) (f g h i : FileFault) → is_of_source f ≡ false → is_of_source g ≡ false
-    → is_of_source h ≡ false → is_of_source i ≡ false
-    → IsOfText (first_of_faults (fault_unless a f)
-    (first_of_faults (fault_unless b g) (first_of_faults (fault_unless c h) (fault_unless d i))))
-four_of_text a b c d f g h i no_f no_g no_h no_i =
-    first_of_text _ _ (unless_of_text a f no_f)
-    (first_of_text _ _ (unless_of_text b g no_g)
-    (first_of_text _ _ (unless_of_text c h no_h) (unless_of_text d i no_i)))
-
 rows_of_text : (row_fault : List Row → Row → Option FileFault) (before rows : List Row)
     → ((before : List Row) (row : Row) → IsOfText (row_fault before row))
     → IsOfText (first_row_fault row_fault before rows)
@@ -87,37 +78,32 @@ records_of_text header row_fault records each =
     first_of_text _ _ (unless_of_text (has_header header records) fault.Header refl)
     (rows_of_text row_fault [] (rows_under_header records) each)
 
+vertex_row_alone : (vertices : ℕ) (before : List Row) (row : Row) → IsOfText (new_row_fault vertices before row)
+vertex_row_alone vertices before row f e = grind (arith, common_steps)
+
+event_alone : (G : Multigraph) (index : ℕ) (row : Row) → IsOfText (event_fault G index row)
+event_alone G index row =
+    first_of_text _ _ (unless_of_text (length row == 3) (fault.Row index) refl)
+    (first_of_text _ _ (unless_of_text (is_some (kind_at event_kinds 0 row)) (fault.Kind index) refl)
+    (first_of_text _ _
+    (unless_of_text (is_some (number_at 1 row) && is_some (number_at 2 row)) (fault.Number index) refl)
+    (unless_of_text (may_be_at G (schedule.kind_in row) (number_in 1 row)) (fault.Vertex index) refl)))
+
+trace_row_alone : (G : Multigraph) (index : ℕ) (row : Row) → IsOfText (trace_row_fault G index row)
+trace_row_alone G index row f e = grind (arith, common_steps)
+
 pub chips_of_text_alone : (vertices : ℕ) (text : List ℕ) → IsOfText (chips_text_fault vertices text)
 chips_of_text_alone vertices text =
-    first_of_text _ _
-    (records_of_text _ (new_row_fault vertices) (records_of text) (λ before row.
-    first_of_text _ _
-    (first_of_text _ _ (unless_of_text (length row == 2) (fault.Row (length before)) refl)
-    (first_of_text _ _
-    (unless_of_text (is_some (number_at 0 row) && is_some (number_at 1 row)) (fault.Number (length before)) refl)
-    (unless_of_text (nat_lt (vertex_in row) vertices) (fault.Vertex (length before)) refl)))
-    (unless_of_text (not (is_some (number_named before (vertex_in row)))) (fault.Repeated (length before)) refl)))
+    first_of_text _ _ (records_of_text _ (new_row_fault vertices) (records_of text) (vertex_row_alone vertices))
     (unless_of_text (nat_le (sum (chips_of_rows vertices text)) max_total) fault.Total refl)
 
 pub schedule_of_text_alone : (G : Multigraph) (text : List ℕ) → IsOfText (schedule_text_fault G text)
-schedule_of_text_alone G text =
-    records_of_text _ (by_index (event_fault G)) (records_of text) (λ before row.
-    four_of_text (length row == 3) (is_some (kind_at event_kinds 0 row)) (is_some (number_at 1 row)
-    && is_some (number_at 2 row))
-    (may_be_at G (schedule.kind_in row) (number_in 1 row))
-    (fault.Row (length before)) (fault.Kind (length before)) (fault.Number (length before))
-    (fault.Vertex (length before))
-    refl refl refl refl)
+schedule_of_text_alone G text = records_of_text _ (by_index (event_fault G)) (records_of text)
+    (λ before row. event_alone G (length before) row)
 
 pub trace_of_text_alone : (G : Multigraph) (text : List ℕ) → IsOfText (trace_text_fault G text)
-trace_of_text_alone G text =
-    records_of_text _ (by_index (trace_row_fault G)) (records_of text) (λ before row.
-    four_of_text (length row == 4) (is_some (kind_at trace_kinds 1 row))
-    (is_some (number_at 0 row) && is_some (number_at 2 row) && is_some (number_at 3 row))
-    (nat_lt (number_in 0 row) G.vertices && names_edge G (trace_row_in row))
-    (fault.Row (length before)) (fault.Kind (length before)) (fault.Number (length before))
-    (fault.Vertex (length before))
-    refl refl refl refl)
+trace_of_text_alone G text = records_of_text _ (by_index (trace_row_fault G)) (records_of text)
+    (λ before row. trace_row_alone G (length before) row)
 
 pub graph_of_text_alone : (limits : SizeLimits) (text : List ℕ) (f : FileFault) → IsGraphTextFault limits text f
     → is_of_source f ≡ false

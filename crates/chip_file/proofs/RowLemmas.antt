@@ -102,22 +102,15 @@ takes_by cfg s s2 xs ys false fields None e h = none_left cfg s xs e
 takes_by cfg s s2 xs ys true fields (Some p) e h = rw (h.1, h.2, h.3) (after_first cfg s xs p e)
 takes_by cfg s s2 xs ys false fields (Some p) e h = cc h.0
 
-takes_from : (cfg : Config) (s s2 : State) (xs : List ℕ) (after : Option (List ℕ)) (found : Bool) (fields : Row)
-    → ReadsNext cfg s (Some xs) after found fields s2
-    → IsSome after × TakesRow found fields (records_from cfg (length xs + 1) s xs)
-    (records_from cfg (length (unwrap_or after []) + 1) s2 (unwrap_or after []))
-takes_from cfg s s2 xs None found fields h = absurd h
-takes_from cfg s s2 xs (Some ys) found fields h =
-    (refl, takes_by cfg s s2 xs ys found fields (next_record cfg s [] [] xs) refl h)
-
--- the same, where it is only known that the bytes are known
-takes_some : (cfg : Config) (s s2 : State) (before after : Option (List ℕ)) (found : Bool) (fields : Row)
+takes_from : (cfg : Config) (s s2 : State) (before after : Option (List ℕ)) (found : Bool) (fields : Row)
     → IsSome before
     → ReadsNext cfg s before after found fields s2
     → IsSome after × TakesRow found fields (records_from cfg (length (unwrap_or before []) + 1) s (unwrap_or before []))
     (records_from cfg (length (unwrap_or after []) + 1) s2 (unwrap_or after []))
-takes_some cfg s s2 None after found fields some h = cc some
-takes_some cfg s s2 (Some xs) after found fields some h = takes_from cfg s s2 xs after found fields h
+takes_from cfg s s2 None after found fields some h = cc some
+takes_from cfg s s2 (Some xs) None found fields some h = absurd h
+takes_from cfg s s2 (Some xs) (Some ys) found fields some h =
+    (refl, takes_by cfg s s2 xs ys found fields (next_record cfg s [] [] xs) refl h)
 
 -- what a read of an open reader does to the rows that are left
 pub takes : (old new : Records) (found : Bool) (fields : Row) → IsOpen old
@@ -125,18 +118,15 @@ pub takes : (old new : Records) (found : Bool) (fields : Row) → IsOpen old
     → took_first new ≡ true → is_flexible new ≡ is_flexible old
     → IsOpen new × TakesRow found fields (rows_left old) (rows_left new)
 takes old new found fields was r first flexible =
-    let t = takes_some default_config old.state new.state (source old) (source new) found fields was.source
-    (rw r.1 (rw was.config at r.0)) in (
-      record {
-        config = r.2 ∙ was.config;
-        trim = r.3 ∙ was.trim;
-        flexible = flexible
-            ∙ was.flexible;
-        ready = inl first;
-        source = t.0;
-      },
-      t.1,
-    )
+    let t = takes_from default_config old.state new.state (source old) (source new) found fields was.source
+    (rw r.1 (rw was.config at r.0)) in
+    let open_new : IsOpen new = record {
+      config = r.2 ∙ was.config;
+      trim = r.3 ∙ was.trim;
+      flexible = flexible ∙ was.flexible;
+      ready = inl first;
+      source = t.0;
+    } in (open_new, t.1)
 
 -- ---- how many records a text has
 

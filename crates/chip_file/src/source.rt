@@ -9,7 +9,7 @@ use std::io;
 use std::io::Read;
 
 /// How the last read of an input went.
-#[derive(Clone, Copy, Debug, PartialEq, Eq)]
+#[derive(Clone, Copy, PartialEq, Eq)]
 pub enum LastRead {
     /// No read was made yet.
     NotYet,

@@ -1,7 +1,7 @@
 ghost use Rattle.std.specs.Prelude.{◌≡◌, ◌≤◌, ℕ, length, slice_index, IfOk};
 
 use crate::hierarchy::{Hierarchy, Kind};
-use crate::level::{Level, Link, Row, narrow};
+use crate::level::{Level, Link, narrow};
 use crate::solver::{Progress, Target};
 use crate::tuning::{STALLED_STEPS, WALL_SPACING};
 use chip_graph::Graph;
@@ -10,9 +10,9 @@ use std::num::saturating_f64_to_i64;
 
 /// What is known of a vertex while counts are burnt.
 #[derive(Clone, Copy)]
-struct Vertex {
+pub(crate) struct Vertex {
     /// How often it fires beyond what it had fired when the search began.
-    fires: i64,
+    pub(crate) fires: i64,
     /// What comes in where each vertex that unfires fires once.
     comes: i64,
     /// Whether it burnt.
@@ -24,8 +24,8 @@ struct Vertex {
 /// Counts that are lowered until a test is passed.
 ///
 /// On one-way graphs the test is that each vertex that fires lacks one chip at most to fire once more. On others it is
-/// the burning test in reverse: each vertex that fires unfires once, all at once, and then those that have the chips for
-/// it fire again, one after the other: they burn. Those that do not burn are lower by one firing from then on.
+/// the burning test in reverse: each vertex that fires unfires once, and then those that have the chips for it fire
+/// again, one after the other: they burn. Those that do not burn are lower by one firing from then on.
 #[derive(Drop)]
 pub(crate) struct Burning<'a> {
     hierarchy: &'a Hierarchy,
@@ -45,15 +45,25 @@ pub(crate) struct Burning<'a> {
     /// In how many of them in a row no vertex burnt.
     stalled: u64,
     /// How many vertices unfired in the last one.
-    unfired: u64,
+    pub(crate) unfired: u64,
     /// How many of them did not burn.
-    unburnt: u64,
+    pub(crate) unburnt: u64,
 }
 
 impl Vertex {
+    /// It does not fire.
+    fn at_rest() -> Vertex {
+        Vertex {
+            fires: 0,
+            comes: 0,
+            is_burnt: false,
+            is_pinned: false,
+        }
+    }
+
     /// Whether it takes a firing back.
     #[inline]
-    fn unfires(&self) -> bool {
+    pub(crate) fn unfires(&self) -> bool {
         self.fires > 0 && !self.is_pinned
     }
 
@@ -65,14 +75,9 @@ impl Vertex {
 }
 
 impl<'a> Burning<'a> {
-    /// Begins with these counts, rounded down; `None` where the position that they lead to does not fit 61 bits.
-    pub(crate) fn new(
-        alloc: Global,
-        hierarchy: &'a Hierarchy,
-        target: Target<'_>,
-        counts: &[f64],
-    ) -> Result<Option<Burning<'a>>, AllocError> {
-        let mut burning = Burning {
+    /// Nothing to burn yet.
+    pub(crate) fn new(alloc: Global, hierarchy: &'a Hierarchy) -> Burning<'a> {
+        Burning {
             hierarchy,
             vertices: Vec::new(alloc),
             slacks: Vec::new(alloc),
@@ -84,24 +89,50 @@ impl<'a> Burning<'a> {
             stalled: 0,
             unfired: 0,
             unburnt: 0,
-        };
-        let given = target.game.start().iter().zip(target.fired).zip(counts);
-        for (row, ((chips, fired), count)) in hierarchy.finest.rows.iter().zip(given) {
-            let left = i128::from(*chips).wrapping_sub(times(row.degree, *count));
-            let left = left.wrapping_add(inflow(&hierarchy.finest, row, counts));
-            let Ok(slack) = i64::try_from(left) else {
-                return Ok(None);
-            };
-            burning.slacks.push(slack)?;
-            burning.vertices.push(Vertex {
-                fires: floor(*count).wrapping_sub(fired.cast_signed()),
-                comes: 0,
-                is_burnt: false,
-                is_pinned: false,
-            })?;
         }
-        burning.begin_steps();
-        Ok(Some(burning))
+    }
+
+    /// Begins with these counts, rounded down; whether the position that they lead to fits 64 bits.
+    pub(crate) fn begin(
+        &mut self,
+        alloc: Global,
+        target: Target<'_>,
+        counts: &[f64],
+    ) -> Result<bool, AllocError> {
+        self.end(alloc);
+        let vertices = self.hierarchy.finest.rows.len();
+        self.vertices = vec![in alloc; Vertex::at_rest(); vertices]?;
+        self.slacks = vec![in alloc; 0; vertices]?;
+        if !self.count(target, counts) {
+            return Ok(false);
+        }
+        self.begin_steps();
+        Ok(true)
+    }
+
+    /// Keeps no vertex any more.
+    pub(crate) fn end(&mut self, alloc: Global) {
+        self.vertices = Vec::new(alloc);
+        self.slacks = Vec::new(alloc);
+        self.waiting = Vec::new(alloc);
+    }
+
+    /// Finds how often each vertex fires and what that leaves it, as far as this fits 64 bits; whether it does.
+    fn count(&mut self, target: Target<'_>, counts: &[f64]) -> bool {
+        let chips = target.game.start();
+        let fired = target.fired;
+        let slacks = self.slacks.as_mut_slice();
+        for (vertex, own) in self.vertices.iter_mut().enumerate() {
+            if vertex < chips.len() && vertex < fired.len() && vertex < slacks.len() {
+                let (fires, left) = left_by(&self.hierarchy.finest, chips[vertex], counts, vertex);
+                own.fires = fires.wrapping_sub(fired[vertex].cast_signed());
+                let Ok(slack) = i64::try_from(left) else {
+                    return false;
+                };
+                slacks[vertex] = slack;
+            }
+        }
+        true
     }
 
     /// Finds what comes in from all that unfire, of which none is unburnt.
@@ -112,12 +143,7 @@ impl<'a> Burning<'a> {
         self.looks = 0;
         let mut looks = 0u64;
         for vertex in 0..self.vertices.len() {
-            let mut comes = 0i64;
-            for link in self.hierarchy.finest.links_of(vertex) {
-                if self.unfires(link.vertex as usize) {
-                    comes = comes.wrapping_add(link.chips());
-                }
-            }
+            let comes = self.inflow(vertex);
             if let Some(own) = self.vertices.get_mut(vertex) {
                 own.comes = comes;
                 own.is_burnt = true;
@@ -128,28 +154,31 @@ impl<'a> Burning<'a> {
             }
             let links = self.hierarchy.outs().links_of(vertex).len() as u64;
             looks = looks.saturating_add(links).saturating_add(2);
-            if comes > 0 || self.unfires(vertex) {
+            if comes > 0 || self.at(vertex).unfires() {
                 self.end = vertex.saturating_add(1);
                 self.looks = looks;
             }
         }
     }
 
-    /// Whether a vertex takes a firing back.
-    #[inline]
-    fn unfires(&self, vertex: usize) -> bool {
-        self.vertices
-            .get(vertex)
-            .is_some_and(|vertex| vertex.unfires())
+    /// What comes into a vertex where each that unfires fires once.
+    fn inflow(&self, vertex: usize) -> i64 {
+        let mut comes = 0i64;
+        for link in self.hierarchy.finest.links_of(vertex) {
+            if self.at(link.vertex as usize).unfires() {
+                comes = comes.wrapping_add(link.chips());
+            }
+        }
+        comes
     }
 
-    /// What one firing of a vertex sends away.
+    /// What is known of a vertex.
     #[inline]
-    pub(crate) fn degree(&self, vertex: usize) -> i64 {
-        match self.hierarchy.finest.rows.get(vertex) {
-            Some(row) => row.degree,
-            None => 0,
-        }
+    pub(crate) fn at(&self, vertex: usize) -> Vertex {
+        self.vertices
+            .get(vertex)
+            .copied()
+            .unwrap_or(Vertex::at_rest())
     }
 
     /// Lowers the counts once, where they do not pass the test.
@@ -162,7 +191,10 @@ impl<'a> Burning<'a> {
                 Progress::Converged
             });
         }
-        self.unfire_all()?;
+        self.unfired = 0;
+        for vertex in self.first..self.end {
+            self.unfire(vertex)?;
+        }
         self.burn()?;
         if self.unburnt == 0 {
             return Ok(Progress::Converged);
@@ -179,43 +211,35 @@ impl<'a> Burning<'a> {
         })
     }
 
-    /// Has each vertex that fires take a firing back. Those that are unburnt lose the one that they took back before.
-    fn unfire_all(&mut self) -> Result<(), AllocError> {
-        self.unfired = 0;
-        for vertex in self.first..self.end {
-            let gained = self.lower(vertex)?;
-            let (Some(own), Some(slack)) = (
-                self.vertices.get_mut(vertex),
-                self.slacks.get_mut(vertex),
-            ) else {
-                continue;
-            };
-            *slack = slack.wrapping_add(gained).wrapping_sub(own.comes);
+    /// Has a vertex take a firing back where it fires. If it is unburnt, it loses the one that it took back before.
+    #[inline]
+    fn unfire(&mut self, vertex: usize) -> Result<(), AllocError> {
+        let Some(own) = self.vertices.get_mut(vertex) else {
+            return Ok(());
+        };
+        let mut gained = 0;
+        if own.is_unburnt() {
+            gained = self.hierarchy.finest.degree(vertex);
+            own.fires = own.fires.wrapping_sub(1);
+            if own.fires == 0 {
+                self.stop_unfiring(vertex)?;
+            }
+        }
+        if vertex < self.vertices.len() && vertex < self.slacks.len() {
+            let own = &mut self.vertices[vertex];
             own.is_burnt = false;
+            let slack = self.slacks[vertex]
+                .wrapping_add(gained)
+                .wrapping_sub(own.comes);
+            self.slacks[vertex] = slack;
             if own.unfires() {
                 self.unfired = self.unfired.saturating_add(1);
-                if *slack >= 0 {
+                if slack >= 0 {
                     self.waiting.push(narrow(vertex))?;
                 }
             }
         }
         Ok(())
-    }
-
-    /// Has a vertex that is unburnt lose the firing that it took back; the chips that it has more by that.
-    #[inline]
-    fn lower(&mut self, vertex: usize) -> Result<i64, AllocError> {
-        let Some(own) = self.vertices.get_mut(vertex) else {
-            return Ok(0);
-        };
-        if !own.is_unburnt() {
-            return Ok(0);
-        }
-        own.fires = own.fires.wrapping_sub(1);
-        if own.fires == 0 {
-            self.stop_unfiring(vertex)?;
-        }
-        Ok(self.degree(vertex))
     }
 
     /// Has a vertex whose firings are used up take none back from now on, where those below it have done so.
@@ -225,7 +249,7 @@ impl<'a> Burning<'a> {
                 head.comes = head.comes.wrapping_sub(link.chips());
             }
             if (link.vertex as usize) < vertex {
-                bring(&self.vertices, &mut self.slacks, &mut self.waiting, *link)?;
+                self.bring(*link)?;
             }
         }
         Ok(())
@@ -244,7 +268,22 @@ impl<'a> Burning<'a> {
                 own.is_burnt = true;
             }
             for link in outs.links_of(vertex as usize) {
-                bring(&self.vertices, &mut self.slacks, &mut self.waiting, *link)?;
+                self.bring(*link)?;
+            }
+        }
+        Ok(())
+    }
+
+    /// Brings a vertex what another one sends it along a link, and has it wait where it may burn by that.
+    #[inline]
+    fn bring(&mut self, link: Link) -> Result<(), AllocError> {
+        let head = link.vertex as usize;
+        if head < self.slacks.len() {
+            let before = self.slacks[head];
+            let slack = before.wrapping_add(link.chips());
+            self.slacks[head] = slack;
+            if before < 0 && slack >= 0 && self.at(head).unfires() {
+                self.waiting.push(link.vertex)?;
             }
         }
         Ok(())
@@ -252,15 +291,16 @@ impl<'a> Burning<'a> {
 
     /// Fires a vertex so often, or takes so many firings back where the number is negative.
     fn fire(&mut self, vertex: usize, k: i64) {
-        let sent = self.degree(vertex).wrapping_mul(k);
+        let sent = self.hierarchy.finest.degree(vertex).wrapping_mul(k);
         if let Some(own) = self.vertices.get_mut(vertex) {
             own.fires = own.fires.wrapping_add(k);
         }
-        if let Some(slack) = self.slacks.get_mut(vertex) {
-            *slack = slack.wrapping_sub(sent);
+        let slacks = self.slacks.as_mut_slice();
+        if vertex < slacks.len() {
+            slacks[vertex] = slacks[vertex].wrapping_sub(sent);
         }
         for link in self.hierarchy.outs().links_of(vertex) {
-            if let Some(slack) = self.slacks.get_mut(link.vertex as usize) {
+            if let Some(slack) = slacks.get_mut(link.vertex as usize) {
                 *slack = slack.wrapping_add(link.chips().wrapping_mul(k));
             }
         }
@@ -271,8 +311,8 @@ impl<'a> Burning<'a> {
     fn earn_all(&mut self) -> bool {
         let mut any = false;
         for vertex in self.first..self.end {
-            let degree = self.degree(vertex);
-            let fires = self.vertices.get(vertex).map_or(0, |own| own.fires);
+            let degree = self.hierarchy.finest.degree(vertex);
+            let fires = self.at(vertex).fires;
             let chips = self.slacks.get(vertex).copied().unwrap_or(0);
             let lacks = degree.wrapping_sub(1).wrapping_sub(chips);
             if fires <= 0 || lacks <= 0 || degree <= 0 {
@@ -300,43 +340,41 @@ impl<'a> Burning<'a> {
     /// The chips of the firings that unburnt vertices lose next, up to 2^64 - 1.
     pub(crate) fn unburnt_chips(&self) -> u64 {
         let mut chips = 0u64;
-        for (own, row) in self.vertices.iter().zip(&self.hierarchy.finest.rows) {
+        for (vertex, own) in self.vertices.iter().enumerate() {
             if own.is_unburnt() {
-                chips = chips.saturating_add(row.degree.unsigned_abs());
+                chips = chips.saturating_add(self.hierarchy.finest.degree(vertex).unsigned_abs());
             }
         }
         chips
     }
 
-    /// Whether more than a quarter of those that unfired last did not burn.
-    pub(crate) fn is_far(&self) -> bool {
-        self.unburnt > self.unfired / 4
-    }
-
-    /// The chips that the counts leave a vertex that may take a firing back, and how often it fires.
-    pub(crate) fn sample(&self, vertex: usize) -> Option<(i64, i64)> {
-        let own = self.vertices.get(vertex)?;
-        let slack = self.slacks.get(vertex)?;
-        if !own.unfires() {
-            return None;
+    /// The chips that the counts leave a vertex that takes a firing back.
+    pub(crate) fn chips(&self, vertex: usize) -> i64 {
+        let slack = self.slacks.get(vertex).copied().unwrap_or(0);
+        if self.at(vertex).is_burnt {
+            slack
+        } else {
+            slack.wrapping_add(self.hierarchy.finest.degree(vertex))
         }
-        let lost = if own.is_burnt { 0 } else { self.degree(vertex) };
-        Some((slack.wrapping_add(lost), own.fires))
     }
 
     /// Whether a vertex is legal, where a test is passed.
     pub(crate) fn leaves_some_legal(&self) -> bool {
-        let mut rows = self.hierarchy.finest.rows.iter().zip(&self.slacks);
-        rows.any(|(row, chips)| row.degree > 0 && *chips >= row.degree)
+        for (vertex, chips) in self.slacks.iter().enumerate() {
+            let degree = self.hierarchy.finest.degree(vertex);
+            if degree > 0 && *chips >= degree {
+                return true;
+            }
+        }
+        false
     }
 
     /// Fires each vertex so often more, where a test is passed, up to the limit.
     pub(crate) fn raise(&mut self, k: i64, target: Target<'_>) {
         for (vertex, fired) in target.fired.iter().enumerate() {
-            if self.degree(vertex) > 0 {
-                let fires = self.vertices.get(vertex).map_or(0, |own| own.fires);
+            if self.hierarchy.finest.degree(vertex) > 0 {
                 let room = target.game.limit().saturating_sub(*fired).cast_signed();
-                self.fire(vertex, k.min(room.wrapping_sub(fires)));
+                self.fire(vertex, k.min(room.wrapping_sub(self.at(vertex).fires)));
             }
         }
         self.begin_steps();
@@ -363,50 +401,30 @@ impl<'a> Burning<'a> {
     {
         let mut counts = Vec::new(alloc);
         for (vertex, fired) in fired.iter().enumerate() {
-            let more = self.vertices.get(vertex).map_or(0, |own| own.fires);
-            let count = fired.saturating_add(more.max(0).cast_unsigned());
+            let more = self.at(vertex).fires.max(0).cast_unsigned();
+            let count = fired.saturating_add(more);
             counts.push(count.min(limit))?;
         }
         Ok(counts)
     }
 }
 
-/// A count, rounded down.
-fn floor(count: f64) -> i64 {
-    saturating_f64_to_i64(count.floor())
-}
-
-/// So many chips, as often as a count says.
-fn times(chips: i64, count: f64) -> i128 {
-    i128::from(chips).wrapping_mul(i128::from(floor(count)))
-}
-
-/// What these counts bring into a vertex.
-fn inflow(level: &Level, row: &Row, counts: &[f64]) -> i128 {
-    let mut sum = 0i128;
-    for link in row.links(&level.links) {
-        if let Some(count) = counts.get(link.vertex as usize) {
-            sum = sum.wrapping_add(times(link.chips(), *count));
-        }
+/// How often a vertex fires by these counts, rounded down, and the chips that they leave it.
+fn left_by(level: &Level, chips: u64, counts: &[f64], vertex: usize) -> (i64, i128) {
+    let own = floor(counts, vertex);
+    let sent = i128::from(level.degree(vertex)).wrapping_mul(i128::from(own));
+    let mut left = i128::from(chips).wrapping_sub(sent);
+    for link in level.links_of(vertex) {
+        let times = i128::from(floor(counts, link.vertex as usize));
+        left = left.wrapping_add(i128::from(link.mult).wrapping_mul(times));
     }
-    sum
+    (own, left)
 }
 
-/// Brings a vertex what another one sends it along a link, and has it wait where it may burn by that.
-#[inline]
-fn bring(
-    vertices: &[Vertex],
-    slacks: &mut [i64],
-    waiting: &mut Vec<u32>,
-    link: Link,
-) -> Result<(), AllocError> {
-    let head = link.vertex as usize;
-    if let Some(slack) = slacks.get_mut(head) {
-        let before = *slack;
-        *slack = before.wrapping_add(link.chips());
-        if before < 0 && *slack >= 0 && vertices.get(head).is_some_and(|head| head.unfires()) {
-            waiting.push(link.vertex)?;
-        }
+/// The count of a vertex, rounded down.
+fn floor(counts: &[f64], vertex: usize) -> i64 {
+    match counts.get(vertex) {
+        Some(count) => saturating_f64_to_i64(count.floor()),
+        None => 0,
     }
-    Ok(())
 }

@@ -1,7 +1,7 @@
 ghost use Rattle.std.specs.Prelude.{◌≡◌, ◌<◌, length};
 
 use crate::hierarchy::Kind;
-use crate::level::{Level, Link, Row};
+use crate::level::{Level, Link, Row, gather};
 use std::alloc::{AllocError, Global};
 
 /// What is asked of the count of a vertex.
@@ -41,6 +41,15 @@ enum Order {
 }
 
 impl Unknown {
+    /// Nothing is asked of a count within these bounds.
+    fn within(low: f64, high: f64) -> Unknown {
+        Unknown {
+            rhs: 0.0,
+            low,
+            high,
+        }
+    }
+
     /// A count, or the bound that it is beyond.
     #[inline]
     fn clamp(&self, count: f64) -> f64 {
@@ -61,6 +70,14 @@ impl Unknown {
             own > self.low
         }
     }
+
+    /// Asks of the count of an aggregate what is asked of a member that has this residual and count.
+    #[inline]
+    fn add(&mut self, member: &Unknown, had: Before) {
+        self.rhs += had.residual;
+        self.low = self.low.max(member.low - had.count);
+        self.high = self.high.min(member.high - had.count);
+    }
 }
 
 /// A V-cycle over these problems, of which each is on the aggregates of the one before: smooths the counts, corrects
@@ -70,19 +87,26 @@ pub(crate) fn v_cycle(problems: &mut [Problem<'_>], kind: Kind) {
         return;
     };
     fine.smooth(Order::RedBlack);
-    if let Some(coarse) = coarser.first_mut() {
-        fine.restrict(coarse);
-    }
-    if coarser.is_empty() {
+    let Some(coarse) = coarser.first_mut() else {
         return;
-    }
+    };
+    fine.restrict(coarse);
     v_cycle(coarser, kind);
     if let Some(coarse) = coarser.first() {
-        fine.prolong(coarse);
+        fine.prolong(&coarse.counts);
     }
     fine.smooth(Order::Ascending);
     fine.over_correct(kind);
     fine.smooth(Order::Descending);
+}
+
+/// What these counts leave of a right-hand side.
+#[inline]
+fn residual(rows: &[Row], links: &[Link], counts: &[f64], rhs: f64, vertex: usize) -> f64
+    requires is_row { vertex < length rows.now }
+    requires is_vertex { vertex < length counts.now }
+{
+    gather(rows, links, counts, rhs, vertex) - f64::from(rows[vertex].degree) * counts[vertex]
 }
 
 /// Gives a vertex the count that leaves no residual, as far as its bounds allow.
@@ -93,7 +117,8 @@ fn relax(rows: &[Row], links: &[Link], unknowns: &[Unknown], counts: &mut [f64],
     requires is_vertex { vertex < length counts.old }
 {
     let unknown = &unknowns[vertex];
-    counts[vertex] = unknown.clamp(rows[vertex].solved(links, counts, unknown.rhs));
+    let solved = gather(rows, links, counts, unknown.rhs, vertex) * rows[vertex].inverse;
+    counts[vertex] = unknown.clamp(solved);
 }
 
 /// Relaxes each vertex once: a sweep of projected Gauss-Seidel.
@@ -131,11 +156,6 @@ impl<'a> Problem<'a> {
         level: &'a Level,
         counts: Vec<f64>,
     ) -> Result<Problem<'a>, AllocError> {
-        let nothing = Unknown {
-            rhs: 0.0,
-            low: 0.0,
-            high: 0.0,
-        };
         let before = Before {
             residual: 0.0,
             count: 0.0,
@@ -143,7 +163,7 @@ impl<'a> Problem<'a> {
         let vertices = level.rows.len();
         Ok(Problem {
             level,
-            unknowns: vec![in alloc; nothing; vertices]?,
+            unknowns: vec![in alloc; Unknown::within(0.0, 0.0); vertices]?,
             counts,
             before: vec![in alloc; before; vertices]?,
         })
@@ -159,38 +179,37 @@ impl<'a> Problem<'a> {
         }
     }
 
-    /// Has the aggregates begin with the residuals of their members, and with the room that these all have.
+    /// Asks the aggregates for the residuals of their members, in the room that these all have.
     fn restrict(&mut self, coarse: &mut Problem<'_>) {
-        for (unknown, count) in coarse.unknowns.iter_mut().zip(&mut coarse.counts) {
-            *count = 0.0;
-            *unknown = Unknown {
-                rhs: 0.0,
-                low: f64::NEG_INFINITY,
-                high: f64::INFINITY,
-            };
-        }
-        let level = self.level;
+        coarse.counts.fill(0.0);
+        let sums = coarse.unknowns.as_mut_slice();
+        sums.fill(Unknown::within(f64::NEG_INFINITY, f64::INFINITY));
+        let rows = self.level.rows.as_slice();
+        let aggregates = self.level.aggregates.as_slice();
+        let unknowns = self.unknowns.as_slice();
         let counts = self.counts.as_slice();
-        let vertices = level.rows.iter().zip(counts).zip(&level.aggregates);
-        let unknowns = self.unknowns.iter().zip(&mut self.before);
-        for (((row, own), aggregate), (unknown, before)) in vertices.zip(unknowns) {
-            let count = *own;
-            let residual = row.residual(&level.links, counts, unknown.rhs, count);
-            *before = Before { residual, count };
-            if let Some(sum) = coarse.unknowns.get_mut(*aggregate as usize) {
-                sum.rhs += residual;
-                sum.low = sum.low.max(unknown.low - count);
-                sum.high = sum.high.min(unknown.high - count);
+        let vertices = rows.len().min(unknowns.len()).min(counts.len());
+        for (vertex, before) in self.before.iter_mut().enumerate() {
+            if vertex < vertices && vertex < aggregates.len() {
+                let unknown = &unknowns[vertex];
+                before.count = counts[vertex];
+                before.residual = residual(rows, &self.level.links, counts, unknown.rhs, vertex);
+                if let Some(sum) = sums.get_mut(aggregates[vertex] as usize) {
+                    sum.add(unknown, *before);
+                }
             }
         }
     }
 
     /// Has each member fire with its aggregate.
-    fn prolong(&mut self, coarse: &Problem<'_>) {
-        let unknowns = self.unknowns.iter().zip(&self.level.aggregates);
-        for ((unknown, aggregate), count) in unknowns.zip(&mut self.counts) {
-            if let Some(more) = coarse.counts.get(*aggregate as usize) {
-                *count = unknown.clamp(*count + *more);
+    fn prolong(&mut self, coarse: &[f64]) {
+        let aggregates = self.level.aggregates.as_slice();
+        let unknowns = self.unknowns.as_slice();
+        for (vertex, count) in self.counts.iter_mut().enumerate() {
+            if vertex < aggregates.len() && vertex < unknowns.len() {
+                if let Some(more) = coarse.get(aggregates[vertex] as usize) {
+                    *count = unknowns[vertex].clamp(*count + *more);
+                }
             }
         }
     }
@@ -198,58 +217,68 @@ impl<'a> Problem<'a> {
     /// Makes a correction greater or smaller by one factor: aggregates that fire as one move too little. It has the
     /// least energy if links go both ways, and else leaves residuals whose sum is 0.
     fn over_correct(&mut self, kind: Kind) {
+        let rows = self.level.rows.as_slice();
+        let unknowns = self.unknowns.as_slice();
+        let before = self.before.as_slice();
+        let counts = self.counts.as_mut_slice();
+        let vertices = rows
+            .len()
+            .min(unknowns.len())
+            .min(before.len())
+            .min(counts.len());
         let mut had = 0.0;
         let mut sent = 0.0;
-        let counts = self.counts.as_slice();
-        let unknowns = self.unknowns.iter().zip(&self.before);
-        for ((row, own), (unknown, before)) in self.level.rows.iter().zip(counts).zip(unknowns) {
+        for vertex in 0..vertices {
+            let left = residual(
+                rows,
+                &self.level.links,
+                counts,
+                unknowns[vertex].rhs,
+                vertex,
+            );
             let weight = match kind {
-                Kind::Symmetric => *own - before.count,
+                Kind::Symmetric => counts[vertex] - before[vertex].count,
                 Kind::Balanced | Kind::General => 1.0,
             };
-            let residual = row.residual(&self.level.links, counts, unknown.rhs, *own);
-            had += weight * before.residual;
-            sent += weight * (before.residual - residual);
+            had += weight * before[vertex].residual;
+            sent += weight * (before[vertex].residual - left);
         }
         if let Some(factor) = ratio(had, sent) {
-            let unknowns = self.unknowns.iter().zip(&self.before);
-            for ((unknown, before), count) in unknowns.zip(&mut self.counts) {
-                *count = unknown.clamp(before.count + factor * (*count - before.count));
+            for vertex in 0..vertices {
+                let from = before[vertex].count;
+                counts[vertex] = unknowns[vertex].clamp(from + factor * (counts[vertex] - from));
             }
         }
     }
 
-    /// The sum of the residuals where a count may go where they send it.
-    pub(crate) fn residual_norm(&self) -> f64 {
-        let mut sum = 0.0;
+    /// Sums over the vertices whose counts may go where their residuals send them: of the residuals' absolute values,
+    /// of what is asked, and of what is sent away more than comes in.
+    pub(crate) fn free_sums(&self) -> (f64, f64, f64) {
+        let rows = self.level.rows.as_slice();
+        let unknowns = self.unknowns.as_slice();
         let counts = self.counts.as_slice();
-        let rows = self.level.rows.iter().zip(&self.unknowns);
-        for ((row, unknown), own) in rows.zip(counts) {
-            let residual = row.residual(&self.level.links, counts, unknown.rhs, *own);
-            if unknown.is_free(residual, *own) {
-                sum += residual.abs();
+        let mut sums = (0.0, 0.0, 0.0);
+        for vertex in 0..rows.len().min(unknowns.len()).min(counts.len()) {
+            let unknown = &unknowns[vertex];
+            let left = residual(rows, &self.level.links, counts, unknown.rhs, vertex);
+            if unknown.is_free(left, counts[vertex]) {
+                sums.0 += left.abs();
+                sums.1 += unknown.rhs;
+                sums.2 += unknown.rhs - left;
             }
         }
-        sum
+        sums
     }
 
     /// Makes all counts greater or smaller by one factor, so that the residuals of those that are free sum up to 0.
     /// On one-way graphs aggregates that fire together seldom find that amount.
     pub(crate) fn rescale(&mut self) {
-        let mut asked = 0.0;
-        let mut sent = 0.0;
-        let counts = self.counts.as_slice();
-        let rows = self.level.rows.iter().zip(&self.unknowns);
-        for ((row, unknown), own) in rows.zip(counts) {
-            let residual = row.residual(&self.level.links, counts, unknown.rhs, *own);
-            if unknown.is_free(residual, *own) {
-                asked += unknown.rhs;
-                sent += unknown.rhs - residual;
-            }
-        }
+        let (_, asked, sent) = self.free_sums();
         if let Some(factor) = ratio(asked, sent) {
-            for (unknown, count) in self.unknowns.iter().zip(&mut self.counts) {
-                *count = unknown.clamp(factor * *count);
+            for (vertex, count) in self.counts.iter_mut().enumerate() {
+                if let Some(unknown) = self.unknowns.get(vertex) {
+                    *count = unknown.clamp(factor * *count);
+                }
             }
         }
     }

@@ -1,7 +1,7 @@
 ghost use Rattle.std.specs.Prelude.{◌≤◌};
 
-use crate::level::{Level, Link, NONE, narrow};
-use crate::solver::TargetHeight;
+use crate::level::{Level, Link, NONE, Row, links_of, narrow};
+use crate::solver::TargetHeight::{self, Full, Margin, Middle, Stationary};
 use crate::tuning::{FREE_WEIGHT, LOOKS_OF_GRAPH, MOST_LEVELS};
 use chip_graph::Graph;
 use std::alloc::{AllocError, Global};
@@ -21,13 +21,9 @@ impl Kind {
     /// The target heights that are tried, in order.
     pub(crate) fn heights(self) -> &'static [TargetHeight] {
         match self {
-            Kind::Symmetric => &[
-                TargetHeight::Stationary,
-                TargetHeight::Middle,
-                TargetHeight::Full,
-            ],
-            Kind::Balanced => &[TargetHeight::Full],
-            Kind::General => &[TargetHeight::Margin],
+            Kind::Symmetric => &[Stationary, Middle, Full],
+            Kind::Balanced => &[Full],
+            Kind::General => &[Margin],
         }
     }
 }
@@ -37,25 +33,16 @@ impl Kind {
 pub struct Hierarchy {
     pub(crate) kind: Kind,
     /// The graph by the links into each vertex.
-    pub(crate) finest: Level,
+    pub(crate) finest: Box<Level>,
     /// The others, each with the aggregates of the one before.
     pub(crate) coarser: Vec<Level>,
     /// The graph by the links out of each vertex, where these are others.
-    outs: Option<Level>,
-}
-
-/// The aggregates of a level.
-#[derive(Drop)]
-struct Aggregates {
-    /// The aggregate of each vertex, or `NONE`.
-    of: Vec<u32>,
-    /// How many there are.
-    count: usize,
+    outs: Option<Box<Level>>,
 }
 
 impl Hierarchy {
-    /// The hierarchy of a graph; `None` where memory runs out, or so many looks in all are too few. Its looks at a vertex
-    /// or a link are added to `looks`.
+    /// The hierarchy of a graph; `None` where memory runs out, or so many looks in all are too few. Its looks at a
+    /// vertex or a link are added to `looks`.
     pub fn new(alloc: Global, graph: &Graph, looks: &mut u64, most: u64) -> Option<Hierarchy>
         requires { looks.old ≤ most }
         ensures { looks.new ≤ most }
@@ -65,31 +52,55 @@ impl Hierarchy {
             return None;
         }
         let mut hierarchy = Hierarchy::flat(alloc, graph).ok()?;
-        hierarchy.coarser = coarsen(alloc, &mut hierarchy.finest, looks, most).ok()?;
+        hierarchy.coarsen(alloc, looks, most).ok()?;
         Some(hierarchy)
     }
 
     /// The graph alone, with no aggregates.
     pub(crate) fn flat(alloc: Global, graph: &Graph) -> Result<Hierarchy, AllocError> {
-        let finest = Level::ins(alloc, graph)?;
-        let outs = Level::outs(alloc, graph)?;
+        let finest = Box::new(alloc, Level::of(alloc, graph, true)?)?;
+        let outs = Box::new(alloc, Level::of(alloc, graph, false)?)?;
         let kind = kind_of(alloc, &finest, &outs)?;
-        let outs = if kind == Kind::Symmetric {
-            None
-        } else {
-            Some(outs)
-        };
         Ok(Hierarchy {
             kind,
             finest,
             coarser: Vec::new(alloc),
-            outs,
+            outs: if kind == Kind::Symmetric {
+                None
+            } else {
+                Some(outs)
+            },
         })
+    }
+
+    /// Adds the levels that are coarser, as many as so many looks allow. A level is looked at four times: once for its
+    /// aggregates, once for their members, and twice for their links.
+    fn coarsen(&mut self, alloc: Global, looks: &mut u64, most: u64) -> Result<(), AllocError>
+        requires { looks.old ≤ most }
+        ensures { looks.new ≤ most }
+    {
+        let mut next = next_level(alloc, &mut self.finest)?;
+        'levels: for _ in 0..MOST_LEVELS {
+            let Some(level) = next else {
+                break;
+            };
+            next = None;
+            self.coarser.push(level)?;
+            if let Some(level) = self.coarser.last_mut() {
+                if spend(looks, level.size().saturating_mul(4), most) {
+                    next = next_level(alloc, level)?;
+                }
+            }
+        }
+        Ok(())
     }
 
     /// The graph by the links out of each vertex.
     pub(crate) fn outs(&self) -> &Level {
-        self.outs.as_ref().unwrap_or(&self.finest)
+        match &self.outs {
+            Some(outs) => outs,
+            None => &self.finest,
+        }
     }
 
     /// How many vertices and links there are on all levels.
@@ -106,12 +117,12 @@ impl Hierarchy {
 fn kind_of(alloc: Global, ins: &Level, outs: &Level) -> Result<Kind, AllocError> {
     let mut surplus = vec![in alloc; 0i64; ins.rows.len()]?;
     let mut kind = Kind::Symmetric;
-    for (row, out) in ins.rows.iter().zip(&outs.rows) {
-        let coming = row.links(&ins.links);
-        let going = out.links(&outs.links);
+    for vertex in 0..ins.rows.len() {
+        let coming = ins.links_of(vertex);
+        let going = outs.links_of(vertex);
         let comes = add(&mut surplus, coming, 1);
         add(&mut surplus, going, -1);
-        if comes > row.degree {
+        if comes > ins.degree(vertex) {
             return Ok(Kind::General);
         }
         if !are_zero(&surplus, coming) || !are_zero(&surplus, going) {
@@ -135,7 +146,14 @@ fn add(numbers: &mut [i64], links: &[Link], times: i64) -> i64 {
 
 /// Whether the number of each link's vertex is 0.
 fn are_zero(numbers: &[i64], links: &[Link]) -> bool {
-    links.iter().all(|link| numbers.get(link.vertex as usize).copied() == Some(0))
+    for link in links {
+        if let Some(number) = numbers.get(link.vertex as usize) {
+            if *number != 0 {
+                return false;
+            }
+        }
+    }
+    true
 }
 
 /// Adds looks to others, unless these are more than `most` then; whether it did.
@@ -151,75 +169,47 @@ pub(crate) fn spend(looks: &mut u64, more: u64, most: u64) -> bool
     true
 }
 
-/// The levels that are coarser than this one, as many as so many looks allow. A level is looked at four times: once for
-/// its aggregates, once for their members, and twice for their links.
-fn coarsen(
-    alloc: Global,
-    finest: &mut Level,
-    looks: &mut u64,
-    most: u64,
-) -> Result<Vec<Level>, AllocError>
-    requires { looks.old ≤ most }
-    ensures { looks.new ≤ most }
-{
-    let mut coarser = Vec::new(alloc);
-    let mut next = next_level(alloc, finest)?;
-    'levels: for _ in 0..MOST_LEVELS {
-        let Some(mut level) = next else {
-            break;
-        };
-        next = None;
-        if spend(looks, level.size().saturating_mul(4), most) {
-            next = next_level(alloc, &mut level)?;
-        }
-        coarser.push(level)?;
-    }
-    Ok(coarser)
-}
-
 /// The level of a level's aggregates. Where aggregates of two or so do not thin out the links, all are one.
 fn next_level(alloc: Global, fine: &mut Level) -> Result<Option<Level>, AllocError> {
-    let mut aggregates = aggregate(alloc, fine)?;
-    if aggregates.count == 0 {
+    fine.aggregates = vec![in alloc; NONE; fine.rows.len()]?;
+    let count = aggregate(&fine.rows, &fine.links, &mut fine.aggregates);
+    if count == 0 {
         return Ok(None);
     }
-    let mut coarse = galerkin(alloc, fine, &aggregates)?;
-    if aggregates.count > 1 && coarse.links.len() / 3 >= fine.links.len() / 4 {
-        for aggregate in &mut aggregates.of {
-            if *aggregate != NONE {
-                *aggregate = 0;
-            }
-        }
-        aggregates.count = 1;
-        coarse = galerkin(alloc, fine, &aggregates)?;
+    let coarse = galerkin(alloc, fine, count)?;
+    if count == 1 || coarse.links.len() / 3 < fine.links.len() / 4 {
+        return Ok(Some(coarse));
     }
-    fine.aggregates = aggregates.of;
-    Ok(Some(coarse))
+    drop(coarse);
+    for aggregate in &mut fine.aggregates {
+        if *aggregate != NONE {
+            *aggregate = 0;
+        }
+    }
+    Ok(Some(galerkin(alloc, fine, 1)?))
 }
 
-/// Aggregates in which each vertex, in turn, joins the one that sends it most; where that one is still
-/// free, the two make an aggregate. A vertex that nothing comes into stays alone: it needs no correction.
-fn aggregate(alloc: Global, level: &Level) -> Result<Aggregates, AllocError> {
-    let mut of = vec![in alloc; NONE; level.rows.len()]?;
+/// Finds aggregates in which each vertex, in turn, joins the one that sends it most; where that one is still free, the
+/// two make an aggregate. A vertex that nothing comes into stays alone: it needs no correction. How many there are.
+fn aggregate(rows: &[Row], links: &[Link], aggregates: &mut [u32]) -> usize {
     let mut count = 0usize;
-    for (vertex, row) in level.rows.iter().enumerate() {
-        let vertex = narrow(vertex);
-        if at(&of, vertex) != NONE {
+    for vertex in 0..rows.len() {
+        let own = narrow(vertex);
+        if at(aggregates, own) != NONE {
             continue;
         }
-        let strongest = strongest(row.links(&level.links), &of);
-        if strongest == NONE {
-            continue;
+        let strongest = strongest(links_of(rows, links, vertex), aggregates);
+        if strongest != NONE {
+            let mut aggregate = at(aggregates, strongest);
+            if aggregate == NONE {
+                aggregate = narrow(count);
+                count = count.saturating_add(1);
+                put(aggregates, strongest, aggregate);
+            }
+            put(aggregates, own, aggregate);
         }
-        let mut aggregate = at(&of, strongest);
-        if aggregate == NONE {
-            aggregate = narrow(count);
-            count = count.saturating_add(1);
-            put(&mut of, strongest, aggregate);
-        }
-        put(&mut of, vertex, aggregate);
     }
-    Ok(Aggregates { of, count })
+    count
 }
 
 /// The vertex that sends most along these links, where one that is in no aggregate counts more; `NONE` where
@@ -254,68 +244,73 @@ fn put(numbers: &mut [u32], index: u32, number: u32) {
     }
 }
 
-/// The members of each aggregate, ascending, as chains: the first of each, and the one after each vertex.
-fn members(alloc: Global, aggregates: &Aggregates) -> Result<(Vec<u32>, Vec<u32>), AllocError> {
-    let mut first = vec![in alloc; NONE; aggregates.count]?;
-    let mut next = vec![in alloc; NONE; aggregates.of.len()]?;
-    for vertex in (0..aggregates.of.len()).rev() {
+/// The level of these aggregates: links within one vanish, and those from one to another are one.
+fn galerkin(alloc: Global, fine: &Level, count: usize) -> Result<Level, AllocError> {
+    let mut coarse = Level::new(alloc, count, 0)?;
+    // The members of each aggregate, ascending, as chains: the first of each, and the one after each vertex.
+    let mut first = vec![in alloc; NONE; count]?;
+    let mut next = vec![in alloc; NONE; fine.rows.len()]?;
+    let mut places = vec![in alloc; NONE; count]?;
+    for vertex in (0..fine.rows.len()).rev() {
         let vertex = narrow(vertex);
-        let aggregate = at(&aggregates.of, vertex);
+        let aggregate = at(&fine.aggregates, vertex);
         put(&mut next, vertex, at(&first, aggregate));
         put(&mut first, aggregate, vertex);
     }
-    Ok((first, next))
-}
-
-/// The level of these aggregates: links within one vanish, and those from one to another are one.
-fn galerkin(alloc: Global, fine: &Level, aggregates: &Aggregates) -> Result<Level, AllocError> {
-    let (first, next) = members(alloc, aggregates)?;
-    let mut places = vec![in alloc; NONE; aggregates.count]?;
-    let mut coarse = Level::new(alloc);
-    for aggregate in 0..aggregates.count {
-        let aggregate = narrow(aggregate);
-        let begin = narrow(coarse.links.len());
-        let mut degree = 0i64;
-        let mut vertex = at(&first, aggregate);
-        for _ in 0..fine.rows.len() {
-            let Some(row) = fine.rows.get(vertex as usize) else {
-                break;
-            };
-            degree = degree.wrapping_add(row.degree);
-            for link in row.links(&fine.links) {
-                let other = at(&aggregates.of, link.vertex);
-                if other == aggregate {
-                    degree = degree.wrapping_sub(link.chips());
-                } else if other != NONE {
-                    let link = Link {
-                        vertex: other,
-                        mult: link.mult,
-                    };
-                    add_link(&mut coarse.links, &mut places, begin, link)?;
-                }
-            }
-            vertex = at(&next, vertex);
-        }
-        coarse.close_row(degree)?;
+    for aggregate in 0..count {
+        coarse.add_aggregate(fine, narrow(aggregate), &first, &next, &mut places)?;
     }
     Ok(coarse)
 }
 
-/// Adds a link to those from this place on, or to the one among them with its vertex.
-fn add_link(
-    links: &mut Vec<Link>,
-    places: &mut [u32],
-    begin: u32,
-    link: Link,
-) -> Result<(), AllocError> {
-    let place = at(places, link.vertex);
-    if place >= begin {
-        if let Some(same) = links.get_mut(place as usize) {
-            same.mult = same.mult.saturating_add(link.mult);
-            return Ok(());
+impl Level {
+    /// Adds an aggregate of another level, by the chains of members.
+    fn add_aggregate(
+        &mut self,
+        fine: &Level,
+        aggregate: u32,
+        first: &[u32],
+        next: &[u32],
+        places: &mut [u32],
+    ) -> Result<(), AllocError> {
+        let begin = narrow(self.links.len());
+        let mut degree = 0i64;
+        let mut vertex = at(first, aggregate);
+        for _ in 0..fine.rows.len() {
+            if vertex == NONE {
+                break;
+            }
+            degree = degree.wrapping_add(fine.degree(vertex as usize));
+            for link in fine.links_of(vertex as usize) {
+                let other = at(&fine.aggregates, link.vertex);
+                if other == aggregate {
+                    degree = degree.wrapping_sub(link.chips());
+                } else if other != NONE {
+                    self.add_link(places, begin, other, link.mult)?;
+                }
+            }
+            vertex = at(next, vertex);
         }
+        self.close_row(degree.max(0).cast_unsigned())
     }
-    put(places, link.vertex, narrow(links.len()));
-    links.push(link)?;
-    Ok(())
+
+    /// Adds a link to those from this place on, or to the one among them with its vertex.
+    fn add_link(
+        &mut self,
+        places: &mut [u32],
+        begin: u32,
+        vertex: u32,
+        mult: u32,
+    ) -> Result<(), AllocError> {
+        let place = at(places, vertex);
+        if place >= begin {
+            if let Some(same) = self.links.get_mut(place as usize) {
+                same.mult = same.mult.saturating_add(mult);
+                return Ok(());
+            }
+        }
+        put(places, vertex, narrow(self.links.len()));
+        self.links.push(Link { vertex, mult })?;
+        Ok(())
+    }
 }

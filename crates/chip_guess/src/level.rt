@@ -1,6 +1,7 @@
+ghost use Rattle.std.specs.Prelude.{◌<◌, length};
+
 use chip_graph::{Edge, Graph};
 use std::alloc::{AllocError, Global};
-use std::num::nearest_i64_to_f64;
 
 /// No vertex, no place, or no aggregate, as that of the sink and of a vertex into which no link leads.
 pub(crate) const NONE: u32 = u32::MAX;
@@ -17,14 +18,12 @@ pub(crate) struct Link {
 /// The row of a vertex.
 #[derive(Clone, Copy)]
 pub(crate) struct Row {
-    /// Where its links begin in the level's.
-    first: u32,
-    /// Where they end.
+    /// Where its links end in the level's. They begin where those of the vertex before it end.
     end: u32,
-    /// The entry on the diagonal: what one firing sends away; 0 for the sink.
-    pub(crate) degree: i64,
+    /// The entry on the diagonal: what one firing sends away, up to 2^32 - 1; 0 for the sink.
+    pub(crate) degree: u32,
     /// One by the degree; 0 for the sink.
-    inverse: f64,
+    pub(crate) inverse: f64,
 }
 
 /// The Laplacian of a graph, or of the aggregates of another level: vertices that fire together. The sink has no links.
@@ -39,11 +38,32 @@ pub(crate) struct Level {
 /// A number as one of 32 bits, up to the greatest of these.
 #[inline]
 pub(crate) fn narrow(number: usize) -> u32 {
-    if number <= u32::MAX as usize {
-        number as u32
-    } else {
-        u32::MAX
+    number.min(u32::MAX as usize) as u32
+}
+
+/// The links of a vertex.
+#[inline]
+pub(crate) fn links_of<'a>(rows: &[Row], links: &'a [Link], vertex: usize) -> &'a [Link]
+    requires { vertex < length rows.now }
+{
+    let first = if vertex > 0 { rows[vertex - 1].end } else { 0 };
+    links
+        .get(first as usize..rows[vertex].end as usize)
+        .unwrap_or(&[])
+}
+
+/// A right-hand side, and what comes into a vertex by these counts.
+#[inline]
+pub(crate) fn gather(rows: &[Row], links: &[Link], counts: &[f64], rhs: f64, vertex: usize) -> f64
+    requires { vertex < length rows.now }
+{
+    let mut sum = rhs;
+    for link in links_of(rows, links, vertex) {
+        if let Some(count) = counts.get(link.vertex as usize) {
+            sum += f64::from(link.mult) * *count;
+        }
     }
+    sum
 }
 
 impl Link {
@@ -54,96 +74,56 @@ impl Link {
     }
 }
 
-impl Row {
-    /// Its links.
-    #[inline]
-    pub(crate) fn links<'a>(&self, links: &'a [Link]) -> &'a [Link] {
-        links
-            .get(self.first as usize..self.end as usize)
-            .unwrap_or(&[])
-    }
-
-    /// A right-hand side, and what comes in by these counts.
-    #[inline]
-    fn gather(&self, links: &[Link], counts: &[f64], rhs: f64) -> f64 {
-        let mut sum = rhs;
-        for link in self.links(links) {
-            if let Some(count) = counts.get(link.vertex as usize) {
-                sum += f64::from(link.mult) * *count;
-            }
-        }
-        sum
-    }
-
-    /// The count that leaves no residual.
-    #[inline]
-    pub(crate) fn solved(&self, links: &[Link], counts: &[f64], rhs: f64) -> f64 {
-        self.gather(links, counts, rhs) * self.inverse
-    }
-
-    /// What these counts leave of a right-hand side.
-    #[inline]
-    pub(crate) fn residual(&self, links: &[Link], counts: &[f64], rhs: f64, own: f64) -> f64 {
-        self.gather(links, counts, rhs) - nearest_i64_to_f64(self.degree) * own
-    }
-}
-
 impl Level {
-    /// No vertex yet.
-    pub(crate) fn new(alloc: Global) -> Level {
-        Level {
-            rows: Vec::new(alloc),
-            links: Vec::new(alloc),
+    /// No vertex yet, and room for so many vertices and links.
+    pub(crate) fn new(alloc: Global, vertices: usize, links: usize) -> Result<Level, AllocError> {
+        let links = Vec::with_capacity(alloc, links)?;
+        Ok(Level {
+            rows: Vec::with_capacity(alloc, vertices)?,
+            links,
             aggregates: Vec::new(alloc),
-        }
+        })
     }
 
-    /// A graph, by the links into each vertex.
-    pub(crate) fn ins(alloc: Global, graph: &Graph) -> Result<Level, AllocError> {
-        let mut level = Level::new(alloc);
+    /// A graph, by the links into each vertex or those out of it.
+    pub(crate) fn of(alloc: Global, graph: &Graph, by_ins: bool) -> Result<Level, AllocError> {
+        let mut level = Level::new(alloc, graph.vertices() as usize, graph.edges().len())?;
         for vertex in 0..graph.vertices() {
-            for e in graph.ins(vertex) {
-                if let Some(edge) = graph.edges().get(*e as usize) {
-                    level.push_link(graph, edge, edge.tail)?;
+            if by_ins {
+                for e in graph.ins(vertex) {
+                    if let Some(edge) = graph.edges().get(*e as usize) {
+                        level.push_link(graph, edge, edge.tail)?;
+                    }
+                }
+            } else {
+                for edge in graph.links(vertex) {
+                    level.push_link(graph, edge, edge.head)?;
                 }
             }
-            level.close_row(graph.out_degree(vertex).cast_signed())?;
-        }
-        Ok(level)
-    }
-
-    /// A graph, by the links out of each vertex.
-    pub(crate) fn outs(alloc: Global, graph: &Graph) -> Result<Level, AllocError> {
-        let mut level = Level::new(alloc);
-        for vertex in 0..graph.vertices() {
-            for edge in graph.links(vertex) {
-                level.push_link(graph, edge, edge.head)?;
-            }
-            level.close_row(graph.out_degree(vertex).cast_signed())?;
+            level.close_row(graph.out_degree(vertex))?;
         }
         Ok(level)
     }
 
     /// Adds an edge that does not lead to the sink, by the vertex at one of its ends.
     fn push_link(&mut self, graph: &Graph, edge: &Edge, vertex: u64) -> Result<(), AllocError> {
-        if edge.head == graph.sink() {
-            return Ok(());
+        if edge.head != graph.sink() {
+            self.links.push(Link {
+                vertex: narrow(vertex as usize),
+                mult: narrow(edge.mult as usize),
+            })?;
         }
-        self.links.push(Link {
-            vertex: narrow(vertex as usize),
-            mult: narrow(edge.mult as usize),
-        })?;
         Ok(())
     }
 
     /// One more vertex, with the links behind those of the last one.
-    pub(crate) fn close_row(&mut self, degree: i64) -> Result<(), AllocError> {
+    pub(crate) fn close_row(&mut self, degree: u64) -> Result<(), AllocError> {
+        let degree = narrow(degree as usize);
         self.rows.push(Row {
-            first: self.rows.last().map_or(0, |row| row.end),
             end: narrow(self.links.len()),
             degree,
             inverse: if degree > 0 {
-                1.0 / nearest_i64_to_f64(degree)
+                1.0 / f64::from(degree)
             } else {
                 0.0
             },
@@ -151,12 +131,22 @@ impl Level {
         Ok(())
     }
 
-    /// The links of a vertex.
+    /// The links of a vertex, if it is there.
     #[inline]
     pub(crate) fn links_of(&self, vertex: usize) -> &[Link] {
+        if vertex < self.rows.len() {
+            links_of(&self.rows, &self.links, vertex)
+        } else {
+            &[]
+        }
+    }
+
+    /// What one firing of a vertex sends away.
+    #[inline]
+    pub(crate) fn degree(&self, vertex: usize) -> i64 {
         match self.rows.get(vertex) {
-            Some(row) => row.links(&self.links),
-            None => &[],
+            Some(row) => i64::from(row.degree),
+            None => 0,
         }
     }
 

@@ -15,7 +15,6 @@ pub use search::Search;
 
 mod burning;
 mod cycle;
-mod fit;
 mod given;
 pub mod hierarchy;
 mod level;

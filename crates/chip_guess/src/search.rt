@@ -1,26 +1,28 @@
 ghost use Rattle.std.specs.Prelude.{◌≡◌, ◌≤◌, ℕ, length, slice_index, IfSome};
 
 use crate::burning::Burning;
-use crate::fit::fit_heights;
+use crate::given::floats_of;
 use crate::hierarchy::{Hierarchy, Kind, spend};
 use crate::solver::{Progress, Solver, Target};
 use crate::tuning::{FIRST_RAISE, GREAT, STEPS_BEFORE_FIT, STEPS_OF_FIT, WALL_OFFSETS};
 use chip_graph::Game;
 use std::alloc::{AllocError, Global};
 use std::mem;
-use std::num::nearest_u64_to_f64;
+use std::num::saturating_f64_to_u64;
+
+mod fit;
 
 /// What a search is at.
-#[derive(Drop)]
-enum Stage<'a> {
+#[derive(Clone, Copy)]
+enum Stage {
     /// The counts come near to those that leave the target heights.
-    Solving(Solver<'a>),
+    Solving,
     /// They are burnt between walls, which shows at what heights the vertices of a patch stay.
-    Fitting(Burning<'a>),
+    Fitting,
     /// They are burnt until they pass.
-    Burning(Burning<'a>),
+    Burning,
     /// They passed, and nothing better is sought.
-    Found(Burning<'a>),
+    Found,
     /// Nothing was found, and nothing more is tried.
     GivenUp,
 }
@@ -39,7 +41,9 @@ pub struct Search<'a> {
     counts: Vec<f64>,
     /// What each vertex is to keep.
     heights: Vec<f64>,
-    stage: Stage<'a>,
+    stage: Stage,
+    solver: Box<Solver<'a>>,
+    burning: Box<Burning<'a>>,
     /// How many kinds of target heights were tried before this one.
     tried: usize,
     /// How often heights were fitted.
@@ -64,18 +68,14 @@ impl<'a> Search<'a> {
         game: &'a Game,
         fired: &'a [u64],
     ) -> Result<Search<'a>, AllocError> {
-        let mut counts = Vec::new(alloc);
-        let mut heights = Vec::new(alloc);
-        for times in fired {
-            counts.push(nearest_u64_to_f64(*times))?;
-            heights.push(0.0)?;
-        }
         let mut search = Search {
             hierarchy,
             target: Target { game, fired },
-            counts,
-            heights,
+            counts: floats_of(alloc, game, fired)?,
+            heights: vec![in alloc; 0.0; fired.len()]?,
             stage: Stage::GivenUp,
+            solver: Box::new(alloc, Solver::new(alloc, hierarchy))?,
+            burning: Box::new(alloc, Burning::new(alloc, hierarchy))?,
             tried: 0,
             fits: 0,
             may_fit: hierarchy.kind == Kind::Symmetric && fired.len() >= GREAT,
@@ -88,14 +88,14 @@ impl<'a> Search<'a> {
         Ok(search)
     }
 
-    /// Makes steps until the search is over or so many looks in all may be too few for the next one; whether it is over.
-    /// Its looks at a vertex or a link are added to `looks`.
+    /// Makes steps until the search is over or so many looks in all may be too few for the next one; whether it is
+    /// over. Its looks at a vertex or a link are added to `looks`.
     pub fn go_on(&mut self, alloc: Global, looks: &mut u64, most: u64) -> Result<bool, AllocError>
         requires { looks.old ≤ most }
         ensures { looks.new ≤ most }
     {
         'steps: for _ in 0..u64::MAX {
-            if matches!(&self.stage, Stage::Found(_) | Stage::GivenUp) {
+            if self.stage == Stage::Found || self.stage == Stage::GivenUp {
                 return Ok(true);
             }
             let phase = self.looks_of_phase();
@@ -119,9 +119,10 @@ impl<'a> Search<'a> {
         ensures each { IfSome result (λ counts. length counts.items ≡ length fired.now) }
         ensures within { IfSome result (λ counts. (v : ℕ) → slice_index counts.items v ≤ limit) }
     {
-        match &self.stage {
-            Stage::Found(burning) => burning.counts(alloc, fired, limit).ok(),
-            _ => None,
+        if self.stage == Stage::Found {
+            self.burning.counts(alloc, fired, limit).ok()
+        } else {
+            None
         }
     }
 
@@ -133,26 +134,25 @@ impl<'a> Search<'a> {
     /// About how many chips have still to move until the counts are those sought, up to 2^64 - 1: those above or below
     /// the target heights, or those of the firings that are taken back next. It looks at the whole graph.
     pub fn chips_to_move(&self) -> u64 {
-        match &self.stage {
-            Stage::Solving(solver) => solver.residual(),
-            Stage::Fitting(burning) | Stage::Burning(burning) => burning.unburnt_chips(),
-            Stage::Found(_) | Stage::GivenUp => 0,
+        match self.stage {
+            Stage::Solving => saturating_f64_to_u64(self.solver.norm()),
+            Stage::Fitting | Stage::Burning => self.burning.unburnt_chips(),
+            Stage::Found | Stage::GivenUp => 0,
         }
     }
 
-    /// What a step looks at at most: a cycle goes over each level five times, and over its vertices thrice more, and
-    /// twice over the finest one.
+    /// What a step looks at at most: a cycle goes over each level five times, over its vertices thrice more, where all
+    /// levels have at most twice as many as the finest, and once over that, or twice.
     fn looks_of_step(&self) -> u64 {
-        match &self.stage {
-            Stage::Fitting(burning) | Stage::Burning(burning) => burning.looks,
-            _ => {
-                let twice = self.hierarchy.finest.size().saturating_mul(2);
-                self.hierarchy
-                    .size()
-                    .saturating_mul(6)
-                    .saturating_add(twice)
-            }
+        if self.stage != Stage::Solving {
+            return self.burning.looks;
         }
+        let finest = &self.hierarchy.finest;
+        let vertices = (finest.rows.len() as u64).saturating_mul(6);
+        let is_once = self.hierarchy.kind == Kind::Symmetric;
+        let more = finest.size().saturating_mul(if is_once { 1 } else { 2 });
+        let all = self.hierarchy.size().saturating_mul(5);
+        all.saturating_add(vertices).saturating_add(more)
     }
 
     /// What is looked at at most where one phase ends and the next one begins, solving, burning or fitting: the graph
@@ -166,123 +166,108 @@ impl<'a> Search<'a> {
     /// Makes a step.
     fn step(&mut self, alloc: Global) -> Result<(), AllocError> {
         self.stage = match mem::replace(&mut self.stage, Stage::GivenUp) {
-            Stage::Solving(solver) => self.solve(alloc, solver)?,
-            Stage::Fitting(burning) => self.fit(alloc, burning)?,
-            Stage::Burning(burning) => self.burn(alloc, burning)?,
+            Stage::Solving => self.solve(alloc)?,
+            Stage::Fitting => self.fit(alloc)?,
+            Stage::Burning => self.burn(alloc)?,
             over => over,
         };
         Ok(())
     }
 
     /// Begins to solve for the target heights that are tried, or gives up where all were tried.
-    fn try_heights(&mut self, alloc: Global) -> Result<Stage<'a>, AllocError> {
+    fn try_heights(&mut self, alloc: Global) -> Result<Stage, AllocError> {
         let Some(target) = self.hierarchy.kind.heights().get(self.tried) else {
             return Ok(Stage::GivenUp);
         };
-        for (row, height) in self.hierarchy.finest.rows.iter().zip(&mut self.heights) {
-            *height = target.of(row.degree);
+        for (vertex, height) in self.heights.iter_mut().enumerate() {
+            *height = target.of(self.hierarchy.finest.degree(vertex));
         }
         self.begin_to_solve(alloc)
     }
 
     /// Begins to solve for the target heights.
-    fn begin_to_solve(&mut self, alloc: Global) -> Result<Stage<'a>, AllocError> {
+    fn begin_to_solve(&mut self, alloc: Global) -> Result<Stage, AllocError> {
         self.phases = self.phases.wrapping_add(1);
         let counts = mem::replace(&mut self.counts, Vec::new(alloc));
-        let solver = Solver::new(alloc, self.hierarchy, self.target, &self.heights, counts)?;
-        Ok(Stage::Solving(solver))
+        self.solver
+            .begin(alloc, self.target, &self.heights, counts)?;
+        Ok(Stage::Solving)
     }
 
     /// Makes a cycle, and begins to burn the counts where they are near.
-    fn solve(&mut self, alloc: Global, mut solver: Solver<'a>) -> Result<Stage<'a>, AllocError> {
-        match solver.step() {
-            Progress::Going => return Ok(Stage::Solving(solver)),
+    fn solve(&mut self, alloc: Global) -> Result<Stage, AllocError> {
+        match self.solver.step() {
+            Progress::Going => return Ok(Stage::Solving),
             Progress::Diverged => return Ok(Stage::GivenUp),
             Progress::Converged => {}
         }
-        self.counts = solver.take_counts(alloc);
-        drop(solver);
-        match self.begin_to_burn(alloc)? {
-            Some(burning) => Ok(Stage::Burning(burning)),
-            None => Ok(Stage::GivenUp),
-        }
+        self.counts = self.solver.end(alloc);
+        self.begin_to_burn(alloc, Stage::Burning)
     }
 
     /// Begins to burn the counts, if the position that they lead to is not too great.
-    fn begin_to_burn(&mut self, alloc: Global) -> Result<Option<Burning<'a>>, AllocError> {
+    fn begin_to_burn(&mut self, alloc: Global, stage: Stage) -> Result<Stage, AllocError> {
         self.phases = self.phases.wrapping_add(1);
-        Burning::new(alloc, self.hierarchy, self.target, &self.counts)
-    }
-
-    /// Begins to burn the counts between walls.
-    fn begin_to_fit(&mut self, alloc: Global, offset: u64) -> Result<Stage<'a>, AllocError> {
-        let Some(mut burning) = self.begin_to_burn(alloc)? else {
-            return Ok(Stage::GivenUp);
-        };
-        burning.pin(self.target.game.graph(), offset);
-        Ok(Stage::Fitting(burning))
+        if self.burning.begin(alloc, self.target, &self.counts)? {
+            Ok(stage)
+        } else {
+            Ok(Stage::GivenUp)
+        }
     }
 
     /// Burns the counts between walls once, and solves for heights that are fitted to what is left after some times.
-    fn fit(&mut self, alloc: Global, mut burning: Burning<'a>) -> Result<Stage<'a>, AllocError> {
-        let progress = burning.step()?;
-        if progress == Progress::Going && burning.steps < STEPS_OF_FIT {
-            return Ok(Stage::Fitting(burning));
+    fn fit(&mut self, alloc: Global) -> Result<Stage, AllocError> {
+        let progress = self.burning.step()?;
+        if progress == Progress::Going && self.burning.steps < STEPS_OF_FIT {
+            return Ok(Stage::Fitting);
         }
         // Counts that pass the test between walls leave little to fit.
         self.may_fit = progress != Progress::Converged;
-        fit_heights(
-            alloc,
-            self.hierarchy,
-            &burning,
-            self.target,
-            &self.counts,
-            self.fits == 0,
-            &mut self.heights,
-        )?;
+        self.fit_heights(alloc)?;
         self.fits = self.fits.saturating_add(1);
-        drop(burning);
+        self.burning.end(alloc);
         self.begin_to_solve(alloc)
     }
 
     /// Burns the counts once.
-    fn burn(&mut self, alloc: Global, mut burning: Burning<'a>) -> Result<Stage<'a>, AllocError> {
-        match burning.step()? {
-            Progress::Converged => return Ok(self.pass(burning)),
+    fn burn(&mut self, alloc: Global) -> Result<Stage, AllocError> {
+        match self.burning.step()? {
+            Progress::Converged => return Ok(self.pass()),
             // Counts that are greater than some that passed come back to these.
             Progress::Diverged if self.passed == 0 => {
-                drop(burning);
+                self.burning.end(alloc);
                 self.may_fit = false;
                 self.tried = self.tried.saturating_add(1);
                 return self.try_heights(alloc);
             }
-            Progress::Going if self.may_fit && burning.steps >= STEPS_BEFORE_FIT => {
+            Progress::Going if self.may_fit && self.burning.steps >= STEPS_BEFORE_FIT => {
                 match WALL_OFFSETS.get(self.fits) {
-                    Some(offset) if burning.is_far() => {
-                        drop(burning);
-                        return self.begin_to_fit(alloc, *offset);
+                    Some(offset) if self.burning.unburnt > self.burning.unfired / 4 => {
+                        let stage = self.begin_to_burn(alloc, Stage::Fitting)?;
+                        self.burning.pin(self.target.game.graph(), *offset);
+                        return Ok(stage);
                     }
                     _ => self.may_fit = false,
                 }
             }
             Progress::Going | Progress::Diverged => {}
         }
-        Ok(Stage::Burning(burning))
+        Ok(Stage::Burning)
     }
 
     /// Keeps the counts that passed, and goes on from greater ones where they may be too low.
-    fn pass(&mut self, mut burning: Burning<'a>) -> Stage<'a> {
+    fn pass(&mut self) -> Stage {
         self.phases = self.phases.wrapping_add(1);
-        let passed = burning.firings();
+        let passed = self.burning.firings();
         let is_same = passed == self.passed;
         self.may_fit = false;
         let may_rise = self.counts.len() >= GREAT && self.hierarchy.kind != Kind::General;
-        if !may_rise || is_same || !burning.leaves_some_legal() {
-            return Stage::Found(burning);
+        if !may_rise || is_same || !self.burning.leaves_some_legal() {
+            return Stage::Found;
         }
         self.passed = passed;
-        burning.raise(self.raise, self.target);
+        self.burning.raise(self.raise, self.target);
         self.raise = self.raise.saturating_mul(2);
-        Stage::Burning(burning)
+        Stage::Burning
     }
 }

@@ -1,10 +1,10 @@
-use crate::cycle::{Problem, Unknown, v_cycle};
+use crate::cycle::{Problem, v_cycle};
 use crate::hierarchy::{Hierarchy, Kind};
 use crate::tuning::{CYCLES_TO_HALVE, MOST_CYCLES, TOLERANCE};
 use chip_graph::Game;
 use std::alloc::{AllocError, Global};
 use std::mem;
-use std::num::{nearest_i64_to_f64, nearest_u64_to_f64, saturating_f64_to_u64};
+use std::num::{nearest_i64_to_f64, nearest_u64_to_f64};
 
 /// How many chips each vertex is to keep, from few to many.
 #[derive(Clone, Copy)]
@@ -57,9 +57,9 @@ pub(crate) enum Progress {
 /// V-cycles that bring counts near to those that leave each vertex its target height.
 #[derive(Drop)]
 pub(crate) struct Solver<'a> {
+    hierarchy: &'a Hierarchy,
     /// The problem of the counts, and those of its corrections.
     problems: Vec<Problem<'a>>,
-    kind: Kind,
     /// The residual that may be left.
     tolerance: f64,
     /// How many cycles were made.
@@ -69,51 +69,42 @@ pub(crate) struct Solver<'a> {
 }
 
 impl<'a> Solver<'a> {
+    /// Nothing to solve yet.
+    pub(crate) fn new(alloc: Global, hierarchy: &'a Hierarchy) -> Solver<'a> {
+        Solver {
+            hierarchy,
+            problems: Vec::new(alloc),
+            tolerance: 0.0,
+            cycles: 0,
+            norm: f64::INFINITY,
+        }
+    }
+
     /// Begins with these counts, to leave these heights.
-    pub(crate) fn new(
+    pub(crate) fn begin(
+        &mut self,
         alloc: Global,
-        hierarchy: &'a Hierarchy,
         target: Target<'_>,
         heights: &[f64],
         counts: Vec<f64>,
-    ) -> Result<Solver<'a>, AllocError> {
+    ) -> Result<(), AllocError> {
+        let hierarchy = self.hierarchy;
         let mut finest = Problem::new(alloc, &hierarchy.finest, counts)?;
-        let mut degrees = 0.0;
-        let high = nearest_u64_to_f64(target.game.limit());
-        let given = target.game.start().iter().zip(target.fired).zip(heights);
-        let rows = hierarchy.finest.rows.iter().zip(&mut finest.unknowns);
-        for ((row, unknown), ((chips, fired), height)) in rows.zip(given) {
-            if row.degree > 0 {
-                degrees += nearest_i64_to_f64(row.degree);
-                *unknown = Unknown {
-                    rhs: nearest_u64_to_f64(*chips) - *height,
-                    low: nearest_u64_to_f64(*fired),
-                    high,
-                };
-            }
-        }
-        let mut problems = Vec::new(alloc);
-        problems.push(finest)?;
+        self.tolerance = TOLERANCE * ask(&mut finest, target, heights);
+        self.cycles = 0;
+        self.norm = f64::INFINITY;
+        self.problems.push(finest)?;
         for level in &hierarchy.coarser {
             let counts = vec![in alloc; 0.0; level.rows.len()]?;
-            problems.push(Problem::new(alloc, level, counts)?)?;
+            self.problems.push(Problem::new(alloc, level, counts)?)?;
         }
-        Ok(Solver {
-            problems,
-            kind: hierarchy.kind,
-            tolerance: TOLERANCE * degrees,
-            cycles: 0,
-            norm: f64::INFINITY,
-        })
+        Ok(())
     }
 
     /// Makes a cycle where more than little is left. It diverges where some cycles do not halve what is left, or
     /// where many do not do.
     pub(crate) fn step(&mut self) -> Progress {
-        let Some(finest) = self.problems.first() else {
-            return Progress::Diverged;
-        };
-        let norm = finest.residual_norm();
+        let norm = self.norm();
         if norm <= self.tolerance {
             return Progress::Converged;
         }
@@ -125,8 +116,8 @@ impl<'a> Solver<'a> {
             self.norm = norm;
         }
         self.cycles = self.cycles.saturating_add(1);
-        v_cycle(&mut self.problems, self.kind);
-        if self.kind != Kind::Symmetric {
+        v_cycle(&mut self.problems, self.hierarchy.kind);
+        if self.hierarchy.kind != Kind::Symmetric {
             if let Some(finest) = self.problems.first_mut() {
                 finest.rescale();
             }
@@ -134,19 +125,37 @@ impl<'a> Solver<'a> {
         Progress::Going
     }
 
-    /// How many chips are above or below their heights, up to 2^64 - 1.
-    pub(crate) fn residual(&self) -> u64 {
+    /// How many chips are above or below their heights.
+    pub(crate) fn norm(&self) -> f64 {
         match self.problems.first() {
-            Some(finest) => saturating_f64_to_u64(finest.residual_norm()),
-            None => 0,
+            Some(finest) => finest.free_sums().0,
+            None => 0.0,
         }
     }
 
-    /// Takes the counts out.
-    pub(crate) fn take_counts(&mut self, alloc: Global) -> Vec<f64> {
-        match self.problems.first_mut() {
-            Some(finest) => mem::replace(&mut finest.counts, Vec::new(alloc)),
-            None => Vec::new(alloc),
+    /// Ends with the counts.
+    pub(crate) fn end(&mut self, alloc: Global) -> Vec<f64> {
+        let mut counts = Vec::new(alloc);
+        if let Some(finest) = self.problems.first_mut() {
+            counts = mem::replace(&mut finest.counts, counts);
+        }
+        self.problems = Vec::new(alloc);
+        counts
+    }
+}
+
+/// Asks for the counts that leave these heights; the sum of all degrees.
+fn ask(problem: &mut Problem<'_>, target: Target<'_>, heights: &[f64]) -> f64 {
+    let (chips, fired) = (target.game.start(), target.fired);
+    let mut degrees = 0.0;
+    for (vertex, unknown) in problem.unknowns.iter_mut().enumerate() {
+        let degree = problem.level.degree(vertex);
+        if degree > 0 && vertex < chips.len() && vertex < fired.len() && vertex < heights.len() {
+            degrees += nearest_i64_to_f64(degree);
+            unknown.rhs = nearest_u64_to_f64(chips[vertex]) - heights[vertex];
+            unknown.low = nearest_u64_to_f64(fired[vertex]);
+            unknown.high = nearest_u64_to_f64(target.game.limit());
         }
     }
+    degrees
 }

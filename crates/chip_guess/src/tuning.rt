@@ -1,15 +1,12 @@
-//! The numbers that were tuned, those of the player too. A look is one at a vertex or an edge. The games are those of
-//! `bench/run` and `bench/large`.
+//! The numbers that were tuned, those of the player too, on games of `bench/`. A look is one at a vertex or an edge.
 
 /// How many looks at each vertex and edge a play makes before it is judged whether it ends soon. Doubled each time.
 pub const FIRST_LOOKS: u64 = 16;
 
-/// How many looks at each vertex and edge are so few that no counts are searched, which takes about as many: grid-six
-/// and random-graph with limits.
+/// How many looks at each vertex and edge are too few to search counts: grid-six and random-graph with limits.
 pub const FEW_LOOKS: u64 = 480;
 
-/// How many looks at each vertex and edge a search may make beside two for each look of the play: about what reading the
-/// graph takes.
+/// How many looks at each vertex and edge a search may make beside two for each look of the play: as reading takes.
 pub const AHEAD: u64 = 160;
 
 /// How many looks at each vertex and edge the search and the play make in each of their turns.
@@ -39,8 +36,7 @@ pub const TOLERANCE: f64 = 0.0009765625;
 /// In how many steps in a row no vertex may burn, which leaves nearly everything as it was: star.
 pub const STALLED_STEPS: u64 = 16;
 
-/// How many vertices a graph has on which it pays to fit heights, and to go on from counts that passed: peak-255 has
-/// more, and grid-peak fewer.
+/// From how many vertices on it pays to fit heights, and to go on from counts that passed: grid-peak has fewer.
 pub const GREAT: usize = 1 << 14;
 
 /// How many steps are made before it is asked whether to fit heights: peak-511.
@@ -52,8 +48,7 @@ pub const STEPS_OF_FIT: u64 = 32;
 /// At how many edges' distance from each other walls stand, by their distances from the sink: four-511.
 pub const WALL_SPACING: u64 = 64;
 
-/// In each fit the distances of the walls leave another one of these rests, so that what stood still in one lies between
-/// walls in the next. Four fits do best on four-511.
+/// The rests that the walls' distances leave, in each fit another one, so that all moves in some: four-511.
 pub const WALL_OFFSETS: [u64; 4] = [0, 32, 16, 48];
 
 /// About how many vertices are in a patch: on four-511 true means of so many are off by up to 40 firings, and those of

@@ -1,5 +1,5 @@
 use Rattle.std.proofs.Common.{◌≤◌}
-use Rattle.chip_guess.proofs.hierarchy.coarsen.Given as goal
+use Rattle.chip_guess.proofs.hierarchy.Hierarchy.coarsen.Given as goal
 
 abbrev pub invariant-levels : goal.invariant-levels
 invariant-levels l = l.looks ≤ l.most

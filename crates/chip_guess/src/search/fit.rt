@@ -1,0 +1,97 @@
+use super::Search;
+use crate::hierarchy::Hierarchy;
+use crate::level::{Level, narrow};
+use crate::tuning::{CLEAR_LOSS, PATCH};
+use std::alloc::{AllocError, Global};
+use std::num::{nearest_i64_to_f64, nearest_u64_to_f64};
+
+/// What the vertices of a patch have that fire while counts are burnt.
+#[derive(Clone, Copy)]
+struct Sum {
+    chips: f64,
+    degrees: f64,
+    /// How often more they fired before the counts were lowered.
+    lost: f64,
+    vertices: f64,
+}
+
+impl Sum {
+    /// The height of a vertex of this degree, which stood at another one.
+    fn height(&self, degree: i64, before: f64, is_first: bool) -> f64 {
+        let degree = nearest_i64_to_f64(degree);
+        let full = (degree - 1.0).max(0.0);
+        let mean = (self.chips * degree / self.degrees).max(0.0).min(full);
+        if self.vertices <= 0.0 {
+            before
+        } else if is_first {
+            mean
+        } else if self.lost >= self.vertices * CLEAR_LOSS {
+            (2.0 * mean - before).max(0.0).min(full)
+        } else {
+            before
+        }
+    }
+}
+
+impl<'a> Search<'a> {
+    /// Fits target heights to what counts, which were lowered between walls, leave in each patch. After the first fit
+    /// a height goes twice the way to the mean of its patch, where that has clearly lost firings: between walls counts
+    /// come only a part of the way.
+    pub(super) fn fit_heights(&mut self, alloc: Global) -> Result<(), AllocError> {
+        let mut patches = vec![in alloc; 0; self.heights.len()]?;
+        let none = Sum {
+            chips: 0.0,
+            degrees: 0.0,
+            lost: 0.0,
+            vertices: 0.0,
+        };
+        let mut sums = vec![in alloc; none; find_patches(self.hierarchy, &mut patches)]?;
+        self.add_up(&patches, &mut sums);
+        let level: &Level = &self.hierarchy.finest;
+        for (vertex, height) in self.heights.iter_mut().enumerate() {
+            if let Some(patch) = patches.get(vertex) {
+                if let Some(sum) = sums.get(*patch as usize) {
+                    *height = sum.height(level.degree(vertex), *height, self.fits == 0);
+                }
+            }
+        }
+        Ok(())
+    }
+
+    /// Adds up what the vertices of each patch have.
+    fn add_up(&self, patches: &[u32], sums: &mut [Sum]) {
+        for (vertex, patch) in patches.iter().enumerate() {
+            let (counts, fired) = (self.counts.as_slice(), self.target.fired);
+            if self.burning.at(vertex).unfires() && vertex < counts.len() && vertex < fired.len() {
+                if let Some(sum) = sums.get_mut(*patch as usize) {
+                    let fires = nearest_i64_to_f64(self.burning.at(vertex).fires);
+                    sum.chips += nearest_i64_to_f64(self.burning.chips(vertex));
+                    sum.degrees += nearest_i64_to_f64(self.hierarchy.finest.degree(vertex));
+                    sum.lost += counts[vertex] - nearest_u64_to_f64(fired[vertex]) - fires;
+                    sum.vertices += 1.0;
+                }
+            }
+        }
+    }
+}
+
+/// Finds the patch of each vertex: of about `PATCH` vertices that lie together, the aggregates on the first level that
+/// has so few. How many patches there are.
+fn find_patches(hierarchy: &Hierarchy, patches: &mut [u32]) -> usize {
+    for (vertex, patch) in patches.iter_mut().enumerate() {
+        *patch = narrow(vertex);
+    }
+    let mut fine: &Level = &hierarchy.finest;
+    for level in &hierarchy.coarser {
+        if fine.rows.len() <= patches.len() / PATCH {
+            break;
+        }
+        for patch in patches.iter_mut() {
+            if let Some(aggregate) = fine.aggregates.get(*patch as usize) {
+                *patch = *aggregate;
+            }
+        }
+        fine = level;
+    }
+    fine.rows.len()
+}

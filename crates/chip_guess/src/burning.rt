@@ -166,7 +166,7 @@ impl<'a> Burning<'a> {
         let mut comes = 0i64;
         for link in self.hierarchy.finest.links_of(vertex) {
             if self.at(link.vertex as usize).unfires() {
-                comes = comes.wrapping_add(link.chips());
+                comes = comes.wrapping_add(i64::from(link.mult));
             }
         }
         comes
@@ -246,7 +246,7 @@ impl<'a> Burning<'a> {
     fn stop_unfiring(&mut self, vertex: usize) -> Result<(), AllocError> {
         for link in self.hierarchy.outs().links_of(vertex) {
             if let Some(head) = self.vertices.get_mut(link.vertex as usize) {
-                head.comes = head.comes.wrapping_sub(link.chips());
+                head.comes = head.comes.wrapping_sub(i64::from(link.mult));
             }
             if (link.vertex as usize) < vertex {
                 self.bring(*link)?;
@@ -280,7 +280,7 @@ impl<'a> Burning<'a> {
         let head = link.vertex as usize;
         if head < self.slacks.len() {
             let before = self.slacks[head];
-            let slack = before.wrapping_add(link.chips());
+            let slack = before.wrapping_add(i64::from(link.mult));
             self.slacks[head] = slack;
             if before < 0 && slack >= 0 && self.at(head).unfires() {
                 self.waiting.push(link.vertex)?;
@@ -301,7 +301,7 @@ impl<'a> Burning<'a> {
         }
         for link in self.hierarchy.outs().links_of(vertex) {
             if let Some(slack) = slacks.get_mut(link.vertex as usize) {
-                *slack = slack.wrapping_add(link.chips().wrapping_mul(k));
+                *slack = slack.wrapping_add(i64::from(link.mult).wrapping_mul(k));
             }
         }
     }

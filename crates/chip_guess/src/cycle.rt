@@ -61,23 +61,6 @@ impl Unknown {
             count
         }
     }
-
-    /// Whether a count may go where this residual sends it.
-    fn is_free(&self, residual: f64, own: f64) -> bool {
-        if residual > 0.0 {
-            own < self.high
-        } else {
-            own > self.low
-        }
-    }
-
-    /// Asks of the count of an aggregate what is asked of a member that has this residual and count.
-    #[inline]
-    fn add(&mut self, member: &Unknown, had: Before) {
-        self.rhs += had.residual;
-        self.low = self.low.max(member.low - had.count);
-        self.high = self.high.min(member.high - had.count);
-    }
 }
 
 /// A V-cycle over these problems, of which each is on the aggregates of the one before: smooths the counts, corrects
@@ -121,34 +104,6 @@ fn relax(rows: &[Row], links: &[Link], unknowns: &[Unknown], counts: &mut [f64],
     counts[vertex] = unknown.clamp(solved);
 }
 
-/// Relaxes each vertex once: a sweep of projected Gauss-Seidel.
-fn sweep(rows: &[Row], links: &[Link], unknowns: &[Unknown], counts: &mut [f64], order: Order)
-    requires rows_each { length rows.now ≡ length counts.old }
-    requires unknowns_each { length unknowns.now ≡ length counts.old }
-{
-    let vertices = rows.len();
-    match order {
-        Order::Ascending => {
-            for vertex in 0..vertices {
-                relax(rows, links, unknowns, counts, vertex);
-            }
-        }
-        Order::Descending => {
-            for vertex in (0..vertices).rev() {
-                relax(rows, links, unknowns, counts, vertex);
-            }
-        }
-        Order::RedBlack => {
-            for pair in 0..vertices.div_ceil(2) {
-                relax(rows, links, unknowns, counts, 2 * pair);
-            }
-            for pair in 0..vertices / 2 {
-                relax(rows, links, unknowns, counts, 2 * pair + 1);
-            }
-        }
-    }
-}
-
 impl<'a> Problem<'a> {
     /// A problem that begins with these counts, which nothing is asked of and which may not move.
     pub(crate) fn new(
@@ -169,13 +124,35 @@ impl<'a> Problem<'a> {
         })
     }
 
-    /// Relaxes each vertex once.
+    /// Relaxes each vertex once: a sweep of projected Gauss-Seidel.
     fn smooth(&mut self, order: Order) {
         let rows = self.level.rows.as_slice();
+        let links = self.level.links.as_slice();
         let unknowns = self.unknowns.as_slice();
         let counts = self.counts.as_mut_slice();
-        if rows.len() == counts.len() && unknowns.len() == counts.len() {
-            sweep(rows, &self.level.links, unknowns, counts, order);
+        let vertices = rows.len();
+        if vertices != counts.len() || vertices != unknowns.len() {
+            return;
+        }
+        match order {
+            Order::Ascending => {
+                for vertex in 0..vertices {
+                    relax(rows, links, unknowns, counts, vertex);
+                }
+            }
+            Order::Descending => {
+                for vertex in (0..vertices).rev() {
+                    relax(rows, links, unknowns, counts, vertex);
+                }
+            }
+            Order::RedBlack => {
+                for pair in 0..vertices.div_ceil(2) {
+                    relax(rows, links, unknowns, counts, 2 * pair);
+                }
+                for pair in 0..vertices / 2 {
+                    relax(rows, links, unknowns, counts, 2 * pair + 1);
+                }
+            }
         }
     }
 
@@ -195,7 +172,9 @@ impl<'a> Problem<'a> {
                 before.count = counts[vertex];
                 before.residual = residual(rows, &self.level.links, counts, unknown.rhs, vertex);
                 if let Some(sum) = sums.get_mut(aggregates[vertex] as usize) {
-                    sum.add(unknown, *before);
+                    sum.rhs += before.residual;
+                    sum.low = sum.low.max(unknown.low - before.count);
+                    sum.high = sum.high.min(unknown.high - before.count);
                 }
             }
         }
@@ -261,7 +240,8 @@ impl<'a> Problem<'a> {
         for vertex in 0..rows.len().min(unknowns.len()).min(counts.len()) {
             let unknown = &unknowns[vertex];
             let left = residual(rows, &self.level.links, counts, unknown.rhs, vertex);
-            if unknown.is_free(left, counts[vertex]) {
+            let (own, rises) = (counts[vertex], left > 0.0);
+            if (rises && own < unknown.high) || (!rises && own > unknown.low) {
                 sums.0 += left.abs();
                 sums.1 += unknown.rhs;
                 sums.2 += unknown.rhs - left;

@@ -136,9 +136,9 @@ fn kind_of(alloc: Global, ins: &Level, outs: &Level) -> Result<Kind, AllocError>
 fn add(numbers: &mut [i64], links: &[Link], times: i64) -> i64 {
     let mut sum = 0i64;
     for link in links {
-        sum = sum.wrapping_add(link.chips());
+        sum = sum.wrapping_add(i64::from(link.mult));
         if let Some(number) = numbers.get_mut(link.vertex as usize) {
-            *number = number.wrapping_add(link.chips().wrapping_mul(times));
+            *number = number.wrapping_add(i64::from(link.mult).wrapping_mul(times));
         }
     }
     sum
@@ -219,9 +219,8 @@ fn strongest(links: &[Link], aggregates: &[u32]) -> u32 {
     let mut most = 0i64;
     for link in links {
         let is_free = at(aggregates, link.vertex) == NONE;
-        let sends = link
-            .chips()
-            .saturating_mul(if is_free { FREE_WEIGHT } else { 1 });
+        let weight = if is_free { FREE_WEIGHT } else { 1 };
+        let sends = i64::from(link.mult).saturating_mul(weight);
         if sends > most {
             strongest = link.vertex;
             most = sends;
@@ -284,7 +283,7 @@ impl Level {
             for link in fine.links_of(vertex as usize) {
                 let other = at(&fine.aggregates, link.vertex);
                 if other == aggregate {
-                    degree = degree.wrapping_sub(link.chips());
+                    degree = degree.wrapping_sub(i64::from(link.mult));
                 } else if other != NONE {
                     self.add_link(places, begin, other, link.mult)?;
                 }

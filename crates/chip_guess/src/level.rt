@@ -11,7 +11,7 @@ pub(crate) const NONE: u32 = u32::MAX;
 pub(crate) struct Link {
     /// The vertex at the other end.
     pub(crate) vertex: u32,
-    /// How many chips, up to 2^32 - 1.
+    /// How many chips a firing brings along it, up to 2^32 - 1.
     pub(crate) mult: u32,
 }
 
@@ -64,14 +64,6 @@ pub(crate) fn gather(rows: &[Row], links: &[Link], counts: &[f64], rhs: f64, ver
         }
     }
     sum
-}
-
-impl Link {
-    /// How many chips a firing brings along it.
-    #[inline]
-    pub(crate) fn chips(&self) -> i64 {
-        i64::from(self.mult)
-    }
 }
 
 impl Level {

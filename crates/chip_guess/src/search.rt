@@ -98,14 +98,21 @@ impl<'a> Search<'a> {
             if self.stage == Stage::Found || self.stage == Stage::GivenUp {
                 return Ok(true);
             }
-            let phase = self.looks_of_phase();
+            // Between two phases the graph is looked at thrice, and its vertices ten times more.
+            let finest = &self.hierarchy.finest;
+            let vertices = (finest.rows.len() as u64).saturating_mul(10);
+            let phase = finest.size().saturating_mul(3).saturating_add(vertices);
             let rest = most.saturating_sub(phase).max(*looks);
             if !spend(looks, self.looks_of_step(), rest) {
                 return Ok(false);
             }
             self.steps = self.steps.saturating_add(1);
             let phases = self.phases;
-            self.step(alloc)?;
+            self.stage = match mem::replace(&mut self.stage, Stage::GivenUp) {
+                Stage::Solving => self.solve(alloc)?,
+                Stage::Fitting => self.fit(alloc)?,
+                _ => self.burn(alloc)?,
+            };
             if self.phases != phases {
                 spend(looks, phase, most);
             }
@@ -153,25 +160,6 @@ impl<'a> Search<'a> {
         let more = finest.size().saturating_mul(if is_once { 1 } else { 2 });
         let all = self.hierarchy.size().saturating_mul(5);
         all.saturating_add(vertices).saturating_add(more)
-    }
-
-    /// What is looked at at most where one phase ends and the next one begins, solving, burning or fitting: the graph
-    /// thrice, and its vertices ten times more.
-    fn looks_of_phase(&self) -> u64 {
-        let finest = &self.hierarchy.finest;
-        let vertices = (finest.rows.len() as u64).saturating_mul(10);
-        finest.size().saturating_mul(3).saturating_add(vertices)
-    }
-
-    /// Makes a step.
-    fn step(&mut self, alloc: Global) -> Result<(), AllocError> {
-        self.stage = match mem::replace(&mut self.stage, Stage::GivenUp) {
-            Stage::Solving => self.solve(alloc)?,
-            Stage::Fitting => self.fit(alloc)?,
-            Stage::Burning => self.burn(alloc)?,
-            over => over,
-        };
-        Ok(())
     }
 
     /// Begins to solve for the target heights that are tried, or gives up where all were tried.

@@ -30,8 +30,7 @@ pub(crate) struct Vertex {
 pub(crate) struct Burning<'a> {
     hierarchy: &'a Hierarchy,
     vertices: Vec<Vertex>,
-    /// The chips that the counts leave each vertex, less what its neighbours have taken back: it burns where this is
-    /// not below 0.
+    /// The chips left to each vertex less what its neighbours have taken back: it burns where this is not below 0.
     slacks: Vec<i64>,
     /// The vertices that are to burn in this step, the last one next: its neighbours are still at hand.
     waiting: Vec<u32>,
@@ -103,8 +102,17 @@ impl<'a> Burning<'a> {
         let vertices = self.hierarchy.finest.rows.len();
         self.vertices = vec![in alloc; Vertex::at_rest(); vertices]?;
         self.slacks = vec![in alloc; 0; vertices]?;
-        if !self.count(target, counts) {
-            return Ok(false);
+        let (chips, fired) = (target.game.start(), target.fired);
+        let slacks = self.slacks.as_mut_slice();
+        for (vertex, own) in self.vertices.iter_mut().enumerate() {
+            if vertex < chips.len() && vertex < fired.len() && vertex < slacks.len() {
+                let (fires, left) = left_by(&self.hierarchy.finest, chips[vertex], counts, vertex);
+                own.fires = fires.wrapping_sub(fired[vertex].cast_signed());
+                let Ok(slack) = i64::try_from(left) else {
+                    return Ok(false);
+                };
+                slacks[vertex] = slack;
+            }
         }
         self.begin_steps();
         Ok(true)
@@ -117,24 +125,6 @@ impl<'a> Burning<'a> {
         self.waiting = Vec::new(alloc);
     }
 
-    /// Finds how often each vertex fires and what that leaves it, as far as this fits 64 bits; whether it does.
-    fn count(&mut self, target: Target<'_>, counts: &[f64]) -> bool {
-        let chips = target.game.start();
-        let fired = target.fired;
-        let slacks = self.slacks.as_mut_slice();
-        for (vertex, own) in self.vertices.iter_mut().enumerate() {
-            if vertex < chips.len() && vertex < fired.len() && vertex < slacks.len() {
-                let (fires, left) = left_by(&self.hierarchy.finest, chips[vertex], counts, vertex);
-                own.fires = fires.wrapping_sub(fired[vertex].cast_signed());
-                let Ok(slack) = i64::try_from(left) else {
-                    return false;
-                };
-                slacks[vertex] = slack;
-            }
-        }
-        true
-    }
-
     /// Finds what comes in from all that unfire, of which none is unburnt.
     fn begin_steps(&mut self) {
         self.steps = 0;
@@ -143,7 +133,12 @@ impl<'a> Burning<'a> {
         self.looks = 0;
         let mut looks = 0u64;
         for vertex in 0..self.vertices.len() {
-            let comes = self.inflow(vertex);
+            let mut comes = 0i64;
+            for link in self.hierarchy.finest.links_of(vertex) {
+                if self.at(link.vertex as usize).unfires() {
+                    comes = comes.wrapping_add(i64::from(link.mult));
+                }
+            }
             if let Some(own) = self.vertices.get_mut(vertex) {
                 own.comes = comes;
                 own.is_burnt = true;
@@ -159,17 +154,6 @@ impl<'a> Burning<'a> {
                 self.looks = looks;
             }
         }
-    }
-
-    /// What comes into a vertex where each that unfires fires once.
-    fn inflow(&self, vertex: usize) -> i64 {
-        let mut comes = 0i64;
-        for link in self.hierarchy.finest.links_of(vertex) {
-            if self.at(link.vertex as usize).unfires() {
-                comes = comes.wrapping_add(i64::from(link.mult));
-            }
-        }
-        comes
     }
 
     /// What is known of a vertex.
@@ -249,7 +233,7 @@ impl<'a> Burning<'a> {
                 head.comes = head.comes.wrapping_sub(i64::from(link.mult));
             }
             if (link.vertex as usize) < vertex {
-                self.bring(*link)?;
+                bring(&self.vertices, &mut self.slacks, &mut self.waiting, *link)?;
             }
         }
         Ok(())
@@ -258,34 +242,24 @@ impl<'a> Burning<'a> {
     /// Burns the vertices that may burn, one after the other.
     fn burn(&mut self) -> Result<(), AllocError> {
         let outs = self.hierarchy.outs();
-        self.unburnt = self.unfired;
-        for _ in 0..self.vertices.len() {
-            let Some(vertex) = self.waiting.pop() else {
+        // (what is reached through `self` is read anew at each link)
+        let vertices = self.vertices.as_mut_slice();
+        let slacks = self.slacks.as_mut_slice();
+        let waiting = &mut self.waiting;
+        let mut unburnt = self.unfired;
+        for _ in 0..vertices.len() {
+            let Some(vertex) = waiting.pop() else {
                 break;
             };
-            self.unburnt = self.unburnt.saturating_sub(1);
-            if let Some(own) = self.vertices.get_mut(vertex as usize) {
+            unburnt = unburnt.saturating_sub(1);
+            if let Some(own) = vertices.get_mut(vertex as usize) {
                 own.is_burnt = true;
             }
             for link in outs.links_of(vertex as usize) {
-                self.bring(*link)?;
+                bring(vertices, slacks, waiting, *link)?;
             }
         }
-        Ok(())
-    }
-
-    /// Brings a vertex what another one sends it along a link, and has it wait where it may burn by that.
-    #[inline]
-    fn bring(&mut self, link: Link) -> Result<(), AllocError> {
-        let head = link.vertex as usize;
-        if head < self.slacks.len() {
-            let before = self.slacks[head];
-            let slack = before.wrapping_add(i64::from(link.mult));
-            self.slacks[head] = slack;
-            if before < 0 && slack >= 0 && self.at(head).unfires() {
-                self.waiting.push(link.vertex)?;
-            }
-        }
+        self.unburnt = unburnt;
         Ok(())
     }
 
@@ -306,27 +280,23 @@ impl<'a> Burning<'a> {
         }
     }
 
-    /// Takes firings back from each vertex that fires and lacks more than a chip to fire once more; whether
-    /// there was any.
+    /// Takes firings back from each vertex that fires and lacks more than a chip to fire once more; whether it did.
     fn earn_all(&mut self) -> bool {
         let mut any = false;
         for vertex in self.first..self.end {
             let degree = self.hierarchy.finest.degree(vertex);
-            let fires = self.at(vertex).fires;
             let chips = self.slacks.get(vertex).copied().unwrap_or(0);
             let lacks = degree.wrapping_sub(1).wrapping_sub(chips);
-            if fires <= 0 || lacks <= 0 || degree <= 0 {
-                continue;
+            let fires = self.at(vertex).fires;
+            if fires > 0 && lacks > 0 && degree > 0 {
+                self.fire(vertex, quotient(lacks, degree).min(fires).wrapping_neg());
+                any = true;
             }
-            let back = (lacks.wrapping_sub(1) / degree).wrapping_add(1);
-            self.fire(vertex, back.min(fires).wrapping_neg());
-            any = true;
         }
         any
     }
 
-    /// Pins walls, whose counts stay as they are: the vertices at whose distance from the sink, divided by
-    /// `WALL_SPACING`, this rest is left.
+    /// Pins walls: the vertices at whose distance from the sink, divided by `WALL_SPACING`, this rest is left.
     pub(crate) fn pin(&mut self, graph: &Graph, rest: u64) {
         for (vertex, own) in self.vertices.iter_mut().enumerate() {
             let vertex = vertex as u64;
@@ -406,6 +376,35 @@ impl<'a> Burning<'a> {
             counts.push(count.min(limit))?;
         }
         Ok(counts)
+    }
+}
+
+/// Brings a vertex what another one sends it along a link, and has it wait where it may burn by that.
+#[inline]
+fn bring(
+    vertices: &[Vertex],
+    slacks: &mut [i64],
+    waiting: &mut Vec<u32>,
+    link: Link,
+) -> Result<(), AllocError> {
+    let head = link.vertex as usize;
+    if head < slacks.len() && head < vertices.len() {
+        let before = slacks[head];
+        let slack = before.wrapping_add(i64::from(link.mult));
+        slacks[head] = slack;
+        if before < 0 && slack >= 0 && vertices[head].unfires() {
+            waiting.push(link.vertex)?;
+        }
+    }
+    Ok(())
+}
+
+/// A quotient of positive numbers, rounded up.
+fn quotient(a: i64, b: i64) -> i64 {
+    if a > 0 && b > 0 {
+        ((a - 1) / b).wrapping_add(1)
+    } else {
+        0
     }
 }
 

@@ -212,8 +212,7 @@ fn aggregate(rows: &[Row], links: &[Link], aggregates: &mut [u32]) -> usize {
     count
 }
 
-/// The vertex that sends most along these links, where one that is in no aggregate counts more; `NONE` where
-/// there is no link.
+/// The vertex that sends most along these links, where one in no aggregate counts more; `NONE` where there is none.
 fn strongest(links: &[Link], aggregates: &[u32]) -> u32 {
     let mut strongest = NONE;
     let mut most = 0i64;

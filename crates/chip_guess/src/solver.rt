@@ -101,8 +101,7 @@ impl<'a> Solver<'a> {
         Ok(())
     }
 
-    /// Makes a cycle where more than little is left. It diverges where some cycles do not halve what is left, or
-    /// where many do not do.
+    /// Makes a cycle where more than little is left. It diverges where some do not halve that, or many do not do.
     pub(crate) fn step(&mut self) -> Progress {
         let norm = self.norm();
         if norm <= self.tolerance {

@@ -12,7 +12,7 @@ use Rattle.chip_net.specs.declared.actor.Turn.{Turn}
 use Rattle.chip_net.specs.declared.actor.Turn.TheVariants.{Worked, Waiting, Idle}
 use Rattle.chip_net.specs.Views.{History, IsAlone}
 use Rattle.chip_net.specs.Tokens.{NetId, ActorKnown, part_known, known, table_of, me_of, AnswersTurn, MakesTurn, MakesTurnBy}
-use Rattle.chip_net.proofs.RulingLemmas.{Mine}
+use Rattle.chip_net.specs.Views.{Mine}
 
 module _ (own after : ActorKnown) (work : ℕ) (made : MakesTurnBy own after work) where
   makes : (answer : Turn)

@@ -1,8 +1,8 @@
 -- Serves Finish.antt, Roots.antt.
 -- What the root makes of its reads.
-use Rattle.std.proofs.Common.{◌≡◌, ℕ, zero, suc, ◌<◌, ◌≤◌, sum, ◌||◌, ◌&&◌, Bool, not, true, false, List, [], ◌∷◌, length, map}
-use Rattle.std.proofs.Common.{get_or, slice_index, Option, Some, None, is_some, Contains, refl, sym, ap, ◌∙◌, subst}
-use Rattle.std.proofs.Common.{arith}
+use Rattle.std.proofs.Common.{◌≡◌, ℕ, zero, suc, ◌<◌, ◌≤◌, sum, ◌||◌, ◌&&◌, Bool, not, true, false, List, [], ◌∷◌}
+use Rattle.std.proofs.Common.{length, map, get_or, slice_index, Option, Some, None, is_some, Contains, refl, sym, ap}
+use Rattle.std.proofs.Common.{◌∙◌, subst, arith}
 use Rattle.std.proofs.lemmas.List.{get_or_past, length-map}
 use Rattle.std.proofs.lemmas.List.FromFn.{length-map-range_with_len}
 use Rattle.chip_graph.specs.ChipGame.{ChipGame}
@@ -20,7 +20,7 @@ use Rattle.chip_link.specs.Words.{fired_in, is_halted_in, is_by_limit_in, is_fir
 use Rattle.chip_part.specs.Setting.{Setting, IsSetting}
 use Rattle.chip_part.specs.declared.cause.Cause.{Cause}
 use Rattle.chip_part.specs.declared.cause.Cause.TheVariants.{SealedEdge, FiringLimit}
-use Rattle.chip_part.specs.Edges.{root}
+use Rattle.chip_part.specs.Edges.{root, root_edge}
 use Rattle.chip_part.specs.Part.{Part, opening_part, is_by_limit, AreGiven}
 use Rattle.chip_core.specs.Core.{Log, Step, Read, part_in, word_of_part, IsLegalLog, IsClosed}
 use Rattle.chip_core.specs.Laws.{WordsOf}
@@ -34,16 +34,14 @@ use Rattle.chip_core.proofs.GivenLemmas.{given_is, given_start, given_within, pl
 use Rattle.chip_core.proofs.ClosingLemmas.{all_ended}
 use Rattle.chip_core.proofs.OutcomeLemmas.{never_negative, comes, in_range, is_played}
 use Rattle.chip_net.specs.Roots.{RootKnown, root_part, root_after, fed_by}
-use Rattle.chip_net.specs.Finish.{reads_from, IsReadOut, ReadingsState, is_by_limit_at, is_by_seal_at, AreRead, IsReading}
-use Rattle.chip_net.specs.Finish.{IsOneEnd}
-use Rattle.chip_net.specs.Finish.{Finishes}
+use Rattle.chip_net.specs.Finish.{reads_from, IsReadOut, ReadingsState, is_by_limit_at, is_by_seal_at, AreRead}
+use Rattle.chip_net.specs.Finish.{IsReading, IsOneEnd, Finishes}
 use Rattle.chip_net.specs.Meeting.{Together, IsRun}
 use Rattle.chip_net.proofs.ViewingLemmas.{part_append}
 use Rattle.chip_net.proofs.ReadingLemmas.{reads_feed_none, reads_given, reads_at, done_in_log}
 use Rattle.chip_net.specs.Tokens.{NetId, ActorKnown}
 use Rattle.chip_core.proofs.ReadLemmas.{reads_tell}
 use Rattle.chip_part.specs.Steps.{saw}
-use Rattle.chip_part.specs.Edges.{root_edge}
 use Rattle.chip_part.proofs.EdgeLemmas.{tail_root}
 use Rattle.chip_link.specs.Link.{sent_counts}
 use Rattle.std.proofs.lemmas.List.Elements.{Contains-append_right}

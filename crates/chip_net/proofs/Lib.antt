@@ -14,6 +14,5 @@ pub mod ReadingLemmas
 pub mod UnsealedLemmas
 pub mod FeedingLemmas
 pub mod FinishingLemmas
-pub mod ReceivingLemmas
 pub mod ReachingLemmas
 pub mod CrossingLemmas

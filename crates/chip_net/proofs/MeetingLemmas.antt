@@ -1,26 +1,18 @@
 -- Serves Meeting.antt, Rule.antt.
--- A look changes nothing, a new seat has no part, and actors lend their parts one after another.
+-- A look changes nothing, and actors lend their parts one after another.
 use Rattle.std.proofs.Common.{◌≡◌, ℕ, zero, suc, ◌+◌, ◌<◌, List, [], ◌∷◌, length, set, get_or, Some, refl, sym, ap, ◌∙◌}
-use Rattle.std.proofs.Common.{subst, arith, ⊎_elim}
+use Rattle.std.proofs.Common.{subst, arith}
+use Rattle.std.proofs.lemmas.List.{set-get_or}
 use Rattle.std.specs.Prelude.{slice_get}
-use mathlib.Core.Option.{some}
-use lib.ListN.{get_elem?}
-use Rattle.atomic_table.specs.Table.{State, keeps, Allows, Enters}
-use Rattle.atomic_table.proofs.Lists.{set_again, at_longer, at_snoc}
+use Rattle.atomic_table.specs.Table.{State, keeps, Allows}
+use Rattle.atomic_table.proofs.Lists.{set_again}
 use Rattle.chip_part.specs.Setting.{Setting}
-use Rattle.chip_net.specs.Views.{View, find, no_parts}
+use Rattle.chip_net.specs.Views.{View, Mine, find_in}
 use Rattle.chip_net.specs.Rule.{Kept, Looks}
 use Rattle.chip_net.specs.Tokens.{NetId, ActorKnown}
 use Rattle.chip_net.specs.Meeting.{AreInPlace}
-use Rattle.chip_net.proofs.ViewingLemmas.{none_some}
-use Rattle.chip_net.proofs.RulingLemmas.{Mine}
 
 -- ---- a look
-
-set_read : (l : List ℕ) (i : ℕ) → set l i (get_or l i 0) ≡ l
-set_read [] i = refl
-set_read (x ∷ xs) zero = refl
-set_read (x ∷ xs) (suc i) = ap (λ (l : List ℕ). x ∷ l) (set_read xs i)
 
 pub may_look : (g : Setting) (slots id word : ℕ) (me : Mine)
     → Allows (Kept g) slots id me word (λ n. n) (Looks g me)
@@ -30,7 +22,7 @@ may_look g slots id word me table kept homes at few = (
   tt,
   subst (λ (s : State (Unit {0}) View). Kept g s)
       (λ i. record {
-        words = sym (set_read table.words word) i;
+        words = sym (set-get_or table.words word 0) i;
         homes = table.homes;
         views = sym (set_again table.views id me.0 at) i;
       }) kept,
@@ -39,31 +31,9 @@ may_look g slots id word me table kept homes at few = (
     record {
       log = kept.log;
       legal = kept.legal;
-      has = λ p did found. (kept.each_part id me.0 at p did found).1;
+      has = λ p did found. (kept.each_part p id did (ap (find_in p) at ∙ found)).1;
     },
   ),
-)
-
--- a new seat has no part
-pub may_enter : (g : Setting) (slots : ℕ)
-    → Enters (Kept g) slots 0 (λ n v. ◌≡◌ {A = Mine} (v, []) (no_parts, []))
-may_enter g slots table kept homes few = (
-  no_parts,
-  record {
-    log = kept.log;
-    owner = kept.owner;
-    setting = kept.setting;
-    wide = kept.wide;
-    each_part = λ j u there p did found. ⊎_elim (λ (old : get_elem? table.views j ≡ some u). kept.each_part j u old p did found)
-        (λ (new : no_parts ≡ u). absurd (none_some did (subst (λ (v : View). find p v.parts ≡ Some did) (sym new) found)))
-        (at_snoc table.views no_parts u j there);
-    there = λ p l.
-        let old = kept.there p l in
-        (old.0, at_longer table.views (no_parts ∷ []) (kept.owner p) old.0 old.1, old.2);
-    shown = kept.shown;
-    legal = kept.legal;
-  },
-  refl,
 )
 
 -- ---- actors one after another, in their places

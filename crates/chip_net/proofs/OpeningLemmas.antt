@@ -1,11 +1,10 @@
 -- Serves Layout.antt, Views.antt, Opening.antt.
 -- The table at the opening meets the rule.
-use Rattle.std.proofs.Common.{◌≡◌, ◌≢◌, ℕ, zero, suc, ◌+◌, ◌-◌, ◌<◌, cond, eqb, ltb, List, [], ◌∷◌, length, get_or, set}
-use Rattle.std.proofs.Common.{length-set, Some, refl, sym, ap, ◌∙◌, subst, arith, lt-ltb, le-ltb}
+use Rattle.std.proofs.Common.{◌≡◌, ◌≢◌, ℕ, zero, suc, ◌+◌, ◌<◌, cond, ltb, List, [], ◌∷◌, length, get_or, set}
+use Rattle.std.proofs.Common.{length-set, Some, refl, sym, ap, ◌∙◌, arith, lt-ltb, le-ltb}
 use Rattle.std.proofs.lemmas.List.{get_or_past}
 use Rattle.std.proofs.Math.Nat.{mod-eq_of_lt}
 use mathlib.Core.Logic.{dite}
-use mathlib.Core.Option.{some, some-injective, some-ne-none}
 use native.Mathlib.Decide.{ℕ_discrete, dec_lt}
 use lib.ListN.{get_elem?}
 use Rattle.atomic_table.specs.Table.{opening}
@@ -18,11 +17,11 @@ use Rattle.chip_core.specs.Words.{Word, of_edge, of_acks, of_cell, of_vertex, Is
 use Rattle.chip_core.proofs.ShowingLemmas.{other_kind, other_owner, other_cell}
 use Rattle.chip_root.proofs.RootLemmas.{first_root}
 use Rattle.chip_net.specs.Layout.{index_of, word_count, value_in}
-use Rattle.chip_net.specs.Views.{View, find, opening_view}
+use Rattle.chip_net.specs.Views.{find_in, opening_view}
 use Rattle.chip_net.specs.Rule.{Kept}
 use Rattle.chip_net.specs.Opening.{first_value, AreOpening}
 use Rattle.chip_net.proofs.LayingLemmas.{written_here, written_else}
-use Rattle.chip_net.proofs.ViewingLemmas.{part_there, part_empty}
+use Rattle.chip_net.proofs.ViewingLemmas.{none_some, part_there, part_empty}
 
 -- of a count of edges, one more only matters at that edge
 counted : (e n : ℕ) (x : ℕ) → (e ≡ n → x ≡ 0) → cond (ltb e n) x 0 ≡ cond (ltb e (n + 1)) x 0
@@ -112,7 +111,7 @@ module _ (g : Setting) where
     setting = setting;
     wide = opening.wide;
     each_part = first;
-    there = λ p l. (opening_view g, refl, part_there (g.game.graph.vertices + 2) p l);
+    there = λ p l. part_there (g.game.graph.vertices + 2) p l;
     shown = record {
       edges = λ e l. record {
         word_is = opening.each (of_edge e) l ∙ cond_true (ltb e (all_edges g)) _ 0 (lt-ltb e (all_edges g) l)
@@ -128,11 +127,7 @@ module _ (g : Setting) where
     legal = tt;
   }
     where
-      first : (j : ℕ) (v : View) → get_elem? (opening_view g ∷ []) j ≡ some v → (p : ℕ) (did : List Step)
-          → find p v.parts ≡ Some did → (0 ≡ j) × (did ≡ [])
-      first zero v e p did found = (
-        refl,
-        part_empty (g.game.graph.vertices + 2) p did
-            (subst (λ (w : View). find p w.parts ≡ Some did) (sym (some-injective _ _ e)) found),
-      )
-      first (suc j) v e p did found = absurd (some-ne-none v (sym e))
+      first : (p j : ℕ) (did : List Step) → find_in p (get_elem? (opening_view g ∷ []) j) ≡ Some did
+          → (0 ≡ j) × (did ≡ [])
+      first p zero did found = (refl, part_empty (g.game.graph.vertices + 2) p did found)
+      first p (suc j) did found = absurd (none_some did found)

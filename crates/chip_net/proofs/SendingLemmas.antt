@@ -1,7 +1,7 @@
 -- Serves Roots.antt.
 -- A feed of the root: each of its three events is due when it is made, and nothing is held after it.
-use Rattle.std.proofs.Common.{◌≡◌, ◌≢◌, ℕ, ◌+◌, ◌<◌, ◌≤◌, Bool, true, false, cond, eqb, List, [], ◌∷◌, ◌++◌, sum, Some, None}
-use Rattle.std.proofs.Common.{refl, sym, ap, ◌∙◌, subst, arith, inr, append_assoc, true≢false}
+use Rattle.std.proofs.Common.{◌≡◌, ◌≢◌, ℕ, ◌+◌, ◌<◌, ◌≤◌, Bool, true, false, cond, eqb, [], ◌∷◌, sum, Some, None}
+use Rattle.std.proofs.Common.{refl, sym, ap, ◌∙◌, subst, arith, inr, eqb-true}
 use mathlib.Core.Logic.{dite}
 use native.Mathlib.Decide.{ℕ_discrete}
 use Rattle.chip_graph.specs.Limits.{max_total}
@@ -10,29 +10,14 @@ use Rattle.chip_link.specs.Link.{Tail, claims_of, sent_counts, after_clear, afte
 use Rattle.chip_part.specs.Setting.{Setting}
 use Rattle.chip_part.specs.Edges.{root_edge, graph_edges, all_edges}
 use Rattle.chip_part.specs.Part.{all_fed}
-use Rattle.chip_part.specs.Steps.{link_after, saw}
+use Rattle.chip_part.specs.Steps.{saw}
 use Rattle.chip_part.specs.declared.reply.Reply.TheVariants.{Done, Full}
 use Rattle.chip_part.proofs.RuleLemmas.{met_rules}
-use Rattle.chip_core.specs.Core.{Step, Clear, Put, Feed, Part, Out, opening_part, does, unmet_rule}
+use Rattle.chip_core.specs.Core.{Step, Clear, Put, Feed, Part, opening_part, does, unmet_rule}
 use Rattle.chip_net.specs.Roots.{RootKnown, root_part, root_after, has_ended, all_given, IsDueForRoot}
 use Rattle.chip_net.specs.Roots.{MakesEvent, HoldsNothing, Feeds, LooksInVain}
 use Rattle.chip_net.proofs.ViewingLemmas.{part_append}
-use Rattle.chip_net.proofs.RootingLemmas.{root_step, holds_by, held_clear}
-
--- a look leaves what was sent
-sent_clear : (e i : ℕ) (o : Out) → sent_counts (link_after (Clear e) 0 i o) ≡ sent_counts o.link
-sent_clear e i o = by_bool (eqb e i)
-  where
-    by_bool : (b : Bool) → sent_counts (cond b (after_clear 0 o.link) o.link) ≡ sent_counts o.link
-    by_bool true = refl
-    by_bool false = refl
-
-claims_clear : (e i : ℕ) (o : Out) → claims_of (link_after (Clear e) 0 i o) ≡ claims_of o.link
-claims_clear e i o = by_bool (eqb e i)
-  where
-    by_bool : (b : Bool) → claims_of (cond b (after_clear 0 o.link) o.link) ≡ claims_of o.link
-    by_bool true = refl
-    by_bool false = refl
+use Rattle.chip_net.proofs.RootingLemmas.{root_step, steps_more, holds_by, by_look}
 
 -- what a look replies
 found_empty : (b : Bool) (claims place : ℕ) → Done place ≡ cond b (Done claims) Full → (b ≡ true) × (place ≡ claims)
@@ -41,12 +26,7 @@ found_empty false claims place is = absurd (cc)
 
 pub look_done : (seen claims place : ℕ) → Done place ≡ cond (eqb seen 0) (Done claims) Full → (seen ≡ 0) × (place ≡ claims)
 look_done seen claims place is = let both = found_empty (eqb seen 0) claims place is in
-    (Rattle.std.proofs.Common.eqb-true seen 0 both.0, both.1)
-
--- steps after steps
-steps_more : (r : RootKnown) (xs ys : List Step) → root_after (root_after r xs) ys ≡ root_after r (xs ++ ys)
-steps_more r xs ys = ap (λ (d : List Step). record { net = r.net; did = d; stopper_did = r.stopper_did })
-    (append_assoc r.did xs ys)
+    (eqb-true seen 0 both.0, both.1)
 
 -- so many chips may be fed to a vertex, whose root edge is e
 pub record MayFeed (r : RootKnown) (vertex e count : ℕ) : Type 0 where
@@ -91,7 +71,10 @@ module _ (r : RootKnown) (vertex e count : ℕ) (f : MayFeed r vertex e count) w
   same_fed : all_fed g s1 ≡ all_fed g s
   same_fed = sum_below_ext g.game.graph.vertices (λ v. sum (sent_counts (s1.out (root_edge g v)).link))
       (λ v. sum (sent_counts (s.out (root_edge g v)).link))
-      (λ v l. ap sum (sent_clear e (root_edge g v) (s.out (root_edge g v))))
+      (λ v l. ap sum (by_look sent_counts 0 (λ t. refl) e (root_edge g v) (s.out (root_edge g v))))
+
+  same_claims : claims_of (s1.out e).link ≡ claims_of (s.out e).link
+  same_claims = by_look claims_of 0 (λ t. refl) e e (s.out e)
 
   feed_met : unmet_rule g (Feed e count) s1 ≡ None
   feed_met = met_rules g (Feed e count) s1 (
@@ -120,7 +103,7 @@ module _ (r : RootKnown) (vertex e count : ℕ) (f : MayFeed r vertex e count) w
       -- it saw how many were sent before
       place2 : seen2 ≡ claims_of (s.out e).link
       place2 = made2.fits ∙ ap (λ (k : RootKnown). claims_of ((root_part k).out e).link) first
-          ∙ ap (λ (t : Part). claims_of (t.out e).link) (root_step r look) ∙ claims_clear e e (s.out e)
+          ∙ ap (λ (t : Part). claims_of (t.out e).link) (root_step r look) ∙ same_claims
 
       second : r2 ≡ root_after r (look ∷ feed ∷ [])
       second = made2.record_is ∙ ap (λ (k : RootKnown). root_after k (feed ∷ [])) first
@@ -135,7 +118,7 @@ module _ (r : RootKnown) (vertex e count : ℕ) (f : MayFeed r vertex e count) w
       claimed : (s2.out e).link.held ≡ Some count
       claimed = ap (λ (t : Tail). t.held)
           (cond_yes e e (after_claim count seen2 (s1.out e).link) (s1.out e).link refl
-          ∙ cond_yes seen2 (claims_of (s1.out e).link) _ _ (place2 ∙ sym (claims_clear e e (s.out e))))
+          ∙ cond_yes seen2 (claims_of (s1.out e).link) _ _ (place2 ∙ sym same_claims))
 
       pub due3 : IsDueForRoot r2 (Put e)
       due3 = subst (λ (k : RootKnown). IsDueForRoot k (Put e)) (sym second) (
@@ -184,7 +167,7 @@ module _ (r : RootKnown) (vertex e count : ℕ) (f : MayFeed r vertex e count) w
 
   module _ (r1 : RootKnown) (seen1 : ℕ) (made1 : MakesEvent r r1 (Clear e) seen1) where
     pub free1 : HoldsNothing r1
-    free1 = holds_by r r1 (Clear e) seen1 (held_clear e seen1) made1 f.free
+    free1 = holds_by made1 (by_look (λ (t : Tail). t.held) seen1 (λ t. refl) e) f.free
 
     pub in_vain : seen1 ≢ 0 → LooksInVain r r1 vertex
     in_vain some = record {

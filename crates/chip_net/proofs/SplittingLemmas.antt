@@ -1,152 +1,135 @@
--- Serves Views.antt.
--- A part that is taken out stands in the new view alone, and one that is taken back in the view that took it.
-use Rattle.std.proofs.Common.{◌≡◌, ◌≢◌, ◌⊎◌, ℕ, zero, suc, eqb, List, [], ◌∷◌, ◌++◌, length, set, Option, Some, refl}
-use Rattle.std.proofs.Common.{sym, ap, ◌∙◌, subst, ⊎_elim, inl, inr}
+-- Serves Views.antt, Rule.antt.
+-- The rule where one part alone moved or did more: as it acts, as it is taken out, and as it is taken in.
+use Rattle.std.proofs.Common.{◌≡◌, ◌≢◌, ℕ, zero, suc, ◌+◌, ◌<◌, cond, eqb, List, [], ◌∷◌, ◌++◌, length, set, Option, Some}
+use Rattle.std.proofs.Common.{None, refl, sym, ap, ◌∙◌}
 use mathlib.Core.Logic.{dite}
-use mathlib.Core.Bool.{cond}
-use mathlib.Core.Option.{some, some-injective, some-ne-none}
+use mathlib.Core.Option.{some}
 use native.Mathlib.Decide.{ℕ_discrete}
 use lib.ListN.{get_elem?}
-use Rattle.atomic_table.specs.Table.{Splits, Joins}
-use Rattle.atomic_table.proofs.Lists.{at_set, at_longer, at_last, set_else}
-use Rattle.chip_graph.proofs.SumLemmas.{cond_yes, cond_no}
-use Rattle.chip_core.specs.Core.{Step}
-use Rattle.chip_core.specs.Histories.{done_by}
+use Rattle.atomic_table.specs.Table.{State, Splits, Joins, Enters}
+use Rattle.atomic_table.proofs.Lists.{at_last, set_else}
 use Rattle.chip_part.specs.Setting.{Setting}
-use Rattle.chip_net.specs.Views.{View, find, did_in, drop_part, one_part, view_without, view_of_one, IsAlone}
-use Rattle.chip_net.specs.Views.{join_views, no_parts}
+use Rattle.chip_part.proofs.PartLemmas.{at_other}
+use Rattle.chip_core.specs.Core.{Log, Step, IsLegalLog}
+use Rattle.chip_core.specs.Histories.{done_by}
+use Rattle.chip_core.specs.Words.{IsShown}
+use Rattle.chip_net.specs.Layout.{value_in}
+use Rattle.chip_net.specs.Views.{View, Mine, find, find_in, did_in, view_without, view_of_one, IsAlone, join_views, no_parts}
 use Rattle.chip_net.specs.Rule.{Kept}
-use Rattle.chip_net.proofs.ViewingLemmas.{none_some, some_is, set_there, dropped_here, dropped_else, only_finds}
-use Rattle.chip_net.proofs.ViewingLemmas.{alone_there, alone_else, joined_here, joined_else}
+use Rattle.chip_net.proofs.ViewingLemmas.{none_some, some_is, set_there, dropped_here, dropped_else, alone_has}
+use Rattle.chip_net.proofs.ViewingLemmas.{alone_there, alone_else, joined_here, joined_else, one_else}
 
-at_end : {A : Type 0} (l : List A) (a b : A) (j : ℕ) → get_elem? (l ++ a ∷ []) j ≡ some b
-    → (get_elem? l j ≡ some b) ⊎ ((j ≡ length l) × (a ≡ b))
-at_end [] a b zero e = inr (refl, some-injective a b e)
-at_end [] a b (suc j) e = absurd (some-ne-none b (sym e))
-at_end (x ∷ xs) a b zero e = inl e
-at_end (x ∷ xs) a b (suc j) e = ⊎_elim inl (λ (w : (j ≡ length xs) × (a ≡ b)). inr (ap suc w.0, w.1))
-    (at_end xs a b j e)
+-- ---- a part in a list of views
+
+none_but : (o : Option (List Step)) → ((d : List Step) → o ≡ Some d → ⊥) → o ≡ None
+none_but None never = refl
+none_but (Some d) never = absurd (never d refl)
+
+-- another view in the place of one, with the same of the part
+pub set_finds : (q : ℕ) (l : List View) (i : ℕ) (v w : View) → get_elem? l i ≡ some v → find q w.parts ≡ find q v.parts → (j : ℕ)
+    → find_in q (get_elem? (set l i w) j) ≡ find_in q (get_elem? l j)
+set_finds q l i v w at same j = dite (ℕ_discrete j i)
+    (λ e. ap (λ (n : ℕ). find_in q (get_elem? (set l i w) n)) e ∙ ap (find_in q) (set_there l i v w at) ∙ same
+    ∙ sym (ap (find_in q) at) ∙ ap (λ (n : ℕ). find_in q (get_elem? l n)) (sym e))
+    (λ other. ap (find_in q) (set_else l i j w other))
+
+-- one view more, with nothing of the part
+longer_finds : (q : ℕ) (l : List View) (w : View) → find q w.parts ≡ None → (j : ℕ)
+    → find_in q (get_elem? (l ++ w ∷ []) j) ≡ find_in q (get_elem? l j)
+longer_finds q [] w none zero = none
+longer_finds q [] w none (suc j) = refl
+longer_finds q (x ∷ xs) w none zero = refl
+longer_finds q (x ∷ xs) w none (suc j) = longer_finds q xs w none j
+
+longer_else : (l : List View) (w : View) (j : ℕ) → j ≢ length l → get_elem? (l ++ w ∷ []) j ≡ get_elem? l j
+longer_else [] w zero ne = absurd (ne refl)
+longer_else [] w (suc j) ne = refl
+longer_else (x ∷ xs) w zero ne = refl
+longer_else (x ∷ xs) w (suc j) ne = longer_else xs w j (λ e. ne (ap suc e))
+
+module _ (g : Setting) (s : State (Unit {0}) View) (kept : Kept g s) (p : ℕ) where
+  -- the part stands in one view alone
+  pub nowhere_else : (i : ℕ) (did : List Step) → find_in p (get_elem? s.views i) ≡ Some did → (j : ℕ) → j ≢ i
+      → find_in p (get_elem? s.views j) ≡ None
+  nowhere_else i did at j ne = none_but (find_in p (get_elem? s.views j))
+      (λ d found. ne (sym (kept.each_part p j d found).0 ∙ (kept.each_part p i did at).0))
+
+  pub moved : (to : ℕ) (log : Log) (words : List ℕ) (views : List View)
+      → ((q j : ℕ) → p ≢ q → find_in q (get_elem? views j) ≡ find_in q (get_elem? s.views j))
+      → find_in p (get_elem? views to) ≡ Some (done_by g p log)
+      → ((j : ℕ) → j ≢ to → find_in p (get_elem? views j) ≡ None)
+      → ((q : ℕ) → p ≢ q → done_by g q log ≡ done_by g q kept.log) → length words ≡ length s.words
+      → IsShown g log (value_in g words) → IsLegalLog g log
+      → Kept g record { words = words; homes = s.homes; views = views }
+  moved to log words views others here nowhere same wide shown legal = record {
+    log = log;
+    owner = λ q. cond (eqb p q) to (kept.owner q);
+    setting = kept.setting;
+    wide = wide ∙ kept.wide;
+    each_part = at_other (λ q (i : ℕ). (j : ℕ) (did : List Step) → find_in q (get_elem? views j) ≡ Some did
+        → (i ≡ j) × (did ≡ done_by g q log)) p (λ q. to) kept.owner
+        (λ j did found. dite (ℕ_discrete j to)
+        (λ at. (sym at, some_is _ _ (sym found ∙ ap (λ (i : ℕ). find_in p (get_elem? views i)) at ∙ here)))
+        (λ away. absurd (none_some did (sym (nowhere j away) ∙ found))))
+        (λ q other j did found.
+        let old = kept.each_part q j did (sym (others q j other) ∙ found) in (old.0, old.1 ∙ sym (same q other)));
+    there = at_other (λ q (i : ℕ). q < g.game.graph.vertices + 2 → find_in q (get_elem? views i) ≡ Some (done_by g q log))
+        p (λ q. to) kept.owner (λ l. here)
+        (λ q other l. others q (kept.owner q) other ∙ kept.there q l ∙ ap Some (sym (same q other)));
+    shown = shown;
+    legal = legal;
+  }
+
+-- ---- the calls of the table
+
+-- a new seat has no part
+pub may_enter : (g : Setting) (slots : ℕ) → Enters (Kept g) slots 0 (λ n v. ◌≡◌ {A = Mine} (v, []) (no_parts, []))
+may_enter g slots s kept homes few = (
+  no_parts,
+  record {
+    log = kept.log;
+    owner = kept.owner;
+    setting = kept.setting;
+    wide = kept.wide;
+    each_part = λ p j did found. kept.each_part p j did (sym (longer_finds p s.views no_parts refl j) ∙ found);
+    there = λ p l. longer_finds p s.views no_parts refl (kept.owner p) ∙ kept.there p l;
+    shown = kept.shown;
+    legal = kept.legal;
+  },
+  refl,
+)
 
 pub takes_out : (g : Setting) (id p : ℕ) (v : View) (did : List Step) → find p v.parts ≡ Some did
     → Splits (Kept g) id v (view_without p v) (view_of_one p v)
-takes_out g id p v did has s kept at = record {
-  log = kept.log;
-  owner = λ q. cond (eqb q p) (length (set s.views id (view_without p v))) (kept.owner q);
-  setting = kept.setting;
-  wide = kept.wide;
-  each_part = λ j u there q d found. ⊎_elim
-      (λ (old : get_elem? (set s.views id (view_without p v)) j ≡ some u). ⊎_elim
-      (λ (z : (j ≡ id) × (view_without p v ≡ u)).
-      let mine : find q (drop_part p v.parts) ≡ Some d = subst (λ (w : View). find q w.parts ≡ Some d) (sym z.1) found
-      in
-      let other : q ≢ p = λ e. none_some d (sym (dropped_here p v.parts)
-      ∙ subst (λ (n : ℕ). find n (drop_part p v.parts) ≡ Some d) e mine) in
-      let was = kept.each_part id v at q d (sym (dropped_else p q v.parts (λ e. other (sym e))) ∙ mine) in
-      (cond_no q p _ _ other ∙ was.0 ∙ sym z.0, was.1))
-      (λ (z : (j ≢ id) × (get_elem? s.views j ≡ some u)).
-      let was = kept.each_part j u z.1 q d found in
-      let mine = kept.each_part id v at p did has in
-      let other : q ≢ p = λ e. z.0 (sym was.0 ∙ ap kept.owner e ∙ mine.0) in
-      (cond_no q p _ _ other ∙ was.0, was.1))
-      (at_set s.views id j (view_without p v) u old))
-      (λ (new : (j ≡ length (set s.views id (view_without p v))) × (view_of_one p v ≡ u)).
-      let is = only_finds p q (find p v.parts) d (subst (λ (w : View). find q w.parts ≡ Some d) (sym new.1) found) in
-      let mine = kept.each_part id v at p d is.1 in
-      (cond_yes q p _ _ (sym is.0) ∙ sym new.0, mine.1 ∙ ap (λ (n : ℕ). done_by g n kept.log) is.0))
-      (at_end (set s.views id (view_without p v)) (view_of_one p v) u j there);
-  there = λ q l.
-      let old = kept.there q l in
-      let now : List View = set s.views id (view_without p v) in
-      dite (ℕ_discrete q p)
-      (λ e.
-      let mine : find p v.parts ≡ Some (done_by g p kept.log) = has ∙ ap Some (kept.each_part id v at p did has).1 in (
-        view_of_one p v,
-        ap (get_elem? (now ++ view_of_one p v ∷ [])) (cond_yes q p _ _ e)
-            ∙ at_last now (view_of_one p v) (length now) refl,
-        ap (λ (n : ℕ). find n (one_part p (find p v.parts))) e
-            ∙ ap (λ (o : Option (List Step)). find p (one_part p o)) mine
-            ∙ cond_yes p p _ _ refl ∙ ap (λ (n : ℕ). Some (done_by g n kept.log)) (sym e),
-      ))
-      (λ ne. dite (ℕ_discrete (kept.owner q) id)
-      (λ mine.
-      let same : v ≡ old.0 = some-injective _ _ (sym at ∙ ap (get_elem? s.views) (sym mine) ∙ old.1) in (
-        view_without p v,
-        ap (get_elem? (now ++ view_of_one p v ∷ [])) (cond_no q p _ _ ne ∙ mine)
-            ∙ at_longer now (view_of_one p v ∷ []) id (view_without p v) (set_there s.views id v (view_without p v) at),
-        dropped_else p q v.parts (λ e. ne (sym e)) ∙ ap (λ (u : View). find q u.parts) same ∙ old.2,
-      ))
-      (λ other. (
-        old.0,
-        ap (get_elem? (now ++ view_of_one p v ∷ [])) (cond_no q p _ _ ne)
-            ∙ at_longer now (view_of_one p v ∷ []) (kept.owner q) old.0 (set_else s.views id (kept.owner q) (view_without p v) other
-            ∙ old.1),
-        old.2,
-      )));
-  shown = kept.shown;
-  legal = kept.legal;
-}
+takes_out g id p v did has s kept at =
+    let left : List View = set s.views id (view_without p v) in
+    let was : find_in p (get_elem? s.views id) ≡ Some did = ap (find_in p) at ∙ has in
+    moved g s kept p (length left) kept.log s.words (left ++ view_of_one p v ∷ [])
+    (λ q j other. longer_finds q left (view_of_one p v) (one_else p q (find p v.parts) other) j
+    ∙ set_finds q s.views id v (view_without p v) at (dropped_else p q v.parts other) j)
+    (ap (find_in p) (at_last left (view_of_one p v) (length left) refl) ∙ alone_has p v did has
+    ∙ ap Some (kept.each_part p id did was).1)
+    (λ j ne. ap (find_in p) (longer_else left (view_of_one p v) j ne) ∙ dite (ℕ_discrete j id)
+    (λ e. ap (λ (n : ℕ). find_in p (get_elem? left n)) e
+    ∙ ap (find_in p) (set_there s.views id v (view_without p v) at) ∙ dropped_here p v.parts)
+    (λ other. ap (find_in p) (set_else s.views id j (view_without p v) other) ∙ nowhere_else g s kept p id did was j other))
+    (λ q other. refl) refl kept.shown kept.legal
 
 pub takes_in : (g : Setting) (id other p : ℕ) (v w : View) → IsAlone p w
     → Joins (Kept g) id v other w (join_views v w) no_parts
-takes_in g id other p v w alone_is s kept at apart there =
+takes_in g id other p v w alone s kept at apart there =
     let both : View = join_views v w in
     let between : List View = set s.views id both in
-    let at_other : get_elem? s.views other ≡ some w = sym (set_else s.views id other both apart) ∙ there in
-    let mine = kept.each_part other w at_other p (did_in p w) (alone_there p w alone_is) in
-    record {
-      log = kept.log;
-      owner = λ q. cond (eqb q p) id (kept.owner q);
-      setting = kept.setting;
-      wide = kept.wide;
-      each_part = λ j u here q d found. ⊎_elim
-          (λ (z : (j ≡ other) × (no_parts ≡ u)).
-          absurd (none_some d (subst (λ (x : View). find q x.parts ≡ Some d) (sym z.1) found)))
-          (λ (y : (j ≢ other) × (get_elem? between j ≡ some u)). ⊎_elim
-          (λ (z : (j ≡ id) × (both ≡ u)).
-          let now : find q both.parts ≡ Some d = subst (λ (x : View). find q x.parts ≡ Some d) (sym z.1) found in
-          dite (ℕ_discrete q p)
-          (λ e.
-          let whole : did_in p w ≡ d = some_is (did_in p w) d (sym (joined_here p v w alone_is)
-          ∙ subst (λ (n : ℕ). find n both.parts ≡ Some d) e now) in
-          (cond_yes q p _ _ e ∙ sym z.0, sym whole ∙ mine.1 ∙ ap (λ (n : ℕ). done_by g n kept.log) (sym e)))
-          (λ ne.
-          let was = kept.each_part id v at q d (sym (joined_else p q v w alone_is (λ e. ne (sym e))) ∙ now) in
-          (cond_no q p _ _ ne ∙ was.0 ∙ sym z.0, was.1)))
-          (λ (z : (j ≢ id) × (get_elem? s.views j ≡ some u)).
-          let was = kept.each_part j u z.1 q d found in
-          let ne : q ≢ p = λ e. y.0 (sym was.0 ∙ ap kept.owner e ∙ mine.0) in
-          (cond_no q p _ _ ne ∙ was.0, was.1))
-          (at_set s.views id j both u y.1))
-          (at_set between other j no_parts u here);
-      there = λ q l.
-          let old = kept.there q l in
-          let now : List View = set between other no_parts in
-          let here : get_elem? now id ≡ some both = set_else between other id no_parts (λ e. apart (sym e))
-          ∙ set_there s.views id v both at in
-          dite (ℕ_discrete q p)
-          (λ e. (
-            both,
-            ap (get_elem? now) (cond_yes q p _ _ e) ∙ here,
-            ap (λ (n : ℕ). find n both.parts) e ∙ joined_here p v w alone_is ∙ ap Some mine.1
-                ∙ ap (λ (n : ℕ). Some (done_by g n kept.log)) (sym e),
-          ))
-          (λ ne. dite (ℕ_discrete (kept.owner q) id)
-          (λ own.
-          let same : v ≡ old.0 = some-injective _ _ (sym at ∙ ap (get_elem? s.views) (sym own) ∙ old.1) in (
-            both,
-            ap (get_elem? now) (cond_no q p _ _ ne ∙ own) ∙ here,
-            joined_else p q v w alone_is (λ e. ne (sym e)) ∙ ap (λ (u : View). find q u.parts) same ∙ old.2,
-          ))
-          (λ not_own.
-          let elsewhere : kept.owner q ≢ other = λ e.
-          none_some (done_by g q kept.log) (sym (alone_else p q w alone_is (λ z. ne (sym z)))
-          ∙ ap (λ (u : View). find q u.parts)
-          (some-injective _ _ (sym at_other ∙ ap (get_elem? s.views) (sym e) ∙ old.1)) ∙ old.2) in (
-            old.0,
-            ap (get_elem? now) (cond_no q p _ _ ne) ∙ set_else between other (kept.owner q) no_parts elsewhere
-                ∙ set_else s.views id (kept.owner q) both not_own ∙ old.1,
-            old.2,
-          )));
-      shown = kept.shown;
-      legal = kept.legal;
-    }
+    let was : find_in p (get_elem? s.views other) ≡ Some (did_in p w) =
+    ap (find_in p) (sym (set_else s.views id other both apart) ∙ there) ∙ alone_there p w alone in
+    moved g s kept p id kept.log s.words (set between other no_parts)
+    (λ q j ne. set_finds q between other w no_parts there (sym (alone_else p q w alone ne)) j
+    ∙ set_finds q s.views id v both at (joined_else p q v w alone ne) j)
+    (ap (find_in p) (set_else between other id no_parts (λ e. apart (sym e)) ∙ set_there s.views id v both at)
+    ∙ joined_here p v w alone ∙ ap Some (kept.each_part p other (did_in p w) was).1)
+    (λ j away. dite (ℕ_discrete j other)
+    (λ e. ap (λ (n : ℕ). find_in p (get_elem? (set between other no_parts) n)) e
+    ∙ ap (find_in p) (set_there between other w no_parts there))
+    (λ ne. ap (find_in p) (set_else between other j no_parts ne ∙ set_else s.views id j both away)
+    ∙ nowhere_else g s kept p other (did_in p w) was j ne))
+    (λ q ne. refl) refl kept.shown kept.legal

@@ -11,9 +11,8 @@ use Rattle.chip_part.proofs.TurnLemmas.{turns_bounded}
 use Rattle.chip_part.specs.declared.cursor.Cursor.TheVariants as At
 use Rattle.chip_core.specs.Core.{Step, Part}
 use Rattle.chip_net.specs.Traces.{TraceState}
-use Rattle.chip_net.specs.Views.{did_in, part_of_view}
+use Rattle.chip_net.specs.Views.{did_in, part_of_view, Mine}
 use Rattle.chip_net.specs.Tokens.{TurnSetup, IsOfNet, Holds, IsSeated, IsActor, known, MakesTurnBy}
-use Rattle.chip_net.proofs.RulingLemmas.{Mine}
 
 module _ (setup now : TurnSetup) (key : Setting) (table : TableId) (me : Mine) (trace : TraceState) (a : Actor)
     (began : setup ≡ now) (of_net : IsOfNet now.net.setting key now.net.table) (vertex : now.vertex ≡ a.vertex) (table_is : table ≡ now.net.table)

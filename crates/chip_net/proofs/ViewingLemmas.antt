@@ -1,7 +1,7 @@
 -- Serves Views.antt.
 -- Views as finite maps: what a step and a split change.
-use Rattle.std.proofs.Common.{◌≡◌, ◌≢◌, ℕ, zero, suc, ◌+◌, ◌<◌, true, eqb, cond, List, [], ◌∷◌, ◌++◌}
-use Rattle.std.proofs.Common.{length, length-append, set, Option, Some, None, refl, sym, ap, ◌∙◌, arith}
+use Rattle.std.proofs.Common.{◌≡◌, ◌≢◌, ℕ, zero, suc, ◌+◌, ◌<◌, true, eqb, cond, List, [], ◌∷◌, ◌++◌, length}
+use Rattle.std.proofs.Common.{length-append, set, Option, Some, None, refl, sym, ap, ◌∙◌, arith}
 use Rattle.std.specs.Prelude.{slice_get}
 use Rattle.std.proofs.lemmas.Option.{slice_get_read, get_or_from_slice_get}
 use Rattle.std.proofs.lemmas.List.{get_or_push, get_or_append_left}
@@ -14,9 +14,9 @@ use Rattle.chip_part.specs.Setting.{Setting}
 use Rattle.chip_part.proofs.PartLemmas.{stays_ended}
 use Rattle.chip_core.specs.Core.{Step, Part, opening_part, does}
 use Rattle.chip_core.specs.Histories.{part_by}
+use Rattle.chip_core.proofs.ReachingLemmas.{part-append}
 use Rattle.chip_net.specs.Views.{History, View, find, grow, grow_view, steps_or_none, did_in, Has, part_of_view}
-use Rattle.chip_net.specs.Views.{drop_part}
-use Rattle.chip_net.specs.Views.{one_part, view_of_one, parts_below, IsAlone, join_views}
+use Rattle.chip_net.specs.Views.{drop_part, one_part, view_of_one, parts_below, IsAlone, join_views}
 
 pub some_is : (a b : List Step) → Some a ≡ Some b → a ≡ b
 some_is a b e = cc
@@ -59,21 +59,15 @@ grown_has p x v w has is =
     let same : did_in p w ≡ did_in p v ++ x ∷ [] = ap steps_or_none found in
     (same, found ∙ ap Some (sym same))
 
-pub part_push : (g : Setting) (s : Part) (xs : List Step) (x : Step)
-    → part_by g s (xs ++ x ∷ []) ≡ does g x (part_by g s xs)
-part_push g s [] x = refl
-part_push g s (y ∷ ys) x = part_push g (does g y s) ys x
-
 -- a part after more events of its own
 pub part_append : (g : Setting) (s : Part) (xs ys : List Step) → part_by g s (xs ++ ys) ≡ part_by g (part_by g s xs) ys
-part_append g s [] ys = refl
-part_append g s (x ∷ xs) ys = part_append g (does g x s) xs ys
+part_append g s xs ys = part-append g xs ys s
 
 -- and the state that its record leaves
 pub grown_part : (g : Setting) (p : ℕ) (x : Step) (v w : View) → Has p v → w ≡ grow_view p x v
     → part_of_view g p w ≡ does g x (part_of_view g p v)
 grown_part g p x v w has is = ap (part_by g (opening_part g)) (grown_has p x v w has is).0
-    ∙ part_push g (opening_part g) (did_in p v) x
+    ∙ part_append g (opening_part g) (did_in p v) (x ∷ [])
 
 -- where no chips are fed the end of feeding is noted, whatever a part did
 pub ended_by : (g : Setting) (xs : List Step) (s : Part) → s.ended ≡ true → (part_by g s xs).ended ≡ true
@@ -97,12 +91,10 @@ dropped_else p q (y ∷ ys) ne = dite (ℕ_discrete y.part p)
     (λ other. ap (find q) (cond_no y.part p (drop_part p ys) (y ∷ drop_part p ys) other)
     ∙ ap (cond (eqb y.part q) (Some y.did)) (dropped_else p q ys ne))
 
--- what the new view finds is the part that was taken out
-pub only_finds : (p q : ℕ) (found : Option (List Step)) (d : List Step) → find q (one_part p found) ≡ Some d
-    → (p ≡ q) × (found ≡ Some d)
-only_finds p q None d e = absurd (none_some d e)
-only_finds p q (Some did) d e = dite (ℕ_discrete p q) (λ same. (same, sym (cond_yes p q (Some did) None same) ∙ e))
-    (λ other. absurd (none_some d (sym (cond_no p q (Some did) None other) ∙ e)))
+-- the new view has no other part than the one that was taken out
+pub one_else : (p q : ℕ) (found : Option (List Step)) → p ≢ q → find q (one_part p found) ≡ None
+one_else p q None other = refl
+one_else p q (Some did) other = cond_no p q (Some did) None other
 
 pub alone_has : (p : ℕ) (v : View) (did : List Step) → find p v.parts ≡ Some did
     → find p (view_of_one p v).parts ≡ Some did

@@ -1,6 +1,5 @@
 -- What the rule of the table says without a log: the world of a net is reached, as `Reached` of the core tells worlds.
 use Rattle.std.specs.Prelude.{◌≡◌, ℕ, ◌+◌, ◌%◌, ◌<◌, ◌≤◌, List, length, slice_index, Some, None}
-use mathlib.Core.Option.{some}
 use lib.ListN.{get_elem?}
 use Rattle.atomic_table.specs.Table.{State}
 use Rattle.chip_link.specs.Link.{word_of, claims_of, IsSealedAt}
@@ -10,7 +9,7 @@ use Rattle.chip_core.specs.Core.{Step, Part, graph_edges, all_edges, out_by, int
 use Rattle.chip_core.specs.Words.{of_edge, of_acks, of_cell, of_vertex}
 use Rattle.chip_core.specs.Reached.{parts_by, IsReached}
 use Rattle.chip_net.specs.Layout.{value_in}
-use Rattle.chip_net.specs.Views.{View, find}
+use Rattle.chip_net.specs.Views.{View, find_in}
 use Rattle.chip_net.specs.Rule.{Kept}
 
 -- the words of an edge are what the parts have made of them, and what was sent on it arrives in order
@@ -38,10 +37,9 @@ pub record IsReachedTable (g : Setting) (s : State (Unit {0}) View) : Type 0 whe
   pub did : ℕ → List Step
   pub reached : IsReached g did
   pub owner : ℕ → ℕ
-  pub only_there : (j : ℕ) (v : View) → get_elem? s.views j ≡ some v → (p : ℕ) (steps : List Step)
-      → find p v.parts ≡ Some steps → (owner p ≡ j) × (steps ≡ did p)
-  pub there : (p : ℕ) → p < g.game.graph.vertices + 2 → (v : View) × (get_elem? s.views (owner p) ≡ some v)
-      × (find p v.parts ≡ Some (did p))
+  pub only_there : (p j : ℕ) (steps : List Step) → find_in p (get_elem? s.views j) ≡ Some steps
+      → (owner p ≡ j) × (steps ≡ did p)
+  pub there : (p : ℕ) → p < g.game.graph.vertices + 2 → find_in p (get_elem? s.views (owner p)) ≡ Some (did p)
   pub edges : (e : ℕ) → e < all_edges g → EdgeShows g s.words (parts_by g did) e
   -- the fired word of a vertex has its firings, its halt and the cause
   pub fired : (v : ℕ) → v < g.game.graph.vertices → value_in g s.words (of_vertex v) ≡ word_of_part (parts_by g did v)

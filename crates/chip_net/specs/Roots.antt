@@ -11,13 +11,11 @@ use Rattle.chip_part.specs.Part.{deficit, all_fed}
 use Rattle.chip_part.specs.declared.act.Act.{Act}
 use Rattle.chip_part.specs.declared.rule.Rule.{Rule}
 use Rattle.chip_part.specs.declared.rule.Rule.TheVariants as Not
-use Rattle.chip_part.specs.Acting.{act_of}
+use Rattle.chip_part.specs.Acting.{act_of, FitsRoot}
 use Rattle.chip_root.specs.Root.{Root, RootStandsFor}
-use Rattle.chip_part.specs.Acting.{FitsRoot}
 use Rattle.chip_part.specs.Steps.{saw}
 use Rattle.chip_core.specs.Core.{Step, Event, Clear, Put, Settle, Seal, Feed, End, Reply, Part, opening_part}
-use Rattle.chip_core.specs.Core.{unmet_rule}
-use Rattle.chip_core.specs.Core.{reply_of}
+use Rattle.chip_core.specs.Core.{unmet_rule, reply_of}
 use Rattle.chip_core.specs.Histories.{done_by, part_by}
 use Rattle.chip_core.specs.Positions.{fed_in}
 use Rattle.chip_core.specs.Words.{word_to_note}
@@ -107,7 +105,6 @@ IsDueForRoot r x = IsFeeding r.net.setting x × (unmet_rule r.net.setting x (roo
 
 -- the same by the root's view, with the operation that the event needs
 pub record IsDueInView (g : Setting) (view : View) (x : Event) (act : Act) : Type 0 where
-  pub setting : IsSetting g
   pub has : Has (root g) view
   pub feeding : IsFeeding g x
   pub met : unmet_rule g x (part_of_view g (root g) view) ≡ None

@@ -1,16 +1,15 @@
 -- The rule of a net: between any two steps of whatever threads, words and views are what some legal log of the core
 -- leaves.
 use Rattle.std.specs.Prelude.{◌≡◌, ℕ, ◌+◌, ◌<◌, List, [], length, Some}
-use mathlib.Core.Option.{some}
 use lib.ListN.{get_elem?}
-use Rattle.atomic_table.specs.Table.{State, Me}
+use Rattle.atomic_table.specs.Table.{State}
 use Rattle.chip_part.specs.Setting.{Setting, IsSetting, setting_of}
 use Rattle.chip_part.specs.Steps.{saw}
 use Rattle.chip_core.specs.Core.{Log, Step, Event, part_of, Fits, IsLegalLog}
 use Rattle.chip_core.specs.Histories.{done_by}
 use Rattle.chip_core.specs.Words.{word_to_note, IsShown}
 use Rattle.chip_net.specs.Layout.{word_count, value_in}
-use Rattle.chip_net.specs.Views.{View, find, grow_view}
+use Rattle.chip_net.specs.Views.{View, Mine, find, find_in, grow_view}
 
 -- the rule
 pub record Kept (g : Setting) (s : State (Unit {0}) View) : Type 0 where
@@ -20,11 +19,11 @@ pub record Kept (g : Setting) (s : State (Unit {0}) View) : Type 0 where
   pub setting : IsSetting g
   pub wide : length s.words ≡ word_count g
   -- a part stands in no view but its owner's, with what it did in the log
-  pub each_part : (j : ℕ) (v : View) → get_elem? s.views j ≡ some v → (p : ℕ) (did : List Step)
-      → find p v.parts ≡ Some did → (owner p ≡ j) × (did ≡ done_by g p log)
+  pub each_part : (p j : ℕ) (did : List Step) → find_in p (get_elem? s.views j) ≡ Some did
+      → (owner p ≡ j) × (did ≡ done_by g p log)
   -- and it stands there
-  pub there : (p : ℕ) → p < g.game.graph.vertices + 2 → (v : View) × (get_elem? s.views (owner p) ≡ some v)
-      × (find p v.parts ≡ Some (done_by g p log))
+  pub there : (p : ℕ) → p < g.game.graph.vertices + 2
+      → find_in p (get_elem? s.views (owner p)) ≡ Some (done_by g p log)
   -- the words show the log
   pub shown : IsShown g log (value_in g s.words)
   -- the core can have come here
@@ -49,7 +48,7 @@ abbrev pub Stepped : Setting → Step → View → Type 0
 Stepped g x v = SomeLog g (λ log. Fits g log x × AgreesWithLog g log v)
 
 -- what a step tells: the part that acts did this more, the core makes the event there, and no slot was taken
-abbrev pub Grows : Setting → Event → Me (Unit {0}) View → ℕ → Me (Unit {0}) View → Type 0
+abbrev pub Grows : Setting → Event → Mine → ℕ → Mine → Type 0
 Grows g x before seen after = (after.0 ≡ grow_view (part_of g x) (step_of x seen) before.0)
     × Stepped g (step_of x seen) before.0
     × (after.1 ≡ before.1)
@@ -59,7 +58,7 @@ abbrev pub Looked : Setting → View → Type 0
 Looked g v = SomeLog g (λ log. AgreesWithLog g log v)
 
 -- what a look tells, which changes nothing
-abbrev pub Looks : Setting → Me (Unit {0}) View → ℕ → Me (Unit {0}) View → Type 0
+abbrev pub Looks : Setting → Mine → ℕ → Mine → Type 0
 Looks g before seen after = (after ≡ before) × Looked g before.0
 
 -- what no net is opened for

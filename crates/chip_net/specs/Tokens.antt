@@ -1,8 +1,6 @@
 -- What the clauses of a net's calls know of its actors.
-use Rattle.std.specs.Prelude.{◌≡◌, ◌⊎◌, ℕ, ◌<◌, ◌≤◌, true, false, List, [], ◌∷◌, ◌++◌, length, reverse}
-use Rattle.std.specs.Prelude.{None}
+use Rattle.std.specs.Prelude.{◌≡◌, ◌⊎◌, ℕ, ◌<◌, ◌≤◌, true, false, List, [], ◌∷◌, ◌++◌, length, reverse, None}
 use Rattle.atomic_table.specs.Seated.{TableId}
-use Rattle.atomic_table.specs.Table.{Me}
 use Rattle.chip_part.specs.Setting.{Setting, IsSetting}
 use Rattle.chip_actor.specs.Actor.{Actor, StandsFor}
 use Rattle.chip_part.specs.Part.{is_passive, deficit}
@@ -12,7 +10,7 @@ use Rattle.chip_core.specs.Core.{Step, Part, opening_part}
 use Rattle.chip_core.specs.Histories.{part_by}
 use Rattle.chip_net.specs.Layout.{word_count}
 use Rattle.chip_net.specs.Rule.{no_setting}
-use Rattle.chip_net.specs.Views.{History, View, IsAlone, did_in, part_of_view}
+use Rattle.chip_net.specs.Views.{History, View, Mine, IsAlone, did_in, part_of_view}
 use Rattle.chip_net.specs.Traces.{TraceState, Keeps, rows_of}
 use Rattle.chip_net.specs.declared.actor.Turn.{Turn}
 use Rattle.chip_net.specs.declared.actor.Turn.TheVariants.{Worked, Waiting, Idle}
@@ -21,6 +19,13 @@ use Rattle.chip_net.specs.declared.actor.Turn.TheVariants.{Worked, Waiting, Idle
 pub record NetId : Type 0 where
   pub table : TableId
   pub setting : Setting
+
+-- these are the words of a net, by their table and the key of their rule
+pub record AreWordsOf (net : NetId) (id : TableId) (rule : Setting) : Type 0 where
+  pub table : id ≡ net.table
+  pub key : rule ≡ net.setting
+  pub count : net.table.words ≡ word_count net.setting
+  pub setting : IsSetting net.setting
 
 -- an actor: its net, its vertex, how many trace rows it has room for, and all that it did, the first step in front
 pub record ActorKnown : Type 0 where
@@ -73,12 +78,12 @@ table_of [] table = no_table
 table_of (x ∷ xs) table = table
 
 -- what its seat knows, or knew as its part was lent
-abbrev pub me_of : List History → Me (Unit {0}) View → Me (Unit {0}) View → Me (Unit {0}) View
+abbrev pub me_of : List History → Mine → Mine → Mine
 me_of [] me knew = knew
 me_of (x ∷ xs) me knew = me
 
 -- what a seat knows that has the part of a vertex of this game and no other, with a trace of what the vertex did
-pub record IsSeated (g : Setting) (v : ℕ) (me : Me (Unit {0}) View) (trace : TraceState) : Type 0 where
+pub record IsSeated (g : Setting) (v : ℕ) (me : Mine) (trace : TraceState) : Type 0 where
   pub setting : IsSetting g
   pub inside : v < g.game.graph.vertices
   pub alone : IsAlone v me.0
@@ -86,7 +91,7 @@ pub record IsSeated (g : Setting) (v : ℕ) (me : Me (Unit {0}) View) (trace : T
   pub traced : Keeps (rows_of (did_in v me.0)) trace
 
 -- and the state of the vertex stands for its part
-abbrev pub IsActor : Setting → Actor → Me (Unit {0}) View → TraceState → Type 0
+abbrev pub IsActor : Setting → Actor → Mine → TraceState → Type 0
 IsActor g a me trace = IsSeated g a.vertex me trace × StandsFor g (part_of_view g a.vertex me.0) a
 
 -- ---- the net's words as a medium
@@ -108,7 +113,7 @@ IsOfNet g key table = (key ≡ g) × (table.words ≡ word_count g)
 
 -- in the turn that was set up so, the vertex has made these steps, the latest first, and this is its part. `now` is how
 -- the medium stands, with a seat at this table and this trace
-pub record Holds (setup now : TurnSetup) (key : Setting) (table : TableId) (me : Me (Unit {0}) View) (trace : TraceState) (g : Setting)
+pub record Holds (setup now : TurnSetup) (key : Setting) (table : TableId) (me : Mine) (trace : TraceState) (g : Setting)
     (v : ℕ) (ds : List Step) (s : Part) : Type 0 where
   pub same : now ≡ setup
   pub of_net : IsOfNet now.net.setting key now.net.table

@@ -1,15 +1,26 @@
 -- What the seats of a net know: a finite map from parts to what each of them did.
 use Rattle.std.specs.Prelude.{◌≡◌, ℕ, zero, suc, ◌+◌, ◌==◌, if◌then◌else◌, List, [], ◌∷◌, ◌++◌, Option, Some, None}
+use mathlib.Core.Option.{Option as Maybe, none, some}
+use Rattle.atomic_table.specs.Table.{Me}
 use Rattle.chip_part.specs.Setting.{Setting}
 use Rattle.chip_core.specs.Core.{Step, Part, opening_part}
 use Rattle.chip_core.specs.Histories.{part_by}
 pub use Rattle.chip_net.specs.declared.views.History.{History}
 pub use Rattle.chip_net.specs.declared.views.View.{View}
 
+-- what a seat knows: its view, and the slots that it holds, of which a net has none
+abbrev pub Mine : Type 0
+Mine = Me (Unit {0}) View
+
 -- what the part p did, if it stands here
 abbrev pub find : ℕ → List History → Option (List Step)
 find p [] = None
 find p (x ∷ xs) = if x.part == p then Some x.did else find p xs
+
+-- the same of a seat's view, where there is the seat
+abbrev pub find_in : ℕ → Maybe View → Option (List Step)
+find_in p none = None
+find_in p (some v) = find p v.parts
 
 -- the part p did one step more
 abbrev pub grow : ℕ → Step → List History → List History

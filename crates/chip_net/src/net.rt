@@ -30,7 +30,7 @@ impl Model for Net {
 
 impl Net {
     ghost use Rattle.chip_part.specs.Setting.{IsSetting};
-    ghost use Rattle.chip_net.specs.Layout.{word_count};
+    ghost use Rattle.chip_net.specs.Tokens.{AreWordsOf};
     ghost use Rattle.chip_net.specs.Rule.{Looked};
     ghost use Rattle.chip_net.specs.Views.{find, Has, opening_view, view_without, IsAlone, join_views, no_parts};
 
@@ -56,10 +56,7 @@ impl Net {
 
     /// The shared words.
     pub(crate) fn words(&self) -> &SharedWords
-        ensures table { result.now.table_id ≡ self.now.table }
-        ensures key { result.now.key.value ≡ self.now.setting }
-        ensures count { self.now.table.words ≡ word_count self.now.setting }
-        ensures setting { IsSetting self.now.setting }
+        ensures { AreWordsOf self.now result.now.table_id result.now.key.value }
     {
         &self.table.shared
     }

@@ -5,7 +5,7 @@ use Rattle.std.specs.Prelude.{slice_get}
 use Rattle.chip_net.specs.Tokens.{NetId, ActorKnown, seatless}
 use Rattle.chip_net.specs.Views.{View, find}
 use Rattle.chip_net.proofs.ViewingLemmas.{dropped_else}
-use Rattle.chip_net.proofs.RulingLemmas.{Mine}
+use Rattle.chip_net.specs.Views.{Mine}
 use Rattle.chip_net.proofs.MeetingLemmas.{itself, first_as, first_length, all_as, as_they_are, one_there, get_inside, Next, next}
 use Rattle.chip_net.proofs.actor.meet.Goals as goal
 use Rattle.chip_net.proofs.actor.meet.Goals.{After-lend-arg-1, After-take_back-arg-1}

@@ -1,6 +1,6 @@
 use Rattle.std.proofs.Common.{◌<◌, arith, subst}
 use Rattle.chip_net.specs.Tokens.{NetId}
-use Rattle.chip_net.proofs.MeetingLemmas.{may_enter}
+use Rattle.chip_net.proofs.SplittingLemmas.{may_enter}
 use Rattle.chip_net.proofs.net.Net.empty_seat.Goals as goal
 
 pub load_new_seat-seat-requires : goal.load_new_seat-seat-requires

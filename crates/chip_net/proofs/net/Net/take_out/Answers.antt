@@ -1,9 +1,8 @@
 use Rattle.std.proofs.Common.{sym, ap, ◌∙◌, subst, arith}
 use Rattle.chip_net.specs.Tokens.{NetId}
-use Rattle.chip_net.specs.Views.{find, did_in, IsAlone}
+use Rattle.chip_net.specs.Views.{find, did_in, IsAlone, Mine}
 use Rattle.chip_net.proofs.SplittingLemmas.{takes_out}
 use Rattle.chip_net.proofs.ViewingLemmas.{taken_alone, alone_has}
-use Rattle.chip_net.proofs.RulingLemmas.{Mine}
 use Rattle.chip_net.proofs.net.Net.take_out.Goals as goal
 
 pub split_seat-requires : goal.split_seat-requires

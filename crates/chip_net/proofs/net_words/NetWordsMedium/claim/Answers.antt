@@ -1,14 +1,13 @@
 use Rattle.std.proofs.Common.{refl}
-use Rattle.chip_part.specs.declared.act.Act.TheVariants as Do
 use Rattle.chip_core.specs.Core.{Claim}
 use Rattle.chip_net.proofs.ActingLemmas.{may_word, may_step, serves, keeps_none}
 use Rattle.chip_net.proofs.net_words.NetWordsMedium.claim.Goals as goal
 
 pub edge_word-word-requires : goal.edge_word-word-requires
-edge_word-word-requires g c = may_word _ _ _ _ _ _ (Do.Claim c.args.edge c.args.expected c.args.new) c.requires
+edge_word-word-requires g c = may_word c.requires
 
 pub compare_exchange-requires : goal.compare_exchange-requires
-compare_exchange-requires g c = may_step _ _ _ _ _ _ (Do.Claim c.args.edge c.args.expected c.args.new) c.requires _ c.edge_word-word.ensures Claim refl _
+compare_exchange-requires g c = may_step c.requires c.edge_word-word.ensures Claim refl _
 
 pub returns : goal.returns
-returns g c = serves _ _ _ _ _ _ (Do.Claim c.args.edge c.args.expected c.args.new) _ c.edge_word-word.ensures Claim refl c.compare_exchange.result _ c.compare_exchange.ensures.2 _ c.compare_exchange.ensures.0 _ _ refl (keeps_none _)
+returns g c = serves c.edge_word-word.ensures Claim refl c.compare_exchange.result c.compare_exchange.ensures.2 c.compare_exchange.ensures.0 refl (keeps_none _)

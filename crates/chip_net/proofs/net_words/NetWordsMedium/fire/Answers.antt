@@ -1,14 +1,13 @@
 use Rattle.std.proofs.Common.{refl}
-use Rattle.chip_part.specs.declared.act.Act.TheVariants as Do
 use Rattle.chip_core.specs.Core.{Fire}
 use Rattle.chip_net.proofs.ActingLemmas.{may_word, may_step, serves}
 use Rattle.chip_net.proofs.net_words.NetWordsMedium.fire.Goals as goal
 
 pub fired_word-word-requires : goal.fired_word-word-requires
-fired_word-word-requires g c = may_word _ _ _ _ _ _ (Do.Fire c.args.k) c.requires
+fired_word-word-requires g c = may_word c.requires
 
 pub fetch_add-before-requires : goal.fetch_add-before-requires
-fetch_add-before-requires g c = may_step _ _ _ _ _ _ (Do.Fire c.args.k) c.requires _ c.fired_word-word.ensures (λ u. Fire u c.args.k) refl _
+fetch_add-before-requires g c = may_step c.requires c.fired_word-word.ensures (λ u. Fire u c.args.k) refl _
 
 pub returns : goal.returns
-returns g c = serves _ _ _ _ _ _ (Do.Fire c.args.k) _ c.fired_word-word.ensures (λ u. Fire u c.args.k) refl c.fetch_add-before.result _ c.fetch_add-before.ensures.2 _ c.fetch_add-before.ensures.0 c.note.new.self _ c.note.ensures.room c.note.ensures.keeps
+returns g c = serves c.fired_word-word.ensures (λ u. Fire u c.args.k) refl c.fetch_add-before.result c.fetch_add-before.ensures.2 c.fetch_add-before.ensures.0 c.note.ensures.room c.note.ensures.keeps

@@ -1,14 +1,13 @@
 use Rattle.std.proofs.Common.{refl}
-use Rattle.chip_part.specs.declared.act.Act.TheVariants as Do
 use Rattle.chip_core.specs.Core.{Take}
 use Rattle.chip_net.proofs.ActingLemmas.{may_word, may_step, serves}
 use Rattle.chip_net.proofs.net_words.NetWordsMedium.take.Goals as goal
 
 pub cell_word-cell-requires : goal.cell_word-cell-requires
-cell_word-cell-requires g c = may_word _ _ _ _ _ _ (Do.Take c.args.edge c.args.cell) c.requires
+cell_word-cell-requires g c = may_word c.requires
 
 pub swap-count-requires : goal.swap-count-requires
-swap-count-requires g c = may_step _ _ _ _ _ _ (Do.Take c.args.edge c.args.cell) c.requires _ c.cell_word-cell.ensures Take refl _
+swap-count-requires g c = may_step c.requires c.cell_word-cell.ensures Take refl _
 
 pub returns : goal.returns
-returns g c = serves _ _ _ _ _ _ (Do.Take c.args.edge c.args.cell) _ c.cell_word-cell.ensures Take refl c.swap-count.result _ c.swap-count.ensures.2 _ c.swap-count.ensures.0 c.note_take.new.self _ c.note_take.ensures.room c.note_take.ensures.keeps
+returns g c = serves c.cell_word-cell.ensures Take refl c.swap-count.result c.swap-count.ensures.2 c.swap-count.ensures.0 c.note_take.ensures.room c.note_take.ensures.keeps

@@ -1,57 +1,85 @@
-use Rattle.std.proofs.Common.{◌≡◌, ◌<◌, sym, ap, ◌∙◌, subst}
+use Rattle.std.proofs.Common.{◌≡◌, ◌<◌, refl, sym, ap, ◌∙◌, subst}
 use Rattle.chip_part.specs.Setting.{Setting}
-use Rattle.atomic_table.specs.Seated.{TableId}
-use Rattle.chip_core.specs.Core.{Read}
+use Rattle.chip_part.specs.Edges.{root, stopper}
+use Rattle.chip_part.specs.Steps.{saw}
+use Rattle.chip_part.proofs.RuleLemmas.{met_rules}
+use Rattle.chip_core.specs.Core.{Read, Fits}
 use Rattle.chip_core.specs.Words.{of_vertex}
-use Rattle.chip_net.specs.Layout.{index_of, word_count}
-use Rattle.chip_net.specs.Rule.{Grows}
-use Rattle.chip_net.specs.Tokens.{NetId}
-use Rattle.chip_net.specs.Roots.{RootKnown, IsOver}
+use Rattle.chip_net.specs.Layout.{index_of}
+use Rattle.chip_net.specs.Views.{did_in}
+use Rattle.chip_net.specs.Rule.{SomeLog}
+use Rattle.chip_net.specs.Tokens.{NetId, AreWordsOf}
+use Rattle.chip_net.specs.Roots.{RootKnown, root_part, IsOver}
+use Rattle.chip_net.specs.Finish.{AgreesWith}
 use Rattle.chip_net.specs.contracts.receipt.Receipt.{the_view}
-use Rattle.chip_net.proofs.ReceivingLemmas.{read_asked, read_told, still_receipt, reads, word_is}
+use Rattle.chip_net.proofs.RulingLemmas.{Due, Made, made, event_asked, event_told}
+use Rattle.chip_net.proofs.RootingLemmas.{known_after}
+use Rattle.chip_net.proofs.FinishingLemmas.{fired_word_is}
 use Rattle.chip_net.proofs.receipt.Receipt.read.Goals as goal
 use Rattle.chip_net.proofs.receipt.Receipt.read.Goals.{After-words, After-load}
 
-here : (c : After-words) → c.args.net.now.setting ≡ c.self.inside.setting.value
-here c = sym (ap (λ (n : NetId). n.setting) (ap (λ (r : RootKnown). r.net) c.self.view_is ∙ c.requires.net))
+-- the receipt is of this net
+net_is : (c : After-words) → (the_view c.self.inside).net ≡ c.args.net.now
+net_is c = ap (λ (r : RootKnown). r.net) c.self.view_is ∙ c.requires.net
 
-there : (c : After-words) → c.args.vertex < c.self.inside.setting.value.game.graph.vertices
-there c = subst (λ (r : RootKnown). c.args.vertex < r.net.setting.game.graph.vertices) (sym c.self.view_is) c.requires.vertex
+words : (c : After-words)
+    → AreWordsOf (the_view c.self.inside).net c.words.result.now.table_id c.words.result.now.key.value
+words c = subst (λ (n : NetId). AreWordsOf n c.words.result.now.table_id c.words.result.now.key.value) (sym (net_is c))
+    c.words.ensures
 
-same : (c : After-words) → c.words.result.now.key.value ≡ c.self.inside.setting.value
-same c = c.words.ensures.key ∙ here c
-
-over : (c : After-words) → IsOver (the_view c.self.inside)
-over c = subst IsOver (sym c.self.view_is) c.requires.over
+due : (c : After-words) → Due c.self.inside.setting.value c.self.inside.seat.me (root c.self.inside.setting.value)
+    (Read c.args.vertex)
+due c =
+    let over : IsOver (the_view c.self.inside) = subst IsOver (sym c.self.view_is) c.requires.over in
+    record {
+      mine = refl;
+      has = c.self.invariant.0;
+      met = met_rules c.self.inside.setting.value (Read c.args.vertex) (root_part (the_view c.self.inside)) (
+        subst (λ (r : RootKnown). c.args.vertex < r.net.setting.game.graph.vertices) (sym c.self.view_is) c.requires.vertex,
+        over.0,
+        over.1,
+      );
+    }
 
 at : (c : After-words) → c.fired_word-word.result ≡ index_of c.self.inside.setting.value (of_vertex c.args.vertex)
-at c = c.fired_word-word.ensures ∙ ap (λ (g : Setting). index_of g (of_vertex c.args.vertex)) (c.setting.ensures.value ∙ here c)
+at c = c.fired_word-word.ensures ∙ ap (λ (g : Setting). index_of g (of_vertex c.args.vertex))
+    (c.setting.ensures.value ∙ sym (ap (λ (n : NetId). n.setting) (net_is c)))
 
 pub load-requires : goal.load-requires
 load-requires c =
     let d = (goal.at.load-requires c).After-words in
-    read_asked c.self.inside c.self.invariant c.args.vertex (there d) (over d) _ (same d) _ (at d) _
-    (ap (λ (n : NetId). n.table) (ap (λ (r : RootKnown). r.net) c.self.view_is ∙ c.requires.net) ∙ sym c.words.ensures.table)
-    (ap (λ (t : TableId). t.words) c.words.ensures.table ∙ c.words.ensures.count ∙ ap word_count (here d))
+    event_asked (words d) (due d) _ (at d) Read refl _ refl _
 
-told : (c : After-load)
-    → Grows c.self.inside.setting.value (Read c.args.vertex) c.self.inside.seat.me c.load.result c.load.new.seat.me
-told c =
+read : (c : After-load) → Made c.self.inside.setting.value c.self.inside.seat.me (root c.self.inside.setting.value)
+    (Read c.args.vertex) c.load.result c.load.new.seat.me
+read c =
     let d = (goal.at.After-load c).After-words in
-    read_told c.self.inside c.self.invariant c.args.vertex (there d) (over d) _ (same d) _ (at d) _ _ c.load.ensures.2
+    made (due d) _ _ (event_told (words d) (due d) _ (at d) Read refl _ _ c.load.ensures.2)
 
 pub invariant_of-self : goal.invariant_of-self
-invariant_of-self c =
-    let d = (goal.at.invariant_of-self c).After-words in
-    still_receipt c.self.inside c.self.invariant c.args.vertex (there d) (over d) _ _ (told (goal.at.invariant_of-self c).After-load)
+invariant_of-self c = ((read (goal.at.invariant_of-self c).After-load).has, c.self.invariant.1)
 
 pub returns-clause-reads : goal.returns-clause-reads
 returns-clause-reads c =
-    let d = (goal.at.returns-clause-reads c).After-words in
-    reads c.self.inside c.self.invariant c.args.vertex (there d) (over d) _ _ (told (goal.at.returns-clause-reads c).After-load)
-    c.args.self.now c.self.view_is c.load.new.seat.table_id c.load.ensures.0
+    let m = read (goal.at.returns-clause-reads c).After-load in
+    let g = c.self.inside.setting.value in (
+      known_after m c.self.view_is c.load.ensures.0,
+      subst (λ (r : RootKnown). SomeLog r.net.setting
+          (λ log. Fits r.net.setting log (saw (Read c.args.vertex) c.load.result) × AgreesWith r log)) c.self.view_is record {
+            log = m.stepped.log;
+            legal = m.stepped.legal;
+            has = (
+              m.stepped.has.0,
+              record {
+                root_did = m.stepped.has.1 (root g) (did_in (root g) c.self.inside.seat.me.0) c.self.invariant.0;
+                stopper_did = m.stepped.has.1 (stopper g);
+              },
+            );
+          },
+    )
 
 pub returns-clause-word : goal.returns-clause-word
 returns-clause-word c =
-    let d = (goal.at.returns-clause-word c).After-words in
-    word_is c.self.inside c.self.invariant c.args.vertex (there d) (over d) _ _ (told (goal.at.returns-clause-word c).After-load)
+    let m = read (goal.at.returns-clause-word c).After-load in
+    fired_word_is c.self.inside.setting.value c.self.invariant.1 m.stepped.log m.stepped.legal c.args.vertex c.load.result
+    m.stepped.has.0.1

@@ -1,9 +1,8 @@
-use Rattle.std.proofs.Common.{◌≡◌, ◌-◌, sym, ap, ◌∙◌, subst}
-use Rattle.chip_core.specs.Core.{End}
+use Rattle.std.proofs.Common.{◌≡◌, ◌-◌, refl, sym, ap, ◌∙◌, subst}
 use Rattle.chip_net.specs.Tokens.{NetId}
 use Rattle.chip_net.specs.Finish.{no_readings}
 use Rattle.chip_net.specs.Roots.{RootKnown, HoldsNothing, DoesMore, settles_from, Ends}
-use Rattle.chip_net.proofs.RootingLemmas.{does_after, holds_by, held_end, stays_over, over_by_end}
+use Rattle.chip_net.proofs.RootingLemmas.{does_one, does_all, holds_by, stays_over, over_by_end}
 use Rattle.chip_net.proofs.root.Root.end.Goals as goal
 
 pub invariant_of-self : goal.invariant_of-self
@@ -11,8 +10,8 @@ invariant_of-self c =
     let net : c.settle_from.new.self.net ≡ c.deref_mut-actor.result.now.net =
     ap (λ (r : RootKnown). r.net) c.settle_from.ensures.settles.record_is
     ∙ ap (λ (r : RootKnown). r.net) c.make.ensures.made.record_is in (
-      c.settle_from.ensures.holds (holds_by c.deref_mut-actor.result.now c.make.new.self End c.make.ensures.seen
-          (held_end c.make.ensures.seen) c.make.ensures.made (subst HoldsNothing (sym c.deref_mut-actor.ensures.value) c.self.invariant.0)),
+      c.settle_from.ensures.holds (holds_by c.make.ensures.made (λ e o. refl)
+          (subst HoldsNothing (sym c.deref_mut-actor.ensures.value) c.self.invariant.0)),
       subst (λ (n : NetId). c.self.inside.readings.value ≡ no_readings n.setting.game.graph.vertices) (sym net)
           (c.self.invariant.1 ∙ ap (λ (r : RootKnown). no_readings r.net.setting.game.graph.vertices)
           (sym c.deref_mut-actor.ensures.value)),
@@ -20,14 +19,12 @@ invariant_of-self c =
 
 pub returns-clause-ends : goal.returns-clause-ends
 returns-clause-ends c =
-    let actor = c.deref_mut-actor.result.now in
     let made = c.make.ensures.made in
     let net = ap (λ (r : RootKnown). r.net) made.record_is in
     let rest = subst (λ (n : NetId). DoesMore c.make.new.self c.settle_from.new.self
     (settles_from n.setting 1 (n.setting.game.graph.vertices - 1))) net c.settle_from.ensures.settles in
     subst (λ (r : RootKnown). Ends r c.settle_from.new.self c.poll_state.result) (c.deref_mut-actor.ensures.value ∙ c.self.view_is) record {
-      ending = does_after actor c.make.new.self c.settle_from.new.self End c.make.ensures.seen _ made rest;
-      ended = stays_over c.make.new.self c.settle_from.new.self _ c.settle_from.ensures.settles
-          (over_by_end actor c.make.new.self c.make.ensures.seen made);
+      ending = does_all (does_one made) rest;
+      ended = stays_over c.settle_from.ensures.settles (over_by_end made);
       answers = c.poll_state.ensures;
     }

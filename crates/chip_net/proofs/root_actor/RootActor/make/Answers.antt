@@ -1,18 +1,29 @@
 use Rattle.std.proofs.Common.{◌≡◌, ℕ, sym, ap, ◌∙◌, subst}
 use Rattle.chip_part.specs.Setting.{Setting}
-use Rattle.chip_root.specs.Root.{SomeRoot, RootCanDo, RootMakes}
+use Rattle.chip_part.specs.Edges.{root}
+use Rattle.chip_root.specs.Root.{RootCanDo, RootMakes}
 use Rattle.chip_core.specs.Core.{Event}
 use Rattle.chip_core.specs.Words.{word_to_note}
 use Rattle.chip_net.specs.Rule.{Grows}
+use Rattle.chip_net.specs.Views.{part_of_view}
 use Rattle.chip_net.specs.Tokens.{NetId}
 use Rattle.chip_net.specs.Roots.{RootKnown, IsDueForRoot}
 use Rattle.chip_net.specs.contracts.root_actor.RootActor.{the_view}
-use Rattle.chip_net.proofs.RootingLemmas.{feeding_mine, may_make, still_root, replies}
+use Rattle.chip_net.proofs.RulingLemmas.{Due}
+use Rattle.chip_net.proofs.RootingLemmas.{feeding_mine, can, still_root, replies}
 use Rattle.chip_net.proofs.root_actor.RootActor.make.Goals as goal
 use Rattle.chip_net.proofs.root_actor.RootActor.make.Goals.{After-operate-seen}
 
-due : (g : _) (c : After-operate-seen g) → IsDueForRoot (the_view c.self.inside) c.args.event
-due g c = subst (λ (r : RootKnown). IsDueForRoot r c.args.event) (sym c.self.view_is) c.requires.due
+may : (g : _) (c : After-operate-seen g) → IsDueForRoot (the_view c.self.inside) c.args.event
+may g c = subst (λ (r : RootKnown). IsDueForRoot r c.args.event) (sym c.self.view_is) c.requires.due
+
+due : (g : _) (c : After-operate-seen g)
+    → Due c.self.inside.setting.value c.self.inside.seat.me (root c.self.inside.setting.value) c.args.event
+due g c = record {
+  mine = (feeding_mine c.self.inside.setting.value c.args.event (may g c).0).0;
+  has = c.self.invariant.has;
+  met = (may g c).1;
+}
 
 told : (g : _) (c : After-operate-seen g) → (n : ℕ) × (c.operate-seen.result ≡ word_to_note c.args.event n)
     × Grows c.self.inside.setting.value c.args.event c.self.inside.seat.me n c.operate-seen.new.seat.me
@@ -26,26 +37,24 @@ told g c = subst (λ (z : Setting × Event). (n : ℕ) × (c.operate-seen.result
 pub apply-requires : goal.apply-requires
 apply-requires g c =
     let d = (goal.at.apply-requires g c).After-operate-seen in
-    let mine = feeding_mine c.self.inside.setting.value c.args.event (due g d).0 in
-    subst (λ seen. SomeRoot c.self.inside.state (λ h t. RootCanDo h t c.args.event seen)) (sym (told g d).1)
-    (may_make c.self.inside c.self.invariant c.args.event mine.0 mine.1 (due g d).1 (told g d).0
-    c.operate-seen.new.seat.me (told g d).2)
+    let h : Setting = c.self.inside.setting.value in (
+      h,
+      part_of_view h (root h) c.self.inside.seat.me.0,
+      c.self.invariant.stands,
+      subst (RootCanDo h (part_of_view h (root h) c.self.inside.seat.me.0) c.args.event) (sym (told g d).1)
+          (can (due g d) (feeding_mine h c.args.event (may g d).0).1 c.self.invariant (told g d).0 (told g d).2),
+    )
 
 pub invariant_of-self : goal.invariant_of-self
 invariant_of-self g c =
     let d = (goal.at.invariant_of-self g c).After-operate-seen in
-    let mine = feeding_mine c.self.inside.setting.value c.args.event (due g d).0 in
-    still_root c.self.inside c.self.invariant c.args.event mine.0 mine.1 (due g d).1 (told g d).0
-    c.operate-seen.new.seat.me (told g d).2 c.apply.new.self c.apply.result
+    still_root (due g d) (feeding_mine c.self.inside.setting.value c.args.event (may g d).0).1 c.self.invariant (told g d).0 (told g d).2
     (subst (λ seen. RootMakes c.self.inside.state c.apply.new.self c.args.event seen c.apply.result) (told g d).1
-    c.apply.ensures)
+    c.apply.ensures _ _ c.self.invariant.stands)
 
 pub returns : goal.returns
 returns g c =
     let d = (goal.at.returns g c).After-operate-seen in
-    let mine = feeding_mine c.self.inside.setting.value c.args.event (due g d).0 in
-    replies c.self.inside c.self.invariant c.args.event mine.0 mine.1 (due g d).1 (told g d).0
-    c.operate-seen.new.seat.me (told g d).2 c.args.self.now c.self.view_is c.operate-seen.new.seat.table_id
-    c.operate-seen.ensures.same c.apply.new.self c.apply.result
+    replies (due g d) (feeding_mine c.self.inside.setting.value c.args.event (may g d).0).1 c.self.invariant (told g d).0 (told g d).2
     (subst (λ seen. RootMakes c.self.inside.state c.apply.new.self c.args.event seen c.apply.result) (told g d).1
-    c.apply.ensures)
+    c.apply.ensures _ _ c.self.invariant.stands) c.self.view_is c.operate-seen.ensures.same

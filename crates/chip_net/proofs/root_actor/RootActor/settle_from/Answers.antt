@@ -1,11 +1,11 @@
-use Rattle.std.proofs.Common.{◌≡◌, ◌-◌, sym, ap, ◌∙◌, arith}
+use Rattle.std.proofs.Common.{◌≡◌, ◌-◌, refl, sym, ap, ◌∙◌, arith}
 use Rattle.chip_part.specs.Setting.{Setting}
 use Rattle.chip_part.specs.Edges.{root_edge}
 use Rattle.chip_core.specs.Words.{of_acks}
 use Rattle.chip_net.specs.Layout.{index_of}
 use Rattle.chip_net.specs.Roots.{settles_from}
 use Rattle.chip_net.specs.Tokens.{NetId}
-use Rattle.chip_net.proofs.RootingLemmas.{does_none, does_net, settles_more, holds_by, held_settle}
+use Rattle.chip_net.proofs.RootingLemmas.{does_none, does_net, settles_more, holds_by}
 use Rattle.chip_net.proofs.root_actor.RootActor.settle_from.Goals as goal
 
 pub loop-vertex-init : goal.loop-vertex-init
@@ -26,16 +26,14 @@ loop-vertex-preserved c =
           let n = c.vertices-vertex-end.ensures.value
           ∙ ap (λ (g : Setting). g.game.graph.vertices) (c.setting-setting.ensures.value ∙ sym (ap (λ (n : NetId). n.setting) c.requires.net))
           in omega arith);
-      settles = settles_more c.args.self.now c.loop-vertex.self c.settle.new.self c.args.first c.loop-vertex.vertex
-          c.settle.ensures.0 i.from i.settles c.settle.ensures.1;
-      holds = λ none. holds_by c.loop-vertex.self c.settle.new.self _ c.settle.ensures.0 (held_settle (root_edge c.loop-vertex.self.net.setting c.loop-vertex.vertex) c.settle.ensures.0)
-          c.settle.ensures.1 (i.holds none);
+      settles = settles_more c.args.first c.loop-vertex.vertex i.from i.settles c.settle.ensures.1;
+      holds = λ none. holds_by c.settle.ensures.1 (λ e o. refl) (i.holds none);
     }
 
 pub settle-requires-clause-word : goal.settle-requires-clause-word
 settle-requires-clause-word c =
     let net : c.loop-vertex.self.net ≡ c.args.net.now =
-    does_net c.args.self.now c.loop-vertex.self _ c.loop-vertex.invariant.settles ∙ c.requires.net in
+    does_net c.loop-vertex.invariant.settles ∙ c.requires.net in
     let setting = c.setting-setting.ensures.value ∙ sym (ap (λ (n : NetId). n.setting) net) in
     c.root_acks-words.ensures.words c.loop-vertex.vertex
     ∙ ap (λ (g : Setting). index_of g (of_acks (root_edge g c.loop-vertex.vertex))) setting

@@ -1,10 +1,9 @@
 use Rattle.std.proofs.Common.{◌≡◌, sym, ap, ◌∙◌, subst}
 use Rattle.chip_part.specs.Edges.{stopper}
 use Rattle.chip_net.specs.Tokens.{NetId}
-use Rattle.chip_net.specs.Views.{View, IsAlone}
-use Rattle.chip_net.specs.Roots.{RootKnown, IsRoot}
+use Rattle.chip_net.specs.Views.{Mine, IsAlone, did_in}
+use Rattle.chip_net.specs.Roots.{RootKnown, IsRoot, known_root, with_stopper}
 use Rattle.chip_net.proofs.ViewingLemmas.{alone_by, did_alone}
-use Rattle.chip_net.proofs.RulingLemmas.{Mine}
 use Rattle.chip_net.proofs.RootingLemmas.{takes_back, has_both}
 use Rattle.chip_net.proofs.root_actor.RootActor.take_back.Goals as goal
 use Rattle.chip_net.proofs.root_actor.RootActor.take_back.Goals.{After-into_seat}
@@ -24,16 +23,16 @@ take_in-requires-clause-part c =
     (stopper c.self.inside.setting.value, alone_is (goal.at.take_in-requires-clause-part c).After-into_seat)
 
 pub invariant_of-self : goal.invariant_of-self
-invariant_of-self c = subst (λ (v : View). IsRoot c.self.inside.setting.value v c.self.inside.state)
-    (sym (ap (λ (m : Mine). m.0) c.take_in.ensures.joined))
-    (takes_back c.self.inside c.self.invariant c.into_seat.result.me.0
-    (alone_is (goal.at.invariant_of-self c).After-into_seat))
+invariant_of-self c = subst (λ (m : Mine). IsRoot c.self.inside.setting.value m.0 c.self.inside.state)
+    (sym c.take_in.ensures.joined)
+    (takes_back c.self.inside.setting.value (alone_is (goal.at.invariant_of-self c).After-into_seat) c.self.inside.seat.me.0 c.self.invariant)
 
 pub returns : goal.returns
 returns c =
     let d = (goal.at.returns c).After-into_seat in
-    has_both c.self.inside c.self.invariant c.into_seat.result.me.0 (alone_is d) c.args.self.now c.self.view_is
-    c.take_in.new.seat.table_id c.take_in.ensures.same c.args.stopper.did
+    let g = c.self.inside.setting.value in
+    (λ j. known_root (c.take_in.ensures.same j) g (c.take_in.ensures.joined j).0)
+    ∙ has_both g (alone_is d) c.self.inside.seat.me.0 c.self.inside.seat.table_id c.args.stopper.did
     (did_alone (stopper c.args.stopper.net.setting) c.into_seat.result.me.0 c.args.stopper.did c.into_seat.ensures.part
-    ∙ ap (λ g. Rattle.chip_net.specs.Views.did_in (stopper g) c.into_seat.result.me.0) (here d))
-    c.take_in.new.seat.me.0 (ap (λ (m : Mine). m.0) c.take_in.ensures.joined)
+    ∙ ap (λ g. did_in (stopper g) c.into_seat.result.me.0) (here d))
+    ∙ ap (λ (r : RootKnown). with_stopper r c.args.stopper.did) c.self.view_is

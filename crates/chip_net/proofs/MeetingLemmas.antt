@@ -1,16 +1,19 @@
 -- Serves Meeting.antt, Rule.antt.
 -- A look changes nothing, and actors lend their parts one after another.
-use Rattle.std.proofs.Common.{◌≡◌, ℕ, zero, suc, ◌+◌, ◌<◌, List, [], ◌∷◌, length, set, get_or, Some, refl, sym, ap, ◌∙◌}
-use Rattle.std.proofs.Common.{subst, arith}
-use Rattle.std.proofs.lemmas.List.{set-get_or}
+use Rattle.std.proofs.Common.{◌≡◌, ℕ, zero, suc, ◌+◌, ◌-◌, ◌<◌, List, [], ◌∷◌, ◌++◌, length, map, take, drop, set, get_or}
+use Rattle.std.proofs.Common.{Some, refl, sym, ap, ◌∙◌, subst, arith, append-nil, length-append}
 use Rattle.std.specs.Prelude.{slice_get}
+use Rattle.std.proofs.Math.Seq.{take-length, drop-length}
+use Rattle.std.proofs.lemmas.List.{set-get_or, length-map, length-take-le, take-append-drop, get_or-append_right, get_or-drop}
+use Rattle.std.proofs.lemmas.List.Edits.{map_over_more}
+use Rattle.std.proofs.lemmas.Option.{slice_get-get_or, get_or_from_slice_get}
 use Rattle.atomic_table.specs.Table.{State, keeps, Allows}
 use Rattle.atomic_table.proofs.Lists.{set_again}
 use Rattle.chip_part.specs.Setting.{Setting}
 use Rattle.chip_net.specs.Views.{View, Mine, find_in}
 use Rattle.chip_net.specs.Rule.{Kept, Looks}
-use Rattle.chip_net.specs.Tokens.{NetId, ActorKnown}
-use Rattle.chip_net.specs.Meeting.{AreInPlace}
+use Rattle.chip_net.specs.Tokens.{NetId, ActorKnown, at_net, seatless}
+use Rattle.chip_net.proofs.ViewingLemmas.{some_is}
 
 -- ---- a look
 
@@ -38,77 +41,40 @@ may_look g slots id word me table kept homes at few = (
 
 -- ---- actors one after another, in their places
 
-abbrev pub itself : ActorKnown → ActorKnown
-itself a = a
+-- of these actors the first n are by f
+module _ (f : ActorKnown → ActorKnown) (xs items : List ActorKnown) (n : ℕ) (is : items ≡ map f (take n xs) ++ drop n xs)
+  where
+    pub same_count : length items ≡ length xs
+    same_count = ap length is ∙ length-append (map f (take n xs)) (drop n xs)
+        ∙ ap (λ (k : ℕ). k + length (drop n xs)) (length-map (take n xs) f) ∙ sym (length-append (take n xs) (drop n xs))
+        ∙ ap length (take-append-drop n xs)
 
--- the first n of these actors by f, and the others by g
-abbrev pub first_as : (f g : ActorKnown → ActorKnown) → ℕ → List ActorKnown → List ActorKnown
-first_as f g n [] = []
-first_as f g zero (x ∷ xs) = g x ∷ first_as f g zero xs
-first_as f g (suc n) (x ∷ xs) = f x ∷ first_as f g n xs
+    -- the next is not among them, and then it is
+    pub next : n < length items → (a d : ActorKnown) → a ≡ get_or items n d
+        → (slice_get xs n ≡ Some a) × (set items n (f a) ≡ map f (take (n + 1) xs) ++ drop (n + 1) xs)
+    next inside a d a_is =
+        let l : n < length xs = omega (arith, same_count) in
+        let found : slice_get items n ≡ Some a = slice_get-get_or items n d inside ∙ ap Some (sym a_is) in
+        let front : length (map f (take n xs)) ≡ n = length-map (take n xs) f ∙ length-take-le n xs (omega arith) in (
+          slice_get-get_or xs n d l ∙ ap Some (sym (a_is ∙ ap (λ (ys : List ActorKnown). get_or ys n d) is
+              ∙ get_or-append_right (map f (take n xs)) (drop n xs) n n d front (omega arith) ∙ get_or-drop n xs (n - n) d
+              ∙ ap (λ (k : ℕ). get_or xs k d) (omega arith))),
+          map_over_more f xs items n a l is (sym (get_or_from_slice_get items n a a found)),
+        )
 
-pub get_here : (xs : List ActorKnown) (n : ℕ) (d : ActorKnown) → n < length xs → slice_get xs n ≡ Some (get_or xs n d)
-get_here [] n d l = absurd (omega arith)
-get_here (x ∷ xs) zero d l = refl
-get_here (x ∷ xs) (suc n) d l = get_here xs n d (omega arith)
+    -- and in the end all are
+    pub all_are : n ≡ length xs → items ≡ map f xs
+    all_are past = is ∙ ap (λ (k : ℕ). map f (take k xs) ++ drop k xs) past
+        ∙ (λ j. map f (take-length xs j) ++ drop-length xs j) ∙ append-nil (map f xs)
 
-pub one_there : (a b : ActorKnown) → Some a ≡ Some b → a ≡ b
-one_there a b e = cc
+pub map_at : (f : ActorKnown → ActorKnown) (xs : List ActorKnown) (n : ℕ) (b : ActorKnown)
+    → slice_get (map f xs) n ≡ Some b → (a : ActorKnown) × (slice_get xs n ≡ Some a) × (b ≡ f a)
+map_at f [] n b e = absurd (cc)
+map_at f (x ∷ xs) zero b e = (x, refl, sym (some_is (f x) b e))
+map_at f (x ∷ xs) (suc n) b e = map_at f xs n b e
 
-pub get_inside : (xs : List ActorKnown) (n : ℕ) (a : ActorKnown) → slice_get xs n ≡ Some a → n < length xs
-get_inside [] n a e = absurd (cc)
-get_inside (x ∷ xs) zero a e = omega arith
-get_inside (x ∷ xs) (suc n) a e = let l = get_inside xs n a e in omega arith
-
-module _ (f g : ActorKnown → ActorKnown) where
-  pub first_length : (n : ℕ) (xs : List ActorKnown) → length (first_as f g n xs) ≡ length xs
-  first_length n [] = refl
-  first_length zero (x ∷ xs) = ap suc (first_length zero xs)
-  first_length (suc n) (x ∷ xs) = ap suc (first_length n xs)
-
-  -- the next one is not among the first
-  pub next_get : (n : ℕ) (xs : List ActorKnown) (d : ActorKnown) → n < length xs
-      → get_or (first_as f g n xs) n d ≡ g (get_or xs n d)
-  next_get n [] d l = absurd (omega arith)
-  next_get zero (x ∷ xs) d l = refl
-  next_get (suc n) (x ∷ xs) d l = next_get n xs d (omega arith)
-
-  -- and then it is
-  pub next_set : (n : ℕ) (xs : List ActorKnown) (d : ActorKnown) → n < length xs
-      → set (first_as f g n xs) n (f (get_or xs n d)) ≡ first_as f g (suc n) xs
-  next_set n [] d l = absurd (omega arith)
-  next_set zero (x ∷ xs) d l = refl
-  next_set (suc n) (x ∷ xs) d l = ap (λ (ys : List ActorKnown). f x ∷ ys) (next_set n xs d (omega arith))
-
-  pub all_as : (xs : List ActorKnown) → first_as f g (length xs) xs ≡ first_as g f 0 xs
-  all_as [] = refl
-  all_as (x ∷ xs) = ap (λ (ys : List ActorKnown). f x ∷ ys) (all_as xs)
-
-pub as_they_are : (f : ActorKnown → ActorKnown) (xs : List ActorKnown) → first_as f itself 0 xs ≡ xs
-as_they_are f [] = refl
-as_they_are f (x ∷ xs) = ap (λ (ys : List ActorKnown). x ∷ ys) (as_they_are f xs)
-
--- a is the next of these actors: as it was it is g of the old one, and by f of it there is one more among the first
-pub record Next (net : NetId) (olds : List ActorKnown) (f g : ActorKnown → ActorKnown) (n : ℕ) (items : List ActorKnown)
-    (a : ActorKnown) : Type 0 where
-  pub inside : n < length olds
-  pub old : ActorKnown
-  pub at : slice_get olds n ≡ Some old
-  pub place : (old.net ≡ net) × (old.vertex ≡ n)
-  pub is : a ≡ g old
-  pub more : (b : ActorKnown) → b ≡ f old → set items n b ≡ first_as f g (n + 1) olds
-
-pub next : (net : NetId) (olds : List ActorKnown) → AreInPlace net olds → (f g : ActorKnown → ActorKnown) (n : ℕ)
-    (items : List ActorKnown) → items ≡ first_as f g n olds → n < length items → (a d : ActorKnown) → a ≡ get_or items n d
-    → Next net olds f g n items a
-next net olds places f g n items items_is inside a d a_is =
-    let all = ap length items_is ∙ first_length f g n olds in
-    let l : n < length olds = omega (arith, all, inside) in record {
-      inside = l;
-      old = get_or olds n d;
-      at = get_here olds n d l;
-      place = places n (get_or olds n d) (get_here olds n d l);
-      is = a_is ∙ ap (λ (xs : List ActorKnown). get_or xs n d) items_is ∙ next_get f g n olds d l;
-      more = λ b b_is. (λ j. set (items_is j) n (b_is j)) ∙ next_set f g n olds d l
-          ∙ ap (λ (k : ℕ). first_as f g k olds) (omega arith);
-    }
+-- actors that lent their parts and have them again are as they were
+pub all_back : (net : NetId) (xs : List ActorKnown) → ((n : ℕ) (a : ActorKnown) → slice_get xs n ≡ Some a → a.net ≡ net)
+    → map (at_net net) (map seatless xs) ≡ xs
+all_back net [] are = refl
+all_back net (x ∷ xs) are = λ j. at_net (sym (are 0 x refl) j) x ∷ all_back net xs (λ n. are (suc n)) j

@@ -18,7 +18,7 @@ use Rattle.chip_core.proofs.ReachingLemmas.{part-append}
 use Rattle.chip_net.specs.Views.{History, View, find, grow, grow_view, steps_or_none, did_in, Has, part_of_view}
 use Rattle.chip_net.specs.Views.{drop_part, one_part, view_of_one, parts_below, IsAlone, join_views}
 
-pub some_is : (a b : List Step) → Some a ≡ Some b → a ≡ b
+pub some_is : {A : Type 0} (a b : A) → Some a ≡ Some b → a ≡ b
 some_is a b e = cc
 
 pub none_some : (d : List Step) → None ≡ Some d → ⊥

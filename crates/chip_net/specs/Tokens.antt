@@ -63,14 +63,13 @@ no_table = record { words = 0; slots = 0; views_name = 0; atom = 0; block = 0; o
 abbrev pub no_actor : ActorKnown
 no_actor = newcomer (record { table = no_table; setting = no_setting }) 0 0
 
+-- the actor, as it is at a net
+abbrev pub at_net : NetId → ActorKnown → ActorKnown
+at_net net a = record { net = net; vertex = a.vertex; room = a.room; did = a.did }
+
 -- an actor that lent its part is at no table
 abbrev pub seatless : ActorKnown → ActorKnown
-seatless a = record {
-  net = record { table = no_table; setting = a.net.setting };
-  vertex = a.vertex;
-  room = a.room;
-  did = a.did;
-}
+seatless a = at_net (record { table = no_table; setting = a.net.setting }) a
 
 -- the table at which an actor has its part, by what its seat has
 abbrev pub table_of : List History → TableId → TableId

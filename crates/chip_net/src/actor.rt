@@ -3,7 +3,7 @@ ghost use Rattle.chip_actor.specs.Actor.{StandsFor};
 ghost use Rattle.chip_part.specs.Part.{opening_part};
 ghost use Rattle.chip_net.specs.Traces.{rows_of};
 ghost use Rattle.chip_net.specs.Tokens.{ActorKnown, MakesTurn, MakesTurnBy, IsSeated, IsActor, known, newcomer, seatless};
-ghost use Rattle.chip_net.specs.Tokens.{IsOfNet};
+ghost use Rattle.chip_net.specs.Tokens.{IsOfNet, at_net};
 ghost use Rattle.chip_net.specs.Views.{find, view_without};
 ghost use Rattle.chip_net.specs.Meeting.{AreInPlace, Met};
 
@@ -116,12 +116,7 @@ impl Owned {
         requires net { self.old.net.setting ≡ net.now.setting }
         requires seat { seat.old.table_id ≡ net.now.table }
         requires part { find self.old.vertex seat.old.me.0.parts ≡ Some self.old.did }
-        ensures back { self.new ≡ record {
-          net = net.now;
-          vertex = self.old.vertex;
-          room = self.old.room;
-          did = self.old.did;
-        } }
+        ensures back { self.new ≡ at_net net.now self.old }
         ensures same { (seat.new.table_id ≡ seat.old.table_id)
             × (seat.new.me.0 ≡ view_without self.old.vertex seat.old.me.0) }
     {

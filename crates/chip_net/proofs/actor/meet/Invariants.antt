@@ -1,8 +1,7 @@
-use Rattle.std.proofs.Common.{◌≡◌, ℕ, ◌<◌, ◌≤◌, length, Some}
+use Rattle.std.proofs.Common.{◌≡◌, ℕ, ◌<◌, ◌≤◌, ◌++◌, length, map, take, drop, Some}
 use Rattle.std.specs.Prelude.{slice_get}
-use Rattle.chip_net.specs.Tokens.{ActorKnown, seatless}
+use Rattle.chip_net.specs.Tokens.{ActorKnown, at_net, seatless}
 use Rattle.chip_net.specs.Views.{find}
-use Rattle.chip_net.proofs.MeetingLemmas.{first_as, itself}
 use Rattle.chip_net.proofs.actor.meet.Given as goal
 
 abbrev pub ghosts-take_back : goal.ghosts-take_back
@@ -11,7 +10,7 @@ ghosts-take_back a = record { part = a.self.now.vertex }
 abbrev pub invariant-loop-index : goal.invariant-loop-index
 invariant-loop-index l = record {
   table : l.seat.table_id ≡ l.initial.seat.table_id;
-  items : l.actors ≡ first_as seatless itself l.index l.fn.actors;
+  items : l.actors ≡ map seatless (take l.index l.fn.actors) ++ drop l.index l.fn.actors;
   parts : (v : ℕ) (a : ActorKnown) → v < l.index → slice_get l.fn.actors v ≡ Some a
       → find v l.seat.me.0.parts ≡ Some a.did;
   others : (p : ℕ) → length l.fn.actors ≤ p → find p l.seat.me.0.parts ≡ find p l.fn.seat.me.0.parts;
@@ -20,7 +19,8 @@ invariant-loop-index l = record {
 abbrev pub invariant-loop-index-2 : goal.invariant-loop-index-2
 invariant-loop-index-2 l = record {
   table : l.seat.table_id ≡ l.fn.seat.table_id;
-  items : l.actors ≡ first_as itself seatless l.index l.fn.actors;
+  items : l.actors ≡ map (at_net l.net) (take l.index (map seatless l.fn.actors))
+      ++ drop l.index (map seatless l.fn.actors);
   parts : (v : ℕ) (a : ActorKnown) → l.index ≤ v → slice_get l.fn.actors v ≡ Some a
       → find v l.seat.me.0.parts ≡ Some a.did;
   others : (p : ℕ) → length l.fn.actors ≤ p → find p l.seat.me.0.parts ≡ find p l.fn.seat.me.0.parts;

@@ -1,9 +1,10 @@
 -- Serves Finish.antt, Roots.antt.
 -- What the root makes of its reads.
 use Rattle.std.proofs.Common.{◌≡◌, ℕ, zero, suc, ◌<◌, ◌≤◌, sum, ◌||◌, ◌&&◌, Bool, not, true, false, List, [], ◌∷◌}
-use Rattle.std.proofs.Common.{length, map, get_or, slice_index, Option, Some, None, is_some, Contains, refl, sym, ap}
+use Rattle.std.proofs.Common.{length, map, get_or, slice_index, Option, Some, None, is_some, Contains, true≢false, refl, sym, ap}
 use Rattle.std.proofs.Common.{◌∙◌, subst, arith}
-use Rattle.std.proofs.lemmas.List.{get_or_past, length-map}
+use Rattle.std.proofs.Math.ListN.{get_or-map}
+use Rattle.std.proofs.lemmas.List.{length-map}
 use Rattle.std.proofs.lemmas.List.FromFn.{length-map-range_with_len}
 use Rattle.chip_graph.specs.ChipGame.{ChipGame}
 use Rattle.chip_graph.specs.Limits.{max_total}
@@ -14,7 +15,7 @@ use Rattle.chip_sequence.specs.declared.outcome.Outcome.{Outcome}
 use Rattle.chip_sequence.specs.Counted.{IsBelowZero, IsAfter}
 use Rattle.chip_sequence.specs.Play.{IsPlayed}
 use Rattle.chip_sequence.specs.Sequence.{HasEnded}
-use Rattle.chip_sequence.proofs.LegalLemmas.{picked_no, picked_ext, picked_has}
+use Rattle.chip_sequence.proofs.LegalLemmas.{picked_none, picked_ext, picked_has}
 use Rattle.chip_sequence.proofs.BoundLemmas.{same_ends}
 use Rattle.chip_link.specs.Words.{fired_in, is_halted_in, is_by_limit_in, is_fired_word}
 use Rattle.chip_part.specs.Setting.{Setting, IsSetting}
@@ -32,28 +33,22 @@ use Rattle.chip_core.proofs.NumberLemmas.{words_tell}
 use Rattle.chip_core.proofs.ReachingLemmas.{by_history}
 use Rattle.chip_core.proofs.GivenLemmas.{given_is, given_start, given_within, played_has_more, unfed_played}
 use Rattle.chip_core.proofs.ClosingLemmas.{all_ended}
+use Rattle.chip_core.proofs.OrderLemmas.{contains_nothing}
 use Rattle.chip_core.proofs.OutcomeLemmas.{never_negative, comes, in_range, is_played}
 use Rattle.chip_net.specs.Roots.{RootKnown, root_part, root_after, fed_by}
 use Rattle.chip_net.specs.Finish.{reads_from, IsReadOut, ReadingsState, is_by_limit_at, is_by_seal_at, AreRead}
 use Rattle.chip_net.specs.Finish.{IsReading, IsOneEnd, Finishes}
 use Rattle.chip_net.specs.Meeting.{Together, IsRun}
-use Rattle.chip_net.proofs.ViewingLemmas.{part_append}
-use Rattle.chip_net.proofs.ReadingLemmas.{reads_feed_none, reads_given, reads_at, done_in_log}
+use Rattle.chip_net.proofs.ReadingLemmas.{reads_feed_none, reads_part, reads_say}
 use Rattle.chip_net.specs.Tokens.{NetId, ActorKnown}
-use Rattle.chip_core.proofs.ReadLemmas.{reads_tell}
-use Rattle.chip_part.specs.Steps.{saw}
 use Rattle.chip_part.proofs.EdgeLemmas.{tail_root}
 use Rattle.chip_link.specs.Link.{sent_counts}
-use Rattle.std.proofs.lemmas.List.Elements.{Contains-append_right}
 use Rattle.chip_net.proofs.UnsealedLemmas.{never_sealed}
 
-none_listed : (v : ℕ) → Contains [] v → ⊥
-none_listed v at = let l = at.1 in absurd (omega arith)
-
--- nothing passes, and nothing is listed
-picked_none : (test : ℕ → Bool) (n : ℕ) → ((v : ℕ) → v < n → test v ≡ false) → filter_below test n ≡ []
-picked_none test zero off = refl
-picked_none test (suc n) off = picked_no test n (off n (omega arith)) ∙ picked_none test n (λ v l. off v (omega arith))
+-- nothing passes where nothing is listed
+none_picked : (test : ℕ → Bool) (n : ℕ) → filter_below test n ≡ [] → (v : ℕ) → v < n → test v ≡ true → ⊥
+none_picked test n empty v l on = contains_nothing v
+    (subst (λ (xs : List ℕ). Contains xs v) empty (picked_has test n v l on))
 
 -- ---- at the end
 
@@ -74,11 +69,6 @@ seal_is None = refl
 seal_is (Some SealedEdge) = refl
 seal_is (Some FiringLimit) = refl
 
-mapped : (f : ℕ → ℕ) → f 0 ≡ 0 → (xs : List ℕ) (k : ℕ) → get_or (map f xs) k 0 ≡ f (get_or xs k 0)
-mapped f zero_is [] k = get_or_past [] k 0 (omega arith) ∙ sym (ap f (get_or_past [] k 0 (omega arith)) ∙ zero_is)
-mapped f zero_is (x ∷ xs) zero = refl
-mapped f zero_is (x ∷ xs) (suc k) = mapped f zero_is xs k
-
 -- what the words of all vertices say of a log is its outcome, where the chips are those by the counts
 module _ (g : Setting) (setting : IsSetting g) (log : Log) (legal : IsLegalLog g log) (words : List ℕ)
     (count_is : length words ≡ g.game.graph.vertices)
@@ -89,7 +79,7 @@ module _ (g : Setting) (setting : IsSetting g) (log : Log) (legal : IsLegalLog g
   pub fired_by_words : (fired : List ℕ) → fired ≡ map fired_in words → AreFired g log g.game.graph.vertices fired
   fired_by_words fired is = record {
     count_is = ap length is ∙ length-map words fired_in ∙ count_is;
-    each = λ v l. ap (λ (xs : List ℕ). get_or xs v 0) is ∙ mapped fired_in refl words v ∙ ap fired_in (word_at v l)
+    each = λ v l. ap (λ (xs : List ℕ). get_or xs v 0) is ∙ get_or-map fired_in words v 0 ∙ ap fired_in (word_at v l)
         ∙ say.fired v;
   }
 
@@ -124,13 +114,10 @@ module _ (old now : RootKnown) (setting : IsSetting old.net.setting) (readings :
   recorded = ap (fed_in h) (sym out'.has.0.root_did) ∙ reads_feed_none h old.did 0 reading.words
 
   -- what was given is the start of the game that was played
-  root_is : part_in h out'.log (root h) ≡ part_by h (root_part old) (reads_from 0 reading.words)
-  root_is = by_history h out'.log (root h) ∙ ap (part_by h (opening_part h)) (sym out'.has.0.root_did)
-      ∙ part_append h (opening_part h) old.did (reads_from 0 reading.words)
-
   start_is : given ≡ (played_game h out'.log).start
-  start_is = given_start h out'.log given (subst (λ (s : Part). AreGiven h s given) (sym root_is)
-      (reads_given h (root_part old) 0 reading.words given are))
+  start_is = given_start h out'.log given (subst (λ (s : Part). AreGiven h s given)
+      (sym (by_history h out'.log (root h) ∙ ap (part_by h (opening_part h)) (sym out'.has.0.root_did)
+      ∙ reads_part old reading.words)) are)
 
   pub few : sum given ≤ max_total
   few = subst (λ (xs : List ℕ). sum xs ≤ max_total) (sym start_is)
@@ -183,9 +170,8 @@ module _ (old now : RootKnown) (setting : IsSetting old.net.setting) (readings :
 
     -- where no seal is listed, none halted a vertex
     no_seals : o.sealed.items ≡ [] → NoneHaltedBySeal h out'.log
-    no_seals empty v l seal = none_listed v
-        (subst (λ (xs : List ℕ). Contains xs v) (sym outcome_is.sealed
-        ∙ empty) (picked_has (λ u. is_by_seal (part_in h out'.log u).halt) h.game.graph.vertices v l (ap is_by_seal seal)))
+    no_seals empty v l seal = none_picked (λ u. is_by_seal (part_in h out'.log u).halt) h.game.graph.vertices
+        (sym outcome_is.sealed ∙ empty) v l (ap is_by_seal seal)
 
     -- and where the limit's list is empty too, none halted at all
     no_halts : o.over.items ≡ [] → o.sealed.items ≡ [] → NoneHalted h out'.log
@@ -194,9 +180,8 @@ module _ (old now : RootKnown) (setting : IsSetting old.net.setting) (readings :
         by_cause : (c : Option Cause) → (part_in h out'.log v).halt ≡ c → (part_in h out'.log v).halt ≡ None
         by_cause None is = is
         by_cause (Some SealedEdge) is = absurd (no_seals sealed v l is)
-        by_cause (Some FiringLimit) is = absurd
-            (none_listed v (subst (λ (xs : List ℕ). Contains xs v) (sym outcome_is.over
-            ∙ over) (picked_has (λ u. is_by_limit (part_in h out'.log u).halt) h.game.graph.vertices v l (ap is_by_limit is))))
+        by_cause (Some FiringLimit) is = absurd (none_picked (λ u. is_by_limit (part_in h out'.log u).halt)
+            h.game.graph.vertices (sym outcome_is.over ∙ over) v l (ap is_by_limit is))
 
     all_come : ComesTo h (slice_index game.start) (firings out'.log) o
     all_come = subst (λ (x : ℕ → ℕ). ComesTo h x (firings out'.log) o) from
@@ -215,7 +200,7 @@ module _ (old now : RootKnown) (setting : IsSetting old.net.setting) (readings :
     -- the stopper's part stands in the root's view, and did nothing
     unsealed : old.stopper_did ≡ Some [] → o.sealed.items ≡ []
     unsealed none = outcome_is.sealed ∙ picked_none (λ v. is_by_seal (part_in h out'.log v).halt) h.game.graph.vertices
-        (λ v l. never_sealed h out'.log out'.legal (sym (out'.has.0.stopper_did [] none)) v)
+        (λ v l on. true≢false (sym on ∙ never_sealed h out'.log out'.legal (sym (out'.has.0.stopper_did [] none)) v))
 
     pub finishes : Finishes old now o
     finishes = subst (λ (r : RootKnown). Finishes old r o) (sym reading.record_is) record {
@@ -271,12 +256,8 @@ module _ (old receipt : RootKnown) (o : Outcome) (actors : List ActorKnown) (fin
   -- the reads are in the log, and each tells the word of its vertex there
   tells : (v : ℕ) → v < k.game.graph.vertices → (v < k.game.graph.vertices) × IsClosed k met.1.log
       × (get_or finishes.words v 0 ≡ word_of_part (part_in k met.1.log v))
-  tells v l = reads_tell k met.0.game met.0.some_ring met.1.log met.1.legal (saw (Read v) (get_or finishes.words v 0)) v
-      (done_in_log k (root k) met.1.log (saw (Read v) (get_or finishes.words v 0))
-      (subst (λ (d : List Step). Contains d (saw (Read v) (get_or finishes.words v 0)))
-      (sym (ap (λ (r : RootKnown). r.did) finishes.record_is) ∙ met.1.has.0.root_did)
-      (Contains-append_right old.did (reads_from 0 finishes.words) (saw (Read v) (get_or finishes.words v 0))
-      (reads_at 0 finishes.words v (omega (arith, vertices_is)) v (omega arith))))) refl
+  tells v l = reads_say k met.0 met.1.log met.1.legal old.did finishes.words
+      (sym (ap (λ (r : RootKnown). r.did) finishes.record_is) ∙ met.1.has.0.root_did) v (omega (arith, vertices_is))
 
   -- in both logs the root is the same
   root_same : part_in k met.1.log (root k) ≡ part_in k finishes.read_out.log (root k)

@@ -32,10 +32,6 @@ use Rattle.chip_net.specs.Tokens.{NetId, AreWordsOf}
 use Rattle.chip_net.proofs.ViewingLemmas.{part_append, ended_by, joined_here, joined_else}
 use Rattle.chip_net.proofs.RulingLemmas.{Due, Made, made, word_of, left_over, HasAct, act_asked}
 
--- the root sends on the root edges
-root_tail : (g : Setting) (v : ℕ) → tail_of g (root_edge g v) ≡ root g
-root_tail g v = tail_root g (root_edge g v) (omega arith)
-
 -- what is noted is noted
 noted_twice : (x : Event) (n : ℕ) → word_to_note x n ≡ word_to_note x (word_to_note x n)
 noted_twice (Put e) n = refl
@@ -109,7 +105,7 @@ module _ (g : Setting) (v : ℕ) (inside : v < g.game.graph.vertices) where
 
   pub settle_due : (me : Mine) {state : Root} → IsRoot g me.0 state → Due g me (root g) (Settle (root_edge g v))
   settle_due me keeps = record {
-    mine = root_tail g v;
+    mine = tail_root g (root_edge g v) (omega arith);
     has = keeps.has;
     met = met_rules g (Settle (root_edge g v)) (part_of_view g (root g) me.0) (omega arith);
   }
@@ -227,10 +223,6 @@ settles_more {old = old} {now = now} {after = after} first v l before event =
 pub root_step : (r : RootKnown) (y : Step)
     → root_part (root_after r (y ∷ [])) ≡ does r.net.setting y (root_part r)
 root_step r y = part_append r.net.setting (opening_part r.net.setting) r.did (y ∷ [])
-
--- as a net opens nothing is held
-pub holds_first : (net : NetId) (stopper_did : Option (List Step)) → HoldsNothing (new_root net stopper_did)
-holds_first net stopper_did v l = refl
 
 -- it holds as little as before where the event leaves what is held
 pub holds_by : {old now : RootKnown} {x : Event} {seen : ℕ} → MakesEvent old now x seen

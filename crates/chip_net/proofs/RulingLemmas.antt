@@ -183,6 +183,9 @@ over_left g s x z n = refl
 
 -- ---- a call of the table that makes it
 
+pub words_at : {own net : NetId} → own ≡ net → {id : TableId} {key : Setting} → AreWordsOf net id key → AreWordsOf own id key
+words_at same {id = id} {key = key} = subst (λ (n : NetId). AreWordsOf n id key) (sym same)
+
 module _ {net : NetId} {id : TableId} {key : Setting} (words : AreWordsOf net id key) {me : Mine} {p : ℕ} {x : Event}
     (due : Due net.setting me p x) where
   abbrev g : Setting

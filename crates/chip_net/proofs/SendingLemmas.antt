@@ -5,7 +5,7 @@ use Rattle.std.proofs.Common.{refl, sym, ap, ◌∙◌, subst, arith, inr, eqb-t
 use mathlib.Core.Logic.{dite}
 use native.Mathlib.Decide.{ℕ_discrete}
 use Rattle.chip_graph.specs.Limits.{max_total}
-use Rattle.chip_graph.proofs.SumLemmas.{cond_yes, cond_no, sum_below_ext}
+use Rattle.chip_graph.proofs.SumLemmas.{cond_yes, cond_no, cond_true, cond_false, by_test, sum_below_ext}
 use Rattle.chip_link.specs.Link.{Tail, claims_of, sent_counts, after_clear, after_claim, after_put}
 use Rattle.chip_part.specs.Setting.{Setting}
 use Rattle.chip_part.specs.Edges.{root_edge, graph_edges, all_edges}
@@ -15,18 +15,15 @@ use Rattle.chip_part.specs.declared.reply.Reply.TheVariants.{Done, Full}
 use Rattle.chip_part.proofs.RuleLemmas.{met_rules}
 use Rattle.chip_core.specs.Core.{Step, Clear, Put, Feed, Part, opening_part, does, unmet_rule}
 use Rattle.chip_net.specs.Roots.{RootKnown, root_part, root_after, has_ended, all_given, IsDueForRoot}
-use Rattle.chip_net.specs.Roots.{MakesEvent, HoldsNothing, Feeds, LooksInVain}
+use Rattle.chip_net.specs.Roots.{MakesEvent, HoldsNothing, Feeds}
 use Rattle.chip_net.proofs.ViewingLemmas.{part_append}
 use Rattle.chip_net.proofs.RootingLemmas.{root_step, steps_more, holds_by, by_look}
 
 -- what a look replies
-found_empty : (b : Bool) (claims place : ℕ) → Done place ≡ cond b (Done claims) Full → (b ≡ true) × (place ≡ claims)
-found_empty true claims place is = (refl, cc)
-found_empty false claims place is = absurd (cc)
-
 pub look_done : (seen claims place : ℕ) → Done place ≡ cond (eqb seen 0) (Done claims) Full → (seen ≡ 0) × (place ≡ claims)
-look_done seen claims place is = let both = found_empty (eqb seen 0) claims place is in
-    (eqb-true seen 0 both.0, both.1)
+look_done seen claims place is = by_test (eqb seen 0)
+    (λ on. (eqb-true seen 0 on, (let z = is ∙ cond_true (eqb seen 0) (Done claims) Full on in cc)))
+    (λ off. (let z = is ∙ cond_false (eqb seen 0) (Done claims) Full off in absurd (cc)))
 
 -- so many chips may be fed to a vertex, whose root edge is e
 pub record MayFeed (r : RootKnown) (vertex e count : ℕ) : Type 0 where
@@ -38,7 +35,7 @@ pub record MayFeed (r : RootKnown) (vertex e count : ℕ) : Type 0 where
   pub few : all_given r + count ≤ max_total
   pub given : all_fed r.net.setting (root_part r) ≡ all_given r
 
-module _ (r : RootKnown) (vertex e count : ℕ) (f : MayFeed r vertex e count) where
+module _ {r : RootKnown} {vertex e count : ℕ} (f : MayFeed r vertex e count) where
   abbrev g : Setting
   g = r.net.setting
 
@@ -89,14 +86,14 @@ module _ (r : RootKnown) (vertex e count : ℕ) (f : MayFeed r vertex e count) w
   feed_due : IsDueForRoot (root_after r (look ∷ [])) (Feed e count)
   feed_due = (past, subst (λ (t : Part). unmet_rule g (Feed e count) t ≡ None) (sym (root_step r look)) feed_met)
 
-  module _ (r1 : RootKnown) (seen1 : ℕ) (made1 : MakesEvent r r1 (Clear e) seen1) (zero : seen1 ≡ 0) where
+  module _ {r1 : RootKnown} {seen1 : ℕ} (made1 : MakesEvent r r1 (Clear e) seen1) (zero : seen1 ≡ 0) where
     first : r1 ≡ root_after r (look ∷ [])
     first = made1.record_is ∙ ap (λ (n : ℕ). root_after r (saw (Clear e) n ∷ [])) zero
 
     pub due2 : IsDueForRoot r1 (Feed e count)
     due2 = subst (λ (k : RootKnown). IsDueForRoot k (Feed e count)) (sym first) feed_due
 
-    module _ (r2 : RootKnown) (seen2 : ℕ) (made2 : MakesEvent r1 r2 (Feed e count) seen2) where
+    module _ {r2 : RootKnown} {seen2 : ℕ} (made2 : MakesEvent r1 r2 (Feed e count) seen2) where
       abbrev feed : Step
       feed = saw (Feed e count) seen2
 
@@ -127,7 +124,7 @@ module _ (r : RootKnown) (vertex e count : ℕ) (f : MayFeed r vertex e count) w
             (met_rules g (Put e) s2 (below, (count, claimed))),
       )
 
-      module _ (r3 : RootKnown) (seen3 : ℕ) (made3 : MakesEvent r2 r3 (Put e) seen3) where
+      module _ {r3 : RootKnown} {seen3 : ℕ} (made3 : MakesEvent r2 r3 (Put e) seen3) where
         abbrev put : Step
         put = saw (Put e) 0
 
@@ -165,14 +162,5 @@ module _ (r : RootKnown) (vertex e count : ℕ) (f : MayFeed r vertex e count) w
               ∷ saw (Put (f.edge_is j)) 0 ∷ []));
         }
 
-  module _ (r1 : RootKnown) (seen1 : ℕ) (made1 : MakesEvent r r1 (Clear e) seen1) where
-    pub free1 : HoldsNothing r1
-    free1 = holds_by made1 (by_look (λ (t : Tail). t.held) seen1 (λ t. refl) e) f.free
-
-    pub in_vain : seen1 ≢ 0 → LooksInVain r r1 vertex
-    in_vain some = record {
-      seen = seen1;
-      some = some;
-      record_is = made1.record_is
-          ∙ ap (λ (i : ℕ). root_after r (saw (Clear i) seen1 ∷ [])) f.edge_is;
-    }
+  pub free1 : {r1 : RootKnown} {seen : ℕ} → MakesEvent r r1 (Clear e) seen → HoldsNothing r1
+  free1 {seen = seen} made = holds_by made (by_look (λ (t : Tail). t.held) seen (λ t. refl) e) f.free

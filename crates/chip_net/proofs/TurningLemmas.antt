@@ -14,7 +14,7 @@ use Rattle.chip_net.specs.Traces.{TraceState}
 use Rattle.chip_net.specs.Views.{did_in, part_of_view, Mine}
 use Rattle.chip_net.specs.Tokens.{TurnSetup, IsOfNet, Holds, IsSeated, IsActor, known, MakesTurnBy}
 
-module _ (setup now : TurnSetup) (key : Setting) (table : TableId) (me : Mine) (trace : TraceState) (a : Actor)
+module _ {setup now : TurnSetup} {key : Setting} {table : TableId} {me : Mine} {trace : TraceState} (a : Actor)
     (began : setup ≡ now) (of_net : IsOfNet now.net.setting key now.net.table) (vertex : now.vertex ≡ a.vertex) (table_is : table ≡ now.net.table)
     (actor : IsActor now.net.setting a me trace) where
   abbrev g : Setting
@@ -44,7 +44,7 @@ module _ (setup now : TurnSetup) (key : Setting) (table : TableId) (me : Mine) (
   pub may_turn : Meets (Holds setup now key table me trace) a (At.Take 0)
   may_turn = (g, reverse did, part, begins, actor.1, tt)
 
-  module _ (now' : TurnSetup) (key' : Setting) (table' : TableId) (me' : Mine) (trace' : TraceState) (b : Actor) (work : ℕ)
+  module _ {now' : TurnSetup} {key' : Setting} {table' : TableId} {me' : Mine} {trace' : TraceState} {b : Actor} {work : ℕ}
       (makes : MakesTurn (Holds setup now key table me trace) a (Holds setup now' key' table' me' trace') b work) where
     abbrev more : List Step
     more = (makes g (reverse did) part begins actor.1).0

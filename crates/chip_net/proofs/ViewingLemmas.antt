@@ -63,12 +63,6 @@ grown_has p x v w has is =
 pub part_append : (g : Setting) (s : Part) (xs ys : List Step) → part_by g s (xs ++ ys) ≡ part_by g (part_by g s xs) ys
 part_append g s xs ys = part-append g xs ys s
 
--- and the state that its record leaves
-pub grown_part : (g : Setting) (p : ℕ) (x : Step) (v w : View) → Has p v → w ≡ grow_view p x v
-    → part_of_view g p w ≡ does g x (part_of_view g p v)
-grown_part g p x v w has is = ap (part_by g (opening_part g)) (grown_has p x v w has is).0
-    ∙ part_append g (opening_part g) (did_in p v) (x ∷ [])
-
 -- where no chips are fed the end of feeding is noted, whatever a part did
 pub ended_by : (g : Setting) (xs : List Step) (s : Part) → s.ended ≡ true → (part_by g s xs).ended ≡ true
 ended_by g [] s on = on

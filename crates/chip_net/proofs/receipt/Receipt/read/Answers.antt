@@ -8,11 +8,11 @@ use Rattle.chip_core.specs.Words.{of_vertex}
 use Rattle.chip_net.specs.Layout.{index_of}
 use Rattle.chip_net.specs.Views.{did_in}
 use Rattle.chip_net.specs.Rule.{SomeLog}
-use Rattle.chip_net.specs.Tokens.{NetId, AreWordsOf}
+use Rattle.chip_net.specs.Tokens.{NetId}
 use Rattle.chip_net.specs.Roots.{RootKnown, root_part, IsOver}
 use Rattle.chip_net.specs.Finish.{AgreesWith}
 use Rattle.chip_net.specs.contracts.receipt.Receipt.{the_view}
-use Rattle.chip_net.proofs.RulingLemmas.{Due, Made, made, event_asked, event_told}
+use Rattle.chip_net.proofs.RulingLemmas.{Due, words_at, Made, made, event_asked, event_told}
 use Rattle.chip_net.proofs.RootingLemmas.{known_after}
 use Rattle.chip_net.proofs.FinishingLemmas.{fired_word_is}
 use Rattle.chip_net.proofs.receipt.Receipt.read.Goals as goal
@@ -21,11 +21,6 @@ use Rattle.chip_net.proofs.receipt.Receipt.read.Goals.{After-words, After-load}
 -- the receipt is of this net
 net_is : (c : After-words) → (the_view c.self.inside).net ≡ c.args.net.now
 net_is c = ap (λ (r : RootKnown). r.net) c.self.view_is ∙ c.requires.net
-
-words : (c : After-words)
-    → AreWordsOf (the_view c.self.inside).net c.words.result.now.table_id c.words.result.now.key.value
-words c = subst (λ (n : NetId). AreWordsOf n c.words.result.now.table_id c.words.result.now.key.value) (sym (net_is c))
-    c.words.ensures
 
 due : (c : After-words) → Due c.self.inside.setting.value c.self.inside.seat.me (root c.self.inside.setting.value)
     (Read c.args.vertex)
@@ -48,13 +43,13 @@ at c = c.fired_word-word.ensures ∙ ap (λ (g : Setting). index_of g (of_vertex
 pub load-requires : goal.load-requires
 load-requires c =
     let d = (goal.at.load-requires c).After-words in
-    event_asked (words d) (due d) _ (at d) Read refl _ refl _
+    event_asked (words_at (net_is d) c.words.ensures) (due d) _ (at d) Read refl _ refl _
 
 read : (c : After-load) → Made c.self.inside.setting.value c.self.inside.seat.me (root c.self.inside.setting.value)
     (Read c.args.vertex) c.load.result c.load.new.seat.me
 read c =
     let d = (goal.at.After-load c).After-words in
-    made (due d) _ _ (event_told (words d) (due d) _ (at d) Read refl _ _ c.load.ensures.2)
+    made (due d) _ _ (event_told (words_at (net_is d) c.words.ensures) (due d) _ (at d) Read refl _ _ c.load.ensures.2)
 
 pub invariant_of-self : goal.invariant_of-self
 invariant_of-self c = ((read (goal.at.invariant_of-self c).After-load).has, c.self.invariant.1)

@@ -32,34 +32,27 @@ room c n same = c.self.invariant.1
     ∙ ap (λ (m : NetId). no_readings m.setting.game.graph.vertices) (sym same)
 
 pub make-requires-clause-due : goal.make-requires-clause-due
-make-requires-clause-due c = look_due _ _ _ _ (may (goal.at.make-requires-clause-due c).In_ok-may_feed)
+make-requires-clause-due c = look_due (may (goal.at.make-requires-clause-due c).In_ok-may_feed)
 
 pub invariant_of-self-in_default : goal.invariant_of-self-in_default
 invariant_of-self-in_default c =
-    let d = (goal.at.invariant_of-self-in_default c).In_ok-may_feed in (
-      free1 _ _ _ _ (may d) c.make.new.self c.make.ensures.seen c.make.ensures.made,
-      room d _ (ap (λ (r : RootKnown). r.net) c.make.ensures.made.record_is),
-    )
+    let d = (goal.at.invariant_of-self-in_default c).In_ok-may_feed in
+    (free1 (may d) c.make.ensures.made, room d _ (ap (λ (r : RootKnown). r.net) c.make.ensures.made.record_is))
 
 -- the look saw an empty cell, and its answer is the place
 pub make-requires-2-clause-due : goal.make-requires-2-clause-due
-make-requires-2-clause-due c = due2 _ _ _ _ (may (goal.at.make-requires-2-clause-due c).In_ok-may_feed)
-    c.make.new.self c.make.ensures.seen c.make.ensures.made
+make-requires-2-clause-due c = due2 (may (goal.at.make-requires-2-clause-due c).In_ok-may_feed) c.make.ensures.made
     (look_done _ _ c.in-Done.place (sym c.in-Done.is ∙ c.make.ensures.reply_is)).0
 
 pub make-requires-3-clause-due : goal.make-requires-3-clause-due
-make-requires-3-clause-due c = due3 _ _ _ _ (may (goal.at.make-requires-3-clause-due c).In_ok-may_feed)
-    c.make.new.self c.make.ensures.seen c.make.ensures.made
-    (look_done _ _ c.in-Done.place (sym c.in-Done.is ∙ c.make.ensures.reply_is)).0
-    c.make-2.new.self c.make-2.ensures.seen c.make-2.ensures.made
+make-requires-3-clause-due c = due3 (may (goal.at.make-requires-3-clause-due c).In_ok-may_feed) c.make.ensures.made
+    (look_done _ _ c.in-Done.place (sym c.in-Done.is ∙ c.make.ensures.reply_is)).0 c.make-2.ensures.made
 
 pub invariant_of-self-2 : goal.invariant_of-self-2
 invariant_of-self-2 c =
     let d = (goal.at.invariant_of-self-2 c).In_ok-may_feed in (
-      free3 _ _ _ _ (may d) c.make.new.self c.make.ensures.seen c.make.ensures.made
-          (look_done _ _ c.in-Done.place (sym c.in-Done.is ∙ c.make.ensures.reply_is)).0
-          c.make-2.new.self c.make-2.ensures.seen c.make-2.ensures.made
-          c.make-3.new.self c.make-3.ensures.seen c.make-3.ensures.made,
+      free3 (may d) c.make.ensures.made (look_done _ _ c.in-Done.place (sym c.in-Done.is ∙ c.make.ensures.reply_is)).0
+          c.make-2.ensures.made c.make-3.ensures.made,
       room d _ (ap (λ (r : RootKnown). r.net) (c.make-3.ensures.made.record_is)
           ∙ ap (λ (r : RootKnown). r.net) c.make-2.ensures.made.record_is
           ∙ ap (λ (r : RootKnown). r.net) c.make.ensures.made.record_is),
@@ -70,6 +63,4 @@ returns-clause-cases c =
     let d = (goal.at.returns-clause-cases c).In_ok-may_feed in
     let looked = look_done _ _ c.in-Done.place (sym c.in-Done.is ∙ c.make.ensures.reply_is) in
     subst (λ (r : RootKnown). Feeds r c.make-3.new.self c.args.vertex c.args.count c.in-Done.place) (view_is d)
-    (feeds _ _ _ _ (may d) c.make.new.self c.make.ensures.seen c.make.ensures.made looked.0
-    c.make-2.new.self c.make-2.ensures.seen c.make-2.ensures.made
-    c.make-3.new.self c.make-3.ensures.seen c.make-3.ensures.made c.in-Done.place looked.1)
+    (feeds (may d) c.make.ensures.made looked.0 c.make-2.ensures.made c.make-3.ensures.made c.in-Done.place looked.1)

@@ -1,17 +1,14 @@
-use Rattle.std.proofs.Common.{sym, ap, ◌∙◌, subst}
+use Rattle.std.proofs.Common.{refl, sym, ap, ◌∙◌, subst}
 use Rattle.chip_part.specs.Edges.{stopper}
 use Rattle.chip_net.specs.Views.{find}
 use Rattle.chip_net.specs.Finish.{no_readings}
 use Rattle.chip_net.specs.Roots.{RootKnown, HoldsNothing}
-use Rattle.chip_net.proofs.RootingLemmas.{holds_first}
 use Rattle.chip_net.proofs.root.Root.new.Goals as goal
 
 pub invariant_of-result : goal.invariant_of-result
 invariant_of-result c =
     let actor = c.in_ok-new-4.ensures.ok ∙ c.in_ok-new-3.ensures in (
-      subst HoldsNothing (sym actor) (holds_first
-          (record { table = c.args.seat.table_id; setting = c.args.setting.now })
-          (find (stopper c.args.setting.now) c.args.seat.me.0.parts)),
+      subst HoldsNothing (sym actor) (λ v l. refl),
       c.in_ok-new-2.ensures.ok ∙ c.in_ok-new.ensures
           ∙ ap no_readings (c.vertices.ensures.value ∙ ap (λ (r : RootKnown). r.net.setting.game.graph.vertices) (sym actor)),
     )

@@ -5,7 +5,7 @@ use Rattle.chip_part.specs.declared.rule.Rule.{Rule}
 use Rattle.chip_part.specs.Edges.{root_edge}
 use Rattle.chip_net.specs.Roots.{RootKnown, root_part, AllowsFeed}
 use Rattle.chip_net.specs.contracts.root_actor.RootActor.{the_view}
-use Rattle.chip_net.proofs.FeedingLemmas.{feed_answer, answer_some, answer_none, allows_feed, given_is_fed}
+use Rattle.chip_net.proofs.FeedingLemmas.{or_fault, feed_answer, allows_feed, given_is_fed}
 use Rattle.chip_net.proofs.root_actor.RootActor.may_feed.Goals as goal
 use Rattle.chip_net.proofs.root_actor.RootActor.may_feed.Goals.{After-may}
 
@@ -20,7 +20,7 @@ allowed c =
     subst (λ (r : RootKnown). AllowsFeed r c.args.count (feed_answer c.may.result)) c.self.view_is
     (subst (λ (a : Result Act Rule). AllowsFeed (the_view c.self.inside) c.args.count (feed_answer a))
     (sym (c.may.ensures own (root_part (the_view c.self.inside)) c.self.invariant.stands refl))
-    (allows_feed (the_view c.self.inside) c.args.count (given_is_fed c.self.inside c.self.invariant) c.args.edge
+    (allows_feed (the_view c.self.inside) c.args.count (given_is_fed c.self.invariant) c.args.edge
     (omega arith) (omega arith) (omega arith) _))
 
 pub returns-in_default : goal.returns-in_default
@@ -29,10 +29,10 @@ returns-in_default c = subst (λ (a : Result Act Rule). AllowsFeed c.args.self.n
 
 pub returns-in-Some : goal.returns-in-Some
 returns-in-Some c = subst (AllowsFeed c.args.self.now c.args.count)
-    (ap feed_answer c.in-Err.is ∙ answer_some c.in-Err.rule c.in-Some.fault (sym c.fault_of.ensures ∙ c.in-Some.is))
+    (ap feed_answer c.in-Err.is ∙ ap or_fault (sym c.fault_of.ensures ∙ c.in-Some.is))
     (allowed (goal.at.returns-in-Some c).After-may)
 
 pub returns-in-None : goal.returns-in-None
 returns-in-None c = subst (AllowsFeed c.args.self.now c.args.count)
-    (ap feed_answer c.in-Err.is ∙ answer_none c.in-Err.rule (sym c.fault_of.ensures ∙ c.in-None.is))
+    (ap feed_answer c.in-Err.is ∙ ap or_fault (sym c.fault_of.ensures ∙ c.in-None.is))
     (allowed (goal.at.returns-in-None c).After-may)

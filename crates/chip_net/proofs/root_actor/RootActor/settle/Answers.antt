@@ -5,19 +5,17 @@ use Rattle.chip_core.specs.Words.{of_acks}
 use Rattle.chip_net.specs.Layout.{index_of}
 use Rattle.chip_net.specs.Views.{part_of_view}
 use Rattle.chip_net.specs.Rule.{Grows}
-use Rattle.chip_net.specs.Tokens.{NetId, AreWordsOf}
+use Rattle.chip_net.specs.Tokens.{NetId}
 use Rattle.chip_net.specs.Roots.{RootKnown}
 use Rattle.chip_net.specs.contracts.root_actor.RootActor.{the_view}
-use Rattle.chip_net.proofs.RulingLemmas.{Due, event_asked, event_told}
+use Rattle.chip_net.proofs.RulingLemmas.{Due, words_at, event_asked, event_told}
 use Rattle.chip_net.proofs.RootingLemmas.{settle_own, settle_due, can, still_root, makes_event, settles_at}
 use Rattle.chip_net.proofs.root_actor.RootActor.settle.Goals as goal
 use Rattle.chip_net.proofs.root_actor.RootActor.settle.Goals.{After-words, After-load-seen}
 
--- the words are those of the root's net
-words : (c : After-words)
-    → AreWordsOf (the_view c.self.inside).net c.words.result.now.table_id c.words.result.now.key.value
-words c = subst (λ (n : NetId). AreWordsOf n c.words.result.now.table_id c.words.result.now.key.value)
-    (sym (ap (λ (r : RootKnown). r.net) c.self.view_is ∙ c.requires.net)) c.words.ensures
+-- the root is of this net
+net_is : (c : After-words) → (the_view c.self.inside).net ≡ c.args.net.now
+net_is c = ap (λ (r : RootKnown). r.net) c.self.view_is ∙ c.requires.net
 
 there : (c : After-words) → c.args.vertex < c.self.inside.setting.value.game.graph.vertices
 there c = subst (λ (r : RootKnown). c.args.vertex < r.net.setting.game.graph.vertices) (sym c.self.view_is) c.requires.vertex
@@ -36,13 +34,13 @@ word_is c = subst
 pub load-seen-requires : goal.load-seen-requires
 load-seen-requires c =
     let d = (goal.at.load-seen-requires c).After-words in
-    event_asked (words d) (due d) _ (word_is d) Settle refl _ refl _
+    event_asked (words_at (net_is d) c.words.ensures) (due d) _ (word_is d) Settle refl _ refl _
 
 told : (c : After-load-seen) → Grows c.self.inside.setting.value (Settle (root_edge c.self.inside.setting.value c.args.vertex))
     c.self.inside.seat.me c.load-seen.result c.load-seen.new.seat.me
 told c =
     let d = (goal.at.After-load-seen c).After-words in
-    event_told (words d) (due d) _ (word_is d) Settle refl _ _ c.load-seen.ensures.2
+    event_told (words_at (net_is d) c.words.ensures) (due d) _ (word_is d) Settle refl _ _ c.load-seen.ensures.2
 
 pub settle-requires : goal.settle-requires
 settle-requires c =

@@ -3,11 +3,11 @@ use Rattle.chip_part.specs.Edges.{graph_edges, stopper}
 use Rattle.chip_part.proofs.RuleLemmas.{met_rules}
 use Rattle.chip_core.specs.Core.{Seal}
 use Rattle.chip_net.specs.Rule.{Grows}
-use Rattle.chip_net.specs.Tokens.{NetId, AreWordsOf}
+use Rattle.chip_net.specs.Tokens.{NetId}
 use Rattle.chip_net.specs.Roots.{StopperKnown, stopper_part}
 use Rattle.chip_net.specs.contracts.stopper.Stopper.{the_view}
 use Rattle.chip_net.proofs.ViewingLemmas.{alone_there}
-use Rattle.chip_net.proofs.RulingLemmas.{Due, event_asked, event_told}
+use Rattle.chip_net.proofs.RulingLemmas.{Due, words_at, event_asked, event_told}
 use Rattle.chip_net.proofs.StoppingLemmas.{still_stopper, seals}
 use Rattle.chip_net.proofs.stopper.Stopper.seal.Goals as goal
 use Rattle.chip_net.proofs.stopper.Stopper.seal.Goals.{After-fetch_or-arg-1, After-fetch_or-before}
@@ -15,11 +15,6 @@ use Rattle.chip_net.proofs.stopper.Stopper.seal.Goals.{After-fetch_or-arg-1, Aft
 -- the stopper's net is this one
 net_is : (c : After-fetch_or-arg-1) → (the_view c.self.inside).net ≡ c.args.net.now
 net_is c = ap (λ (s : StopperKnown). s.net) c.self.view_is ∙ c.requires.net
-
-words : (c : After-fetch_or-arg-1)
-    → AreWordsOf (the_view c.self.inside).net c.words.result.now.table_id c.words.result.now.key.value
-words c = subst (λ (n : NetId). AreWordsOf n c.words.result.now.table_id c.words.result.now.key.value) (sym (net_is c))
-    c.words.ensures
 
 there : (c : After-fetch_or-arg-1) → c.args.edge < graph_edges c.self.inside.setting.value
 there c =
@@ -37,23 +32,23 @@ due c = record {
 }
 
 pub fetch_or-before-requires : goal.fetch_or-before-requires
-fetch_or-before-requires c = event_asked (words c) (due c) _ c.edge_word-word.ensures Seal refl _ refl _
+fetch_or-before-requires c = event_asked (words_at (net_is c) c.words.ensures) (due c) _ c.edge_word-word.ensures Seal refl _ refl _
 
 told : (c : After-fetch_or-before)
     → Grows c.self.inside.setting.value (Seal c.args.edge) c.self.inside.seat.me c.fetch_or-before.result c.fetch_or-before.new.seat.me
 told c =
     let d = (goal.at.After-fetch_or-before c).After-fetch_or-arg-1 in
-    event_told (words d) (due d) _ c.edge_word-word.ensures Seal refl _ _ c.fetch_or-before.ensures.2
+    event_told (words_at (net_is d) c.words.ensures) (due d) _ c.edge_word-word.ensures Seal refl _ _ c.fetch_or-before.ensures.2
 
 pub invariant_of-self : goal.invariant_of-self
 invariant_of-self c =
     let d = (goal.at.invariant_of-self c).After-fetch_or-arg-1 in
-    still_stopper (words d).setting (due d) (there d) (told (goal.at.invariant_of-self c).After-fetch_or-before) c.self.invariant
+    still_stopper (words_at (net_is d) c.words.ensures).setting (due d) (there d) (told (goal.at.invariant_of-self c).After-fetch_or-before) c.self.invariant
 
 pub returns-clause-cases : goal.returns-clause-cases
 returns-clause-cases c =
     let d = (goal.at.returns-clause-cases c).After-fetch_or-arg-1 in
-    seals (words d).setting (due d) (there d) (told (goal.at.returns-clause-cases c).After-fetch_or-before)
+    seals (words_at (net_is d) c.words.ensures).setting (due d) (there d) (told (goal.at.returns-clause-cases c).After-fetch_or-before)
     c.self.view_is c.fetch_or-before.ensures.0
     (record { count = c.from_word-before.result.claims; first = not c.from_word-before.result.sealed })
     c.from_word-before.ensures.claims (ap not c.from_word-before.ensures.sealed)

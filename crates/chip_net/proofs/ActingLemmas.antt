@@ -18,7 +18,7 @@ use Rattle.chip_net.specs.Views.{Mine, did_in, part_of_view}
 use Rattle.chip_net.specs.Rule.{Kept, step_of, Grows}
 use Rattle.chip_net.specs.Traces.{TraceState, Keeps, row_of, rows_of}
 use Rattle.chip_net.specs.Tokens.{TurnSetup, AreWordsOf, Holds}
-use Rattle.chip_net.proofs.LayingLemmas.{owner_of, owner_at}
+use Rattle.chip_net.proofs.LayingLemmas.{owner_of, owner_at, by_word}
 use Rattle.chip_net.proofs.ViewingLemmas.{alone_there}
 use Rattle.chip_net.proofs.RulingLemmas.{Due, Made, made, word_of, left_over, vertex_acts, act_word, act_asked, act_told}
 
@@ -63,7 +63,7 @@ module _ {setup now : TurnSetup} {key : Setting} {table : TableId} {me : Mine} {
   -- and the rule allows the operation
   asked : (word : ℕ) → word ≡ index_of h (word_of w act) → (kind : ℕ → Event) → kind (owner_of (word_of w act)) ≡ x
       → (seat : ℕ) → (table ≡ now.net.table) × (word < now.net.table.words)
-      × Allows (Kept key) now.net.table.slots seat me word (left_over act) (Grows key (kind (owner_at key word)) me)
+      × Allows (Kept key) now.net.table.slots seat me word (left_over act) (by_word kind key word me)
   asked word at kind of_kind = act_asked words due (vertex_acts h x inside) act by'.needed word at kind of_kind table held.table_is
 
   -- ---- what it told
@@ -117,12 +117,12 @@ module _ {setup now : TurnSetup} {key : Setting} {table : TableId} {me : Mine} {
       → word ≡ index_of now.net.setting (word_of now.vertex act) → (kind : ℕ → Event)
       → kind (owner_of (word_of now.vertex act)) ≡ event_of now.vertex act → (seat : ℕ)
       → (table ≡ now.net.table) × (word < now.net.table.words)
-      × Allows (Kept key) now.net.table.slots seat me word (left_over act) (Grows key (kind (owner_at key word)) me)
+      × Allows (Kept key) now.net.table.slots seat me word (left_over act) (by_word kind key word me)
   may_step (g, v, ds, s, held, by) {word = word} at kind of_kind = asked held by word at kind of_kind
 
   pub serves : {word : ℕ} → word ≡ index_of now.net.setting (word_of now.vertex act) → (kind : ℕ → Event)
       → kind (owner_of (word_of now.vertex act)) ≡ event_of now.vertex act → (n : ℕ) {me' : Mine}
-      → Grows key (kind (owner_at key word)) me n me' → {table' : TableId} → table' ≡ table → {trace' : TraceState}
+      → by_word kind key word me n me' → {table' : TableId} → table' ≡ table → {trace' : TraceState}
       → {room : ℕ} → room ≡ now.room
       → ((all : List TraceRow) → Keeps all trace
       → Keeps (all ++ row_of (event_of now.vertex act) (word_to_note (event_of now.vertex act) n)) trace')

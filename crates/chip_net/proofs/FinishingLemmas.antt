@@ -97,36 +97,34 @@ module _ (g : Setting) (setting : IsSetting g) (log : Log) (legal : IsLegalLog g
         ∙ (λ i. say.halted v i && not (say.by_limit v i)) ∙ seal_is (part_in g log v).halt);
   }
 
-module _ (old now : RootKnown) (setting : IsSetting old.net.setting) (readings : ReadingsState)
+module _ {old now : RootKnown} (setting : IsSetting old.net.setting) {readings : ReadingsState}
     (reading : IsReading old now readings old.net.setting.game.graph.vertices) (given : List ℕ)
     (are : AreGiven old.net.setting (root_part old) given) where
   abbrev h : Setting
   h = old.net.setting
 
-  out : IsReadOut now reading.words
-  out = reading.told (let a = setting.game.graph_fits.some_vertex in let c = reading.count_is in omega arith)
-
-  out' : IsReadOut (root_after old (reads_from 0 reading.words)) reading.words
-  out' = subst (λ (r : RootKnown). IsReadOut r reading.words) reading.record_is out
+  out : IsReadOut (root_after old (reads_from 0 reading.words)) reading.words
+  out = subst (λ (r : RootKnown). IsReadOut r reading.words) reading.record_is
+      (reading.told (let a = setting.game.graph_fits.some_vertex in let c = reading.count_is in omega arith))
 
   -- the reads feed nothing: what was fed is in that log
-  recorded : fed_in h (done_by h (root h) out'.log) ≡ fed_by old
-  recorded = ap (fed_in h) (sym out'.has.0.root_did) ∙ reads_feed_none h old.did 0 reading.words
+  recorded : fed_in h (done_by h (root h) out.log) ≡ fed_by old
+  recorded = ap (fed_in h) (sym out.has.0.root_did) ∙ reads_feed_none h old.did 0 reading.words
 
   -- what was given is the start of the game that was played
-  start_is : given ≡ (played_game h out'.log).start
-  start_is = given_start h out'.log given (subst (λ (s : Part). AreGiven h s given)
-      (sym (by_history h out'.log (root h) ∙ ap (part_by h (opening_part h)) (sym out'.has.0.root_did)
+  start_is : given ≡ (played_game h out.log).start
+  start_is = given_start h out.log given (subst (λ (s : Part). AreGiven h s given)
+      (sym (by_history h out.log (root h) ∙ ap (part_by h (opening_part h)) (sym out.has.0.root_did)
       ∙ reads_part old reading.words)) are)
 
   pub few : sum given ≤ max_total
   few = subst (λ (xs : List ℕ). sum xs ≤ max_total) (sym start_is)
-      (given_within h setting.game setting.some_ring out'.log out'.legal)
+      (given_within h setting.game setting.some_ring out.log out.legal)
 
   abbrev pub game : ChipGame
   game = record { graph = h.game.graph; start = given; limit = h.game.limit }
 
-  same_game : played_game h out'.log ≡ game
+  same_game : played_game h out.log ≡ game
   same_game = λ j. let k : ChipGame = record {
     graph = h.game.graph;
     start = sym start_is j;
@@ -134,24 +132,23 @@ module _ (old now : RootKnown) (setting : IsSetting old.net.setting) (readings :
   } in k
 
   more : HasMore h.game (fed_by old) game
-  more = subst (HasMore h.game (fed_by old)) same_game
-      (subst (λ (fed : List (ℕ × ℕ)). HasMore h.game fed (played_game h out'.log)) recorded
-      (played_has_more h setting.game setting.some_ring out'.log out'.legal))
+  more = subst (λ (z : List (ℕ × ℕ) × ChipGame). HasMore h.game z.0 z.1) (λ j. (recorded j, same_game j))
+      (played_has_more h setting.game setting.some_ring out.log out.legal)
 
-  from : chips_given h out'.log ≡ slice_index game.start
-  from = sym (given_is h setting.game setting.some_ring out'.log out'.legal)
+  from : chips_given h out.log ≡ slice_index game.start
+  from = sym (given_is h setting.game setting.some_ring out.log out.legal)
       ∙ ap (λ (k : ChipGame). slice_index k.start) same_game
 
-  word_at : (v : ℕ) → v < h.game.graph.vertices → get_or reading.words v 0 ≡ word_of_part (part_in h out'.log v)
-  word_at v l = out'.has.2 v (let c = reading.count_is in omega arith)
+  word_at : (v : ℕ) → v < h.game.graph.vertices → get_or reading.words v 0 ≡ word_of_part (part_in h out.log v)
+  word_at v l = out.has.2 v (let c = reading.count_is in omega arith)
 
   module _ (fired : List ℕ) (fired_is : fired ≡ readings.fired) where
-    are_fired : AreFired h out'.log h.game.graph.vertices fired
-    are_fired = fired_by_words h setting out'.log out'.legal reading.words reading.count_is word_at fired
+    are_fired : AreFired h out.log h.game.graph.vertices fired
+    are_fired = fired_by_words h setting out.log out.legal reading.words reading.count_is word_at fired
         (fired_is ∙ reading.tallied.fired)
 
     pub none_negative : (v : ℕ) → IsBelowZero game.graph (λ u. get_or game.start u 0) (λ u. get_or fired u 0) v → ⊥
-    none_negative v low = never_negative h setting.game setting.some_ring out'.log out'.legal fired are_fired v
+    none_negative v low = never_negative h setting.game setting.some_ring out.log out.legal fired are_fired v
         (subst (λ (z : Multigraph × (ℕ → ℕ)). IsBelowZero z.0 z.1 (slice_index fired) v)
         (λ i. (more.same_graph i, sym from i)) low)
 
@@ -164,60 +161,60 @@ module _ (old now : RootKnown) (setting : IsSetting old.net.setting) (readings :
       sealed = sealed_is ∙ reading.tallied.sealed;
     }
 
-    outcome_is : IsOutcomeOf h out'.log o
-    outcome_is = outcome_by_words h setting out'.log out'.legal reading.words reading.count_is word_at o read
+    outcome_is : IsOutcomeOf h out.log o
+    outcome_is = outcome_by_words h setting out.log out.legal reading.words reading.count_is word_at o read
         (subst (λ (k : ChipGame). IsAfter k o.fired.items o.chips.items) (sym same_game) chips)
 
     -- where no seal is listed, none halted a vertex
-    no_seals : o.sealed.items ≡ [] → NoneHaltedBySeal h out'.log
-    no_seals empty v l seal = none_picked (λ u. is_by_seal (part_in h out'.log u).halt) h.game.graph.vertices
+    no_seals : o.sealed.items ≡ [] → NoneHaltedBySeal h out.log
+    no_seals empty v l seal = none_picked (λ u. is_by_seal (part_in h out.log u).halt) h.game.graph.vertices
         (sym outcome_is.sealed ∙ empty) v l (ap is_by_seal seal)
 
     -- and where the limit's list is empty too, none halted at all
-    no_halts : o.over.items ≡ [] → o.sealed.items ≡ [] → NoneHalted h out'.log
-    no_halts over sealed v l = by_cause (part_in h out'.log v).halt refl
+    no_halts : o.over.items ≡ [] → o.sealed.items ≡ [] → NoneHalted h out.log
+    no_halts over sealed v l = by_cause (part_in h out.log v).halt refl
       where
-        by_cause : (c : Option Cause) → (part_in h out'.log v).halt ≡ c → (part_in h out'.log v).halt ≡ None
+        by_cause : (c : Option Cause) → (part_in h out.log v).halt ≡ c → (part_in h out.log v).halt ≡ None
         by_cause None is = is
         by_cause (Some SealedEdge) is = absurd (no_seals sealed v l is)
-        by_cause (Some FiringLimit) is = absurd (none_picked (λ u. is_by_limit (part_in h out'.log u).halt)
+        by_cause (Some FiringLimit) is = absurd (none_picked (λ u. is_by_limit (part_in h out.log u).halt)
             h.game.graph.vertices (sym outcome_is.over ∙ over) v l (ap is_by_limit is))
 
-    all_come : ComesTo h (slice_index game.start) (firings out'.log) o
-    all_come = subst (λ (x : ℕ → ℕ). ComesTo h x (firings out'.log) o) from
-        (comes h setting.game setting.some_ring out'.log out'.legal o outcome_is)
+    all_come : ComesTo h (slice_index game.start) (firings out.log) o
+    all_come = subst (λ (x : ℕ → ℕ). ComesTo h x (firings out.log) o) from
+        (comes h setting.game setting.some_ring out.log out.legal o outcome_is)
 
     one_end : o.over.items ≡ [] → o.sealed.items ≡ [] → IsOneEnd game o
     one_end over sealed = subst (λ (G : Multigraph). IsOneEnd (record { graph = G; start = game.start; limit = 0 }) o)
         (sym more.same_graph) (λ vs ok ended.
         let same = same_ends h.game.graph setting.game.graph_fits (slice_index game.start)
-        (firings out'.log) vs all_come.sequence
-        (subst (λ (x : ℕ → ℕ). HasEnded h.game.graph x (firings out'.log)) from
-        (all_ended h setting.game setting.some_ring out'.log out'.legal out'.has.1 (no_halts over sealed))) ok ended
+        (firings out.log) vs all_come.sequence
+        (subst (λ (x : ℕ → ℕ). HasEnded h.game.graph x (firings out.log)) from
+        (all_ended h setting.game setting.some_ring out.log out.legal out.has.1 (no_halts over sealed))) ok ended
         in
         ((λ v. all_come.counted v ∙ same.0 v), (λ v. all_come.position v ∙ same.1 v)))
 
     -- the stopper's part stands in the root's view, and did nothing
     unsealed : old.stopper_did ≡ Some [] → o.sealed.items ≡ []
-    unsealed none = outcome_is.sealed ∙ picked_none (λ v. is_by_seal (part_in h out'.log v).halt) h.game.graph.vertices
-        (λ v l on. true≢false (sym on ∙ never_sealed h out'.log out'.legal (sym (out'.has.0.stopper_did [] none)) v))
+    unsealed none = outcome_is.sealed ∙ picked_none (λ v. is_by_seal (part_in h out.log v).halt) h.game.graph.vertices
+        (λ v l on. true≢false (sym on ∙ never_sealed h out.log out.legal (sym (out.has.0.stopper_did [] none)) v))
 
     pub finishes : Finishes old now o
     finishes = subst (λ (r : RootKnown). Finishes old r o) (sym reading.record_is) record {
       game = game;
       more = more;
-      unfed = λ off. sym same_game ∙ unfed_played h setting.game setting.some_ring off out'.log out'.legal;
+      unfed = λ off. sym same_game ∙ unfed_played h setting.game setting.some_ring off out.log out.legal;
       words = reading.words;
       one_each = reading.count_is;
       record_is = refl;
       read = read;
       chips = chips;
-      read_out = out';
+      read_out = out;
       of_log = outcome_is;
       comes = all_come;
-      in_range = in_range h setting.game setting.some_ring out'.log out'.legal o outcome_is;
+      in_range = in_range h setting.game setting.some_ring out.log out.legal o outcome_is;
       played = λ empty. subst (λ (k : ChipGame). IsPlayed k o) same_game
-          (is_played h setting.game setting.some_ring out'.log out'.legal o outcome_is out'.has.1 (no_seals empty));
+          (is_played h setting.game setting.some_ring out.log out.legal o outcome_is out.has.1 (no_seals empty));
       one_end = one_end;
       unsealed = unsealed;
     }

@@ -4,9 +4,12 @@ use Rattle.std.proofs.Common.{◌≡◌, ◌≢◌, ℕ, ◌+◌, ◌-◌, ◌*�
 use Rattle.std.proofs.Common.{cond, ltb, lt-ltb, le-ltb, get_or-set_same, get_or-set_other, div-add-mod'}
 use Rattle.std.proofs.lemmas.Nat.{mul-add-lt, div-mul-add}
 use Rattle.chip_graph.proofs.SumLemmas.{cond_true, cond_false}
-use Rattle.chip_part.specs.Setting.{Setting}
+use Rattle.chip_part.specs.Setting.{Setting, IsSetting}
 use Rattle.chip_part.specs.Edges.{all_edges}
 use Rattle.chip_core.specs.Words.{Word, of_edge, of_acks, of_cell, of_vertex, IsWord}
+use Rattle.chip_core.specs.Core.{Event}
+use Rattle.chip_net.specs.Views.{Mine}
+use Rattle.chip_net.specs.Rule.{Grows}
 use Rattle.chip_net.specs.Layout.{first_cell, first_fired, index_of, word_count, value_in}
 
 -- the word with this number
@@ -25,6 +28,10 @@ owner_of (of_vertex v) = v
 -- and so by the number of the word
 abbrev pub owner_at : Setting → ℕ → ℕ
 owner_at g n = owner_of (word_at g n)
+
+-- what a step tells on the word with this number, whose event is of that kind
+abbrev pub by_word : (ℕ → Event) → Setting → ℕ → Mine → ℕ → Mine → Type 0
+by_word kind g n = Grows g (kind (owner_at g n))
 
 module _ (g : Setting) where
   below : (e i : ℕ) → e < all_edges g → i < g.ring → index_of g (of_cell e i) < first_fired g
@@ -64,6 +71,9 @@ module _ (g : Setting) where
   inside (of_acks e) l = omega arith
   inside (of_cell e i) l = let b = below e i l.0 l.1 in omega arith
   inside (of_vertex v) l = omega arith
+
+  pub some_words : {n : ℕ} → n ≡ word_count g → IsSetting g → 0 < n
+  some_words is setting = let some = setting.game.graph_fits.some_vertex in omega arith
 
   -- where one word is written
   module _ (words : List ℕ) (wide : length words ≡ word_count g) (p : Word) (valid : IsWord g p) (new : ℕ) where

@@ -1,6 +1,6 @@
 -- Serves Layout.antt, Views.antt, Opening.antt.
 -- The table at the opening meets the rule.
-use Rattle.std.proofs.Common.{◌≡◌, ◌≢◌, ℕ, zero, suc, ◌+◌, ◌<◌, cond, ltb, List, [], ◌∷◌, length, get_or, set}
+use Rattle.std.proofs.Common.{◌≡◌, ◌≢◌, ℕ, zero, suc, ◌+◌, ◌<◌, Bool, cond, ltb, List, [], ◌∷◌, length, get_or, set}
 use Rattle.std.proofs.Common.{length-set, Some, refl, sym, ap, ◌∙◌, arith, lt-ltb, le-ltb}
 use Rattle.std.proofs.lemmas.List.{get_or_past}
 use Rattle.std.proofs.Math.Nat.{mod-eq_of_lt}
@@ -24,12 +24,9 @@ use Rattle.chip_net.proofs.LayingLemmas.{written_here, written_else}
 use Rattle.chip_net.proofs.ViewingLemmas.{none_some, part_there, part_empty}
 
 -- of a count of edges, one more only matters at that edge
-counted : (e n : ℕ) (x : ℕ) → (e ≡ n → x ≡ 0) → cond (ltb e n) x 0 ≡ cond (ltb e (n + 1)) x 0
-counted e n x here = dite (dec_lt e n)
-    (λ l. cond_true (ltb e n) x 0 (lt-ltb e n l) ∙ sym (cond_true (ltb e (n + 1)) x 0 (lt-ltb e (n + 1) (omega arith))))
-    (λ past. cond_false (ltb e n) x 0 (le-ltb e n (omega arith)) ∙ dite (ℕ_discrete e n)
-    (λ same. sym (cond_true (ltb e (n + 1)) x 0 (lt-ltb e (n + 1) (omega arith)) ∙ here same))
-    (λ other. sym (cond_false (ltb e (n + 1)) x 0 (le-ltb e (n + 1) (omega arith)))))
+same_test : (e n : ℕ) → e ≢ n → ltb e n ≡ ltb e (n + 1)
+same_test e n other = dite (dec_lt e n) (λ l. lt-ltb e n l ∙ sym (lt-ltb e (n + 1) (omega arith)))
+    (λ past. le-ltb e n (omega arith) ∙ sym (le-ltb e (n + 1) (omega arith)))
 
 now_counted : (e n : ℕ) (x : ℕ) → e ≡ n → cond (ltb e (n + 1)) x 0 ≡ x
 now_counted e n x same = cond_true (ltb e (n + 1)) x 0 (lt-ltb e (n + 1) (omega arith))
@@ -43,13 +40,13 @@ module _ (g : Setting) where
       abbrev words' : List ℕ
       words' = set words (index_of g (of_edge edge)) 1
 
+      abbrev words'' : List ℕ
+      words'' = set words' (index_of g (of_cell edge 0)) (start_of g v)
+
       -- a vertex with chips has a message
-      pub opens_message : 0 < g.ring → start_of g v ≢ 0
-          → AreOpening g ((graph_edges g + v) + 1)
-          (set (set words (index_of g (of_edge edge)) 1) (index_of g (of_cell edge 0)) (start_of g v))
+      pub opens_message : 0 < g.ring → start_of g v ≢ 0 → AreOpening g ((graph_edges g + v) + 1) words''
       opens_message some_ring some_chips = record {
-        wide = length-set _ (index_of g (of_cell edge 0)) (start_of g v)
-            ∙ wide';
+        wide = length-set words' (index_of g (of_cell edge 0)) (start_of g v) ∙ wide';
         each = each;
       }
         where
@@ -65,42 +62,33 @@ module _ (g : Setting) where
           put : first_put g edge ≡ start_of g v ∷ []
           put = first_root g v ∙ cond_no (start_of g v) 0 _ _ some_chips
 
-          each : (q : Word) → IsWord g q → value_in g (set words' (index_of g (of_cell edge 0)) (start_of g v)) q
-              ≡ first_value g ((graph_edges g + v) + 1) q
-          each (of_edge e) l = written_else g words' wide' (of_cell edge 0) cell_there (start_of g v) (of_edge e) l
-              (other_kind _ _ (λ z. omega arith)) ∙ dite (ℕ_discrete e edge)
-              (λ same. ap (λ (n : ℕ). value_in g words' (of_edge n)) same
-              ∙ written_here g words opening.wide (of_edge edge) there 1
+          -- every word but these two is as it was
+          still : (q : Word) → IsWord g q → q ≢ of_edge edge → q ≢ of_cell edge 0 → value_in g words'' q ≡ first_value g edge q
+          still q l one two = written_else g words' wide' (of_cell edge 0) cell_there (start_of g v) q l two
+              ∙ written_else g words opening.wide (of_edge edge) there 1 q l one ∙ opening.each q l
+
+          each : (q : Word) → IsWord g q → value_in g words'' q ≡ first_value g (edge + 1) q
+          each (of_edge e) l = dite (ℕ_discrete e edge)
+              (λ same. ap (λ (n : ℕ). value_in g words'' (of_edge n)) same
+              ∙ written_else g words' wide' (of_cell edge 0) cell_there (start_of g v) (of_edge edge) there
+              (other_kind _ _ (λ z. omega arith)) ∙ written_here g words opening.wide (of_edge edge) there 1
               ∙ sym (now_counted e edge _ same ∙ ap (λ (n : ℕ). length (first_put g n)) same ∙ ap length put))
-              (λ other. written_else g words opening.wide (of_edge edge) there 1 (of_edge e) l (other_owner _ _ other)
-              ∙ opening.each (of_edge e) l ∙ counted e edge _ (λ same. absurd (other same)))
-          each (of_acks e) l = written_else g words' wide' (of_cell edge 0) cell_there (start_of g v) (of_acks e) l
-              (other_kind _ _ (λ z. omega arith))
-              ∙ written_else g words opening.wide (of_edge edge) there 1 (of_acks e) l (other_kind _ _ (λ z. omega arith))
-              ∙ opening.each (of_acks e) l
-          each (of_vertex u) l = written_else g words' wide' (of_cell edge 0) cell_there (start_of g v) (of_vertex u) l
-              (other_kind _ _ (λ z. omega arith))
-              ∙ written_else g words opening.wide (of_edge edge) there 1 (of_vertex u) l (other_kind _ _ (λ z. omega arith))
-              ∙ opening.each (of_vertex u) l
-          each (of_cell e i) l =
-              let old : value_in g words' (of_cell e i) ≡ first_value g edge (of_cell e i) =
-              written_else g words opening.wide (of_edge edge) there 1 (of_cell e i) l
-              (other_kind _ _ (λ z. omega arith)) ∙ opening.each (of_cell e i) l in
-              dite (ℕ_discrete e edge)
+              (λ other. still (of_edge e) l (other_owner _ _ other) (other_kind _ _ (λ z. omega arith))
+              ∙ ap (λ (b : Bool). cond b (length (first_put g e)) 0) (same_test e edge other))
+          each (of_acks e) l = still (of_acks e) l (other_kind _ _ (λ z. omega arith)) (other_kind _ _ (λ z. omega arith))
+          each (of_vertex u) l = still (of_vertex u) l (other_kind _ _ (λ z. omega arith)) (other_kind _ _ (λ z. omega arith))
+          each (of_cell e i) l = dite (ℕ_discrete e edge)
               (λ same. dite (ℕ_discrete i 0)
-              (λ first.
-              (let at : of_cell e i ≡ of_cell edge 0 = (λ k. of_cell (same k) (first k)) in
-              ap (value_in g (set words' (index_of g (of_cell edge 0)) (start_of g v))) at
+              (λ first. ap (value_in g words'') (λ k. of_cell (same k) (first k))
               ∙ written_here g words' wide' (of_cell edge 0) cell_there (start_of g v)
               ∙ sym (now_counted e edge _ same ∙ (λ k. get_or (first_put g (same k)) (first k) 0)
-              ∙ ap (λ (xs : List ℕ). get_or xs 0 0) put)))
-              (λ later. written_else g words' wide' (of_cell edge 0) cell_there (start_of g v) (of_cell e i) l
-              (other_cell _ _ later) ∙ old
+              ∙ ap (λ (xs : List ℕ). get_or xs 0 0) put))
+              (λ later. still (of_cell e i) l (other_kind _ _ (λ z. omega arith)) (other_cell _ _ later)
               ∙ cond_false (ltb e edge) _ 0 (le-ltb e edge (omega arith))
               ∙ sym (now_counted e edge _ same ∙ ap (λ (n : ℕ). get_or (first_put g n) i 0) same
               ∙ ap (λ (xs : List ℕ). get_or xs i 0) put ∙ get_or_past (start_of g v ∷ []) i 0 (omega arith))))
-              (λ other. written_else g words' wide' (of_cell edge 0) cell_there (start_of g v) (of_cell e i) l
-              (other_owner _ _ other) ∙ old ∙ counted e edge _ (λ same. absurd (other same)))
+              (λ other. still (of_cell e i) l (other_kind _ _ (λ z. omega arith)) (other_owner _ _ other)
+              ∙ ap (λ (b : Bool). cond b (get_or (first_put g e) i 0) 0) (same_test e edge other))
 
   -- all words laid out
   pub opens : IsSetting g → (words : List ℕ) → AreOpening g (all_edges g) words

@@ -26,7 +26,7 @@ use Rattle.chip_net.specs.Layout.{index_of, value_in}
 use Rattle.chip_net.specs.Views.{View, Mine, find, find_in, grow_view, did_in, Has, part_of_view, IsAlone}
 use Rattle.chip_net.specs.Rule.{Kept, step_of, Stepped, Grows}
 use Rattle.chip_net.specs.Tokens.{NetId, AreWordsOf}
-use Rattle.chip_net.proofs.LayingLemmas.{written_here, written_else, inside, owner_of, owner_at, owner_read}
+use Rattle.chip_net.proofs.LayingLemmas.{written_here, written_else, inside, owner_of, owner_at, by_word, owner_read}
 use Rattle.chip_net.proofs.ViewingLemmas.{set_there, find_here, find_else, grown_has, grown_alone, part_append}
 use Rattle.chip_net.proofs.SplittingLemmas.{set_finds, nowhere_else, moved}
 
@@ -204,7 +204,7 @@ module _ {net : NetId} {id : TableId} {key : Setting} (words : AreWordsOf net id
         ∙ owner_read g (word_of_event g x part) there word at) ∙ of_kind
 
     pub event_asked : (table : TableId) → table ≡ net.table → (seat : ℕ) → (table ≡ id) × (word < id.words)
-        × Allows (Kept key) id.slots seat me word (left_by g x part) (Grows key (kind (owner_at key word)) me)
+        × Allows (Kept key) id.slots seat me word (left_by g x part) (by_word kind key word me)
     event_asked table same seat =
         let l = inside g (word_of_event g x part) there in
         let count = ap (λ (t : TableId). t.words) words.table ∙ words.count in (
@@ -214,7 +214,7 @@ module _ {net : NetId} {id : TableId} {key : Setting} (words : AreWordsOf net id
               (λ i. (sym words.key i, sym at i, sym kind_is i)) (allowed due id.slots seat),
         )
 
-    pub event_told : (seen : ℕ) (after : Mine) → Grows key (kind (owner_at key word)) me seen after → Grows g x me seen after
+    pub event_told : (seen : ℕ) (after : Mine) → by_word kind key word me seen after → Grows g x me seen after
     event_told seen after = subst (λ (z : Setting × Event). Grows z.0 z.1 me seen after) (λ i. (words.key i, kind_is i))
 
   -- the same by the operation
@@ -234,12 +234,12 @@ module _ {net : NetId} {id : TableId} {key : Setting} (words : AreWordsOf net id
       of_kind' = ap (λ (w : Word). kind (owner_of w)) (sym word_is) ∙ of_kind
 
       pub act_asked : (table : TableId) → table ≡ net.table → (seat : ℕ) → (table ≡ id) × (word < id.words)
-          × Allows (Kept key) id.slots seat me word (left_over act) (Grows key (kind (owner_at key word)) me)
+          × Allows (Kept key) id.slots seat me word (left_over act) (by_word kind key word me)
       act_asked table same seat = subst (λ (f : ℕ → ℕ). (table ≡ id) × (word < id.words)
-          × Allows (Kept key) id.slots seat me word f (Grows key (kind (owner_at key word)) me))
+          × Allows (Kept key) id.slots seat me word f (by_word kind key word me))
           (λ j n. (over_left g part x acts n ∙ ap (λ (a : operation.Act). left_over a n) (sym act_is)) j)
           (event_asked word at' kind of_kind' table same seat)
 
-      pub act_told : (seen : ℕ) (after : Mine) → Grows key (kind (owner_at key word)) me seen after
+      pub act_told : (seen : ℕ) (after : Mine) → by_word kind key word me seen after
           → Grows g x me seen after
       act_told = event_told word at' kind of_kind'

@@ -31,8 +31,7 @@ are c = c.given.ensures c.args.actor.net.setting (root_part c.args.actor) c.into
 
 -- the game that was played
 abbrev played : After-deref_mut → ChipGame
-played c = game c.args.actor c.read_all.new.self c.into_receipt-state.ensures.setting c.read_all.result (reading c)
-    c.given.result.now (are c)
+played c = game c.into_receipt-state.ensures.setting (reading c) c.given.result.now (are c)
 
 graph_is : (c : After-deref_mut) → c.graph-graph.result.now ≡ c.args.actor.net.setting.game.graph
 graph_is c = c.graph-graph.ensures.value
@@ -41,14 +40,12 @@ graph_is c = c.graph-graph.ensures.value
 
 game_is : (c : After-deref_mut)
     → game_from c.graph-graph.result.now c.given.result.now c.args.actor.net.setting.game.limit ≡ played c
-game_is c =
-    λ j. game_from (graph_is c j) c.given.result.now c.args.actor.net.setting.game.limit
+game_is c = λ j. game_from (graph_is c j) c.given.result.now c.args.actor.net.setting.game.limit
 
 pub after_from-requires-clause-few_chips : goal.after_from-requires-clause-few_chips
 after_from-requires-clause-few_chips c =
     let d = (goal.at.after_from-requires-clause-few_chips c).After-deref_mut in
-    few c.args.actor c.read_all.new.self c.into_receipt-state.ensures.setting c.read_all.result (reading d)
-    c.given.result.now (are d)
+    few c.into_receipt-state.ensures.setting (reading d) c.given.result.now (are d)
 
 -- there is room for the chips of each vertex
 pub after_from-requires-clause-chips_each : goal.after_from-requires-clause-chips_each
@@ -65,12 +62,9 @@ pub unreachable-requires : goal.unreachable-requires
 unreachable-requires c =
     let d = (goal.at.unreachable-requires c).After-deref_mut in
     no_fault (played d) c.fired.inside.fired.items c.in-Err.field-0
-    (subst (λ (k : ChipGame). IsNegative k c.fired.inside.fired.items c.in-Err.field-0) (game_is d)
-    (subst (λ (xs : List ℕ). IsNegative (game_from c.graph-graph.result.now c.given.result.now
-    c.args.actor.net.setting.game.limit) xs c.in-Err.field-0) c.deref.ensures.value
-    (c.in-Err.ensures.cases c.args.actor.net.setting.game.limit)))
-    (none_negative c.args.actor c.read_all.new.self c.into_receipt-state.ensures.setting c.read_all.result (reading d)
-    c.given.result.now (are d) c.fired.inside.fired.items (fired_is d))
+    (subst (λ (z : ChipGame × List ℕ). IsNegative z.0 z.1 c.in-Err.field-0) (λ j. (game_is d j, c.deref.ensures.value j))
+    (c.in-Err.ensures.cases c.args.actor.net.setting.game.limit))
+    (none_negative c.into_receipt-state.ensures.setting (reading d) c.given.result.now (are d) c.fired.inside.fired.items (fired_is d))
 
 pub returns : goal.returns
 returns c =
@@ -81,15 +75,8 @@ returns c =
       over = c.fired.inside.over;
       sealed = c.fired.inside.sealed;
     } in
-    let into : IsAfter (played d) c.fired.inside.fired.items c.after_from.new.into =
-    subst (λ (k : ChipGame). IsAfter k c.fired.inside.fired.items c.after_from.new.into) (game_is d)
-    (subst (λ (xs : List ℕ). IsAfter (game_from c.graph-graph.result.now c.given.result.now
-    c.args.actor.net.setting.game.limit) xs c.after_from.new.into) c.deref.ensures.value
-    (c.in-Ok.ensures.cases c.args.actor.net.setting.game.limit)) in
-    let chips : IsAfter (played d) c.fired.inside.fired.items o.chips.items =
-    subst (IsAfter (played d) c.fired.inside.fired.items)
-    (sym (with_items_is c.fired.inside.chips c.after_from.new.into (c.after_from.auto.into ∙ c.deref_mut.ensures.len)))
-    into in
-    finishes c.args.actor c.read_all.new.self c.into_receipt-state.ensures.setting c.read_all.result (reading d)
-    c.given.result.now (are d) o (fired_is d) (ap (λ (t : ReadingsState). t.over) c.fired.view_is)
-    (ap (λ (t : ReadingsState). t.sealed) c.fired.view_is) chips
+    let into = with_items_is c.fired.inside.chips c.after_from.new.into (c.after_from.auto.into ∙ c.deref_mut.ensures.len) in
+    finishes c.into_receipt-state.ensures.setting (reading d) c.given.result.now (are d) o (fired_is d)
+    (ap (λ (t : ReadingsState). t.over) c.fired.view_is) (ap (λ (t : ReadingsState). t.sealed) c.fired.view_is)
+    (subst (λ (z : ChipGame × List ℕ × List ℕ). IsAfter z.0 z.1 z.2)
+    (λ j. (game_is d j, c.deref.ensures.value j, sym into j)) (c.in-Ok.ensures.cases c.args.actor.net.setting.game.limit))

@@ -1,19 +1,17 @@
-use Rattle.std.proofs.Common.{sym, ap, ◌∙◌, subst, arith}
+use Rattle.std.proofs.Common.{sym, ap, ◌∙◌, subst}
 use Rattle.chip_net.specs.Tokens.{NetId}
 use Rattle.chip_net.specs.Views.{find, did_in, IsAlone, Mine}
+use Rattle.chip_net.proofs.LayingLemmas.{some_words}
 use Rattle.chip_net.proofs.SplittingLemmas.{takes_out}
 use Rattle.chip_net.proofs.ViewingLemmas.{taken_alone, alone_has}
 use Rattle.chip_net.proofs.net.Net.take_out.Goals as goal
 
 pub split_seat-requires : goal.split_seat-requires
-split_seat-requires g c =
-    let count = c.self.invariant.1 in
-    let some = c.self.invariant.2.game.graph_fits.some_vertex in (
-      c.requires.seat ∙ sym (ap (λ (n : NetId). n.table) c.self.view_is),
-      omega (arith, count, some),
-      takes_out c.self.inside.table.shared.key.value c.args.seat.now.id g.J.OnePart.part c.args.seat.now.me.0
-          (did_in g.J.OnePart.part c.args.seat.now.me.0) c.requires.part,
-    )
+split_seat-requires g c = (
+  c.requires.seat ∙ sym (ap (λ (n : NetId). n.table) c.self.view_is),
+  some_words _ c.self.invariant.1 c.self.invariant.2,
+  takes_out _ _ g.J.OnePart.part _ _ c.requires.part,
+)
 
 pub returns-clause-given : goal.returns-clause-given
 returns-clause-given g c = (

@@ -1,7 +1,6 @@
 use Rattle.chip_core.specs.Core.{Settle}
-use Rattle.chip_net.specs.Rule.{Grows}
-use Rattle.chip_net.proofs.LayingLemmas.{owner_at}
+use Rattle.chip_net.proofs.LayingLemmas.{by_word}
 use Rattle.chip_net.proofs.net_words.NetWordsMedium.settle.Given as goal
 
 abbrev pub ghosts-load : goal.ghosts-load
-ghosts-load g a = record { then = λ _. Grows a.self.now.key.value (Settle (owner_at a.self.now.key.value a.word)) }
+ghosts-load g a = record { then = λ _. by_word Settle a.self.now.key.value a.word }

@@ -130,13 +130,9 @@ abbrev pub noted_over : operation.Act → ℕ → ℕ
 noted_over (Do.Put e cell value) n = 0
 noted_over _ n = n
 
-pub noted_is : (g : Setting) (s : Part) (x : Event) → IsFeeding g x → (n : ℕ)
-    → word_to_note x n ≡ noted_over (act_of g x s) n
-noted_is g s (Clear e) past n = refl
-noted_is g s (Put e) past n = refl
-noted_is g s (Feed e k) past n = refl
-noted_is g s End past n = refl
-noted_is g s x z n = absurd z
+noted_is : (g : Setting) (s : Part) (x : Event) (n : ℕ) → word_to_note x n ≡ noted_over (act_of g x s) n
+noted_is g s (Put e) n = refl
+noted_is g s x n = refl
 
 pub feeding_due : {g : Setting} {x : Event} {act : operation.Act} (me : Mine) → IsDueInView g me.0 x act → Due g me (root g) x
 feeding_due {g = g} {x = x} me due = record { mine = (feeding_mine g x due.feeding).0; has = due.has; met = due.met }
@@ -149,7 +145,7 @@ module _ {net : NetId} {id : TableId} {key : Setting} (words : AreWordsOf net id
   g = net.setting
 
   noted_here : (n : ℕ) → word_to_note x n ≡ noted_over act n
-  noted_here n = noted_is g (part_of_view g (root g) me.0) x due.feeding n
+  noted_here n = noted_is g (part_of_view g (root g) me.0) x n
       ∙ ap (λ (a : operation.Act). noted_over a n) (sym due.needed)
 
   pub feeding_asked : (table ≡ id) × (word < id.words)

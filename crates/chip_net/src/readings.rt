@@ -12,22 +12,25 @@ pub(crate) struct Readings {
     pub(crate) over: Vec<u64>,
     pub(crate) sealed: Vec<u64>,
     pub(crate) chips: Vec<u64>,
-    room: usize,
 }
 
 impl Model for Readings {
-    ghost use Rattle.std.specs.Prelude.{◌≡◌, ◌+◌, ◌≤◌, length};
+    ghost use Rattle.std.specs.Prelude.{◌-◌, ◌≤◌, length};
     ghost use Rattle.std.specs.Vec.{vec_capacity};
     ghost use Rattle.chip_net.specs.Finish.{ReadingsState};
 
     ghost Value = { ReadingsState };
 
-    ghost view = { λ a. record { fired = a.fired.items; over = a.over.items; sealed = a.sealed.items; room = a.room } };
+    ghost view = { λ a. record {
+      fired = a.fired.items;
+      over = a.over.items;
+      sealed = a.sealed.items;
+      room = length a.chips.items - length a.fired.items;
+    } };
 
-    ghost invariant = { λ a. (length a.fired.items + a.room ≤ vec_capacity a.fired)
-        × (length a.over.items + a.room ≤ vec_capacity a.over)
-        × (length a.sealed.items + a.room ≤ vec_capacity a.sealed)
-        × (length a.chips.items ≡ length a.fired.items + a.room) };
+    ghost invariant = { λ a. (length a.fired.items ≤ length a.chips.items) × (length a.chips.items ≤ vec_capacity a.fired)
+        × (length a.over.items ≤ length a.fired.items) × (length a.chips.items ≤ vec_capacity a.over)
+        × (length a.sealed.items ≤ length a.fired.items) × (length a.chips.items ≤ vec_capacity a.sealed) };
 }
 
 impl Readings {
@@ -40,7 +43,6 @@ impl Readings {
             over: Vec::with_capacity(alloc, room)?,
             sealed: Vec::with_capacity(alloc, room)?,
             chips: vec![in alloc; 0; room]?,
-            room,
         })
     }
 
@@ -57,6 +59,5 @@ impl Readings {
         if word.halted && !word.by_limit {
             self.sealed.push_reserved(vertex);
         }
-        self.room -= 1;
     }
 }

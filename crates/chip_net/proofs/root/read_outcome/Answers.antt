@@ -55,7 +55,7 @@ after_from-requires-clause-chips_each c =
     let room = ap (λ (t : ReadingsState). t.room) c.fired.view_is ∙ reads.room_is in
     let count = ap length (fired_is d ∙ reads.tallied.fired) ∙ length-map reads.words fired_in ∙ reads.count_is in
     let graph = ap (λ (k : Multigraph). k.vertices) (graph_is d) in
-    let long = c.fired.invariant.3 in let at = c.deref_mut.ensures.len in
+    let long = c.fired.invariant.0 in let at = c.deref_mut.ensures.len in
     omega arith
 
 pub unreachable-requires : goal.unreachable-requires

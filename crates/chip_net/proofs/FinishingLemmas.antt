@@ -3,9 +3,9 @@
 use Rattle.std.proofs.Common.{◌≡◌, ℕ, zero, suc, ◌<◌, ◌≤◌, sum, ◌||◌, ◌&&◌, Bool, not, true, false, List, [], ◌∷◌}
 use Rattle.std.proofs.Common.{length, map, get_or, slice_index, Option, Some, None, is_some, Contains, true≢false, refl, sym, ap}
 use Rattle.std.proofs.Common.{◌∙◌, subst, arith}
+use Rattle.std.specs.List.{range_with_len}
 use Rattle.std.proofs.Math.ListN.{get_or-map}
 use Rattle.std.proofs.lemmas.List.{length-map}
-use Rattle.std.proofs.lemmas.List.FromFn.{length-map-range_with_len}
 use Rattle.chip_graph.specs.ChipGame.{ChipGame}
 use Rattle.chip_graph.specs.Limits.{max_total}
 use Rattle.chip_graph.specs.Multigraph.{Multigraph}
@@ -222,20 +222,17 @@ module _ {old now : RootKnown} (setting : IsSetting old.net.setting) {readings :
 -- ---- one log of all tokens
 
 -- what the root did says which game was played
-same_played : (g : Setting) (setting : IsSetting g) (log other : Log) → IsLegalLog g other
-    → part_in g log (root g) ≡ part_in g other (root g) → played_game g other ≡ played_game g log
-same_played g setting log other legal same =
-    let start : List ℕ = (played_game g other).start in
-    let each : AreGiven g (part_in g log (root g)) start = (
-      length-map-range_with_len (chips_given g other) 0 g.game.graph.vertices,
-      λ v l. ap (λ (f : ℕ → ℕ). f v) (given_is g setting.game setting.some_ring other legal)
-          ∙ ap (λ (p : ℕ). sum (sent_counts ((part_in g other p).out (root_edge g v)).link))
-          (tail_root g (root_edge g v) (omega arith))
-          ∙ ap (λ (s : Part). sum (sent_counts (s.out (root_edge g v)).link)) (sym same),
-    ) in
-    λ i. let k : ChipGame = record {
+same_played : (g : Setting) (log other : Log) → part_in g log (root g) ≡ part_in g other (root g)
+    → played_game g other ≡ played_game g log
+same_played g log other same =
+    let sent : ℕ → Part → ℕ = λ v s. sum (sent_counts (s.out (root_edge g v)).link) in
+    let by_root : (l : Log) (v : ℕ) → chips_given g l v ≡ sent v (part_in g l (root g)) =
+    (λ l v. ap (λ (p : ℕ). sent v (part_in g l p)) (tail_root g (root_edge g v) (omega arith))) in
+    let given : chips_given g other ≡ chips_given g log =
+    (λ j v. (by_root other v ∙ ap (sent v) (sym same) ∙ sym (by_root log v)) j) in
+    λ j. let k : ChipGame = record {
       graph = g.game.graph;
-      start = given_start g log start each i;
+      start = map (given j) (range_with_len 0 g.game.graph.vertices);
       limit = g.game.limit;
     } in k
 
@@ -271,7 +268,7 @@ module _ (old receipt : RootKnown) (o : Outcome) (actors : List ActorKnown) (fin
     closed = (tells 0 (met.0.game.graph_fits.some_vertex)).1;
     outcome = outcome_by_words k met.0 met.1.log met.1.legal finishes.words vertices_is (λ v l. (tells v l).2) o
         finishes.read (subst (λ (game : ChipGame). IsAfter game o.fired.items o.chips.items)
-        (same_played k met.0 met.1.log finishes.read_out.log finishes.read_out.legal root_same)
+        (same_played k met.1.log finishes.read_out.log root_same)
         (subst (λ (n : NetId). IsAfter (played_game n.setting finishes.read_out.log) o.fired.items o.chips.items)
         (sym net_is) finishes.of_log.chips));
   }

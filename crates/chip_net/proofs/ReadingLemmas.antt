@@ -68,8 +68,9 @@ reads_say g setting log legal did ws is v l =
     (subst (λ (d : List Step). Contains d x) is
     (Contains-append_right did (reads_from 0 ws) x (reads_at 0 ws v l v (omega arith))))) refl
 
-pub still_over : (old now : RootKnown) (readings : ReadingsState) (v : ℕ) → IsReading old now readings v → IsOver old → IsOver now
-still_over old now readings v reading over =
+pub still_over : {old now : RootKnown} {readings : ReadingsState} {v : ℕ} → IsReading old now readings v → IsOver old
+    → IsOver now
+still_over {old = old} reading over =
     let same = reads_part old reading.words in (
       ap root_deficit reading.record_is ∙ ap (deficit old.net.setting (root old.net.setting)) same ∙ over.0,
       ap has_ended reading.record_is ∙ ap (λ (s : Part). s.ended) same ∙ over.1,
@@ -104,7 +105,7 @@ module _ (words : List ℕ) (t : ReadingsState) (is : AreRead words t.fired t.ov
 
 -- ---- one read more
 
-module _ (old now then : RootKnown) (readings : ReadingsState) (v seen : ℕ) (setting : IsSetting old.net.setting)
+module _ {old now then : RootKnown} {readings : ReadingsState} {v seen : ℕ} (setting : IsSetting old.net.setting)
     (reading : IsReading old now readings v) (reads : ReadsAt now then v seen) where
   abbrev g : Setting
   g = now.net.setting

@@ -73,25 +73,22 @@ module _ {r : RootKnown} {vertex e count : ℕ} (f : MayFeed r vertex e count) w
   same_claims : claims_of (s1.out e).link ≡ claims_of (s.out e).link
   same_claims = by_look claims_of 0 (λ t. refl) e e (s.out e)
 
-  feed_met : unmet_rule g (Feed e count) s1 ≡ None
-  feed_met = met_rules g (Feed e count) s1 (
-    past,
-    below,
-    f.not_ended,
-    omega arith,
-    (let a = same_fed in omega arith),
-    ap (λ (t : Tail). t.clear) (cond_yes e e (after_clear 0 (s.out e).link) (s.out e).link refl),
-  )
-
-  feed_due : IsDueForRoot (root_after r (look ∷ [])) (Feed e count)
-  feed_due = (past, subst (λ (t : Part). unmet_rule g (Feed e count) t ≡ None) (sym (root_step r look)) feed_met)
-
   module _ {r1 : RootKnown} {seen1 : ℕ} (made1 : MakesEvent r r1 (Clear e) seen1) (zero : seen1 ≡ 0) where
     first : r1 ≡ root_after r (look ∷ [])
     first = made1.record_is ∙ ap (λ (n : ℕ). root_after r (saw (Clear e) n ∷ [])) zero
 
     pub due2 : IsDueForRoot r1 (Feed e count)
-    due2 = subst (λ (k : RootKnown). IsDueForRoot k (Feed e count)) (sym first) feed_due
+    due2 = subst (λ (k : RootKnown). IsDueForRoot k (Feed e count)) (sym first) (
+      past,
+      subst (λ (t : Part). unmet_rule g (Feed e count) t ≡ None) (sym (root_step r look)) (met_rules g (Feed e count) s1 (
+        past,
+        below,
+        f.not_ended,
+        omega arith,
+        (let a = same_fed in omega arith),
+        ap (λ (t : Tail). t.clear) (cond_yes e e (after_clear 0 (s.out e).link) (s.out e).link refl),
+      )),
+    )
 
     module _ {r2 : RootKnown} {seen2 : ℕ} (made2 : MakesEvent r1 r2 (Feed e count) seen2) where
       abbrev feed : Step
@@ -109,9 +106,6 @@ module _ {r : RootKnown} {vertex e count : ℕ} (f : MayFeed r vertex e count) w
       abbrev s2 : Part
       s2 = does g feed s1
 
-      part2 : root_part (root_after r (look ∷ feed ∷ [])) ≡ s2
-      part2 = part_append g (opening_part g) r.did (look ∷ feed ∷ [])
-
       claimed : (s2.out e).link.held ≡ Some count
       claimed = ap (λ (t : Tail). t.held)
           (cond_yes e e (after_claim count seen2 (s1.out e).link) (s1.out e).link refl
@@ -120,7 +114,8 @@ module _ {r : RootKnown} {vertex e count : ℕ} (f : MayFeed r vertex e count) w
       pub due3 : IsDueForRoot r2 (Put e)
       due3 = subst (λ (k : RootKnown). IsDueForRoot k (Put e)) (sym second) (
         past,
-        subst (λ (t : Part). unmet_rule g (Put e) t ≡ None) (sym part2)
+        subst (λ (t : Part). unmet_rule g (Put e) t ≡ None)
+            (sym (part_append g (opening_part g) r.did (look ∷ feed ∷ [])))
             (met_rules g (Put e) s2 (below, (count, claimed))),
       )
 
@@ -134,22 +129,16 @@ module _ {r : RootKnown} {vertex e count : ℕ} (f : MayFeed r vertex e count) w
             ∙ ap (λ (k : RootKnown). root_after k (put ∷ [])) second
             ∙ steps_more r (look ∷ feed ∷ []) (put ∷ [])
 
-        abbrev s3 : Part
-        s3 = does g put s2
-
-        holds3 : (v : ℕ) → v < g.game.graph.vertices → (s3.out (root_edge g v)).link.held ≡ None
-        holds3 v l =
+        pub free3 : HoldsNothing r3
+        free3 = subst HoldsNothing (sym third) (λ v l.
             let i : ℕ = root_edge g v in
-            dite (ℕ_discrete e i)
+            ap (λ (t : Part). (t.out i).link.held) (part_append g (opening_part g) r.did (look ∷ feed ∷ put ∷ []))
+            ∙ dite (ℕ_discrete e i)
             (λ same. ap (λ (t : Tail). t.held) (cond_yes e i (after_put (s2.out i).link) (s2.out i).link same))
             (λ other. ap (λ (t : Tail). t.held)
             (cond_no e i (after_put (s2.out i).link) (s2.out i).link other
             ∙ cond_no e i (after_claim count seen2 (s1.out i).link) (s1.out i).link other
-            ∙ cond_no e i (after_clear 0 (s.out i).link) (s.out i).link other) ∙ f.free v l)
-
-        pub free3 : HoldsNothing r3
-        free3 = subst HoldsNothing (sym third) (λ v l. ap (λ (t : Part). (t.out (root_edge g v)).link.held)
-            (part_append g (opening_part g) r.did (look ∷ feed ∷ put ∷ [])) ∙ holds3 v l)
+            ∙ cond_no e i (after_clear 0 (s.out i).link) (s.out i).link other) ∙ f.free v l))
 
         pub feeds : (place : ℕ) → place ≡ claims_of (s.out e).link → Feeds r r3 vertex count place
         feeds place place_is = record {

@@ -102,13 +102,11 @@ alone_there p v is = ap (find p) is ∙ cond_yes p p (Some (did_in p v)) None re
 pub alone_else : (p q : ℕ) (v : View) → IsAlone p v → p ≢ q → find q v.parts ≡ None
 alone_else p q v is other = ap (find q) is ∙ cond_no p q (Some (did_in p v)) None other
 
-pub alone_by : (p : ℕ) (v : View) (did : List Step) → v.parts ≡ record { part = p; did = did } ∷ [] → IsAlone p v
-alone_by p v did is =
-    let found : find p v.parts ≡ Some did = ap (find p) is ∙ cond_yes p p (Some did) None refl in
-    is ∙ ap (λ (d : List Step). record { part = p; did = d } ∷ []) (sym (ap steps_or_none found))
-
 pub did_alone : (p : ℕ) (v : View) (did : List Step) → v.parts ≡ record { part = p; did = did } ∷ [] → did ≡ did_in p v
 did_alone p v did is = sym (ap steps_or_none (ap (find p) is ∙ cond_yes p p (Some did) None refl))
+
+pub alone_by : (p : ℕ) (v : View) (did : List Step) → v.parts ≡ record { part = p; did = did } ∷ [] → IsAlone p v
+alone_by p v did is = is ∙ ap (λ (d : List Step). record { part = p; did = d } ∷ []) (did_alone p v did is)
 
 pub taken_alone : (p : ℕ) (v : View) (did : List Step) → find p v.parts ≡ Some did → IsAlone p (view_of_one p v)
 taken_alone p v did has = alone_by p (view_of_one p v) did (ap (one_part p) has)

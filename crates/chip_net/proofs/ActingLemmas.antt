@@ -20,7 +20,8 @@ use Rattle.chip_net.specs.Traces.{TraceState, Keeps, row_of, rows_of}
 use Rattle.chip_net.specs.Tokens.{TurnSetup, AreWordsOf, Holds}
 use Rattle.chip_net.proofs.LayingLemmas.{owner_of, owner_at, by_word}
 use Rattle.chip_net.proofs.ViewingLemmas.{alone_there}
-use Rattle.chip_net.proofs.RulingLemmas.{Due, Made, made, word_of, left_over, vertex_acts, act_word, act_asked, act_told}
+use Rattle.chip_net.proofs.RulingLemmas.{Due, Made, made, word_of, left_over, vertex_acts, act_word, act_asked}
+use Rattle.chip_net.proofs.RulingLemmas.{act_told}
 
 -- the rows of one step more
 pub rows_push : (xs : List Step) (x : Step) → rows_of (xs ++ x ∷ []) ≡ rows_of xs ++ row_of x.event x.seen
@@ -32,8 +33,9 @@ rows_push (y ∷ ys) x = ap (λ (rows : List TraceRow). row_of y.event y.seen ++
 pub keeps_none : (trace : TraceState) (all : List TraceRow) → Keeps all trace → Keeps (all ++ []) trace
 keeps_none trace all kept = subst (λ (rows : List TraceRow). Keeps rows trace) (sym (append-nil all)) kept
 
-module _ {setup now : TurnSetup} {key : Setting} {table : TableId} {me : Mine} {trace : TraceState} {g : Setting} {v : ℕ}
-    {ds : List Step} {s : Part} (held : Holds setup now key table me trace g v ds s) {act : Act} (by : IsDueBy g v s act) where
+module _ {setup now : TurnSetup} {key : Setting} {table : TableId} {me : Mine} {trace : TraceState} {g : Setting}
+    {v : ℕ} {ds : List Step} {s : Part} (held : Holds setup now key table me trace g v ds s) {act : Act}
+    (by : IsDueBy g v s act) where
   abbrev h : Setting
   h = now.net.setting
 
@@ -64,7 +66,8 @@ module _ {setup now : TurnSetup} {key : Setting} {table : TableId} {me : Mine} {
   asked : (word : ℕ) → word ≡ index_of h (word_of w act) → (kind : ℕ → Event) → kind (owner_of (word_of w act)) ≡ x
       → (seat : ℕ) → (table ≡ now.net.table) × (word < now.net.table.words)
       × Allows (Kept key) now.net.table.slots seat me word (left_over act) (by_word kind key word me)
-  asked word at kind of_kind = act_asked words due (vertex_acts h x inside) act by'.needed word at kind of_kind table held.table_is
+  asked word at kind of_kind = act_asked words due (vertex_acts h x inside) act by'.needed word at kind of_kind table
+      held.table_is
 
   -- ---- what it told
 
@@ -78,7 +81,8 @@ module _ {setup now : TurnSetup} {key : Setting} {table : TableId} {me : Mine} {
         let log = m.stepped.log in
         subst (λ (z : Part × ℕ). FitsSeen z.0 x z.1)
         (λ j. ((ap (part_in h log) by'.mine ∙ sym m.in_log) j, sym m.stepped.has.0.1 j))
-        (fits_seen h held.seated.setting.game held.seated.setting.some_ring log m.stepped.legal x inside m.stepped.has.0.0)
+        (fits_seen h held.seated.setting.game held.seated.setting.some_ring log m.stepped.legal x inside
+        m.stepped.has.0.0)
 
     longer : {table' : TableId} → table' ≡ table → {trace' : TraceState} {room : ℕ} → room ≡ now.room
         → ((all : List TraceRow) → Keeps all trace → Keeps (all ++ row_of x (word_to_note x n)) trace')
@@ -94,7 +98,8 @@ module _ {setup now : TurnSetup} {key : Setting} {table : TableId} {me : Mine} {
         vertex_is = held.vertex_is;
         did_is = m.did_is ∙ (λ j. held.did_is j ++ saw (event_of (sym held.vertex_is j) act) (word_to_note x n) ∷ [])
             ∙ sym (reverse-append (saw (event_of v act) (word_to_note x n) ∷ []) ds);
-        part_is = (λ j. does (held.setting_is j) (saw (event_of (held.vertex_is j) act) (word_to_note x n)) (held.part_is j)) ∙ sym m.part_is;
+        part_is = (λ j. does (held.setting_is j) (saw (event_of (held.vertex_is j) act) (word_to_note x n))
+            (held.part_is j)) ∙ sym m.part_is;
         seated = record {
           setting = held.seated.setting;
           inside = held.seated.inside;
@@ -129,5 +134,5 @@ module _ {setup now : TurnSetup} {key : Setting} {table : TableId} {me : Mine} {
       → Serves (Holds setup now key table me trace) (Holds setup (record now { room = room }) key table' me' trace') act
       (word_to_note (event_of now.vertex act) n)
   serves at kind of_kind n told table_is room_is keeps g v ds s held by = longer held by n
-      (act_told (words held by) (due held by) (vertex_acts now.net.setting (event_of now.vertex act) (inside held by)) act
-      (by' held by).needed _ at kind of_kind n _ told) table_is room_is keeps
+      (act_told (words held by) (due held by) (vertex_acts now.net.setting (event_of now.vertex act) (inside held by))
+      act (by' held by).needed _ at kind of_kind n _ told) table_is room_is keeps

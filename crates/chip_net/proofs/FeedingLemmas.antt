@@ -1,7 +1,7 @@
 -- Serves Roots.antt.
 -- Feeding: what the root may feed, and the game with all that it fed.
-use Rattle.std.proofs.Common.{◌≡◌, ℕ, ◌+◌, ◌<◌, ◌≤◌, Bool, true, false, not, List, sum, Option, Some, None, refl, sym, ap}
-use Rattle.std.proofs.Common.{◌∙◌, arith, eqb, leb, le-leb, lt-ltb, ne_eqb, leb-true, true≢false}
+use Rattle.std.proofs.Common.{◌≡◌, ℕ, ◌+◌, ◌<◌, ◌≤◌, Bool, true, false, not, List, sum, Option, Some, None, refl, sym}
+use Rattle.std.proofs.Common.{ap, ◌∙◌, arith, eqb, leb, le-leb, lt-ltb, ne_eqb, leb-true, true≢false}
 use Rattle.std.specs.Prelude.{Result, Ok, Err}
 use Rattle.std.proofs.lemmas.Bool.{leb-false, and_from}
 use Rattle.chip_graph.specs.Limits.{max_total}
@@ -30,7 +30,8 @@ pub given_is_fed : {g : Setting} {view : View} {state : Root} → IsRoot g view 
 given_is_fed {g = g} keeps =
     let log = keeps.in_log.log in
     ap (λ (did : List Step). all_fed g (part_by g (opening_part g) did)) keeps.in_log.has
-    ∙ ap (all_fed g) (sym (by_history g log (root g))) ∙ sym (root_gave g keeps.setting.game keeps.setting.some_ring log)
+    ∙ ap (all_fed g) (sym (by_history g log (root g)))
+    ∙ sym (root_gave g keeps.setting.game keeps.setting.some_ring log)
     ∙ (played_has_more g keeps.setting.game keeps.setting.some_ring log keeps.in_log.legal).total
     ∙ ap (λ (did : List Step). sum g.game.start + all_brought (fed_in g did)) (sym keeps.in_log.has)
 

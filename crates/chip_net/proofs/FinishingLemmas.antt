@@ -1,8 +1,8 @@
 -- Serves Finish.antt, Roots.antt.
 -- What the root makes of its reads.
 use Rattle.std.proofs.Common.{◌≡◌, ℕ, zero, suc, ◌<◌, ◌≤◌, sum, ◌||◌, ◌&&◌, Bool, not, true, false, List, [], ◌∷◌}
-use Rattle.std.proofs.Common.{length, map, get_or, slice_index, Option, Some, None, is_some, Contains, true≢false, refl, sym, ap}
-use Rattle.std.proofs.Common.{◌∙◌, subst, arith}
+use Rattle.std.proofs.Common.{length, map, get_or, slice_index, Option, Some, None, is_some, Contains, true≢false, refl}
+use Rattle.std.proofs.Common.{sym, ap, ◌∙◌, subst, arith}
 use Rattle.std.specs.List.{range_with_len}
 use Rattle.std.proofs.Math.ListN.{get_or-map}
 use Rattle.std.proofs.lemmas.List.{length-map}

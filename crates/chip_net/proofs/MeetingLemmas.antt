@@ -1,10 +1,11 @@
 -- Serves Meeting.antt, Rule.antt.
 -- A look changes nothing, and actors lend their parts one after another.
-use Rattle.std.proofs.Common.{◌≡◌, ℕ, zero, suc, ◌+◌, ◌-◌, ◌<◌, List, [], ◌∷◌, ◌++◌, length, map, take, drop, set, get_or}
-use Rattle.std.proofs.Common.{Some, refl, sym, ap, ◌∙◌, subst, arith, append-nil, length-append}
+use Rattle.std.proofs.Common.{◌≡◌, ℕ, zero, suc, ◌+◌, ◌-◌, ◌<◌, List, [], ◌∷◌, ◌++◌, length, map, take, drop, set}
+use Rattle.std.proofs.Common.{get_or, Some, refl, sym, ap, ◌∙◌, subst, arith, append-nil, length-append}
 use Rattle.std.specs.Prelude.{slice_get}
 use Rattle.std.proofs.Math.Seq.{take-length, drop-length}
-use Rattle.std.proofs.lemmas.List.{set-get_or, length-map, length-take-le, take-append-drop, get_or-append_right, get_or-drop}
+use Rattle.std.proofs.lemmas.List.{set-get_or, length-map, length-take-le, take-append-drop, get_or-append_right}
+use Rattle.std.proofs.lemmas.List.{get_or-drop}
 use Rattle.std.proofs.lemmas.List.Edits.{map_over_more}
 use Rattle.std.proofs.lemmas.Option.{slice_get-get_or, get_or_from_slice_get}
 use Rattle.atomic_table.specs.Table.{State, keeps, Allows}
@@ -42,30 +43,30 @@ may_look g slots id word me table kept homes at few = (
 -- ---- actors one after another, in their places
 
 -- of these actors the first n are by f
-module _ (f : ActorKnown → ActorKnown) (xs items : List ActorKnown) (n : ℕ) (is : items ≡ map f (take n xs) ++ drop n xs)
-  where
-    pub same_count : length items ≡ length xs
-    same_count = ap length is ∙ length-append (map f (take n xs)) (drop n xs)
-        ∙ ap (λ (k : ℕ). k + length (drop n xs)) (length-map (take n xs) f) ∙ sym (length-append (take n xs) (drop n xs))
-        ∙ ap length (take-append-drop n xs)
+module _ (f : ActorKnown → ActorKnown) (xs items : List ActorKnown) (n : ℕ)
+    (is : items ≡ map f (take n xs) ++ drop n xs) where
+  pub same_count : length items ≡ length xs
+  same_count = ap length is ∙ length-append (map f (take n xs)) (drop n xs)
+      ∙ ap (λ (k : ℕ). k + length (drop n xs)) (length-map (take n xs) f)
+      ∙ sym (length-append (take n xs) (drop n xs)) ∙ ap length (take-append-drop n xs)
 
-    -- the next is not among them, and then it is
-    pub next : n < length items → (a d : ActorKnown) → a ≡ get_or items n d
-        → (slice_get xs n ≡ Some a) × (set items n (f a) ≡ map f (take (n + 1) xs) ++ drop (n + 1) xs)
-    next inside a d a_is =
-        let l : n < length xs = omega (arith, same_count) in
-        let found : slice_get items n ≡ Some a = slice_get-get_or items n d inside ∙ ap Some (sym a_is) in
-        let front : length (map f (take n xs)) ≡ n = length-map (take n xs) f ∙ length-take-le n xs (omega arith) in (
-          slice_get-get_or xs n d l ∙ ap Some (sym (a_is ∙ ap (λ (ys : List ActorKnown). get_or ys n d) is
-              ∙ get_or-append_right (map f (take n xs)) (drop n xs) n n d front (omega arith) ∙ get_or-drop n xs (n - n) d
-              ∙ ap (λ (k : ℕ). get_or xs k d) (omega arith))),
-          map_over_more f xs items n a l is (sym (get_or_from_slice_get items n a a found)),
-        )
+  -- the next is not among them, and then it is
+  pub next : n < length items → (a d : ActorKnown) → a ≡ get_or items n d
+      → (slice_get xs n ≡ Some a) × (set items n (f a) ≡ map f (take (n + 1) xs) ++ drop (n + 1) xs)
+  next inside a d a_is =
+      let l : n < length xs = omega (arith, same_count) in
+      let found : slice_get items n ≡ Some a = slice_get-get_or items n d inside ∙ ap Some (sym a_is) in
+      let front : length (map f (take n xs)) ≡ n = length-map (take n xs) f ∙ length-take-le n xs (omega arith) in (
+        slice_get-get_or xs n d l ∙ ap Some (sym (a_is ∙ ap (λ (ys : List ActorKnown). get_or ys n d) is
+            ∙ get_or-append_right (map f (take n xs)) (drop n xs) n n d front (omega arith)
+            ∙ get_or-drop n xs (n - n) d ∙ ap (λ (k : ℕ). get_or xs k d) (omega arith))),
+        map_over_more f xs items n a l is (sym (get_or_from_slice_get items n a a found)),
+      )
 
-    -- and in the end all are
-    pub all_are : n ≡ length xs → items ≡ map f xs
-    all_are past = is ∙ ap (λ (k : ℕ). map f (take k xs) ++ drop k xs) past
-        ∙ (λ j. map f (take-length xs j) ++ drop-length xs j) ∙ append-nil (map f xs)
+  -- and in the end all are
+  pub all_are : n ≡ length xs → items ≡ map f xs
+  all_are past = is ∙ ap (λ (k : ℕ). map f (take k xs) ++ drop k xs) past
+      ∙ (λ j. map f (take-length xs j) ++ drop-length xs j) ∙ append-nil (map f xs)
 
 pub map_at : (f : ActorKnown → ActorKnown) (xs : List ActorKnown) (n : ℕ) (b : ActorKnown)
     → slice_get (map f xs) n ≡ Some b → (a : ActorKnown) × (slice_get xs n ≡ Some a) × (b ≡ f a)

@@ -63,7 +63,8 @@ module _ (g : Setting) where
           put = first_root g v ∙ cond_no (start_of g v) 0 _ _ some_chips
 
           -- every word but these two is as it was
-          still : (q : Word) → IsWord g q → q ≢ of_edge edge → q ≢ of_cell edge 0 → value_in g words'' q ≡ first_value g edge q
+          still : (q : Word) → IsWord g q → q ≢ of_edge edge → q ≢ of_cell edge 0 → value_in g words'' q
+              ≡ first_value g edge q
           still q l one two = written_else g words' wide' (of_cell edge 0) cell_there (start_of g v) q l two
               ∙ written_else g words opening.wide (of_edge edge) there 1 q l one ∙ opening.each q l
 
@@ -75,8 +76,10 @@ module _ (g : Setting) where
               ∙ sym (now_counted e edge _ same ∙ ap (λ (n : ℕ). length (first_put g n)) same ∙ ap length put))
               (λ other. still (of_edge e) l (other_owner _ _ other) (other_kind _ _ (λ z. omega arith))
               ∙ ap (λ (b : Bool). cond b (length (first_put g e)) 0) (same_test e edge other))
-          each (of_acks e) l = still (of_acks e) l (other_kind _ _ (λ z. omega arith)) (other_kind _ _ (λ z. omega arith))
-          each (of_vertex u) l = still (of_vertex u) l (other_kind _ _ (λ z. omega arith)) (other_kind _ _ (λ z. omega arith))
+          each (of_acks e) l = still (of_acks e) l (other_kind _ _ (λ z. omega arith))
+              (other_kind _ _ (λ z. omega arith))
+          each (of_vertex u) l = still (of_vertex u) l (other_kind _ _ (λ z. omega arith))
+              (other_kind _ _ (λ z. omega arith))
           each (of_cell e i) l = dite (ℕ_discrete e edge)
               (λ same. dite (ℕ_discrete i 0)
               (λ first. ap (value_in g words'') (λ k. of_cell (same k) (first k))

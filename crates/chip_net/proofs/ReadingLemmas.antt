@@ -129,7 +129,8 @@ module _ {old now then : RootKnown} {readings : ReadingsState} {v seen : ℕ} (s
 
   root_did : now.did ++ x ∷ [] ≡ done_by g (root g) log
   root_did = ap (λ (d : List Step). d ++ x ∷ []) reads.1.has.1.root_did
-      ∙ sym (cond_yes (root g) (root g) (done_by g (root g) reads.1.log ++ x ∷ []) (done_by g (root g) reads.1.log) refl)
+      ∙ sym (cond_yes (root g) (root g) (done_by g (root g) reads.1.log ++ x ∷ [])
+      (done_by g (root g) reads.1.log) refl)
 
   count : length words ≡ v + 1
   count = let a = length-append reading.words (seen ∷ []) in let c = reading.count_is in omega arith

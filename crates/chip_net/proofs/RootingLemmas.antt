@@ -134,12 +134,14 @@ noted_is : (g : Setting) (s : Part) (x : Event) (n : ℕ) → word_to_note x n �
 noted_is g s (Put e) n = refl
 noted_is g s x n = refl
 
-pub feeding_due : {g : Setting} {x : Event} {act : operation.Act} (me : Mine) → IsDueInView g me.0 x act → Due g me (root g) x
+pub feeding_due : {g : Setting} {x : Event} {act : operation.Act} (me : Mine) → IsDueInView g me.0 x act
+    → Due g me (root g) x
 feeding_due {g = g} {x = x} me due = record { mine = (feeding_mine g x due.feeding).0; has = due.has; met = due.met }
 
 module _ {net : NetId} {id : TableId} {key : Setting} (words : AreWordsOf net id key) (me : Mine) {x : Event}
-    {act : operation.Act} (due : IsDueInView net.setting me.0 x act) {set : Setting} (set_is : set ≡ net.setting) {word : ℕ}
-    (at : word ≡ index_of set (word_of (root net.setting) act)) {table : TableId} (table_is : table ≡ net.table)
+    {act : operation.Act} (due : IsDueInView net.setting me.0 x act) {set : Setting} (set_is : set ≡ net.setting)
+    {word : ℕ} (at : word ≡ index_of set (word_of (root net.setting) act)) {table : TableId}
+    (table_is : table ≡ net.table)
     (seat : ℕ) where
   abbrev g : Setting
   g = net.setting
@@ -181,7 +183,8 @@ does_none r events none = record {
 
 -- one event
 pub does_one : {old new : RootKnown} {x : Event} {seen : ℕ} → MakesEvent old new x seen → DoesMore old new (x ∷ [])
-does_one {x = x} {seen = seen} event = record { steps = saw x seen ∷ []; record_is = event.record_is; events_are = refl }
+does_one {x = x} {seen = seen} event =
+    record { steps = saw x seen ∷ []; record_is = event.record_is; events_are = refl }
 
 -- events after events
 pub does_all : {old now after : RootKnown} {xs ys : List Event} → DoesMore old now xs → DoesMore now after ys
@@ -212,7 +215,8 @@ settles_more {old = old} {now = now} {after = after} first v l before event =
     let edge : root_edge now.net.setting v ≡ root_edge g (first + (v - first)) =
     ap (λ (n : NetId). root_edge n.setting v) (does_net before) ∙ ap (root_edge g) (omega arith) in
     let count : suc (v - first) ≡ (v + 1) - first = omega arith in
-    subst (λ (n : ℕ). DoesMore old after (settles_from g first n)) count (does_all before (does_one (settles_at edge event)))
+    subst (λ (n : ℕ). DoesMore old after (settles_from g first n)) count
+    (does_all before (does_one (settles_at edge event)))
 
 -- ---- the part of the root after an event
 

@@ -52,7 +52,8 @@ module _ {g : Setting} {me : Mine} {p : ℕ} {x : Event} (due : Due g me p x) wh
   s = part_of_view g p me.0
 
   -- the rule of the table is kept, and the part did it
-  allowed : (slots id : ℕ) → Allows (Kept g) slots id me (index_of g (word_of_event g x s)) (left_by g x s) (Grows g x me)
+  allowed : (slots id : ℕ) → Allows (Kept g) slots id me (index_of g (word_of_event g x s)) (left_by g x s)
+      (Grows g x me)
   allowed slots id table kept homes at few =
       let log : Log = kept.log in
       let was : find_in p (get_elem? table.views id) ≡ Some (did_in p me.0) = ap (find_in p) at ∙ due.has in
@@ -183,7 +184,8 @@ over_left g s x z n = refl
 
 -- ---- a call of the table that makes it
 
-pub words_at : {own net : NetId} → own ≡ net → {id : TableId} {key : Setting} → AreWordsOf net id key → AreWordsOf own id key
+pub words_at : {own net : NetId} → own ≡ net → {id : TableId} {key : Setting} → AreWordsOf net id key
+    → AreWordsOf own id key
 words_at same {id = id} {key = key} = subst (λ (n : NetId). AreWordsOf n id key) (sym same)
 
 module _ {net : NetId} {id : TableId} {key : Setting} (words : AreWordsOf net id key) {me : Mine} {p : ℕ} {x : Event}
@@ -210,7 +212,8 @@ module _ {net : NetId} {id : TableId} {key : Setting} (words : AreWordsOf net id
         let count = ap (λ (t : TableId). t.words) words.table ∙ words.count in (
           same ∙ sym words.table,
           omega arith,
-          subst (λ (z : Setting × ℕ × Event). Allows (Kept z.0) id.slots seat me z.1 (left_by g x part) (Grows z.0 z.2 me))
+          subst (λ (z : Setting × ℕ × Event). Allows (Kept z.0) id.slots seat me z.1 (left_by g x part)
+              (Grows z.0 z.2 me))
               (λ i. (sym words.key i, sym at i, sym kind_is i)) (allowed due id.slots seat),
         )
 

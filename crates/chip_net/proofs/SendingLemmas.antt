@@ -80,14 +80,15 @@ module _ {r : RootKnown} {vertex e count : ℕ} (f : MayFeed r vertex e count) w
     pub due2 : IsDueForRoot r1 (Feed e count)
     due2 = subst (λ (k : RootKnown). IsDueForRoot k (Feed e count)) (sym first) (
       past,
-      subst (λ (t : Part). unmet_rule g (Feed e count) t ≡ None) (sym (root_step r look)) (met_rules g (Feed e count) s1 (
-        past,
-        below,
-        f.not_ended,
-        omega arith,
-        (let a = same_fed in omega arith),
-        ap (λ (t : Tail). t.clear) (cond_yes e e (after_clear 0 (s.out e).link) (s.out e).link refl),
-      )),
+      subst (λ (t : Part). unmet_rule g (Feed e count) t ≡ None) (sym (root_step r look))
+          (met_rules g (Feed e count) s1 (
+            past,
+            below,
+            f.not_ended,
+            omega arith,
+            (let a = same_fed in omega arith),
+            ap (λ (t : Tail). t.clear) (cond_yes e e (after_clear 0 (s.out e).link) (s.out e).link refl),
+          )),
     )
 
     module _ {r2 : RootKnown} {seen2 : ℕ} (made2 : MakesEvent r1 r2 (Feed e count) seen2) where

@@ -1,7 +1,7 @@
 -- Serves Views.antt, Rule.antt.
 -- The rule where one part alone moved or did more: as it acts, as it is taken out, and as it is taken in.
-use Rattle.std.proofs.Common.{◌≡◌, ◌≢◌, ℕ, zero, suc, ◌+◌, ◌<◌, cond, eqb, List, [], ◌∷◌, ◌++◌, length, set, Option, Some}
-use Rattle.std.proofs.Common.{None, refl, sym, ap, ◌∙◌}
+use Rattle.std.proofs.Common.{◌≡◌, ◌≢◌, ℕ, zero, suc, ◌+◌, ◌<◌, cond, eqb, List, [], ◌∷◌, ◌++◌, length, set, Option}
+use Rattle.std.proofs.Common.{Some, None, refl, sym, ap, ◌∙◌}
 use mathlib.Core.Logic.{dite}
 use mathlib.Core.Option.{some}
 use native.Mathlib.Decide.{ℕ_discrete}
@@ -14,7 +14,8 @@ use Rattle.chip_core.specs.Core.{Log, Step, IsLegalLog}
 use Rattle.chip_core.specs.Histories.{done_by}
 use Rattle.chip_core.specs.Words.{IsShown}
 use Rattle.chip_net.specs.Layout.{value_in}
-use Rattle.chip_net.specs.Views.{View, Mine, find, find_in, did_in, view_without, view_of_one, IsAlone, join_views, no_parts}
+use Rattle.chip_net.specs.Views.{View, Mine, find, find_in, did_in, view_without, view_of_one, IsAlone, join_views}
+use Rattle.chip_net.specs.Views.{no_parts}
 use Rattle.chip_net.specs.Rule.{Kept}
 use Rattle.chip_net.proofs.ViewingLemmas.{none_some, some_is, set_there, dropped_here, dropped_else, alone_has}
 use Rattle.chip_net.proofs.ViewingLemmas.{alone_there, alone_else, joined_here, joined_else, one_else}
@@ -26,8 +27,8 @@ none_but None never = refl
 none_but (Some d) never = absurd (never d refl)
 
 -- another view in the place of one, with the same of the part
-pub set_finds : (q : ℕ) (l : List View) (i : ℕ) (v w : View) → get_elem? l i ≡ some v → find q w.parts ≡ find q v.parts → (j : ℕ)
-    → find_in q (get_elem? (set l i w) j) ≡ find_in q (get_elem? l j)
+pub set_finds : (q : ℕ) (l : List View) (i : ℕ) (v w : View) → get_elem? l i ≡ some v
+    → find q w.parts ≡ find q v.parts → (j : ℕ) → find_in q (get_elem? (set l i w) j) ≡ find_in q (get_elem? l j)
 set_finds q l i v w at same j = dite (ℕ_discrete j i)
     (λ e. ap (λ (n : ℕ). find_in q (get_elem? (set l i w) n)) e ∙ ap (find_in q) (set_there l i v w at) ∙ same
     ∙ sym (ap (find_in q) at) ∙ ap (λ (n : ℕ). find_in q (get_elem? l n)) (sym e))
@@ -73,7 +74,8 @@ module _ (g : Setting) (s : State (Unit {0}) View) (kept : Kept g s) (p : ℕ) w
         (λ away. absurd (none_some did (sym (nowhere j away) ∙ found))))
         (λ q other j did found.
         let old = kept.each_part q j did (sym (others q j other) ∙ found) in (old.0, old.1 ∙ sym (same q other)));
-    there = at_other (λ q (i : ℕ). q < g.game.graph.vertices + 2 → find_in q (get_elem? views i) ≡ Some (done_by g q log))
+    there = at_other (λ q (i : ℕ). q < g.game.graph.vertices + 2 → find_in q (get_elem? views i)
+        ≡ Some (done_by g q log))
         p (λ q. to) kept.owner (λ l. here)
         (λ q other l. others q (kept.owner q) other ∙ kept.there q l ∙ ap Some (sym (same q other)));
     shown = shown;
@@ -112,7 +114,8 @@ takes_out g id p v did has s kept at =
     (λ j ne. ap (find_in p) (longer_else left (view_of_one p v) j ne) ∙ dite (ℕ_discrete j id)
     (λ e. ap (λ (n : ℕ). find_in p (get_elem? left n)) e
     ∙ ap (find_in p) (set_there s.views id v (view_without p v) at) ∙ dropped_here p v.parts)
-    (λ other. ap (find_in p) (set_else s.views id j (view_without p v) other) ∙ nowhere_else g s kept p id did was j other))
+    (λ other. ap (find_in p) (set_else s.views id j (view_without p v) other)
+    ∙ nowhere_else g s kept p id did was j other))
     (λ q other. refl) refl kept.shown kept.legal
 
 pub takes_in : (g : Setting) (id other p : ℕ) (v w : View) → IsAlone p w

@@ -67,7 +67,8 @@ module _ {g : Setting} (setting : IsSetting g) {me : Mine} {edge : ℕ} (due : D
       → answer.first ≡ not (is_sealed_in seen)
       → Seals own (record { net = record { table = now; setting = g }; did = did_in (stopper g) after.0 }) edge answer
   seals view_is {now = now} table_is answer count first = subst (λ (k : StopperKnown). Seals k
-      (record { net = record { table = now; setting = g }; did = did_in (stopper g) after.0 }) edge answer) view_is record {
+      (record { net = record { table = now; setting = g }; did = did_in (stopper g) after.0 }) edge answer) view_is
+      record {
         inside = inside;
         seen = seen;
         record_is = λ j. record { net = record { table = table_is j; setting = g }; did = m.did_is j };
@@ -75,14 +76,15 @@ module _ {g : Setting} (setting : IsSetting g) {me : Mine} {edge : ℕ} (due : D
         count_is = ap (λ (p : Part). p.stop edge) m.part_is
             ∙ cond_yes edge edge (after_seal seen (s.stop edge)) (s.stop edge) refl
             ∙ first_word claims seen (s.stop edge) (subst (IsSealedAt claims) stop_is
-            (edge_sound g setting.game setting.some_ring m.stepped.log m.stepped.legal edge).sealed_at) word_is reads.claims_are
-            ∙ ap Some (sym count);
+            (edge_sound g setting.game setting.some_ring m.stepped.log m.stepped.legal edge).sealed_at) word_is
+            reads.claims_are ∙ ap Some (sym count);
       }
 
 -- ---- what a seal told stands
 
 pub seal_stays : (x : Event) (seen e n : ℕ) (stop : Option ℕ) → stop ≡ Some n → stop_after x seen e stop ≡ Some n
-seal_stays (Seal i) seen e n stop is = at_edge (λ _ (o : Option ℕ). o ≡ Some n) i (λ _. after_seal seen stop) (λ _. stop)
+seal_stays (Seal i) seen e n stop is = at_edge (λ _ (o : Option ℕ). o ≡ Some n) i (λ _. after_seal seen stop)
+    (λ _. stop)
     (ap (after_seal seen) is) (λ _. is) e
 seal_stays x seen e n stop is = is
 

@@ -44,8 +44,9 @@ module _ {setup now : TurnSetup} {key : Setting} {table : TableId} {me : Mine} {
   pub may_turn : Meets (Holds setup now key table me trace) a (At.Take 0)
   may_turn = (g, reverse did, part, begins, actor.1, tt)
 
-  module _ {now' : TurnSetup} {key' : Setting} {table' : TableId} {me' : Mine} {trace' : TraceState} {b : Actor} {work : ℕ}
-      (makes : MakesTurn (Holds setup now key table me trace) a (Holds setup now' key' table' me' trace') b work) where
+  module _ {now' : TurnSetup} {key' : Setting} {table' : TableId} {me' : Mine} {trace' : TraceState} {b : Actor}
+      {work : ℕ} (makes : MakesTurn (Holds setup now key table me trace) a
+      (Holds setup now' key' table' me' trace') b work) where
     abbrev more : List Step
     more = (makes g (reverse did) part begins actor.1).0
 

@@ -1,7 +1,7 @@
 -- Serves Core.antt of chip_core.
 -- Where the stopper did nothing, no claim is refused, and no seal halts a vertex.
-use Rattle.std.proofs.Common.{◌≡◌, ℕ, ◌==◌, ◌&&◌, Bool, true, false, not, cond, eqb, eqb-true, [], ◌∷◌, Option, Some, None}
-use Rattle.std.proofs.Common.{refl, sym, ap, ◌∙◌, arith, eq-eqb}
+use Rattle.std.proofs.Common.{◌≡◌, ℕ, ◌==◌, ◌&&◌, Bool, true, false, not, cond, eqb, eqb-true, [], ◌∷◌, Option, Some}
+use Rattle.std.proofs.Common.{None, refl, sym, ap, ◌∙◌, arith, eq-eqb}
 use Rattle.chip_graph.proofs.SumLemmas.{cond_yes, cond_false, tested_none}
 use Rattle.chip_link.specs.Link.{Tail, claims_of, after_clear, after_claim, after_put, word_of}
 use Rattle.chip_part.specs.Setting.{Setting}
@@ -9,8 +9,8 @@ use Rattle.chip_part.specs.declared.cause.Cause.TheVariants.{SealedEdge, FiringL
 use Rattle.chip_part.specs.Part.{refusals, cause, pending_of, is_legal}
 use Rattle.chip_part.specs.Steps.{link_after, halt_after, stop_after}
 use Rattle.chip_part.proofs.PartLemmas.{at_edge}
-use Rattle.chip_core.specs.Core.{Log, Event, Clear, Claim, Put, Halt, Feed, Part, part_of, part_in, does, out_in, stop_in}
-use Rattle.chip_core.specs.Core.{opening_part, sees, IsLegalLog, stopper, tail_of, all_edges}
+use Rattle.chip_core.specs.Core.{Log, Event, Clear, Claim, Put, Halt, Feed, Part, part_of, part_in, does, out_in}
+use Rattle.chip_core.specs.Core.{stop_in, opening_part, sees, IsLegalLog, stopper, tail_of, all_edges}
 use Rattle.chip_core.specs.Histories.{done_by, part_by}
 use Rattle.chip_core.specs.Outcomes.{is_by_seal}
 use Rattle.chip_core.proofs.ReachingLemmas.{by_history}
@@ -45,7 +45,8 @@ module _ (g : Setting) where
         → (cond (eqb e i) (new i) (out_in g log i).link).refused ≡ false
     at e new here = at_edge (λ _ (t : Tail). t.refused ≡ false) e new (λ i. (out_in g log i).link) here none
 
-    refused_step : (x : Event) (seen : ℕ) → seen ≡ sees g log x → (e : ℕ) → (link_after x seen e (out_in g log e)).refused ≡ false
+    refused_step : (x : Event) (seen : ℕ) → seen ≡ sees g log x → (e : ℕ)
+        → (link_after x seen e (out_in g log e)).refused ≡ false
     refused_step (Clear i) seen is = at i (λ e. after_clear seen (out_in g log e).link) (none i)
     refused_step (Claim i) seen is = at i (λ e. after_claim (out_in g log e).pending seen (out_in g log e).link)
         (claimed i (out_in g log i).pending seen is)
@@ -67,7 +68,8 @@ module _ (g : Setting) where
       let before : (e : ℕ) → stop_in g log e ≡ None =
       (λ e. was_open x.event x.seen e (stop_in g log e) (sym (stop_step g x log e) ∙ none e)) in
       let old = unsealed log legal.0 before in (
-        (λ e. ap (λ (t : Tail). t.refused) (link_step g x log e) ∙ refused_step log before old.0 x.event x.seen legal.1.1 e),
+        (λ e. ap (λ (t : Tail). t.refused) (link_step g x log e)
+            ∙ refused_step log before old.0 x.event x.seen legal.1.1 e),
         at_edge (λ _ (s : Part). is_by_seal s.halt ≡ false) (part_of g x.event) (λ v. does g x (part_in g log v))
             (part_in g log) (halt_step log before old.0 old.1 x.event) old.1,
       )

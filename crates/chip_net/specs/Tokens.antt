@@ -112,8 +112,8 @@ IsOfNet g key table = (key ≡ g) × (table.words ≡ word_count g)
 
 -- in the turn that was set up so, the vertex has made these steps, the latest first, and this is its part. `now` is how
 -- the medium stands, with a seat at this table and this trace
-pub record Holds (setup now : TurnSetup) (key : Setting) (table : TableId) (me : Mine) (trace : TraceState) (g : Setting)
-    (v : ℕ) (ds : List Step) (s : Part) : Type 0 where
+pub record Holds (setup now : TurnSetup) (key : Setting) (table : TableId) (me : Mine) (trace : TraceState)
+    (g : Setting) (v : ℕ) (ds : List Step) (s : Part) : Type 0 where
   pub same : now ≡ setup
   pub of_net : IsOfNet now.net.setting key now.net.table
   pub table_is : table ≡ now.net.table

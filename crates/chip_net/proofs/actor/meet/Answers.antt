@@ -1,4 +1,5 @@
-use Rattle.std.proofs.Common.{◌≡◌, ◌≢◌, ℕ, ◌+◌, ◌++◌, List, length, map, take, drop, set, Some, refl, sym, ap, ◌∙◌, subst, arith}
+use Rattle.std.proofs.Common.{◌≡◌, ◌≢◌, ℕ, ◌+◌, ◌++◌, List, length, map, take, drop, set, Some, refl, sym, ap, ◌∙◌}
+use Rattle.std.proofs.Common.{subst, arith}
 use mathlib.Core.Logic.{dite}
 use native.Mathlib.Decide.{ℕ_discrete}
 use Rattle.std.specs.Prelude.{slice_get}
@@ -15,7 +16,8 @@ use Rattle.chip_net.proofs.actor.meet.Goals.{After-lend-arg-1, After-take_back-a
 lends : (c : After-lend-arg-1) → let a = c.deref_mut.result.now in let n = c.loop-index.index in
     (slice_get c.args.actors.now n ≡ Some a) × (set c.loop-index.actors n (seatless a)
     ≡ map seatless (take (n + 1) c.args.actors.now) ++ drop (n + 1) c.args.actors.now)
-lends c = next seatless c.args.actors.now c.loop-index.actors c.loop-index.index c.loop-index.invariant.items (omega arith)
+lends c = next seatless c.args.actors.now c.loop-index.actors c.loop-index.index c.loop-index.invariant.items
+    (omega arith)
     c.deref_mut.result.now c.index-actors-index.result (c.deref_mut.ensures.value ∙ c.actor.view_is)
 
 abbrev lent : After-take_back-arg-1 → List ActorKnown
@@ -24,7 +26,8 @@ lent c = map seatless c.args.actors.now
 takes : (c : After-take_back-arg-1) → let a = c.deref_mut-in-loop-index-2.result.now in let n = c.loop-index-2.index in
     (slice_get (lent c) n ≡ Some a) × (set c.loop-index-2.actors n (at_net c.args.net.now a)
     ≡ map (at_net c.args.net.now) (take (n + 1) (lent c)) ++ drop (n + 1) (lent c))
-takes c = next (at_net c.args.net.now) (lent c) c.loop-index-2.actors c.loop-index-2.index c.loop-index-2.invariant.items
+takes c = next (at_net c.args.net.now) (lent c) c.loop-index-2.actors c.loop-index-2.index
+    c.loop-index-2.invariant.items
     (omega arith) c.deref_mut-in-loop-index-2.result.now c.index-actors-index-in-loop-index-2.result
     (c.deref_mut-in-loop-index-2.ensures.value ∙ c.actor-in-loop-index-2.view_is)
 
@@ -34,7 +37,8 @@ was : (c : After-take_back-arg-1) → (a : ActorKnown) × (slice_get c.args.acto
 was c = map_at seatless c.args.actors.now c.loop-index-2.index c.deref_mut-in-loop-index-2.result.now (takes c).0
 
 vertex_is : (c : After-take_back-arg-1) → c.deref_mut-in-loop-index-2.result.now.vertex ≡ c.loop-index-2.index
-vertex_is c = ap (λ (a : ActorKnown). a.vertex) (was c).2 ∙ (c.requires.actors c.loop-index-2.index (was c).0 (was c).1).1
+vertex_is c = ap (λ (a : ActorKnown). a.vertex) (was c).2 ∙ (c.requires.actors c.loop-index-2.index (was c).0
+    (was c).1).1
 
 pub lend-requires-clause-net : goal.lend-requires-clause-net
 lend-requires-clause-net c = (c.requires.actors c.loop-index.index c.deref_mut.result.now (lends c).0).0

@@ -62,9 +62,10 @@ pub unreachable-requires : goal.unreachable-requires
 unreachable-requires c =
     let d = (goal.at.unreachable-requires c).After-deref_mut in
     no_fault (played d) c.fired.inside.fired.items c.in-Err.field-0
-    (subst (λ (z : ChipGame × List ℕ). IsNegative z.0 z.1 c.in-Err.field-0) (λ j. (game_is d j, c.deref.ensures.value j))
-    (c.in-Err.ensures.cases c.args.actor.net.setting.game.limit))
-    (none_negative c.into_receipt-state.ensures.setting (reading d) c.given.result.now (are d) c.fired.inside.fired.items (fired_is d))
+    (subst (λ (z : ChipGame × List ℕ). IsNegative z.0 z.1 c.in-Err.field-0)
+    (λ j. (game_is d j, c.deref.ensures.value j)) (c.in-Err.ensures.cases c.args.actor.net.setting.game.limit))
+    (none_negative c.into_receipt-state.ensures.setting (reading d) c.given.result.now
+    (are d) c.fired.inside.fired.items (fired_is d))
 
 pub returns : goal.returns
 returns c =
@@ -75,8 +76,10 @@ returns c =
       over = c.fired.inside.over;
       sealed = c.fired.inside.sealed;
     } in
-    let into = with_items_is c.fired.inside.chips c.after_from.new.into (c.after_from.auto.into ∙ c.deref_mut.ensures.len) in
+    let into = with_items_is c.fired.inside.chips c.after_from.new.into
+    (c.after_from.auto.into ∙ c.deref_mut.ensures.len) in
     finishes c.into_receipt-state.ensures.setting (reading d) c.given.result.now (are d) o (fired_is d)
     (ap (λ (t : ReadingsState). t.over) c.fired.view_is) (ap (λ (t : ReadingsState). t.sealed) c.fired.view_is)
     (subst (λ (z : ChipGame × List ℕ × List ℕ). IsAfter z.0 z.1 z.2)
-    (λ j. (game_is d j, c.deref.ensures.value j, sym into j)) (c.in-Ok.ensures.cases c.args.actor.net.setting.game.limit))
+    (λ j. (game_is d j, c.deref.ensures.value j, sym into j))
+    (c.in-Ok.ensures.cases c.args.actor.net.setting.game.limit))

@@ -10,4 +10,5 @@ pub load-requires : goal.load-requires
 load-requires g c = may_step c.requires c.cell_word-cell.ensures Clear refl _
 
 pub returns : goal.returns
-returns g c = serves c.cell_word-cell.ensures Clear refl c.load.result c.load.ensures.2 c.load.ensures.0 refl (keeps_none _)
+returns g c = serves c.cell_word-cell.ensures Clear refl c.load.result c.load.ensures.2 c.load.ensures.0 refl
+    (keeps_none _)

@@ -10,4 +10,5 @@ pub fetch_or-requires : goal.fetch_or-requires
 fetch_or-requires g c = rw c.halt_bits-bits.ensures (may_step c.requires c.fired_word-word.ensures Halt refl _)
 
 pub returns : goal.returns
-returns g c = serves c.fired_word-word.ensures Halt refl c.fetch_or.result c.fetch_or.ensures.2 c.fetch_or.ensures.0 refl (keeps_none _)
+returns g c = serves c.fired_word-word.ensures Halt refl c.fetch_or.result c.fetch_or.ensures.2 c.fetch_or.ensures.0
+    refl (keeps_none _)

@@ -10,4 +10,5 @@ pub swap-count-requires : goal.swap-count-requires
 swap-count-requires g c = may_step c.requires c.cell_word-cell.ensures Take refl _
 
 pub returns : goal.returns
-returns g c = serves c.cell_word-cell.ensures Take refl c.swap-count.result c.swap-count.ensures.2 c.swap-count.ensures.0 c.note_take.ensures.room c.note_take.ensures.keeps
+returns g c = serves c.cell_word-cell.ensures Take refl c.swap-count.result c.swap-count.ensures.2
+    c.swap-count.ensures.0 c.note_take.ensures.room c.note_take.ensures.keeps

@@ -30,7 +30,8 @@ due c =
       mine = refl;
       has = c.self.invariant.0;
       met = met_rules c.self.inside.setting.value (Read c.args.vertex) (root_part (the_view c.self.inside)) (
-        subst (λ (r : RootKnown). c.args.vertex < r.net.setting.game.graph.vertices) (sym c.self.view_is) c.requires.vertex,
+        subst (λ (r : RootKnown). c.args.vertex < r.net.setting.game.graph.vertices)
+            (sym c.self.view_is) c.requires.vertex,
         over.0,
         over.1,
       );
@@ -60,7 +61,8 @@ returns-clause-reads c =
     let g = c.self.inside.setting.value in (
       known_after m c.self.view_is c.load.ensures.0,
       subst (λ (r : RootKnown). SomeLog r.net.setting
-          (λ log. Fits r.net.setting log (saw (Read c.args.vertex) c.load.result) × AgreesWith r log)) c.self.view_is record {
+          (λ log. Fits r.net.setting log (saw (Read c.args.vertex) c.load.result) × AgreesWith r log)) c.self.view_is
+          record {
             log = m.stepped.log;
             legal = m.stepped.legal;
             has = (
@@ -76,5 +78,6 @@ returns-clause-reads c =
 pub returns-clause-word : goal.returns-clause-word
 returns-clause-word c =
     let m = read (goal.at.returns-clause-word c).After-load in
-    fired_word_is c.self.inside.setting.value c.self.invariant.1 m.stepped.log m.stepped.legal c.args.vertex c.load.result
+    fired_word_is c.self.inside.setting.value c.self.invariant.1 m.stepped.log m.stepped.legal c.args.vertex
+    c.load.result
     m.stepped.has.0.1

@@ -48,13 +48,15 @@ apply-requires g c =
 pub invariant_of-self : goal.invariant_of-self
 invariant_of-self g c =
     let d = (goal.at.invariant_of-self g c).After-operate-seen in
-    still_root (due g d) (feeding_mine c.self.inside.setting.value c.args.event (may g d).0).1 c.self.invariant (told g d).0 (told g d).2
+    still_root (due g d) (feeding_mine c.self.inside.setting.value c.args.event (may g d).0).1 c.self.invariant
+    (told g d).0 (told g d).2
     (subst (λ seen. RootMakes c.self.inside.state c.apply.new.self c.args.event seen c.apply.result) (told g d).1
     c.apply.ensures _ _ c.self.invariant.stands)
 
 pub returns : goal.returns
 returns g c =
     let d = (goal.at.returns g c).After-operate-seen in
-    replies (due g d) (feeding_mine c.self.inside.setting.value c.args.event (may g d).0).1 c.self.invariant (told g d).0 (told g d).2
+    replies (due g d) (feeding_mine c.self.inside.setting.value c.args.event (may g d).0).1 c.self.invariant
+    (told g d).0 (told g d).2
     (subst (λ seen. RootMakes c.self.inside.state c.apply.new.self c.args.event seen c.apply.result) (told g d).1
     c.apply.ensures _ _ c.self.invariant.stands) c.self.view_is c.operate-seen.ensures.same

@@ -25,7 +25,8 @@ take_in-requires-clause-part c =
 pub invariant_of-self : goal.invariant_of-self
 invariant_of-self c = subst (λ (m : Mine). IsRoot c.self.inside.setting.value m.0 c.self.inside.state)
     (sym c.take_in.ensures.joined)
-    (takes_back c.self.inside.setting.value (alone_is (goal.at.invariant_of-self c).After-into_seat) c.self.inside.seat.me.0 c.self.invariant)
+    (takes_back c.self.inside.setting.value (alone_is (goal.at.invariant_of-self c).After-into_seat)
+    c.self.inside.seat.me.0 c.self.invariant)
 
 pub returns : goal.returns
 returns c =

@@ -32,23 +32,27 @@ due c = record {
 }
 
 pub fetch_or-before-requires : goal.fetch_or-before-requires
-fetch_or-before-requires c = event_asked (words_at (net_is c) c.words.ensures) (due c) _ c.edge_word-word.ensures Seal refl _ refl _
+fetch_or-before-requires c = event_asked (words_at (net_is c) c.words.ensures)
+    (due c) _ c.edge_word-word.ensures Seal refl _ refl _
 
 told : (c : After-fetch_or-before)
     → Grows c.self.inside.setting.value (Seal c.args.edge) c.self.inside.seat.me c.fetch_or-before.result c.fetch_or-before.new.seat.me
 told c =
     let d = (goal.at.After-fetch_or-before c).After-fetch_or-arg-1 in
-    event_told (words_at (net_is d) c.words.ensures) (due d) _ c.edge_word-word.ensures Seal refl _ _ c.fetch_or-before.ensures.2
+    event_told (words_at (net_is d) c.words.ensures) (due d) _ c.edge_word-word.ensures Seal refl _ _
+    c.fetch_or-before.ensures.2
 
 pub invariant_of-self : goal.invariant_of-self
 invariant_of-self c =
     let d = (goal.at.invariant_of-self c).After-fetch_or-arg-1 in
-    still_stopper (words_at (net_is d) c.words.ensures).setting (due d) (there d) (told (goal.at.invariant_of-self c).After-fetch_or-before) c.self.invariant
+    still_stopper (words_at (net_is d) c.words.ensures).setting (due d) (there d)
+    (told (goal.at.invariant_of-self c).After-fetch_or-before) c.self.invariant
 
 pub returns-clause-cases : goal.returns-clause-cases
 returns-clause-cases c =
     let d = (goal.at.returns-clause-cases c).After-fetch_or-arg-1 in
-    seals (words_at (net_is d) c.words.ensures).setting (due d) (there d) (told (goal.at.returns-clause-cases c).After-fetch_or-before)
+    seals (words_at (net_is d) c.words.ensures).setting (due d) (there d)
+    (told (goal.at.returns-clause-cases c).After-fetch_or-before)
     c.self.view_is c.fetch_or-before.ensures.0
     (record { count = c.from_word-before.result.claims; first = not c.from_word-before.result.sealed })
     c.from_word-before.ensures.claims (ap not c.from_word-before.ensures.sealed)

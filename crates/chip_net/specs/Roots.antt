@@ -189,10 +189,6 @@ abbrev pub settles_from : Setting → ℕ → ℕ → List Event
 settles_from g v zero = []
 settles_from g v (suc n) = settles_from g v n ++ Settle (root_edge g (v + n)) ∷ []
 
--- the events of a poll: a settle of each of the first root edges
-abbrev pub root_settles : Setting → ℕ → List Event
-root_settles g count = settles_from g 0 count
-
 -- the root made these events more
 pub record DoesMore (old now : RootKnown) (events : List Event) : Type 0 where
   pub steps : List Step
@@ -201,7 +197,7 @@ pub record DoesMore (old now : RootKnown) (events : List Event) : Type 0 where
 
 -- settles of the first root edges were made
 abbrev pub IsPolling : RootKnown → RootKnown → ℕ → Type 0
-IsPolling old now count = DoesMore old now (root_settles old.net.setting count)
+IsPolling old now count = DoesMore old now (settles_from old.net.setting 0 count)
 
 -- what a poll answers, by the root after it: without a deficit it runs only where more may be fed
 abbrev pub AnswersPoll : RootKnown → RootState → Type 0

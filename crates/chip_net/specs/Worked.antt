@@ -11,7 +11,7 @@ use Rattle.chip_net.specs.Layout.{index_of, word_count}
 use Rattle.chip_net.specs.Views.{View, find, grow_view, view_without, view_of_one, join_views}
 use Rattle.chip_net.specs.Opening.{first_value}
 use Rattle.chip_net.specs.Traces.{rows_of}
-use Rattle.chip_net.specs.Roots.{root_settles, settles_from, feed_steps}
+use Rattle.chip_net.specs.Roots.{settles_from, feed_steps}
 use Rattle.chip_net.specs.Finish.{reads_from, no_readings, readings_after}
 
 -- four chips on vertex 0, and rings of two cells
@@ -57,7 +57,7 @@ RowsOfATurn =
 -- vertex 2
 abbrev pub RootOfTheTriangle : Type 0
 RootOfTheTriangle =
-    (root_settles two_cells 3 ≡ Settle 4 ∷ Settle 5 ∷ Settle 6 ∷ [])
+    (settles_from two_cells 0 3 ≡ Settle 4 ∷ Settle 5 ∷ Settle 6 ∷ [])
     × (reads_from 0 (2 ∷ 1 ∷ []) ≡ saw (Read 0) 2 ∷ saw (Read 1) 1 ∷ [])
     × (readings_after 0 true false (readings_after 1 true true (readings_after 2 false false (no_readings 3)))
     ≡ record { fired = 2 ∷ 1 ∷ 0 ∷ []; over = 1 ∷ []; sealed = 2 ∷ []; room = 0 })

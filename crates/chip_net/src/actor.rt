@@ -4,7 +4,7 @@ ghost use Rattle.chip_part.specs.Part.{opening_part};
 ghost use Rattle.chip_net.specs.Traces.{rows_of};
 ghost use Rattle.chip_net.specs.Tokens.{ActorKnown, MakesTurn, MakesTurnBy, IsSeated, IsActor, known, newcomer, seatless};
 ghost use Rattle.chip_net.specs.Tokens.{IsOfNet, at_net};
-ghost use Rattle.chip_net.specs.Views.{find, view_without};
+ghost use Rattle.chip_net.specs.Views.{find};
 ghost use Rattle.chip_net.specs.Meeting.{AreInPlace, Met};
 
 use crate::net::Net;
@@ -117,8 +117,8 @@ impl Owned {
         requires seat { seat.old.table_id ≡ net.now.table }
         requires part { find self.old.vertex seat.old.me.0.parts ≡ Some self.old.did }
         ensures back { self.new ≡ at_net net.now self.old }
-        ensures same { (seat.new.table_id ≡ seat.old.table_id)
-            × (seat.new.me.0 ≡ view_without self.old.vertex seat.old.me.0) }
+        ensures same { seat.new.table_id ≡ seat.old.table_id }
+        ensures others { (p : ℕ) → J.part ≢ p → find p seat.new.me.0.parts ≡ find p seat.old.me.0.parts }
     {
         self.seat = net.take_out::<J>(seat);
     }

@@ -1,4 +1,4 @@
-ghost use Rattle.std.specs.Prelude.{◌≡◌, ℕ, ◌<◌, [], IfOk};
+ghost use Rattle.std.specs.Prelude.{◌≡◌, ◌≢◌, ℕ, ◌<◌, [], None, IfOk};
 
 use crate::open::opening_words;
 use crate::rule::{OnePart, PartSeat, SharedWords, TakeIn, TakeOut, WordTable};
@@ -32,7 +32,7 @@ impl Net {
     ghost use Rattle.chip_part.specs.Setting.{IsSetting};
     ghost use Rattle.chip_net.specs.Tokens.{AreWordsOf};
     ghost use Rattle.chip_net.specs.Rule.{Looked};
-    ghost use Rattle.chip_net.specs.Views.{find, Has, opening_view, view_without, IsAlone, join_views, no_parts};
+    ghost use Rattle.chip_net.specs.Views.{find, Has, opening_view, IsAlone, join_views, no_parts};
 
     /// A net for this setting, as it opens, and the seat that has every part.
     pub(crate) fn lay_out(alloc: Global, setting: Setting) -> Result<(Net, PartSeat), AllocError>
@@ -65,7 +65,9 @@ impl Net {
     pub(crate) fn take_out<J: OnePart>(&self, seat: &mut PartSeat) -> PartSeat
         requires seat { seat.old.table_id ≡ self.now.table }
         requires part { Has J.part seat.old.me.0 }
-        ensures kept { (seat.new.table_id ≡ seat.old.table_id) × (seat.new.me.0 ≡ view_without J.part seat.old.me.0) }
+        ensures same { seat.new.table_id ≡ seat.old.table_id }
+        ensures gone { find J.part seat.new.me.0.parts ≡ None }
+        ensures others { (p : ℕ) → J.part ≢ p → find p seat.new.me.0.parts ≡ find p seat.old.me.0.parts }
         ensures given { (result.table_id ≡ seat.old.table_id)
             × (find J.part result.me.0.parts ≡ find J.part seat.old.me.0.parts) }
         ensures alone { IsAlone J.part result.me.0 × (result.me.1 ≡ []) }

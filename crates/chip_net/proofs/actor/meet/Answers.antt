@@ -6,8 +6,8 @@ use Rattle.std.specs.Prelude.{slice_get}
 use Rattle.std.proofs.lemmas.List.{length-map}
 use Rattle.std.proofs.lemmas.Option.{slice_get_within}
 use Rattle.chip_net.specs.Tokens.{NetId, ActorKnown, at_net, seatless}
-use Rattle.chip_net.specs.Views.{View, Mine, find}
-use Rattle.chip_net.proofs.ViewingLemmas.{dropped_else, some_is}
+use Rattle.chip_net.specs.Views.{Mine, find}
+use Rattle.chip_net.proofs.ViewingLemmas.{some_is}
 use Rattle.chip_net.proofs.MeetingLemmas.{same_count, next, all_are, map_at, all_back}
 use Rattle.chip_net.proofs.actor.meet.Goals as goal
 use Rattle.chip_net.proofs.actor.meet.Goals.{After-lend-arg-1, After-take_back-arg-1}
@@ -88,11 +88,9 @@ loop-index-2-preserved c =
     let d = (goal.at.loop-index-2-preserved c).After-take_back-arg-1 in
     let i = c.loop-index-2.invariant in
     let left : (p : ℕ) → c.loop-index-2.index ≢ p
-    → find p c.take_back.new.seat.me.0.parts ≡ find p c.loop-index-2.seat.me.0.parts = (λ p other.
-    ap (λ (v : View). find p v.parts) c.take_back.ensures.same.1
-    ∙ dropped_else c.deref_mut-in-loop-index-2.result.now.vertex p c.loop-index-2.seat.me.0.parts
-    (λ e. other (sym (vertex_is d) ∙ e))) in record {
-      table = c.take_back.ensures.same.0 ∙ i.table;
+    → find p c.take_back.new.seat.me.0.parts ≡ find p c.loop-index-2.seat.me.0.parts =
+    (λ p other. c.take_back.ensures.others p (λ e. other (sym (vertex_is d) ∙ e))) in record {
+      table = c.take_back.ensures.same ∙ i.table;
       items = ap (set c.loop-index-2.actors c.loop-index-2.index) c.take_back.ensures.back ∙ (takes d).1;
       parts = λ v a l at. left v (λ e. omega arith) ∙ i.parts v a (omega arith) at;
       others = λ p l. left p (λ e.

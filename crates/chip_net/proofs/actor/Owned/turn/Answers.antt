@@ -5,6 +5,7 @@ use Rattle.chip_core.specs.Core.{Part}
 use Rattle.chip_net.specs.declared.actor.Turn.{Turn}
 use Rattle.chip_net.specs.Tokens.{NetId, ActorKnown, MakesTurn, MakesTurnBy, known, part_known}
 use Rattle.chip_net.specs.contracts.actor.Owned.{the_view}
+use Rattle.chip_net.proofs.LayingLemmas.{some_words}
 use Rattle.chip_net.proofs.AnsweringLemmas.{own_is, alone_has_part, worked, waiting, idle}
 use Rattle.chip_net.proofs.actor.Owned.turn.Goals as goal
 use Rattle.chip_net.proofs.actor.Owned.turn.Goals.{then-work-gt0, else-work-gt0+then-passive, else-work-gt0+else-passive}
@@ -21,9 +22,7 @@ returns-clause-turn c =
     let here : c.setting.result.now ≡ own.net.setting = c.setting.ensures.value ∙ sym (ap (λ (n : NetId). n.setting) c.requires.net)
     in
     let mine : c.setting.result.now ≡ i.setting.value = here ∙ sym (ap (λ (k : ActorKnown). k.net.setting) c.self.view_is) in
-    let count = c.words.ensures.count in
-    let vertex = c.words.ensures.setting.game.graph_fits.some_vertex in
-    let some : 0 < c.args.net.now.table.words = omega (arith, count, vertex) in
+    let some : 0 < c.args.net.now.table.words = some_words _ c.words.ensures.count c.words.ensures.setting in
     let part = alone_has_part a.vertex seat.table_id seat.me i.knew.value.me c.turn_over-work.ensures.actor.0.alone in
     let then : known seat.table_id c.setting.result.now a.vertex trace.room seat.me.0 ≡ after =
     (λ j. known (sym part.0 j) (mine j) a.vertex trace.room (sym part.1 j).0) in

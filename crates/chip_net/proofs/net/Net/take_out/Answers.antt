@@ -3,7 +3,7 @@ use Rattle.chip_net.specs.Tokens.{NetId}
 use Rattle.chip_net.specs.Views.{find, did_in, IsAlone, Mine}
 use Rattle.chip_net.proofs.LayingLemmas.{some_words}
 use Rattle.chip_net.proofs.SplittingLemmas.{takes_out}
-use Rattle.chip_net.proofs.ViewingLemmas.{taken_alone, alone_has}
+use Rattle.chip_net.proofs.ViewingLemmas.{dropped_here, dropped_else, taken_alone, alone_has}
 use Rattle.chip_net.proofs.net.Net.take_out.Goals as goal
 
 pub split_seat-requires : goal.split_seat-requires
@@ -12,6 +12,14 @@ split_seat-requires g c = (
   some_words _ c.self.invariant.1 c.self.invariant.2,
   takes_out _ _ g.J.OnePart.part _ _ c.requires.part,
 )
+
+pub returns-clause-gone : goal.returns-clause-gone
+returns-clause-gone g c = ap (λ (m : Mine). find g.J.OnePart.part m.0.parts) c.split_seat.ensures.2
+    ∙ dropped_here g.J.OnePart.part c.args.seat.now.me.0.parts
+
+pub returns-clause-others : goal.returns-clause-others
+returns-clause-others g c p other = ap (λ (m : Mine). find p m.0.parts) c.split_seat.ensures.2
+    ∙ dropped_else g.J.OnePart.part p c.args.seat.now.me.0.parts other
 
 pub returns-clause-given : goal.returns-clause-given
 returns-clause-given g c = (

@@ -24,7 +24,7 @@ use Rattle.chip_core.specs.Histories.{done_by, part_by}
 use Rattle.chip_core.specs.Words.{word_to_note}
 use Rattle.chip_core.proofs.NumberLemmas.{root_fits}
 use Rattle.chip_net.specs.Layout.{index_of}
-use Rattle.chip_net.specs.Views.{View, Mine, find, grow_view, did_in, part_of_view, IsAlone, join_views, steps_or_none}
+use Rattle.chip_net.specs.Views.{View, Mine, find, grow_view, did_in, Has, part_of_view, IsAlone, join_views, steps_or_none}
 use Rattle.chip_net.specs.Rule.{Kept, step_of, Stepped, Grows}
 use Rattle.chip_net.specs.Roots.{RootKnown, known_root, root_after, root_part, IsRoot, IsFeeding, IsDueInView, MakesEvent, Replies}
 use Rattle.chip_net.specs.Roots.{settles_from, DoesMore, HoldsNothing, has_ended, new_root, with_stopper}
@@ -134,9 +134,9 @@ noted_is : (g : Setting) (s : Part) (x : Event) (n : ℕ) → word_to_note x n �
 noted_is g s (Put e) n = refl
 noted_is g s x n = refl
 
-pub feeding_due : {g : Setting} {x : Event} {act : operation.Act} (me : Mine) → IsDueInView g me.0 x act
-    → Due g me (root g) x
-feeding_due {g = g} {x = x} me due = record { mine = (feeding_mine g x due.feeding).0; has = due.has; met = due.met }
+pub feeding_due : {g : Setting} {x : Event} (me : Mine) → Has (root g) me.0 → IsFeeding g x
+    → unmet_rule g x (part_of_view g (root g) me.0) ≡ None → Due g me (root g) x
+feeding_due {g = g} {x = x} me has feeding met = record { mine = (feeding_mine g x feeding).0; has = has; met = met }
 
 module _ {net : NetId} {id : TableId} {key : Setting} (words : AreWordsOf net id key) (me : Mine) {x : Event}
     {act : operation.Act} (due : IsDueInView net.setting me.0 x act) {set : Setting} (set_is : set ≡ net.setting)
@@ -152,7 +152,7 @@ module _ {net : NetId} {id : TableId} {key : Setting} (words : AreWordsOf net id
 
   pub feeding_asked : (table ≡ id) × (word < id.words)
       × Allows (Kept key) id.slots seat me word (left_over act) (Grows key x me)
-  feeding_asked = act_asked words (feeding_due me due) (feeding_acts g x due.feeding) act due.needed word
+  feeding_asked = act_asked words (feeding_due me due.has due.feeding due.met) (feeding_acts g x due.feeding) act due.needed word
       (at ∙ ap (λ (h : Setting). index_of h (word_of (root g) act)) set_is) (λ _. x) refl table table_is seat
 
   -- a store tells the same, whatever it found

@@ -10,7 +10,7 @@ use Rattle.chip_net.specs.Tokens.{NetId}
 use Rattle.chip_net.specs.Roots.{RootKnown, IsDueForRoot}
 use Rattle.chip_net.specs.contracts.root_actor.RootActor.{the_view}
 use Rattle.chip_net.proofs.RulingLemmas.{Due}
-use Rattle.chip_net.proofs.RootingLemmas.{feeding_mine, can, still_root, replies}
+use Rattle.chip_net.proofs.RootingLemmas.{feeding_mine, feeding_due, can, still_root, replies}
 use Rattle.chip_net.proofs.root_actor.RootActor.make.Goals as goal
 use Rattle.chip_net.proofs.root_actor.RootActor.make.Goals.{After-operate-seen}
 
@@ -19,11 +19,7 @@ may g c = subst (λ (r : RootKnown). IsDueForRoot r c.args.event) (sym c.self.vi
 
 due : (g : _) (c : After-operate-seen g)
     → Due c.self.inside.setting.value c.self.inside.seat.me (root c.self.inside.setting.value) c.args.event
-due g c = record {
-  mine = (feeding_mine c.self.inside.setting.value c.args.event (may g c).0).0;
-  has = c.self.invariant.has;
-  met = (may g c).1;
-}
+due g c = feeding_due c.self.inside.seat.me c.self.invariant.has (may g c).0 (may g c).1
 
 told : (g : _) (c : After-operate-seen g) → (n : ℕ) × (c.operate-seen.result ≡ word_to_note c.args.event n)
     × Grows c.self.inside.setting.value c.args.event c.self.inside.seat.me n c.operate-seen.new.seat.me

@@ -18,7 +18,7 @@ use Rattle.chip_net.specs.Views.{Mine, did_in, part_of_view}
 use Rattle.chip_net.specs.Rule.{Kept, step_of, Grows}
 use Rattle.chip_net.specs.Traces.{TraceState, Keeps, row_of, rows_of}
 use Rattle.chip_net.specs.Tokens.{TurnSetup, AreWordsOf, Holds}
-use Rattle.chip_net.proofs.LayingLemmas.{owner_of, owner_at, by_word}
+use Rattle.chip_net.proofs.LayingLemmas.{owner_of, by_word}
 use Rattle.chip_net.proofs.ViewingLemmas.{alone_there}
 use Rattle.chip_net.proofs.RulingLemmas.{Due, Made, made, word_of, left_over, vertex_acts, act_word, act_asked}
 use Rattle.chip_net.proofs.RulingLemmas.{act_told}

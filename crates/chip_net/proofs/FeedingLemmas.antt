@@ -1,7 +1,7 @@
 -- Serves Roots.antt.
 -- Feeding: what the root may feed, and the game with all that it fed.
 use Rattle.std.proofs.Common.{◌≡◌, ℕ, ◌+◌, ◌<◌, ◌≤◌, Bool, true, false, not, List, sum, Option, Some, None, refl, sym}
-use Rattle.std.proofs.Common.{ap, ◌∙◌, arith, eqb, leb, le-leb, lt-ltb, ne_eqb, leb-true, true≢false}
+use Rattle.std.proofs.Common.{ap, ◌∙◌, arith, leb, le-leb, lt-ltb, ne_eqb, leb-true, true≢false}
 use Rattle.std.specs.Prelude.{Result, Ok, Err}
 use Rattle.std.proofs.lemmas.Bool.{leb-false, and_from}
 use Rattle.chip_graph.specs.Limits.{max_total}

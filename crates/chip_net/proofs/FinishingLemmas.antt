@@ -1,6 +1,6 @@
 -- Serves Finish.antt, Roots.antt.
 -- What the root makes of its reads.
-use Rattle.std.proofs.Common.{◌≡◌, ℕ, zero, suc, ◌<◌, ◌≤◌, sum, ◌||◌, ◌&&◌, Bool, not, true, false, List, [], ◌∷◌}
+use Rattle.std.proofs.Common.{◌≡◌, ℕ, ◌<◌, ◌≤◌, sum, ◌||◌, ◌&&◌, Bool, not, true, List, []}
 use Rattle.std.proofs.Common.{length, map, get_or, slice_index, Option, Some, None, is_some, Contains, true≢false, refl}
 use Rattle.std.proofs.Common.{sym, ap, ◌∙◌, subst, arith}
 use Rattle.std.specs.List.{range_with_len}
@@ -23,7 +23,7 @@ use Rattle.chip_part.specs.declared.cause.Cause.{Cause}
 use Rattle.chip_part.specs.declared.cause.Cause.TheVariants.{SealedEdge, FiringLimit}
 use Rattle.chip_part.specs.Edges.{root, root_edge}
 use Rattle.chip_part.specs.Part.{Part, opening_part, is_by_limit, AreGiven}
-use Rattle.chip_core.specs.Core.{Log, Step, Read, part_in, word_of_part, IsLegalLog, IsClosed}
+use Rattle.chip_core.specs.Core.{Log, part_in, word_of_part, IsLegalLog, IsClosed}
 use Rattle.chip_core.specs.Laws.{WordsOf}
 use Rattle.chip_core.specs.Headline.{NoneHalted, NoneHaltedBySeal}
 use Rattle.chip_core.specs.Histories.{done_by, part_by}

@@ -1,6 +1,6 @@
 -- Serves Roots.antt, Views.antt.
 -- The root: an event of its own over the net, and a poll of settles.
-use Rattle.std.proofs.Common.{◌≡◌, ℕ, suc, ◌+◌, ◌-◌, ◌<◌, ◌≤◌, true, List, [], ◌∷◌, ◌++◌, Option, Some, None, refl, sym}
+use Rattle.std.proofs.Common.{◌≡◌, ℕ, suc, ◌+◌, ◌-◌, ◌<◌, ◌≤◌, true, List, [], ◌∷◌, ◌++◌, Some, None, refl, sym}
 use Rattle.std.proofs.Common.{ap, ◌∙◌, subst, arith, append_assoc, append-nil}
 use Rattle.std.proofs.lemmas.List.{map-append}
 use Rattle.std.proofs.lemmas.Bool.{le-leb}
@@ -19,7 +19,7 @@ use Rattle.chip_part.proofs.PartLemmas.{at_edge}
 use Rattle.chip_part.proofs.RuleLemmas.{met_rules}
 use Rattle.chip_root.specs.Root.{Root, RootStandsFor, RootCanDo}
 use Rattle.chip_core.specs.Core.{Seal, Read, Step, Event, Clear, Put, Settle, Feed, End}
-use Rattle.chip_core.specs.Core.{Part, Out, Reply, opening_part, does, unmet_rule, part_of, tail_of, reply_of}
+use Rattle.chip_core.specs.Core.{Part, Out, Reply, opening_part, does, unmet_rule, part_of, reply_of}
 use Rattle.chip_core.specs.Histories.{done_by, part_by}
 use Rattle.chip_core.specs.Words.{word_to_note}
 use Rattle.chip_core.proofs.NumberLemmas.{root_fits}
@@ -27,7 +27,7 @@ use Rattle.chip_net.specs.Layout.{index_of}
 use Rattle.chip_net.specs.Views.{View, Mine, find, grow_view, did_in, Has, part_of_view, IsAlone, join_views, steps_or_none}
 use Rattle.chip_net.specs.Rule.{Kept, step_of, Stepped, Grows}
 use Rattle.chip_net.specs.Roots.{RootKnown, known_root, root_after, root_part, IsRoot, IsFeeding, IsDueInView, MakesEvent, Replies}
-use Rattle.chip_net.specs.Roots.{settles_from, DoesMore, HoldsNothing, has_ended, new_root, with_stopper}
+use Rattle.chip_net.specs.Roots.{settles_from, DoesMore, HoldsNothing, has_ended, with_stopper}
 use Rattle.chip_net.specs.Tokens.{NetId, AreWordsOf}
 use Rattle.chip_net.proofs.ViewingLemmas.{part_append, ended_by, joined_here, joined_else}
 use Rattle.chip_net.proofs.RulingLemmas.{Due, Made, made, word_of, left_over, HasAct, act_asked}

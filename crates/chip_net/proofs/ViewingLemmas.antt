@@ -12,10 +12,10 @@ use lib.ListN.{get_elem?}
 use Rattle.chip_graph.proofs.SumLemmas.{cond_yes, cond_no}
 use Rattle.chip_part.specs.Setting.{Setting}
 use Rattle.chip_part.proofs.PartLemmas.{stays_ended}
-use Rattle.chip_core.specs.Core.{Step, Part, opening_part, does}
+use Rattle.chip_core.specs.Core.{Step, Part, does}
 use Rattle.chip_core.specs.Histories.{part_by}
 use Rattle.chip_core.proofs.ReachingLemmas.{part-append}
-use Rattle.chip_net.specs.Views.{History, View, find, grow, grow_view, steps_or_none, did_in, Has, part_of_view}
+use Rattle.chip_net.specs.Views.{History, View, find, grow, grow_view, steps_or_none, did_in, Has}
 use Rattle.chip_net.specs.Views.{drop_part, one_part, view_of_one, parts_below, IsAlone, join_views}
 
 pub some_is : {A : Type 0} (a b : A) → Some a ≡ Some b → a ≡ b

@@ -18,6 +18,7 @@ pub fn worked_nets()
 /// Whatever threads do, words and views are a world that grows by one event at a time from the opening's. What each
 /// part did stands in exactly one view. What the head of an edge has got is a prefix of what its tail put, and nothing
 /// is sent after a seal. So what the core proves of every log holds of a running net between any two steps.
+#[tactic(auto, using(crate::proofs::ReachingLemmas::every_moment))]
 pub fn every_moment()
     ensures { EveryMomentIsReached }
 {}

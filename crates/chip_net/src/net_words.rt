@@ -32,6 +32,7 @@ pub(crate) struct NetWords<'net, J> {
     pub(crate) of: PhantomData<J>,
 }
 
+#[tactic(auto, using(crate::proofs::ActingLemmas::may_word))]
 impl<'net, J: Turning> Medium for NetWords<'net, J> {
     ghost use Rattle.chip_net.specs.Tokens.{Holds};
 

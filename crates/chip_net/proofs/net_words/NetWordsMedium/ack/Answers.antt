@@ -1,10 +1,7 @@
 use Rattle.std.proofs.Common.{refl}
 use Rattle.chip_core.specs.Core.{Ack}
-use Rattle.chip_net.proofs.ActingLemmas.{may_word, may_step, serves, keeps_none}
+use Rattle.chip_net.proofs.ActingLemmas.{may_step, serves, keeps_none}
 use Rattle.chip_net.proofs.net_words.NetWordsMedium.ack.Goals as goal
-
-pub acks_word-acks-requires : goal.acks_word-acks-requires
-acks_word-acks-requires g c = may_word c.requires
 
 pub fetch_add-requires : goal.fetch_add-requires
 fetch_add-requires g c = may_step c.requires c.acks_word-acks.ensures Ack refl _

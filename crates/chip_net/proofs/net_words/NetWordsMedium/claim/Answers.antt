@@ -1,10 +1,7 @@
 use Rattle.std.proofs.Common.{refl}
 use Rattle.chip_core.specs.Core.{Claim}
-use Rattle.chip_net.proofs.ActingLemmas.{may_word, may_step, serves, keeps_none}
+use Rattle.chip_net.proofs.ActingLemmas.{may_step, serves, keeps_none}
 use Rattle.chip_net.proofs.net_words.NetWordsMedium.claim.Goals as goal
-
-pub edge_word-word-requires : goal.edge_word-word-requires
-edge_word-word-requires g c = may_word c.requires
 
 pub compare_exchange-requires : goal.compare_exchange-requires
 compare_exchange-requires g c = may_step c.requires c.edge_word-word.ensures Claim refl _

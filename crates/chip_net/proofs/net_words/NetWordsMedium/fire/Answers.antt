@@ -1,10 +1,7 @@
 use Rattle.std.proofs.Common.{refl}
 use Rattle.chip_core.specs.Core.{Fire}
-use Rattle.chip_net.proofs.ActingLemmas.{may_word, may_step, serves}
+use Rattle.chip_net.proofs.ActingLemmas.{may_step, serves}
 use Rattle.chip_net.proofs.net_words.NetWordsMedium.fire.Goals as goal
-
-pub fired_word-word-requires : goal.fired_word-word-requires
-fired_word-word-requires g c = may_word c.requires
 
 pub fetch_add-before-requires : goal.fetch_add-before-requires
 fetch_add-before-requires g c = may_step c.requires c.fired_word-word.ensures (λ u. Fire u c.args.k) refl _

@@ -1,10 +1,7 @@
 use Rattle.std.proofs.Common.{refl}
 use Rattle.chip_core.specs.Core.{Halt}
-use Rattle.chip_net.proofs.ActingLemmas.{may_word, may_step, serves, keeps_none}
+use Rattle.chip_net.proofs.ActingLemmas.{may_step, serves, keeps_none}
 use Rattle.chip_net.proofs.net_words.NetWordsMedium.halt.Goals as goal
-
-pub fired_word-word-requires : goal.fired_word-word-requires
-fired_word-word-requires g c = may_word c.requires
 
 pub fetch_or-requires : goal.fetch_or-requires
 fetch_or-requires g c = rw c.halt_bits-bits.ensures (may_step c.requires c.fired_word-word.ensures Halt refl _)

@@ -1,10 +1,7 @@
 use Rattle.std.proofs.Common.{refl}
 use Rattle.chip_core.specs.Core.{Put}
-use Rattle.chip_net.proofs.ActingLemmas.{may_word, may_step, serves, keeps_none}
+use Rattle.chip_net.proofs.ActingLemmas.{may_step, serves, keeps_none}
 use Rattle.chip_net.proofs.net_words.NetWordsMedium.put.Goals as goal
-
-pub cell_word-cell-requires : goal.cell_word-cell-requires
-cell_word-cell-requires g c = may_word c.requires
 
 pub store-requires : goal.store-requires
 store-requires g c = may_step c.requires c.cell_word-cell.ensures Put refl _

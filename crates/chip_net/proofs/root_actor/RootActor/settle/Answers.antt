@@ -5,7 +5,6 @@ use Rattle.chip_core.specs.Words.{of_acks}
 use Rattle.chip_net.specs.Layout.{index_of}
 use Rattle.chip_net.specs.Views.{part_of_view}
 use Rattle.chip_net.specs.Rule.{Grows}
-use Rattle.chip_net.specs.Tokens.{NetId}
 use Rattle.chip_net.specs.Roots.{RootKnown}
 use Rattle.chip_net.specs.contracts.root_actor.RootActor.{the_view}
 use Rattle.chip_net.proofs.RulingLemmas.{Due, words_at, event_asked, event_told}

@@ -24,7 +24,8 @@ use Rattle.chip_core.specs.Histories.{done_by, part_by}
 use Rattle.chip_core.specs.Words.{word_to_note}
 use Rattle.chip_core.proofs.NumberLemmas.{root_fits}
 use Rattle.chip_net.specs.Layout.{index_of}
-use Rattle.chip_net.specs.Views.{View, Mine, find, grow_view, did_in, Has, part_of_view, IsAlone, join_views, steps_or_none}
+use Rattle.chip_net.specs.Views.{View, Mine, find, grow_view, did_in, Has, part_of_view, IsAlone, join_views}
+use Rattle.chip_net.specs.Views.{steps_or_none}
 use Rattle.chip_net.specs.Rule.{Kept, step_of, Stepped, Grows}
 use Rattle.chip_net.specs.Roots.{RootKnown, known_root, root_after, root_part, IsRoot, IsFeeding, IsDueInView, MakesEvent, Replies}
 use Rattle.chip_net.specs.Roots.{settles_from, DoesMore, HoldsNothing, has_ended, with_stopper}
@@ -152,7 +153,8 @@ module _ {net : NetId} {id : TableId} {key : Setting} (words : AreWordsOf net id
 
   pub feeding_asked : (table ≡ id) × (word < id.words)
       × Allows (Kept key) id.slots seat me word (left_over act) (Grows key x me)
-  feeding_asked = act_asked words (feeding_due me due.has due.feeding due.met) (feeding_acts g x due.feeding) act due.needed word
+  feeding_asked = act_asked words (feeding_due me due.has due.feeding due.met)
+      (feeding_acts g x due.feeding) act due.needed word
       (at ∙ ap (λ (h : Setting). index_of h (word_of (root g) act)) set_is) (λ _. x) refl table table_is seat
 
   -- a store tells the same, whatever it found

@@ -28,7 +28,8 @@ impl Model for Readings {
       room = length a.chips.items - length a.fired.items;
     } };
 
-    ghost invariant = { λ a. (length a.fired.items ≤ length a.chips.items) × (length a.chips.items ≤ vec_capacity a.fired)
+    ghost invariant = { λ a. (length a.fired.items ≤ length a.chips.items)
+        × (length a.chips.items ≤ vec_capacity a.fired)
         × (length a.over.items ≤ length a.fired.items) × (length a.chips.items ≤ vec_capacity a.over)
         × (length a.sealed.items ≤ length a.fired.items) × (length a.chips.items ≤ vec_capacity a.sealed) };
 }

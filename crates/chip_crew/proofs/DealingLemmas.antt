@@ -1,9 +1,7 @@
 -- Serves Dealing.antt, Rounds.antt.
 -- Where the run of a worker begins and ends, and what its turns leave of it.
-use Rattle.std.proofs.Common.{◌^◌, ◌≡◌, ℕ, zero, suc, ◌+◌, ◌*◌, ◌%◌, ◌<◌, ◌≤◌, ◌-◌, ◌==◌, max, Bool, true, false, if◌then◌else◌, List, [], ◌∷◌, length}
-use Rattle.std.proofs.Common.{Option, Some, None, take, length-append, length-take}
-use Rattle.std.proofs.Common.{get_or, set, refl, sym, ap, ◌∙◌, subst, arith, add-one, zero-add, mul-lt-mul_of_pos_right}
-use Rattle.std.proofs.Common.{mul_comm, le_antisymm}
+use Rattle.std.proofs.Common.{◌^◌, ◌≡◌, ℕ, zero, suc, ◌+◌, ◌*◌, ◌%◌, ◌<◌, ◌≤◌, ◌-◌, ◌==◌, max, List, length, Option, Some}
+use Rattle.std.proofs.Common.{None, take, get_or, set, length-take, refl, sym, ap, ◌∙◌, subst, arith, add-one, zero-add}
 use Rattle.std.specs.Prelude.{slice_get}
 use Rattle.std.proofs.lemmas.Nat.{mul-le}
 use Rattle.std.proofs.Math.Nat.{mod-add-mod, mod-eq_of_lt}
@@ -12,8 +10,8 @@ use mathlib.Core.Logic.{dite}
 use native.Mathlib.Decide.{ℕ_discrete, dec_lt}
 use Rattle.std.proofs.lemmas.Option.{slice_get_read, slice_get_past, slice_get_within, get_or_from_slice_get}
 use Rattle.std.proofs.lemmas.List.Sums.{sum_by-set}
-use Rattle.chip_graph.specs.Sums.{filter_below}
-use Rattle.chip_graph.specs.Multigraph.{Multigraph, edge_at, edges_out, edges_in}
+use Rattle.chip_graph.specs.Multigraph.{Multigraph, edge_at}
+use Rattle.chip_part.proofs.PickedLemmas.{length-picked}
 use Rattle.chip_net.specs.Tokens.{ActorKnown, MakesTurn}
 use Rattle.chip_net.specs.declared.actor.Turn.{Turn}
 use Rattle.chip_crew.specs.Crew.{CrewId, Turned, IsOurs, IsAt, AreFrom, turns_of, all_turns}
@@ -24,91 +22,47 @@ use Rattle.chip_crew.specs.Asked.{Asked, passes}
 use Rattle.chip_crew.proofs.TurnLemmas.{turn_counts}
 use Rattle.chip_crew.proofs.RunLemmas.{from_at, from_set, from_take, from_all}
 
--- at most so many are picked
-one_at_most : (b : Bool) (n : ℕ) → length (if b then n ∷ [] else []) ≤ 1
-one_at_most true n = omega arith
-one_at_most false n = omega arith
-
-pub few_picked : (test : ℕ → Bool) (n : ℕ) → length (filter_below test n) ≤ n
-few_picked test zero = omega arith
-few_picked test (suc n) =
-    let both = length-append (filter_below test n) (if test n then n ∷ [] else []) in
-    let one = one_at_most (test n) n in let before = few_picked test n in omega (arith, both, one, before)
-
 -- few ends of edges are at a vertex
 pub few_ends : (G : Multigraph) (v : ℕ) → length G.edges ≤ 2 ^ 23 → ends_at G v ≤ (2 ^ 24 + 1)
-few_ends G v few =
-    let outs = few_picked (λ e. (edge_at G e).tail == v) (length G.edges) in
-    let ins = few_picked (λ e. (edge_at G e).head == v) (length G.edges) in omega (arith, few, outs, ins)
-
-no_more : (v w : ℕ) → (w < v → ⊥) → v ≤ w
-no_more v w less = omega (arith, less)
+few_ends G v few = let outs = length-picked (λ e. (edge_at G e).tail == v) (length G.edges) in
+    let ins = length-picked (λ e. (edge_at G e).head == v) (length G.edges) in omega arith
 
 module _ (G : Multigraph) where
   -- each vertex has an end of an edge
-  one_more : (n a b : ℕ) → n < n + (a + b + 1)
-  one_more n a b = omega arith
-
-  pub ends_grow : (v w : ℕ) → v < w → ends_before G v < ends_before G w
-  ends_grow v zero less = absurd (omega (arith, less))
-  ends_grow v (suc w) less =
-      let more : ends_before G w < ends_before G (suc w) =
-      one_more (ends_before G w) (length (edges_out G w)) (length (edges_in G w)) in
-      dite (ℕ_discrete v w)
-      (λ same. subst (λ (u : ℕ). ends_before G u < ends_before G (suc w)) (sym same) more)
-      (λ other. let below = ends_grow v w (omega (arith, less, other)) in omega (arith, below, more))
+  ends_grow : (v w : ℕ) → v < w → ends_before G v < ends_before G w
+  ends_grow v zero less = absurd (omega arith)
+  ends_grow v (suc w) less = dite (ℕ_discrete v w) (λ same. let here = ap (ends_before G) same in omega arith)
+      (λ other. let below = ends_grow v w (omega arith) in omega arith)
 
   module _ (workers : ℕ) where
     -- the first worker begins at vertex 0
     pub cut_first : (v : ℕ) → IsCut G workers 0 v → v ≡ 0
     cut_first zero cut = refl
-    cut_first (suc v) cut = let below = cut.least 0 (omega arith) in absurd (omega (arith, below))
+    cut_first (suc v) cut = let below = cut.least 0 (omega arith) in absurd (omega arith)
 
     -- a worker begins at one vertex
     not_less : (worker v w : ℕ) → IsCut G workers worker v → IsCut G workers worker w → v < w → ⊥
-    not_less worker v w cut other less = let below = other.least v less in let reached = cut.reached in
-        absurd (omega (arith, below, reached))
+    not_less worker v w cut other less = let below = other.least v less in omega arith
 
     pub cut_same : (worker v w : ℕ) → IsCut G workers worker v → IsCut G workers worker w → v ≡ w
-    cut_same worker v w cut other = le_antisymm (no_more v w (λ less. not_less worker w v other cut less))
-        (no_more w v (λ less. not_less worker v w cut other less))
-
-    -- it is a vertex, or the number of all
-    pub cut_within : (worker v : ℕ) → worker ≤ workers → IsCut G workers worker v → v ≤ G.vertices
-    cut_within worker v few cut = no_more v G.vertices (λ less.
-        let below = cut.least G.vertices less in
-        let share = mul-le worker (ends_before G G.vertices) workers (ends_before G G.vertices) few (omega arith) in
-        absurd (omega (arith, below, share)))
+    cut_same worker v w cut other =
+        let one = not_less worker v w cut other in let two = not_less worker w v other cut in omega arith
 
     -- after the last worker there is no vertex
     pub cut_last : (v : ℕ) → 0 < workers → IsCut G workers workers v → v ≡ G.vertices
-    cut_last v some cut = le_antisymm (cut_within workers v (omega arith) cut) (no_more G.vertices v (λ less.
-        let grown = ends_grow v G.vertices less in
-        let more = mul-lt-mul_of_pos_right grown some in
-        let turned = mul_comm workers (ends_before G v) in
-        let turned_all = mul_comm workers (ends_before G G.vertices) in
-        let reached = cut.reached in
-        absurd (omega (arith, more, turned, turned_all, reached))))
+    cut_last v some cut =
+        let past : G.vertices < v → ⊥ = λ less. (let below = cut.least G.vertices less in omega arith) in
+        let short : v < G.vertices → ⊥ = λ less. (let more = mul-le workers (suc (ends_before G v)) workers
+        (ends_before G G.vertices) (omega arith) (ends_grow v G.vertices less) in omega arith) in omega arith
 
-    -- the next worker begins there or behind
-    pub cut_grows : (worker v w : ℕ) → IsCut G workers worker v → IsCut G workers (worker + 1) w → v ≤ w
-    cut_grows worker v w cut next = no_more v w (λ less.
-        let below = cut.least w less in let reached = next.reached in
-        let share = mul-le worker (ends_before G G.vertices) (worker + 1) (ends_before G G.vertices) (omega arith)
-        (omega arith) in
-        absurd (omega (arith, below, reached, share)))
-
-    -- so one goes on from there to the first vertex of the next
+    -- one goes on from the first vertex of a worker to that of the next
     pub cut_next : (worker v w share ends : ℕ) → IsCut G workers worker v
         → share ≡ (worker + 1) * ends_before G G.vertices → ends ≡ ends_before G w → share ≤ workers * ends
         → ((u : ℕ) → v ≤ u → u < w → workers * ends_before G u < share) → IsCut G workers (worker + 1) w
     cut_next worker v w share ends cut is at reached least = record {
-      reached = subst (λ (z : ℕ × ℕ). z.0 ≤ workers * z.1) (λ i. (is i, at i)) reached;
-      least = λ u less. subst (λ (n : ℕ). workers * ends_before G u < n) is (dite (dec_lt u v)
-          (λ before. let below = cut.least u before in
-          let more = mul-le worker (ends_before G G.vertices) (worker + 1) (ends_before G G.vertices) (omega arith)
-          (omega arith) in omega (arith, below, more, is))
-          (λ after. least u (omega (arith, after)) less));
+      reached = (let same = ap (λ (n : ℕ). workers * n) at in omega arith);
+      least = λ u less. dite (dec_lt u v) (λ before. let below = cut.least u before in omega arith)
+          (λ after. let below = least u (omega arith) less in omega arith);
     }
 
 -- ---- turns
@@ -126,58 +80,32 @@ still_ours crew old new answer makes ours =
       turned = subst (λ (n : ℕ). Turned n new) (sym (turn_counts old new answer makes)) (old, answer, ours.turned, makes);
     }
 
-still_at : (crew : CrewId) (v : ℕ) (old new : ActorKnown) (answer : Turn) → MakesTurn old new answer → IsAt crew v old
-    → IsAt crew v new
-still_at crew v old new answer makes here = (
-  still_ours crew old new answer makes here.0,
-  ap (λ (a : ActorKnown). a.vertex) makes.record_is ∙ here.1,
+-- a turn leaves as many actors as there were, and is one turn at most
+turn_leaves : (place : ℕ) (next : Option ActorKnown) (old new : List ActorKnown) → slice_get old place ≡ next
+    → TurnsThere place next old new → (length new ≡ length old) × (all_turns new ≤ all_turns old + 1)
+turn_leaves place None old new at same = (ap length same, (let all = ap all_turns same in omega arith))
+turn_leaves place (Some next) old new at turns = (
+  ap length turns.3 ∙ length-set old place turns.0,
+  (let all = ap all_turns turns.3 in let one = turn_counts next turns.0 turns.1 turns.2 in
+      let both = sum_by-set turns_of old place turns.0 next (slice_get_within old place next at) in
+      let was = ap turns_of (get_or_from_slice_get old place next next at) in omega arith),
 )
 
 turned : (crew : CrewId) (from place : ℕ) (old new : List ActorKnown) (next : Option ActorKnown)
     → slice_get old place ≡ next → TurnsThere place next old new → AreFrom crew from old → AreFrom crew from new
 turned crew from place old new None at same all = subst (AreFrom crew from) (sym same) all
 turned crew from place old new (Some next) at turns all =
-    subst (AreFrom crew from) (sym turns.3) (from_set (IsAt crew) from place old turns.0 all
-    (still_at crew (from + place) next turns.0 turns.1 turns.2 (from_at (IsAt crew) from place old next all at)))
-
-as_many_there : (place : ℕ) (next : Option ActorKnown) (old new : List ActorKnown) → TurnsThere place next old new
-    → length new ≡ length old
-as_many_there place None old new same = ap length same
-as_many_there place (Some next) old new turns = ap length turns.3 ∙ length-set old place turns.0
-
--- a turn leaves as many actors as there were
-pub as_many : (place : ℕ) (old new : List ActorKnown) → TurnsAt place old new → length new ≡ length old
-as_many place old new turns = as_many_there place (slice_get old place) old new turns
-
--- after one turn more they are the worker's still
-pub still_of : (crew : CrewId) (worker place : ℕ) (old new : List ActorKnown) → TurnsAt place old new
-    → AreOf crew worker old → AreOf crew worker new
-still_of crew worker place old new turns are =
-    record {
-      from = are.from;
-      is_first = are.is_first;
-      is_next = subst (λ (n : ℕ). IsCut crew.net.setting.game.graph crew.workers (suc worker) (are.from + n))
-          (sym (as_many place old new turns)) are.is_next;
-      each = turned crew are.from place old new (slice_get old place) refl turns are.each;
-    }
-
--- in so many turns no more turns are made
-turns_there : (place : ℕ) (next : Option ActorKnown) (old new : List ActorKnown) → slice_get old place ≡ next
-    → TurnsThere place next old new → all_turns new ≤ all_turns old + 1
-turns_there place None old new at same = let all = ap all_turns same in omega (arith, all)
-turns_there place (Some next) old new at turns =
-    let all = ap all_turns turns.3 in
-    let both = sum_by-set turns_of old place turns.0 next (slice_get_within old place next at) in
-    let was = ap turns_of (get_or_from_slice_get old place next next at) in
-    let one = turn_counts next turns.0 turns.1 turns.2 in omega (arith, all, both, was, one)
+    let here = from_at (IsAt crew) from place old next all at in
+    subst (AreFrom crew from) (sym turns.3) (from_set (IsAt crew) from place old turns.0 all (
+      still_ours crew next turns.0 turns.1 turns.2 here.0,
+      ap (λ (a : ActorKnown). a.vertex) turns.2.record_is ∙ here.1,
+    ))
 
 pub rounds_turns : (passes : ℕ → Type 0) (k : ℕ) (first now : List ActorKnown) → RoundsMade passes k first now
     → all_turns now ≤ all_turns first + k
-rounds_turns passes zero first now same = let all = ap all_turns same in omega (arith, all)
-rounds_turns passes (suc k) first now made =
-    let old = rounds_turns passes k first made.0 made.1 in
-    let one = turns_there (k % max 1 (length made.0)) (slice_get made.0 (k % max 1 (length made.0))) made.0 now refl made.3 in
-    omega (arith, old, one)
+rounds_turns passes zero first now same = let all = ap all_turns same in omega arith
+rounds_turns passes (suc k) first now made = let old = rounds_turns passes k first made.0 made.1 in
+    let one = turn_leaves (k % max 1 (length made.0)) _ made.0 now refl made.3 in omega arith
 
 -- ---- turns in a row
 
@@ -213,7 +141,13 @@ dealt_turn asked worker m k before now made begins less pass turn =
     let next : suc (m + k) ≡ m + (k + 1) = omega arith in
     let place : (m + k) % max 1 (length before) ≡ k = place_is m k (max 1 (length before)) begins less in (
       made.0,
-      still_of asked.crew worker k before now turn made.1,
+      record {
+        from = made.1.from;
+        is_first = made.1.is_first;
+        is_next = subst (λ (n : ℕ). IsFirstOf asked.crew (suc worker) (made.1.from + n))
+            (sym (turn_leaves k _ before now refl turn).0) made.1.is_next;
+        each = turned asked.crew made.1.from k before now _ refl turn made.1.each;
+      },
       (
         made.2.0,
         made.2.1,
@@ -224,36 +158,16 @@ dealt_turn asked worker m k before now made begins less pass turn =
 
 -- ---- dealing
 
--- where the next worker begins
-pub record Follows (crew : CrewId) (worker first next count : ℕ) : Type 0 where
-  pub behind : first ≤ next
-  pub within : next ≤ crew.net.setting.game.graph.vertices
-  pub some : next - first ≤ count
-  pub is_next : IsFirstOf crew (worker + 1) next
-
-pub follows : (crew : CrewId) (G : Multigraph) (workers worker first next count : ℕ) → G ≡ crew.net.setting.game.graph
-    → workers ≡ crew.workers → worker < workers → IsFirstOf crew worker first
-    → first + count ≡ crew.net.setting.game.graph.vertices → IsCut G workers (worker + 1) next
-    → Follows crew worker first next count
-follows crew G workers worker first next count same few less is_first whole cut =
-    let graph = crew.net.setting.game.graph in
-    let is_next = subst (λ (z : Multigraph × ℕ). IsCut z.0 z.1 (worker + 1) next) (λ i. (same i, few i)) cut in
-    let behind = cut_grows graph crew.workers worker first next is_first is_next in
-    let within = cut_within graph crew.workers (worker + 1) next (omega (arith, less, few)) is_next in
-    record { behind = behind; within = within; some = omega (arith, behind, within, whole); is_next = is_next }
-
 -- the first ones of those that are left are the worker's
 pub are_of : (crew : CrewId) (worker first next : ℕ) (actors own : List ActorKnown) → IsFirstOf crew worker first
-    → Follows crew worker first next (length actors) → AreFrom crew first actors → own ≡ take (next - first) actors
-    → AreOf crew worker own
-are_of crew worker first next actors own is_first step are is =
-    let count : length own ≡ next - first = ap length is ∙ length-take (next - first) actors
-    ∙ (let some = step.some in omega (arith, some)) in
-    let behind = step.behind in
-    let end : next ≡ first + length own = omega (arith, count, behind) in
+    → IsFirstOf crew (worker + 1) next → first ≤ next → next ≤ first + length actors → AreFrom crew first actors
+    → own ≡ take (next - first) actors → AreOf crew worker own
+are_of crew worker first next actors own is_first is_next behind some are is =
+    let count = ap length is in let taken = length-take (next - first) actors in
+    let end : next ≡ first + length own = omega arith in
     record {
       from = first;
       is_first = is_first;
-      is_next = subst (λ (z : ℕ × ℕ). IsFirstOf crew z.0 z.1) (λ i. (add-one worker i, end i)) step.is_next;
+      is_next = subst (λ (z : ℕ × ℕ). IsFirstOf crew z.0 z.1) (λ i. (add-one worker i, end i)) is_next;
       each = subst (AreFrom crew first) (sym is) (from_take (IsAt crew) first (next - first) actors are);
     }

@@ -1,13 +1,13 @@
 -- Serves Feeding.antt.
 -- What feeds, polls and the end leave of the root: what was fed, what may be fed still, and whether the end is noted.
-use Rattle.std.proofs.Common.{◌≡◌, ◌==◌, ℕ, zero, suc, ◌+◌, ◌-◌, ◌%◌, ◌<◌, Bool, true, false, List, [], ◌∷◌, ◌++◌, map}
+use Rattle.std.proofs.Common.{◌≡◌, ◌==◌, ℕ, zero, suc, ◌+◌, ◌-◌, ◌%◌, ◌<◌, Bool, true, false, List, [], ◌∷◌, ◌++◌}
 use Rattle.std.proofs.Common.{Some, None, All, sum, refl, sym, ap, ◌∙◌, subst, arith, append-nil, append_assoc, ⊎_elim}
 use Rattle.std.proofs.lemmas.List.Elements.{All-tail}
 use Rattle.std.proofs.lemmas.List.Sums.{sum_by-append}
 use Rattle.chip_graph.specs.More.{all_brought}
 use Rattle.chip_part.specs.Setting.{Setting}
-use Rattle.chip_part.specs.Steps.{ended_after, does, saw}
-use Rattle.chip_core.specs.Core.{Step, Event, Clear, Settle, Part, opening_part, root_edge, graph_edges}
+use Rattle.chip_part.specs.Steps.{does, saw}
+use Rattle.chip_core.specs.Core.{Step, Event, Clear, Settle, End, Part, opening_part, root_edge, graph_edges}
 use Rattle.chip_core.specs.Histories.{part_by}
 use Rattle.chip_core.specs.Positions.{fed_of, fed_in}
 use Rattle.chip_net.specs.Tokens.{NetId}
@@ -15,49 +15,50 @@ use Rattle.chip_net.specs.declared.poll.RootState.{RootState}
 use Rattle.chip_net.specs.Roots.{RootKnown, root_part, root_after, has_ended, fed_by, all_given, Feeds, LooksInVain}
 use Rattle.chip_net.specs.Roots.{feed_steps, settles_from, IsPolling, Ends}
 use Rattle.chip_net.proofs.ViewingLemmas.{part_append}
-use Rattle.chip_crew.proofs.OwningLemmas.{true_or_false}
 use Rattle.chip_crew.specs.Feeding.{Left, pairs, MayFeed, MayFeedLeft, FeedsNext, EndsAfter, FeedsOnce, PollsIf, IsLed}
+use Rattle.chip_crew.specs.Sealing.{events_of}
 
--- ---- events of the root
+-- ---- settles
 
--- whether the end is noted after these events
-abbrev noted_after : Bool → List Event → Bool
-noted_after b [] = b
-noted_after b (x ∷ xs) = noted_after (ended_after x b) xs
+abbrev pub IsSettle : Event → Type 0
+IsSettle (Settle e) = Unit {0}
+IsSettle _ = ⊥
 
-noted_append : (b : Bool) (xs ys : List Event) → noted_after b (xs ++ ys) ≡ noted_after (noted_after b xs) ys
-noted_append b [] ys = refl
-noted_append b (x ∷ xs) ys = noted_append (ended_after x b) xs ys
+abbrev pub AreSettles : List Event → Type 0
+AreSettles [] = Unit {0}
+AreSettles (x ∷ xs) = IsSettle x × AreSettles xs
 
--- what these events feed
-abbrev fed_events : Setting → List Event → List (ℕ × ℕ)
-fed_events g [] = []
-fed_events g (x ∷ xs) = fed_of g x ++ fed_events g xs
+settles_both : (xs ys : List Event) → AreSettles xs → AreSettles ys → AreSettles (xs ++ ys)
+settles_both [] ys one other = other
+settles_both (x ∷ xs) ys one other = (one.0, settles_both xs ys one.1 other)
 
 module _ (g : Setting) where
-  noted_settles : (b : Bool) (v n : ℕ) → noted_after b (settles_from g v n) ≡ b
-  noted_settles b v zero = refl
-  noted_settles b v (suc n) = noted_append b (settles_from g v n) (Settle (root_edge g (v + n)) ∷ [])
-      ∙ noted_settles b v n
+  pub are_settles : (from n : ℕ) → AreSettles (settles_from g from n)
+  are_settles from zero = tt
+  are_settles from (suc n) = settles_both (settles_from g from n) (Settle (root_edge g (from + n)) ∷ [])
+      (are_settles from n) (tt, tt)
 
-  fed_append : (xs ys : List Event) → fed_events g (xs ++ ys) ≡ fed_events g xs ++ fed_events g ys
-  fed_append [] ys = refl
-  fed_append (x ∷ xs) ys = ap (λ (l : List (ℕ × ℕ)). fed_of g x ++ l) (fed_append xs ys)
-      ∙ sym (append_assoc (fed_of g x) (fed_events g xs) (fed_events g ys))
+  -- they feed nothing, and leave whether the end is noted
+  settle_leaves : (x : Event) (seen : ℕ) (s : Part) → IsSettle x
+      → (fed_of g x ≡ []) × ((does g (saw x seen) s).ended ≡ s.ended)
+  settle_leaves (Settle e) seen s is = (refl, refl)
+  settle_leaves _ seen s is = absurd is
 
-  fed_settles : (v n : ℕ) → fed_events g (settles_from g v n) ≡ []
-  fed_settles v zero = refl
-  fed_settles v (suc n) = fed_append (settles_from g v n) (Settle (root_edge g (v + n)) ∷ [])
-      ∙ append-nil (fed_events g (settles_from g v n)) ∙ fed_settles v n
+  settles_leave : (s : Part) (xs : List Step) → AreSettles (events_of xs)
+      → (fed_in g xs ≡ []) × ((part_by g s xs).ended ≡ s.ended)
+  settles_leave s [] are = (refl, refl)
+  settles_leave s (x ∷ xs) are =
+      let here = settle_leaves x.event x.seen s are.0 in let rest = settles_leave (does g x s) xs are.1 in
+      (λ i. here.0 i ++ rest.0 i, rest.1 ∙ here.1)
 
-  part_ended : (s : Part) (xs : List Step)
-      → (part_by g s xs).ended ≡ noted_after s.ended (map (λ (x : Step). x.event) xs)
-  part_ended s [] = refl
-  part_ended s (x ∷ xs) = part_ended (does g x s) xs
-
-  fed_is : (xs : List Step) → fed_in g xs ≡ fed_events g (map (λ (x : Step). x.event) xs)
-  fed_is [] = refl
-  fed_is (x ∷ xs) = ap (λ (l : List (ℕ × ℕ)). fed_of g x.event ++ l) (fed_is xs)
+  -- so does the end, with the settles behind it
+  end_feeds : (s : Part) (xs : List Step) (rest : List Event) → events_of xs ≡ End ∷ rest → AreSettles rest
+      → fed_in g xs ≡ []
+  end_feeds s [] rest is are = absurd (cc)
+  end_feeds s (x ∷ xs) rest is are =
+      let first : x.event ≡ End = cc in let others : rest ≡ events_of xs = cc in
+      let after = settles_leave s xs (subst AreSettles others are) in
+      (λ i. ap (fed_of g) first i ++ after.0 i)
 
   fed_steps : (xs ys : List Step) → fed_in g (xs ++ ys) ≡ fed_in g xs ++ fed_in g ys
   fed_steps [] ys = refl
@@ -73,45 +74,44 @@ pub record Adds (old new : RootKnown) (more : List (ℕ × ℕ)) (ended : Bool) 
   pub fed : fed_by new ≡ fed_by old ++ more
   pub ended_is : has_ended new ≡ ended
 
-adds_steps : (old new : RootKnown) (steps : List Step) (xs : List Event) (more : List (ℕ × ℕ)) (ended : Bool)
-    → new ≡ root_after old steps → map (λ (x : Step). x.event) steps ≡ xs → noted_after (has_ended old) xs ≡ ended
-    → fed_events old.net.setting xs ≡ more → Adds old new more ended
-adds_steps old new steps xs more ended is events_are noted feeds =
-    let g : Setting = old.net.setting in
-    let after : RootKnown = root_after old steps in
-    let ended_is : has_ended after ≡ ended =
-    ap (λ (s : Part). s.ended) (part_append g (opening_part g) old.did steps) ∙ part_ended g (root_part old) steps
-    ∙ ap (noted_after (has_ended old)) events_are ∙ noted in
-    let fed : fed_by after ≡ fed_by old ++ more = fed_steps g old.did steps
-    ∙ ap (λ (l : List (ℕ × ℕ)). fed_by old ++ l) (fed_is g steps ∙ ap (fed_events g) events_are ∙ feeds) in
-    subst (λ (r : RootKnown). Adds old r more ended) (sym is)
-    (record { net = refl; stopper = refl; fed = fed; ended_is = ended_is })
+adds_steps : (old new : RootKnown) (steps : List Step) (more : List (ℕ × ℕ)) (ended : Bool) → new ≡ root_after old steps
+    → (part_by old.net.setting (root_part old) steps).ended ≡ ended → fed_in old.net.setting steps ≡ more
+    → Adds old new more ended
+adds_steps old new steps more ended is noted feeds =
+    let g = old.net.setting in
+    subst (λ (r : RootKnown). Adds old r more ended) (sym is) (record {
+      net = refl;
+      stopper = refl;
+      fed = fed_steps g old.did steps ∙ ap (λ (l : List (ℕ × ℕ)). fed_by old ++ l) feeds;
+      ended_is = ap (λ (s : Part). s.ended) (part_append g (opening_part g) old.did steps) ∙ noted;
+    })
 
 -- a poll feeds nothing
 pub poll_adds : (old new : RootKnown) (n : ℕ) → IsPolling old new n → Adds old new [] (has_ended old)
-poll_adds old new n polling = adds_steps old new polling.steps _ [] (has_ended old) polling.record_is
-    polling.events_are (noted_settles old.net.setting (has_ended old) 0 n) (fed_settles old.net.setting 0 n)
+poll_adds old new n polling =
+    let leaves = settles_leave old.net.setting (root_part old) polling.steps
+    (subst AreSettles (sym polling.events_are) (are_settles old.net.setting 0 n)) in
+    adds_steps old new polling.steps [] (has_ended old) polling.record_is leaves.1 leaves.0
 
 -- nor does a look in vain
 look_adds : (old new : RootKnown) (v : ℕ) → LooksInVain old new v → Adds old new [] (has_ended old)
-look_adds old new v looks =
-    adds_steps old new (saw (Clear (root_edge old.net.setting v)) looks.seen ∷ []) _ []
-    (has_ended old) looks.record_is refl refl refl
+look_adds old new v looks = adds_steps old new (saw (Clear (root_edge old.net.setting v)) looks.seen ∷ []) []
+    (has_ended old) looks.record_is refl refl
 
 -- nor the end
 end_adds : (old new : RootKnown) (answer : RootState) → Ends old new answer → Adds old new [] true
 end_adds old new answer ends =
-    let g : Setting = old.net.setting in
-    adds_steps old new ends.ending.steps _ [] true ends.ending.record_is ends.ending.events_are
-    (noted_settles g true 1 (g.game.graph.vertices - 1)) (fed_settles g 1 (g.game.graph.vertices - 1))
+    let g = old.net.setting in let steps = ends.ending.steps in
+    adds_steps old new steps [] true ends.ending.record_is
+    (sym (ap (λ (s : Part). s.ended) (part_append g (opening_part g) old.did steps)) ∙ ap has_ended (sym ends.ending.record_is)
+    ∙ ends.ended) (end_feeds g (root_part old) steps _ ends.ending.events_are (are_settles g 1 (g.game.graph.vertices - 1)))
 
 -- a feed feeds what it says
 feed_adds : (old new : RootKnown) (v k place : ℕ) → Feeds old new v k place
     → Adds old new ((v, k) ∷ []) (has_ended old)
 feed_adds old new v k place feeds =
-    let g : Setting = old.net.setting in
-    let back : root_edge g v - graph_edges g ≡ v = omega arith in
-    adds_steps old new (feed_steps g v k place) _ ((v, k) ∷ []) (has_ended old) feeds.record_is refl refl
+    let g = old.net.setting in let back : root_edge g v - graph_edges g ≡ v = omega arith in
+    adds_steps old new (feed_steps g v k place) ((v, k) ∷ []) (has_ended old) feeds.record_is refl
     (ap (λ (w : ℕ). (w, k) ∷ []) back)
 
 -- ---- what may be fed still
@@ -120,22 +120,18 @@ all_right : {X : Type 0} (P : X → Type 0) (xs ys : List X) → All P (xs ++ ys
 all_right P [] ys all = all
 all_right P (x ∷ xs) ys all = all_right P xs ys (All-tail P x (xs ++ ys) all)
 
-all_brought_both : (xs ys : List (ℕ × ℕ)) → all_brought (xs ++ ys) ≡ all_brought xs + all_brought ys
-all_brought_both xs ys = sum_by-append (λ (p : ℕ × ℕ). p.1) xs ys
-
 may_after : (old new : RootKnown) (more left : List (ℕ × ℕ)) → Adds old new more (has_ended old)
     → MayFeed old (more ++ left) → MayFeed new left
 may_after old new more left adds may =
-    let given : all_given new ≡ all_given old + all_brought more =
-    ap (λ (n : NetId). sum n.setting.game.start + all_brought (fed_by new)) adds.net
-    ∙ ap (λ (l : List (ℕ × ℕ)). sum old.net.setting.game.start + all_brought l) adds.fed
-    ∙ ap (λ (n : ℕ). sum old.net.setting.game.start + n) (all_brought_both (fed_by old) more) ∙ omega arith in
-    let both : all_brought (more ++ left) ≡ all_brought more + all_brought left = all_brought_both more left in
+    let fits = λ (n : NetId) (p : ℕ × ℕ). (p.0 < n.setting.game.graph.vertices) × (0 < p.1) in
+    let given = ap (λ (z : NetId × List (ℕ × ℕ)). sum z.0.setting.game.start + all_brought z.1)
+    (λ i. (adds.net i, adds.fed i)) in
+    let fed = sum_by-append (λ (p : ℕ × ℕ). p.1) (fed_by old) more in
+    let both = sum_by-append (λ (p : ℕ × ℕ). p.1) more left in
     record {
       not_ended = adds.ended_is ∙ may.not_ended;
-      each = subst (λ (n : NetId). All (λ (p : ℕ × ℕ). (p.0 < n.setting.game.graph.vertices) × (0 < p.1)) left)
-          (sym adds.net) (all_right (λ (p : ℕ × ℕ). (p.0 < old.net.setting.game.graph.vertices) × (0 < p.1)) more left may.each);
-      within = omega (arith, may.within, given, both);
+      each = subst (λ (n : NetId). All (fits n) left) (sym adds.net) (all_right (fits old.net) more left may.each);
+      within = (let within = may.within in omega arith);
     }
 
 -- the root went on feeding: of what was left some was fed, in order, and the others are left and may be fed
@@ -146,12 +142,11 @@ pub record GoesOn (feeds left : Left) (old new : RootKnown) : Type 0 where
   pub may : MayFeedLeft old feeds → MayFeedLeft new left
 
 stays : (feeds left : Left) (old new : RootKnown) → left ≡ feeds → new ≡ old → GoesOn feeds left old new
-stays feeds left old new same is = subst (λ (l : Left). GoesOn feeds l old new) (sym same)
-    (subst (λ (r : RootKnown). GoesOn feeds feeds old r) (sym is)
-    (record { net = refl; stopper = refl; fed = refl; may = λ may. may }))
+stays feeds left old new same is = subst (λ (z : Left × RootKnown). GoesOn feeds z.0 old z.1)
+    (λ i. (sym same i, sym is i)) (record { net = refl; stopper = refl; fed = refl; may = λ may. may })
 
-goes_on : (a b c : Left) (x y z : RootKnown) → GoesOn a b x y → GoesOn b c y z → GoesOn a c x z
-goes_on a b c x y z first last = record {
+goes_on : {a b c : Left} {x y z : RootKnown} → GoesOn a b x y → GoesOn b c y z → GoesOn a c x z
+goes_on first last = record {
   net = last.net ∙ first.net;
   stopper = last.stopper ∙ first.stopper;
   fed = last.fed ∙ first.fed;
@@ -207,8 +202,8 @@ end_goes_on (pair ∷ rest) left old new ends = stays (Some (pair ∷ rest)) lef
 pub once_goes_on : (feeds left : Left) (old new : RootKnown) → FeedsOnce feeds left old new
     → GoesOn feeds left old new
 once_goes_on None left old new once = stays None left old new once.0 once.1
-once_goes_on (Some feeds) left old new once = goes_on (Some feeds) (Some once.0) left old once.1 new
-    (next_goes_on feeds once.0 old once.1 once.2) (end_goes_on once.0 left once.1 new once.3)
+once_goes_on (Some feeds) left old new once =
+    goes_on (next_goes_on feeds once.0 old once.1 once.2) (end_goes_on once.0 left once.1 new once.3)
 
 -- a poll that is made where it is due leaves what is left
 if_goes_on : (due : Bool) (left : Left) (old new : RootKnown) → PollsIf due old new → GoesOn left left old new
@@ -219,12 +214,11 @@ if_goes_on false left old new same = stays left left old new refl same
 pub led_goes_on : (round k : ℕ) (feeds left : Left) (old now : RootKnown) → IsLed round k feeds old left now
     → GoesOn feeds left old now
 led_goes_on round zero feeds left old now led = stays feeds left old now led.0 led.1
-led_goes_on round (suc k) feeds left old now led =
-    goes_on feeds led.0 left old led.1 now (led_goes_on round k feeds led.0 old led.1 led.3)
-    (goes_on led.0 left left led.1 led.2 now (once_goes_on led.0 left led.1 led.2 led.4)
-    (if_goes_on (suc k % round == 0) left led.2 now led.5))
+led_goes_on round (suc k) feeds left old now (rest, before, fed, led, once, polls) =
+    goes_on (led_goes_on round k feeds rest old before led)
+    (goes_on (once_goes_on rest left before fed once) (if_goes_on (suc k % round == 0) left fed now polls))
 
 -- a root that is closed has nothing left to feed
 pub over_has_fed : (left : Left) (root : RootKnown) → MayFeedLeft root left → has_ended root ≡ true → left ≡ None
 over_has_fed None root may ended = refl
-over_has_fed (Some left) root may ended = absurd (true_or_false (has_ended root) ended may.not_ended)
+over_has_fed (Some left) root may ended = absurd (cc)

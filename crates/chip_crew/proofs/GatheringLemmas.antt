@@ -1,119 +1,114 @@
 -- Serves Gathering.antt.
 -- What the calling thread gathers from the queue are the actors of all vertices, and sorted they are in order.
-use Rattle.std.proofs.Common.{◌≡◌, ◌==◌, ℕ, zero, suc, ◌+◌, ◌*◌, ◌<◌, ◌≤◌, ⊎_elim, List, [], ◌∷◌, length, map, get_or, All}
-use Rattle.std.proofs.Common.{refl, sym, ap, ◌∙◌, subst, arith, eq-eqb, eq-or-lt_of_le}
-use Rattle.std.specs.Prelude.{⊤}
+use Rattle.std.proofs.Common.{◌≡◌, ◌==◌, ℕ, zero, suc, ◌+◌, ◌*◌, ◌<◌, ◌≤◌, List, [], ◌∷◌, ◌++◌, length, map, get_or, All}
+use Rattle.std.proofs.Common.{refl, sym, ap, ◌∙◌, subst, arith, length-append}
 use Rattle.std.specs.Global.{Vec}
 use Rattle.std.specs.Vec.{vec_capacity}
 use Rattle.std.specs.List.Sorted.{IsPermutation, IsNonDecreasingBy}
-use Rattle.std.proofs.lemmas.List.{length-map}
-use Rattle.std.proofs.lemmas.List.Elements.{All-head, All-tail, All-nil}
+use Rattle.std.proofs.lemmas.List.{length-map, map-append}
+use Rattle.std.proofs.lemmas.List.Elements.{All-head, All-tail, All-nil, All-append}
 use Rattle.std.proofs.lemmas.List.Sorted.{All-permutation, sum_by-IsPermutation}
+use Rattle.std.proofs.lemmas.List.Sums.{sum_by-cons, sum_by-append, sum_by-le, get_or-le-sum_by}
+use Rattle.chip_graph.proofs.SumLemmas.{cond_yes, cond_no}
 use Rattle.chip_net.specs.Tokens.{ActorKnown}
 use Rattle.chip_crew.specs.Asked.{Asked}
-use Rattle.chip_crew.specs.Crew.{CrewId, IsOurs, AreFrom, AreActors, all_turns}
+use Rattle.chip_crew.specs.Crew.{CrewId, IsOurs, AreFrom, AreActors, turns_of, all_turns}
+use Rattle.chip_crew.specs.Ledger.{got_turns, gave_turns}
 use Rattle.chip_crew.specs.Places.{times, actors_of, HasNothing, AreAllThere}
 use Rattle.chip_crew.specs.Gathering.{AreGathered, IsGatheringFor}
 use Rattle.chip_crew.specs.declared.queue.Ledger.{Ledger}
-use Rattle.chip_crew.proofs.PlacesLemmas.{one_where, times_cons, times_else, actors_cons}
+use Rattle.chip_crew.proofs.PlacesLemmas.{is_it, is_of}
 use Rattle.chip_crew.proofs.RunLemmas.{in_order}
+
+abbrev pub vertices_of : List ActorKnown → List ℕ
+vertices_of row = map (λ a. a.vertex) row
 
 -- no worker has handed anything back
 pub gathers_none : (asked : Asked) (l : Ledger) (row : Vec ActorKnown) → HasNothing l → l.workers ≡ 0 → row.items ≡ []
     → asked.crew.net.setting.game.graph.vertices ≤ vec_capacity row → IsGatheringFor asked 0 l row
 gathers_none asked l row nothing none empty room = record {
   speaks = none;
-  has = nothing.0 ∙ sym (ap (map (λ (a : ActorKnown). a.vertex)) empty);
+  has = nothing.0 ∙ sym (ap vertices_of empty);
   ours = subst (All (IsOurs asked.crew)) (sym empty) (All-nil (IsOurs asked.crew));
   room = room;
-  turns = (let all = ap all_turns empty in let gave = nothing.2 in omega (arith, all, gave));
+  turns = (let all = ap all_turns empty in omega arith);
+}
+
+-- these actors came to the row
+pub gathers_more : (asked : Asked) (old new : Ledger) (row now : Vec ActorKnown) (more : List ActorKnown) (m n : ℕ)
+    → IsGatheringFor asked m old row → now.items ≡ row.items ++ more → All (IsOurs asked.crew) more
+    → asked.crew.net.setting.game.graph.vertices ≤ vec_capacity now → new.workers ≡ n
+    → new.has ≡ old.has ++ vertices_of more
+    → all_turns more + gave_turns new + got_turns old + m * asked.plan.turns
+    ≤ gave_turns old + got_turns new + n * asked.plan.turns → IsGatheringFor asked n new now
+gathers_more asked old new row now more m n gathers is ours room speaks has turns = record {
+  speaks = speaks;
+  has = has ∙ ap (λ (vs : List ℕ). vs ++ vertices_of more) gathers.has
+      ∙ sym (ap vertices_of is ∙ map-append (λ (a : ActorKnown). a.vertex) row.items more);
+  ours = subst (All (IsOurs asked.crew)) (sym is) (All-append (IsOurs asked.crew) row.items more gathers.ours ours);
+  room = room;
+  turns = (let old_turns = gathers.turns in let all = ap all_turns is in let both = sum_by-append turns_of row.items more in
+      omega arith);
 }
 
 -- ---- all of them
 
-vertices_of : (v : ℕ) (row : List ActorKnown) → times v (map (λ (a : ActorKnown). a.vertex) row) ≡ actors_of v row
-vertices_of v [] = refl
-vertices_of v (a ∷ rest) = omega (
-  arith,
-  times_cons v a.vertex (map (λ (b : ActorKnown). b.vertex) rest),
-  actors_cons v a rest,
-  vertices_of v rest,
-)
+times_same : (v : ℕ) (row : List ActorKnown) → times v (vertices_of row) ≡ actors_of v row
+times_same v [] = refl
+times_same v (a ∷ rest) = let one = sum_by-cons (is_it v) a.vertex (vertices_of rest) in
+    let other = sum_by-cons (is_of v) a rest in let same = times_same v rest in omega arith
 
 -- where the queue is empty
-module _ (asked : Asked) (l : Ledger) (row : Vec ActorKnown) (gathers : IsGatheringFor asked asked.crew.workers l row)
-    (there : AreAllThere asked.crew l []) where
-  pub gathered : AreGathered asked.crew row.items
-  gathered = record {
-    ours = gathers.ours;
-    count = (let count = (there gathers.speaks).0 in let has = ap length gathers.has in
-        let same = length-map row.items (λ (a : ActorKnown). a.vertex) in
-        omega (arith, count, has, same));
-    once = λ v less. let one = (there gathers.speaks).2 v less in let has = ap (times v) gathers.has in
-        let same = vertices_of v row.items in omega (arith, one, has, same);
-  }
-
-  pub turns_gathered : all_turns row.items ≤ asked.crew.workers * asked.plan.turns
-  turns_gathered = let turns = gathers.turns in let same = (there gathers.speaks).1 in omega (arith, turns, same)
+pub gathered : (asked : Asked) (l : Ledger) (row : Vec ActorKnown) → IsGatheringFor asked asked.crew.workers l row
+    → AreAllThere asked.crew l []
+    → AreGathered asked.crew row.items × (all_turns row.items ≤ asked.crew.workers * asked.plan.turns)
+gathered asked l row gathers there =
+    let all = there gathers.speaks in let has = ap length gathers.has in let turns = gathers.turns in
+    let same = length-map row.items (λ (a : ActorKnown). a.vertex) in (
+      record {
+        ours = gathers.ours;
+        count = omega arith;
+        once = λ v less. (let one = all.2 v less in let had = ap (times v) gathers.has in
+            let read = times_same v row.items in omega arith);
+      },
+      omega arith,
+    )
 
 -- ---- in order
 
--- none of them is of a vertex below this one, or below that of the one before it
-abbrev Rises : ℕ → List ActorKnown → Type 0
-Rises least [] = ⊤
-Rises least (a ∷ rest) = (least ≤ a.vertex) × Rises a.vertex rest
+-- where all are of greater vertices none is of this one
+none_below : (v : ℕ) (xs : List ActorKnown) → All (λ a. v < a.vertex) xs → actors_of v xs ≡ 0
+none_below v xs all = let none = sum_by-le (is_of v) 0 xs (λ k d less. let above = all k d less in
+    let other = cond_no {A = ℕ} (get_or xs k d).vertex v 1 0 (omega arith) in omega arith) in omega arith
 
-rises : (least : ℕ) (xs : List ActorKnown) → IsNonDecreasingBy (λ (a : ActorKnown). a.vertex) xs
-    → ((d : ActorKnown) → 0 < length xs → least ≤ (get_or xs 0 d).vertex) → Rises least xs
-rises least [] up first = tt
-rises least (a ∷ rest) up first = (
-  first a (omega arith),
-  rises a.vertex rest (λ i j d le less. up (suc i) (suc j) d (omega (arith, le)) (omega (arith, less)))
-      (λ d some. up zero (suc zero) d (omega arith) (omega (arith, some))),
-)
-
-none_below : (v least : ℕ) (xs : List ActorKnown) → v < least → Rises least xs → actors_of v xs ≡ 0
-none_below v least [] less up = refl
-none_below v least (a ∷ rest) less up =
-    let first = up.0 in
-    let other = times_else a.vertex v (λ same. omega (arith, less, first, same)) in
-    omega (arith, actors_cons v a rest, other, none_below v a.vertex rest (omega (arith, less, first)) up.1)
-
-one_here : (v : ℕ) (a : ActorKnown) → a.vertex ≡ v → one_where (a.vertex == v) ≡ 1
-one_here v a same = ap one_where (eq-eqb a.vertex v same)
-
-above : (v : ℕ) (xs : List ActorKnown) → Rises v xs → actors_of v xs ≡ 0 → Rises (suc v) xs
-above v [] up none = tt
-above v (a ∷ rest) up none = ⊎_elim
-    (λ (same : v ≡ a.vertex). absurd (omega (arith, none, actors_cons v a rest, one_here v a (sym same))))
-    (λ (less : v < a.vertex). (omega (arith, less), up.1))
-    (eq-or-lt_of_le up.0)
-
-are_from : (crew : CrewId) (from : ℕ) (xs : List ActorKnown) → All (IsOurs crew) xs → Rises from xs
+-- sorted, with each vertex once, they are of consecutive vertices
+are_from : (crew : CrewId) (from : ℕ) (xs : List ActorKnown) → All (IsOurs crew) xs
+    → IsNonDecreasingBy (λ (a : ActorKnown). a.vertex) xs → All (λ a. from ≤ a.vertex) xs
     → ((v : ℕ) → from ≤ v → v < from + length xs → actors_of v xs ≡ 1) → AreFrom crew from xs
-are_from crew from [] ours up once = tt
-are_from crew from (a ∷ rest) ours up once =
+are_from crew from [] ours up least once = tt
+are_from crew from (a ∷ rest) ours up least once =
     let one = once from (omega arith) (omega arith) in
-    let here : a.vertex ≡ from = ⊎_elim (λ (same : from ≡ a.vertex). sym same)
-    (λ (less : from < a.vertex). absurd (let none = none_below from a.vertex (a ∷ rest) less (omega arith, up.1) in
-    omega (arith, one, none))) (eq-or-lt_of_le up.0) in
-    let none : actors_of from rest ≡ 0 = omega (arith, one, actors_cons from a rest, one_here from a here) in (
+    let both = sum_by-cons (is_of from) a rest in
+    let first = least 0 a (omega arith) in
+    let above : from < a.vertex → ⊥ = λ less. (let none = none_below from (a ∷ rest) (λ k d within.
+    let rises = up 0 k d (omega arith) within in omega arith) in omega arith) in
+    let here : a.vertex ≡ from = omega arith in
+    let mine = cond_yes {A = ℕ} a.vertex from 1 0 here in (
       (All-head (IsOurs crew) a rest ours, here),
       are_from crew (suc from) rest (All-tail (IsOurs crew) a rest ours)
-          (above from rest (subst (λ (n : ℕ). Rises n rest) here up.1) none)
-          (λ v least less. let was = once v (omega (arith, least)) (omega (arith, less)) in
-          let other = times_else a.vertex v (λ same. omega (arith, same, here, least)) in
-          omega (arith, was, actors_cons v a rest, other)),
+          (λ i j d le less. up (suc i) (suc j) d (omega arith) (omega arith))
+          (λ k d less. let some = get_or-le-sum_by (is_of from) rest k d less in let le = least (suc k) d (omega arith) in
+          let other : (get_or rest k d).vertex ≡ from → ⊥ = λ same.
+          (let yes = cond_yes {A = ℕ} (get_or rest k d).vertex from 1 0 same in omega arith) in omega arith)
+          (λ v le less. let was = once v (omega arith) (omega arith) in let all = sum_by-cons (is_of v) a rest in
+          let other = cond_no {A = ℕ} a.vertex v 1 0 (omega arith) in omega arith),
     )
 
 pub sorted_actors : (crew : CrewId) (xs ys : List ActorKnown) → AreGathered crew xs → IsPermutation xs ys
     → length ys ≡ length xs → IsNonDecreasingBy (λ (a : ActorKnown). a.vertex) ys → AreActors crew ys
-sorted_actors crew xs ys all moves same up =
-    let count = all.count in
-    record {
-      count = same ∙ count;
-      order = in_order crew ys (are_from crew 0 ys (All-permutation (IsOurs crew) xs ys moves all.ours)
-          (rises 0 ys up (λ d some. omega arith))
-          (λ v least less. sum_by-IsPermutation (λ (a : ActorKnown). one_where (a.vertex == v)) xs ys moves
-          ∙ all.once v (omega (arith, less, same, count))));
-    }
+sorted_actors crew xs ys all moves same up = record {
+  count = same ∙ all.count;
+  order = in_order crew ys (are_from crew 0 ys (All-permutation (IsOurs crew) xs ys moves all.ours) up
+      (λ k d less. omega arith)
+      (λ v least less. sum_by-IsPermutation (is_of v) xs ys moves ∙ all.once v (let count = all.count in omega arith)));
+}

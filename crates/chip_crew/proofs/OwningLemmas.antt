@@ -2,15 +2,11 @@
 -- The actors of a net that opens are the crew's, and stay so.
 use Rattle.std.proofs.lemmas.List.Sums.{sum_by-cons}
 use Rattle.std.proofs.lemmas.Option.{same_Some, slice_get_within}
-use Rattle.std.proofs.Common.{◌≡◌, ◌+◌, ◌<◌, ℕ, Bool, true, false, List, length, Some, ◌∙◌, refl, sym, subst, arith, suc, [], ◌∷◌, ap}
+use Rattle.std.proofs.Common.{◌≡◌, ◌+◌, ◌<◌, ℕ, List, length, Some, ◌∙◌, refl, sym, subst, arith, suc, [], ◌∷◌, ap}
 use Rattle.std.specs.Prelude.{slice_get}
 use Rattle.chip_net.specs.Tokens.{ActorKnown, newcomer, NetId}
 use Rattle.chip_crew.specs.Crew.{CrewId, IsAt, AreFrom, turns_of, all_turns}
 use Rattle.chip_crew.proofs.RunLemmas.{from_each}
-
--- a test is not both
-pub true_or_false : (b : Bool) → b ≡ true → b ≡ false → ⊥
-true_or_false b is isnt = absurd (cc)
 
 pub ours_by : (crew : CrewId) (n : ℕ) (actors : List ActorKnown) → crew.net.setting.game.graph.vertices ≡ n
     → length actors ≡ n → ((v : ℕ) → v < n → slice_get actors v ≡ Some (newcomer crew.net crew.room v))
@@ -34,7 +30,8 @@ each_new : (actors : List ActorKnown) → ((v : ℕ) (a : ActorKnown) → slice_
     → all_turns actors ≡ 0
 each_new [] each = refl
 each_new (a ∷ rest) each =
-    omega (arith, sum_by-cons turns_of a rest, each 0 a refl, each_new rest (λ v b at. each (suc v) b at))
+    let both = sum_by-cons turns_of a rest in let one = each 0 a refl in
+    let none = each_new rest (λ v b at. each (suc v) b at) in omega arith
 
 pub new_turns : (net : NetId) (room : ℕ) (actors : List ActorKnown)
     → ((v : ℕ) → v < length actors → slice_get actors v ≡ Some (newcomer net room v)) → all_turns actors ≡ 0

@@ -13,22 +13,16 @@ use Rattle.chip_crew.proofs.DealingLemmas.{cut_first}
 
 -- so many turns make a round of worker 0
 pub first_round : {B : Type 0} (asked : Asked) (turns : ℕ) (h : Share B) → HasMade asked 0 turns h
-    → IsRound asked.crew (round_of h)
+    → IsRound asked.crew (round_of h) × (0 < round_of h)
 first_round asked turns (share.Queue queue pass kept) made =
-    subst (λ (s : Sharing). IsRoundBy asked.crew s 1) (sym made.0) refl
+    (subst (λ (s : Sharing). IsRoundBy asked.crew s 1) (sym made.0) refl, omega arith)
 first_round asked turns (share.Dealt d) made =
     let zero_is = cut_first asked.crew.net.setting.game.graph asked.crew.workers made.1.from made.1.is_first in
-    let from_zero : made.1.from + length d.items ≡ length d.items = omega (arith, zero_is) in
-    subst (λ (s : Sharing). IsRoundBy asked.crew s (max 1 (length d.items)))
-    (sym made.0) (
-      length d.items,
-      subst (IsFirstOf asked.crew 1) from_zero made.1.is_next,
-      refl,
+    let from_zero : made.1.from + length d.items ≡ length d.items = omega arith in (
+      subst (λ (s : Sharing). IsRoundBy asked.crew s (max 1 (length d.items))) (sym made.0)
+          (length d.items, subst (IsFirstOf asked.crew 1) from_zero made.1.is_next, refl),
+      omega arith,
     )
-
-pub round_some : {B : Type 0} (h : Share B) → 0 < round_of h
-round_some (share.Queue queue pass kept) = omega arith
-round_some (share.Dealt d) = omega arith
 
 -- what a worker hands back that made its turns and did its duties
 pub has_worked : {B D : Type 0} (asked : Asked) (can : NetId → D → Type 0) (before : ℕ → D → D → Type 0)

@@ -1,14 +1,13 @@
 -- What worker 0 does beside its turns.
-use Rattle.std.specs.Prelude.{◌≡◌, ℕ, ◌<◌, ◌≤◌, Bool, true, false, IfSome}
+use Rattle.std.specs.Prelude.{◌≡◌, ℕ, ◌<◌, ◌≤◌, Bool, true, false}
 use Rattle.std.specs.Option.{option_copied}
-use Rattle.chip_part.specs.Edges.{graph_edges}
 use Rattle.chip_net.specs.Tokens.{NetId}
 use Rattle.chip_net.specs.Roots.{IsPolling, IsOver}
 use Rattle.chip_crew.specs.Asked.{Asked, root_of}
 use Rattle.chip_crew.specs.Dealing.{IsRound}
 use Rattle.chip_crew.specs.Duties.{Serves}
 use Rattle.chip_crew.specs.Feeding.{MayFeedLeft, FeedsOnce}
-use Rattle.chip_crew.specs.Sealing.{SealsBefore, HasSealed}
+use Rattle.chip_crew.specs.Sealing.{MaySeal, SealsBefore, HasSealed}
 use Rattle.chip_crew.specs.declared.leader.Leader.{Leader}
 
 -- root and stopper are of this net, the root may feed what is left, what is to be sealed is an edge of the graph, and a
@@ -16,7 +15,7 @@ use Rattle.chip_crew.specs.declared.leader.Leader.{Leader}
 pub record CanLead (net : NetId) (leader : Leader) : Type 0 where
   pub net_is : leader.root.net ≡ net
   pub may : MayFeedLeft leader.root (option_copied leader.feeds)
-  pub seal : IfSome leader.seal (λ s. (s.0.net ≡ net) × (s.1.edge < graph_edges net.setting))
+  pub seal : MaySeal net leader.seal
   pub closed : leader.is_closed ≡ true → IsOver leader.root
 
 -- the stopper sealed what is due before this turn, and the root fed what it could

@@ -1,20 +1,16 @@
 -- What a worker does with its actors.
-use Rattle.std.specs.Prelude.{◌≡◌, ℕ, zero, suc, ◌+◌, ◌-◌, List, [], ◌∷◌, ◌++◌, drop, Option, Some, None}
+use Rattle.std.specs.Prelude.{◌≡◌, ℕ, zero, suc, ◌+◌, ◌-◌, List, [], ◌∷◌, ◌++◌, drop, map, Option, Some, None, option_to_list}
+use Rattle.std.specs.List.{range_with_len}
 use Rattle.chip_net.specs.Tokens.{ActorKnown, MakesTurn}
 use Rattle.chip_net.specs.declared.actor.Turn.{Turn}
-use Rattle.chip_crew.specs.Crew.{CrewId, turns_of, all_turns}
+use Rattle.chip_crew.specs.Crew.{CrewId, all_turns}
 use Rattle.chip_crew.specs.declared.queue.Ledger.{Ledger}
-
--- so many numbers, from this one on
-abbrev pub numbers_from : ℕ → ℕ → List ℕ
-numbers_from from zero = []
-numbers_from from (suc k) = from ∷ numbers_from (suc from) k
 
 -- the calling thread's, before there is a worker: it speaks for all workers, and has all actors
 abbrev pub first_ledger : CrewId → Ledger
 first_ledger crew = record {
   workers = crew.workers;
-  has = numbers_from 0 crew.net.setting.game.graph.vertices;
+  has = range_with_len 0 crew.net.setting.game.graph.vertices;
   taken = [];
   put = [];
 }
@@ -62,13 +58,11 @@ gave_turns l = all_turns l.put
 
 -- the turns of this actor, where there is one
 abbrev pub kept_turns : Option ActorKnown → ℕ
-kept_turns None = 0
-kept_turns (Some a) = turns_of a
+kept_turns kept = all_turns (option_to_list kept)
 
 -- the vertex of this actor, where there is one
 abbrev pub vertex_of : Option ActorKnown → List ℕ
-vertex_of None = []
-vertex_of (Some a) = a.vertex ∷ []
+vertex_of kept = map (λ a. a.vertex) (option_to_list kept)
 
 -- who has this ledger speaks for one worker, and has this actor, if one
 abbrev pub HasJust : Ledger → Option ActorKnown → Type 0

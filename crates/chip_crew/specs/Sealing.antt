@@ -1,7 +1,8 @@
 -- When worker 0 seals the edge of the plan, and how the root gets the stopper back.
-use Rattle.std.specs.Prelude.{◌≡◌, ℕ, ◌<◌, ◌==◌, nat_lt, if◌then◌else◌, List, [], ◌∷◌, ◌++◌, map, Option, Some, None}
+use Rattle.std.specs.Prelude.{◌≡◌, ℕ, ◌<◌, ◌==◌, nat_lt, if◌then◌else◌, List, [], ◌∷◌, ◌++◌, map, Option, Some, None, IfSome}
 use Rattle.chip_part.specs.Edges.{graph_edges}
 use Rattle.chip_core.specs.Core.{Step, Event, Seal}
+use Rattle.chip_net.specs.Tokens.{NetId}
 use Rattle.chip_net.specs.Roots.{RootKnown, StopperKnown, with_stopper}
 use Rattle.chip_crew.specs.Crew.{CrewId}
 use Rattle.chip_crew.specs.declared.plan.SealAt.{SealAt}
@@ -13,6 +14,10 @@ events_of steps = map (λ x. x.event) steps
 -- what is sealed before so many turns of worker 0 are over: the edge of the plan, where its turn is one of them
 abbrev pub seals_by : SealAt → ℕ → List Event
 seals_by at turns = if nat_lt at.turn turns then Seal at.edge ∷ [] else []
+
+-- the stopper is of this net, and what it is to seal is an edge of the graph
+abbrev pub MaySeal : NetId → Option (StopperKnown × SealAt) → Type 0
+MaySeal net seal = IfSome seal (λ s. (s.0.net ≡ net) × (s.1.edge < graph_edges net.setting))
 
 -- the stopper sealed the edge once more where this is the turn for it, and else it did nothing
 abbrev pub SealsBefore : ℕ → Option (StopperKnown × SealAt) → Option (StopperKnown × SealAt) → Type 0

@@ -104,14 +104,9 @@ fn drain<R: Wait, B: Crew>(rt: &R, queue: &Queue<B>, pass: &mut QueuePass, row: 
     ensures all { AreGathered B.asked.crew row.new.items }
     ensures turns { all_turns row.new.items ≤ B.asked.crew.workers * B.asked.plan.turns }
 {
-    for _ in 0..row.capacity() {
-        let Some(actor) = queue.pop_as::<Popped<B>, R>(rt, pass) else {
-            return;
-        };
+    while let Some(actor) = queue.pop_as::<Popped<B>, R>(rt, pass) {
         row.push_reserved(actor);
     }
-    // So many actors are all that there are.
-    queue.learn_as::<Popped<B>>(pass);
 }
 
 /// The actors of all vertices, ascending. All workers have handed back what they had.

@@ -1,6 +1,6 @@
 //! Starting the workers, and taking back what they have once they have ended.
 
-ghost use Rattle.std.specs.Prelude.{◌≡◌, ◌+◌, ◌≤◌, true, length, IfOk, IfErr};
+ghost use Rattle.std.specs.Prelude.{◌≡◌, ◌+◌, ◌≤◌, length, IfOk, IfErr};
 ghost use Rattle.chip_crew.specs.declared.fault.CrewFault.TheVariants.{Spawn};
 ghost use Rattle.chip_crew.specs.Finished.{IsStopped};
 ghost use Rattle.chip_crew.specs.Handed.{HasMade};
@@ -12,7 +12,7 @@ ghost use Rattle.chip_crew.specs.Joining.{AreShares, IsWorker, HasJoined, queue_
 
 use crate::duties::{Duties, NoDuties};
 use crate::fault::CrewFault;
-use crate::gathering::Collected;
+use crate::gathering::{Back, Collected};
 use crate::leader::Leader;
 use crate::plan::Gate;
 use crate::queue::Crew;
@@ -127,12 +127,12 @@ pub(crate) fn join_all<'s, 'q, R: Threads, B: Crew>(
     rt: &R,
     leader: Started<'s, B, Leader<'s>>,
     others: Vec<Started<'s, B, NoDuties>>,
-    mut collected: Collected<'q, B>,
+    back: Back<'q, B>,
 ) -> Joined<'s, 'q, B>
-    requires leader { IsWorker B.asked (queue_for collected.back) 0 leader.promise × IsLeader B.asked leader.promise.duties.value }
+    requires leader { IsWorker B.asked (queue_for back) 0 leader.promise × IsLeader B.asked leader.promise.duties.value }
     requires count { length others.items + 1 ≡ B.asked.crew.workers }
-    requires others { EachFrom (λ worker h. IsWorker B.asked (queue_for collected.back) worker h.promise) 1 others.items }
-    requires none_yet { (collected.workers ≡ 0) × (collected.passed ≡ true) × AreBack B.asked 0 collected.back }
+    requires others { EachFrom (λ worker h. IsWorker B.asked (queue_for back) worker h.promise) 1 others.items }
+    requires back { AreBack B.asked 0 back }
     requires few { B.asked.crew.workers ≤ max_workers }
     ensures { HasJoined B.asked result }
 {
@@ -143,6 +143,11 @@ pub(crate) fn join_all<'s, 'q, R: Threads, B: Crew>(
         turns,
     } = leader.join(rt);
     let round = share.round();
+    let mut collected = Collected {
+        workers: 0,
+        passed: true,
+        back,
+    };
     collected.take(share, passed);
     for started in others {
         let WorkerResult { share, passed, .. } = started.join(rt);

@@ -1,10 +1,9 @@
 //! What worker 0 does beside the turns of its actors: it seals, it feeds, and it polls the root.
 
-ghost use Rattle.std.specs.Prelude.{◌≡◌, ◌⊎◌, ◌<◌, IfSome};
-ghost use Rattle.chip_part.specs.Edges.{graph_edges};
+ghost use Rattle.std.specs.Prelude.{◌≡◌, ◌⊎◌};
 ghost use Rattle.chip_net.specs.Roots.{IsOver};
 ghost use Rattle.chip_crew.specs.Leading.{HasLed};
-ghost use Rattle.chip_crew.specs.Sealing.{SealsBefore};
+ghost use Rattle.chip_crew.specs.Sealing.{MaySeal, SealsBefore};
 
 use crate::duties::Duties;
 use crate::feeding::feed_once;
@@ -28,7 +27,7 @@ pub(crate) struct Leader<'a> {
 
 /// Seals, where this is the turn for it.
 fn seal_before(net: &Net, seal: &mut Option<(Stopper, SealAt)>, turn: u64)
-    requires { IfSome seal.old (λ s. (s.0.net ≡ net.now) × (s.1.edge < graph_edges net.now.setting)) }
+    requires { MaySeal net.now seal.old }
     ensures { SealsBefore turn seal.old seal.new }
 {
     if let Some((stopper, at)) = seal {

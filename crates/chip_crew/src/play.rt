@@ -18,7 +18,7 @@ ghost use Rattle.chip_crew.specs.Finished.{HasFinished, IsFinished, IsStopped, I
 use crate::dealing::deal;
 use crate::ending::{last_poll, take_back};
 use crate::fault::CrewFault;
-use crate::gathering::{Back, Collected, gather};
+use crate::gathering::{Back, gather};
 use crate::joining::{Joined, join_all, start_all};
 use crate::leader::Leader;
 use crate::plan::{Gate, Plan, Sharing};
@@ -153,12 +153,7 @@ fn work_all<'a, R: Threads + Wait, B: Crew + Send + Sync, G: Gate + Sync>(
             ensures { IfOk result (HasFinished B.asked.crew B.asked.feeds B.asked.plan) × IfErr result (IsStopped B.asked) }
         {
             let (leader, others) = start_all(scope, alloc, shared, leader, own)?;
-            let collected = Collected {
-                workers: 0,
-                passed: true,
-                back,
-            };
-            end_play(rt, shared, join_all(rt, leader, others, collected))
+            end_play(rt, shared, join_all(rt, leader, others, back))
         },
     )
 }

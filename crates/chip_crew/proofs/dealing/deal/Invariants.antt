@@ -1,18 +1,18 @@
 use Rattle.std.proofs.Common.{◌≡◌, ◌+◌, ◌*◌, ◌^◌, ◌≤◌, None, length}
 use Rattle.std.specs.Vec.{vec_capacity}
 use Rattle.chip_crew.specs.Crew.{AreFrom, all_turns}
-use Rattle.chip_crew.specs.Dealing.{IsFirstOf, ends_before}
+use Rattle.chip_crew.specs.Dealing.{IsCut, ends_before}
 use Rattle.chip_crew.specs.Handed.{AreReady}
 use Rattle.chip_crew.proofs.dealing.deal.Given as goal
 
 abbrev pub invariant-loop-worker : goal.invariant-loop-worker
 invariant-loop-worker g l = record {
-  first_is : IsFirstOf g.B.Crew.asked.crew l.worker l.first;
+  first_is : IsCut l.graph l.workers l.worker l.first;
   ends_are : l.ends ≡ ends_before l.graph l.first;
   few : l.ends ≤ l.first * (2 ^ 24 + 1);
   actors : AreFrom g.B.Crew.asked.crew l.first l.actors.items;
   no_turns : all_turns l.actors.items ≡ 0;
-  whole : l.first + length l.actors.items ≡ g.B.Crew.asked.crew.net.setting.game.graph.vertices;
+  whole : l.first + length l.actors.items ≡ l.graph.vertices;
   shares : AreReady g.B.Crew.asked None l.all.items;
   count : length l.all.items ≡ l.worker;
   room : l.workers ≤ vec_capacity l.all;

@@ -1,4 +1,5 @@
 use Rattle.std.proofs.Common.{◌∙◌, List, sym, subst, ◌≤◌, ◌*◌}
+use Rattle.std.proofs.lemmas.Option.{IfSome_then}
 use Rattle.chip_net.specs.Tokens.{ActorKnown}
 use Rattle.chip_net.specs.Roots.{RootKnown}
 use Rattle.chip_net.proofs.FinishingLemmas.{one_run}
@@ -6,7 +7,6 @@ use Rattle.chip_net.specs.Meeting.{IsRun}
 use Rattle.chip_crew.specs.Crew.{AreActors, all_turns}
 use Rattle.chip_crew.specs.Ending.{EndsLed}
 use Rattle.chip_crew.proofs.FinishingLemmas.{ends_led, stays_led}
-use Rattle.chip_crew.proofs.SealingLemmas.{stopper_there}
 use Rattle.chip_crew.proofs.play.end_play.Goals as goal
 
 pub meet-requires-clause-actors : goal.meet-requires-clause-actors
@@ -37,5 +37,5 @@ returns-in-Err-clause-stopped g c = stays_led g.B.Crew.asked c.args.joined.round
     c.in-Err.ensures.ends
 
 pub take_back-requires-clause-stopper : goal.take_back-requires-clause-stopper
-take_back-requires-clause-stopper g c = stopper_there _ _ c.go_on.new.self.seal c.shared.invariant.net_is
-    c.go_on.ensures.led.can.seal
+take_back-requires-clause-stopper g c =
+    IfSome_then c.go_on.new.self.seal c.go_on.ensures.led.can.seal (λ s has. has.0 ∙ sym c.shared.invariant.net_is)

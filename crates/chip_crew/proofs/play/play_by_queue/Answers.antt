@@ -1,7 +1,8 @@
 use Rattle.std.proofs.Common.{◌≡◌, ◌∙◌, sym, ap, rules}
 use Rattle.crossbeam_queue.specs.Passes.{view}
 use Rattle.chip_crew.specs.declared.queue.Ledger.{Ledger}
-use Rattle.chip_crew.specs.Ledger.{numbers_from, first_ledger, got_turns, gave_turns}
+use Rattle.std.specs.List.{range_with_len}
+use Rattle.chip_crew.specs.Ledger.{first_ledger, got_turns, gave_turns}
 use Rattle.chip_crew.proofs.PlacesLemmas.{begins, numbers_are}
 use Rattle.chip_crew.proofs.RunLemmas.{ours_from}
 use Rattle.chip_crew.proofs.play.play_by_queue.Goals as goal
@@ -16,7 +17,7 @@ fill-requires-clause-actors g c = ours_from g.B.Crew.asked.crew 0 c.args.actors.
 pub fill-requires-clause-has : goal.fill-requires-clause-has
 fill-requires-clause-has g c =
     let first : view c.in_ok-queue.pass ≡ first_ledger g.B.Crew.asked.crew = search rules in
-    ap (λ (l : Ledger). l.has) first ∙ ap (numbers_from 0) (sym c.requires.opened.count)
+    ap (λ (l : Ledger). l.has) first ∙ ap (range_with_len 0) (sym c.requires.opened.count)
     ∙ numbers_are g.B.Crew.asked.crew 0 c.args.actors.items c.requires.opened.each
 
 pub fill-requires-clause-turns : goal.fill-requires-clause-turns

@@ -1,13 +1,13 @@
-use Rattle.std.proofs.Common.{◌≡◌, ◌∙◌, refl, sym, ap, rules, false, List, ℕ, Option, Some, None, Bor, ◌<◌, subst}
+use Rattle.std.proofs.Common.{◌≡◌, ◌∙◌, refl, sym, ap, rules, Bool, List, [], ℕ, Option, Some, None, Bor, ◌<◌, if◌then◌else◌, subst}
+use Rattle.std.proofs.lemmas.Result.{MatchResult-weaker}
 use Rattle.std.specs.Prelude.{is_some}
 use Rattle.std.specs.Option.{option_copied, option_zip}
 use Rattle.chip_part.specs.Setting.{Setting, setting_with}
-use Rattle.chip_net.specs.Roots.{RootKnown}
+use Rattle.chip_net.specs.Roots.{RootKnown, new_root}
 use Rattle.chip_crew.specs.Asked.{Asked, asked_of}
 use Rattle.chip_crew.specs.Finished.{IsCrewFor}
-use Rattle.chip_crew.specs.Sealing.{HasSealed}
-use Rattle.chip_crew.proofs.OwningLemmas.{ours_by, new_turns, true_or_false}
-use Rattle.chip_crew.proofs.FinishingLemmas.{root_opens, may_begin, plan_names_edge, plan_workers, plan_turns, ended_for}
+use Rattle.chip_crew.proofs.OwningLemmas.{ours_by, new_turns}
+use Rattle.chip_crew.proofs.FinishingLemmas.{may_begin, plan_fits, finished_by, stopped_by}
 use Rattle.chip_crew.proofs.SealingLemmas.{none_sealed, may_seal}
 use Rattle.chip_crew.proofs.play.run_with.Goals as goal
 
@@ -20,7 +20,7 @@ pub play_on-requires-clause-asked : goal.play_on-requires-clause-asked
 play_on-requires-clause-asked g c κs within = record {
   net_is = refl;
   plan_is = refl;
-  few_turns = plan_turns c.args.game.now (option_copied c.args.feeds) c.args.plan c.in_ok-ring.ensures.0;
+  few_turns = (plan_fits c.args.game.now (option_copied c.args.feeds) c.args.plan c.in_ok-ring.ensures.0).2;
   gate = λ worker turn answer may. may;
 }
 
@@ -35,15 +35,13 @@ play_on-requires-clause-opened g c κs within =
     (g.G.Gate.may_answer c.args.gate.now) in
     let can = c.in_ok-ring.ensures.0 in
     let setting = c.in_ok-opened.ensures.setting ∙ c.in_ok-setting.ensures in
-    let workers = plan_workers c.args.game.now (option_copied c.args.feeds) c.args.plan can in
-    let sealed : HasSealed asked.crew c.args.plan.seal 0 (option_zip opened.stopper c.args.plan.seal) =
-    none_sealed asked.crew c.args.game.now c.args.plan.seal opened.stopper c.is_some-2.result
-    c.in_ok-opened.ensures.stopper c.is_some-2.ensures
-    (plan_names_edge c.args.game.now (option_copied c.args.feeds) c.args.plan can)
-    (ap (λ (s : Setting). s.game) setting) in
+    let fits = plan_fits c.args.game.now (option_copied c.args.feeds) c.args.plan can in
+    let sealed = none_sealed asked.crew c.args.game.now c.args.plan.seal opened.stopper c.is_some-2.result
+    c.in_ok-opened.ensures.stopper c.is_some-2.ensures fits.3 (ap (λ (s : Setting). s.game) setting) in
     record {
       leads = record {
-        root = root_opens asked.crew c.args.plan _ _ c.in_ok-opened.ensures.root c.is_some-2.ensures;
+        root = c.in_ok-opened.ensures.root
+            ∙ ap (λ (b : Bool). new_root opened.net (if b then None else Some [])) c.is_some-2.ensures;
         feeds = refl;
         seal = sealed;
         can = record {
@@ -51,27 +49,28 @@ play_on-requires-clause-opened g c κs within =
           may = may_begin c.args.game.now (option_copied c.args.feeds) c.args.plan opened.net opened.root _ can
               (setting ∙ (λ i. setting_with c.args.game.now (c.in_ok-ring.ensures.1 i)
               ((c.is_some.ensures ∙ copied_some c.args.feeds) i))) c.in_ok-opened.ensures.root;
-          seal = may_seal asked.crew c.args.plan.seal 0 (option_zip opened.stopper c.args.plan.seal) opened.net refl sealed;
-          closed = λ is. absurd (true_or_false false is refl);
+          seal = may_seal asked.crew c.args.plan.seal 0 (option_zip opened.stopper c.args.plan.seal) sealed;
+          closed = λ is. cc;
         };
       };
       each = ours_by asked.crew c.in_ok-setting.setting.game.graph.vertices opened.actors.items
           (ap (λ (s : Setting). s.game.graph.vertices) c.in_ok-opened.ensures.setting) c.in_ok-opened.ensures.count
           c.in_ok-opened.ensures.actors;
       count = search rules;
-      no_turns = new_turns c.in_ok-opened.opened.net c.args.plan.trace_rows opened.actors.items (λ v less.
+      no_turns = new_turns opened.net c.args.plan.trace_rows opened.actors.items (λ v less.
           c.in_ok-opened.ensures.actors v (subst (λ (n : ℕ). v < n) c.in_ok-opened.ensures.count less));
       some = search rules;
       workers_are = refl;
-      some_workers = workers.0;
-      few_workers = workers.1;
+      some_workers = fits.0;
+      few_workers = fits.1;
     }
 
 pub returns : goal.returns
 returns g c =
-    let asked : Asked = asked_of c.in_ok-opened.opened.net c.args.plan c.args.sharing (option_copied c.args.feeds)
+    let feeds = option_copied c.args.feeds in
+    let asked : Asked = asked_of c.in_ok-opened.opened.net c.args.plan c.args.sharing feeds
     (g.G.Gate.may_answer c.args.gate.now) in
-    let opened : IsCrewFor c.args.sharing c.args.game.now (option_copied c.args.feeds) c.args.plan asked.crew = record {
+    let opened : IsCrewFor c.args.sharing c.args.game.now feeds c.args.plan asked.crew = record {
       can = c.in_ok-ring.ensures.0;
       setting = c.in_ok-opened.ensures.setting ∙ c.in_ok-setting.ensures
           ∙ (λ i. setting_with c.args.game.now (c.in_ok-ring.ensures.1 i)
@@ -80,6 +79,9 @@ returns g c =
       workers = refl;
       sharing = refl;
     } in
-    let ended = ended_for c.args.sharing c.args.game.now asked c.play_on.result opened c.play_on.ensures.finished
-    c.play_on.ensures.stopped in
-    record { finished = ended.0; fault = ended.1 }
+    record {
+      finished = MatchResult-weaker c.play_on.result c.play_on.ensures.finished
+          (λ f has. finished_by feeds c.args.plan asked.crew f has c.args.sharing c.args.game.now opened) (λ e none. none);
+      fault = MatchResult-weaker c.play_on.result c.play_on.ensures.stopped (λ f none. none)
+          (λ e why. stopped_by c.args.sharing c.args.game.now asked e opened why);
+    }

@@ -11,22 +11,22 @@ use Rattle.chip_crew.specs.Gathering.{AreBack, IsGatheringFor, IsRow, Collects, 
 use Rattle.chip_crew.specs.Handed.{HasMade}
 use Rattle.chip_crew.proofs.BackLemmas.{row_longer}
 use Rattle.chip_crew.proofs.DealingLemmas.{rounds_turns}
-use Rattle.chip_crew.proofs.QueueingLemmas.{has_kept, turns_made}
+use Rattle.chip_crew.proofs.QueueingLemmas.{are_made}
 use Rattle.chip_crew.proofs.gathering.Collected.take.Goals as goal
 use Rattle.chip_crew.proofs.gathering.Collected.take.Goals.{in-Queue+in-Queue-back, in-Dealt+in-Dealt-back+in-Ok}
 
 pub join_pass-requires-clause-has : goal.join_pass-requires-clause-has
 join_pass-requires-clause-has g c =
     let made = c.requires.made in
-    has_kept (passes g.B.Crew.asked c.args.self.now.workers) made.0 (view c.in-Queue.theirs) c.in-Queue.kept
-    (subst (HasMade g.B.Crew.asked c.args.self.now.workers made.0) c.in-Queue.is made.2).2
+    (are_made (passes g.B.Crew.asked c.args.self.now.workers) made.0 (view c.in-Queue.theirs) c.in-Queue.kept
+    (subst (HasMade g.B.Crew.asked c.args.self.now.workers made.0) c.in-Queue.is made.2).2).0
 
 pub join_pass-requires-clause-turns : goal.join_pass-requires-clause-turns
 join_pass-requires-clause-turns g c =
     let made = c.requires.made in
-    let own = turns_made (passes g.B.Crew.asked c.args.self.now.workers) made.0 (view c.in-Queue.theirs) c.in-Queue.kept
+    let own = are_made (passes g.B.Crew.asked c.args.self.now.workers) made.0 (view c.in-Queue.theirs) c.in-Queue.kept
     (subst (HasMade g.B.Crew.asked c.args.self.now.workers made.0) c.in-Queue.is made.2).2 in
-    let few = made.1 in omega (arith, own, few)
+    let few = made.1 in omega arith
 
 pub returns : goal.returns
 returns g c =
@@ -63,10 +63,7 @@ returns g c =
                   back.1 made.1 w.append.ensures.capacity),
               (let all = ap all_turns items in let both = sum_by-append turns_of row.items actors in
                   let own = rounds_turns (passes g.B.Crew.asked workers) c.requires.made.0 made.2.0 actors made.2.2 in
-                  let none = made.2.1 in let few = c.requires.made.1 in let old = back.2 in
-                  let more : (workers + 1) * most ≡ workers * most + most =
-                  ap (λ (n : ℕ). n * most) (add-one workers) ∙ suc-mul workers most in
-                  omega (arith, all, both, own, none, few, old, more)),
+                  let none = made.2.1 in let few = c.requires.made.1 in let old = back.2 in omega arith),
             );
             uses = sym (ap queue_for w.in-Dealt-back.is);
             passed_is = refl;

@@ -4,14 +4,14 @@ use Rattle.crossbeam_queue.specs.Passes.{view}
 use Rattle.chip_crew.specs.Asked.{passes}
 use Rattle.chip_crew.specs.Ledger.{HasJust, MakesOneTurn}
 use Rattle.chip_crew.specs.Handed.{HasMade}
-use Rattle.chip_crew.proofs.QueueingLemmas.{has_kept, turn_more}
+use Rattle.chip_crew.proofs.QueueingLemmas.{are_made, turn_more}
 use Rattle.chip_crew.proofs.shared.Shared.round.Goals as goal
 
 pub turn_by_queue-requires-clause-has : goal.turn_by_queue-requires-clause-has
 turn_by_queue-requires-clause-has g c =
     let was = subst (HasMade g.B.Crew.asked c.args.worker c.args.first) c.in-Queue.is c.requires.made in
     subst (HasJust (view c.in-Queue.pass)) (sym c.take.ensures.value)
-    (has_kept (passes g.B.Crew.asked c.args.worker) c.args.first (view c.in-Queue.pass) c.in-Queue.kept was.2)
+    (are_made (passes g.B.Crew.asked c.args.worker) c.args.first (view c.in-Queue.pass) c.in-Queue.kept was.2).0
 
 pub returns-else-not-begin-clause-made : goal.returns-else-not-begin-clause-made
 returns-else-not-begin-clause-made g c =

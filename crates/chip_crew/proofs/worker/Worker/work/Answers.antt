@@ -1,7 +1,6 @@
 use Rattle.std.proofs.Common.{◌≡◌, ◌∙◌, ◌==◌, ◌+◌, false, false-eqb, sym, ap, rules, arith}
 use Rattle.chip_crew.specs.Asked.{ShutFor}
 use Rattle.chip_crew.specs.declared.plan.Plan.{Plan}
-use Rattle.chip_crew.proofs.OwningLemmas.{true_or_false}
 use Rattle.chip_crew.proofs.ShareLemmas.{has_worked}
 use Rattle.chip_crew.proofs.DutiesLemmas.{serves_more, serves_round, round_over}
 use Rattle.chip_crew.proofs.worker.Worker.work.Goals as goal
@@ -33,8 +32,8 @@ returns g c =
     let plan = ap (λ (p : Plan). p.turns) c.shared.invariant.plan_is in
     let worked = has_worked g.B.Crew.asked g.D.Duties.can g.D.Duties.before g.D.Duties.after c.args.self.number
     c.args.self.share c.args.self.duties in
-    let passed = λ (no : c.loop-turns.passed ≡ false). absurd {A = ShutFor g.B.Crew.asked c.args.self.number}
-    (true_or_false c.loop-turns.passed i.passed no) in
+    let passed : c.loop-turns.passed ≡ false → ShutFor g.B.Crew.asked c.args.self.number =
+    λ no. (let yes = i.passed in cc) in
     elim c.loop-turns-test.branch [
       | else-loop-turns-test w ↦ worked c.loop-turns.share _ c.loop-turns.duties _ c.loop-turns.passed _ c.loop-turns.turns _
           c.round-round.result w.share-is w.duties-is w.passed-is w.turns-is i.few i.made passed i.uses i.round i.served i.can

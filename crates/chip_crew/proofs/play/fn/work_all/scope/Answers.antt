@@ -1,4 +1,4 @@
-use Rattle.std.proofs.Common.{Option, refl, sym, subst}
+use Rattle.std.proofs.Common.{Option, sym, subst}
 use Rattle.atomic_table.specs.Seated.{TableId}
 use Rattle.chip_crew.specs.Crew.{EachFrom}
 use Rattle.chip_crew.specs.Joining.{IsWorker}
@@ -17,6 +17,6 @@ join_all-requires g c =
       count = begun.count;
       others = subst (λ (q : Option TableId). EachFrom (λ worker h. IsWorker g.B.Crew.asked q worker h.promise) 1
           c.in_ok-leader.others.items) uses begun.others;
-      none_yet = (refl, refl, c.requires.3);
+      back = c.requires.3;
       few = c.requires.1.few;
     }

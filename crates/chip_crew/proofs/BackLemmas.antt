@@ -15,12 +15,11 @@ row_longer crew worker row actors room more is are grown =
     let both = length-append row actors in
     let same : are.from ≡ 0 + length row =
     cut_same crew.net.setting.game.graph crew.workers worker are.from (length row) are.is_first is.up_to ∙ omega arith in
-    let end : are.from + length actors ≡ length (row ++ actors) = omega (arith, both, same) in
-    let has_room = is.has_room in
+    let end : are.from + length actors ≡ length (row ++ actors) = omega arith in
     record {
       up_to = subst (λ (z : ℕ × ℕ). IsFirstOf crew z.0 z.1) (λ i. (sym (add-one worker) i, end i)) are.is_next;
       each = from_append (IsAt crew) 0 row actors is.each (subst (λ (n : ℕ). AreFrom crew n actors) same are.each);
-      has_room = omega (arith, has_room, grown);
+      has_room = (let has_room = is.has_room in omega arith);
     }
 
 -- after the last worker the row has the actors of all vertices

@@ -2,7 +2,7 @@
 -- What the threads of a crew share, and what goes to them and back.
 use mir.Syntax.{Lifetime}
 use base.Fml.{Lft}
-use denote.Ref.{NamedLft, ShrRef}
+use denote.Ref.{NamedLft}
 use denote.RattleType.{RattleType}
 use denote.Param.Send.{IsSend, IsSync, sendable, shr_send}
 use denote.Param.SendFields.{declared_send}
@@ -19,17 +19,6 @@ use Rattle.chip_crew.specs.contracts.worker.Share as share
 use Rattle.chip_crew.specs.contracts.worker.Worker as worker
 use Rattle.chip_crew.specs.contracts.worker.WorkerResult as result
 
--- threads may share what all workers share where they may share the gate
-pub shared_sync : (ν : NamedLft) (B G : RattleType) (r : Ghosts B.Denot) (s : gate.Ghosts G.Denot) → IsSync B → IsSync G
-    → IsSync (shared.the_row ν B G r s)
-shared_sync ν B G r s names asks = search (sharing.the_sync)
-
--- so a `&` to it may go to a thread
-pub shared_ref_send : (ℓ : Lifetime) (κ : Lft) (ν : NamedLft) (B G : RattleType) (r : Ghosts B.Denot) (s : gate.Ghosts G.Denot)
-    → IsSync B → IsSync G → IsSend (ShrRef ℓ κ (shared.the_row ν B G r s))
-shared_ref_send ℓ κ ν B G r s names asks =
-    shr_send ℓ κ (shared.the_row ν B G r s) (shared_sync ν B G r s names asks)
-
 -- a share may go to a thread
 pub share_send : (ν : NamedLft) (B : RattleType) (r : Ghosts B.Denot) → IsSend (share.the_row ν B r)
 share_send ν B r = search (crosses, sendable, net_crosses, seat.the_send, queue.the_sync, actor_send, frees, send, sync) depth 60
@@ -38,7 +27,8 @@ share_send ν B r = search (crosses, sendable, net_crosses, seat.the_send, queue
 pub worker_send : (ν : NamedLft) (B G D : RattleType) (r : Ghosts B.Denot) (s : gate.Ghosts G.Denot) → IsSync B → IsSync G
     → IsSend D → IsSend (worker.the_row ν B G D r s)
 worker_send ν B G D r s names asks duties =
-    let lent = λ (ℓ : Lifetime) (κ : Lft) (μ : NamedLft). shared_ref_send ℓ κ μ B G r s names asks in
+    let lent = λ (ℓ : Lifetime) (κ : Lft) (μ : NamedLft).
+    shr_send ℓ κ (shared.the_row μ B G r s) (search (sharing.the_sync)) in
     declared_send (worker.the_type ν B G D r s) (
       search (crosses, sendable, lent),
       (search (crosses, sendable), (share_send ν B r, (search (crosses, sendable, duties), tt))),

@@ -19,22 +19,17 @@ module _ {D : Type 0} (before : ℕ → D → D → Type 0) where
       subst (λ (n : ℕ). BeginsEach before from n old now) (sym (add-one k)) (was, each, here)
 
   module _ (after : D → D → Type 0) (round : ℕ) where
-    -- one turn more, where a round is not over, and where it is
-    pub serves_turn : (k : ℕ) (old was now : D) → Serves before after round k old was → before k was now
-        → ((k + 1) % round ≡ 0 → ⊥) → Serves before after round (k + 1) old now
-    serves_turn k old was now served begun within =
-        let on : (suc k % round == 0) ≡ false =
-        ne_eqb (suc k % round) 0 (λ over. within (ap (λ (n : ℕ). n % round) (add-one k) ∙ over)) in
-        subst (λ (n : ℕ). Serves before after round n old now) (sym (add-one k))
-        (was, now, served, begun, subst (λ (b : Bool). EndsIf after b now now) (sym on) refl)
-
-    pub serves_end : (k : ℕ) (old was now end : D) → Serves before after round k old was → before k was now
-        → (k + 1) % round ≡ 0 → after now end → Serves before after round (k + 1) old end
-    serves_end k old was now end served begun over done =
-        let on : (suc k % round == 0) ≡ true =
-        eq-eqb (suc k % round) 0 (ap (λ (n : ℕ). n % round) (sym (add-one k)) ∙ over) in
-        subst (λ (n : ℕ). Serves before after round n old end) (sym (add-one k))
-        (was, now, served, begun, subst (λ (b : Bool). EndsIf after b now end) (sym on) done)
+    -- one turn more, with what comes after a round where it ends one
+    pub serves_turn : (k : ℕ) (over : Bool) (old was now end : D) → Serves before after round k old was → before k was now
+        → ((k + 1) % round == 0) ≡ over → EndsIf after over now end → Serves before after round (k + 1) old end
+    serves_turn k over old was now end served begun is ends =
+        subst (λ (n : ℕ). Serves before after round n old end) (sym (add-one k)) (
+          was,
+          now,
+          served,
+          begun,
+          subst (λ (b : Bool). EndsIf after b now end) (sym is ∙ ap (λ (n : ℕ). n % round == 0) (add-one k)) ends,
+        )
 
     -- turns of a round that is not over
     pub serves_more : (m k : ℕ) (old was now : D) → m % round ≡ 0 → k < round → Serves before after round m old was
@@ -46,17 +41,16 @@ module _ {D : Type 0} (before : ℕ → D → D → Type 0) where
         let next : m + k + 1 ≡ m + suc k = omega arith in
         let place = ap (λ (n : ℕ). n % round) next ∙ place_is m (suc k) round begins less in
         subst (λ (n : ℕ). Serves before after round n old now) next
-        (serves_turn (m + k) old each.0 now (serves_more m k old was each.0 begins (omega (arith, less)) served each.1) each.2
-        (λ over. absurd (omega (arith, place, over))))
+        (serves_turn (m + k) false old each.0 now now (serves_more m k old was each.0 begins (omega arith) served each.1)
+        each.2 (ne_eqb ((m + k + 1) % round) 0 (omega arith)) refl)
 
     -- a whole round
     pub serves_round : (m k : ℕ) (old was now end : D) → k ≡ round → m % round ≡ 0 → 0 < round
         → Serves before after round m old was → BeginsEach before m k was now → after now end
         → Serves before after round (m + k) old end
-    serves_round m zero old was now end whole begins some served each done = absurd (omega (arith, whole, some))
+    serves_round m zero old was now end whole begins some served each done = absurd (omega arith)
     serves_round m (suc j) old was now end whole begins some served each done =
         let next : m + j + 1 ≡ m + suc j = omega arith in
         subst (λ (n : ℕ). Serves before after round n old end) next
-        (serves_end (m + j) old each.0 now end
-        (serves_more m j old was each.0 begins (omega (arith, whole)) served each.1) each.2
-        (ap (λ (n : ℕ). n % round) next ∙ round_over round m (suc j) whole begins) done)
+        (serves_turn (m + j) true old each.0 now end (serves_more m j old was each.0 begins (omega arith) served each.1)
+        each.2 (eq-eqb ((m + j + 1) % round) 0 (ap (λ (n : ℕ). n % round) next ∙ round_over round m (suc j) whole begins)) done)

@@ -1,7 +1,7 @@
 -- Serves Feeding.antt.
 -- What feeds, polls and the end leave of the root: what was fed, what may be fed still, and whether the end is noted.
 use Rattle.std.proofs.Common.{◌≡◌, ◌==◌, ℕ, zero, suc, ◌+◌, ◌-◌, ◌%◌, ◌<◌, Bool, true, false, List, [], ◌∷◌, ◌++◌}
-use Rattle.std.proofs.Common.{Some, None, All, sum, refl, sym, ap, ◌∙◌, subst, arith, append-nil, append_assoc, ⊎_elim}
+use Rattle.std.proofs.Common.{Some, None, All, sum, refl, sym, ap, ◌∙◌, subst, arith, append_assoc, ⊎_elim}
 use Rattle.std.proofs.lemmas.List.Elements.{All-tail}
 use Rattle.std.proofs.lemmas.List.Sums.{sum_by-append}
 use Rattle.chip_graph.specs.More.{all_brought}
@@ -12,7 +12,7 @@ use Rattle.chip_core.specs.Histories.{part_by}
 use Rattle.chip_core.specs.Positions.{fed_of, fed_in}
 use Rattle.chip_net.specs.Tokens.{NetId}
 use Rattle.chip_net.specs.declared.poll.RootState.{RootState}
-use Rattle.chip_net.specs.Roots.{RootKnown, root_part, root_after, has_ended, fed_by, all_given, Feeds, LooksInVain}
+use Rattle.chip_net.specs.Roots.{RootKnown, root_part, root_after, has_ended, fed_by, Feeds, LooksInVain}
 use Rattle.chip_net.specs.Roots.{feed_steps, settles_from, IsPolling, Ends}
 use Rattle.chip_net.proofs.ViewingLemmas.{part_append}
 use Rattle.chip_crew.specs.Feeding.{Left, pairs, MayFeed, MayFeedLeft, FeedsNext, EndsAfter, FeedsOnce, PollsIf, IsLed}
@@ -120,9 +120,9 @@ all_right : {X : Type 0} (P : X → Type 0) (xs ys : List X) → All P (xs ++ ys
 all_right P [] ys all = all
 all_right P (x ∷ xs) ys all = all_right P xs ys (All-tail P x (xs ++ ys) all)
 
-may_after : (old new : RootKnown) (more left : List (ℕ × ℕ)) → Adds old new more (has_ended old)
+may_after : {old new : RootKnown} {more : List (ℕ × ℕ)} (left : List (ℕ × ℕ)) → Adds old new more (has_ended old)
     → MayFeed old (more ++ left) → MayFeed new left
-may_after old new more left adds may =
+may_after {old} {new} {more} left adds may =
     let fits = λ (n : NetId) (p : ℕ × ℕ). (p.0 < n.setting.game.graph.vertices) × (0 < p.1) in
     let given = ap (λ (z : NetId × List (ℕ × ℕ)). sum z.0.setting.game.start + all_brought z.1)
     (λ i. (adds.net i, adds.fed i)) in
@@ -154,30 +154,21 @@ goes_on first last = record {
 }
 
 -- these were fed, of those that were left
-adds_some : (more left : List (ℕ × ℕ)) (old new : RootKnown) → Adds old new more (has_ended old)
-    → GoesOn (Some (more ++ left)) (Some left) old new
-adds_some more left old new adds = record {
+adds_left : {old new : RootKnown} {more : List (ℕ × ℕ)} {ended : Bool} (feeds left : Left) → Adds old new more ended
+    → pairs feeds ≡ more ++ pairs left → (MayFeedLeft old feeds → MayFeedLeft new left) → GoesOn feeds left old new
+adds_left {old} {new} {more} feeds left adds is may = record {
   net = adds.net;
   stopper = adds.stopper;
-  fed = ap (λ (l : List (ℕ × ℕ)). l ++ left) adds.fed ∙ append_assoc (fed_by old) more left;
-  may = λ may. may_after old new more left adds may;
-}
-
--- nothing was, and nothing is left
-adds_none : (feeds : Left) (ended : Bool) (old new : RootKnown) → pairs feeds ≡ [] → Adds old new [] ended
-    → GoesOn feeds None old new
-adds_none feeds ended old new none adds = record {
-  net = adds.net;
-  stopper = adds.stopper;
-  fed = ap (λ (l : List (ℕ × ℕ)). l ++ []) (adds.fed ∙ append-nil (fed_by old))
-      ∙ ap (λ (l : List (ℕ × ℕ)). fed_by old ++ l) (sym none);
-  may = λ may. tt;
+  fed = ap (λ (l : List (ℕ × ℕ)). l ++ pairs left) adds.fed ∙ append_assoc (fed_by old) more (pairs left)
+      ∙ ap (λ (l : List (ℕ × ℕ)). fed_by old ++ l) (sym is);
+  may = may;
 }
 
 -- a poll leaves what is left
 pub poll_goes_on : (left : Left) (old new : RootKnown) (n : ℕ) → IsPolling old new n → GoesOn left left old new
-poll_goes_on None old new n polling = adds_none None (has_ended old) old new refl (poll_adds old new n polling)
-poll_goes_on (Some left) old new n polling = adds_some [] left old new (poll_adds old new n polling)
+poll_goes_on None old new n polling = adds_left None None (poll_adds old new n polling) refl (λ may. may)
+poll_goes_on (Some left) old new n polling = let adds = poll_adds old new n polling in
+    adds_left (Some left) (Some left) adds refl (may_after left adds)
 
 -- the first that is left was fed, or is left still
 next_goes_on : (feeds left : List (ℕ × ℕ)) (old new : RootKnown) → FeedsNext feeds left old new
@@ -185,18 +176,20 @@ next_goes_on : (feeds left : List (ℕ × ℕ)) (old new : RootKnown) → FeedsN
 next_goes_on [] left old new next = stays (Some []) (Some left) old new (ap Some next.0) next.1
 next_goes_on (pair ∷ rest) left old new next = ⊎_elim
     (λ (h : (left ≡ rest) × ((place : ℕ) × Feeds old new pair.0 pair.1 place)).
+    let adds = feed_adds old new pair.0 pair.1 h.1.0 h.1.1 in
     subst (λ (l : List (ℕ × ℕ)). GoesOn (Some (pair ∷ rest)) (Some l) old new) (sym h.0)
-    (adds_some (pair ∷ []) rest old new (feed_adds old new pair.0 pair.1 h.1.0 h.1.1)))
+    (adds_left (Some (pair ∷ rest)) (Some rest) adds refl (may_after rest adds)))
     (λ (h : (left ≡ pair ∷ rest) × LooksInVain old new pair.0).
+    let adds = look_adds old new pair.0 h.1 in
     subst (λ (l : List (ℕ × ℕ)). GoesOn (Some (pair ∷ rest)) (Some l) old new) (sym h.0)
-    (adds_some [] (pair ∷ rest) old new (look_adds old new pair.0 h.1)))
+    (adds_left (Some (pair ∷ rest)) (Some (pair ∷ rest)) adds refl (may_after (pair ∷ rest) adds)))
     next
 
 -- the end is noted where nothing is left
 end_goes_on : (rest : List (ℕ × ℕ)) (left : Left) (old new : RootKnown) → EndsAfter rest left old new
     → GoesOn (Some rest) left old new
 end_goes_on [] left old new ends = subst (λ (l : Left). GoesOn (Some []) l old new) (sym ends.0)
-    (adds_none (Some []) true old new refl (end_adds old new ends.1.0 ends.1.1))
+    (adds_left (Some []) None (end_adds old new ends.1.0 ends.1.1) refl (λ may. tt))
 end_goes_on (pair ∷ rest) left old new ends = stays (Some (pair ∷ rest)) left old new ends.0 ends.1
 
 pub once_goes_on : (feeds left : Left) (old new : RootKnown) → FeedsOnce feeds left old new

@@ -1,7 +1,7 @@
 -- Serves Gathering.antt.
 -- What the calling thread gathers from the queue are the actors of all vertices, and sorted they are in order.
-use Rattle.std.proofs.Common.{◌≡◌, ◌==◌, ℕ, zero, suc, ◌+◌, ◌*◌, ◌<◌, ◌≤◌, List, [], ◌∷◌, ◌++◌, length, map, get_or, All}
-use Rattle.std.proofs.Common.{refl, sym, ap, ◌∙◌, subst, arith, length-append}
+use Rattle.std.proofs.Common.{◌≡◌, ℕ, suc, ◌+◌, ◌*◌, ◌<◌, ◌≤◌, List, [], ◌∷◌, ◌++◌, length, map, get_or, All}
+use Rattle.std.proofs.Common.{refl, sym, ap, ◌∙◌, subst, arith}
 use Rattle.std.specs.Global.{Vec}
 use Rattle.std.specs.Vec.{vec_capacity}
 use Rattle.std.specs.List.Sorted.{IsPermutation, IsNonDecreasingBy}

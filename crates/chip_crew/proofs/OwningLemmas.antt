@@ -1,8 +1,8 @@
 -- Serves Crew.antt.
 -- The actors of a net that opens are the crew's, and stay so.
-use Rattle.std.proofs.lemmas.List.Sums.{sum_by-cons}
-use Rattle.std.proofs.lemmas.Option.{same_Some, slice_get_within}
-use Rattle.std.proofs.Common.{◌≡◌, ◌+◌, ◌<◌, ℕ, List, length, Some, ◌∙◌, refl, sym, subst, arith, suc, [], ◌∷◌, ap}
+use Rattle.std.proofs.lemmas.List.Sums.{sum_by-le}
+use Rattle.std.proofs.lemmas.Option.{same_Some, slice_get_within, get_or_from_slice_get}
+use Rattle.std.proofs.Common.{◌≡◌, ◌+◌, ◌<◌, ℕ, List, length, Some, ◌∙◌, refl, sym, subst, arith, ap}
 use Rattle.std.specs.Prelude.{slice_get}
 use Rattle.chip_net.specs.Tokens.{ActorKnown, newcomer, NetId}
 use Rattle.chip_crew.specs.Crew.{CrewId, IsAt, AreFrom, turns_of, all_turns}
@@ -26,14 +26,7 @@ ours_by crew n actors vertices count each = from_each (IsAt crew) 0 actors (λ i
     ))
 
 -- none of them made a turn yet
-each_new : (actors : List ActorKnown) → ((v : ℕ) (a : ActorKnown) → slice_get actors v ≡ Some a → turns_of a ≡ 0)
-    → all_turns actors ≡ 0
-each_new [] each = refl
-each_new (a ∷ rest) each =
-    let both = sum_by-cons turns_of a rest in let one = each 0 a refl in
-    let none = each_new rest (λ v b at. each (suc v) b at) in omega arith
-
 pub new_turns : (net : NetId) (room : ℕ) (actors : List ActorKnown)
     → ((v : ℕ) → v < length actors → slice_get actors v ≡ Some (newcomer net room v)) → all_turns actors ≡ 0
-new_turns net room actors each = each_new actors (λ v a at.
-    ap turns_of (sym (same_Some (newcomer net room v) a (sym (each v (slice_get_within actors v a at)) ∙ at))))
+new_turns net room actors each = let none = sum_by-le turns_of 0 actors (λ k d less.
+    let is = ap turns_of (get_or_from_slice_get actors k (newcomer net room k) d (each k less)) in omega arith) in omega arith

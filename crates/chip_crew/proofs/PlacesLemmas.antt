@@ -1,7 +1,7 @@
 -- Serves Places.antt, Ledger.antt.
 -- What is done at the queue keeps its rule, and what the rule tells.
-use Rattle.std.proofs.Common.{◌≡◌, ◌≢◌, ◌==◌, ◌+◌, ◌<◌, ◌≤◌, ℕ, zero, suc, cond, List, [], ◌∷◌, ◌++◌, refl, sym, ap, ◌∙◌}
-use Rattle.std.proofs.Common.{length, map, set, drop, take, All, sum_by, subst, arith, length-append, add-one}
+use Rattle.std.proofs.Common.{◌≡◌, ◌==◌, ◌+◌, ◌<◌, ◌≤◌, ℕ, zero, suc, cond, List, [], ◌∷◌, ◌++◌, refl, sym, ap, ◌∙◌}
+use Rattle.std.proofs.Common.{length, map, set, drop, All, sum_by, subst, arith, length-append, add-one}
 use Rattle.std.specs.List.{range_with_len}
 use Rattle.std.proofs.lemmas.List.Sums.{sum_by-cons, sum_by-append, sum_by_push, sum_by-take-drop}
 use Rattle.std.proofs.lemmas.List.Elements.{All-push, All-head, All-tail, All-set, All-cons, All-nil, All-drop}

@@ -1,6 +1,6 @@
 -- Serves Ledger.antt.
 -- The ledger of a worker has its turns, and what it has is what it kept.
-use Rattle.std.proofs.Common.{◌≡◌, ◌+◌, ◌++◌, ◌∷◌, [], ℕ, zero, suc, drop, List, Option, Some, None, ◌≤◌, refl, sym, ap, ◌∙◌}
+use Rattle.std.proofs.Common.{◌+◌, ◌++◌, ◌∷◌, [], ℕ, zero, suc, drop, List, Option, Some, None, ◌≤◌, refl, sym, ap, ◌∙◌}
 use Rattle.std.proofs.Common.{subst, arith, add-one}
 use Rattle.std.proofs.lemmas.List.Sums.{sum_by_push}
 use Rattle.chip_net.specs.Tokens.{ActorKnown}

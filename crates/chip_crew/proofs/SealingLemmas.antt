@@ -1,6 +1,6 @@
 -- Serves Sealing.antt.
 -- What is sealed from turn to turn, and what the root knows that has the stopper back.
-use Rattle.std.proofs.Common.{◌≡◌, ◌≢◌, ◌==◌, ℕ, ◌+◌, ◌<◌, Bool, true, if◌then◌else◌, List, [], ◌∷◌, ◌++◌, length, Option, Some}
+use Rattle.std.proofs.Common.{◌≡◌, ◌≢◌, ◌==◌, ℕ, ◌+◌, ◌<◌, true, if◌then◌else◌, List, [], ◌∷◌, ◌++◌, length, Option, Some}
 use Rattle.std.proofs.Common.{None, is_some, refl, sym, ap, ◌∙◌, subst, arith, append-nil, le-ltb}
 use Rattle.std.proofs.lemmas.Bool.{ltb-true}
 use Rattle.std.proofs.lemmas.Bool.Decides.{nat_tests}
@@ -53,14 +53,12 @@ sealed_next crew (Some at) turn old new has seals =
 
 -- a stopper that opens with its net has sealed nothing
 pub none_sealed : (crew : CrewId) (game : ChipGame) (plan : Option SealAt) (stopper : Option StopperKnown)
-    (stoppable : Bool) → stopper ≡ (if stoppable then Some (new_stopper crew.net) else None) → stoppable ≡ is_some plan
-    → names_edge game plan ≡ true → crew.net.setting.game ≡ game → HasSealed crew plan 0 (option_zip stopper plan)
-none_sealed crew game None stopper stoppable is some named same =
-    ap (λ (o : Option StopperKnown). option_zip o None) (is ∙ ap (λ (b : Bool). if b then Some (new_stopper crew.net) else None) some)
-none_sealed crew game (Some at) stopper stoppable is some named same = (
+    → stopper ≡ (if is_some plan then Some (new_stopper crew.net) else None) → names_edge game plan ≡ true
+    → crew.net.setting.game ≡ game → HasSealed crew plan 0 (option_zip stopper plan)
+none_sealed crew game None stopper is named same = ap (λ (o : Option StopperKnown). option_zip o None) is
+none_sealed crew game (Some at) stopper is named same = (
   [],
-  ap (λ (o : Option StopperKnown). option_zip o (Some at))
-      (is ∙ ap (λ (b : Bool). if b then Some (new_stopper crew.net) else None) some),
+  ap (λ (o : Option StopperKnown). option_zip o (Some at)) is,
   sym (cond_false (nat_lt at.turn 0) (Seal at.edge ∷ []) [] (le-ltb at.turn 0 (omega arith))),
   subst (λ (g : ChipGame). at.edge < length g.graph.edges) (sym same) (ltb-true at.edge (length game.graph.edges) named),
 )

@@ -1,6 +1,6 @@
 -- Serves Crew.antt.
 -- A turn takes once from the root edge of its vertex.
-use Rattle.std.proofs.Common.{◌≡◌, ◌==◌, ℕ, suc, ◌+◌, ◌<◌, Bool, true, false, cond, All, List, [], ◌∷◌, ◌++◌, sum_by, Option, Some}
+use Rattle.std.proofs.Common.{◌≡◌, ◌==◌, ℕ, suc, ◌<◌, Bool, true, false, cond, All, List, [], ◌∷◌, ◌++◌, sum_by, Option, Some}
 use Rattle.std.proofs.Common.{None, refl, ap, ◌∙◌, arith, ne_eqb}
 use Rattle.std.proofs.lemmas.List.Elements.{All-head, All-tail}
 use Rattle.std.proofs.lemmas.List.Sums.{sum_by-cons, sum_by-append}

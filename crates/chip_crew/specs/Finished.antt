@@ -8,7 +8,7 @@ use Rattle.chip_sequence.specs.Play.{IsPlayed}
 use Rattle.chip_part.specs.Setting.{setting_with}
 use Rattle.chip_net.specs.Roots.{fed_by}
 use Rattle.chip_net.specs.Meeting.{IsRun}
-use Rattle.chip_crew.specs.Plans.{is_fed_plan, AreWithinTotal}
+use Rattle.chip_crew.specs.Plans.{is_fed_plan}
 use Rattle.chip_crew.specs.Asked.{Asked, SomeShut}
 use Rattle.chip_crew.specs.Crew.{CrewId, AreActors, all_turns}
 use Rattle.chip_crew.specs.Feeding.{Left, pairs}
@@ -23,7 +23,7 @@ use Rattle.chip_crew.specs.declared.fault.CrewFault.TheVariants as fault
 -- with the chips of the start what is fed stays within the total
 abbrev pub StaysWithin : ChipGame → Left → Type 0
 StaysWithin game None = ⊤
-StaysWithin game (Some feeds) = AreWithinTotal game feeds
+StaysWithin game (Some feeds) = sum game.start + all_brought feeds ≤ max_total
 
 -- it passes the total
 abbrev pub PassesTotal : ChipGame → Left → Type 0

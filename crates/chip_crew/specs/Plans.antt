@@ -1,8 +1,6 @@
 -- Which plans there are for a crew.
-use Rattle.std.specs.Prelude.{ℕ, ◌+◌, ◌≤◌, ◌^◌, Bool, true, ◌&&◌, nat_lt, nat_le, List, length, sum, Option, Some, None}
+use Rattle.std.specs.Prelude.{ℕ, ◌^◌, Bool, true, ◌&&◌, nat_lt, nat_le, List, length, Option, Some, None}
 use Rattle.std.specs.List.{list_all}
-use Rattle.chip_graph.specs.Limits.{max_total}
-use Rattle.chip_graph.specs.More.{all_brought}
 use Rattle.chip_graph.specs.ChipGame.{ChipGame}
 use Rattle.chip_link.specs.Rings.{max_ring}
 use Rattle.chip_crew.specs.declared.plan.Plan.{Plan}
@@ -41,7 +39,3 @@ are_feeds game feeds = list_all (λ pair. nat_lt pair.0 game.graph.vertices && n
 -- plan and feeds are in their ranges
 abbrev pub is_fed_plan : ChipGame → List (ℕ × ℕ) → Plan → Bool
 is_fed_plan game feeds plan = is_plan game plan && are_feeds game feeds
-
--- with the chips of the start they stay within the total
-abbrev pub AreWithinTotal : ChipGame → List (ℕ × ℕ) → Type 0
-AreWithinTotal game feeds = sum game.start + all_brought feeds ≤ max_total

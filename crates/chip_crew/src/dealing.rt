@@ -1,13 +1,15 @@
 //! How the actors are dealt out to the workers.
 
-ghost use Rattle.std.specs.Prelude.{◌≡◌, ◌+◌, ◌*◌, ◌≤◌, ◌<◌, ◌^◌, ℕ, IfOk, None, length};
+ghost use Rattle.std.specs.Prelude.{◌≡◌, ◌+◌, ◌*◌, ◌≤◌, ◌<◌, ◌^◌, ℕ, IfOk, length};
 ghost use Rattle.chip_graph.specs.Limits.{max_edges};
 ghost use Rattle.chip_crew.specs.declared.plan.Sharing.TheVariants as shares;
 ghost use Rattle.chip_crew.specs.Plans.{max_workers};
 ghost use Rattle.chip_crew.specs.Dealing.{ends_at, ends_before};
-ghost use Rattle.chip_crew.specs.Handed.{AreReady};
+ghost use Rattle.chip_crew.specs.Gathering.{AreBack, queue_for};
+ghost use Rattle.chip_crew.specs.Joining.{AreShares, queue_of_all};
 ghost use Rattle.chip_crew.specs.Crew.{AreFrom, all_turns};
 
+use crate::gathering::Back;
 use crate::queue::Crew;
 use crate::worker::Share;
 use chip_graph::Graph;
@@ -59,22 +61,24 @@ fn next_cut(graph: &Graph, workers: u64, share: u64, first: u64, before: u64) ->
 
 /// Deals the actors of all vertices out, which are in their order: to each worker a run of consecutive ones. So many
 /// ends of edges are at the vertices before a run as an even deal gives the workers before, or the least number above.
+/// The actors come back to a row that has room for all.
 pub(crate) fn deal<'q, B: Crew>(
     alloc: Global,
     graph: &Graph,
     mut actors: Vec<Actor>,
     workers: u64,
-) -> Result<Vec<Share<'q, B>>, AllocError>
+) -> Result<(Vec<Share<'q, B>>, Back<'q, B>), AllocError>
     requires graph { graph.now ≡ B.asked.crew.net.setting.game.graph }
     requires workers { (0 < workers) × (workers ≤ max_workers) × (workers ≡ B.asked.crew.workers) }
     requires actors { AreFrom B.asked.crew 0 actors.items }
     requires count { length actors.items ≡ B.asked.crew.net.setting.game.graph.vertices }
     requires no_turns { all_turns actors.items ≡ 0 }
     requires sharing { B.asked.crew.sharing ≡ shares.Dealt }
-    ensures count { IfOk result (λ all. length all.items ≡ workers) }
-    ensures ready { IfOk result (λ all. AreReady B.asked None all.items) }
+    ensures shares { IfOk result (λ r. AreShares B.asked r.0.items × (queue_of_all r.0.items ≡ queue_for r.1)) }
+    ensures back { IfOk result (λ r. AreBack B.asked 0 r.1) }
 {
     let all_ends = all_ends(graph);
+    let row = Vec::with_capacity(alloc, actors.len())?;
     let mut all = Vec::with_capacity(alloc, workers as usize)?;
     let mut first = 0;
     let mut ends = 0;
@@ -86,5 +90,5 @@ pub(crate) fn deal<'q, B: Crew>(
         first = next;
         ends = before;
     }
-    Ok(all)
+    Ok((all, Back::Dealt(row)))
 }

@@ -52,7 +52,7 @@ pub(crate) struct Joined<'l, 'q, B: Crew> {
     pub collected: Collected<'q, B>,
 }
 
-/// Starts a worker.
+/// Starts a worker. Where it can't be started, those that were are told to stop.
 fn start<'s, E, B: Crew + Send + Sync, G: Gate + Sync, D: Duties + Send + Drop + 's>(
     scope: &Scope<'s, E>,
     worker: Worker<'s, B, G, D>,
@@ -67,13 +67,17 @@ fn start<'s, E, B: Crew + Send + Sync, G: Gate + Sync, D: Duties + Send + Drop +
         share: Snapshot::of(&worker.share),
         duties: Snapshot::of(&worker.duties),
     };
+    let shared = worker.shared;
     match scope.spawn_with(promise, move || worker.work()) {
         Ok(started) => Ok(started),
-        Err(_) => Err(CrewFault::Spawn),
+        Err(_) => {
+            shared.stop.store(true, SeqCst);
+            Err(CrewFault::Spawn)
+        }
     }
 }
 
-/// Starts all workers, worker 0 first. Where one can't be started, those that were are told to stop.
+/// Starts all workers, worker 0 first.
 pub(crate) fn start_all<'s, E, B: Crew + Send + Sync, G: Gate + Sync>(
     scope: &Scope<'s, E>,
     alloc: Global,
@@ -110,13 +114,8 @@ pub(crate) fn start_all<'s, E, B: Crew + Send + Sync, G: Gate + Sync>(
             share,
             duties: NoDuties,
         };
-        match start(scope, worker) {
-            Ok(started) => others.push_reserved(started),
-            Err(fault) => {
-                shared.stop.store(true, SeqCst);
-                return Err(fault);
-            }
-        }
+        let started = start(scope, worker)?;
+        others.push_reserved(started);
         number += 1;
     }
     Ok((first, others))

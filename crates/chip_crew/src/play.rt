@@ -2,7 +2,7 @@
 
 ghost use Rattle.chip_crew.specs.Places.{HasNothing};
 ghost use Rattle.chip_crew.specs.Ledger.{got_turns, gave_turns};
-ghost use Rattle.std.specs.Prelude.{◌≡◌, ◌<◌, ◌≤◌, true, false, [], All, map, length, Some, None, IfOk, IfErr};
+ghost use Rattle.std.specs.Prelude.{◌≡◌, ◌<◌, ◌≤◌, true, false, All, map, length, Some, None, IfOk, IfErr};
 ghost use Rattle.std.specs.Option.{option_copied, option_zip};
 ghost use Rattle.crossbeam_queue.specs.Passes.{view, IsPassOf, ruled_capacity};
 ghost use Rattle.chip_crew.specs.declared.plan.Sharing.TheVariants as shares;
@@ -11,7 +11,6 @@ ghost use Rattle.chip_crew.specs.Crew.{IsOurs, all_turns};
 ghost use Rattle.chip_crew.specs.Leading.{IsLeader};
 ghost use Rattle.chip_crew.specs.Plans.{max_workers};
 ghost use Rattle.chip_crew.specs.Gathering.{AreBack, queue_for};
-ghost use Rattle.std.specs.Vec.{vec_capacity};
 ghost use Rattle.chip_crew.specs.Joining.{AreOpened, AreShares, HasJoined, queue_of_all};
 ghost use Rattle.chip_crew.specs.Finished.{HasFinished, IsFinished, IsStopped, IsFaultOf};
 
@@ -68,17 +67,18 @@ fn passes<'q, B: Crew>(
     alloc: Global,
     queue: &'q Queue<B>,
     mut pass: QueuePass,
-    row: Vec<Actor>,
+    vertices: usize,
     workers: u64,
 ) -> Result<(Vec<Share<'q, B>>, Back<'q, B>), AllocError>
     requires sharing { B.asked.crew.sharing ≡ shares.Queue }
     requires workers { (workers ≡ B.asked.crew.workers) × (0 < workers) × (workers ≤ max_workers) }
     requires pass { IsPassOf queue.now pass }
     requires has { HasNothing (view pass) × ((view pass).workers ≡ workers) }
-    requires row { (row.items ≡ []) × (B.asked.crew.net.setting.game.graph.vertices ≤ vec_capacity row) }
+    requires vertices { vertices ≡ B.asked.crew.net.setting.game.graph.vertices }
     ensures shares { IfOk result (λ r. AreShares B.asked r.0.items × (queue_of_all r.0.items ≡ queue_for r.1)) }
     ensures back { IfOk result (λ r. AreBack B.asked 0 r.1) }
 {
+    let row = Vec::with_capacity(alloc, vertices)?;
     let mut all = Vec::with_capacity(alloc, workers as usize)?;
     for _ in 0..workers {
         all.push_reserved(Share::Queue {
@@ -158,45 +158,35 @@ fn work_all<'a, R: Threads + Wait, B: Crew + Send + Sync, G: Gate + Sync>(
     )
 }
 
-/// Plays with a queue, in which the actors are at the start.
-fn play_by_queue<'a, R: Threads + Wait, B: Crew + Send + Sync, G: Gate + Sync>(
-    rt: &R,
-    alloc: Global,
-    shared: &'a Shared<'a, B, G>,
-    leader: Leader<'a>,
-    actors: Vec<Actor>,
-) -> Result<Finished, CrewFault>
-    requires sharing { B.asked.crew.sharing ≡ shares.Queue }
-    requires opened { AreOpened B.asked leader actors.items }
-    ensures finished { IfOk result (HasFinished B.asked.crew B.asked.feeds B.asked.plan) }
-    ensures stopped { IfErr result (IsStopped B.asked) }
-{
-    let vertices = actors.len();
-    let row = Vec::with_capacity(alloc, vertices)?;
-    let (queue, mut pass) = Queue::<B>::ruled(alloc, vertices)?;
-    fill(rt, &queue, &mut pass, actors);
-    let (own, back) = passes(alloc, &queue, pass, row, shared.plan.workers)?;
-    work_all(rt, alloc, shared, leader, own, back)
-}
-
-/// Plays with actors that are dealt out.
-fn play_dealt<'a, R: Threads + Wait, B: Crew + Send + Sync, G: Gate + Sync>(
+/// Plays with actors that are shared in this way: all of them are in a queue at the start, or they are dealt out.
+fn play_shared<'a, R: Threads + Wait, B: Crew + Send + Sync, G: Gate + Sync>(
     rt: &R,
     alloc: Global,
     graph: &Graph,
+    sharing: Sharing,
     shared: &'a Shared<'a, B, G>,
     leader: Leader<'a>,
     actors: Vec<Actor>,
 ) -> Result<Finished, CrewFault>
-    requires sharing { B.asked.crew.sharing ≡ shares.Dealt }
+    requires sharing { sharing ≡ B.asked.crew.sharing }
     requires graph { graph.now ≡ B.asked.crew.net.setting.game.graph }
     requires opened { AreOpened B.asked leader actors.items }
     ensures finished { IfOk result (HasFinished B.asked.crew B.asked.feeds B.asked.plan) }
     ensures stopped { IfErr result (IsStopped B.asked) }
 {
-    let row = Vec::with_capacity(alloc, actors.len())?;
-    let own = deal::<B>(alloc, graph, actors, shared.plan.workers)?;
-    work_all(rt, alloc, shared, leader, own, Back::Dealt(row))
+    match sharing {
+        Sharing::Queue => {
+            let vertices = actors.len();
+            let (queue, mut pass) = Queue::<B>::ruled(alloc, vertices)?;
+            fill(rt, &queue, &mut pass, actors);
+            let (own, back) = passes(alloc, &queue, pass, vertices, shared.plan.workers)?;
+            work_all(rt, alloc, shared, leader, own, back)
+        }
+        Sharing::Dealt => {
+            let (own, back) = deal(alloc, graph, actors, shared.plan.workers)?;
+            work_all(rt, alloc, shared, leader, own, back)
+        }
+    }
 }
 
 /// Plays on a net that has just been opened, and feeds it.
@@ -237,10 +227,7 @@ fn play_on<R: Threads + Wait, B: Crew + Send + Sync, G: Gate + Sync>(
         plan,
         of: PhantomData,
     };
-    match sharing {
-        Sharing::Queue => play_by_queue(rt, alloc, &shared, leader, actors),
-        Sharing::Dealt => play_dealt(rt, alloc, graph, &shared, leader, actors),
-    }
+    play_shared(rt, alloc, graph, sharing, &shared, leader, actors)
 }
 
 /// Plays a game on a net of its own by as many threads as the plan says, which share its actors in this way, and feeds it

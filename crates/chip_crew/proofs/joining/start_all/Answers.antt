@@ -18,16 +18,16 @@ loop-share-preserved g c =
     let count = i.count in
     let place : c.loop-share.number ≡ 1 + length c.loop-share.others.items = omega (arith, count) in
     let steps = c.in-Some-share.ensures.steps.0 in
-    let begun = c.in-Ok.ensures.started in
+    let begun = c.in_ok-started.ensures.started in
     let first = (subst (EachFrom (IsReady g.B.Crew.asked queue) c.loop-share.number) steps i.shares).0 in
     record {
       shares = from_tail (IsReady g.B.Crew.asked queue) c.loop-share.number _ _ c.in-Some-share.share steps i.shares;
       left = search rules;
       count = search rules;
       started = from_push (λ worker h. IsWorker g.B.Crew.asked queue worker h.promise) 1 c.loop-share.others.items _
-          c.in-Ok.started c.push_reserved.ensures.items i.started (record {
+          c.in_ok-started.started c.push_reserved.ensures.items i.started (record {
             number_is = begun.0 ∙ place;
-            ready = subst (λ (n : ℕ). IsReady g.B.Crew.asked queue n c.in-Ok.started.promise.share.value) place
+            ready = subst (λ (n : ℕ). IsReady g.B.Crew.asked queue n c.in_ok-started.started.promise.share.value) place
                 (subst (IsReady g.B.Crew.asked queue c.loop-share.number) (sym begun.1) first);
           });
       room = search rules;

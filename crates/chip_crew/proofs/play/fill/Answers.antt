@@ -23,9 +23,8 @@ loop-actor-preserved g c =
     let i = c.loop-actor.invariant in
     let told : view c.push_as.new.pass ≡ with_put (view c.loop-actor.pass) c.in-Some.actor = search rules in
     let left : (turns_of c.in-Some.actor ≡ 0) × (all_turns c.next.new.self.rest.items ≡ 0) =
-    (let all = ap all_turns c.in-Some.ensures.steps.0 in
-    let both = sum_by-cons turns_of c.in-Some.actor c.next.new.self.rest.items in let old = i.left in
-    (omega (arith, all, both, old), omega (arith, all, both, old))) in
+    (let all = ap all_turns c.in-Some.ensures.steps.0 in let old = i.left in
+    let both = sum_by-cons turns_of c.in-Some.actor c.next.new.self.rest.items in (omega arith, omega arith)) in
     record {
       pass = search rules;
       ours = All-tail (IsOurs g.B.Crew.asked.crew) c.in-Some.actor _
@@ -34,7 +33,7 @@ loop-actor-preserved g c =
           ∙ ap (drop 1) (i.has ∙ ap (map (λ (a : ActorKnown). a.vertex)) c.in-Some.ensures.steps.0);
       got = ap got_turns told ∙ i.got;
       gave = (let all = ap gave_turns told in let more = sum_by_push turns_of (view c.loop-actor.pass).put c.in-Some.actor in
-          let old = i.gave in let none = left.0 in omega (arith, all, more, old, none));
+          let old = i.gave in let none = left.0 in omega arith);
       left = left.1;
       workers = ap (λ (l : Ledger). l.workers) told ∙ i.workers;
     }

@@ -15,20 +15,18 @@ use Rattle.chip_crew.proofs.play.passes.Goals as goal
 
 pub another-requires-clause-rule : goal.another-requires-clause-rule
 another-requires-clause-rule g c =
-    let left = c.loop.invariant.left in
-    forks g.B.Crew.asked.crew _ _ (omega (arith, left)) c.loop.invariant.has
+    let left = c.loop.invariant.left in forks g.B.Crew.asked.crew _ _ (omega arith) c.loop.invariant.has
 
 pub loop-preserved : goal.loop-preserved
 loop-preserved g c =
     let i = c.loop.invariant in
     let fewer = c.another.ensures.rule.0 in
     let same = c.another.ensures.queue in
-    let left = i.left in
     let one = ap (λ (l : Ledger). l.workers) fewer in
     record {
       ready = from_push (IsReady g.B.Crew.asked (Some c.another.new.pass.table_id)) 0 c.loop.all.items _
-          (share.Queue c.args.queue c.another.result None) c.push_reserved.ensures.items (subst (λ (t : TableId). AreReady g.B.Crew.asked (Some t) c.loop.all.items) (sym same.0.0) i.ready)
-          (record {
+          (share.Queue c.args.queue c.another.result None) c.push_reserved.ensures.items
+          (subst (λ (t : TableId). AreReady g.B.Crew.asked (Some t) c.loop.all.items) (sym same.0.0) i.ready) (record {
             made = (c.requires.sharing, same.1, (c.another.ensures.rule.1, refl), tt);
             uses = ap (λ (t : TableId). Some t) (same.1.0 ∙ sym i.pass.0 ∙ sym same.0.0);
           });
@@ -36,13 +34,13 @@ loop-preserved g c =
       room = search rules;
       pass = search rules;
       has = subst HasNothing (sym fewer) i.has;
-      left = omega (arith, left, one);
+      left = (let left = i.left in omega arith);
     }
 
 -- as all of them use one queue the first does
 first_uses : {B : Type 0} (asked : Asked) (queue : Option TableId) (all : List (Share B)) → 0 < length all
     → AreReady asked queue all → queue_of_all all ≡ queue
-first_uses asked queue [] some ready = absurd (omega (arith, some))
+first_uses asked queue [] some ready = absurd (omega arith)
 first_uses asked queue (own ∷ rest) some ready = ready.0.uses
 
 pub returns-clause-shares : goal.returns-clause-shares
@@ -50,11 +48,10 @@ returns-clause-shares g c =
     let i = c.loop.invariant in
     let workers = c.requires.workers in
     let count : length c.loop.all.items ≡ c.args.workers = search rules in
-    let some : 0 < length c.loop.all.items = omega (arith, count, workers.1) in
-    let uses = first_uses g.B.Crew.asked (Some c.loop.pass.table_id) c.loop.all.items some i.ready in (
+    let uses = first_uses g.B.Crew.asked (Some c.loop.pass.table_id) c.loop.all.items (omega arith) i.ready in (
       record {
-        some = omega (arith, workers.0, workers.1);
-        few = omega (arith, workers.0, workers.2);
+        some = omega arith;
+        few = omega arith;
         count = count ∙ workers.0;
         ready = subst (λ (q : Option TableId). AreReady g.B.Crew.asked q c.loop.all.items) (sym uses) i.ready;
       },
@@ -64,6 +61,9 @@ returns-clause-shares g c =
 pub returns-clause-back : goal.returns-clause-back
 returns-clause-back g c =
     let i = c.loop.invariant in
-    let none : (view c.loop.pass).workers ≡ 0 = (let left = i.left in let all : c.loop.counter ≡ c.args.workers = search rules in
-    omega (arith, left, all)) in
-    (c.requires.sharing, i.pass, gathers_none g.B.Crew.asked (view c.loop.pass) c.args.row i.has none c.requires.row.0 c.requires.row.1)
+    let all : c.loop.counter ≡ c.args.workers = search rules in
+    let none : (view c.loop.pass).workers ≡ 0 = (let left = i.left in omega arith) in (
+      c.requires.sharing,
+      i.pass,
+      gathers_none g.B.Crew.asked (view c.loop.pass) c.in_ok-row.row i.has none (search rules) (search rules),
+    )

@@ -3,7 +3,7 @@ use Rattle.std.proofs.lemmas.Result.{MatchResult-weaker}
 use Rattle.std.specs.Prelude.{is_some}
 use Rattle.std.specs.Option.{option_copied, option_zip}
 use Rattle.chip_part.specs.Setting.{Setting, setting_with}
-use Rattle.chip_net.specs.Roots.{RootKnown, new_root}
+use Rattle.chip_net.specs.Roots.{RootKnown, new_root, new_stopper}
 use Rattle.chip_crew.specs.Asked.{Asked, asked_of}
 use Rattle.chip_crew.specs.Finished.{IsCrewFor}
 use Rattle.chip_crew.proofs.OwningLemmas.{ours_by, new_turns}
@@ -36,8 +36,9 @@ play_on-requires-clause-opened g c κs within =
     let can = c.in_ok-ring.ensures.0 in
     let setting = c.in_ok-opened.ensures.setting ∙ c.in_ok-setting.ensures in
     let fits = plan_fits c.args.game.now (option_copied c.args.feeds) c.args.plan can in
-    let sealed = none_sealed asked.crew c.args.game.now c.args.plan.seal opened.stopper c.is_some-2.result
-    c.in_ok-opened.ensures.stopper c.is_some-2.ensures fits.3 (ap (λ (s : Setting). s.game) setting) in
+    let sealed = none_sealed asked.crew c.args.game.now c.args.plan.seal opened.stopper (c.in_ok-opened.ensures.stopper
+    ∙ ap (λ (b : Bool). if b then Some (new_stopper opened.net) else None) c.is_some-2.ensures) fits.3
+    (ap (λ (s : Setting). s.game) setting) in
     record {
       leads = record {
         root = c.in_ok-opened.ensures.root

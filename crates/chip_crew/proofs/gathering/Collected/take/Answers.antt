@@ -1,4 +1,4 @@
-use Rattle.std.proofs.Common.{◌≡◌, ◌+◌, ◌*◌, ◌∙◌, ◌++◌, ◌&&◌, ℕ, List, Some, refl, sym, ap, subst, arith, rules, add-one, suc-mul}
+use Rattle.std.proofs.Common.{◌≡◌, ◌+◌, ◌∙◌, ◌++◌, ◌&&◌, ℕ, List, Some, refl, sym, ap, subst, arith, rules}
 use Rattle.std.proofs.lemmas.List.Sums.{sum_by-append}
 use Rattle.std.specs.Vec.{vec_capacity}
 use Rattle.atomic_table.specs.Seated.{TableId}
@@ -31,7 +31,6 @@ join_pass-requires-clause-turns g c =
 pub returns : goal.returns
 returns g c =
     let workers = c.args.self.now.workers in
-    let most = g.B.Crew.asked.plan.turns in
     let collects : Collected g.row.B.Denot → Type 0 = λ m. Collects g.B.Crew.asked c.args.passed c.args.self.now
     (record { workers = m.workers + 1; passed = m.passed && c.args.passed; back = m.back }) in
     elim c.match-share.branch [

@@ -1,42 +1,46 @@
-use Rattle.std.proofs.Common.{ap, subst, arith}
+use Rattle.std.proofs.Common.{◌≡◌, ◌+◌, ◌≤◌, ℕ, true, false, refl, ap, subst, arith, eq-eqb, ne_eqb}
 use Rattle.chip_net.specs.Tokens.{NetId}
-use Rattle.chip_crew.specs.Leading.{CanLead, LeadsTurn, LeadsRound}
+use Rattle.chip_crew.specs.Asked.{Asked}
+use Rattle.chip_crew.specs.Duties.{Serves}
+use Rattle.chip_crew.specs.Leading.{CanLead, HasLed, LeadsTurn, LeadsRound}
+use Rattle.chip_crew.specs.declared.leader.Leader.{Leader}
 use Rattle.chip_crew.specs.declared.plan.Plan.{Plan}
-use Rattle.chip_crew.proofs.DutiesLemmas.{serves_turn, serves_end}
+use Rattle.chip_crew.proofs.DutiesLemmas.{serves_turn}
 use Rattle.chip_crew.proofs.leader.Leader.go_on.Goals as goal
+
+-- one turn more
+led_more : (asked : Asked) (round turns : ℕ) (old new : Leader) (has : HasLed asked round turns old)
+    → turns + 1 ≤ asked.plan.turns → Serves LeadsTurn LeadsRound round (turns + 1) has.first new
+    → (net : NetId) → net ≡ asked.crew.net → CanLead net new → HasLed asked round (turns + 1) new
+led_more asked round turns old new has few served net is can = record {
+  first = has.first;
+  begins = has.begins;
+  is_round = has.is_round;
+  some = has.some;
+  at_most = few;
+  served = served;
+  can = subst (λ (n : NetId). CanLead n new) is can;
+}
 
 pub overflow_add-turns : goal.overflow_add-turns
 overflow_add-turns g c =
     let few = c.shared.invariant.few_turns in
-    let all = ap (λ (p : Plan). p.turns) c.shared.invariant.plan_is in omega (arith, few, all)
+    let all = ap (λ (p : Plan). p.turns) c.shared.invariant.plan_is in omega arith
 
 pub loop-turns-preserved : goal.loop-turns-preserved
 loop-turns-preserved g c =
     let i = c.loop-turns.invariant in
     let all = ap (λ (p : Plan). p.turns) c.shared.invariant.plan_is in
-    record {
-      first = i.first;
-      begins = i.begins;
-      is_round = i.is_round;
-      some = i.some;
-      at_most = omega (arith, all);
-      served = serves_turn LeadsTurn LeadsRound c.args.round c.loop-turns.turns i.first c.loop-turns.self
-          c.begin_turn.new.self i.served c.begin_turn.ensures.done c.if-turns-round-eq0.false;
-      can = subst (λ (n : NetId). CanLead n c.begin_turn.new.self) c.shared.invariant.net_is c.begin_turn.ensures.can;
-    }
+    led_more g.B.Crew.asked c.args.round c.loop-turns.turns c.loop-turns.self c.begin_turn.new.self i (omega arith)
+    (serves_turn LeadsTurn LeadsRound c.args.round c.loop-turns.turns false i.first c.loop-turns.self c.begin_turn.new.self
+    _ i.served c.begin_turn.ensures.done (ne_eqb _ 0 c.if-turns-round-eq0.false) refl) _ c.shared.invariant.net_is
+    c.begin_turn.ensures.can
 
 pub loop-turns-preserved-then-turns-round-eq0 : goal.loop-turns-preserved-then-turns-round-eq0
 loop-turns-preserved-then-turns-round-eq0 g c =
     let i = c.loop-turns.invariant in
     let all = ap (λ (p : Plan). p.turns) c.shared.invariant.plan_is in
-    record {
-      first = i.first;
-      begins = i.begins;
-      is_round = i.is_round;
-      some = i.some;
-      at_most = omega (arith, all);
-      served = serves_end LeadsTurn LeadsRound c.args.round c.loop-turns.turns i.first c.loop-turns.self
-          c.begin_turn.new.self c.end_round.new.self i.served c.begin_turn.ensures.done c.if-turns-round-eq0.true
-          c.end_round.ensures.done;
-      can = subst (λ (n : NetId). CanLead n c.end_round.new.self) c.shared.invariant.net_is c.end_round.ensures.can;
-    }
+    led_more g.B.Crew.asked c.args.round c.loop-turns.turns c.loop-turns.self c.end_round.new.self i (omega arith)
+    (serves_turn LeadsTurn LeadsRound c.args.round c.loop-turns.turns true i.first c.loop-turns.self c.begin_turn.new.self
+    _ i.served c.begin_turn.ensures.done (eq-eqb _ 0 c.if-turns-round-eq0.true) c.end_round.ensures.done) _
+    c.shared.invariant.net_is c.end_round.ensures.can

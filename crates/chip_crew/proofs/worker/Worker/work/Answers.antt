@@ -1,4 +1,4 @@
-use Rattle.std.proofs.Common.{◌≡◌, ◌∙◌, ◌==◌, ◌+◌, false, false-eqb, sym, ap, rules, arith}
+use Rattle.std.proofs.Common.{◌≡◌, ◌∙◌, false, false-eqb, sym, ap, rules, arith}
 use Rattle.chip_crew.specs.Asked.{ShutFor}
 use Rattle.chip_crew.specs.declared.plan.Plan.{Plan}
 use Rattle.chip_crew.proofs.ShareLemmas.{has_worked}
@@ -35,29 +35,26 @@ returns g c =
     let passed : c.loop-turns.passed ≡ false → ShutFor g.B.Crew.asked c.args.self.number =
     λ no. (let yes = i.passed in cc) in
     elim c.loop-turns-test.branch [
-      | else-loop-turns-test w ↦ worked c.loop-turns.share _ c.loop-turns.duties _ c.loop-turns.passed _ c.loop-turns.turns _
-          c.round-round.result w.share-is w.duties-is w.passed-is w.turns-is i.few i.made passed i.uses i.round i.served i.can
-      | then-loop-turns-test+else-not-load w ↦ worked c.loop-turns.share _ c.loop-turns.duties _ c.loop-turns.passed _
-          c.loop-turns.turns _ c.round-round.result w.share-is w.duties-is w.passed-is w.turns-is i.few i.made passed i.uses
-          i.round i.served i.can
+      | else-loop-turns-test w ↦ worked _ _ _ _ _ _ _ _ _ w.share-is w.duties-is w.passed-is w.turns-is i.few i.made passed i.uses i.round
+          i.served i.can
+      | then-loop-turns-test+else-not-load w ↦ worked _ _ _ _ _ _ _ _ _ w.share-is w.duties-is w.passed-is w.turns-is i.few i.made passed
+          i.uses i.round i.served i.can
       | then-loop-turns-test+then-not-load+then-made-round w ↦
-          let made = w.round-made.ensures.round.at_most in
-          worked w.round-made.new.share _ w.round-made.new.duties _ (w.round-made.result == w.min-most.result) _
-          (c.loop-turns.turns + w.round-made.result) _ c.round-round.result w.share-is w.duties-is w.passed-is w.turns-is
-          (omega (arith, made, plan)) w.round-made.ensures.made
-          (λ no. w.round-made.ensures.round.shut (let other = false-eqb w.round-made.result w.min-most.result (sym no) in
-          omega (arith, made, other))) (w.round-made.ensures.same.1 ∙ i.uses) (i.round ∙ sym w.round-made.ensures.same.0)
+          let made = w.round-made.ensures in
+          let most = made.round.at_most in
+          worked _ _ _ _ _ _ _ _ _ w.share-is w.duties-is w.passed-is w.turns-is (omega arith) made.made
+          (λ no. made.round.shut (let other = false-eqb w.round-made.result w.min-most.result (sym no) in omega arith))
+          (made.same.1 ∙ i.uses) (i.round ∙ sym made.same.0)
           (serves_more g.D.Duties.before g.D.Duties.after c.round-round.result c.loop-turns.turns w.round-made.result
-          c.args.self.duties c.loop-turns.duties w.round-made.new.duties i.begins w.if-made-round.true i.served
-          w.round-made.ensures.done) w.round-made.ensures.can
+          c.args.self.duties c.loop-turns.duties w.round-made.new.duties i.begins w.if-made-round.true i.served made.done)
+          made.can
       | then-loop-turns-test+then-not-load+else-made-round+then-end_round w ↦
-          let made = w.round-made.ensures.round.at_most in
+          let made = w.round-made.ensures in
+          let most = made.round.at_most in
           let whole : w.round-made.result ≡ c.round-round.result = omega arith in
-          worked w.round-made.new.share _ w.end_round.new.self _ c.loop-turns.passed _
-          (c.loop-turns.turns + w.round-made.result) _ c.round-round.result w.share-is w.duties-is w.passed-is w.turns-is
-          (omega (arith, made, plan)) w.round-made.ensures.made passed (w.round-made.ensures.same.1 ∙ i.uses)
-          (i.round ∙ sym w.round-made.ensures.same.0)
+          worked _ _ _ _ _ _ _ _ _ w.share-is w.duties-is w.passed-is w.turns-is (omega arith) made.made passed (made.same.1 ∙ i.uses)
+          (i.round ∙ sym made.same.0)
           (serves_round g.D.Duties.before g.D.Duties.after c.round-round.result c.loop-turns.turns w.round-made.result
           c.args.self.duties c.loop-turns.duties w.round-made.new.duties w.end_round.new.self whole i.begins i.some i.served
-          w.round-made.ensures.done w.end_round.ensures.done) (search (rules, c.shared.invariant.net_is))
+          made.done w.end_round.ensures.done) (search (rules, c.shared.invariant.net_is))
     ]

@@ -5,7 +5,7 @@ use Rattle.std.specs.List.{range_with_len}
 use Rattle.chip_crew.specs.Ledger.{first_ledger, got_turns, gave_turns}
 use Rattle.chip_crew.proofs.PlacesLemmas.{begins, numbers_are}
 use Rattle.chip_crew.proofs.RunLemmas.{ours_from}
-use Rattle.chip_crew.proofs.play.play_by_queue.Goals as goal
+use Rattle.chip_crew.proofs.play.play_shared.Goals as goal
 
 pub ruled-requires-clause-rule : goal.ruled-requires-clause-rule
 ruled-requires-clause-rule g c =
@@ -16,11 +16,11 @@ fill-requires-clause-actors g c = ours_from g.B.Crew.asked.crew 0 c.args.actors.
 
 pub fill-requires-clause-has : goal.fill-requires-clause-has
 fill-requires-clause-has g c =
-    let first : view c.in_ok-queue.pass ≡ first_ledger g.B.Crew.asked.crew = search rules in
+    let first : view c.in_ok-queue-in-Queue.pass ≡ first_ledger g.B.Crew.asked.crew = search rules in
     ap (λ (l : Ledger). l.has) first ∙ ap (range_with_len 0) (sym c.requires.opened.count)
     ∙ numbers_are g.B.Crew.asked.crew 0 c.args.actors.items c.requires.opened.each
 
 pub fill-requires-clause-turns : goal.fill-requires-clause-turns
 fill-requires-clause-turns g c =
-    let first : view c.in_ok-queue.pass ≡ first_ledger g.B.Crew.asked.crew = search rules in
+    let first : view c.in_ok-queue-in-Queue.pass ≡ first_ledger g.B.Crew.asked.crew = search rules in
     (ap got_turns first, ap gave_turns first, c.requires.opened.no_turns)

@@ -6,22 +6,22 @@ use Rattle.chip_net.specs.declared.actor.Turn.{Turn}
 use Rattle.chip_crew.specs.Crew.{CrewId, all_turns}
 use Rattle.chip_crew.specs.declared.queue.Ledger.{Ledger}
 
+-- a ledger that was handed back
+abbrev pub no_ledger : Ledger
+no_ledger = record { workers = 0; has = []; taken = []; put = [] }
+
 -- the calling thread's, before there is a worker: it speaks for all workers, and has all actors
 abbrev pub first_ledger : CrewId → Ledger
-first_ledger crew = record {
-  workers = crew.workers;
-  has = range_with_len 0 crew.net.setting.game.graph.vertices;
-  taken = [];
-  put = [];
-}
+first_ledger crew =
+    record no_ledger { workers = crew.workers; has = range_with_len 0 crew.net.setting.game.graph.vertices }
 
 -- a worker's: it has no actor, nothing was taken from the queue yet, and nothing put there
 abbrev pub new_ledger : Ledger
-new_ledger = record { workers = 1; has = []; taken = []; put = [] }
+new_ledger = record no_ledger { workers = 1 }
 
 -- the calling thread's, once it has given a worker one of its own
 abbrev pub with_fewer : Ledger → Ledger
-with_fewer old = record { workers = old.workers - 1; has = old.has; taken = old.taken; put = old.put }
+with_fewer old = record old { workers = old.workers - 1 }
 
 -- the calling thread's, once it has got that of a worker back
 abbrev pub both_ledgers : Ledger → Ledger → Ledger
@@ -32,22 +32,13 @@ both_ledgers one other = record {
   put = one.put ++ other.put;
 }
 
--- a ledger that was handed back
-abbrev pub no_ledger : Ledger
-no_ledger = record { workers = 0; has = []; taken = []; put = [] }
-
 -- this actor was taken
 abbrev pub with_taken : Ledger → ActorKnown → Ledger
-with_taken old a = record {
-  workers = old.workers;
-  has = old.has ++ a.vertex ∷ [];
-  taken = old.taken ++ a ∷ [];
-  put = old.put;
-}
+with_taken old a = record old { has = old.has ++ a.vertex ∷ []; taken = old.taken ++ a ∷ [] }
 
 -- this actor was put, the first of those that the thread had
 abbrev pub with_put : Ledger → ActorKnown → Ledger
-with_put old a = record { workers = old.workers; has = drop 1 old.has; taken = old.taken; put = old.put ++ a ∷ [] }
+with_put old a = record old { has = drop 1 old.has; put = old.put ++ a ∷ [] }
 
 -- the turns of the actors that the thread took from the queue, as they were then, and of those that it put there
 abbrev pub got_turns : Ledger → ℕ

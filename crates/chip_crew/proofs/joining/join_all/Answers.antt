@@ -2,7 +2,6 @@ use Rattle.std.proofs.Common.{◌≡◌, ◌∙◌, ◌<◌, ◌&&◌, ℕ, Bool
 use Rattle.chip_crew.specs.Asked.{Asked, ShutFor, SomeShut}
 use Rattle.chip_crew.specs.Crew.{EachFrom}
 use Rattle.chip_crew.specs.Gathering.{queue_for}
-use Rattle.chip_crew.specs.Handed.{IsHanded}
 use Rattle.chip_crew.specs.Joining.{IsWorker}
 use Rattle.chip_crew.specs.Leading.{HasLed}
 use Rattle.chip_crew.proofs.RunLemmas.{from_tail}
@@ -20,14 +19,12 @@ shut_some asked worker true passed new is before here less nay =
 
 pub take-requires-clause-made : goal.take-requires-clause-made
 take-requires-clause-made g c =
-    let h = subst (λ (w : ℕ). IsHanded g.B.Crew.asked w c.join-share.result) c.requires.leader.0.number_is
-    c.join-share.ensures.is_handed in (c.join-share.result.turns, h.at_most, h.made)
+    let h = rw c.requires.leader.0.number_is at c.join-share.ensures.is_handed in (c.join-share.result.turns, h.at_most, h.made)
 
 pub loop-started-init : goal.loop-started-init
 loop-started-init g c =
     let taken = c.take.ensures in
-    let h = subst (λ (w : ℕ). IsHanded g.B.Crew.asked w c.join-share.result) c.requires.leader.0.number_is
-    c.join-share.ensures.is_handed in
+    let h = rw c.requires.leader.0.number_is at c.join-share.ensures.is_handed in
     let rest = c.into_iter-started-iterator.ensures.into_iter_gives.0 in
     let count = c.requires.count in
     record {
@@ -46,8 +43,7 @@ pub take-requires-in-loop-started-clause-made : goal.take-requires-in-loop-start
 take-requires-in-loop-started-clause-made g c =
     let first = (subst (EachFrom (λ worker h. IsWorker g.B.Crew.asked (queue_for c.args.back) worker h.promise)
     c.loop-started.collected.workers) c.in-Some.ensures.steps.0 c.loop-started.invariant.workers).0 in
-    let h = subst (λ (w : ℕ). IsHanded g.B.Crew.asked w c.join-share-in-loop-started.result) first.number_is
-    c.join-share-in-loop-started.ensures.is_handed in (c.join-share-in-loop-started.result.turns, h.at_most, h.made)
+    let h = rw first.number_is at c.join-share-in-loop-started.ensures.is_handed in (c.join-share-in-loop-started.result.turns, h.at_most, h.made)
 
 pub loop-started-preserved : goal.loop-started-preserved
 loop-started-preserved g c =
@@ -57,8 +53,7 @@ loop-started-preserved g c =
     let steps = c.in-Some.ensures.steps.0 in
     let first = (subst (EachFrom (λ worker h. IsWorker g.B.Crew.asked (queue_for c.args.back) worker h.promise) old.workers)
     steps i.workers).0 in
-    let h = subst (λ (w : ℕ). IsHanded g.B.Crew.asked w c.join-share-in-loop-started.result) first.number_is
-    c.join-share-in-loop-started.ensures.is_handed in
+    let h = rw first.number_is at c.join-share-in-loop-started.ensures.is_handed in
     let left = i.left in
     let many = ap length steps in
     record {
@@ -75,8 +70,7 @@ loop-started-preserved g c =
 
 pub returns : goal.returns
 returns g c =
-    let h = subst (λ (w : ℕ). IsHanded g.B.Crew.asked w c.join-share.result) c.requires.leader.0.number_is
-    c.join-share.ensures.is_handed in
+    let h = rw c.requires.leader.0.number_is at c.join-share.ensures.is_handed in
     let round = first_round g.B.Crew.asked c.join-share.result.turns c.join-share.result.share h.made in
     record {
       led = subst (λ (n : ℕ). HasLed g.B.Crew.asked n c.join-share.result.turns c.join-share.result.duties)

@@ -20,7 +20,8 @@ module _ {D : Type 0} (before : ℕ → D → D → Type 0) where
 
   module _ (after : D → D → Type 0) (round : ℕ) where
     -- one turn more, with what comes after a round where it ends one
-    pub serves_turn : (k : ℕ) (over : Bool) (old was now end : D) → Serves before after round k old was → before k was now
+    pub serves_turn : (k : ℕ) (over : Bool) (old was now end : D) → Serves before after round k old was
+        → before k was now
         → ((k + 1) % round == 0) ≡ over → EndsIf after over now end → Serves before after round (k + 1) old end
     serves_turn k over old was now end served begun is ends =
         subst (λ (n : ℕ). Serves before after round n old end) (sym (add-one k)) (
@@ -41,7 +42,8 @@ module _ {D : Type 0} (before : ℕ → D → D → Type 0) where
         let next : m + k + 1 ≡ m + suc k = omega arith in
         let place = ap (λ (n : ℕ). n % round) next ∙ place_is m (suc k) round begins less in
         subst (λ (n : ℕ). Serves before after round n old now) next
-        (serves_turn (m + k) false old each.0 now now (serves_more m k old was each.0 begins (omega arith) served each.1)
+        (serves_turn (m + k) false old each.0 now now
+        (serves_more m k old was each.0 begins (omega arith) served each.1)
         each.2 (ne_eqb ((m + k + 1) % round) 0 (omega arith)) refl)
 
     -- a whole round
@@ -53,4 +55,5 @@ module _ {D : Type 0} (before : ℕ → D → D → Type 0) where
         let next : m + j + 1 ≡ m + suc j = omega arith in
         subst (λ (n : ℕ). Serves before after round n old end) next
         (serves_turn (m + j) true old each.0 now end (serves_more m j old was each.0 begins (omega arith) served each.1)
-        each.2 (eq-eqb ((m + j + 1) % round) 0 (ap (λ (n : ℕ). n % round) next ∙ round_over round m (suc j) whole begins)) done)
+        each.2 (eq-eqb ((m + j + 1) % round) 0 (ap (λ (n : ℕ). n % round) next
+        ∙ round_over round m (suc j) whole begins)) done)

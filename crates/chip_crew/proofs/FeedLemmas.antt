@@ -103,8 +103,9 @@ end_adds : (old new : RootKnown) (answer : RootState) → Ends old new answer �
 end_adds old new answer ends =
     let g = old.net.setting in let steps = ends.ending.steps in
     adds_steps old new steps [] true ends.ending.record_is
-    (sym (ap (λ (s : Part). s.ended) (part_append g (opening_part g) old.did steps)) ∙ ap has_ended (sym ends.ending.record_is)
-    ∙ ends.ended) (end_feeds g (root_part old) steps _ ends.ending.events_are (are_settles g 1 (g.game.graph.vertices - 1)))
+    (sym (ap (λ (s : Part). s.ended) (part_append g (opening_part g) old.did steps))
+    ∙ ap has_ended (sym ends.ending.record_is) ∙ ends.ended)
+    (end_feeds g (root_part old) steps _ ends.ending.events_are (are_settles g 1 (g.game.graph.vertices - 1)))
 
 -- a feed feeds what it says
 feed_adds : (old new : RootKnown) (v k place : ℕ) → Feeds old new v k place

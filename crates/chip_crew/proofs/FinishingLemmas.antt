@@ -1,6 +1,7 @@
 -- Serves Finished.antt, Feeding.antt, Plans.antt.
 -- What is known of a crew is known of the game that it played.
-use Rattle.std.proofs.Common.{◌≡◌, ◌⊎◌, ⊎_elim, ◌+◌, ◌<◌, ◌≤◌, ℕ, true, false, not, List, [], ◌++◌, All, sum, Option, Some, None}
+use Rattle.std.proofs.Common.{◌≡◌, ◌⊎◌, ⊎_elim, ◌+◌, ◌<◌, ◌≤◌, ℕ, true, false, not, List, [], ◌++◌, All, sum, Option}
+use Rattle.std.proofs.Common.{Some, None}
 use Rattle.std.proofs.Common.{is_some, refl, sym, ◌∙◌, ap, subst, arith, ltb, leb, ltb-true}
 use Rattle.std.proofs.lemmas.Bool.{and_parts, leb-true}
 use Rattle.std.proofs.lemmas.List.Sums.{AllPass-from_list_all}
@@ -32,7 +33,7 @@ use Rattle.chip_crew.specs.declared.fault.CrewFault.TheVariants as fault
 use Rattle.chip_crew.proofs.FeedLemmas.{Adds, GoesOn, poll_adds, led_goes_on, over_has_fed}
 use Rattle.chip_crew.proofs.OverLemmas.{over_polled}
 use Rattle.chip_crew.proofs.LeadingLemmas.{led_by}
-use Rattle.chip_crew.proofs.SealingLemmas.{takes_back, back_same, knows_seals}
+use Rattle.chip_crew.proofs.SealingLemmas.{IsSame, takes_back, back_same, knows_seals}
 
 -- the root of a net that opens to be fed may feed what the plan says
 pub may_begin : (game : ChipGame) (feeds : Left) (plan : Plan) (net : NetId) (root : RootKnown)
@@ -56,7 +57,8 @@ pub plan_fits : (game : ChipGame) (feeds : Left) (plan : Plan) → CanPlay game 
     → (0 < plan.workers) × (plan.workers ≤ max_workers) × (plan.turns ≤ max_turns) × (names_edge game plan.seal ≡ true)
 plan_fits game feeds plan can =
     let named = and_parts _ (names_edge game plan.seal) (and_parts _ (are_feeds game (pairs feeds)) can.within).0 in
-    let counts = and_parts _ (is_count max_turns plan.turns) (and_parts _ (leb plan.trace_rows max_trace_rows) named.0).0 in
+    let counts = and_parts _ (is_count max_turns plan.turns) (and_parts _ (leb plan.trace_rows max_trace_rows)
+    named.0).0 in
     let workers = and_parts (ltb 0 plan.workers) (leb plan.workers max_workers)
     (and_parts (is_count max_workers plan.workers) (is_count max_ring plan.ring) counts.0).0 in
     let turns = and_parts (ltb 0 plan.turns) (leb plan.turns max_turns) counts.1 in (
@@ -77,7 +79,7 @@ module _ (asked : Asked) (round turns : ℕ) (leader : Leader) (back : RootKnown
   its_back : TakesBack asked.plan.seal turns leader.root back
   its_back = takes_back asked.crew asked.plan.seal turns leader.seal leader.root back its_led.1 has_back
 
-  same : (did : Option (List Step)) × (back ≡ record { net = leader.root.net; did = leader.root.did; stopper_did = did })
+  same : IsSame leader.root back
   same = back_same asked.plan.seal turns leader.root back its_back
 
   -- the root closed in the end: all is fed
@@ -140,7 +142,7 @@ module _ (feeds : Left) (plan : Plan) (crew : CrewId) (f : Finished) (finished :
   polled : Adds ends.back ends.ends.root [] (has_ended ends.back)
   polled = poll_adds ends.back ends.ends.root ends.back.net.setting.game.graph.vertices ends.ends.polled
 
-  stays : (did : Option (List Step)) × (ends.back ≡ record { net = ends.led.net; did = ends.led.did; stopper_did = did })
+  stays : IsSame ends.led ends.back
   stays = back_same plan.seal ends.turns ends.led ends.back ends.is_back
 
   -- the root that finished is that of the crew's net

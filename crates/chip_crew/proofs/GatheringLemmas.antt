@@ -47,7 +47,8 @@ gathers_more asked old new row now more m n gathers is ours room speaks has turn
       ∙ sym (ap vertices_of is ∙ map-append (λ (a : ActorKnown). a.vertex) row.items more);
   ours = subst (All (IsOurs asked.crew)) (sym is) (All-append (IsOurs asked.crew) row.items more gathers.ours ours);
   room = room;
-  turns = (let old_turns = gathers.turns in let all = ap all_turns is in let both = sum_by-append turns_of row.items more in
+  turns = (let old_turns = gathers.turns in let all = ap all_turns is in
+      let both = sum_by-append turns_of row.items more in
       omega arith);
 }
 
@@ -97,7 +98,8 @@ are_from crew from (a ∷ rest) ours up least once =
       (All-head (IsOurs crew) a rest ours, here),
       are_from crew (suc from) rest (All-tail (IsOurs crew) a rest ours)
           (λ i j d le less. up (suc i) (suc j) d (omega arith) (omega arith))
-          (λ k d less. let some = get_or-le-sum_by (is_of from) rest k d less in let le = least (suc k) d (omega arith) in
+          (λ k d less. let some = get_or-le-sum_by (is_of from) rest k d less in
+          let le = least (suc k) d (omega arith) in
           let other : (get_or rest k d).vertex ≡ from → ⊥ = λ same.
           (let yes = cond_yes {A = ℕ} (get_or rest k d).vertex from 1 0 same in omega arith) in omega arith)
           (λ v le less. let was = once v (omega arith) (omega arith) in let all = sum_by-cons (is_of v) a rest in

@@ -36,8 +36,11 @@ can_still net leader root closed polls same over can = record {
 ends_round : (over : Bool) (old new : Leader) → EndsIf LeadsRound over old new
     → (option_copied new.feeds ≡ option_copied old.feeds) × (new.seal ≡ old.seal) × PollsIf over old.root new.root
 ends_round true old new ends = (ap option_copied ends.feeds, ends.seal, ends.polls)
-ends_round false old new same =
-    (ap (λ (l : Leader). option_copied l.feeds) same, ap (λ (l : Leader). l.seal) same, ap (λ (l : Leader). l.root) same)
+ends_round false old new same = (
+  ap (λ (l : Leader). option_copied l.feeds) same,
+  ap (λ (l : Leader). l.seal) same,
+  ap (λ (l : Leader). l.root) same,
+)
 
 -- the root is led, and what is due is sealed
 pub led_by : (asked : Asked) (round k : ℕ) (old new : Leader) → IsLeader asked old

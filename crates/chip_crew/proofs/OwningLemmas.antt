@@ -29,4 +29,5 @@ ours_by crew n actors vertices count each = from_each (IsAt crew) 0 actors (λ i
 pub new_turns : (net : NetId) (room : ℕ) (actors : List ActorKnown)
     → ((v : ℕ) → v < length actors → slice_get actors v ≡ Some (newcomer net room v)) → all_turns actors ≡ 0
 new_turns net room actors each = let none = sum_by-le turns_of 0 actors (λ k d less.
-    let is = ap turns_of (get_or_from_slice_get actors k (newcomer net room k) d (each k less)) in omega arith) in omega arith
+    let is = ap turns_of (get_or_from_slice_get actors k (newcomer net room k) d (each k less)) in omega arith) in
+    omega arith

@@ -92,13 +92,15 @@ module _ (crew : CrewId) where
         with_put v x,
         record {
           ours = All-push (IsOurs crew) queued x old.ours ours;
-          once = λ u less. (let a = old.once u less in let b = sum_by_push (is_of u) queued x in let c = moves (has_times u) in
+          once = λ u less. (let a = old.once u less in let b = sum_by_push (is_of u) queued x in
+              let c = moves (has_times u) in
               let d = ap (times u) first in let e = sum_by-cons (is_it u) x.vertex rest in let f = ap (times u) left in
               omega arith);
           count = (let a = length-append queued (x ∷ []) in let b = moves has_count in let c = ap length first in
               let d = ap length left in omega arith);
           workers = (let a = moves workers_of in omega arith);
-          turns = (let a = sum_by_push turns_of queued x in let b = sum_by_push turns_of v.put x in let c = moves got_turns in
+          turns = (let a = sum_by_push turns_of queued x in let b = sum_by_push turns_of v.put x in
+              let c = moves got_turns in
               let d = moves gave_turns in omega arith);
           spent = All-set IsSpent ledgers pass (with_put v x)
               (λ none. absurd (let a = ap length (sym first ∙ (all_at IsSpent ledgers pass v old.spent at none).0) in
@@ -115,15 +117,21 @@ module _ (crew : CrewId) where
         with_taken v x,
         record {
           ours = All-tail (IsOurs crew) x queued old.ours;
-          once = λ u less. (let a = old.once u less in let b = sum_by-cons (is_of u) x queued in let c = moves (has_times u) in
+          once = λ u less. (let a = old.once u less in let b = sum_by-cons (is_of u) x queued in
+              let c = moves (has_times u) in
               let d = sum_by_push (is_it u) v.has x.vertex in omega arith);
           count = (let a = length-append v.has (x.vertex ∷ []) in let b = moves has_count in omega arith);
           workers = (let a = moves workers_of in omega arith);
-          turns = (let a = sum_by-cons turns_of x queued in let b = sum_by_push turns_of v.taken x in let c = moves got_turns in
+          turns = (let a = sum_by-cons turns_of x queued in let b = sum_by_push turns_of v.taken x in
+              let c = moves got_turns in
               let d = moves gave_turns in omega arith);
           spent = All-set IsSpent ledgers pass (with_taken v x) (λ none. absurd (omega arith)) old.spent;
         },
-        (All-head (IsOurs crew) x queued old.ours, (let a = sum_least has_count ledgers pass v at in omega arith), refl),
+        (
+          All-head (IsOurs crew) x queued old.ours,
+          (let a = sum_least has_count ledgers pass v at in omega arith),
+          refl,
+        ),
       )
 
   -- a worker gets a ledger
@@ -135,10 +143,12 @@ module _ (crew : CrewId) where
       let more = λ (f : Ledger → ℕ). sum_by_push f now new_ledger in
       record {
         ours = old.ours;
-        once = λ u less. (let a = old.once u less in let b = moves (has_times u) in let c = more (has_times u) in omega arith);
+        once = λ u less. (let a = old.once u less in let b = moves (has_times u) in
+            let c = more (has_times u) in omega arith);
         count = (let a = moves has_count in let b = more has_count in omega arith);
         workers = (let a = moves workers_of in let b = more workers_of in omega arith);
-        turns = (let a = moves got_turns in let b = more got_turns in let c = moves gave_turns in let d = more gave_turns in
+        turns = (let a = moves got_turns in let b = more got_turns in let c = moves gave_turns in
+            let d = more gave_turns in
             omega arith);
         spent = All-push IsSpent now new_ledger (All-set IsSpent ledgers pass (with_fewer v) (λ none. empty) old.spent)
             (λ none. (refl, refl, refl));
@@ -158,13 +168,16 @@ module _ (crew : CrewId) where
         ours = old.ours;
         once = λ a less. (let one = old.once a less in let b = moves (has_times a) in let c = spends (has_times a) in
             let d = sum_by-append (is_it a) v.has u.has in omega arith);
-        count = (let a = moves has_count in let b = spends has_count in let c = length-append v.has u.has in omega arith);
+        count = (let a = moves has_count in let b = spends has_count in
+            let c = length-append v.has u.has in omega arith);
         workers = (let a = moves workers_of in let b = spends workers_of in omega arith);
-        turns = (let a = moves got_turns in let b = spends got_turns in let c = moves gave_turns in let d = spends gave_turns in
+        turns = (let a = moves got_turns in let b = spends got_turns in let c = moves gave_turns in
+            let d = spends gave_turns in
             omega arith);
-        spent = All-set IsSpent now other no_ledger (λ none. (refl, refl, refl)) (All-set IsSpent ledgers pass w (λ none.
-            let one = all_at IsSpent ledgers pass v old.spent at (omega arith) in
-            let two = all_at IsSpent ledgers other u old.spent (sym (set_else ledgers pass other w apart) ∙ there) (omega arith) in
+        spent = All-set IsSpent now other no_ledger (λ none. (refl, refl, refl)) (All-set IsSpent ledgers pass w
+            (λ none. let one = all_at IsSpent ledgers pass v old.spent at (omega arith) in
+            let two = all_at IsSpent ledgers other u old.spent (sym (set_else ledgers pass other w apart)
+            ∙ there) (omega arith) in
             (λ i. one.0 i ++ two.0 i, omega arith, omega arith)) old.spent);
       }
 
@@ -199,7 +212,8 @@ module _ (crew : CrewId) where
         λ less. (let a = cond_no {A = ℕ} from v 1 0 (omega arith) in let b = rest.0 (omega arith) in omega arith),
         λ least less. dite (ℕ_discrete from v)
             (λ same. let a = cond_yes {A = ℕ} from v 1 0 same in let b = rest.0 (omega arith) in omega arith)
-            (λ other. let a = cond_no {A = ℕ} from v 1 0 other in let b = rest.1 (omega arith) (omega arith) in omega arith),
+            (λ other. let a = cond_no {A = ℕ} from v 1 0 other in
+            let b = rest.1 (omega arith) (omega arith) in omega arith),
       )
 
   -- the calling thread has all actors

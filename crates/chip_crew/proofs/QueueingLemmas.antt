@@ -6,7 +6,8 @@ use Rattle.std.proofs.lemmas.List.Sums.{sum_by_push}
 use Rattle.chip_net.specs.Tokens.{ActorKnown}
 use Rattle.chip_crew.specs.declared.queue.Ledger.{Ledger}
 use Rattle.chip_crew.specs.Crew.{turns_of}
-use Rattle.chip_crew.specs.Ledger.{HasJust, IsNext, EndsTurn, MakesOneTurn, TurnsMade, got_turns, gave_turns, kept_turns}
+use Rattle.chip_crew.specs.Ledger.{HasJust, IsNext, EndsTurn, MakesOneTurn, TurnsMade, got_turns, gave_turns}
+use Rattle.chip_crew.specs.Ledger.{kept_turns}
 use Rattle.chip_crew.proofs.TurnLemmas.{turn_counts}
 
 -- after so many turns a worker has the actor that it kept, and no other, and in its hands no more turns were made
@@ -25,11 +26,12 @@ made_next k old new None None is made = subst (λ (l : Ledger). AreMade k l None
 
 made_end : (k : ℕ) (old new : Ledger) (next kept : Option ActorKnown) → EndsTurn old new next kept → AreMade k old next
     → AreMade (suc k) new kept
-made_end k old new (Some a) None (after, answer, turn, is) made = subst (λ (l : Ledger). AreMade (suc k) l None) (sym is) (
-  (made.0.0, ap (drop 1) made.0.1),
-  (let few = made.1 in let one = turn_counts a after answer turn in let more = sum_by_push turns_of old.put after in
-      omega arith),
-)
+made_end k old new (Some a) None (after, answer, turn, is) made =
+    subst (λ (l : Ledger). AreMade (suc k) l None) (sym is) (
+      (made.0.0, ap (drop 1) made.0.1),
+      (let few = made.1 in let one = turn_counts a after answer turn in let more = sum_by_push turns_of old.put after in
+          omega arith),
+    )
 made_end k old new (Some a) (Some b) (after, answer, turn, (same, is)) made =
     subst (λ (z : Ledger × ActorKnown). AreMade (suc k) z.0 (Some z.1)) (λ i. (sym is i, sym same i)) (
       (made.0.0, made.0.1 ∙ ap (λ (c : ActorKnown). c.vertex ∷ []) (sym turn.record_is)),
@@ -45,7 +47,8 @@ are_made passes zero ledger kept (begins, none) =
     subst (λ (z : Ledger × Option ActorKnown). AreMade 0 z.0 z.1) (λ i. (sym begins i, sym none i))
     ((refl, refl), omega arith)
 are_made passes (suc k) ledger kept (before, was, made, lets, (between, next, is_next, ends)) =
-    made_end k between ledger next kept ends (made_next k before between was next is_next (are_made passes k before was made))
+    made_end k between ledger next kept ends
+    (made_next k before between was next is_next (are_made passes k before was made))
 
 -- one turn more
 pub turn_more : (passes : ℕ → Type 0) (k : ℕ) (before now : Ledger) (was kept : Option ActorKnown)

@@ -1,6 +1,7 @@
 -- Serves Sealing.antt.
 -- What is sealed from turn to turn, and what the root knows that has the stopper back.
-use Rattle.std.proofs.Common.{◌≡◌, ◌≢◌, ◌==◌, ℕ, ◌+◌, ◌<◌, true, if◌then◌else◌, List, [], ◌∷◌, ◌++◌, length, Option, Some}
+use Rattle.std.proofs.Common.{◌≡◌, ◌≢◌, ◌==◌, ℕ, ◌+◌, ◌<◌, true, if◌then◌else◌, List, [], ◌∷◌, ◌++◌, length, Option}
+use Rattle.std.proofs.Common.{Some}
 use Rattle.std.proofs.Common.{None, is_some, refl, sym, ap, ◌∙◌, subst, arith, append-nil, le-ltb}
 use Rattle.std.proofs.lemmas.Bool.{ltb-true}
 use Rattle.std.proofs.lemmas.Bool.Decides.{nat_tests}
@@ -13,7 +14,8 @@ use Rattle.chip_net.specs.Roots.{RootKnown, StopperKnown, new_stopper}
 use Rattle.chip_crew.specs.Crew.{CrewId}
 use Rattle.chip_crew.specs.Plans.{names_edge}
 use Rattle.chip_crew.specs.declared.plan.SealAt.{SealAt}
-use Rattle.chip_crew.specs.Sealing.{events_of, seals_by, SealsBefore, HasSealed, HasBack, TakesBack, KnowsSeals, MaySeal}
+use Rattle.chip_crew.specs.Sealing.{events_of, seals_by, SealsBefore, HasSealed, HasBack, TakesBack, KnowsSeals}
+use Rattle.chip_crew.specs.Sealing.{MaySeal}
 
 -- ---- turn by turn
 
@@ -73,8 +75,11 @@ takes_back crew (Some at) turns seal old new has back =
     (has.0, subst (λ (o : Option (StopperKnown × SealAt)). HasBack o old new) has.1 back, has.2)
 
 -- it has its net and did what it had done
+abbrev pub IsSame : RootKnown → RootKnown → Type 0
+IsSame old new = (did : Option (List Step)) × (new ≡ record { net = old.net; did = old.did; stopper_did = did })
+
 pub back_same : (plan : Option SealAt) (turns : ℕ) (old new : RootKnown) → TakesBack plan turns old new
-    → (did : Option (List Step)) × (new ≡ record { net = old.net; did = old.did; stopper_did = did })
+    → IsSame old new
 back_same None turns old new back = (old.stopper_did, back)
 back_same (Some at) turns old new back = (Some back.0, back.1)
 

@@ -26,13 +26,14 @@ first_round asked turns (share.Dealt d) made =
 
 -- what a worker hands back that made its turns and did its duties
 pub has_worked : {B D : Type 0} (asked : Asked) (can : NetId → D → Type 0) (before : ℕ → D → D → Type 0)
-    (after : D → D → Type 0) (worker : ℕ) (own : Share B) (begun : D) (s t : Share B) (d e : D) (p q : Bool) (n m round : ℕ)
+    (after : D → D → Type 0) (worker : ℕ) (own : Share B) (begun : D) (s t : Share B) (d e : D) (p q : Bool)
+    (n m round : ℕ)
     → t ≡ s → e ≡ d → q ≡ p → m ≡ n → n ≤ asked.plan.turns → HasMade asked worker n s
     → (p ≡ false → ShutFor asked worker) → queue_of s ≡ queue_of own → round ≡ round_of s
     → Serves before after round n begun d → can asked.crew.net d
     → HasWorked asked can before after worker own begun (record { share = t; duties = e; passed = q; turns = m })
-has_worked {B} {D} asked can before after worker own begun s t d e p q n m round share_is duties_is passed_is turns_is few made
-    shut uses round_is served can_still =
+has_worked {B} {D} asked can before after worker own begun s t d e p q n m round share_is duties_is passed_is turns_is
+    few made shut uses round_is served can_still =
     subst (λ (z : Share B × D × Bool × ℕ). HasWorked asked can before after worker own begun
     (record { share = z.0; duties = z.1; passed = z.2; turns = z.3 }))
     (λ i. (sym share_is i, sym duties_is i, sym passed_is i, sym turns_is i)) (record {

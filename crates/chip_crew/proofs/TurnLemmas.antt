@@ -1,6 +1,7 @@
 -- Serves Crew.antt.
 -- A turn takes once from the root edge of its vertex.
-use Rattle.std.proofs.Common.{◌≡◌, ◌==◌, ℕ, suc, ◌<◌, Bool, true, false, cond, All, List, [], ◌∷◌, ◌++◌, sum_by, Option, Some}
+use Rattle.std.proofs.Common.{◌≡◌, ◌==◌, ℕ, suc, ◌<◌, Bool, true, false, cond, All, List, [], ◌∷◌, ◌++◌, sum_by, Option}
+use Rattle.std.proofs.Common.{Some}
 use Rattle.std.proofs.Common.{None, refl, ap, ◌∙◌, arith, ne_eqb}
 use Rattle.std.proofs.lemmas.List.Elements.{All-head, All-tail}
 use Rattle.std.proofs.lemmas.List.Sums.{sum_by-cons, sum_by-append}
@@ -97,7 +98,8 @@ module _ (g : Setting) (v : ℕ) where
   takes_once s ds t (front, m, back, is, here, rest) =
       let a = one_take (edges_in g.game.graph v)
       (All-picked (λ i. (edge_at g.game.graph i).head == v) (graph_edges g) (graph_edges g) (omega arith)) s front m here in
-      let b = none_later m back t rest in let c = ap takes_in is in let d = sum_by-append take_count front back in omega arith
+      let b = none_later m back t rest in let c = ap takes_in is in
+      let d = sum_by-append take_count front back in omega arith
 
 -- a turn more is one more
 pub turn_counts : (old new : ActorKnown) (answer : Turn) → MakesTurn old new answer → turns_of new ≡ suc (turns_of old)

@@ -1,5 +1,6 @@
 -- When worker 0 seals the edge of the plan, and how the root gets the stopper back.
-use Rattle.std.specs.Prelude.{◌≡◌, ℕ, ◌<◌, ◌==◌, nat_lt, if◌then◌else◌, List, [], ◌∷◌, ◌++◌, map, Option, Some, None, IfSome}
+use Rattle.std.specs.Prelude.{◌≡◌, ℕ, ◌<◌, ◌==◌, nat_lt, if◌then◌else◌, List, [], ◌∷◌, ◌++◌, map, Option, Some, None}
+use Rattle.std.specs.Prelude.{IfSome}
 use Rattle.chip_part.specs.Edges.{graph_edges}
 use Rattle.chip_core.specs.Core.{Step, Event, Seal}
 use Rattle.chip_net.specs.Tokens.{NetId}

@@ -1,4 +1,5 @@
-use Rattle.std.proofs.Common.{rules, ◌≡◌, ◌+◌, ◌-◌, ◌*◌, ℕ, None, length, length-drop, drop, refl, sym, ap, subst, arith}
+use Rattle.std.proofs.Common.{rules, ◌≡◌, ◌+◌, ◌-◌, ◌*◌, ℕ, None, length, length-drop, drop, refl, sym, ap, subst}
+use Rattle.std.proofs.Common.{arith}
 use Rattle.chip_graph.specs.Multigraph.{Multigraph}
 use Rattle.chip_crew.specs.Crew.{IsAt, AreFrom, turns_of, all_turns}
 use Rattle.chip_crew.specs.Dealing.{IsCut}
@@ -44,7 +45,8 @@ loop-worker-preserved g c =
           (share.Dealt c.split_off.new.self)) place (record {
             made = (
               c.requires.sharing,
-              are_of g.B.Crew.asked.crew worker first next actors c.split_off.new.self.items (at_crew worker first i.first_is)
+              are_of g.B.Crew.asked.crew worker first next actors c.split_off.new.self.items (at_crew worker first
+                  i.first_is)
                   (at_crew (worker + 1) next cut) behind (omega arith) i.actors rest.items,
               (c.split_off.new.self.items, none.0, refl),
             );

@@ -15,7 +15,8 @@ use Rattle.chip_crew.proofs.gathering.drain.Goals as goal
 
 pub pop_as-requires-clause-rule : goal.pop_as-requires-clause-rule
 pop_as-requires-clause-rule g c = (
-  takes g.B.Crew.asked.crew _ _ (let speaks = c.loop-actor.invariant.gathers.speaks in let some = c.requires.some in omega arith),
+  takes g.B.Crew.asked.crew _ _ (let speaks = c.loop-actor.invariant.gathers.speaks in
+      let some = c.requires.some in omega arith),
   all_there g.B.Crew.asked.crew _ _,
 )
 

@@ -1,7 +1,8 @@
 use Rattle.std.proofs.lemmas.List.{length-map}
 use Rattle.std.proofs.lemmas.List.Sums.{sum_by-append}
 use Rattle.std.proofs.lemmas.List.Elements.{All-cons, All-nil}
-use Rattle.std.proofs.Common.{◌≡◌, ◌+◌, ◌++◌, ◌∷◌, ◌≤◌, ◌∙◌, ℕ, List, [], length, length-append, Option, None, sym, ap, rules, arith}
+use Rattle.std.proofs.Common.{◌≡◌, ◌+◌, ◌++◌, ◌∷◌, ◌≤◌, ◌∙◌, ℕ, List, [], length, length-append, Option, None, sym, ap}
+use Rattle.std.proofs.Common.{rules, arith}
 use Rattle.std.proofs.Common.{All, append-nil, option_to_list}
 use Rattle.std.specs.Global.{Vec}
 use Rattle.std.specs.Vec.{vec_capacity}
@@ -54,7 +55,8 @@ returns-in-Some-clause-gathering g c =
     one_joined g.B.Crew.asked (view c.args.pass.now) (view c.args.theirs) (view c.learn_as.new.pass) c.args.row.now
     c.push_reserved.new.self c.args.kept (c.in-Some.actor ∷ []) (search rules) c.requires.has c.requires.turns
     c.requires.gathering (ap option_to_list c.in-Some.is) c.push_reserved.ensures.items
-    (All-cons (IsOurs g.B.Crew.asked.crew) c.in-Some.actor [] ours (All-nil (IsOurs g.B.Crew.asked.crew))) (search rules)
+    (All-cons (IsOurs g.B.Crew.asked.crew) c.in-Some.actor [] ours (All-nil (IsOurs g.B.Crew.asked.crew)))
+    (search rules)
 
 pub returns-in_default-clause-gathering : goal.returns-in_default-clause-gathering
 returns-in_default-clause-gathering g c =

@@ -19,7 +19,8 @@ shut_some asked worker true passed new is before here less nay =
 
 pub take-requires-clause-made : goal.take-requires-clause-made
 take-requires-clause-made g c =
-    let h = rw c.requires.leader.0.number_is at c.join-share.ensures.is_handed in (c.join-share.result.turns, h.at_most, h.made)
+    let h = rw c.requires.leader.0.number_is at c.join-share.ensures.is_handed in
+    (c.join-share.result.turns, h.at_most, h.made)
 
 pub loop-started-init : goal.loop-started-init
 loop-started-init g c =
@@ -29,9 +30,11 @@ loop-started-init g c =
     let count = c.requires.count in
     record {
       are_back = taken.are_back;
-      passed = shut_some g.B.Crew.asked 0 true c.join-share.result.passed c.take.new.self.passed taken.passed_is (λ nay. cc)
+      passed = shut_some g.B.Crew.asked 0 true c.join-share.result.passed c.take.new.self.passed taken.passed_is
+          (λ nay. cc)
           h.passed (omega arith);
-      workers = subst (λ (n : ℕ). EachFrom (λ worker h. IsWorker g.B.Crew.asked (queue_for c.args.back) worker h.promise) n
+      workers = subst (λ (n : ℕ). EachFrom (λ worker h. IsWorker g.B.Crew.asked (queue_for c.args.back)
+          worker h.promise) n
           c.into_iter-started-iterator.result.rest.items) (sym taken.workers)
           (subst (EachFrom (λ worker h. IsWorker g.B.Crew.asked (queue_for c.args.back) worker h.promise) 1)
           (sym rest) c.requires.others);
@@ -43,7 +46,8 @@ pub take-requires-in-loop-started-clause-made : goal.take-requires-in-loop-start
 take-requires-in-loop-started-clause-made g c =
     let first = (subst (EachFrom (λ worker h. IsWorker g.B.Crew.asked (queue_for c.args.back) worker h.promise)
     c.loop-started.collected.workers) c.in-Some.ensures.steps.0 c.loop-started.invariant.workers).0 in
-    let h = rw first.number_is at c.join-share-in-loop-started.ensures.is_handed in (c.join-share-in-loop-started.result.turns, h.at_most, h.made)
+    let h = rw first.number_is at c.join-share-in-loop-started.ensures.is_handed in
+    (c.join-share-in-loop-started.result.turns, h.at_most, h.made)
 
 pub loop-started-preserved : goal.loop-started-preserved
 loop-started-preserved g c =
@@ -51,7 +55,8 @@ loop-started-preserved g c =
     let taken = c.take-in-loop-started.ensures in
     let old = c.loop-started.collected in
     let steps = c.in-Some.ensures.steps.0 in
-    let first = (subst (EachFrom (λ worker h. IsWorker g.B.Crew.asked (queue_for c.args.back) worker h.promise) old.workers)
+    let first = (subst (EachFrom (λ worker h. IsWorker g.B.Crew.asked (queue_for c.args.back) worker h.promise)
+    old.workers)
     steps i.workers).0 in
     let h = rw first.number_is at c.join-share-in-loop-started.ensures.is_handed in
     let left = i.left in
@@ -60,7 +65,8 @@ loop-started-preserved g c =
       are_back = taken.are_back;
       passed = shut_some g.B.Crew.asked old.workers old.passed c.join-share-in-loop-started.result.passed
           c.take-in-loop-started.new.self.passed taken.passed_is i.passed h.passed (omega arith);
-      workers = subst (λ (n : ℕ). EachFrom (λ worker h. IsWorker g.B.Crew.asked (queue_for c.args.back) worker h.promise) n
+      workers = subst (λ (n : ℕ). EachFrom (λ worker h. IsWorker g.B.Crew.asked (queue_for c.args.back)
+          worker h.promise) n
           c.next.new.self.rest.items) (sym taken.workers)
           (from_tail (λ worker h. IsWorker g.B.Crew.asked (queue_for c.args.back) worker h.promise) old.workers _ _
           c.in-Some.started steps i.workers);

@@ -1,4 +1,5 @@
-use Rattle.std.proofs.Common.{◌≡◌, ◌∙◌, refl, sym, ap, rules, Bool, List, [], ℕ, Option, Some, None, Bor, ◌<◌, if◌then◌else◌, subst}
+use Rattle.std.proofs.Common.{◌≡◌, ◌∙◌, refl, sym, ap, rules, Bool, List, [], ℕ, Option, Some, None, Bor, ◌<◌}
+use Rattle.std.proofs.Common.{if◌then◌else◌, subst}
 use Rattle.std.proofs.lemmas.Result.{MatchResult-weaker}
 use Rattle.std.specs.Prelude.{is_some}
 use Rattle.std.specs.Option.{option_copied, option_zip}
@@ -82,7 +83,8 @@ returns g c =
     } in
     record {
       finished = MatchResult-weaker c.play_on.result c.play_on.ensures.finished
-          (λ f has. finished_by feeds c.args.plan asked.crew f has c.args.sharing c.args.game.now opened) (λ e none. none);
+          (λ f has. finished_by feeds c.args.plan asked.crew f has c.args.sharing c.args.game.now opened)
+          (λ e none. none);
       fault = MatchResult-weaker c.play_on.result c.play_on.ensures.stopped (λ f none. none)
           (λ e why. stopped_by c.args.sharing c.args.game.now asked e opened why);
     }

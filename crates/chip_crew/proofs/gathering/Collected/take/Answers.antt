@@ -24,8 +24,8 @@ join_pass-requires-clause-has g c =
 pub join_pass-requires-clause-turns : goal.join_pass-requires-clause-turns
 join_pass-requires-clause-turns g c =
     let made = c.requires.made in
-    let own = are_made (passes g.B.Crew.asked c.args.self.now.workers) made.0 (view c.in-Queue.theirs) c.in-Queue.kept
-    (subst (HasMade g.B.Crew.asked c.args.self.now.workers made.0) c.in-Queue.is made.2).2 in
+    let own = (are_made (passes g.B.Crew.asked c.args.self.now.workers) made.0 (view c.in-Queue.theirs) c.in-Queue.kept
+    (subst (HasMade g.B.Crew.asked c.args.self.now.workers made.0) c.in-Queue.is made.2).2).1 in
     let few = made.1 in omega arith
 
 pub returns : goal.returns

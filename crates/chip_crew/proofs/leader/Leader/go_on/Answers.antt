@@ -32,7 +32,8 @@ loop-turns-preserved g c =
     let i = c.loop-turns.invariant in
     let all = ap (λ (p : Plan). p.turns) c.shared.invariant.plan_is in
     led_more g.B.Crew.asked c.args.round c.loop-turns.turns c.loop-turns.self c.begin_turn.new.self i (omega arith)
-    (serves_turn LeadsTurn LeadsRound c.args.round c.loop-turns.turns false i.first c.loop-turns.self c.begin_turn.new.self
+    (serves_turn LeadsTurn LeadsRound c.args.round c.loop-turns.turns false i.first c.loop-turns.self
+    c.begin_turn.new.self
     _ i.served c.begin_turn.ensures.done (ne_eqb _ 0 c.if-turns-round-eq0.false) refl) _ c.shared.invariant.net_is
     c.begin_turn.ensures.can
 
@@ -41,6 +42,7 @@ loop-turns-preserved-then-turns-round-eq0 g c =
     let i = c.loop-turns.invariant in
     let all = ap (λ (p : Plan). p.turns) c.shared.invariant.plan_is in
     led_more g.B.Crew.asked c.args.round c.loop-turns.turns c.loop-turns.self c.end_round.new.self i (omega arith)
-    (serves_turn LeadsTurn LeadsRound c.args.round c.loop-turns.turns true i.first c.loop-turns.self c.begin_turn.new.self
+    (serves_turn LeadsTurn LeadsRound c.args.round c.loop-turns.turns true i.first c.loop-turns.self
+    c.begin_turn.new.self
     _ i.served c.begin_turn.ensures.done (eq-eqb _ 0 c.if-turns-round-eq0.true) c.end_round.ensures.done) _
     c.shared.invariant.net_is c.end_round.ensures.can

@@ -35,9 +35,11 @@ returns g c =
     let passed : c.loop-turns.passed ≡ false → ShutFor g.B.Crew.asked c.args.self.number =
     λ no. (let yes = i.passed in cc) in
     elim c.loop-turns-test.branch [
-      | else-loop-turns-test w ↦ worked _ _ _ _ _ _ _ _ _ w.share-is w.duties-is w.passed-is w.turns-is i.few i.made passed i.uses i.round
+      | else-loop-turns-test w ↦ worked _ _ _ _ _ _ _ _ _ w.share-is w.duties-is w.passed-is w.turns-is i.few i.made
+          passed i.uses i.round
           i.served i.can
-      | then-loop-turns-test+else-not-load w ↦ worked _ _ _ _ _ _ _ _ _ w.share-is w.duties-is w.passed-is w.turns-is i.few i.made passed
+      | then-loop-turns-test+else-not-load w ↦ worked _ _ _ _ _ _ _ _ _ w.share-is w.duties-is w.passed-is w.turns-is
+          i.few i.made passed
           i.uses i.round i.served i.can
       | then-loop-turns-test+then-not-load+then-made-round w ↦
           let made = w.round-made.ensures in
@@ -46,13 +48,15 @@ returns g c =
           (λ no. made.round.shut (let other = false-eqb w.round-made.result w.min-most.result (sym no) in omega arith))
           (made.same.1 ∙ i.uses) (i.round ∙ sym made.same.0)
           (serves_more g.D.Duties.before g.D.Duties.after c.round-round.result c.loop-turns.turns w.round-made.result
-          c.args.self.duties c.loop-turns.duties w.round-made.new.duties i.begins w.if-made-round.true i.served made.done)
+          c.args.self.duties c.loop-turns.duties w.round-made.new.duties i.begins w.if-made-round.true i.served
+          made.done)
           made.can
       | then-loop-turns-test+then-not-load+else-made-round+then-end_round w ↦
           let made = w.round-made.ensures in
           let most = made.round.at_most in
           let whole : w.round-made.result ≡ c.round-round.result = omega arith in
-          worked _ _ _ _ _ _ _ _ _ w.share-is w.duties-is w.passed-is w.turns-is (omega arith) made.made passed (made.same.1 ∙ i.uses)
+          worked _ _ _ _ _ _ _ _ _ w.share-is w.duties-is w.passed-is w.turns-is (omega arith) made.made passed
+          (made.same.1 ∙ i.uses)
           (i.round ∙ sym made.same.0)
           (serves_round g.D.Duties.before g.D.Duties.after c.round-round.result c.loop-turns.turns w.round-made.result
           c.args.self.duties c.loop-turns.duties w.round-made.new.duties w.end_round.new.self whole i.begins i.some i.served

@@ -6,7 +6,7 @@ use Rattle.std.specs.Global.{Vec}
 use Rattle.std.specs.Vec.{vec_capacity}
 use Rattle.std.specs.List.Sorted.{IsPermutation, IsNonDecreasingBy}
 use Rattle.std.proofs.lemmas.List.{length-map, map-append}
-use Rattle.std.proofs.lemmas.List.Elements.{All-head, All-tail, All-nil, All-append}
+use Rattle.std.proofs.lemmas.List.Elements.{All-head, All-tail, All-append}
 use Rattle.std.proofs.lemmas.List.Sorted.{All-permutation, sum_by-IsPermutation}
 use Rattle.std.proofs.lemmas.List.Sums.{sum_by-cons, sum_by-append, sum_by-le, get_or-le-sum_by}
 use Rattle.chip_graph.proofs.SumLemmas.{cond_yes, cond_no}
@@ -14,7 +14,7 @@ use Rattle.chip_net.specs.Tokens.{ActorKnown}
 use Rattle.chip_crew.specs.Asked.{Asked}
 use Rattle.chip_crew.specs.Crew.{CrewId, IsOurs, AreFrom, AreActors, turns_of, all_turns}
 use Rattle.chip_crew.specs.Ledger.{got_turns, gave_turns}
-use Rattle.chip_crew.specs.Places.{times, actors_of, HasNothing, AreAllThere}
+use Rattle.chip_crew.specs.Places.{times, actors_of, AreAllThere}
 use Rattle.chip_crew.specs.Gathering.{AreGathered, IsGatheringFor}
 use Rattle.chip_crew.specs.declared.queue.Ledger.{Ledger}
 use Rattle.chip_crew.proofs.PlacesLemmas.{is_it, is_of}
@@ -22,17 +22,6 @@ use Rattle.chip_crew.proofs.RunLemmas.{in_order}
 
 abbrev pub vertices_of : List ActorKnown → List ℕ
 vertices_of row = map (λ a. a.vertex) row
-
--- no worker has handed anything back
-pub gathers_none : (asked : Asked) (l : Ledger) (row : Vec ActorKnown) → HasNothing l → l.workers ≡ 0 → row.items ≡ []
-    → asked.crew.net.setting.game.graph.vertices ≤ vec_capacity row → IsGatheringFor asked 0 l row
-gathers_none asked l row nothing none empty room = record {
-  speaks = none;
-  has = nothing.0 ∙ sym (ap vertices_of empty);
-  ours = subst (All (IsOurs asked.crew)) (sym empty) (All-nil (IsOurs asked.crew));
-  room = room;
-  turns = (let all = ap all_turns empty in omega arith);
-}
 
 -- these actors came to the row
 pub gathers_more : (asked : Asked) (old new : Ledger) (row now : Vec ActorKnown) (more : List ActorKnown) (m n : ℕ)

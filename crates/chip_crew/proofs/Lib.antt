@@ -9,7 +9,6 @@ pub mod OwningLemmas
 pub mod FeedLemmas
 pub mod OverLemmas
 pub mod SealingLemmas
-pub mod BackLemmas
 pub mod CrossingLemmas
 pub mod FinishingLemmas
 pub mod DutiesLemmas

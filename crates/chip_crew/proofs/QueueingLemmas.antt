@@ -1,12 +1,12 @@
 -- Serves Ledger.antt.
 -- The ledger of a worker has its turns, and what it has is what it kept.
 use Rattle.std.proofs.Common.{◌+◌, ◌++◌, ◌∷◌, [], ℕ, zero, suc, drop, List, Option, Some, None, ◌≤◌, refl, sym, ap, ◌∙◌}
-use Rattle.std.proofs.Common.{subst, arith, add-one}
+use Rattle.std.proofs.Common.{subst, arith}
 use Rattle.std.proofs.lemmas.List.Sums.{sum_by_push}
 use Rattle.chip_net.specs.Tokens.{ActorKnown}
 use Rattle.chip_crew.specs.declared.queue.Ledger.{Ledger}
 use Rattle.chip_crew.specs.Crew.{turns_of}
-use Rattle.chip_crew.specs.Ledger.{HasJust, IsNext, EndsTurn, MakesOneTurn, TurnsMade, got_turns, gave_turns}
+use Rattle.chip_crew.specs.Ledger.{HasJust, IsNext, EndsTurn, TurnsMade, got_turns, gave_turns}
 use Rattle.chip_crew.specs.Ledger.{kept_turns}
 use Rattle.chip_crew.proofs.TurnLemmas.{turn_counts}
 
@@ -49,9 +49,3 @@ are_made passes zero ledger kept (begins, none) =
 are_made passes (suc k) ledger kept (before, was, made, lets, (between, next, is_next, ends)) =
     made_end k between ledger next kept ends
     (made_next k before between was next is_next (are_made passes k before was made))
-
--- one turn more
-pub turn_more : (passes : ℕ → Type 0) (k : ℕ) (before now : Ledger) (was kept : Option ActorKnown)
-    → TurnsMade passes k before was → passes k → MakesOneTurn before now was kept → TurnsMade passes (k + 1) now kept
-turn_more passes k before now was kept made pass turn = subst (λ (n : ℕ). TurnsMade passes n now kept) (sym (add-one k))
-    (before, was, made, pass, turn)

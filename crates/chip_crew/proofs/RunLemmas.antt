@@ -5,7 +5,7 @@ use Rattle.std.proofs.Common.{◌≡◌, ℕ, zero, suc, ◌+◌, List, [], ◌�
 use Rattle.std.proofs.Common.{refl, sym, ◌∙◌, subst, arith, add-one}
 use Rattle.std.specs.Prelude.{slice_get}
 use Rattle.chip_net.specs.Tokens.{ActorKnown}
-use Rattle.chip_crew.specs.Crew.{CrewId, IsOurs, IsAt, EachFrom, AreFrom, AreInOrder}
+use Rattle.chip_crew.specs.Crew.{CrewId, IsAt, EachFrom, AreFrom, AreInOrder}
 
 module _ {X : Type 0} (P : ℕ → X → Type 0) where
   at_number : (n m : ℕ) (x : X) → n ≡ m → P n x → P m x
@@ -58,11 +58,6 @@ module _ {X : Type 0} (P : ℕ → X → Type 0) where
   from_all Q each n [] all k d less = absurd (omega (arith, less))
   from_all Q each n (x ∷ xs) all zero d less = each n x all.0
   from_all Q each n (x ∷ xs) all (suc k) d less = from_all Q each (suc n) xs all.1 k d (omega (arith, less))
-
--- actors of consecutive vertices are the crew's
-pub ours_from : (crew : CrewId) (from : ℕ) (actors : List ActorKnown) → AreFrom crew from actors
-    → All (IsOurs crew) actors
-ours_from crew from actors all = from_all (IsAt crew) (IsOurs crew) (λ n a here. here.0) from actors all
 
 -- from vertex 0 on they are in order
 pub in_order : (crew : CrewId) (actors : List ActorKnown) → AreFrom crew 0 actors → AreInOrder crew actors

@@ -1,20 +1,20 @@
 -- Serves Sealing.antt.
 -- What is sealed from turn to turn, and what the root knows that has the stopper back.
-use Rattle.std.proofs.Common.{◌≡◌, ◌≢◌, ◌==◌, ℕ, ◌+◌, ◌<◌, true, if◌then◌else◌, List, [], ◌∷◌, ◌++◌, length, Option}
+use Rattle.std.proofs.Common.{◌≡◌, ◌==◌, ℕ, ◌+◌, ◌<◌, true, if◌then◌else◌, List, [], ◌∷◌, ◌++◌, length, Option}
 use Rattle.std.proofs.Common.{Some}
-use Rattle.std.proofs.Common.{None, is_some, refl, sym, ap, ◌∙◌, subst, arith, append-nil, le-ltb}
+use Rattle.std.proofs.Common.{None, is_some, refl, sym, ap, ◌∙◌, subst, arith, le-ltb}
 use Rattle.std.proofs.lemmas.Bool.{ltb-true}
 use Rattle.std.proofs.lemmas.Bool.Decides.{nat_tests}
 use Rattle.std.specs.Prelude.{nat_lt}
 use Rattle.std.specs.Option.{option_zip}
 use Rattle.chip_graph.specs.ChipGame.{ChipGame}
-use Rattle.chip_graph.proofs.SumLemmas.{cond_no, cond_false}
+use Rattle.chip_graph.proofs.SumLemmas.{cond_false}
 use Rattle.chip_core.specs.Core.{Event, Seal, Step}
 use Rattle.chip_net.specs.Roots.{RootKnown, StopperKnown, new_stopper}
 use Rattle.chip_crew.specs.Crew.{CrewId}
 use Rattle.chip_crew.specs.Plans.{names_edge}
 use Rattle.chip_crew.specs.declared.plan.SealAt.{SealAt}
-use Rattle.chip_crew.specs.Sealing.{events_of, seals_by, SealsBefore, HasSealed, HasBack, TakesBack, KnowsSeals}
+use Rattle.chip_crew.specs.Sealing.{seals_by, SealsBefore, HasSealed, HasBack, TakesBack, KnowsSeals}
 use Rattle.chip_crew.specs.Sealing.{MaySeal}
 
 -- ---- turn by turn
@@ -23,15 +23,6 @@ use Rattle.chip_crew.specs.Sealing.{MaySeal}
 seals_next : (at : SealAt) (n : ℕ)
     → seals_by at n ++ (if at.turn == n then Seal at.edge ∷ [] else []) ≡ seals_by at (n + 1)
 seals_next at n = grind (arith, nat_tests)
-
--- where this is not the turn for it nothing is sealed
-pub seals_nothing : (turn : ℕ) (s : StopperKnown × SealAt) → s.1.turn ≢ turn → SealsBefore turn (Some s) (Some s)
-seals_nothing turn s other = (
-  s.0.did,
-  refl,
-  sym (ap (λ (l : List Event). events_of s.0.did ++ l) (cond_no s.1.turn turn (Seal s.1.edge ∷ []) [] other)
-      ∙ append-nil (events_of s.0.did)),
-)
 
 -- the stopper may seal
 pub may_seal : (crew : CrewId) (plan : Option SealAt) (turn : ℕ) (seal : Option (StopperKnown × SealAt))

@@ -1,10 +1,10 @@
-use Rattle.std.proofs.Common.{subst, rules, arith}
+use Rattle.std.proofs.Common.{length, subst, rules, arith}
 use Rattle.std.proofs.lemmas.List.Sorted.{IsNonDecreasingBy-from_sort_by_key, sum_by-IsPermutation}
-use Rattle.std.specs.Vec.{vec_capacity}
 use Rattle.chip_net.specs.Tokens.{ActorKnown}
 use Rattle.chip_crew.specs.Crew.{turns_of}
 use Rattle.chip_crew.specs.Gathering.{AreBack}
-use Rattle.chip_crew.proofs.BackLemmas.{row_whole}
+use Rattle.chip_crew.proofs.DealingLemmas.{cut_last}
+use Rattle.chip_crew.proofs.RunLemmas.{in_order}
 use Rattle.chip_crew.proofs.GatheringLemmas.{sorted_actors}
 use Rattle.chip_crew.proofs.gathering.gather.Goals as goal
 
@@ -25,6 +25,11 @@ pub returns-in-Dealt : goal.returns-in-Dealt
 returns-in-Dealt g c =
     let back = subst (AreBack g.B.Crew.asked g.B.Crew.asked.crew.workers) c.in-Dealt.is c.requires.back in
     record {
-      actors = row_whole g.B.Crew.asked.crew c.in-Dealt.row.items (vec_capacity c.in-Dealt.row) back.1 c.requires.some;
+      actors = record {
+        count = cut_last g.B.Crew.asked.crew.net.setting.game.graph g.B.Crew.asked.crew.workers (length
+            c.in-Dealt.row.items)
+            c.requires.some back.1.up_to;
+        order = in_order g.B.Crew.asked.crew c.in-Dealt.row.items back.1.each;
+      };
       turns = back.2;
     }

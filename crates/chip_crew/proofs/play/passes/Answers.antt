@@ -1,14 +1,16 @@
 use Rattle.chip_crew.specs.Places.{HasNothing}
+use Rattle.std.proofs.Common.{All}
 use Rattle.std.proofs.Common.{◌≡◌, ◌<◌, List, [], ◌∷◌, length, rules, None, Some, ◌∙◌, refl, sym, ap, subst, arith, Option}
 use Rattle.atomic_table.specs.Seated.{TableId}
 use Rattle.chip_crew.specs.Handed.{AreReady, IsReady}
+use Rattle.std.proofs.lemmas.List.Elements.{All-nil}
+use Rattle.chip_crew.specs.Crew.{IsOurs, all_turns}
 use Rattle.chip_crew.specs.Asked.{Asked}
 use Rattle.chip_crew.specs.Joining.{queue_of_all}
 use Rattle.chip_crew.specs.declared.queue.Ledger.{Ledger}
 use Rattle.chip_crew.specs.declared.worker.Share.{Share}
 use Rattle.chip_crew.specs.declared.worker.Share.TheVariants as share
-use Rattle.crossbeam_queue.specs.Passes.{view}
-use Rattle.chip_crew.proofs.GatheringLemmas.{gathers_none}
+use Rattle.chip_crew.proofs.GatheringLemmas.{vertices_of}
 use Rattle.chip_crew.proofs.PlacesLemmas.{forks}
 use Rattle.chip_crew.proofs.RunLemmas.{from_push}
 use Rattle.chip_crew.proofs.play.passes.Goals as goal
@@ -62,8 +64,15 @@ pub returns-clause-back : goal.returns-clause-back
 returns-clause-back g c =
     let i = c.loop.invariant in
     let all : c.loop.counter ≡ c.args.workers = search rules in
-    let none : (view c.loop.pass).workers ≡ 0 = (let left = i.left in omega arith) in (
+    let left = i.left in
+    let empty : c.in_ok-row.row.items ≡ [] = search rules in (
       c.requires.sharing,
       i.pass,
-      gathers_none g.B.Crew.asked (view c.loop.pass) c.in_ok-row.row i.has none (search rules) (search rules),
+      record {
+        speaks = omega arith;
+        has = i.has.0 ∙ sym (ap vertices_of empty);
+        ours = subst (All (IsOurs g.B.Crew.asked.crew)) (sym empty) (All-nil (IsOurs g.B.Crew.asked.crew));
+        room = search rules;
+        turns = (let none = ap all_turns empty in let gave = i.has.2 in omega arith);
+      },
     )

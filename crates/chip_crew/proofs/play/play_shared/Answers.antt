@@ -4,7 +4,8 @@ use Rattle.chip_crew.specs.declared.queue.Ledger.{Ledger}
 use Rattle.std.specs.List.{range_with_len}
 use Rattle.chip_crew.specs.Ledger.{first_ledger, got_turns, gave_turns}
 use Rattle.chip_crew.proofs.PlacesLemmas.{begins, numbers_are}
-use Rattle.chip_crew.proofs.RunLemmas.{ours_from}
+use Rattle.chip_crew.specs.Crew.{IsAt, IsOurs}
+use Rattle.chip_crew.proofs.RunLemmas.{from_all}
 use Rattle.chip_crew.proofs.play.play_shared.Goals as goal
 
 pub ruled-requires-clause-rule : goal.ruled-requires-clause-rule
@@ -12,7 +13,9 @@ ruled-requires-clause-rule g c =
     begins g.B.Crew.asked.crew c.requires.opened.some_workers
 
 pub fill-requires-clause-actors : goal.fill-requires-clause-actors
-fill-requires-clause-actors g c = ours_from g.B.Crew.asked.crew 0 c.args.actors.items c.requires.opened.each
+fill-requires-clause-actors g c = from_all (IsAt g.B.Crew.asked.crew) (IsOurs g.B.Crew.asked.crew) (λ n a here. here.0)
+    0
+    c.args.actors.items c.requires.opened.each
 
 pub fill-requires-clause-has : goal.fill-requires-clause-has
 fill-requires-clause-has g c =

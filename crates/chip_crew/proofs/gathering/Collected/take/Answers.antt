@@ -4,16 +4,33 @@ use Rattle.std.specs.Vec.{vec_capacity}
 use Rattle.atomic_table.specs.Seated.{TableId}
 use Rattle.crossbeam_queue.specs.Passes.{view}
 use Rattle.chip_crew.specs.Asked.{passes}
-use Rattle.chip_crew.specs.Crew.{turns_of, all_turns}
+use Rattle.chip_crew.specs.Crew.{CrewId, IsAt, AreFrom, turns_of, all_turns}
+use Rattle.chip_crew.specs.Dealing.{IsFirstOf, AreOf}
+use Rattle.std.proofs.Common.{◌≤◌, length, length-append, add-one}
 use Rattle.chip_net.specs.Tokens.{ActorKnown}
 use Rattle.chip_crew.specs.declared.gathering.Collected.{Collected}
 use Rattle.chip_crew.specs.Gathering.{AreBack, IsGatheringFor, IsRow, Collects, queue_for}
 use Rattle.chip_crew.specs.Handed.{HasMade}
-use Rattle.chip_crew.proofs.BackLemmas.{row_longer}
-use Rattle.chip_crew.proofs.DealingLemmas.{rounds_turns}
+use Rattle.chip_crew.proofs.DealingLemmas.{rounds_turns, cut_same}
+use Rattle.chip_crew.proofs.RunLemmas.{from_append}
 use Rattle.chip_crew.proofs.QueueingLemmas.{are_made}
 use Rattle.chip_crew.proofs.gathering.Collected.take.Goals as goal
 use Rattle.chip_crew.proofs.gathering.Collected.take.Goals.{in-Queue+in-Queue-back, in-Dealt+in-Dealt-back+in-Ok}
+
+-- the run of the next worker comes behind those that are there
+row_longer : (crew : CrewId) (worker : ℕ) (row actors : List ActorKnown) (room more : ℕ) → IsRow crew worker row room
+    → AreOf crew worker actors → room ≤ more → IsRow crew (worker + 1) (row ++ actors) more
+row_longer crew worker row actors room more is are grown =
+    let both = length-append row actors in
+    let same : are.from ≡ 0 + length row =
+    cut_same crew.net.setting.game.graph crew.workers worker are.from (length row) are.is_first is.up_to
+    ∙ omega arith in
+    let end : are.from + length actors ≡ length (row ++ actors) = omega arith in
+    record {
+      up_to = subst (λ (z : ℕ × ℕ). IsFirstOf crew z.0 z.1) (λ i. (sym (add-one worker) i, end i)) are.is_next;
+      each = from_append (IsAt crew) 0 row actors is.each (subst (λ (n : ℕ). AreFrom crew n actors) same are.each);
+      has_room = (let has_room = is.has_room in omega arith);
+    }
 
 pub join_pass-requires-clause-has : goal.join_pass-requires-clause-has
 join_pass-requires-clause-has g c =

@@ -1,10 +1,10 @@
-use Rattle.std.proofs.Common.{Option, sym, subst}
+use Rattle.std.proofs.Common.{ℕ, Option, sym, subst, add-one}
 use Rattle.chip_net.specs.Tokens.{ActorKnown}
 use Rattle.crossbeam_queue.specs.Passes.{view}
 use Rattle.chip_crew.specs.Asked.{passes}
-use Rattle.chip_crew.specs.Ledger.{HasJust, MakesOneTurn}
+use Rattle.chip_crew.specs.Ledger.{HasJust, MakesOneTurn, TurnsMade}
 use Rattle.chip_crew.specs.Handed.{HasMade}
-use Rattle.chip_crew.proofs.QueueingLemmas.{are_made, turn_more}
+use Rattle.chip_crew.proofs.QueueingLemmas.{are_made}
 use Rattle.chip_crew.proofs.shared.Shared.round.Goals as goal
 
 pub turn_by_queue-requires-clause-has : goal.turn_by_queue-requires-clause-has
@@ -20,7 +20,8 @@ returns-else-not-begin-clause-made g c =
     c.turn_by_queue.result) c.take.ensures.value c.turn_by_queue.ensures.turn in (
       was.0,
       c.turn_by_queue.ensures.pass,
-      turn_more (passes g.B.Crew.asked c.args.worker) c.args.first (view c.in-Queue.pass) (view c.turn_by_queue.new.pass)
-          c.in-Queue.kept c.turn_by_queue.result was.2 c.if-not-begin.ensures.begins.0 turn,
+      subst (λ (n : ℕ). TurnsMade (passes g.B.Crew.asked c.args.worker) n (view c.turn_by_queue.new.pass)
+          c.turn_by_queue.result) (sym (add-one c.args.first))
+          (view c.in-Queue.pass, c.in-Queue.kept, was.2, c.if-not-begin.ensures.begins.0, turn),
       c.turn_by_queue.ensures.kept,
     )

@@ -1,12 +1,19 @@
-use Rattle.std.proofs.Common.{◌≡◌, ◌∙◌, ◌+◌, ◌%◌, ◌<◌, ℕ, List, length, max, sym, subst, rules, arith}
+use Rattle.std.proofs.Common.{◌≡◌, ◌∙◌, ◌+◌, ◌%◌, ◌<◌, ℕ, List, length, max, sym, subst, rules, arith, add-one}
 use Rattle.std.proofs.lemmas.List.{length-set}
 use Rattle.std.specs.Global.{Vec}
 use Rattle.chip_net.specs.Tokens.{ActorKnown}
 use Rattle.chip_crew.specs.Handed.{HasDealt}
 use Rattle.chip_crew.proofs.DealingLemmas.{turn_at, none_at, dealt_net, dealt_turn}
-use Rattle.chip_crew.proofs.DutiesLemmas.{begins_more}
+use Rattle.chip_crew.specs.Duties.{BeginsEach}
 use Rattle.chip_crew.proofs.shared.Shared.turn_each.Goals as goal
 use Rattle.chip_crew.proofs.shared.Shared.turn_each.Goals.{in-Some, in_default}
+
+-- one turn more
+begins_more : {D : Type 0} (before : ℕ → D → D → Type 0) (from k : ℕ) (old was now : D)
+    → BeginsEach before from k old was
+    → before (from + k) was now → BeginsEach before from (k + 1) old now
+begins_more before from k old was now each here =
+    subst (λ (n : ℕ). BeginsEach before from n old now) (sym (add-one k)) (was, each, here)
 
 pub turn-answer-requires : goal.turn-answer-requires
 turn-answer-requires g c = record {

@@ -41,7 +41,8 @@ drops_add_up G good x f y one stable (d ∷ ds) (a ∷ more) z are vs ok ended =
     let two : LeadsTo G (dropped y d.0 d.1) (counts ws) z' =
     (ws, record { sequence = is.ends.1; counted = λ v. refl; position = leaves }) in
     let both = leads_both G (dropped x d.0 d.1) f (dropped y d.0 d.1) (counts ws) z'
-    (leads_more G x y f (λ u. cond (eqb d.0 u) d.1 0) one) two in
+    (leads_more G x y f (λ u. cond (eqb d.0 u) d.1 0) (dropped x d.0 d.1) (dropped y d.0 d.1) one (λ u. refl) (λ u. refl))
+    two in
     let same = all_at_once x d ds in
     let rest = drops_add_up G good (dropped x d.0 d.1) (λ v. f v + counts ws v) z' both
     (λ v can. is.ends.2 v (subst (λ (p : ℕ → ℕ). IsLegal G p v) there can)) ds more z are.2 vs

@@ -15,16 +15,15 @@ use Rattle.chip_graph.specs.More.{HasMore}
 use Rattle.chip_graph.proofs.SumLemmas.{cond_yes, cond_no, sum_below_ext, sum_below_none, sum_below_move, sum_by_place}
 use Rattle.chip_sequence.specs.Firing.{IsLegal}
 use Rattle.chip_sequence.specs.Sequence.{position_after, IsFiringSequence, counts, HasEnded, IsWholePlay}
-use Rattle.chip_sequence.specs.Certificate.{AreForced, IsOnTheWay}
+use Rattle.chip_sequence.specs.Certificate.{IsOnTheWay}
 use Rattle.chip_sequence.specs.Play.{IsPlayed}
 use Rattle.chip_sequence.specs.declared.outcome.Outcome.{Outcome}
 use Rattle.chip_sequence.specs.Sittings.{Leads, LeadsTo}
 use Rattle.chip_sequence.proofs.FiringLemmas.{counts_here, counts_else, led_once, position_is, sink_never, more_chips}
-use Rattle.chip_sequence.proofs.EndLemmas.{least_action, continued}
+use Rattle.chip_sequence.proofs.EndLemmas.{continued}
 use Rattle.chip_sequence.proofs.BoundLemmas.{led_total, ends}
-use Rattle.chip_sequence.proofs.CertificateLemmas.{led, on_the_way, end_of_the_way, same_way, playing_on}
-use Rattle.chip_sequence.proofs.CertificateLemmas.{start_on_the_way}
-use Rattle.chip_sequence.proofs.SittingLemmas.{ends_alike}
+use Rattle.chip_sequence.proofs.CertificateLemmas.{led, end_of_the_way, same_way, playing_on, start_on_the_way}
+use Rattle.chip_sequence.proofs.SittingLemmas.{ends_alike, played_is_sitting}
 use Rattle.chip_fire.specs.Rounds.{IsBegun, IsAtRest}
 use Rattle.chip_drops.specs.declared.avalanche.Avalanche.{Avalanche}
 use Rattle.chip_drops.specs.Avalanches.{dropped, IsAvalanche}
@@ -45,104 +44,78 @@ length_counts G (v ∷ vs) x ok =
     let c = counts_here v v vs refl in
     omega arith
 
--- ---- where a play rests
+-- ---- what a play leads to
 
--- who is on the way and rests has the counts and the position of a whole play
-rest_whole : (G : Multigraph) (x : ℕ → ℕ) (limit : ℕ) (y f : ℕ → ℕ) → IsOnTheWay G x limit y f
-    → ((v : ℕ) → IsLegal G y v → f v ≡ limit)
-    → (ws : List ℕ) × IsWholePlay G x limit ws × ((v : ℕ) → f v ≡ counts ws v) × ((v : ℕ) → y v ≡ position_after G x ws v)
-rest_whole G x limit y f is rests =
-    let whole = continued G x limit [] tt (λ v. omega arith) in
-    let end = end_of_the_way G x limit y f is rests whole.0 whole.1 in
-    (whole.0, whole.1, end.0, end.1)
-
--- so it was led there
+-- who is on the way and rests was led there
 rest_leads : (G : Multigraph) (x : ℕ → ℕ) (limit : ℕ) (y f : ℕ → ℕ) → IsOnTheWay G x limit y f
     → ((v : ℕ) → IsLegal G y v → f v ≡ limit) → LeadsTo G x f y
 rest_leads G x limit y f is rests =
-    let whole = rest_whole G x limit y f is rests in
-    (whole.0, record { sequence = whole.1.sequence; counted = whole.2; position = whole.3 })
-
--- ---- more chips
-
--- what is forced stays so with more chips
-forced_more : (G : Multigraph) (x x' : ℕ → ℕ) (limit : ℕ) (f : ℕ → ℕ) → ((u : ℕ) → x u ≤ x' u) → AreForced G x limit f
-    → AreForced G x' limit f
-forced_more G x x' limit f more forced vs ok ended u =
     let whole = continued G x limit [] tt (λ v. omega arith) in
-    let ws : List ℕ = whole.0 in
-    let play : IsWholePlay G x limit ws = whole.1 in
-    let a = forced ws play.sequence play.ended u in
-    let b = least_action G x' limit vs ok ended ws (more_chips G x x' more ws play.sequence) play.within u in
-    omega arith
+    let end = end_of_the_way G x limit y f is rests whole.0 whole.1 in
+    (whole.0, record { sequence = whole.1.sequence; counted = end.0; position = end.1 })
 
--- what leads from x to y leads with d more from the one to the other
-pub leads_more : (G : Multigraph) (x y f d : ℕ → ℕ) → LeadsTo G x f y → LeadsTo G (λ u. x u + d u) f (λ u. y u + d u)
-leads_more G x y f d one =
+-- who was led there within the limit is on the way
+led_way : (G : Multigraph) (x : ℕ → ℕ) (limit : ℕ) (y f : ℕ → ℕ) → LeadsTo G x f y → ((v : ℕ) → f v ≤ limit)
+    → IsOnTheWay G x limit y f
+led_way G x limit y f one low =
     let vs : List ℕ = one.0 in
     let first : Leads G x f y vs = one.1 in
-    let ok : IsFiringSequence G (λ u. x u + d u) vs =
-    more_chips G x (λ u. x u + d u) (λ u. omega arith) vs first.sequence in (
+    same_way G x limit (position_after G x vs) (λ u. 0 + counts vs u) y f
+    (playing_on G x limit x (λ v. 0) (start_on_the_way G x limit) vs first.sequence
+    (λ u. let a = low u in let b = first.counted u in omega arith))
+    first.position (λ u. let a = first.counted u in omega arith)
+
+-- what leads from x to y leads with d more from the one to the other
+pub leads_more : (G : Multigraph) (x y f d x' y' : ℕ → ℕ) → LeadsTo G x f y → ((u : ℕ) → x' u ≡ x u + d u)
+    → ((u : ℕ) → y' u ≡ y u + d u) → LeadsTo G x' f y'
+leads_more G x y f d x' y' one start here =
+    let vs : List ℕ = one.0 in
+    let first : Leads G x f y vs = one.1 in
+    let ok : IsFiringSequence G x' vs = more_chips G x x' (λ u. let a = start u in omega arith) vs first.sequence in (
       vs,
       record {
         sequence = ok;
         counted = first.counted;
-        position = led_once G (λ u. x u + d u) (counts vs) (counts vs) (λ u. y u + d u)
-            (position_after G (λ u. x u + d u) vs)
-            (λ u. let a = position_is G vs x first.sequence u in let b = first.position u in omega arith)
-            (position_is G vs (λ u. x u + d u) ok) (λ u. refl);
+        position = led_once G x' (counts vs) (counts vs) y' (position_after G x' vs)
+            (λ u. let a = position_is G vs x first.sequence u in let b = first.position u in let c = start u in
+            let e = here u in omega arith)
+            (position_is G vs x' ok) (λ u. refl);
       },
     )
 
--- who is on the way stays so where chips are added at the start and here
-pub way_more : (G : Multigraph) (x y d x' y' : ℕ → ℕ) (limit : ℕ) (f : ℕ → ℕ) → IsOnTheWay G x limit y f
-    → ((u : ℕ) → x' u ≡ x u + d u) → ((u : ℕ) → y' u ≡ y u + d u) → IsOnTheWay G x' limit y' f
-way_more G x y d x' y' limit f is start here =
-    on_the_way G x' limit y' f
-    (λ u. let a = led G x limit y f is u in let b = start u in let c = here u in omega arith)
-    (forced_more G x x' limit f (λ u. let b = start u in omega arith) is.forced)
-
 -- ---- the avalanche of a drop
 
-module _ (G : Multigraph) (good : IsGraph G) (limit : ℕ) (x y f x' z f' d : ℕ → ℕ) (is : IsOnTheWay G x limit y f)
-    (rests : (v : ℕ) → IsLegal G y v → f v ≡ limit) (start : (u : ℕ) → x' u ≡ x u + d u)
-    (is' : IsOnTheWay G x' limit z f') (stable : IsStable G z) where
-  -- the position with the drop
-  abbrev y' : ℕ → ℕ
-  y' u = y u + d u
-
-  -- each sequence that ends from there fires what is between the counts, and ends where the play did
-  pub drop_ends : (vs : List ℕ) → IsFiringSequence G y' vs → HasEnded G y' vs → ((v : ℕ) → f v + counts vs v ≡ f' v)
-      × ((v : ℕ) → z v ≡ position_after G y' vs v)
+module _ (G : Multigraph) (good : IsGraph G) (x f y f' z : ℕ → ℕ) (one : LeadsTo G x f y) (two : LeadsTo G x f' z)
+    (stable : IsStable G z) where
+  -- each sequence that ends from y fires what is between the counts, and ends at z
+  drop_ends : (vs : List ℕ) → IsFiringSequence G y vs → HasEnded G y vs → ((v : ℕ) → f v + counts vs v ≡ f' v)
+      × ((v : ℕ) → z v ≡ position_after G y vs v)
   drop_ends vs ok ended =
-      let one : LeadsTo G x' f y' = subst (λ (p : ℕ → ℕ). LeadsTo G p f y') (λ i u. sym (start u) i)
-      (leads_more G x y f d (rest_leads G x limit y f is rests)) in
-      let two = rest_leads G x' limit z f' is' (λ v can. absurd (stable v can)) in
       let us : List ℕ = two.0 in
-      let second : Leads G x' f' z us = two.1 in
-      let there : z ≡ position_after G x' us = (λ i u. second.position u i) in
-      let alike = ends_alike G good x' f y' one vs ok ended us second.sequence
-      (λ v can. stable v (subst (λ (p : ℕ → ℕ). IsLegal G p v) (sym there) can)) in
+      let second : Leads G x f' z us = two.1 in
+      let there : position_after G x us ≡ z = (λ i u. sym (second.position u) i) in
+      let alike = ends_alike G good x f y one vs ok ended us second.sequence
+      (λ v can. stable v (subst (λ (p : ℕ → ℕ). IsLegal G p v) there can)) in
       ((λ v. alike.0 v ∙ sym (second.counted v)), (λ v. second.position v ∙ sym (alike.1 v)))
 
   -- told by what is between the counts
   pub drop_tells : (a : Avalanche) → a.size ≡ sum_below G.vertices (λ v. f' v - f v)
-      → a.extent ≡ sum_below G.vertices (λ v. cond (eqb (f' v - f v) 0) 0 1) → a.lost ≡ z G.sink - y' G.sink
-      → IsAvalanche G y' a z
+      → a.extent ≡ sum_below G.vertices (λ v. cond (eqb (f' v - f v) 0) 0 1) → a.lost ≡ z G.sink - y G.sink
+      → IsAvalanche G y a z
   drop_tells a size extent lost = record {
-    ends = ends G good y' [] tt;
+    ends = ends G good y [] tt;
     tells = λ vs ok ended.
         let to = drop_ends vs ok ended in
         let between : (v : ℕ) → f' v - f v ≡ counts vs v = (λ v. let e = to.0 v in omega arith) in
         record {
           size = size ∙ sum_below_ext G.vertices (λ v. f' v - f v) (counts vs) (λ v l. between v)
-              ∙ sym (length_counts G vs y' ok);
+              ∙ sym (length_counts G vs y ok);
           extent = extent ∙ sum_below_ext G.vertices (λ v. cond (eqb (f' v - f v) 0) 0 1)
               (λ v. cond (eqb (counts vs v) 0) 0 1) (λ v l. ap (λ (n : ℕ). cond (eqb n 0) 0 1) (between v));
           lost =
-              let a = position_is G vs y' ok G.sink in
+              let a = position_is G vs y ok G.sink in
               let b : degree G G.sink * counts vs G.sink ≡ degree G G.sink * 0 =
-              ap (λ (n : ℕ). degree G G.sink * n) (sink_never G vs y' ok) in
+              ap (λ (n : ℕ). degree G G.sink * n) (sink_never G vs y ok) in
               let c = mul-zero (degree G G.sink) in
               let e = to.1 G.sink in
               omega arith;
@@ -192,12 +165,20 @@ module _ (p : Pile) (is : IsPile p) (g' : ChipGame) (v c : ℕ) (more : HasMore 
       (λ ne. let a = cond_no v u c 0 ne in
       let b = get_or-set_other p.chips.items v u (get_or p.chips.items v 0 + c) 0 (λ z. ne (sym z)) in omega arith)
 
-  -- with the drop on it the play goes on
+  -- with the drop on it the counts lead on
+  led_drop : (y : ℕ → ℕ) → ((u : ℕ) → y u ≡ get_or p.chips.items u 0 + drop u)
+      → LeadsTo p.game.graph (slice_index g'.start) (slice_index p.fired.items) y
+  led_drop y chips = leads_more p.game.graph (slice_index p.game.start) (slice_index p.chips.items)
+      (slice_index p.fired.items) drop (slice_index g'.start) y
+      (rest_leads p.game.graph (slice_index p.game.start) p.game.limit (slice_index p.chips.items)
+      (slice_index p.fired.items) is.begun.on_the_way is.at_rest) start_more chips
+
+  -- so the play goes on
   pub begun_drop : IsBegun g' (set p.chips.items v (get_or p.chips.items v 0 + c)) p.fired.items
   begun_drop =
       let ok = is.begun.in_range in
-      record {
-        in_range = rw (more.same_graph, more.same_limit) (record {
+      rw (more.same_graph, more.same_limit) (record {
+        in_range = record {
           graph_fits = ok.graph_fits;
           chips_each = length-set p.chips.items v (get_or p.chips.items v 0 + c) ∙ ok.chips_each;
           fired_each = ok.fired_each;
@@ -207,61 +188,47 @@ module _ (p : Pile) (is : IsPile p) (g' : ChipGame) (v c : ℕ) (more : HasMore 
               omega arith;
           low_counts = ok.low_counts;
           low_limit = ok.low_limit;
-        });
-        on_the_way = rw (more.same_graph, more.same_limit)
-            (way_more p.game.graph (slice_index p.game.start) (slice_index p.chips.items) drop (slice_index g'.start)
-            (slice_index now) p.game.limit (slice_index p.fired.items) is.begun.on_the_way start_more here);
-      }
+        };
+        on_the_way = led_way p.game.graph (slice_index g'.start) p.game.limit (slice_index now)
+            (slice_index p.fired.items) (led_drop (slice_index now) here) ok.low_counts;
+      })
 
-  module _ (chips fired : List ℕ) (begun : IsBegun g' chips fired) where
-    -- where the play rests that goes on from there, no vertex has fired less often
-    pub drop_more : IsAtRest g'.graph g'.limit chips fired → (u : ℕ) → slice_index p.fired.items u ≤ slice_index fired u
-    drop_more rest u =
-        let whole = rest_whole g'.graph (slice_index g'.start) g'.limit (slice_index chips) (slice_index fired)
-        begun.on_the_way rest in
-        let a = begun_drop.on_the_way.forced whole.0 whole.1.sequence whole.1.ended u in
-        let b = whole.2 u in
-        omega arith
-
-    -- if no vertex is legal there, this is the avalanche
-    pub pile_drop : IsStable g'.graph (slice_index chips) → (a : Avalanche)
-        → a.size ≡ size_between (length fired) p.fired.items fired
-        → a.extent ≡ extent_between (length fired) p.fired.items fired
-        → a.lost ≡ slice_index chips p.game.graph.sink
-        - get_or (set p.chips.items v (get_or p.chips.items v 0 + c)) p.game.graph.sink 0
-        → IsAvalanche p.game.graph (dropped (slice_index p.chips.items) v c) a (slice_index chips)
-    pile_drop stable a size extent lost =
-        let each = begun.in_range.fired_each in
-        drop_tells p.game.graph is.game.graph_fits p.game.limit (slice_index p.game.start) (slice_index p.chips.items)
-        (slice_index p.fired.items) (slice_index g'.start) (slice_index chips) (slice_index fired) drop
-        is.begun.on_the_way is.at_rest start_more (rw (more.same_graph, more.same_limit) at begun.on_the_way)
-        (rw more.same_graph at stable) a (rw (each, more.same_graph) at size) (rw (each, more.same_graph) at extent)
-        (lost ∙ ap (λ (n : ℕ). slice_index chips p.game.graph.sink - n) (here p.game.graph.sink))
+  -- if no vertex is legal where the play ends that goes on from there, this is the avalanche
+  pub pile_drop : (chips fired : List ℕ) → IsBegun g' chips fired → IsStable g'.graph (slice_index chips)
+      → (a : Avalanche) → a.size ≡ size_between (length fired) p.fired.items fired
+      → a.extent ≡ extent_between (length fired) p.fired.items fired
+      → a.lost ≡ slice_index chips p.game.graph.sink
+      - get_or (set p.chips.items v (get_or p.chips.items v 0 + c)) p.game.graph.sink 0
+      → IsAvalanche p.game.graph (dropped (slice_index p.chips.items) v c) a (slice_index chips)
+  pile_drop chips fired begun stable a size extent lost =
+      let each = begun.in_range.fired_each in
+      let way = rw (more.same_graph, more.same_limit) at begun.on_the_way in
+      let none = rw more.same_graph at stable in
+      drop_tells p.game.graph is.game.graph_fits (slice_index g'.start) (slice_index p.fired.items)
+      (dropped (slice_index p.chips.items) v c) (slice_index fired) (slice_index chips)
+      (led_drop (dropped (slice_index p.chips.items) v c) (λ u. refl))
+      (rest_leads p.game.graph (slice_index g'.start) p.game.limit (slice_index chips) (slice_index fired) way
+      (λ u can. absurd (none u can))) none a
+      (rw (each, more.same_graph) at size) (rw (each, more.same_graph) at extent)
+      (lost ∙ ap (λ (n : ℕ). slice_index chips p.game.graph.sink - n) (here p.game.graph.sink))
 
 -- ---- the first play
 
 module _ (g : ChipGame) (ok : IsGame g) (o : Outcome) (played : IsPlayed g o) where
   -- the outcome of a game is where its play may begin
   pub played_begun : IsBegun g o.chips.items o.fired.items
-  played_begun =
-      let x : ℕ → ℕ = slice_index g.start in
-      let ws : List ℕ = played.ends.0 in
-      let play : IsWholePlay g.graph x g.limit ws = played.ends.1 in
-      record {
-        in_range = record {
-          graph_fits = ok.graph_fits;
-          chips_each = played.chips_each;
-          fired_each = played.fired_each;
-          few_chips = (let a = played.kept in let b = ok.few_chips in omega arith);
-          low_counts = played.low_counts;
-          low_limit = ok.low_limit;
-        };
-        on_the_way = same_way g.graph x g.limit (position_after g.graph x ws) (λ u. 0 + counts ws u)
-            (slice_index o.chips.items) (slice_index o.fired.items)
-            (playing_on g.graph x g.limit x (λ v. 0) (start_on_the_way g.graph x g.limit) ws play.sequence
-            (λ u. let a = play.within u in omega arith))
-            (played.position ws play) (λ u. let a = played.counted ws play u in omega arith);
-      }
+  played_begun = record {
+    in_range = record {
+      graph_fits = ok.graph_fits;
+      chips_each = played.chips_each;
+      fired_each = played.fired_each;
+      few_chips = (let a = played.kept in let b = ok.few_chips in omega arith);
+      low_counts = played.low_counts;
+      low_limit = ok.low_limit;
+    };
+    on_the_way = led_way g.graph (slice_index g.start) g.limit (slice_index o.chips.items) (slice_index o.fired.items)
+        (played_is_sitting g o played) played.low_counts;
+  }
 
   -- where it rests
   pub played_rests : IsAtRest g.graph g.limit o.chips.items o.fired.items

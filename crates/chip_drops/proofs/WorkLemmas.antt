@@ -1,82 +1,175 @@
 -- Serves WorkList.antt.
 -- A play by a work list, turn by turn, and what is told of it.
-use Rattle.std.proofs.Common.{◌≡◌, ◌≢◌, ◌⊎◌, ℕ, ◌+◌, ◌-◌, ◌*◌, ◌<◌, ◌≤◌, ◌^◌, Bool, true, false, cond, eqb, List, [], ◌∷◌, ◌++◌}
-use Rattle.std.proofs.Common.{length, take, sum, sum_by, get_or, set, slice_index, refl, sym, ap, ◌∙◌, subst, arith}
-use Rattle.std.proofs.Common.{inl, inr, ⊎_elim, get_or-set_same, get_or-set_other, length-set, mul-le-mul_left, mul-le-mul_right}
-use Rattle.std.proofs.Common.{eqb-true, not}
+use Rattle.std.proofs.Common.{◌≡◌, ◌≢◌, ℕ, zero, suc, ◌+◌, ◌-◌, ◌*◌, ◌<◌, ◌≤◌, ◌^◌, Bool, true, false, cond, eqb}
+use Rattle.std.proofs.Common.{List, [], ◌∷◌, ◌++◌, length, take, drop, sum_by, get_or, set, slice_index, refl, sym, ap, ◌∙◌, subst}
+use Rattle.std.proofs.Common.{arith, ⊎_elim, get_or-set_same, get_or-set_other, length-set, length-drop, mul-le-mul_left}
+use Rattle.std.proofs.Common.{mul-le-mul_right, mul-add, not, Some}
 use Rattle.std.proofs.lemmas.Bool.{eqb-false}
 use mir.Val.{bool_byte}
-use Rattle.std.specs.Prelude.{Contains}
-use Rattle.std.proofs.lemmas.List.{take-set, take_more_set, take_all, ext_get_or}
-use Rattle.std.proofs.lemmas.List.Elements.{All-nil, All-push, All-from_get_or, Contains-get_or, Contains-push, Contains-push_cases}
-use Rattle.std.proofs.lemmas.List.Elements.{Contains-append_left}
+use Rattle.std.specs.Prelude.{All, Contains}
+use Rattle.std.proofs.lemmas.List.{take-set, take_more, take_more_set, take_all, ext_get_or}
+use Rattle.std.proofs.lemmas.List.Sums.{get_or-le-sum_by, sum_by_more_le}
+use Rattle.std.proofs.lemmas.List.Elements.{All-nil, All-cons, All-head, All-tail, All-push, All-pop, All-from_get_or}
+use Rattle.std.proofs.lemmas.List.Elements.{Contains-get_or, Contains-push, Contains-push_cases, Contains-append_left}
 use mathlib.Core.Logic.{dite}
 use native.Mathlib.Decide.{ℕ_discrete}
-use Rattle.chip_graph.specs.Limits.{max_vertices, max_limit}
-use Rattle.chip_graph.specs.Multigraph.{Multigraph, IsGraph, edge_at, degree}
 use Rattle.chip_graph.specs.declared.edge.Edge.{Edge}
-use Rattle.chip_graph.proofs.SumLemmas.{cond_yes, tested_none, sum_below_move, sum_below_none}
+use Rattle.chip_graph.specs.Limits.{max_vertices, max_limit, max_total}
+use Rattle.chip_graph.specs.Sums.{sum_below}
+use Rattle.chip_graph.specs.Multigraph.{Multigraph, degree}
+use Rattle.chip_graph.proofs.SumLemmas.{cond_yes, sum_below_move, sum_below_none}
 use Rattle.chip_sequence.specs.Firing.{IsLegal}
-use Rattle.chip_sequence.specs.Certificate.{IsOnTheWay}
 use Rattle.chip_sequence.proofs.AfterLemmas.{sum_small}
-use Rattle.chip_sequence.proofs.BoundLemmas.{some_degree}
-use Rattle.chip_sequence.proofs.BatchLemmas.{brought, links_of, taken_room, batch_fired}
-use Rattle.chip_fire.specs.Rounds.{IsInRange}
-use Rattle.chip_fire.proofs.PlayLemmas.{turn_stays}
-use Rattle.chip_drops.specs.WorkList.{IsListed, Lists, HasSupport, IsWorked, IsTallied}
-use Rattle.chip_drops.specs.WorkList.{size_between, extent_between}
+use Rattle.chip_sequence.proofs.BatchLemmas.{link_at, links_of, links_inside, taken_room, batch_fired, sent_each}
+use Rattle.chip_sequence.proofs.BatchLemmas.{sent_all}
+use Rattle.chip_fire.specs.Rounds.{IsInRange, StaysOnTheWay}
+use Rattle.chip_fire.proofs.PlayLemmas.{turn_stays as batch_stays}
+use Rattle.chip_drops.specs.WorkList.{AreListed, IsSent, HasSupport, size_between, extent_between}
 
--- ---- listing
+-- ---- listed vertices
 
-module _ (G : Multigraph) (chips0 list0 : List ℕ) (n0 : ℕ) (chips list : List ℕ) (n : ℕ)
-    (so_far : Lists G chips0 list0 n0 chips list n) (h has : ℕ) (room : n < length list) (inside : h < G.vertices)
-    (each : length chips ≡ G.vertices) where
-  still : (i : ℕ) → i ≢ n → get_or (set list n h) i 0 ≡ get_or list i 0
-  still i ne = get_or-set_other list n i h 0 ne
+-- a vertex that alone may be legal
+pub listed_one : (G : Multigraph) (chips list : List ℕ) (v : ℕ) → 0 < length list → v < G.vertices
+    → ((u : ℕ) → IsLegal G (slice_index chips) u → u ≡ v) → AreListed G chips (take 1 (set list 0 v))
+listed_one G chips list v room is_vertex alone = subst (AreListed G chips) (sym (take_more_set list 0 v room)) (record {
+  vertices = All-cons (λ (u : ℕ). u < G.vertices) v [] is_vertex (All-nil (λ (u : ℕ). u < G.vertices));
+  legal = λ u can. subst (Contains (v ∷ [])) (sym (alone u can)) (Contains-push [] v);
+})
 
-  here : get_or (set list n h) n 0 ≡ h
-  here = get_or-set_same list n h 0 room
+-- the last of the list
+pub listed_last : (G : Multigraph) (chips list : List ℕ) (n : ℕ) → AreListed G chips (take n list) → 0 < n → n ≤ length list
+    → AreListed G chips (take (n - 1) list ++ get_or list (n - 1) 0 ∷ [])
+listed_last G chips list n listed some room = subst (AreListed G chips)
+    (ap (λ (m : ℕ). take m list) (let e : n ≡ n - 1 + 1 = omega arith in e)
+    ∙ take_more list (n - 1) 0 (let l : n - 1 < length list = omega arith in l)) listed
 
-  -- a head is put at the end, and counts if it gets the chips to fire
-  pub lists_step : (n' : ℕ) → n ≤ n' → ((n' ≡ n + 1) × (0 < degree G h))
-      ⊎ ((n' ≡ n) × ((degree G h ≤ get_or chips h 0) ⊎ (has < degree G h)))
-      → Lists G chips0 list0 n0 (set chips h has) (set list n h) n'
-  lists_step n' le why = record {
-    kept = λ i l. still i (λ e. let a = so_far.more in absurd (omega arith)) ∙ so_far.kept i l;
-    more = (let a = so_far.more in omega arith);
-    vertices = λ i l. dite (ℕ_discrete i n)
-        (λ e. subst (λ (w : ℕ). w < G.vertices) (sym (ap (λ (j : ℕ). get_or (set list n h) j 0) e ∙ here)) inside)
-        (λ ne. subst (λ (w : ℕ). w < G.vertices) (sym (still i ne)) (so_far.vertices i (below i l ne)));
-    edges = λ i l. dite (ℕ_discrete i n)
-        (λ e. subst (λ (w : ℕ). 0 < degree G w) (sym (ap (λ (j : ℕ). get_or (set list n h) j 0) e ∙ here))
-        (⊎_elim (λ yes. yes.1) (λ no. let a = no.0 in absurd (omega arith)) why))
-        (λ ne. subst (λ (w : ℕ). 0 < degree G w) (sym (still i ne)) (so_far.edges i (below i l ne)));
-    legal = λ v can. dite (ℕ_discrete h v)
-        (λ e. subst (λ (w : ℕ). (degree G w ≤ get_or chips0 w 0) ⊎ IsListed (set list n h) n' w) e
-        (⊎_elim
-        (λ yes. inr (n, (let a = yes.0 in let b : n < n' = omega arith in b), here))
-        (λ no. ⊎_elim (λ had. same_as h (so_far.legal h had))
-        (λ short. let a = get_or-set_same chips h has 0 (omega arith) in
-        let b : degree G h ≤ get_or (set chips h has) h 0 =
-        subst (λ (w : ℕ). degree G w ≤ get_or (set chips h has) w 0) (sym e) can in absurd (omega arith)) no.1) why))
-        (λ ne. same_as v (so_far.legal v (let a = get_or-set_other chips h v has 0 (λ z. ne (sym z)) in omega arith)));
-  }
-    where
-      below : (i : ℕ) → i < n' → i ≢ n → i < n
-      below i l ne = ⊎_elim (λ yes. let a = yes.0 in omega arith) (λ no. let a = no.0 in omega arith) why
+module _ (G : Multigraph) (chips work : List ℕ) (h has : ℕ) (is_vertex : h < G.vertices) (each : length chips ≡ G.vertices)
+  where
+    -- the chips of one vertex change
+    listed_set : (old : List ℕ) → AreListed G chips old → All (λ (v : ℕ). v < G.vertices) work
+        → ((u : ℕ) → h ≢ u → Contains old u → Contains work u) → (h ≢ G.sink → degree G h ≤ has → Contains work h)
+        → AreListed G (set chips h has) work
+    listed_set old so_far vertices kept here = record {
+      vertices = vertices;
+      legal = λ u can. dite (ℕ_discrete h u)
+          (λ e.
+          let can' : IsLegal G (slice_index (set chips h has)) h =
+          subst (IsLegal G (slice_index (set chips h has))) (sym e) can in
+          let a = get_or-set_same chips h has 0 (omega arith) in
+          let b = can'.enough_chips in
+          subst (Contains work) e (here can'.not_sink (omega arith)))
+          (λ ne. kept u ne (so_far.legal u (record {
+            is_vertex = can.is_vertex;
+            not_sink = can.not_sink;
+            enough_chips =
+                let a = get_or-set_other chips h u has 0 (λ z. ne (sym z)) in let b = can.enough_chips in omega arith;
+          })));
+    }
 
-      same_as : (v : ℕ) → (degree G v ≤ get_or chips0 v 0) ⊎ IsListed list n v
-          → (degree G v ≤ get_or chips0 v 0) ⊎ IsListed (set list n h) n' v
-      same_as v = ⊎_elim inl (λ is. inr (
-        is.0,
-        (let a = is.1 in let b : is.0 < n' = omega arith in b),
-        still is.0 (λ e. let a = is.1 in absurd (omega arith)) ∙ is.2,
-      ))
+    -- too few are left of them, and it was listed last
+    pub listed_taken : AreListed G chips (work ++ h ∷ []) → has < degree G h → AreListed G (set chips h has) work
+    listed_taken so_far few = listed_set (work ++ h ∷ []) so_far
+        (All-pop (λ (v : ℕ). v < G.vertices) (work ++ h ∷ []) work (Some h) refl so_far.vertices).0
+        (λ u ne is. ⊎_elim (λ has. has) (λ e. absurd (ne e)) (Contains-push_cases work h u is))
+        (λ other enough. absurd (omega arith))
+
+    -- it is legal with these if it was
+    pub listed_same : AreListed G chips work → (degree G h ≤ has → degree G h ≤ get_or chips h 0)
+        → AreListed G (set chips h has) work
+    listed_same so_far had = listed_set work so_far so_far.vertices (λ u ne is. is)
+        (λ other enough. so_far.legal h (record { is_vertex = is_vertex; not_sink = other; enough_chips = had enough }))
+
+-- it is listed with these
+pub listed_push : (G : Multigraph) (chips work : List ℕ) (h has : ℕ) → h < G.vertices → length chips ≡ G.vertices
+    → AreListed G chips work → AreListed G (set chips h has) (work ++ h ∷ [])
+listed_push G chips work h has is_vertex each so_far = listed_set G chips (work ++ h ∷ []) h has is_vertex each work so_far
+    (All-push (λ (v : ℕ). v < G.vertices) work h so_far.vertices is_vertex) (λ u ne. Contains-append_left work (h ∷ []) u)
+    (λ other enough. Contains-push work h)
 
 -- ---- one turn
 
-add-zero : (m : ℕ) → m + 0 ≡ m
-add-zero m = omega arith
+-- v fires k times, as often as its chips allow
+module _ (G : Multigraph) (limit : ℕ) (chips fired : List ℕ) (ok : IsInRange G limit chips fired) (v k : ℕ)
+    (can : IsLegal G (slice_index chips) v) (enough : k * degree G v ≤ get_or chips v 0) where
+  -- the chips that are left
+  abbrev left : List ℕ
+  left = set chips v (get_or chips v 0 - k * degree G v)
+
+  pub sent_none : get_or chips v 0 < (k + 1) * degree G v → (work : List ℕ) → AreListed G chips (work ++ v ∷ [])
+      → IsSent G k (links_of G ok.graph_fits v) left 0 left work
+  sent_none no_more work listed = record {
+    heads = links_inside G ok.graph_fits v;
+    few =
+        let a = taken_room G ok.graph_fits v k chips can.is_vertex ok.chips_each enough in
+        let b = ok.few_chips in omega arith;
+    chips_each = length-set chips v (get_or chips v 0 - k * degree G v) ∙ ok.chips_each;
+    each = λ u. omega arith;
+    all = omega arith;
+    listed = listed_taken G chips work v (get_or chips v 0 - k * degree G v) can.is_vertex ok.chips_each listed (omega arith);
+  }
+
+  -- the counts after it
+  abbrev pub counted : List ℕ
+  counted = set fired v (get_or fired v 0 + k)
+
+  pub others : (u : ℕ) → u ≢ v → get_or counted u 0 ≡ get_or fired u 0
+  others u ne = get_or-set_other fired v u (get_or fired v 0 + k) 0 ne
+
+  -- after all links
+  module _ (room : get_or fired v 0 + k ≤ limit) (chips' work : List ℕ) (i : ℕ)
+      (all : length (links_of G ok.graph_fits v) ≤ i) (sent : IsSent G k (links_of G ok.graph_fits v) left i chips' work)
+    where
+      pub turn_in_range : IsInRange G limit chips' counted
+      turn_in_range = record {
+        graph_fits = ok.graph_fits;
+        chips_each = sent.chips_each;
+        fired_each = length-set fired v (get_or fired v 0 + k) ∙ ok.fired_each;
+        few_chips =
+            let a = rw (take_all i (links_of G ok.graph_fits v) all) at sent.all in let b = sent.few in omega arith;
+        low_counts = λ u. dite (ℕ_discrete u v)
+            (λ e. subst (λ (w : ℕ). get_or counted w 0 ≤ limit) (sym e)
+            (let a = get_or-set_same fired v (get_or fired v 0 + k) 0
+            (let b = ok.fired_each in let d = can.is_vertex in omega arith) in omega arith))
+            (λ ne. let a = others u ne in let b = ok.low_counts u in omega arith);
+        low_limit = ok.low_limit;
+      }
+
+      pub turn_stays : StaysOnTheWay G limit chips fired chips' counted
+      turn_stays = batch_stays G limit chips fired ok v k can.is_vertex room can.not_sink enough chips'
+          (batch_fired G ok.graph_fits v k chips can.is_vertex ok.chips_each enough can.not_sink chips'
+          (rw (take_all i (links_of G ok.graph_fits v) all) at sent.each))
+
+module _ (G : Multigraph) (k : ℕ) (links : List Edge) (taken : List ℕ) (i : ℕ) (chips work : List ℕ)
+    (so_far : IsSent G k links taken i chips work) (inside : i < length links) where
+  -- the link that is next
+  abbrev link : Edge
+  link = link_at links i
+
+  head_in : link.head < length chips
+  head_in =
+      let a = so_far.heads i (record { tail = 0; head = 0; mult = 0 }) inside in let b = so_far.chips_each in omega arith
+
+  pub sent_room : get_or chips link.head 0 + k * link.mult ≤ max_total
+  sent_room =
+      let a = get_or-le-sum_by (λ (n : ℕ). n) chips link.head 0 head_in in
+      let b = mul-le-mul_left k (sum_by_more_le (λ (e : Edge). e.mult) links i (record { tail = 0; head = 0; mult = 0 })
+      inside) in
+      let c = mul-add k (sum_by (λ (e : Edge). e.mult) (take i links)) link.mult in
+      let d = so_far.all in let e = so_far.few in omega arith
+
+  -- one link further
+  pub sent_step : (work' : List ℕ) → AreListed G (set chips link.head (get_or chips link.head 0 + k * link.mult)) work'
+      → IsSent G k links taken (i + 1) (set chips link.head (get_or chips link.head 0 + k * link.mult)) work'
+  sent_step work' listed = record {
+    heads = so_far.heads;
+    few = so_far.few;
+    chips_each = length-set chips link.head (get_or chips link.head 0 + k * link.mult) ∙ so_far.chips_each;
+    each = sent_each links k taken chips i inside head_in so_far.each;
+    all = sent_all links k taken chips i inside head_in so_far.all;
+    listed = listed;
+  }
+
+-- ---- what is told
 
 -- nothing has fired
 pub none_fired : (n : ℕ) (before fired vs : List ℕ) → before ≡ fired → HasSupport n before fired (take 0 vs)
@@ -85,145 +178,34 @@ none_fired n before fired vs same = record {
   each = λ v l ne. absurd (ne (ap (λ (l : List ℕ). slice_index l v) same));
 }
 
--- a vertex that is legal stands alone in the list
-pub worked_first : (G : Multigraph) (limit : ℕ) (x : ℕ → ℕ) (before chips fired list : List ℕ) (v : ℕ) (support : List ℕ)
-    → IsInRange G limit chips fired → IsOnTheWay G x limit (slice_index chips) (slice_index fired) → before ≡ fired
-    → IsLegal G (slice_index chips) v → ((u : ℕ) → IsLegal G (slice_index chips) u → u ≡ v) → 0 < length list
-    → IsWorked G limit x before chips fired (set list 0 v) 1 support 0
-worked_first G limit x before chips fired list v support ok way same can alone room =
-    let here : get_or (set list 0 v) 0 0 ≡ v = get_or-set_same list 0 v 0 room in
-    let at : (i : ℕ) → i < 1 → v ≡ get_or (set list 0 v) i 0 =
-    (λ i l. sym here ∙ ap (λ (j : ℕ). get_or (set list 0 v) j 0) (let e : 0 ≡ i = omega arith in e)) in
-    record {
-      in_range = ok;
-      on_the_way = way;
-      listed = (let a = length-set list 0 v in omega arith);
-      vertices = λ i l. subst (λ (w : ℕ). w < G.vertices) (at i l) can.is_vertex;
-      edges = λ i l. subst (λ (w : ℕ). 0 < degree G w) (at i l)
-          (some_degree G ok.graph_fits v can.is_vertex can.not_sink);
-      legal = λ u is. (0, (let a : 0 < 1 = omega arith in a), here ∙ sym (alone u is));
-      found = omega arith;
-      supported = none_fired G.vertices before fired support same;
-    }
+-- a vertex that fires is put to those that fired, and counts if it had not
+module _ (n : ℕ) (before fired fired' support : List ℕ) (m v : ℕ) (so_far : HasSupport n before fired (take m support))
+    (is_vertex : v < n) (others : (u : ℕ) → u ≢ v → slice_index fired' u ≡ slice_index fired u) where
+  supported_by : (vs : List ℕ) → All (λ (u : ℕ). u < n) vs → ((u : ℕ) → Contains (take m support) u → Contains vs u)
+      → Contains vs v → HasSupport n before fired' vs
+  supported_by vs vertices kept here = record {
+    vertices = vertices;
+    each = λ u l ne. dite (ℕ_discrete u v)
+        (λ e. subst (Contains vs) (sym e) here)
+        (λ apart. kept u (so_far.each u l (λ same. ne (same ∙ sym (others u apart)))));
+  }
 
--- a vertex with an edge out is not the sink
-not_sink : (G : Multigraph) → IsGraph G → (v : ℕ) → 0 < degree G v → v ≢ G.sink
-not_sink G good v some e =
-    let a : degree G v ≡ 0 = ap (degree G) e ∙ tested_none (length G.edges) (λ i. eqb (edge_at G i).tail G.sink)
-    (λ i. (edge_at G i).mult)
-    (λ i l on. absurd ((good.edges_fit i l).not_from_sink (eqb-true (edge_at G i).tail G.sink on))) in
-    absurd (omega arith)
-
--- a vertex v fires k times, as often as its chips allow
-module _ (G : Multigraph) (limit : ℕ) (x : ℕ → ℕ) (before chips fired list : List ℕ) (n : ℕ) (support : List ℕ) (m : ℕ)
-    (so_far : IsWorked G limit x before chips fired list n support m) (some : 0 < n) (k : ℕ) where
-  -- the vertex at the end of the list
-  abbrev pub last : ℕ
-  last = get_or list (n - 1) 0
-
-  is_vertex : last < G.vertices
-  is_vertex = so_far.vertices (n - 1) (omega arith)
-
-  other : last ≢ G.sink
-  other = not_sink G so_far.in_range.graph_fits last (so_far.edges (n - 1) (omega arith))
-
-  -- the counts after it
-  abbrev pub counted : List ℕ
-  counted = set fired last (get_or fired last 0 + k)
-
-  counted_here : get_or counted last 0 ≡ get_or fired last 0 + k
-  counted_here = get_or-set_same fired last (get_or fired last 0 + k) 0
-      (let a = so_far.in_range.fired_each in let b = is_vertex in omega arith)
-
-  counted_else : (u : ℕ) → last ≢ u → get_or counted u 0 ≡ get_or fired u 0
-  counted_else u ne = get_or-set_other fired last u (get_or fired last 0 + k) 0 (λ z. ne (sym z))
-
-  -- it stands in the support
-  pub supported : m < length support → (b : Bool) → eqb (get_or fired last 0) (get_or before last 0) ≡ b
-      → (m + bool_byte b ≤ length (set support m last))
-      × HasSupport G.vertices before counted (take (m + bool_byte b) (set support m last))
+  pub supported : m < length support → (b : Bool) → eqb (get_or fired v 0) (get_or before v 0) ≡ b
+      → (m + bool_byte b ≤ length (set support m v))
+      × HasSupport n before fired' (take (m + bool_byte b) (set support m v))
   supported room true is = (
-    (let a = length-set support m last in omega arith),
-    subst (HasSupport G.vertices before counted) (sym (take_more_set support m last room)) (record {
-      vertices = All-push (λ (w : ℕ). w < G.vertices) (take m support) last so_far.supported.vertices is_vertex;
-      each = λ u l ne. dite (ℕ_discrete last u)
-          (λ e. subst (Contains (take m support ++ last ∷ [])) e (Contains-push (take m support) last))
-          (λ apart. Contains-append_left (take m support) (last ∷ []) u
-          (so_far.supported.each u l (λ same. ne (same ∙ sym (counted_else u apart)))));
-    }),
+    (let a = length-set support m v in omega arith),
+    subst (HasSupport n before fired') (sym (take_more_set support m v room))
+        (supported_by (take m support ++ v ∷ []) (All-push (λ (u : ℕ). u < n) (take m support) v so_far.vertices is_vertex)
+        (λ u. Contains-append_left (take m support) (v ∷ []) u) (Contains-push (take m support) v)),
   )
   supported room false is = (
-    (let a = length-set support m last in omega arith),
-    subst (HasSupport G.vertices before counted) (sym (ap (λ (i : ℕ). take i (set support m last)) (add-zero m)
-        ∙ take-set support m last)) (record {
-          vertices = so_far.supported.vertices;
-          each = λ u l ne. dite (ℕ_discrete last u)
-              (λ e. subst (Contains (take m support)) e (so_far.supported.each last is_vertex
-              (λ same. eqb-false _ _ is (sym same))))
-              (λ apart. so_far.supported.each u l (λ same. ne (same ∙ sym (counted_else u apart))));
-        }),
+    (let a = length-set support m v in omega arith),
+    subst (HasSupport n before fired')
+        (sym (ap (λ (i : ℕ). take i (set support m v)) (let e : m + 0 ≡ m = omega arith in e) ∙ take-set support m v))
+        (supported_by (take m support) so_far.vertices (λ u has. has)
+        (so_far.each v is_vertex (λ same. eqb-false _ _ is (sym same)))),
   )
-
-  module _ (room : get_or fired last 0 + k ≤ limit) (enough : k * degree G last ≤ get_or chips last 0)
-      (no_more : get_or chips last 0 < (k + 1) * degree G last) (chips' list' : List ℕ) (n' : ℕ)
-      (long : length chips' ≡ G.vertices)
-      (lists : Lists G (set chips last (get_or chips last 0 - k * degree G last)) list (n - 1) chips' list' n') where
-    -- each legal vertex is listed
-    legal : (w : ℕ) → IsLegal G (slice_index chips') w → IsListed list' n' w
-    legal w can = ⊎_elim
-        (λ had. dite (ℕ_discrete last w)
-        (λ e.
-        let left : ℕ = get_or chips last 0 - k * degree G last in
-        let a : degree G last ≤ get_or (set chips last left) last 0 =
-        subst (λ (u : ℕ). degree G u ≤ get_or (set chips last left) u 0) (sym e) had in
-        let b = get_or-set_same chips last left 0 (let d = so_far.in_range.chips_each in let f = is_vertex in omega arith) in
-        absurd (omega arith))
-        (λ ne.
-        let b = get_or-set_other chips last w (get_or chips last 0 - k * degree G last) 0 (λ z. ne (sym z)) in
-        let is = so_far.legal w (record {
-          is_vertex = can.is_vertex;
-          not_sink = can.not_sink;
-          enough_chips = omega arith;
-        }) in
-        let l : is.0 < n - 1 =
-        dite (ℕ_discrete is.0 (n - 1)) (λ e. absurd (ne (sym (ap (λ (i : ℕ). get_or list i 0) e) ∙ is.2)))
-        (λ apart. let d = is.1 in omega arith) in
-        (is.0, (let d = lists.more in let f : is.0 < n' = omega arith in f), lists.kept is.0 l ∙ is.2)))
-        (λ is. is)
-        (lists.legal w can.enough_chips)
-
-    pub worked_step : n' ≤ length list'
-        → ((u : ℕ) → get_or chips' u 0 ≡ get_or (set chips last (get_or chips last 0 - k * degree G last)) u 0 + k * sum_by
-        (brought u) (links_of G so_far.in_range.graph_fits last))
-        → sum chips' ≡ sum (set chips last (get_or chips last 0 - k * degree G last)) + k * sum_by (λ (e : Edge). e.mult)
-        (links_of G so_far.in_range.graph_fits last)
-        → (support' : List ℕ) (m' : ℕ) → m' ≤ length support' → HasSupport G.vertices before counted (take m' support')
-        → IsWorked G limit x before chips' counted list' n' support' m'
-    worked_step fits sent all support' m' found supported' =
-        let ok = so_far.in_range in
-        let good = ok.graph_fits in
-        record {
-          in_range = record {
-            graph_fits = good;
-            chips_each = long;
-            fired_each = length-set fired last (get_or fired last 0 + k) ∙ ok.fired_each;
-            few_chips =
-                let a = taken_room G good last k chips is_vertex ok.chips_each enough in
-                let b = ok.few_chips in omega arith;
-            low_counts = λ u. dite (ℕ_discrete last u)
-                (λ e. subst (λ (w : ℕ). get_or counted w 0 ≤ limit) e (let a = counted_here in omega arith))
-                (λ ne. let a = counted_else u ne in let b = ok.low_counts u in omega arith);
-            low_limit = ok.low_limit;
-          };
-          on_the_way = turn_stays G limit chips fired ok last k is_vertex room other enough chips'
-              (batch_fired G good last k chips is_vertex ok.chips_each enough other chips' sent) x so_far.on_the_way;
-          listed = fits;
-          vertices = lists.vertices;
-          edges = lists.edges;
-          legal = legal;
-          found = found;
-          supported = supported';
-        }
 
 -- where all vertices are listed, those that fired are
 pub all_supported : (n : ℕ) (fired fired' vs : List ℕ) → length vs ≡ n → ((v : ℕ) → v < n → get_or vs v 0 ≡ v)
@@ -234,98 +216,62 @@ all_supported n fired fired' vs each are =
       each = λ v l ne. subst (Contains vs) (are v l) (Contains-get_or vs v 0 (omega arith));
     })
 
--- ---- what is told
-
--- few firings
-pub size_small : (n limit : ℕ) → n ≤ max_vertices → limit ≤ max_limit → (fired fired' : List ℕ)
-    → ((v : ℕ) → slice_index fired' v ≤ limit) → size_between n fired fired' ≤ 2 ^ 60
-size_small n limit few low fired fired' within =
-    let a = sum_small n limit (λ e. true) (λ v. slice_index fired' v - slice_index fired v)
-    (λ e l. let b = within e in omega arith) in
-    let b : n * limit ≤ n * max_limit = mul-le-mul_left n low in
+-- a sum of low numbers, one for each vertex
+pub low_sum : (n most : ℕ) (f : ℕ → ℕ) → n ≤ max_vertices → most ≤ max_limit → ((v : ℕ) → f v ≤ most)
+    → sum_below n f ≤ 2 ^ 60
+low_sum n most f few low each =
+    let a = sum_small n most (λ v. true) f (λ v l. each v) in
+    let b : n * most ≤ n * max_limit = mul-le-mul_left n low in
     let c : n * max_limit ≤ max_vertices * max_limit = mul-le-mul_right max_limit few in
     omega arith
-
-pub one_small : (b : Bool) → cond b 0 1 ≤ 1
-one_small true = omega arith
-one_small false = omega arith
-
--- of few vertices
-pub extent_small : (n : ℕ) (fired fired' : List ℕ) → extent_between n fired fired' ≤ n
-extent_small n fired fired' =
-    let a = sum_small n 1 (λ e. true) (λ v. cond (eqb (slice_index fired' v - slice_index fired v) 0) 0 1)
-    (λ e l. one_small (eqb (slice_index fired' e - slice_index fired e) 0)) in omega arith
-
--- before the first vertex
-pub tallied_none : (n : ℕ) (before fired : List ℕ) → IsTallied n before fired before [] 0 0
-tallied_none n before fired = record {
-  either = λ v. inl refl;
-  done = λ v is. (let a = is.1 in absurd (omega arith));
-  size_is = sym (sum_below_none n (λ v. slice_index before v - slice_index before v) (λ e l. omega arith));
-  extent_is = sym (sum_below_none n (λ v. cond (eqb (slice_index before v - slice_index before v) 0) 0 1)
-      (λ e l. cond_yes (slice_index before e - slice_index before e) 0 0 1 (omega arith)));
-}
-
--- no count is above the later one
-pub tallied_low : (n : ℕ) (before fired now vs : List ℕ) (size extent : ℕ) → IsTallied n before fired now vs size extent
-    → ((v : ℕ) → slice_index before v ≤ slice_index fired v) → (v : ℕ) → get_or now v 0 ≤ get_or fired v 0
-tallied_low n before fired now vs size extent so_far more v =
-    let a = more v in ⊎_elim (λ is. omega arith) (λ is. omega arith) (so_far.either v)
 
 -- a byte that is 1 where a number is not 0
 pub some_byte : (b : Bool) → bool_byte (not b) ≡ cond b 0 1
 some_byte true = refl
 some_byte false = refl
 
-module _ (n : ℕ) (before fired now vs : List ℕ) (size extent : ℕ) (so_far : IsTallied n before fired now vs size extent)
-    (each : length now ≡ n) (more : (v : ℕ) → slice_index before v ≤ slice_index fired v) where
-  -- one vertex more
-  pub tallied_step : (v : ℕ) → v < n → IsTallied n before fired (set now v (get_or fired v 0)) (vs ++ v ∷ [])
-      (size + (get_or fired v 0 - get_or now v 0))
-      (extent + cond (eqb (get_or fired v 0 - get_or now v 0) 0) 0 1)
-  tallied_step v l =
+module _ (n : ℕ) (now fired : List ℕ) (each : length now ≡ n) where
+  -- a vertex whose count is made the later one drops out of the sum of what is between
+  pub dropped_out : (h : ℕ → ℕ) → h 0 ≡ 0 → (v : ℕ) → v < n
+      → sum_below n (λ u. h (get_or fired u 0 - get_or (set now v (get_or fired v 0)) u 0))
+      + h (get_or fired v 0 - get_or now v 0)
+      ≡ sum_below n (λ u. h (get_or fired u 0 - get_or now u 0))
+  dropped_out h none v l =
       let now' : List ℕ = set now v (get_or fired v 0) in
-      let here : get_or now' v 0 ≡ get_or fired v 0 = get_or-set_same now v (get_or fired v 0) 0 (omega arith) in
-      let apart : (u : ℕ) → v ≢ u → get_or now' u 0 ≡ get_or now u 0 =
-      (λ u ne. get_or-set_other now v u (get_or fired v 0) 0 (λ z. ne (sym z))) in
-      let b = more v in
-      record {
-        either = λ u. dite (ℕ_discrete v u)
-            (λ e. inr (subst (λ (w : ℕ). get_or now' w 0 ≡ get_or fired w 0) e here))
-            (λ ne. ⊎_elim (λ is. inl (apart u ne ∙ is)) (λ is. inr (apart u ne ∙ is)) (so_far.either u));
-        done = λ u is. dite (ℕ_discrete v u)
-            (λ e. subst (λ (w : ℕ). get_or now' w 0 ≡ get_or fired w 0) e here)
-            (λ ne. apart u ne ∙ so_far.done u (⊎_elim (λ has. has) (λ e. absurd (ne e)) (Contains-push_cases vs v u is)));
-        size_is =
-            let a = sum_below_move n (λ u. get_or now' u 0 - get_or before u 0) (λ u. get_or now u 0 - get_or before u 0)
-            v l (λ u m ne. ap (λ (k : ℕ). k - get_or before u 0) (apart u (λ z. ne (sym z)))) in
-            let c = so_far.size_is in
-            ⊎_elim (λ is. omega arith) (λ is. omega arith) (so_far.either v);
-        extent_is =
-            let a = sum_below_move n (λ u. cond (eqb (get_or now' u 0 - get_or before u 0) 0) 0 1)
-            (λ u. cond (eqb (get_or now u 0 - get_or before u 0) 0) 0 1) v l
-            (λ u m ne. ap (λ (k : ℕ). cond (eqb (k - get_or before u 0) 0) 0 1) (apart u (λ z. ne (sym z)))) in
-            let c = so_far.extent_is in
-            let d : cond {A = ℕ} (eqb (get_or now' v 0 - get_or before v 0) 0) 0 1
-            ≡ cond (eqb (get_or fired v 0 - get_or before v 0) 0) 0 1 =
-            ap (λ (k : ℕ). cond {A = ℕ} (eqb (k - get_or before v 0) 0) 0 1) here in
-            ⊎_elim
-            (λ is.
-            let e = cond_yes {A = ℕ} (get_or now v 0 - get_or before v 0) 0 0 1 (omega arith) in
-            let f : cond {A = ℕ} (eqb (get_or fired v 0 - get_or now v 0) 0) 0 1
-            ≡ cond (eqb (get_or fired v 0 - get_or before v 0) 0) 0 1 =
-            ap (λ (k : ℕ). cond {A = ℕ} (eqb (get_or fired v 0 - k) 0) 0 1) is in omega arith)
-            (λ is.
-            let e = cond_yes {A = ℕ} (get_or fired v 0 - get_or now v 0) 0 0 1 (omega arith) in
-            let f : cond {A = ℕ} (eqb (get_or now v 0 - get_or before v 0) 0) 0 1
-            ≡ cond (eqb (get_or fired v 0 - get_or before v 0) 0) 0 1 =
-            ap (λ (k : ℕ). cond {A = ℕ} (eqb (k - get_or before v 0) 0) 0 1) is in omega arith)
-            (so_far.either v);
-      }
+      let a = sum_below_move n (λ u. h (get_or fired u 0 - get_or now' u 0)) (λ u. h (get_or fired u 0 - get_or now u 0)) v l
+      (λ u m ne. ap (λ (k : ℕ). h (get_or fired u 0 - k)) (get_or-set_other now v u (get_or fired v 0) 0 ne)) in
+      let b = get_or-set_same now v (get_or fired v 0) 0 (omega arith) in
+      let c : h (get_or fired v 0 - get_or now' v 0) ≡ 0 =
+      ap h (let d : get_or fired v 0 - get_or now' v 0 ≡ 0 = omega arith in d) ∙ none in
+      omega arith
 
-  -- after the last one
-  pub tallied_all : length fired ≡ n → HasSupport n before fired vs → now ≡ fired
-  tallied_all long support = ext_get_or 0 now fired (each ∙ sym long)
-      (λ v l. dite (ℕ_discrete (get_or before v 0) (get_or fired v 0))
-      (λ same. ⊎_elim (λ is. is ∙ same) (λ is. is) (so_far.either v))
-      (λ ne. so_far.done v (support.each v (omega arith) ne)))
+  -- and out of the list of those that are not alike
+  pub support_step : (v : ℕ) (vs : List ℕ) → HasSupport n now fired (v ∷ vs)
+      → HasSupport n (set now v (get_or fired v 0)) fired vs
+  support_step v vs so_far = record {
+    vertices = All-tail (λ (u : ℕ). u < n) v vs so_far.vertices;
+    each = λ u l ne. dite (ℕ_discrete v u)
+        (λ e. absurd (ne (subst (λ (w : ℕ). get_or (set now v (get_or fired v 0)) w 0 ≡ get_or fired w 0) e
+        (get_or-set_same now v (get_or fired v 0) 0
+        (let a = All-head (λ (w : ℕ). w < n) v vs so_far.vertices in omega arith)))))
+        (λ apart. rest u apart (so_far.each u l
+        (λ same. ne (get_or-set_other now v u (get_or fired v 0) 0 (λ z. apart (sym z)) ∙ same))));
+  }
+    where
+      rest : (u : ℕ) → v ≢ u → Contains (v ∷ vs) u → Contains vs u
+      rest u apart (zero, l, e) = absurd (apart e)
+      rest u apart (suc k, l, e) = (k, (let a : k < length vs = omega arith in a), e)
+
+  -- after the last one all are alike, and nothing is between
+  pub tallied_all : length fired ≡ n → (i : ℕ) (vs : List ℕ) → length vs ≤ i → HasSupport n now fired (drop i vs)
+      → (now ≡ fired) × (size_between n now fired ≡ 0) × (extent_between n now fired ≡ 0)
+  tallied_all long i vs past so_far = (
+    ext_get_or 0 now fired (each ∙ sym long) (λ v l. alike v (omega arith)),
+    sum_below_none n (λ v. slice_index fired v - slice_index now v) (λ v l. let a = alike v l in omega arith),
+    sum_below_none n (λ v. cond (eqb (slice_index fired v - slice_index now v) 0) 0 1)
+        (λ v l. cond_yes _ 0 0 1 (let a = alike v l in omega arith)),
+  )
+    where
+      alike : (v : ℕ) → v < n → get_or now v 0 ≡ get_or fired v 0
+      alike v l = dite (ℕ_discrete (get_or now v 0) (get_or fired v 0)) (λ e. e)
+          (λ ne. let is = so_far.each v l ne in let a = is.1 in let b = length-drop i vs in absurd (omega arith))

@@ -66,7 +66,6 @@ fn is_stable(graph: &Graph, chips: &[u64]) -> bool
 pub(crate) fn tally(support: &[u64], fired: &[u64], before: &mut [u64]) -> (u64, u64)
     requires before_each { length before.old ≡ length fired.now }
     requires support { HasSupport (length fired.now) before.old fired.now support.now }
-    requires more { (v : ℕ) → slice_index before.old v ≤ slice_index fired.now v }
     requires few_vertices { length fired.now ≤ max_vertices }
     requires low_counts { (v : ℕ) → slice_index fired.now v ≤ max_limit }
     ensures size { result.0 ≡ size_between (length fired.now) before.old fired.now }
@@ -76,7 +75,7 @@ pub(crate) fn tally(support: &[u64], fired: &[u64], before: &mut [u64]) -> (u64,
     let mut size = 0u64;
     let mut extent = 0u64;
     for &vertex in support {
-        let more = fired[vertex as usize] - before[vertex as usize];
+        let more = fired[vertex as usize].saturating_sub(before[vertex as usize]);
         size += more;
         extent += u64::from(more != 0);
         before[vertex as usize] = fired[vertex as usize];

@@ -1,14 +1,13 @@
 //! A play by a work list: it looks at the vertices that got chips, and at no others.
 
-ghost use Rattle.std.specs.Prelude.{◌≡◌, ◌↔◌, ◌⊎◌, ℕ, ◌+◌, ◌*◌, ◌<◌, ◌≤◌, ◌==◌, if◌then◌else◌, true, All, length, map};
-ghost use Rattle.std.specs.Prelude.{sum, sum_by, take, slice_index, MatchOption};
-ghost use Rattle.chip_graph.specs.Limits.{max_total};
+ghost use Rattle.std.specs.Prelude.{◌≡◌, ◌≢◌, ◌↔◌, ℕ, ◌+◌, ◌*◌, ◌<◌, ◌≤◌, ◌++◌, [], ◌∷◌, true, length, take};
+ghost use Rattle.std.specs.Prelude.{slice_index, MatchOption};
 ghost use Rattle.chip_sequence.specs.Firing.{IsLegal};
-ghost use Rattle.chip_fire.specs.Rounds.{IsBegun};
+ghost use Rattle.chip_fire.specs.Rounds.{IsBegun, IsInRange, StaysOnTheWay};
 ghost use Rattle.chip_drops.specs.Pile.{IsStable};
-ghost use Rattle.chip_drops.specs.WorkList.{AreVertices, HaveEdges, Lists, HasSupport, IsListed};
+ghost use Rattle.chip_drops.specs.WorkList.{AreListed, HasSupport};
 
-use chip_graph::{Edge, Game, Graph};
+use chip_graph::{Game, Graph};
 
 /// How many turns at each vertex a play by a work list makes before it gives up.
 const TURNS: u64 = 64;
@@ -47,21 +46,17 @@ pub(crate) fn work_off(
         if listed == 0 {
             return Some(found);
         }
-        let vertex = list[listed - 1];
-        let degree = graph.out_degree(vertex);
-        let k = times_in(chips[vertex as usize], degree);
-        let links = graph.links(vertex);
-        if k > limit - fired[vertex as usize]
-            || links.len() > list.len() - listed
-            || found == support.len()
-        {
+        let top = listed - 1;
+        let vertex = list[top];
+        if found == support.len() || !is_legal(graph, chips, vertex) {
             break;
         }
         support[found] = vertex;
         found += usize::from(fired[vertex as usize] == before[vertex as usize]);
-        fired[vertex as usize] += k;
-        chips[vertex as usize] -= k * degree;
-        listed = send(graph, k, links, listed - 1, list, chips);
+        let Some(next) = turn(graph, limit, vertex, top, list, chips, fired) else {
+            return None;
+        };
+        listed = next;
     }
     None
 }
@@ -76,45 +71,52 @@ pub(crate) fn is_legal(graph: &Graph, chips: &[u64], vertex: u64) -> bool
     vertex != graph.sink() && graph.out_degree(vertex) <= chips[vertex as usize]
 }
 
-/// A quotient without the slow division if it can be: it is 1 nearly always.
+/// A quotient of numbers of which the first is not the smaller one, without the slow division if it can be: it is 1
+/// nearly always.
 #[inline]
 fn times_in(chips: u64, degree: u64) -> u64
-    requires { 0 < degree }
+    requires some { 0 < degree }
+    requires enough { degree ≤ chips }
     ensures enough { result * degree ≤ chips }
     ensures no_more { chips < (result + 1) * degree }
 {
-    if chips < degree {
-        0
-    } else if chips - degree < degree {
+    if chips - degree < degree {
         1
     } else {
         chips / degree
     }
 }
 
-/// Adds to each head what its edge brings in `k` firings, and lists those that had not the chips to fire and have them
-/// now; how many are listed then.
+/// Lets a legal vertex fire as often as its chips allow, and lists in its place those that had not the chips to fire and
+/// have them then; how many are listed then. `None` where the limit or the room of the list is too small.
 #[inline]
-fn send(
+fn turn(
     graph: &Graph,
-    k: u64,
-    links: &[Edge],
+    limit: u64,
+    vertex: u64,
     mut listed: usize,
     list: &mut [u64],
     chips: &mut [u64],
-) -> usize
-    requires one_each { length chips.old ≡ graph.now.vertices }
-    requires heads { All (λ e. e.head < length chips.old) links.now }
-    requires few { sum chips.old + k * sum_by (λ e. e.mult) links.now ≤ max_total }
-    requires room { listed + length links.now ≤ length list.old }
-    requires vertices { AreVertices graph.now list.old listed }
-    requires edges { HaveEdges graph.now list.old listed }
-    ensures each { (u : ℕ) → slice_index chips.new u
-        ≡ slice_index chips.old u + k * sum_by (λ e. if e.head == u then e.mult else 0) links.now }
-    ensures all { sum chips.new ≡ sum chips.old + k * sum_by (λ e. e.mult) links.now }
-    ensures lists { Lists graph.now chips.old list.old listed chips.new list.new result }
-    ensures room { result ≤ length list.old }
+    fired: &mut [u64],
+) -> Option<usize>
+    requires in_range { IsInRange graph.now limit chips.old fired.old }
+    requires legal { IsLegal graph.now (slice_index chips.old) vertex }
+    requires listed { AreListed graph.now chips.old (take listed list.old ++ vertex ∷ []) }
+    requires room { listed ≤ length list.old }
+    ensures in_range { IsInRange graph.now limit chips.new fired.new }
+    ensures stays { StaysOnTheWay graph.now limit chips.old fired.old chips.new fired.new }
+    ensures others { (v : ℕ) → v ≢ vertex → slice_index fired.new v ≡ slice_index fired.old v }
+    ensures listed { MatchOption result (Unit {0})
+        (λ n. (n ≤ length list.new) × AreListed graph.now chips.new (take n list.new)) }
 {
+    let degree = graph.out_degree(vertex);
+    let k = times_in(chips[vertex as usize], degree);
+    let links = graph.links(vertex);
+    if k > limit - fired[vertex as usize] || links.len() > list.len() - listed {
+        return None;
+    }
+    fired[vertex as usize] += k;
+    chips[vertex as usize] -= k * degree;
     for link in links {
         let head = link.head;
         let degree = graph.out_degree(head);
@@ -126,5 +128,5 @@ fn send(
             listed += 1;
         }
     }
-    listed
+    Some(listed)
 }

@@ -1,7 +1,11 @@
-use Rattle.std.proofs.Common.{length, take}
-use Rattle.chip_drops.specs.WorkList.{IsTallied}
+use Rattle.std.proofs.Common.{◌≡◌, ◌+◌, length, drop}
+use Rattle.chip_drops.specs.WorkList.{HasSupport, size_between, extent_between}
 use Rattle.chip_drops.proofs.play.tally.Given as goal
 
 abbrev pub invariant-loop-vertex : goal.invariant-loop-vertex
-invariant-loop-vertex l =
-    IsTallied (length l.fired) l.fn.before l.fired l.before (take l.vertex-index l.support) l.size l.extent
+invariant-loop-vertex l = record {
+  support : HasSupport (length l.fired) l.before l.fired (drop l.vertex-index l.support);
+  size : l.size + size_between (length l.fired) l.before l.fired ≡ size_between (length l.fired) l.fn.before l.fired;
+  extent :
+      l.extent + extent_between (length l.fired) l.before l.fired ≡ extent_between (length l.fired) l.fn.before l.fired;
+}

@@ -1,61 +1,54 @@
-use Rattle.std.proofs.Common.{eqb, ℕ, ◌-◌, ◌*◌, ◌<◌, get_or, refl, arith, length-set}
-use Rattle.chip_sequence.proofs.BatchLemmas.{links_inside, taken_room}
-use Rattle.chip_drops.proofs.WorkLemmas.{worked_first, worked_step, supported}
+use Rattle.std.proofs.Common.{eqb, ℕ, ◌-◌, ◌<◌, get_or, refl, arith, length-set}
+use Rattle.std.proofs.lemmas.List.Elements.{All-contains, Contains-push}
+use Rattle.chip_drops.proofs.WorkLemmas.{listed_one, listed_last, none_fired, supported}
 use Rattle.chip_drops.proofs.work_list.work_off.Goals as goal
 
 pub turns-init : goal.turns-init
 turns-init c =
     let begun = c.requires.begun in
-    let can = c.is_legal.ensures.0 c.if-not-is_legal.false in
-    rw (c.graph-graph.ensures.value, c.limit-limit.ensures.value)
-    (worked_first c.args.game.now.graph c.args.game.now.limit _ c.args.before.now c.args.chips.now c.args.fired.now
-    c.args.list.now c.args.vertex c.args.support.now begun.in_range begun.on_the_way c.requires.before
-    (rw c.graph-graph.ensures.value at can) c.requires.legal c.requires.room)
+    rw (c.graph-graph.ensures.value, c.limit-limit.ensures.value) (record {
+      in_range = begun.in_range;
+      on_the_way = begun.on_the_way;
+      room = (let a = length-set c.args.list.now 0 c.args.vertex in let b = c.requires.room in omega arith);
+      listed = listed_one c.args.game.now.graph c.args.chips.now c.args.list.now c.args.vertex c.requires.room
+          c.requires.is_vertex c.requires.legal;
+      found = omega arith;
+      support = none_fired c.args.game.now.graph.vertices c.args.before.now c.args.fired.now c.args.support.now
+          c.requires.before;
+    })
 
-pub send-listed-requires-clause-heads : goal.send-listed-requires-clause-heads
-send-listed-requires-clause-heads c k d l =
+pub is_legal-requires-else-found-support-clause-is_vertex : goal.is_legal-requires-else-found-support-clause-is_vertex
+is_legal-requires-else-found-support-clause-is_vertex c =
     let so_far = c.turns.invariant in
-    let v : ℕ = get_or c.turns.list (c.turns.listed - 1) 0 in
-    let a = (rw (← c.links-links.ensures) at
-    (links_inside c.graph-graph.result.now so_far.in_range.graph_fits v)) k d l in
-    let b = length-set c.turns.chips v (get_or c.turns.chips v 0 - c.times_in-k.result * c.out_degree-degree.result) in
-    let e = so_far.in_range.chips_each in
-    omega arith
+    let last = listed_last c.graph-graph.result.now c.turns.chips c.turns.list c.turns.listed so_far.listed
+    (let a = c.if-listed-eq0.false in omega arith) so_far.room in
+    All-contains (λ (v : ℕ). v < c.graph-graph.result.now.vertices) _ _ last.vertices (Contains-push _ _)
 
-pub send-listed-requires-clause-few : goal.send-listed-requires-clause-few
-send-listed-requires-clause-few c =
-    let ok = c.turns.invariant.in_range in
-    let v : ℕ = get_or c.turns.list (c.turns.listed - 1) 0 in
-    let room = taken_room c.graph-graph.result.now ok.graph_fits v c.times_in-k.result c.turns.chips
-    (c.turns.invariant.vertices (c.turns.listed - 1) (let a = c.if-listed-eq0.false in omega arith)) ok.chips_each
-    (rw c.out_degree-degree.ensures at c.times_in-k.ensures.enough) in
-    rw (c.links-links.ensures, c.out_degree-degree.ensures) (let a = ok.few_chips in omega arith)
+pub turn-requires-clause-listed : goal.turn-requires-clause-listed
+turn-requires-clause-listed c =
+    listed_last c.graph-graph.result.now c.turns.chips c.turns.list c.turns.listed c.turns.invariant.listed
+    (let a = c.if-listed-eq0.false in omega arith) c.turns.invariant.room
 
-pub send-listed-requires-clause-vertices : goal.send-listed-requires-clause-vertices
-send-listed-requires-clause-vertices c i l = c.turns.invariant.vertices i (omega arith)
-
-pub send-listed-requires-clause-edges : goal.send-listed-requires-clause-edges
-send-listed-requires-clause-edges c i l = c.turns.invariant.edges i (omega arith)
+pub returns-in_default-clause-begun : goal.returns-in_default-clause-begun
+returns-in_default-clause-begun c = rw (← c.graph-graph.ensures.value, ← c.limit-limit.ensures.value) (record {
+  in_range = c.turn.ensures.in_range;
+  on_the_way = c.turn.ensures.stays _ c.turns.invariant.on_the_way;
+})
 
 pub turns-preserved : goal.turns-preserved
 turns-preserved c =
     let so_far = c.turns.invariant in
     let v : ℕ = get_or c.turns.list (c.turns.listed - 1) 0 in
-    let some : 0 < c.turns.listed = (let a = c.if-listed-eq0.false in omega arith) in
-    let degree = c.out_degree-degree.ensures in
-    let sent = rw (degree, c.links-links.ensures) at c.send-listed.ensures.each in
-    let all = rw (degree, c.links-links.ensures) at c.send-listed.ensures.all in
-    let lists = rw degree at c.send-listed.ensures.lists in
-    let found = supported c.graph-graph.result.now c.limit-limit.result _ c.args.before.now c.turns.chips c.turns.fired
-    c.turns.list c.turns.listed c.turns.support c.turns.found so_far some c.times_in-k.result
+    let can = c.is_legal-else-found-support.ensures.0 c.if-not-is_legal-2.false in
+    let found = supported c.graph-graph.result.now.vertices c.args.before.now c.turns.fired c.turn.new.fired c.turns.support
+    c.turns.found v so_far.support can.is_vertex c.turn.ensures.others
     (let a = c.if-found-support.false in let b = so_far.found in omega arith)
     (eqb (get_or c.turns.fired v 0) (get_or c.args.before.now v 0)) refl in
-    rw c.from-found.ensures
-    (worked_step c.graph-graph.result.now c.limit-limit.result _ c.args.before.now c.turns.chips c.turns.fired c.turns.list
-    c.turns.listed c.turns.support c.turns.found so_far some c.times_in-k.result
-    (let a = c.if-k-limit.false in let b = so_far.in_range.low_counts v in omega arith)
-    (rw degree at c.times_in-k.ensures.enough) (rw degree at c.times_in-k.ensures.no_more) c.send-listed.new.chips
-    c.send-listed.new.list c.send-listed.result
-    (let a = c.send-listed.auto.chips in let b = length-set c.turns.chips v (get_or c.turns.chips v 0 - c.times_in-k.result
-    * c.out_degree-degree.result) in let e = so_far.in_range.chips_each in omega arith)
-    lists (let a = c.send-listed.ensures.room in let b = c.send-listed.auto.list in omega arith) sent all _ _ found.0 found.1)
+    record {
+      in_range = c.turn.ensures.in_range;
+      on_the_way = c.turn.ensures.stays _ so_far.on_the_way;
+      room = c.in-Some.ensures.listed.0;
+      listed = c.in-Some.ensures.listed.1;
+      found = rw c.from-found.ensures found.0;
+      support = rw c.from-found.ensures found.1;
+    }

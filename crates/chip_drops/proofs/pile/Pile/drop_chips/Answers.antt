@@ -1,7 +1,7 @@
 use Rattle.std.proofs.Common.{◌≡◌, ℕ, ◌+◌, ◌<◌, List, get_or, set, ap, ◌∙◌, arith, length-set}
 use Rattle.std.proofs.lemmas.List.{get_or_read}
 use Rattle.chip_graph.specs.Multigraph.{Multigraph}
-use Rattle.chip_drops.proofs.AvalancheLemmas.{begun_drop, drop_more, pile_drop}
+use Rattle.chip_drops.proofs.AvalancheLemmas.{begun_drop, pile_drop}
 use Rattle.chip_drops.proofs.pile.Pile.drop_chips.Goals as goal
 
 pub play_out-chips-requires-clause-begun : goal.play_out-chips-requires-clause-begun
@@ -12,14 +12,6 @@ play_out-chips-requires-clause-begun c =
     c.index_mut.ensures.value 0 in
     rw at (begun_drop c.args.self c.requires.pile c.with_drop-game.result c.args.vertex c.args.count c.with_drop-game.ensures
     c.requires.is_vertex c.requires.few_chips)
-
-pub tally-size-requires-clause-more : goal.tally-size-requires-clause-more
-tally-size-requires-clause-more c =
-    let played = c.play_out-chips.ensures in
-    rw (c.deref_mut-3.ensures.value, c.requires.pile.before, c.deref-3.ensures.value)
-    (drop_more c.args.self c.requires.pile c.with_drop-game.result c.args.vertex c.args.count c.with_drop-game.ensures
-    c.requires.is_vertex c.requires.few_chips c.play_out-chips.result.0.items c.play_out-chips.result.1.items
-    played.begun played.at_rest)
 
 pub returns-then-stable-clause-avalanche : goal.returns-then-stable-clause-avalanche
 returns-then-stable-clause-avalanche c =

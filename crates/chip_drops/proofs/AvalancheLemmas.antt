@@ -6,13 +6,13 @@ use Rattle.std.proofs.Common.{get_or-set_other, length-set, mul-zero}
 use mathlib.Core.Logic.{dite}
 use native.Mathlib.Decide.{ℕ_discrete, dec_lt}
 use Rattle.std.proofs.lemmas.List.Sums.{sum_by-set, sum_by-cons}
-use Rattle.std.proofs.lemmas.List.{get_or_past}
+use Rattle.std.proofs.lemmas.List.{get_or_past, get_or_read}
 use Rattle.chip_graph.specs.Limits.{max_total}
 use Rattle.chip_graph.specs.Sums.{sum_below}
 use Rattle.chip_graph.specs.Multigraph.{Multigraph, IsGraph, degree}
 use Rattle.chip_graph.specs.ChipGame.{ChipGame, IsGame}
 use Rattle.chip_graph.specs.More.{HasMore}
-use Rattle.chip_graph.proofs.SumLemmas.{cond_yes, cond_no, sum_below_ext, sum_below_none, sum_below_move, sum_by_place}
+use Rattle.chip_graph.proofs.SumLemmas.{cond_yes, cond_no, sum_below_add, sum_below_ext, sum_below_none, sum_below_move, sum_by_place}
 use Rattle.chip_sequence.specs.Firing.{IsLegal}
 use Rattle.chip_sequence.specs.Sequence.{position_after, IsFiringSequence, counts, HasEnded, IsWholePlay}
 use Rattle.chip_sequence.specs.Certificate.{IsOnTheWay}
@@ -23,12 +23,13 @@ use Rattle.chip_sequence.proofs.FiringLemmas.{counts_here, counts_else, led_once
 use Rattle.chip_sequence.proofs.EndLemmas.{continued}
 use Rattle.chip_sequence.proofs.BoundLemmas.{led_total, ends}
 use Rattle.chip_sequence.proofs.CertificateLemmas.{led, end_of_the_way, same_way, playing_on, start_on_the_way}
-use Rattle.chip_sequence.proofs.SittingLemmas.{ends_alike, played_is_sitting}
+use Rattle.chip_sequence.proofs.SittingLemmas.{leads_both, ends_alike, played_is_sitting}
 use Rattle.chip_fire.specs.Rounds.{IsBegun, IsAtRest}
 use Rattle.chip_drops.specs.declared.avalanche.Avalanche.{Avalanche}
 use Rattle.chip_drops.specs.Avalanches.{dropped, IsAvalanche}
 use Rattle.chip_drops.specs.declared.pile.Pile.{Pile}
 use Rattle.chip_drops.specs.Pile.{IsPile, IsStable}
+use Rattle.chip_drops.specs.Laws.{all_dropped, DropsAddUp}
 use Rattle.chip_drops.specs.WorkList.{size_between, extent_between}
 
 -- ---- lists that fire
@@ -134,83 +135,82 @@ begun_total g ok chips fired begun =
     (λ u l. led g.graph (slice_index g.start) g.limit (slice_index chips) (slice_index fired) begun.on_the_way u)
     ∙ sym (sum_by_place g.start ∙ ap (λ (n : ℕ). sum_below n (slice_index g.start)) ok.start_fits)
 
-module _ (p : Pile) (is : IsPile p) (g' : ChipGame) (v c : ℕ) (more : HasMore p.game ((v, c) ∷ []) g')
-    (inside : v < p.game.graph.vertices) (few : sum p.game.start + c ≤ max_total) where
-  -- how many chips more there are on a vertex
-  abbrev drop : ℕ → ℕ
-  drop u = cond (eqb v u) c 0
+-- c chips more on v, which has `added`, of a game that rests
+module _ (g g' : ChipGame) (chips fired : List ℕ) (ok : IsGame g) (begun : IsBegun g chips fired)
+    (rests : IsAtRest g.graph g.limit chips fired) (v c added : ℕ) (more : HasMore g ((v, c) ∷ []) g')
+    (inside : v < g.graph.vertices) (few : sum g.start + c ≤ max_total) (was : added ≡ get_or chips v added) where
+  vertex_in : v < length chips
+  vertex_in = let a = begun.in_range.chips_each in omega arith
 
-  start_more : (u : ℕ) → slice_index g'.start u ≡ slice_index p.game.start u + drop u
-  start_more u = dite (dec_lt u (length p.game.start))
+  start_more : (u : ℕ) → slice_index g'.start u ≡ slice_index g.start u + cond (eqb v u) c 0
+  start_more u = dite (dec_lt u (length g.start))
       (λ l. let a = more.start u l in
       let b = sum_by-cons (λ (pair : ℕ × ℕ). cond (eqb pair.0 u) pair.1 0) (v, c) [] in omega arith)
-      (λ past.
-      let a = get_or_past g'.start u 0 (let b = more.start_each in omega arith) in
-      let b = get_or_past p.game.start u 0 (omega arith) in
-      let d = cond_no v u c 0 (λ e. let f = is.game.start_fits in absurd (omega arith)) in
-      omega arith)
+      (λ past. let a = get_or_past g'.start u 0 (let b = more.start_each in omega arith) in
+      let b = get_or_past g.start u 0 (omega arith) in
+      let d = cond_no v u c 0 (λ e. let f = ok.start_fits in absurd (omega arith)) in omega arith)
 
   -- the chips with the drop
   abbrev now : List ℕ
-  now = set p.chips.items v (get_or p.chips.items v 0 + c)
+  now = set chips v (added + c)
 
-  vertex_in : v < length p.chips.items
-  vertex_in = let a = is.begun.in_range.chips_each in omega arith
-
-  here : (u : ℕ) → get_or now u 0 ≡ get_or p.chips.items u 0 + drop u
+  here : (u : ℕ) → slice_index now u ≡ dropped (slice_index chips) v c u
   here u = dite (ℕ_discrete v u)
-      (λ e. subst (λ (w : ℕ). get_or now w 0 ≡ get_or p.chips.items w 0 + drop w) e
-      (let a = cond_yes v v c 0 refl in
-      let b = get_or-set_same p.chips.items v (get_or p.chips.items v 0 + c) 0 vertex_in in omega arith))
+      (λ e. subst (λ (w : ℕ). get_or now w 0 ≡ dropped (slice_index chips) v c w) e
+      (let a = cond_yes v v c 0 refl in let b = get_or-set_same chips v (added + c) 0 vertex_in in
+      let d = get_or_read chips v added vertex_in was 0 in omega arith))
       (λ ne. let a = cond_no v u c 0 ne in
-      let b = get_or-set_other p.chips.items v u (get_or p.chips.items v 0 + c) 0 (λ z. ne (sym z)) in omega arith)
+      let b = get_or-set_other chips v u (added + c) 0 (λ z. ne (sym z)) in omega arith)
 
-  -- with the drop on it the counts lead on
-  led_drop : (y : ℕ → ℕ) → ((u : ℕ) → y u ≡ get_or p.chips.items u 0 + drop u)
-      → LeadsTo p.game.graph (slice_index g'.start) (slice_index p.fired.items) y
-  led_drop y chips = leads_more p.game.graph (slice_index p.game.start) (slice_index p.chips.items)
-      (slice_index p.fired.items) drop (slice_index g'.start) y
-      (rest_leads p.game.graph (slice_index p.game.start) p.game.limit (slice_index p.chips.items)
-      (slice_index p.fired.items) is.begun.on_the_way is.at_rest) start_more chips
+  -- the counts lead to them
+  led_drop : LeadsTo g.graph (slice_index g'.start) (slice_index fired) (dropped (slice_index chips) v c)
+  led_drop = leads_more g.graph (slice_index g.start) (slice_index chips) (slice_index fired) (λ u. cond (eqb v u) c 0)
+      (slice_index g'.start) (dropped (slice_index chips) v c)
+      (rest_leads g.graph (slice_index g.start) g.limit (slice_index chips) (slice_index fired) begun.on_the_way rests)
+      start_more (λ u. refl)
 
   -- so the play goes on
-  pub begun_drop : IsBegun g' (set p.chips.items v (get_or p.chips.items v 0 + c)) p.fired.items
+  pub begun_drop : IsBegun g' (set chips v (added + c)) fired
   begun_drop =
-      let ok = is.begun.in_range in
+      let in_range = begun.in_range in
       rw (more.same_graph, more.same_limit) (record {
         in_range = record {
-          graph_fits = ok.graph_fits;
-          chips_each = length-set p.chips.items v (get_or p.chips.items v 0 + c) ∙ ok.chips_each;
-          fired_each = ok.fired_each;
+          graph_fits = in_range.graph_fits;
+          chips_each = length-set chips v (added + c) ∙ in_range.chips_each;
+          fired_each = in_range.fired_each;
           few_chips =
-              let a = sum_by-set (λ (n : ℕ). n) p.chips.items v (get_or p.chips.items v 0 + c) 0 vertex_in in
-              let b = begun_total p.game is.game p.chips.items p.fired.items is.begun in
-              omega arith;
-          low_counts = ok.low_counts;
-          low_limit = ok.low_limit;
+              let a = sum_by-set (λ (n : ℕ). n) chips v (added + c) 0 vertex_in in
+              let b = begun_total g ok chips fired begun in
+              let d = get_or_read chips v added vertex_in was 0 in omega arith;
+          low_counts = in_range.low_counts;
+          low_limit = in_range.low_limit;
         };
-        on_the_way = led_way p.game.graph (slice_index g'.start) p.game.limit (slice_index now)
-            (slice_index p.fired.items) (led_drop (slice_index now) here) ok.low_counts;
+        on_the_way = led_way g.graph (slice_index g'.start) g.limit (slice_index now) (slice_index fired)
+            (subst (LeadsTo g.graph (slice_index g'.start) (slice_index fired)) (λ i u. sym (here u) i) led_drop)
+            in_range.low_counts;
       })
 
   -- if no vertex is legal where the play ends that goes on from there, this is the avalanche
-  pub pile_drop : (chips fired : List ℕ) → IsBegun g' chips fired → IsStable g'.graph (slice_index chips)
-      → (a : Avalanche) → a.size ≡ size_between (length fired) p.fired.items fired
-      → a.extent ≡ extent_between (length fired) p.fired.items fired
-      → a.lost ≡ slice_index chips p.game.graph.sink
-      - get_or (set p.chips.items v (get_or p.chips.items v 0 + c)) p.game.graph.sink 0
-      → IsAvalanche p.game.graph (dropped (slice_index p.chips.items) v c) a (slice_index chips)
-  pile_drop chips fired begun stable a size extent lost =
-      let each = begun.in_range.fired_each in
-      let way = rw (more.same_graph, more.same_limit) at begun.on_the_way in
+  pub drop_told : (chips' fired' : List ℕ) → IsBegun g' chips' fired' → IsStable g'.graph (slice_index chips')
+      → (a : Avalanche) → a.size ≡ size_between (length fired') fired fired'
+      → a.extent ≡ extent_between (length fired') fired fired'
+      → (left arrived : ℕ) → left ≡ get_or chips' g.graph.sink left → arrived ≡ get_or now g.graph.sink arrived
+      → a.lost ≡ left - arrived → IsAvalanche g.graph (dropped (slice_index chips) v c) a (slice_index chips')
+  drop_told chips' fired' begun' stable a size extent left arrived is_left is_arrived lost =
+      let each = begun'.in_range.fired_each in
+      let way = rw (more.same_graph, more.same_limit) at begun'.on_the_way in
       let none = rw more.same_graph at stable in
-      drop_tells p.game.graph is.game.graph_fits (slice_index g'.start) (slice_index p.fired.items)
-      (dropped (slice_index p.chips.items) v c) (slice_index fired) (slice_index chips)
-      (led_drop (dropped (slice_index p.chips.items) v c) (λ u. refl))
-      (rest_leads p.game.graph (slice_index g'.start) p.game.limit (slice_index chips) (slice_index fired) way
+      let sink_in = ok.graph_fits.sink_is_vertex in
+      let vertices : g'.graph.vertices ≡ g.graph.vertices = ap (λ (G : Multigraph). G.vertices) more.same_graph in
+      let d = get_or_read chips' g.graph.sink left (let b = begun'.in_range.chips_each in omega arith) is_left 0 in
+      let e = get_or_read now g.graph.sink arrived
+      (let b = length-set chips v (added + c) in let f = begun.in_range.chips_each in omega arith) is_arrived 0 in
+      let f = here g.graph.sink in
+      drop_tells g.graph ok.graph_fits (slice_index g'.start) (slice_index fired) (dropped (slice_index chips) v c)
+      (slice_index fired') (slice_index chips') led_drop
+      (rest_leads g.graph (slice_index g'.start) g.limit (slice_index chips') (slice_index fired') way
       (λ u can. absurd (none u can))) none a
-      (rw (each, more.same_graph) at size) (rw (each, more.same_graph) at extent)
-      (lost ∙ ap (λ (n : ℕ). slice_index chips p.game.graph.sink - n) (here p.game.graph.sink))
+      (rw (each, more.same_graph) at size) (rw (each, more.same_graph) at extent) (omega arith)
 
 -- ---- the first play
 
@@ -238,3 +238,49 @@ module _ (g : ChipGame) (ok : IsGame g) (o : Outcome) (played : IsPlayed g o) wh
       let play : IsWholePlay g.graph x g.limit ws = played.ends.1 in
       let there : slice_index o.chips.items ≡ position_after g.graph x ws = (λ i u. played.position ws play u i) in
       played.counted ws play v ∙ play.ended v (subst (λ (p : ℕ → ℕ). IsLegal g.graph p v) there can)
+
+-- ---- all drops
+
+-- the same drops, the first one at once
+all_at_once : (x : ℕ → ℕ) (d : ℕ × ℕ) (ds : List (ℕ × ℕ))
+    → all_dropped (dropped x d.0 d.1) ds ≡ all_dropped x (d ∷ ds)
+all_at_once x d ds = λ i v.
+    (let same : (u : ℕ) → all_dropped (dropped x d.0 d.1) ds u ≡ all_dropped x (d ∷ ds) u =
+    (λ u. let a = sum_by-cons (λ (pair : ℕ × ℕ). cond (eqb pair.0 u) pair.1 0) d ds in omega arith) in same v i)
+
+pub drops_add_up : DropsAddUp
+drops_add_up G good x f y one stable [] [] z are vs ok ended =
+    let none : all_dropped x [] ≡ x = (λ i v. (let same : (u : ℕ) → all_dropped x [] u ≡ x u = (λ u. omega arith) in same v i)) in
+    let ok' : IsFiringSequence G x vs = subst (λ (p : ℕ → ℕ). IsFiringSequence G p vs) none ok in
+    let ended' : HasEnded G x vs = subst (λ (p : ℕ → ℕ). HasEnded G p vs) none ended in
+    let alike = ends_alike G good x f y one [] tt stable vs ok' ended' in (
+      (let a = sum_below_ext G.vertices f (counts vs) (λ v l. let b = alike.0 v in omega arith) in
+          let b = length_counts G vs x ok' in omega arith),
+      (λ v. are v ∙ alike.1 v ∙ ap (λ (p : ℕ → ℕ). position_after G p vs v) (sym none)),
+    )
+drops_add_up G good x f y one stable [] (a ∷ more) z are vs ok ended = absurd are
+drops_add_up G good x f y one stable (d ∷ ds) [] z are vs ok ended = absurd are
+drops_add_up G good x f y one stable (d ∷ ds) (a ∷ more) z are vs ok ended =
+    let z' : ℕ → ℕ = are.0 in
+    let is : IsAvalanche G (dropped y d.0 d.1) a z' = are.1 in
+    let ws : List ℕ = is.ends.0 in
+    let leaves : (v : ℕ) → z' v ≡ position_after G (dropped y d.0 d.1) ws v = is.leaves ws is.ends.1 is.ends.2 in
+    let there : z' ≡ position_after G (dropped y d.0 d.1) ws = (λ i v. leaves v i) in
+    let two : LeadsTo G (dropped y d.0 d.1) (counts ws) z' =
+    (ws, record { sequence = is.ends.1; counted = λ v. refl; position = leaves }) in
+    let both = leads_both G (dropped x d.0 d.1) f (dropped y d.0 d.1) (counts ws) z'
+    (leads_more G x y f (λ u. cond (eqb d.0 u) d.1 0) (dropped x d.0 d.1) (dropped y d.0 d.1) one (λ u. refl) (λ u. refl))
+    two in
+    let same = all_at_once x d ds in
+    let rest = drops_add_up G good (dropped x d.0 d.1) (λ v. f v + counts ws v) z' both
+    (λ v can. is.ends.2 v (subst (λ (p : ℕ → ℕ). IsLegal G p v) there can)) ds more z are.2 vs
+    (subst (λ (p : ℕ → ℕ). IsFiringSequence G p vs) (sym same) ok)
+    (subst (λ (p : ℕ → ℕ). HasEnded G p vs) (sym same) ended) in (
+      (let e = rest.0 in
+          let b = sum_below_add G.vertices f (counts ws) in
+          let c = length_counts G ws (dropped y d.0 d.1) is.ends.1 in
+          let h = (is.tells ws is.ends.1 is.ends.2).size in
+          let k = sum_by-cons (λ (v : Avalanche). v.size) a more in
+          omega arith),
+      (λ v. rest.1 v ∙ ap (λ (p : ℕ → ℕ). position_after G p vs v) same),
+    )

@@ -1,4 +1,3 @@
 pub mod AvalancheLemmas
 pub mod WorkLemmas
-pub mod AddUpLemmas
 pub mod RowLemmas

@@ -3,7 +3,8 @@
 use Rattle.std.proofs.Common.{◌≡◌, ℕ, ◌+◌, ◌<◌, ◌≤◌, List, [], ◌∷◌, ◌++◌, length, take, get_or, sum}
 use Rattle.std.proofs.Common.{slice_index, refl, sym, ap, ◌∙◌, subst, arith, append_assoc, append-nil, Option}
 use Rattle.std.proofs.Common.{cond, eqb}
-use Rattle.std.proofs.Common.{length-append, length-take, take-append-drop, drop}
+use Rattle.std.proofs.Common.{length-append}
+use Rattle.std.proofs.Math.Seq.{take-append-add}
 use Rattle.std.proofs.lemmas.List.{take_at, take_more}
 use Rattle.std.proofs.lemmas.List.Sums.{sum_by-append, sum_by_more_le}
 use Rattle.std.specs.Io.KnownBytes.{Appends}
@@ -38,33 +39,33 @@ told_more G x (c ∷ ds) (b ∷ told) y d a z are is =
     )
 told_more G x _ _ y d a z are is = absurd are
 
--- no drops, and one more
-game_none : (g : ChipGame) → HasMore g [] g
-game_none g =
-    record { same_graph = refl; same_limit = refl; start_each = refl; start = λ v l. omega arith; total = (omega arith) }
-
+-- one more drop on a game
 game_more : (g g' g'' : ChipGame) (ds : List (ℕ × ℕ)) (d : ℕ × ℕ) → HasMore g ds g' → HasMore g' (d ∷ []) g''
     → HasMore g (ds ++ d ∷ []) g''
 game_more g g' g'' ds d one two = record {
   same_graph = two.same_graph ∙ one.same_graph;
   same_limit = two.same_limit ∙ one.same_limit;
   start_each = two.start_each ∙ one.start_each;
-  start = λ v l.
-      let a = one.start v l in
-      let b = two.start v (let e = one.start_each in omega arith) in
-      let c = sum_by-append (λ (pair : ℕ × ℕ). cond (eqb pair.0 v) pair.1 0) ds (d ∷ []) in
-      omega arith;
-  total =
-      let a = one.total in
-      let b = two.total in
-      let c = sum_by-append (λ (pair : ℕ × ℕ). pair.1) ds (d ∷ []) in
-      omega arith;
+  start = λ v l. (let a = one.start v l in let b = two.start v (let e = one.start_each in omega arith) in
+      let c = sum_by-append (λ (pair : ℕ × ℕ). cond (eqb pair.0 v) pair.1 0) ds (d ∷ []) in omega arith);
+  total = (let a = one.total in let b = two.total in
+      let c = sum_by-append (λ (pair : ℕ × ℕ). pair.1) ds (d ∷ []) in omega arith);
 }
 
 -- nothing was dropped
-pub after_none : (p : Pile) → IsPile p → IsStable p.game.graph (slice_index p.chips.items) → IsAfter p [] [] p
-after_none p is stable =
-    record { pile = is; stable = stable; game = game_none p.game; avalanches = λ v. refl }
+pub rows_none : (p : Pile) (ds : List (ℕ × ℕ)) → IsPile p → IsStable p.game.graph (slice_index p.chips.items)
+    → LeavesRows p ds 0 p (rows_text [] [])
+rows_none p ds is stable = (
+  [],
+  record {
+    pile = is;
+    stable = stable;
+    game =
+        record { same_graph = refl; same_limit = refl; start_each = refl; start = λ v l. omega arith; total = omega arith };
+    avalanches = λ v. refl;
+  },
+  refl,
+)
 
 -- the chips of the next drop have room
 pub room_for_drop : (p : Pile) (ds : List (ℕ × ℕ)) (i : ℕ) (p' : Pile) (text : List ℕ) → LeavesRows p ds i p' text
@@ -129,19 +130,10 @@ module _ (old now : Option (List ℕ)) (pending : List ℕ) (written : ℕ) (all
       → (written + n < length all) × Appends old now' (take (written + n) all)
   out_part now' n l went = (
     (let a = ap length is.whole in let b = length-append is.front pending in let e = is.counted in omega arith),
-    subst (Appends old now') taken (Appends-trans old now now' is.front (take n pending) is.went went),
+    subst (Appends old now') (sym (ap (take (written + n)) (sym is.whole)
+        ∙ ap (λ (k : ℕ). take (k + n) (is.front ++ pending)) (sym is.counted) ∙ take-append-add is.front pending n))
+        (Appends-trans old now now' is.front (take n pending) is.went went),
   )
-    where
-      long : length (is.front ++ take n pending) ≡ written + n
-      long = length-append is.front (take n pending)
-          ∙ (let a = length-take n pending in let b = is.counted in
-          let e : length is.front + length (take n pending) ≡ written + n = omega arith in e)
-
-      taken : is.front ++ take n pending ≡ take (written + n) all
-      taken = sym (ap (take (written + n)) (sym is.whole
-          ∙ ap (λ (l : List ℕ). is.front ++ l) (sym (take-append-drop n pending))
-          ∙ sym (append_assoc is.front (take n pending) (drop n pending)))
-          ∙ take_at (is.front ++ take n pending) (drop n pending) (written + n) long)
 
   -- nothing more does, whatever comes after it
   pub out_stopped : (more : List ℕ) → (k : ℕ) × Appends old now (take k (all ++ more))

@@ -208,13 +208,12 @@ module _ (n : ℕ) (before fired fired' support : List ℕ) (m v : ℕ) (so_far 
   )
 
 -- where all vertices are listed, those that fired are
-pub all_supported : (n : ℕ) (fired fired' vs : List ℕ) → length vs ≡ n → ((v : ℕ) → v < n → get_or vs v 0 ≡ v)
-    → HasSupport n fired fired' (take (length vs) vs)
-all_supported n fired fired' vs each are =
-    subst (HasSupport n fired fired') (sym (take_all (length vs) vs (omega arith))) (record {
-      vertices = All-from_get_or (λ (v : ℕ). v < n) vs 0 (λ i l. let a = are i (omega arith) in omega arith);
-      each = λ v l ne. subst (Contains vs) (are v l) (Contains-get_or vs v 0 (omega arith));
-    })
+pub all_supported : (n : ℕ) (fired fired' vs : List ℕ) (m : ℕ) → length vs ≡ n → length vs ≤ m
+    → ((v : ℕ) → v < length vs → get_or vs v 0 ≡ v) → HasSupport n fired fired' (take m vs)
+all_supported n fired fired' vs m each all are = subst (HasSupport n fired fired') (sym (take_all m vs all)) (record {
+  vertices = All-from_get_or (λ (v : ℕ). v < n) vs 0 (λ i l. let a = are i l in omega arith);
+  each = λ v l ne. subst (Contains vs) (are v (omega arith)) (Contains-get_or vs v 0 (omega arith));
+})
 
 -- a sum of low numbers, one for each vertex
 pub low_sum : (n most : ℕ) (f : ℕ → ℕ) → n ≤ max_vertices → most ≤ max_limit → ((v : ℕ) → f v ≤ most)

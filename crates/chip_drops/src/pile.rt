@@ -10,7 +10,7 @@ ghost use Rattle.chip_drops.specs.Avalanches.{IsAvalanche, dropped};
 ghost use Rattle.chip_drops.specs.Pile.{IsPile, IsStable};
 
 use crate::avalanche::Avalanche;
-use crate::play::{play_out, tally};
+use crate::play::{Room, play_out, tally};
 use chip_fire::outcome_at_rest;
 use chip_graph::Game;
 use chip_sequence::Outcome;
@@ -24,12 +24,7 @@ pub struct Pile {
     chips: Vec<u64>,
     /// How often each vertex has fired in all.
     fired: Vec<u64>,
-    /// The same, for comparison while a play goes on.
-    before: Vec<u64>,
-    /// Room for the vertices that fire after a drop.
-    support: Vec<u64>,
-    /// Room for a work list.
-    list: Vec<u64>,
+    room: Room,
 }
 
 impl Pile {
@@ -44,16 +39,12 @@ impl Pile {
     {
         let vertices = game.graph().vertices() as usize;
         let Outcome { fired, chips, .. } = outcome;
-        let before = fired.clone()?;
-        let support = vec![in alloc; 0; vertices]?;
-        let list = vec![in alloc; 0; 2 * vertices]?;
+        let room = Room::new(alloc, vertices, &fired)?;
         Ok(Pile {
             game,
             chips,
             fired,
-            before,
-            support,
-            list,
+            room,
         })
     }
 
@@ -75,33 +66,20 @@ impl Pile {
             game,
             mut chips,
             fired,
-            mut before,
-            mut support,
-            mut list,
+            mut room,
         } = self;
         let sink = game.graph().sink() as usize;
         let game = with_drop(game, vertex, count);
         chips[vertex as usize] += count;
         let arrived = chips[sink];
-        let (chips, fired, found, stable) = play_out(
-            alloc,
-            &game,
-            vertex,
-            chips,
-            fired,
-            &before,
-            &mut support,
-            &mut list,
-        );
-        let (size, extent) = tally(&support[..found], &fired, &mut before);
+        let (chips, fired, found, stable) = play_out(alloc, &game, vertex, chips, fired, &mut room);
+        let (size, extent) = tally(&room.support[..found], &fired, &mut room.before);
         let lost = chips[sink].saturating_sub(arrived);
         let pile = Pile {
             game,
             chips,
             fired,
-            before,
-            support,
-            list,
+            room,
         };
         if stable {
             (pile, Some(Avalanche { size, extent, lost }))

@@ -1,51 +1,90 @@
 //! The play of a game that goes on after a drop: by a work list, and if that gives up by rounds and a search.
 
-ghost use Rattle.std.specs.Prelude.{◌≡◌, ◌↔◌, ℕ, ◌<◌, ◌≤◌, true, length, take, slice_index};
+ghost use Rattle.std.specs.Prelude.{◌≡◌, ◌↔◌, ℕ, ◌<◌, ◌≤◌, true, length, take, slice_index, IfOk};
 ghost use Rattle.chip_graph.specs.Limits.{max_limit, max_vertices};
 ghost use Rattle.chip_sequence.specs.Firing.{IsLegal};
 ghost use Rattle.chip_fire.specs.Rounds.{IsBegun, IsAtRest};
-ghost use Rattle.chip_drops.specs.Pile.{IsStable};
+ghost use Rattle.chip_drops.specs.Pile.{IsRoom, IsStable};
 ghost use Rattle.chip_drops.specs.WorkList.{size_between, extent_between, HasSupport};
 
 use crate::work_list::{is_legal, work_off};
 use chip_fire::{Unwatched, play_on};
 use chip_graph::{Game, Graph};
-use std::alloc::Global;
+use std::alloc::{AllocError, Global};
+
+/// Room for plays.
+#[derive(Drop)]
+pub(crate) struct Room {
+    /// How often each vertex has fired, for comparison while a play goes on.
+    pub(crate) before: Vec<u64>,
+    /// The vertices that fire after a drop.
+    pub(crate) support: Vec<u64>,
+    /// A work list.
+    list: Vec<u64>,
+}
+
+impl Room {
+    /// Room for so many vertices that have fired so often.
+    pub(crate) fn new(alloc: Global, vertices: usize, fired: &[u64]) -> Result<Room, AllocError>
+        requires some { 0 < vertices }
+        requires few { vertices ≤ max_vertices }
+        ensures { IfOk result (IsRoom vertices fired.now) }
+    {
+        let before = Vec::from_slice(alloc, fired)?;
+        let support = vec![in alloc; 0; vertices]?;
+        let list = vec![in alloc; 0; 2 * vertices]?;
+        Ok(Room {
+            before,
+            support,
+            list,
+        })
+    }
+}
 
 /// Plays on from these chips and counts to the end within the limit: the chips and counts there, how many at the front of
-/// `support` are all vertices that fired, and whether no vertex is legal. No vertex but this one is legal before.
+/// the support are all vertices that fired, and whether no vertex is legal. No vertex but this one is legal before.
 pub(crate) fn play_out(
     alloc: Global,
     game: &Game,
     vertex: u64,
     mut chips: Vec<u64>,
     mut fired: Vec<u64>,
-    before: &[u64],
-    support: &mut [u64],
-    list: &mut [u64],
+    room: &mut Room,
 ) -> (Vec<u64>, Vec<u64>, usize, bool)
     requires begun { IsBegun game.now chips.items fired.items }
     requires is_vertex { vertex < game.now.graph.vertices }
     requires legal { (v : ℕ) → IsLegal game.now.graph (slice_index chips.items) v → v ≡ vertex }
-    requires before { before.now ≡ fired.items }
-    requires support_each { length support.old ≡ game.now.graph.vertices }
-    requires room { 0 < length list.old }
+    requires room { IsRoom game.now.graph.vertices fired.items room.old }
     ensures begun { IsBegun game.now result.0.items result.1.items }
     ensures at_rest { IsAtRest game.now.graph game.now.limit result.0.items result.1.items }
-    ensures found { result.2 ≤ length support.new }
-    ensures support { HasSupport game.now.graph.vertices before.now result.1.items (take result.2 support.new) }
+    ensures room { IsRoom game.now.graph.vertices fired.items room.new }
+    ensures found { result.2 ≤ length room.new.support.items }
+    ensures support { HasSupport game.now.graph.vertices fired.items result.1.items (take result.2 room.new.support.items) }
     ensures stable { (result.3 ≡ true) ↔ IsStable game.now.graph (slice_index result.0.items) }
 {
+    let Room {
+        before,
+        support,
+        list,
+    } = room;
     let worked = work_off(game, vertex, before, support, list, &mut chips, &mut fired);
     if let Some(found) = worked {
         return (chips, fired, found, true);
     }
     let (chips, fired) = play_on(alloc, game, chips, fired, &mut Unwatched);
-    for vertex in 0..game.graph().vertices() {
-        support[vertex as usize] = vertex;
-    }
+    list_all(support);
     let stable = is_stable(game.graph(), &chips);
     (chips, fired, support.len(), stable)
+}
+
+/// Lists all vertices.
+fn list_all(support: &mut Vec<u64>)
+    ensures each { length support.new.items ≡ length support.old.items }
+    ensures all { (v : ℕ) → v < length support.new.items → slice_index support.new.items v ≡ v }
+{
+    for vertex in 0..support.len() {
+        support[vertex] = vertex as u64;
+    }
 }
 
 /// Whether no vertex is legal.

@@ -73,6 +73,7 @@ pub(crate) fn is_legal(graph: &Graph, chips: &[u64], vertex: u64) -> bool
 
 /// A quotient of numbers of which the first is not the smaller one, without the slow division if it can be: it is 1
 /// nearly always.
+#[tactic(auto, using(chip_fire::proofs::PlayLemmas::within_quotient, chip_sequence::proofs::BatchLemmas::above_quotient))]
 #[inline]
 fn times_in(chips: u64, degree: u64) -> u64
     requires some { 0 < degree }

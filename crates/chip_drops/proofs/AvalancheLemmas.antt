@@ -3,6 +3,7 @@
 use Rattle.std.proofs.Common.{◌≡◌, ℕ, ◌+◌, ◌-◌, ◌*◌, ◌<◌, ◌≤◌, cond, eqb, List, [], ◌∷◌, length, sum}
 use Rattle.std.proofs.Common.{get_or, set, slice_index, refl, sym, ap, ◌∙◌, subst, arith, get_or-set_same}
 use Rattle.std.proofs.Common.{get_or-set_other, length-set, mul-zero}
+use Rattle.std.proofs.lemmas.Bool.Decides.{nat_tests}
 use mathlib.Core.Logic.{dite}
 use native.Mathlib.Decide.{ℕ_discrete, dec_lt}
 use Rattle.std.proofs.lemmas.List.Sums.{sum_by-set, sum_by-cons}
@@ -12,7 +13,7 @@ use Rattle.chip_graph.specs.Sums.{sum_below}
 use Rattle.chip_graph.specs.Multigraph.{Multigraph, IsGraph, degree}
 use Rattle.chip_graph.specs.ChipGame.{ChipGame, IsGame}
 use Rattle.chip_graph.specs.More.{HasMore}
-use Rattle.chip_graph.proofs.SumLemmas.{cond_yes, cond_no, sum_below_add, sum_below_ext, sum_below_none, sum_below_move, sum_by_place}
+use Rattle.chip_graph.proofs.SumLemmas.{sum_below_add, sum_below_ext, sum_below_none, sum_below_move, sum_by_place}
 use Rattle.chip_sequence.specs.Firing.{IsLegal}
 use Rattle.chip_sequence.specs.Sequence.{position_after, IsFiringSequence, counts, HasEnded, IsWholePlay}
 use Rattle.chip_sequence.specs.Certificate.{IsOnTheWay}
@@ -27,8 +28,7 @@ use Rattle.chip_sequence.proofs.SittingLemmas.{leads_both, ends_alike, played_is
 use Rattle.chip_fire.specs.Rounds.{IsBegun, IsAtRest}
 use Rattle.chip_drops.specs.declared.avalanche.Avalanche.{Avalanche}
 use Rattle.chip_drops.specs.Avalanches.{dropped, IsAvalanche}
-use Rattle.chip_drops.specs.declared.pile.Pile.{Pile}
-use Rattle.chip_drops.specs.Pile.{IsPile, IsStable}
+use Rattle.chip_drops.specs.Pile.{IsStable}
 use Rattle.chip_drops.specs.Laws.{all_dropped, DropsAddUp}
 use Rattle.chip_drops.specs.WorkList.{size_between, extent_between}
 
@@ -42,8 +42,7 @@ length_counts G (v ∷ vs) x ok =
     let a = length_counts G vs _ ok.1 in
     let b = sum_below_move G.vertices (counts (v ∷ vs)) (counts vs) v ok.0.is_vertex
     (λ e l ne. counts_else v e vs (λ z. ne (sym z))) in
-    let c = counts_here v v vs refl in
-    omega arith
+    let c = counts_here v v vs refl in omega arith
 
 -- ---- what a play leads to
 
@@ -107,19 +106,16 @@ module _ (G : Multigraph) (good : IsGraph G) (x f y f' z : ℕ → ℕ) (one : L
     ends = ends G good y [] tt;
     tells = λ vs ok ended.
         let to = drop_ends vs ok ended in
-        let between : (v : ℕ) → f' v - f v ≡ counts vs v = (λ v. let e = to.0 v in omega arith) in
+        let between : (λ (v : ℕ). f' v - f v) ≡ counts vs = (λ i v. let e = to.0 v in
+        let d : f' v - f v ≡ counts vs v = omega arith in d i) in
         record {
-          size = size ∙ sum_below_ext G.vertices (λ v. f' v - f v) (counts vs) (λ v l. between v)
-              ∙ sym (length_counts G vs y ok);
-          extent = extent ∙ sum_below_ext G.vertices (λ v. cond (eqb (f' v - f v) 0) 0 1)
-              (λ v. cond (eqb (counts vs v) 0) 0 1) (λ v l. ap (λ (n : ℕ). cond (eqb n 0) 0 1) (between v));
+          size = size ∙ ap (sum_below G.vertices) between ∙ sym (length_counts G vs y ok);
+          extent = extent ∙ ap (λ (h : ℕ → ℕ). sum_below G.vertices (λ v. cond (eqb (h v) 0) 0 1)) between;
           lost =
-              let a = position_is G vs y ok G.sink in
-              let b : degree G G.sink * counts vs G.sink ≡ degree G G.sink * 0 =
-              ap (λ (n : ℕ). degree G G.sink * n) (sink_never G vs y ok) in
-              let c = mul-zero (degree G G.sink) in
-              let e = to.1 G.sink in
-              omega arith;
+              let b = position_is G vs y ok G.sink in
+              let d : degree G G.sink * counts vs G.sink ≡ 0 =
+              ap (λ (n : ℕ). degree G G.sink * n) (sink_never G vs y ok) ∙ mul-zero (degree G G.sink) in
+              let e = to.1 G.sink in omega arith;
         };
     leaves = λ vs ok ended. (drop_ends vs ok ended).1;
   }
@@ -129,8 +125,7 @@ module _ (G : Multigraph) (good : IsGraph G) (x f y f' z : ℕ → ℕ) (one : L
 -- a play keeps its chips
 begun_total : (g : ChipGame) → IsGame g → (chips fired : List ℕ) → IsBegun g chips fired → sum chips ≡ sum g.start
 begun_total g ok chips fired begun =
-    sum_by_place chips
-    ∙ ap (λ (n : ℕ). sum_below n (slice_index chips)) begun.in_range.chips_each
+    sum_by_place chips ∙ ap (λ (n : ℕ). sum_below n (slice_index chips)) begun.in_range.chips_each
     ∙ led_total g.graph ok.graph_fits (slice_index g.start) (slice_index fired) (slice_index chips)
     (λ u l. led g.graph (slice_index g.start) g.limit (slice_index chips) (slice_index fired) begun.on_the_way u)
     ∙ sym (sum_by_place g.start ∙ ap (λ (n : ℕ). sum_below n (slice_index g.start)) ok.start_fits)
@@ -144,11 +139,9 @@ module _ (g g' : ChipGame) (chips fired : List ℕ) (ok : IsGame g) (begun : IsB
 
   start_more : (u : ℕ) → slice_index g'.start u ≡ slice_index g.start u + cond (eqb v u) c 0
   start_more u = dite (dec_lt u (length g.start))
-      (λ l. let a = more.start u l in
-      let b = sum_by-cons (λ (pair : ℕ × ℕ). cond (eqb pair.0 u) pair.1 0) (v, c) [] in omega arith)
-      (λ past. let a = get_or_past g'.start u 0 (let b = more.start_each in omega arith) in
-      let b = get_or_past g.start u 0 (omega arith) in
-      let d = cond_no v u c 0 (λ e. let f = ok.start_fits in absurd (omega arith)) in omega arith)
+      (λ l. let a = more.start u l in grind (arith, nat_tests))
+      (λ past. let a = more.start_each in let b = ok.start_fits in
+      grind (arith, nat_tests, get_or_past g'.start u 0 (omega arith), get_or_past g.start u 0 (omega arith)))
 
   -- the chips with the drop
   abbrev now : List ℕ
@@ -156,11 +149,9 @@ module _ (g g' : ChipGame) (chips fired : List ℕ) (ok : IsGame g) (begun : IsB
 
   here : (u : ℕ) → slice_index now u ≡ dropped (slice_index chips) v c u
   here u = dite (ℕ_discrete v u)
-      (λ e. subst (λ (w : ℕ). get_or now w 0 ≡ dropped (slice_index chips) v c w) e
-      (let a = cond_yes v v c 0 refl in let b = get_or-set_same chips v (added + c) 0 vertex_in in
-      let d = get_or_read chips v added vertex_in was 0 in omega arith))
-      (λ ne. let a = cond_no v u c 0 ne in
-      let b = get_or-set_other chips v u (added + c) 0 (λ z. ne (sym z)) in omega arith)
+      (λ e. let a = get_or-set_same chips v (added + c) 0 vertex_in in let b = get_or_read chips v added vertex_in was 0 in
+      subst (λ (w : ℕ). get_or now w 0 ≡ dropped (slice_index chips) v c w) e (grind (arith, nat_tests)))
+      (λ ne. let a = get_or-set_other chips v u (added + c) 0 (λ z. ne (sym z)) in grind (arith, nat_tests))
 
   -- the counts lead to them
   led_drop : LeadsTo g.graph (slice_index g'.start) (slice_index fired) (dropped (slice_index chips) v c)
@@ -173,18 +164,12 @@ module _ (g g' : ChipGame) (chips fired : List ℕ) (ok : IsGame g) (begun : IsB
   pub begun_drop : IsBegun g' (set chips v (added + c)) fired
   begun_drop =
       let in_range = begun.in_range in
+      let a = sum_by-set (λ (n : ℕ). n) chips v (added + c) 0 vertex_in in
+      let b = begun_total g ok chips fired begun in
+      let d = get_or_read chips v added vertex_in was 0 in
+      let e = length-set chips v (added + c) in
       rw (more.same_graph, more.same_limit) (record {
-        in_range = record {
-          graph_fits = in_range.graph_fits;
-          chips_each = length-set chips v (added + c) ∙ in_range.chips_each;
-          fired_each = in_range.fired_each;
-          few_chips =
-              let a = sum_by-set (λ (n : ℕ). n) chips v (added + c) 0 vertex_in in
-              let b = begun_total g ok chips fired begun in
-              let d = get_or_read chips v added vertex_in was 0 in omega arith;
-          low_counts = in_range.low_counts;
-          low_limit = in_range.low_limit;
-        };
+        in_range = grind arith;
         on_the_way = led_way g.graph (slice_index g'.start) g.limit (slice_index now) (slice_index fired)
             (subst (LeadsTo g.graph (slice_index g'.start) (slice_index fired)) (λ i u. sym (here u) i) led_drop)
             in_range.low_counts;
@@ -218,14 +203,7 @@ module _ (g : ChipGame) (ok : IsGame g) (o : Outcome) (played : IsPlayed g o) wh
   -- the outcome of a game is where its play may begin
   pub played_begun : IsBegun g o.chips.items o.fired.items
   played_begun = record {
-    in_range = record {
-      graph_fits = ok.graph_fits;
-      chips_each = played.chips_each;
-      fired_each = played.fired_each;
-      few_chips = (let a = played.kept in let b = ok.few_chips in omega arith);
-      low_counts = played.low_counts;
-      low_limit = ok.low_limit;
-    };
+    in_range = grind arith;
     on_the_way = led_way g.graph (slice_index g.start) g.limit (slice_index o.chips.items) (slice_index o.fired.items)
         (played_is_sitting g o played) played.low_counts;
   }

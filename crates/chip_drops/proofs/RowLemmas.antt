@@ -17,7 +17,7 @@ use Rattle.chip_drops.specs.declared.avalanche.Avalanche.{Avalanche}
 use Rattle.chip_drops.specs.declared.pile.Pile.{Pile}
 use Rattle.chip_drops.specs.Avalanches.{dropped, IsAvalanche, AreAvalanches}
 use Rattle.chip_drops.specs.Pile.{IsPile, IsStable}
-use Rattle.chip_drops.specs.Rows.{row_text, rows_of, rows_text, IsAfter, LeavesRows}
+use Rattle.chip_drops.specs.Rows.{row_text, rows_of, rows_text, LeavesRows}
 use Rattle.chip_drops.specs.Out.{IsOut}
 
 -- ---- drops

@@ -3,13 +3,15 @@
 use Rattle.std.proofs.Common.{◌≡◌, ◌≢◌, ℕ, zero, suc, ◌+◌, ◌-◌, ◌*◌, ◌<◌, ◌≤◌, ◌^◌, Bool, true, false, cond, eqb}
 use Rattle.std.proofs.Common.{List, [], ◌∷◌, ◌++◌, length, take, drop, sum_by, get_or, set, slice_index, refl, sym, ap, ◌∙◌, subst}
 use Rattle.std.proofs.Common.{arith, ⊎_elim, get_or-set_same, get_or-set_other, length-set, length-drop, mul-le-mul_left}
-use Rattle.std.proofs.Common.{mul-le-mul_right, mul-add, not, Some}
+use Rattle.std.proofs.Common.{mul-le-mul_right, mul-add, Some}
 use Rattle.std.proofs.lemmas.Bool.{eqb-false}
+use Rattle.std.proofs.lemmas.Bool.Decides.{nat_tests}
 use mir.Val.{bool_byte}
 use Rattle.std.specs.Prelude.{All, Contains}
 use Rattle.std.proofs.lemmas.List.{take-set, take_more, take_more_set, take_all, ext_get_or}
 use Rattle.std.proofs.lemmas.List.Sums.{get_or-le-sum_by, sum_by_more_le}
 use Rattle.std.proofs.lemmas.List.Elements.{All-nil, All-cons, All-head, All-tail, All-push, All-pop, All-from_get_or}
+use Rattle.std.proofs.lemmas.List.Elements.{All-contains}
 use Rattle.std.proofs.lemmas.List.Elements.{Contains-get_or, Contains-push, Contains-push_cases, Contains-append_left}
 use mathlib.Core.Logic.{dite}
 use native.Mathlib.Decide.{ℕ_discrete}
@@ -23,7 +25,7 @@ use Rattle.chip_sequence.proofs.AfterLemmas.{sum_small}
 use Rattle.chip_sequence.proofs.BatchLemmas.{link_at, links_of, links_inside, taken_room, batch_fired, sent_each}
 use Rattle.chip_sequence.proofs.BatchLemmas.{sent_all}
 use Rattle.chip_fire.specs.Rounds.{IsInRange, StaysOnTheWay}
-use Rattle.chip_fire.proofs.PlayLemmas.{turn_stays as batch_stays}
+use Rattle.chip_fire.proofs.PlayLemmas.{turn_stays}
 use Rattle.chip_drops.specs.WorkList.{AreListed, IsSent, HasSupport, size_between, extent_between}
 
 -- ---- listed vertices
@@ -43,6 +45,11 @@ listed_last G chips list n listed some room = subst (AreListed G chips)
     (ap (λ (m : ℕ). take m list) (let e : n ≡ n - 1 + 1 = omega arith in e)
     ∙ take_more list (n - 1) 0 (let l : n - 1 < length list = omega arith in l)) listed
 
+pub listed_vertex : (G : Multigraph) (chips list : List ℕ) (n : ℕ) → AreListed G chips (take n list) → 0 < n
+    → n ≤ length list → get_or list (n - 1) 0 < G.vertices
+listed_vertex G chips list n listed some room = All-contains (λ (v : ℕ). v < G.vertices) _ _
+    (listed_last G chips list n listed some room).vertices (Contains-push (take (n - 1) list) _)
+
 module _ (G : Multigraph) (chips work : List ℕ) (h has : ℕ) (is_vertex : h < G.vertices) (each : length chips ≡ G.vertices)
   where
     -- the chips of one vertex change
@@ -58,12 +65,8 @@ module _ (G : Multigraph) (chips work : List ℕ) (h has : ℕ) (is_vertex : h <
           let a = get_or-set_same chips h has 0 (omega arith) in
           let b = can'.enough_chips in
           subst (Contains work) e (here can'.not_sink (omega arith)))
-          (λ ne. kept u ne (so_far.legal u (record {
-            is_vertex = can.is_vertex;
-            not_sink = can.not_sink;
-            enough_chips =
-                let a = get_or-set_other chips h u has 0 (λ z. ne (sym z)) in let b = can.enough_chips in omega arith;
-          })));
+          (λ ne. let a = get_or-set_other chips h u has 0 (λ z. ne (sym z)) in
+          kept u ne (so_far.legal u (grind arith)));
     }
 
     -- too few are left of them, and it was listed last
@@ -77,7 +80,7 @@ module _ (G : Multigraph) (chips work : List ℕ) (h has : ℕ) (is_vertex : h <
     pub listed_same : AreListed G chips work → (degree G h ≤ has → degree G h ≤ get_or chips h 0)
         → AreListed G (set chips h has) work
     listed_same so_far had = listed_set work so_far so_far.vertices (λ u ne is. is)
-        (λ other enough. so_far.legal h (record { is_vertex = is_vertex; not_sink = other; enough_chips = had enough }))
+        (λ other enough. let a = had enough in so_far.legal h (grind arith))
 
 -- it is listed with these
 pub listed_push : (G : Multigraph) (chips work : List ℕ) (h has : ℕ) → h < G.vertices → length chips ≡ G.vertices
@@ -97,47 +100,35 @@ module _ (G : Multigraph) (limit : ℕ) (chips fired : List ℕ) (ok : IsInRange
 
   pub sent_none : get_or chips v 0 < (k + 1) * degree G v → (work : List ℕ) → AreListed G chips (work ++ v ∷ [])
       → IsSent G k (links_of G ok.graph_fits v) left 0 left work
-  sent_none no_more work listed = record {
-    heads = links_inside G ok.graph_fits v;
-    few =
-        let a = taken_room G ok.graph_fits v k chips can.is_vertex ok.chips_each enough in
-        let b = ok.few_chips in omega arith;
-    chips_each = length-set chips v (get_or chips v 0 - k * degree G v) ∙ ok.chips_each;
-    each = λ u. omega arith;
-    all = omega arith;
-    listed = listed_taken G chips work v (get_or chips v 0 - k * degree G v) can.is_vertex ok.chips_each listed (omega arith);
-  }
+  sent_none no_more work listed =
+      let a = taken_room G ok.graph_fits v k chips can.is_vertex ok.chips_each enough in
+      let b = length-set chips v (get_or chips v 0 - k * degree G v) in
+      let c = listed_taken G chips work v (get_or chips v 0 - k * degree G v) can.is_vertex ok.chips_each listed
+      (omega arith) in
+      let d = links_inside G ok.graph_fits v in grind arith
 
   -- the counts after it
   abbrev pub counted : List ℕ
   counted = set fired v (get_or fired v 0 + k)
 
-  pub others : (u : ℕ) → u ≢ v → get_or counted u 0 ≡ get_or fired u 0
-  others u ne = get_or-set_other fired v u (get_or fired v 0 + k) 0 ne
-
   -- after all links
   module _ (room : get_or fired v 0 + k ≤ limit) (chips' work : List ℕ) (i : ℕ)
       (all : length (links_of G ok.graph_fits v) ≤ i) (sent : IsSent G k (links_of G ok.graph_fits v) left i chips' work)
     where
-      pub turn_in_range : IsInRange G limit chips' counted
-      turn_in_range = record {
-        graph_fits = ok.graph_fits;
-        chips_each = sent.chips_each;
-        fired_each = length-set fired v (get_or fired v 0 + k) ∙ ok.fired_each;
-        few_chips =
-            let a = rw (take_all i (links_of G ok.graph_fits v) all) at sent.all in let b = sent.few in omega arith;
-        low_counts = λ u. dite (ℕ_discrete u v)
-            (λ e. subst (λ (w : ℕ). get_or counted w 0 ≤ limit) (sym e)
-            (let a = get_or-set_same fired v (get_or fired v 0 + k) 0
-            (let b = ok.fired_each in let d = can.is_vertex in omega arith) in omega arith))
-            (λ ne. let a = others u ne in let b = ok.low_counts u in omega arith);
-        low_limit = ok.low_limit;
-      }
-
-      pub turn_stays : StaysOnTheWay G limit chips fired chips' counted
-      turn_stays = batch_stays G limit chips fired ok v k can.is_vertex room can.not_sink enough chips'
-          (batch_fired G ok.graph_fits v k chips can.is_vertex ok.chips_each enough can.not_sink chips'
-          (rw (take_all i (links_of G ok.graph_fits v) all) at sent.each))
+      pub turned : IsInRange G limit chips' counted × StaysOnTheWay G limit chips fired chips' counted
+      turned =
+          let a = rw (take_all i (links_of G ok.graph_fits v) all) at sent.all in
+          let b = length-set fired v (get_or fired v 0 + k) in
+          let low : (u : ℕ) → get_or counted u 0 ≤ limit =
+          (λ u. let d = ok.low_counts u in dite (ℕ_discrete u v)
+          (λ e. subst (λ (w : ℕ). get_or counted w 0 ≤ limit) (sym e)
+          (let f = get_or-set_same fired v (get_or fired v 0 + k) 0 (let g = can.is_vertex in omega arith) in omega arith))
+          (λ ne. let f = get_or-set_other fired v u (get_or fired v 0 + k) 0 ne in omega arith)) in (
+            grind arith,
+            turn_stays G limit chips fired ok v k can.is_vertex room can.not_sink enough chips'
+                (batch_fired G ok.graph_fits v k chips can.is_vertex ok.chips_each enough can.not_sink chips'
+                (rw (take_all i (links_of G ok.graph_fits v) all) at sent.each)),
+          )
 
 module _ (G : Multigraph) (k : ℕ) (links : List Edge) (taken : List ℕ) (i : ℕ) (chips work : List ℕ)
     (so_far : IsSent G k links taken i chips work) (inside : i < length links) where
@@ -160,23 +151,12 @@ module _ (G : Multigraph) (k : ℕ) (links : List Edge) (taken : List ℕ) (i : 
   -- one link further
   pub sent_step : (work' : List ℕ) → AreListed G (set chips link.head (get_or chips link.head 0 + k * link.mult)) work'
       → IsSent G k links taken (i + 1) (set chips link.head (get_or chips link.head 0 + k * link.mult)) work'
-  sent_step work' listed = record {
-    heads = so_far.heads;
-    few = so_far.few;
-    chips_each = length-set chips link.head (get_or chips link.head 0 + k * link.mult) ∙ so_far.chips_each;
-    each = sent_each links k taken chips i inside head_in so_far.each;
-    all = sent_all links k taken chips i inside head_in so_far.all;
-    listed = listed;
-  }
+  sent_step work' listed =
+      let a = length-set chips link.head (get_or chips link.head 0 + k * link.mult) in
+      let b = sent_each links k taken chips i inside head_in so_far.each in
+      let c = sent_all links k taken chips i inside head_in so_far.all in grind arith
 
 -- ---- what is told
-
--- nothing has fired
-pub none_fired : (n : ℕ) (before fired vs : List ℕ) → before ≡ fired → HasSupport n before fired (take 0 vs)
-none_fired n before fired vs same = record {
-  vertices = All-nil (λ (v : ℕ). v < n);
-  each = λ v l ne. absurd (ne (ap (λ (l : List ℕ). slice_index l v) same));
-}
 
 -- a vertex that fires is put to those that fired, and counts if it had not
 module _ (n : ℕ) (before fired fired' support : List ℕ) (m v : ℕ) (so_far : HasSupport n before fired (take m support))
@@ -195,17 +175,15 @@ module _ (n : ℕ) (before fired fired' support : List ℕ) (m v : ℕ) (so_far 
       × HasSupport n before fired' (take (m + bool_byte b) (set support m v))
   supported room true is = (
     (let a = length-set support m v in omega arith),
-    subst (HasSupport n before fired') (sym (take_more_set support m v room))
-        (supported_by (take m support ++ v ∷ []) (All-push (λ (u : ℕ). u < n) (take m support) v so_far.vertices is_vertex)
+    rw take_more_set (supported_by (take m support ++ v ∷ []) (All-push (λ (u : ℕ). u < n) (take m support) v so_far.vertices is_vertex)
         (λ u. Contains-append_left (take m support) (v ∷ []) u) (Contains-push (take m support) v)),
   )
-  supported room false is = (
-    (let a = length-set support m v in omega arith),
-    subst (HasSupport n before fired')
-        (sym (ap (λ (i : ℕ). take i (set support m v)) (let e : m + 0 ≡ m = omega arith in e) ∙ take-set support m v))
-        (supported_by (take m support) so_far.vertices (λ u has. has)
-        (so_far.each v is_vertex (λ same. eqb-false _ _ is (sym same)))),
-  )
+  supported room false is =
+      let e : m + 0 ≡ m = omega arith in (
+        (let a = length-set support m v in omega arith),
+        rw (e, take-set) (supported_by (take m support) so_far.vertices (λ u has. has)
+            (so_far.each v is_vertex (λ same. eqb-false _ _ is (sym same)))),
+      )
 
 -- where all vertices are listed, those that fired are
 pub all_supported : (n : ℕ) (fired fired' vs : List ℕ) (m : ℕ) → length vs ≡ n → length vs ≤ m
@@ -215,19 +193,16 @@ all_supported n fired fired' vs m each all are = subst (HasSupport n fired fired
   each = λ v l ne. subst (Contains vs) (are v (omega arith)) (Contains-get_or vs v 0 (omega arith));
 })
 
--- a sum of low numbers, one for each vertex
-pub low_sum : (n most : ℕ) (f : ℕ → ℕ) → n ≤ max_vertices → most ≤ max_limit → ((v : ℕ) → f v ≤ most)
-    → sum_below n f ≤ 2 ^ 60
-low_sum n most f few low each =
-    let a = sum_small n most (λ v. true) f (λ v l. each v) in
-    let b : n * most ≤ n * max_limit = mul-le-mul_left n low in
-    let c : n * max_limit ≤ max_vertices * max_limit = mul-le-mul_right max_limit few in
-    omega arith
-
--- a byte that is 1 where a number is not 0
-pub some_byte : (b : Bool) → bool_byte (not b) ≡ cond b 0 1
-some_byte true = refl
-some_byte false = refl
+-- few firings of few vertices
+pub few_between : (n : ℕ) (before fired : List ℕ) → n ≤ max_vertices → ((v : ℕ) → slice_index fired v ≤ max_limit)
+    → (size_between n before fired ≤ 2 ^ 60) × (extent_between n before fired ≤ n)
+few_between n before fired few low =
+    let a = sum_small n max_limit (λ v. true) (λ v. slice_index fired v - slice_index before v)
+    (λ v l. let b = low v in omega arith) in
+    let b = mul-le-mul_right max_limit few in
+    let c = sum_small n 1 (λ v. true) (λ v. cond (eqb (slice_index fired v - slice_index before v) 0) 0 1)
+    (λ v l. grind (arith, nat_tests)) in
+    (omega arith, omega arith)
 
 module _ (n : ℕ) (now fired : List ℕ) (each : length now ≡ n) where
   -- a vertex whose count is made the later one drops out of the sum of what is between
@@ -250,8 +225,7 @@ module _ (n : ℕ) (now fired : List ℕ) (each : length now ≡ n) where
   support_step v vs so_far = record {
     vertices = All-tail (λ (u : ℕ). u < n) v vs so_far.vertices;
     each = λ u l ne. dite (ℕ_discrete v u)
-        (λ e. absurd (ne (subst (λ (w : ℕ). get_or (set now v (get_or fired v 0)) w 0 ≡ get_or fired w 0) e
-        (get_or-set_same now v (get_or fired v 0) 0
+        (λ e. absurd (ne (rw (← e) (get_or-set_same now v (get_or fired v 0) 0
         (let a = All-head (λ (w : ℕ). w < n) v vs so_far.vertices in omega arith)))))
         (λ apart. rest u apart (so_far.each u l
         (λ same. ne (get_or-set_other now v u (get_or fired v 0) 0 (λ z. apart (sym z)) ∙ same))));

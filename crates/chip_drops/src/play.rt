@@ -102,6 +102,7 @@ fn is_stable(graph: &Graph, chips: &[u64]) -> bool
 
 /// How often all vertices fired between these counts, and how many different ones did, if all that did are listed.
 /// `before` has the later counts then.
+#[tactic(auto, using(crate::proofs::WorkLemmas::few_between))]
 pub(crate) fn tally(support: &[u64], fired: &[u64], before: &mut [u64]) -> (u64, u64)
     requires before_each { length before.old ≡ length fired.now }
     requires support { HasSupport (length fired.now) before.old fired.now support.now }

@@ -90,6 +90,7 @@ fn times_in(chips: u64, degree: u64) -> u64
 
 /// Lets a legal vertex fire as often as its chips allow, and lists in its place those that had not the chips to fire and
 /// have them then; how many are listed then. `None` where the limit or the room of the list is too small.
+#[tactic(auto, using(chip_sequence::proofs::BoundLemmas::some_degree))]
 #[inline]
 fn turn(
     graph: &Graph,
@@ -104,8 +105,8 @@ fn turn(
     requires legal { IsLegal graph.now (slice_index chips.old) vertex }
     requires listed { AreListed graph.now chips.old (take listed list.old ++ vertex ∷ []) }
     requires room { listed ≤ length list.old }
-    ensures in_range { IsInRange graph.now limit chips.new fired.new }
-    ensures stays { StaysOnTheWay graph.now limit chips.old fired.old chips.new fired.new }
+    ensures turned { IsInRange graph.now limit chips.new fired.new
+        × StaysOnTheWay graph.now limit chips.old fired.old chips.new fired.new }
     ensures others { (v : ℕ) → v ≢ vertex → slice_index fired.new v ≡ slice_index fired.old v }
     ensures listed { MatchOption result (Unit {0})
         (λ n. (n ≤ length list.new) × AreListed graph.now chips.new (take n list.new)) }

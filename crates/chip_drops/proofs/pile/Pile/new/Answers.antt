@@ -1,4 +1,4 @@
-use Rattle.std.proofs.Common.{ap, ◌∙◌}
+use Rattle.std.proofs.Common.{ap}
 use Rattle.chip_graph.specs.Multigraph.{Multigraph}
 use Rattle.chip_drops.proofs.AvalancheLemmas.{played_begun, played_rests}
 use Rattle.chip_drops.proofs.pile.Pile.new.Goals as goal

@@ -58,28 +58,24 @@ rest_leads G x limit y f is rests =
 led_way : (G : Multigraph) (x : ℕ → ℕ) (limit : ℕ) (y f : ℕ → ℕ) → LeadsTo G x f y → ((v : ℕ) → f v ≤ limit)
     → IsOnTheWay G x limit y f
 led_way G x limit y f one low =
-    let vs : List ℕ = one.0 in
-    let first : Leads G x f y vs = one.1 in
-    same_way G x limit (position_after G x vs) (λ u. 0 + counts vs u) y f
-    (playing_on G x limit x (λ v. 0) (start_on_the_way G x limit) vs first.sequence
-    (λ u. let a = low u in let b = first.counted u in omega arith))
-    first.position (λ u. let a = first.counted u in omega arith)
+    same_way G x limit _ _ y f
+    (playing_on G x limit x (λ v. 0) (start_on_the_way G x limit) one.0 one.1.sequence
+    (λ u. let a = low u in let b = one.1.counted u in omega arith))
+    one.1.position (λ u. let a = one.1.counted u in omega arith)
 
 -- what leads from x to y leads with d more from the one to the other
 pub leads_more : (G : Multigraph) (x y f d x' y' : ℕ → ℕ) → LeadsTo G x f y → ((u : ℕ) → x' u ≡ x u + d u)
     → ((u : ℕ) → y' u ≡ y u + d u) → LeadsTo G x' f y'
 leads_more G x y f d x' y' one start here =
-    let vs : List ℕ = one.0 in
-    let first : Leads G x f y vs = one.1 in
-    let ok : IsFiringSequence G x' vs = more_chips G x x' (λ u. let a = start u in omega arith) vs first.sequence in (
-      vs,
+    let ok = more_chips G x x' (λ u. let a = start u in omega arith) one.0 one.1.sequence in (
+      one.0,
       record {
         sequence = ok;
-        counted = first.counted;
-        position = led_once G x' (counts vs) (counts vs) y' (position_after G x' vs)
-            (λ u. let a = position_is G vs x first.sequence u in let b = first.position u in let c = start u in
+        counted = one.1.counted;
+        position = led_once G x' _ _ y' _
+            (λ u. let a = position_is G one.0 x one.1.sequence u in let b = one.1.position u in let c = start u in
             let e = here u in omega arith)
-            (position_is G vs x' ok) (λ u. refl);
+            (position_is G one.0 x' ok) (λ u. refl);
       },
     )
 
@@ -91,12 +87,10 @@ module _ (G : Multigraph) (good : IsGraph G) (x f y f' z : ℕ → ℕ) (one : L
   drop_ends : (vs : List ℕ) → IsFiringSequence G y vs → HasEnded G y vs → ((v : ℕ) → f v + counts vs v ≡ f' v)
       × ((v : ℕ) → z v ≡ position_after G y vs v)
   drop_ends vs ok ended =
-      let us : List ℕ = two.0 in
-      let second : Leads G x f' z us = two.1 in
-      let there : position_after G x us ≡ z = (λ i u. sym (second.position u) i) in
-      let alike = ends_alike G good x f y one vs ok ended us second.sequence
+      let there : position_after G x two.0 ≡ z = (λ i u. sym (two.1.position u) i) in
+      let alike = ends_alike G good x f y one vs ok ended two.0 two.1.sequence
       (λ v can. stable v (subst (λ (p : ℕ → ℕ). IsLegal G p v) there can)) in
-      ((λ v. alike.0 v ∙ sym (second.counted v)), (λ v. second.position v ∙ sym (alike.1 v)))
+      ((λ v. alike.0 v ∙ sym (two.1.counted v)), (λ v. two.1.position v ∙ sym (alike.1 v)))
 
   -- told by what is between the counts
   pub drop_tells : (a : Avalanche) → a.size ≡ sum_below G.vertices (λ v. f' v - f v)
@@ -155,10 +149,8 @@ module _ (g g' : ChipGame) (chips fired : List ℕ) (ok : IsGame g) (begun : IsB
 
   -- the counts lead to them
   led_drop : LeadsTo g.graph (slice_index g'.start) (slice_index fired) (dropped (slice_index chips) v c)
-  led_drop = leads_more g.graph (slice_index g.start) (slice_index chips) (slice_index fired) (λ u. cond (eqb v u) c 0)
-      (slice_index g'.start) (dropped (slice_index chips) v c)
-      (rest_leads g.graph (slice_index g.start) g.limit (slice_index chips) (slice_index fired) begun.on_the_way rests)
-      start_more (λ u. refl)
+  led_drop = leads_more _ _ _ _ (λ u. cond (eqb v u) c 0) _ _ (rest_leads _ _ _ _ _ begun.on_the_way rests) start_more
+      (λ u. refl)
 
   -- so the play goes on
   pub begun_drop : IsBegun g' (set chips v (added + c)) fired
@@ -170,7 +162,7 @@ module _ (g g' : ChipGame) (chips fired : List ℕ) (ok : IsGame g) (begun : IsB
       let e = length-set chips v (added + c) in
       rw (more.same_graph, more.same_limit) (record {
         in_range = grind arith;
-        on_the_way = led_way g.graph (slice_index g'.start) g.limit (slice_index now) (slice_index fired)
+        on_the_way = led_way _ _ _ _ _
             (subst (LeadsTo g.graph (slice_index g'.start) (slice_index fired)) (λ i u. sym (here u) i) led_drop)
             in_range.low_counts;
       })
@@ -191,10 +183,7 @@ module _ (g g' : ChipGame) (chips fired : List ℕ) (ok : IsGame g) (begun : IsB
       let e = get_or_read now g.graph.sink arrived
       (let b = length-set chips v (added + c) in let f = begun.in_range.chips_each in omega arith) is_arrived 0 in
       let f = here g.graph.sink in
-      drop_tells g.graph ok.graph_fits (slice_index g'.start) (slice_index fired) (dropped (slice_index chips) v c)
-      (slice_index fired') (slice_index chips') led_drop
-      (rest_leads g.graph (slice_index g'.start) g.limit (slice_index chips') (slice_index fired') way
-      (λ u can. absurd (none u can))) none a
+      drop_tells _ ok.graph_fits _ _ _ _ _ led_drop (rest_leads _ _ _ _ _ way (λ u can. absurd (none u can))) none a
       (rw (each, more.same_graph) at size) (rw (each, more.same_graph) at extent) (omega arith)
 
 -- ---- the first play
@@ -204,17 +193,16 @@ module _ (g : ChipGame) (ok : IsGame g) (o : Outcome) (played : IsPlayed g o) wh
   pub played_begun : IsBegun g o.chips.items o.fired.items
   played_begun = record {
     in_range = grind arith;
-    on_the_way = led_way g.graph (slice_index g.start) g.limit (slice_index o.chips.items) (slice_index o.fired.items)
-        (played_is_sitting g o played) played.low_counts;
+    on_the_way = led_way _ _ _ _ _ (played_is_sitting g o played) played.low_counts;
   }
 
   -- where it rests
   pub played_rests : IsAtRest g.graph g.limit o.chips.items o.fired.items
   played_rests v can =
-      let x : ℕ → ℕ = slice_index g.start in
       let ws : List ℕ = played.ends.0 in
-      let play : IsWholePlay g.graph x g.limit ws = played.ends.1 in
-      let there : slice_index o.chips.items ≡ position_after g.graph x ws = (λ i u. played.position ws play u i) in
+      let play = played.ends.1 in
+      let there : slice_index o.chips.items ≡ position_after g.graph (slice_index g.start) ws =
+      (λ i u. played.position ws play u i) in
       played.counted ws play v ∙ play.ended v (subst (λ (p : ℕ → ℕ). IsLegal g.graph p v) there can)
 
 -- ---- all drops
@@ -247,8 +235,7 @@ drops_add_up G good x f y one stable (d ∷ ds) (a ∷ more) z are vs ok ended =
     let two : LeadsTo G (dropped y d.0 d.1) (counts ws) z' =
     (ws, record { sequence = is.ends.1; counted = λ v. refl; position = leaves }) in
     let both = leads_both G (dropped x d.0 d.1) f (dropped y d.0 d.1) (counts ws) z'
-    (leads_more G x y f (λ u. cond (eqb d.0 u) d.1 0) (dropped x d.0 d.1) (dropped y d.0 d.1) one (λ u. refl) (λ u. refl))
-    two in
+    (leads_more G x y f (λ u. cond (eqb d.0 u) d.1 0) _ _ one (λ u. refl) (λ u. refl)) two in
     let same = all_at_once x d ds in
     let rest = drops_add_up G good (dropped x d.0 d.1) (λ v. f v + counts ws v) z' both
     (λ v can. is.ends.2 v (subst (λ (p : ℕ → ℕ). IsLegal G p v) there can)) ds more z are.2 vs

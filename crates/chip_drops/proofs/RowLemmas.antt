@@ -1,9 +1,8 @@
 -- Serves Rows.antt, Out.antt.
 -- Drops one after another, and the bytes of their rows.
 use Rattle.std.proofs.Common.{◌≡◌, ℕ, ◌+◌, ◌<◌, ◌≤◌, List, [], ◌∷◌, ◌++◌, length, take, get_or, sum}
-use Rattle.std.proofs.Common.{slice_index, refl, sym, ap, ◌∙◌, subst, arith, append_assoc, append-nil, Option}
-use Rattle.std.proofs.Common.{cond, eqb}
-use Rattle.std.proofs.Common.{length-append}
+use Rattle.std.proofs.Common.{slice_index, refl, sym, ap, ◌∙◌, subst, arith, rules, append_assoc, append-nil, Option, cond}
+use Rattle.std.proofs.Common.{eqb, length-append}
 use Rattle.std.proofs.Math.Seq.{take-append-add}
 use Rattle.std.proofs.lemmas.List.{take_at, take_more}
 use Rattle.std.proofs.lemmas.List.Sums.{sum_by-append, sum_by_more_le}
@@ -55,17 +54,7 @@ game_more g g' g'' ds d one two = record {
 -- nothing was dropped
 pub rows_none : (p : Pile) (ds : List (ℕ × ℕ)) → IsPile p → IsStable p.game.graph (slice_index p.chips.items)
     → LeavesRows p ds 0 p (rows_text [] [])
-rows_none p ds is stable = (
-  [],
-  record {
-    pile = is;
-    stable = stable;
-    game =
-        record { same_graph = refl; same_limit = refl; start_each = refl; start = λ v l. omega arith; total = omega arith };
-    avalanches = λ v. refl;
-  },
-  refl,
-)
+rows_none p ds is stable = ([], search rules, refl)
 
 -- the chips of the next drop have room
 pub room_for_drop : (p : Pile) (ds : List (ℕ × ℕ)) (i : ℕ) (p' : Pile) (text : List ℕ) → LeavesRows p ds i p' text
@@ -83,31 +72,25 @@ module _ (p : Pile) (ds : List (ℕ × ℕ)) (i : ℕ) (p' p'' : Pile) (text : L
   taken = take_more ds i (0, 0) inside
 
   pub next_game : HasMore p.game (take (i + 1) ds) p''.game
-  next_game = subst (λ (l : List (ℕ × ℕ)). HasMore p.game l p''.game) (sym taken)
-      (game_more p.game p'.game p''.game (take i ds) (get_or ds i (0, 0)) so_far.1.game game)
+  next_game = rw taken (game_more _ _ _ _ _ so_far.1.game game)
 
   pub next_rows : IsPile p'' → (a : Avalanche) → IsStable p''.game.graph (slice_index p''.chips.items)
       × IsAvalanche p'.game.graph (dropped (slice_index p'.chips.items) (get_or ds i (0, 0)).0 (get_or ds i (0, 0)).1) a
       (slice_index p''.chips.items)
       → LeavesRows p ds (i + 1) p'' (text ++ row_text (get_or ds i (0, 0)) a)
   next_rows is a told_by =
-      let told : List Avalanche = so_far.0 in
-      let more = told_more p.game.graph (slice_index p.chips.items) (take i ds) told (slice_index p'.chips.items)
+      let more = told_more p.game.graph (slice_index p.chips.items) (take i ds) so_far.0 (slice_index p'.chips.items)
       (get_or ds i (0, 0)) a (slice_index p''.chips.items) so_far.1.avalanches
-      (subst (λ (G : Multigraph). IsAvalanche G
-      (dropped (slice_index p'.chips.items) (get_or ds i (0, 0)).0 (get_or ds i (0, 0)).1) a
-      (slice_index p''.chips.items)) so_far.1.game.same_graph told_by.1) in (
-        told ++ a ∷ [],
+      (rw so_far.1.game.same_graph at told_by.1) in
+      rw (taken, so_far.2) (
+        so_far.0 ++ a ∷ [],
         record {
           pile = is;
           stable = told_by.0;
-          game = next_game;
-          avalanches = subst (λ (l : List (ℕ × ℕ)). AreAvalanches p.game.graph (slice_index p.chips.items) l
-              (told ++ a ∷ []) (slice_index p''.chips.items)) (sym taken) more.0;
+          game = game_more _ _ _ _ _ so_far.1.game game;
+          avalanches = more.0;
         },
-        ap (λ (l : List ℕ). l ++ row_text (get_or ds i (0, 0)) a) so_far.2
-            ∙ sym (ap (λ (l : List (ℕ × ℕ)). rows_text l (told ++ a ∷ [])) taken
-            ∙ ap (λ (l : List ℕ). rows_text [] [] ++ l) more.1),
+        sym (ap (λ (l : List ℕ). rows_text [] [] ++ l) more.1),
       )
 
 -- ---- bytes
@@ -121,8 +104,8 @@ module _ (old now : Option (List ℕ)) (pending : List ℕ) (written : ℕ) (all
     front = all;
     went = subst (Appends old now') is.whole (Appends-trans old now now' is.front pending is.went went);
     whole = append-nil all;
-    counted = ap length (sym is.whole) ∙ length-append is.front pending
-        ∙ (let a = is.counted in let b : length is.front + length pending ≡ written' = omega arith in b);
+    counted =
+        (let a = ap length is.whole in let b = length-append is.front pending in let d = is.counted in omega arith);
   }
 
   -- a front of it does

@@ -2,8 +2,8 @@
 -- A play by a work list, turn by turn, and what is told of it.
 use Rattle.std.proofs.Common.{◌≡◌, ◌≢◌, ℕ, zero, suc, ◌+◌, ◌-◌, ◌*◌, ◌<◌, ◌≤◌, ◌^◌, Bool, true, false, cond, eqb}
 use Rattle.std.proofs.Common.{List, [], ◌∷◌, ◌++◌, length, take, drop, sum_by, get_or, set, slice_index, refl, sym, ap, ◌∙◌, subst}
-use Rattle.std.proofs.Common.{arith, ⊎_elim, get_or-set_same, get_or-set_other, length-set, length-drop, mul-le-mul_left}
-use Rattle.std.proofs.Common.{mul-le-mul_right, mul-add, Some}
+use Rattle.std.proofs.Common.{arith, ⊎_elim, get_or-set_same, get_or-set_other, length-set, length-drop, mul-le-mul_left, mul-add}
+use Rattle.std.proofs.Common.{mul-le-mul_right, Some}
 use Rattle.std.proofs.lemmas.Bool.{eqb-false}
 use Rattle.std.proofs.lemmas.Bool.Decides.{nat_tests}
 use mir.Val.{bool_byte}
@@ -11,8 +11,8 @@ use Rattle.std.specs.Prelude.{All, Contains}
 use Rattle.std.proofs.lemmas.List.{take-set, take_more, take_more_set, take_all, ext_get_or}
 use Rattle.std.proofs.lemmas.List.Sums.{get_or-le-sum_by, sum_by_more_le}
 use Rattle.std.proofs.lemmas.List.Elements.{All-nil, All-cons, All-head, All-tail, All-push, All-pop, All-from_get_or}
-use Rattle.std.proofs.lemmas.List.Elements.{All-contains}
-use Rattle.std.proofs.lemmas.List.Elements.{Contains-get_or, Contains-push, Contains-push_cases, Contains-append_left}
+use Rattle.std.proofs.lemmas.List.Elements.{All-contains, Contains-get_or, Contains-push, Contains-push_cases}
+use Rattle.std.proofs.lemmas.List.Elements.{Contains-append_left}
 use mathlib.Core.Logic.{dite}
 use native.Mathlib.Decide.{ℕ_discrete}
 use Rattle.chip_graph.specs.declared.edge.Edge.{Edge}
@@ -40,15 +40,12 @@ listed_one G chips list v room is_vertex alone = subst (AreListed G chips) (sym 
 
 -- the last of the list
 pub listed_last : (G : Multigraph) (chips list : List ℕ) (n : ℕ) → AreListed G chips (take n list) → 0 < n → n ≤ length list
-    → AreListed G chips (take (n - 1) list ++ get_or list (n - 1) 0 ∷ [])
-listed_last G chips list n listed some room = subst (AreListed G chips)
-    (ap (λ (m : ℕ). take m list) (let e : n ≡ n - 1 + 1 = omega arith in e)
-    ∙ take_more list (n - 1) 0 (let l : n - 1 < length list = omega arith in l)) listed
-
-pub listed_vertex : (G : Multigraph) (chips list : List ℕ) (n : ℕ) → AreListed G chips (take n list) → 0 < n
-    → n ≤ length list → get_or list (n - 1) 0 < G.vertices
-listed_vertex G chips list n listed some room = All-contains (λ (v : ℕ). v < G.vertices) _ _
-    (listed_last G chips list n listed some room).vertices (Contains-push (take (n - 1) list) _)
+    → AreListed G chips (take (n - 1) list ++ get_or list (n - 1) 0 ∷ []) × (get_or list (n - 1) 0 < G.vertices)
+listed_last G chips list n listed some room =
+    let e : n ≡ n - 1 + 1 = omega arith in
+    let l : n - 1 < length list = omega arith in
+    let last = rw (take_more list (n - 1) 0 l) at (subst (λ (m : ℕ). AreListed G chips (take m list)) e listed) in
+    (last, All-contains (λ (v : ℕ). v < G.vertices) _ _ last.vertices (Contains-push (take (n - 1) list) _))
 
 module _ (G : Multigraph) (chips work : List ℕ) (h has : ℕ) (is_vertex : h < G.vertices) (each : length chips ≡ G.vertices)
   where

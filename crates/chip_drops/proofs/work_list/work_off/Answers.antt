@@ -1,6 +1,6 @@
 use Rattle.std.proofs.Common.{eqb, ℕ, ◌-◌, get_or, refl, arith, length-set}
 use Rattle.std.proofs.lemmas.Grind.{common_steps}
-use Rattle.chip_drops.proofs.WorkLemmas.{listed_one, listed_last, listed_vertex, supported}
+use Rattle.chip_drops.proofs.WorkLemmas.{listed_one, listed_last, supported}
 use Rattle.chip_drops.proofs.work_list.work_off.Goals as goal
 
 pub turns-init : goal.turns-init
@@ -13,12 +13,12 @@ turns-init c =
 pub is_legal-requires-else-found-support-clause-is_vertex : goal.is_legal-requires-else-found-support-clause-is_vertex
 is_legal-requires-else-found-support-clause-is_vertex c =
     let some = c.if-listed-eq0.false in
-    listed_vertex _ _ _ _ c.turns.invariant.listed (omega arith) c.turns.invariant.room
+    (listed_last _ _ _ _ c.turns.invariant.listed (omega arith) c.turns.invariant.room).1
 
 pub turn-requires-clause-listed : goal.turn-requires-clause-listed
 turn-requires-clause-listed c =
     let some = c.if-listed-eq0.false in
-    listed_last _ _ _ _ c.turns.invariant.listed (omega arith) c.turns.invariant.room
+    (listed_last _ _ _ _ c.turns.invariant.listed (omega arith) c.turns.invariant.room).0
 
 pub returns-in_default-clause-begun : goal.returns-in_default-clause-begun
 returns-in_default-clause-begun c = rw (← c.graph-graph.ensures.value, ← c.limit-limit.ensures.value) (record {

@@ -1,4 +1,4 @@
-use Rattle.std.proofs.Common.{◌≡◌, ◌+◌, length, string_bytes, ap, arith}
+use Rattle.std.proofs.Common.{length, ap, arith}
 use Rattle.chip_drops.proofs.RowLemmas.{out_none, out_part, out_all}
 use Rattle.chip_drops.proofs.rows.Rows.write.Goals as goal
 
@@ -12,11 +12,9 @@ returns-in-Err-clause-bytes g c old all is =
 
 pub returns-in-Ok-clause-bytes : goal.returns-in-Ok-clause-bytes
 returns-in-Ok-clause-bytes g c old all is =
-    let counted : c.in-Some.written ≡ c.args.self.now.written + length (string_bytes c.args.self.now.text) =
-    (let a = c.in-Some.ensures.1 in
+    let a = c.in-Some.ensures.1 in
     let b = c.len.ensures in
     let d = c.as_bytes.ensures.len in
     let e = ap length c.as_bytes.ensures.value in
-    omega arith) in
     rw c.clear.ensures.bytes
-    (out_all old _ _ _ all is _ c.in-Some.written (rw c.as_bytes.ensures.value at c.in-Ok.ensures) counted)
+    (out_all old _ _ _ all is _ c.in-Some.written (rw c.as_bytes.ensures.value at c.in-Ok.ensures) (omega arith))

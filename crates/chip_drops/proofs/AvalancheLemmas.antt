@@ -15,11 +15,11 @@ use Rattle.chip_graph.specs.ChipGame.{ChipGame, IsGame}
 use Rattle.chip_graph.specs.More.{HasMore}
 use Rattle.chip_graph.proofs.SumLemmas.{sum_below_add, sum_below_ext, sum_below_none, sum_below_move, sum_by_place}
 use Rattle.chip_sequence.specs.Firing.{IsLegal}
-use Rattle.chip_sequence.specs.Sequence.{position_after, IsFiringSequence, counts, HasEnded, IsWholePlay}
+use Rattle.chip_sequence.specs.Sequence.{position_after, IsFiringSequence, counts, HasEnded}
 use Rattle.chip_sequence.specs.Certificate.{IsOnTheWay}
 use Rattle.chip_sequence.specs.Play.{IsPlayed}
 use Rattle.chip_sequence.specs.declared.outcome.Outcome.{Outcome}
-use Rattle.chip_sequence.specs.Sittings.{Leads, LeadsTo}
+use Rattle.chip_sequence.specs.Sittings.{LeadsTo}
 use Rattle.chip_sequence.proofs.FiringLemmas.{counts_here, counts_else, led_once, position_is, sink_never, more_chips}
 use Rattle.chip_sequence.proofs.EndLemmas.{continued}
 use Rattle.chip_sequence.proofs.BoundLemmas.{led_total, ends}

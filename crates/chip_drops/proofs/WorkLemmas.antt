@@ -47,44 +47,43 @@ listed_last G chips list n listed some room =
     let last = rw (take_more list (n - 1) 0 l) at (subst (λ (m : ℕ). AreListed G chips (take m list)) e listed) in
     (last, All-contains (λ (v : ℕ). v < G.vertices) _ _ last.vertices (Contains-push (take (n - 1) list) _))
 
-module _ (G : Multigraph) (chips work : List ℕ) (h has : ℕ) (is_vertex : h < G.vertices) (each : length chips ≡ G.vertices)
-  where
-    -- the chips of one vertex change
-    listed_set : (old : List ℕ) → AreListed G chips old → All (λ (v : ℕ). v < G.vertices) work
-        → ((u : ℕ) → h ≢ u → Contains old u → Contains work u) → (h ≢ G.sink → degree G h ≤ has → Contains work h)
-        → AreListed G (set chips h has) work
-    listed_set old so_far vertices kept here = record {
-      vertices = vertices;
-      legal = λ u can. dite (ℕ_discrete h u)
-          (λ e.
-          let can' : IsLegal G (slice_index (set chips h has)) h =
-          subst (IsLegal G (slice_index (set chips h has))) (sym e) can in
-          let a = get_or-set_same chips h has 0 (omega arith) in
-          let b = can'.enough_chips in
-          subst (Contains work) e (here can'.not_sink (omega arith)))
-          (λ ne. let a = get_or-set_other chips h u has 0 (λ z. ne (sym z)) in
-          kept u ne (so_far.legal u (grind arith)));
-    }
+-- the chips of one vertex change
+module _ (G : Multigraph) (chips old : List ℕ) (so_far : AreListed G chips old) (h has : ℕ) (is_vertex : h < G.vertices)
+    (each : length chips ≡ G.vertices) where
+  listed_set : (work : List ℕ) → All (λ (v : ℕ). v < G.vertices) work
+      → ((u : ℕ) → h ≢ u → Contains old u → Contains work u) → (h ≢ G.sink → degree G h ≤ has → Contains work h)
+      → AreListed G (set chips h has) work
+  listed_set work vertices kept here = record {
+    vertices = vertices;
+    legal = λ u can. dite (ℕ_discrete h u)
+        (λ e.
+        let can' : IsLegal G (slice_index (set chips h has)) h =
+        subst (IsLegal G (slice_index (set chips h has))) (sym e) can in
+        let a = get_or-set_same chips h has 0 (omega arith) in
+        let b = can'.enough_chips in
+        subst (Contains work) e (here can'.not_sink (omega arith)))
+        (λ ne. let a = get_or-set_other chips h u has 0 (λ z. ne (sym z)) in
+        kept u ne (so_far.legal u (grind arith)));
+  }
 
-    -- too few are left of them, and it was listed last
-    pub listed_taken : AreListed G chips (work ++ h ∷ []) → has < degree G h → AreListed G (set chips h has) work
-    listed_taken so_far few = listed_set (work ++ h ∷ []) so_far
-        (All-pop (λ (v : ℕ). v < G.vertices) (work ++ h ∷ []) work (Some h) refl so_far.vertices).0
-        (λ u ne is. ⊎_elim (λ has. has) (λ e. absurd (ne e)) (Contains-push_cases work h u is))
-        (λ other enough. absurd (omega arith))
+  -- it is legal with these if it was
+  pub listed_same : (degree G h ≤ has → degree G h ≤ get_or chips h 0) → AreListed G (set chips h has) old
+  listed_same had = listed_set old so_far.vertices (λ u ne is. is)
+      (λ other enough. let a = had enough in so_far.legal h (grind arith))
 
-    -- it is legal with these if it was
-    pub listed_same : AreListed G chips work → (degree G h ≤ has → degree G h ≤ get_or chips h 0)
-        → AreListed G (set chips h has) work
-    listed_same so_far had = listed_set work so_far so_far.vertices (λ u ne is. is)
-        (λ other enough. let a = had enough in so_far.legal h (grind arith))
+  -- it is listed with these
+  pub listed_push : AreListed G (set chips h has) (old ++ h ∷ [])
+  listed_push = listed_set (old ++ h ∷ []) (All-push (λ (v : ℕ). v < G.vertices) old h so_far.vertices is_vertex)
+      (λ u ne. Contains-append_left old (h ∷ []) u) (λ other enough. Contains-push old h)
 
--- it is listed with these
-pub listed_push : (G : Multigraph) (chips work : List ℕ) (h has : ℕ) → h < G.vertices → length chips ≡ G.vertices
-    → AreListed G chips work → AreListed G (set chips h has) (work ++ h ∷ [])
-listed_push G chips work h has is_vertex each so_far = listed_set G chips (work ++ h ∷ []) h has is_vertex each work so_far
-    (All-push (λ (v : ℕ). v < G.vertices) work h so_far.vertices is_vertex) (λ u ne. Contains-append_left work (h ∷ []) u)
-    (λ other enough. Contains-push work h)
+-- too few are left of them, and it was listed last
+listed_taken : (G : Multigraph) (chips work : List ℕ) (h has : ℕ) → AreListed G chips (work ++ h ∷ []) → h < G.vertices
+    → length chips ≡ G.vertices → has < degree G h → AreListed G (set chips h has) work
+listed_taken G chips work h has so_far is_vertex each few =
+    listed_set G chips (work ++ h ∷ []) so_far h has is_vertex each work
+    (All-pop (λ (v : ℕ). v < G.vertices) (work ++ h ∷ []) work (Some h) refl so_far.vertices).0
+    (λ u ne is. ⊎_elim (λ has. has) (λ e. absurd (ne e)) (Contains-push_cases work h u is))
+    (λ other enough. absurd (omega arith))
 
 -- ---- one turn
 
@@ -100,7 +99,7 @@ module _ (G : Multigraph) (limit : ℕ) (chips fired : List ℕ) (ok : IsInRange
   sent_none no_more work listed =
       let a = taken_room G ok.graph_fits v k chips can.is_vertex ok.chips_each enough in
       let b = length-set chips v (get_or chips v 0 - k * degree G v) in
-      let c = listed_taken G chips work v (get_or chips v 0 - k * degree G v) can.is_vertex ok.chips_each listed
+      let c = listed_taken G chips work v (get_or chips v 0 - k * degree G v) listed can.is_vertex ok.chips_each
       (omega arith) in
       let d = links_inside G ok.graph_fits v in grind arith
 

@@ -31,11 +31,11 @@ loop-link-preserved c =
     let degree = c.out_degree-degree-in-loop-link.ensures in
     elim c.if-had-degree.branch [
       | then-had-degree+then-degree-has w ↦ record {
-        sent = rw (w.listed-is, take_more_set) (step _ (listed_push _ _ _ _ _ head_in sent.chips_each sent.listed));
+        sent = rw (w.listed-is, take_more_set) (step _ (listed_push _ _ _ sent.listed _ _ head_in sent.chips_each));
         room = (let a = w.listed-is in let b = so_far.room in omega arith);
       }
       | else-had-degree w ↦ record {
-        sent = rw (w.listed-is, take-set) (step _ (listed_same _ _ _ _ _ head_in sent.chips_each sent.listed
+        sent = rw (w.listed-is, take-set) (step _ (listed_same _ _ _ sent.listed _ _ head_in sent.chips_each
             (λ enough. elim w.else-had-degree.branch [
               | else-had-degree-via-then-had-degree+else-degree-has w' ↦
                   (let a = w'.if-degree-has.false in absurd (omega arith))

@@ -34,14 +34,12 @@ pub(crate) fn work_off(
         × IsStable game.now.graph (slice_index chips.new)
         × HasSupport game.now.graph.vertices before.now fired.new (take n support.new)) }
 {
-    let graph = game.graph();
-    let limit = game.limit();
+    let (graph, limit) = (game.graph(), game.limit());
     if !is_legal(graph, chips, vertex) {
         return Some(0);
     }
     list[0] = vertex;
-    let mut listed = 1;
-    let mut found = 0;
+    let (mut listed, mut found) = (1, 0);
     'turns: for _ in 0..graph.vertices() * TURNS {
         if listed == 0 {
             return Some(found);
@@ -53,10 +51,7 @@ pub(crate) fn work_off(
         }
         support[found] = vertex;
         found += usize::from(fired[vertex as usize] == before[vertex as usize]);
-        let Some(next) = turn(graph, limit, vertex, top, list, chips, fired) else {
-            return None;
-        };
-        listed = next;
+        listed = turn(graph, limit, vertex, top, list, chips, fired)?;
     }
     None
 }

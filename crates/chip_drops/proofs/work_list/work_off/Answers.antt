@@ -20,8 +20,8 @@ turn-requires-clause-listed c =
     let some = c.if-listed-eq0.false in
     (listed_last _ _ _ _ c.turns.invariant.listed (omega arith) c.turns.invariant.room).0
 
-pub returns-in_default-clause-begun : goal.returns-in_default-clause-begun
-returns-in_default-clause-begun c = rw (← c.graph-graph.ensures.value, ← c.limit-limit.ensures.value) (record {
+pub returns-in_err-listed-clause-begun : goal.returns-in_err-listed-clause-begun
+returns-in_err-listed-clause-begun c = rw (← c.graph-graph.ensures.value, ← c.limit-limit.ensures.value) (record {
   in_range = c.turn.ensures.turned.0;
   on_the_way = c.turn.ensures.turned.1 _ c.turns.invariant.on_the_way;
 })
@@ -36,5 +36,5 @@ turns-preserved c =
     (eqb (get_or c.turns.fired v 0) (get_or c.args.before.now v 0)) refl in
     let turned = c.turn.ensures.turned in
     let way = turned.1 _ so_far.on_the_way in
-    let listed = c.in-Some.ensures.listed in
+    let listed = c.in_ok-listed.ensures.listed in
     rw c.from-found.ensures (grind arith)

@@ -62,8 +62,7 @@ pub room_for_drop : (p : Pile) (ds : List (ℕ × ℕ)) (i : ℕ) (p' : Pile) (t
     → sum p'.game.start + (get_or ds i (0, 0)).1 ≤ max_total
 room_for_drop p ds i p' text so_far l few =
     let a = so_far.1.game.total in
-    let b = sum_by_more_le (λ (pair : ℕ × ℕ). pair.1) ds i (0, 0) l in
-    omega arith
+    let b = sum_by_more_le (λ (pair : ℕ × ℕ). pair.1) ds i (0, 0) l in omega arith
 
 -- the drop at i, after those before it
 module _ (p : Pile) (ds : List (ℕ × ℕ)) (i : ℕ) (p' p'' : Pile) (text : List ℕ) (so_far : LeavesRows p ds i p' text)

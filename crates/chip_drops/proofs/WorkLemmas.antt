@@ -1,9 +1,9 @@
 -- Serves WorkList.antt.
 -- A play by a work list, turn by turn, and what is told of it.
-use Rattle.std.proofs.Common.{◌≡◌, ◌≢◌, ℕ, zero, suc, ◌+◌, ◌-◌, ◌*◌, ◌<◌, ◌≤◌, ◌^◌, Bool, true, false, cond, eqb}
-use Rattle.std.proofs.Common.{List, [], ◌∷◌, ◌++◌, length, take, drop, sum_by, get_or, set, slice_index, refl, sym, ap, ◌∙◌, subst}
-use Rattle.std.proofs.Common.{arith, ⊎_elim, get_or-set_same, get_or-set_other, length-set, length-drop, mul-le-mul_left, mul-add}
-use Rattle.std.proofs.Common.{mul-le-mul_right, Some}
+use Rattle.std.proofs.Common.{◌≡◌, ◌≢◌, ℕ, zero, suc, ◌+◌, ◌-◌, ◌*◌, ◌<◌, ◌≤◌, ◌^◌, Bool, true, false, cond, eqb, List}
+use Rattle.std.proofs.Common.{[], ◌∷◌, ◌++◌, length, take, drop, sum_by, get_or, set, slice_index, refl, sym, ap, ◌∙◌}
+use Rattle.std.proofs.Common.{subst, arith, ⊎_elim, get_or-set_same, get_or-set_other, length-set, length-drop}
+use Rattle.std.proofs.Common.{mul-le-mul_left, mul-le-mul_right, mul-add, Some}
 use Rattle.std.proofs.lemmas.Bool.{eqb-false}
 use Rattle.std.proofs.lemmas.Bool.Decides.{nat_tests}
 use mir.Val.{bool_byte}
@@ -171,7 +171,8 @@ module _ (n : ℕ) (before fired fired' support : List ℕ) (m v : ℕ) (so_far 
       × HasSupport n before fired' (take (m + bool_byte b) (set support m v))
   supported room true is = (
     (let a = length-set support m v in omega arith),
-    rw take_more_set (supported_by (take m support ++ v ∷ []) (All-push (λ (u : ℕ). u < n) (take m support) v so_far.vertices is_vertex)
+    rw take_more_set (supported_by (take m support ++ v ∷ [])
+        (All-push (λ (u : ℕ). u < n) (take m support) v so_far.vertices is_vertex)
         (λ u. Contains-append_left (take m support) (v ∷ []) u) (Contains-push (take m support) v)),
   )
   supported room false is =
@@ -208,8 +209,8 @@ module _ (n : ℕ) (now fired : List ℕ) (each : length now ≡ n) where
       ≡ sum_below n (λ u. h (get_or fired u 0 - get_or now u 0))
   dropped_out h none v l =
       let now' : List ℕ = set now v (get_or fired v 0) in
-      let a = sum_below_move n (λ u. h (get_or fired u 0 - get_or now' u 0)) (λ u. h (get_or fired u 0 - get_or now u 0)) v l
-      (λ u m ne. ap (λ (k : ℕ). h (get_or fired u 0 - k)) (get_or-set_other now v u (get_or fired v 0) 0 ne)) in
+      let a = sum_below_move n (λ u. h (get_or fired u 0 - get_or now' u 0))
+      (λ u. h (get_or fired u 0 - get_or now u 0)) v l (λ u m ne. ap (λ (k : ℕ). h (get_or fired u 0 - k)) (get_or-set_other now v u (get_or fired v 0) 0 ne)) in
       let b = get_or-set_same now v (get_or fired v 0) 0 (omega arith) in
       let c : h (get_or fired v 0 - get_or now' v 0) ≡ 0 =
       ap h (let d : get_or fired v 0 - get_or now' v 0 ≡ 0 = omega arith in d) ∙ none in

@@ -143,7 +143,8 @@ module _ (g g' : ChipGame) (chips fired : List ℕ) (ok : IsGame g) (begun : IsB
 
   here : (u : ℕ) → slice_index now u ≡ dropped (slice_index chips) v c u
   here u = dite (ℕ_discrete v u)
-      (λ e. let a = get_or-set_same chips v (added + c) 0 vertex_in in let b = get_or_read chips v added vertex_in was 0 in
+      (λ e. let a = get_or-set_same chips v (added + c) 0 vertex_in in
+      let b = get_or_read chips v added vertex_in was 0 in
       subst (λ (w : ℕ). get_or now w 0 ≡ dropped (slice_index chips) v c w) e (grind (arith, nat_tests)))
       (λ ne. let a = get_or-set_other chips v u (added + c) 0 (λ z. ne (sym z)) in grind (arith, nat_tests))
 

@@ -1,8 +1,8 @@
 -- Serves Rows.antt, Out.antt.
 -- Drops one after another, and the bytes of their rows.
 use Rattle.std.proofs.Common.{◌≡◌, ℕ, ◌+◌, ◌<◌, ◌≤◌, List, [], ◌∷◌, ◌++◌, length, take, get_or, sum}
-use Rattle.std.proofs.Common.{slice_index, refl, sym, ap, ◌∙◌, subst, arith, rules, append_assoc, append-nil, Option, cond}
-use Rattle.std.proofs.Common.{eqb, length-append}
+use Rattle.std.proofs.Common.{slice_index, refl, sym, ap, ◌∙◌, subst, arith, rules, append_assoc, append-nil, Option}
+use Rattle.std.proofs.Common.{cond, eqb, length-append}
 use Rattle.std.proofs.Math.Seq.{take-append-add}
 use Rattle.std.proofs.lemmas.List.{take_at, take_more}
 use Rattle.std.proofs.lemmas.List.Sums.{sum_by-append, sum_by_more_le}

@@ -39,8 +39,9 @@ listed_one G chips list v room is_vertex alone = subst (AreListed G chips) (sym 
 })
 
 -- the last of the list
-pub listed_last : (G : Multigraph) (chips list : List ℕ) (n : ℕ) → AreListed G chips (take n list) → 0 < n → n ≤ length list
-    → AreListed G chips (take (n - 1) list ++ get_or list (n - 1) 0 ∷ []) × (get_or list (n - 1) 0 < G.vertices)
+pub listed_last : (G : Multigraph) (chips list : List ℕ) (n : ℕ) → AreListed G chips (take n list) → 0 < n
+    → n ≤ length list → AreListed G chips (take (n - 1) list ++ get_or list (n - 1) 0 ∷ [])
+    × (get_or list (n - 1) 0 < G.vertices)
 listed_last G chips list n listed some room =
     let e : n ≡ n - 1 + 1 = omega arith in
     let l : n - 1 < length list = omega arith in
@@ -109,7 +110,8 @@ module _ (G : Multigraph) (limit : ℕ) (chips fired : List ℕ) (ok : IsInRange
 
   -- after all links
   module _ (room : get_or fired v 0 + k ≤ limit) (chips' work : List ℕ) (i : ℕ)
-      (all : length (links_of G ok.graph_fits v) ≤ i) (sent : IsSent G k (links_of G ok.graph_fits v) left i chips' work)
+      (all : length (links_of G ok.graph_fits v) ≤ i)
+      (sent : IsSent G k (links_of G ok.graph_fits v) left i chips' work)
     where
       pub turned : IsInRange G limit chips' counted × StaysOnTheWay G limit chips fired chips' counted
       turned =
@@ -118,7 +120,8 @@ module _ (G : Multigraph) (limit : ℕ) (chips fired : List ℕ) (ok : IsInRange
           let low : (u : ℕ) → get_or counted u 0 ≤ limit =
           (λ u. let d = ok.low_counts u in dite (ℕ_discrete u v)
           (λ e. subst (λ (w : ℕ). get_or counted w 0 ≤ limit) (sym e)
-          (let f = get_or-set_same fired v (get_or fired v 0 + k) 0 (let g = can.is_vertex in omega arith) in omega arith))
+          (let f = get_or-set_same fired v (get_or fired v 0 + k) 0 (let g = can.is_vertex in omega arith) in
+          omega arith))
           (λ ne. let f = get_or-set_other fired v u (get_or fired v 0 + k) 0 ne in omega arith)) in (
             grind arith,
             turn_stays G limit chips fired ok v k can.is_vertex room can.not_sink enough chips'
@@ -134,7 +137,8 @@ module _ (G : Multigraph) (k : ℕ) (links : List Edge) (taken : List ℕ) (i : 
 
   head_in : link.head < length chips
   head_in =
-      let a = so_far.heads i (record { tail = 0; head = 0; mult = 0 }) inside in let b = so_far.chips_each in omega arith
+      let a = so_far.heads i (record { tail = 0; head = 0; mult = 0 }) inside in
+      let b = so_far.chips_each in omega arith
 
   pub sent_room : get_or chips link.head 0 + k * link.mult ≤ max_total
   sent_room =
@@ -210,7 +214,8 @@ module _ (n : ℕ) (now fired : List ℕ) (each : length now ≡ n) where
   dropped_out h none v l =
       let now' : List ℕ = set now v (get_or fired v 0) in
       let a = sum_below_move n (λ u. h (get_or fired u 0 - get_or now' u 0))
-      (λ u. h (get_or fired u 0 - get_or now u 0)) v l (λ u m ne. ap (λ (k : ℕ). h (get_or fired u 0 - k)) (get_or-set_other now v u (get_or fired v 0) 0 ne)) in
+      (λ u. h (get_or fired u 0 - get_or now u 0)) v l
+      (λ u m ne. ap (λ (k : ℕ). h (get_or fired u 0 - k)) (get_or-set_other now v u (get_or fired v 0) 0 ne)) in
       let b = get_or-set_same now v (get_or fired v 0) 0 (omega arith) in
       let c : h (get_or fired v 0 - get_or now' v 0) ≡ 0 =
       ap h (let d : get_or fired v 0 - get_or now' v 0 ≡ 0 = omega arith in d) ∙ none in

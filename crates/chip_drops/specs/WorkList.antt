@@ -1,6 +1,6 @@
 -- A play by a work list, and what is told of it.
-use Rattle.std.specs.Prelude.{◌≡◌, ◌≢◌, ℕ, ◌+◌, ◌-◌, ◌*◌, ◌<◌, ◌≤◌, ◌==◌, if◌then◌else◌, List, length, take, slice_index}
-use Rattle.std.specs.Prelude.{All, Contains, sum, sum_by}
+use Rattle.std.specs.Prelude.{◌≡◌, ◌≢◌, ℕ, ◌+◌, ◌-◌, ◌*◌, ◌<◌, ◌≤◌, ◌==◌, if◌then◌else◌, List, length, take}
+use Rattle.std.specs.Prelude.{slice_index, All, Contains, sum, sum_by}
 use Rattle.chip_graph.specs.Limits.{max_total}
 use Rattle.chip_graph.specs.Sums.{sum_below}
 use Rattle.chip_graph.specs.Multigraph.{Multigraph}
@@ -12,8 +12,8 @@ pub record AreListed (G : Multigraph) (chips work : List ℕ) : Type 0 where
   pub vertices : All (λ v. v < G.vertices) work
   pub legal : (v : ℕ) → IsLegal G (slice_index chips) v → Contains work v
 
--- along the first i of these edges k firings have brought the chips from `taken` to what they are, and each legal vertex is
--- listed
+-- along the first i of these edges k firings have brought the chips from `taken` to what they are, and each legal
+-- vertex is listed
 pub record IsSent (G : Multigraph) (k : ℕ) (links : List Edge) (taken : List ℕ) (i : ℕ) (chips work : List ℕ) : Type 0
   where
     pub heads : All (λ e. e.head < G.vertices) links

@@ -59,7 +59,8 @@ pub(crate) fn play_out(
     ensures at_rest { IsAtRest game.now.graph game.now.limit result.0.items result.1.items }
     ensures room { IsRoom game.now.graph.vertices fired.items room.new }
     ensures found { result.2 ≤ length room.new.support.items }
-    ensures support { HasSupport game.now.graph.vertices fired.items result.1.items (take result.2 room.new.support.items) }
+    ensures support { HasSupport game.now.graph.vertices fired.items result.1.items
+        (take result.2 room.new.support.items) }
     ensures stable { (result.3 ≡ true) ↔ IsStable game.now.graph (slice_index result.0.items) }
 {
     let Room {

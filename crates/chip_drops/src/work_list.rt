@@ -83,8 +83,8 @@ fn times_in(chips: u64, degree: u64) -> u64
     }
 }
 
-/// Lets a legal vertex fire as often as its chips allow, and lists in its place those that had not the chips to fire and
-/// have them then; how many are listed then. `None` where the limit or the room of the list is too small.
+/// Lets a legal vertex fire as often as its chips allow, and lists in its place those that had not the chips to fire
+/// and have them then; how many are listed then. `None` where the limit or the room of the list is too small.
 #[tactic(auto, using(chip_sequence::proofs::BoundLemmas::some_degree))]
 #[inline]
 fn turn(

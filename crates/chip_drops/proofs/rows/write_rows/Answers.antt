@@ -9,7 +9,8 @@ use Rattle.chip_drops.proofs.rows.write_rows.Goals as goal
 pub returns-in_err-text : goal.returns-in_err-text
 returns-in_err-text g c =
     let p = err_from_is_err_and c.from_residual.result c.from_residual.ensures.1 in
-    rw (p.1, p.2) (0, _, (_, rows_none c.args.pile c.args.drops.now c.requires.pile c.requires.stable), (0, Appends-nil _))
+    rw (p.1, p.2)
+    (0, _, (_, rows_none c.args.pile c.args.drops.now c.requires.pile c.requires.stable), (0, Appends-nil _))
 
 pub drops-init : goal.drops-init
 drops-init g c = (

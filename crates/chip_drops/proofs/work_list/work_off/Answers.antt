@@ -31,8 +31,8 @@ turns-preserved c =
     let so_far = c.turns.invariant in
     let v : ℕ = get_or c.turns.list (c.turns.listed - 1) 0 in
     let can = c.is_legal-else-found-support.ensures.0 c.if-not-is_legal-2.false in
-    let found = supported _ _ c.turns.fired c.turn.new.fired c.turns.support c.turns.found v so_far.support can.is_vertex
-    c.turn.ensures.others (let a = c.if-found-support.false in let b = so_far.found in omega arith)
+    let found = supported _ _ c.turns.fired c.turn.new.fired c.turns.support c.turns.found v so_far.support
+    can.is_vertex c.turn.ensures.others (let a = c.if-found-support.false in let b = so_far.found in omega arith)
     (eqb (get_or c.turns.fired v 0) (get_or c.args.before.now v 0)) refl in
     let turned = c.turn.ensures.turned in
     let way = turned.1 _ so_far.on_the_way in

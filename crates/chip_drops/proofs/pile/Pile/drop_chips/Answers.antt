@@ -6,9 +6,9 @@ use Rattle.chip_drops.proofs.pile.Pile.drop_chips.Goals as goal
 pub play_out-chips-requires-clause-begun : goal.play_out-chips-requires-clause-begun
 play_out-chips-requires-clause-begun c =
     let pile = c.requires.pile in
-    begun_drop c.args.self.game c.with_drop-game.result c.args.self.chips.items c.args.self.fired.items pile.game pile.begun
-    pile.at_rest c.args.vertex c.args.count _ c.with_drop-game.ensures c.requires.is_vertex c.requires.few_chips
-    c.index_mut.ensures.value
+    begun_drop c.args.self.game c.with_drop-game.result c.args.self.chips.items c.args.self.fired.items pile.game
+    pile.begun pile.at_rest c.args.vertex c.args.count _ c.with_drop-game.ensures c.requires.is_vertex
+    c.requires.few_chips c.index_mut.ensures.value
 
 pub returns-then-stable-clause-avalanche : goal.returns-then-stable-clause-avalanche
 returns-then-stable-clause-avalanche c =

@@ -137,16 +137,14 @@ module _ (G : Multigraph) (k : ℕ) (links : List Edge) (taken : List ℕ) (i : 
 
   head_in : link.head < length chips
   head_in =
-      let a = so_far.heads i (record { tail = 0; head = 0; mult = 0 }) inside in
-      let b = so_far.chips_each in omega arith
+      let a = so_far.heads i (record { tail = 0; head = 0; mult = 0 }) inside in omega arith
 
   pub sent_room : get_or chips link.head 0 + k * link.mult ≤ max_total
   sent_room =
       let a = get_or-le-sum_by (λ (n : ℕ). n) chips link.head 0 head_in in
       let b = mul-le-mul_left k (sum_by_more_le (λ (e : Edge). e.mult) links i (record { tail = 0; head = 0; mult = 0 })
       inside) in
-      let c = mul-add k (sum_by (λ (e : Edge). e.mult) (take i links)) link.mult in
-      let d = so_far.all in let e = so_far.few in omega arith
+      let c = mul-add k (sum_by (λ (e : Edge). e.mult) (take i links)) link.mult in omega arith
 
   -- one link further
   pub sent_step : (work' : List ℕ) → AreListed G (set chips link.head (get_or chips link.head 0 + k * link.mult)) work'

@@ -7,22 +7,18 @@ use Rattle.chip_drops.proofs.play.tally.Goals as goal
 pub returns : goal.returns
 returns c =
     let so_far = c.loop-vertex.invariant in
-    let each : length c.loop-vertex.before ≡ length c.args.fired.now =
-    (let a = c.loop-vertex.auto.before in let b = c.requires.before_each in omega arith) in
+    let each : length c.loop-vertex.before ≡ length c.args.fired.now = omega arith in
     let all = tallied_all _ _ _ each refl _ _ c.loop-vertex-test.false so_far.support in grind arith
 
 pub loop-vertex-preserved : goal.loop-vertex-preserved
 loop-vertex-preserved c =
     let so_far = c.loop-vertex.invariant in
-    let each : length c.loop-vertex.before ≡ length c.args.fired.now =
-    (let a = c.loop-vertex.auto.before in let b = c.requires.before_each in omega arith) in
+    let each : length c.loop-vertex.before ≡ length c.args.fired.now = omega arith in
     let inside : c.loop-vertex.vertex-index < length c.args.support.now = c.loop-vertex-test.true in
     let support = rw (drop-cons c.args.support.now c.loop-vertex.vertex-index 0 inside) at so_far.support in
     let is_vertex = All-head (λ (u : ℕ). u < length c.args.fired.now) _ _ support.vertices in
     let a = dropped_out _ _ c.args.fired.now each (λ k. k) refl _ is_vertex in
     let b = dropped_out _ _ c.args.fired.now each (λ k. cond (eqb k 0) 0 1) refl _ is_vertex in
-    let d = c.saturating_sub-more.ensures in
-    let e = c.from-extent.ensures in
     record {
       support = rw add-one (support_step _ _ _ each _ _ support);
       size = omega arith;

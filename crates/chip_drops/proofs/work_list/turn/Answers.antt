@@ -24,15 +24,13 @@ loop-link-preserved c =
     let so_far = c.loop-link.invariant in
     let sent = so_far.sent in
     let head_in = sent.heads c.loop-link.link-index (record { tail = 0; head = 0; mult = 0 }) c.loop-link-test.true in
-    let room : c.loop-link.listed < length c.loop-link.list =
-    (let a = so_far.room in let b = c.if-links-list.false in let d = c.loop-link.auto.list in
-    let e = c.requires.room in omega arith) in
+    let room : c.loop-link.listed < length c.loop-link.list = omega arith in
     let step = sent_step _ _ _ _ _ _ _ sent c.loop-link-test.true in
     let degree = c.out_degree-degree-in-loop-link.ensures in
     elim c.if-had-degree.branch [
       | then-had-degree+then-degree-has w ↦ record {
         sent = rw (w.listed-is, take_more_set) (step _ (listed_push _ _ _ sent.listed _ _ head_in sent.chips_each));
-        room = (let a = w.listed-is in let b = so_far.room in omega arith);
+        room = omega arith;
       }
       | else-had-degree w ↦ record {
         sent = rw (w.listed-is, take-set) (step _ (listed_same _ _ _ sent.listed _ _ head_in sent.chips_each
@@ -41,7 +39,7 @@ loop-link-preserved c =
                   (let a = w'.if-degree-has.false in absurd (omega arith))
               | else-had-degree-via-else-had-degree w' ↦ (let a = w'.if-had-degree.false in omega arith)
             ])));
-        room = (let a = w.listed-is in let b = so_far.room in omega arith);
+        room = omega arith;
       }
     ]
 

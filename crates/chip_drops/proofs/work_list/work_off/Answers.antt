@@ -12,12 +12,10 @@ turns-init c =
 
 pub is_legal-requires-else-found-support-clause-is_vertex : goal.is_legal-requires-else-found-support-clause-is_vertex
 is_legal-requires-else-found-support-clause-is_vertex c =
-    let some = c.if-listed-eq0.false in
     (listed_last _ _ _ _ c.turns.invariant.listed (omega arith) c.turns.invariant.room).1
 
 pub turn-requires-clause-listed : goal.turn-requires-clause-listed
 turn-requires-clause-listed c =
-    let some = c.if-listed-eq0.false in
     (listed_last _ _ _ _ c.turns.invariant.listed (omega arith) c.turns.invariant.room).0
 
 pub returns-in_err-listed-clause-begun : goal.returns-in_err-listed-clause-begun

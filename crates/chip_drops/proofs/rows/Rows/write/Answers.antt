@@ -13,8 +13,6 @@ returns-in-Err-clause-bytes g c old all is =
 pub returns-in-Ok-clause-bytes : goal.returns-in-Ok-clause-bytes
 returns-in-Ok-clause-bytes g c old all is =
     let a = c.in-Some.ensures.1 in
-    let b = c.len.ensures in
-    let d = c.as_bytes.ensures.len in
     let e = ap length c.as_bytes.ensures.value in
     rw c.clear.ensures.bytes
     (out_all old _ _ _ all is _ c.in-Some.written (rw c.as_bytes.ensures.value at c.in-Ok.ensures) (omega arith))

@@ -178,11 +178,10 @@ module _ (g g' : ChipGame) (chips fired : List ℕ) (ok : IsGame g) (begun : IsB
       let each = begun'.in_range.fired_each in
       let way = rw (more.same_graph, more.same_limit) at begun'.on_the_way in
       let none = rw more.same_graph at stable in
-      let sink_in = ok.graph_fits.sink_is_vertex in
       let vertices : g'.graph.vertices ≡ g.graph.vertices = ap (λ (G : Multigraph). G.vertices) more.same_graph in
-      let d = get_or_read chips' g.graph.sink left (let b = begun'.in_range.chips_each in omega arith) is_left 0 in
-      let e = get_or_read now g.graph.sink arrived
-      (let b = length-set chips v (added + c) in let f = begun.in_range.chips_each in omega arith) is_arrived 0 in
+      let d = get_or_read chips' g.graph.sink left (omega arith) is_left 0 in
+      let b = length-set chips v (added + c) in
+      let e = get_or_read now g.graph.sink arrived (omega arith) is_arrived 0 in
       let f = here g.graph.sink in
       drop_tells _ ok.graph_fits _ _ _ _ _ led_drop (rest_leads _ _ _ _ _ way (λ u can. absurd (none u can))) none a
       (rw (each, more.same_graph) at size) (rw (each, more.same_graph) at extent) (omega arith)

@@ -47,8 +47,7 @@ game_more g g' g'' ds d one two = record {
   start_each = two.start_each ∙ one.start_each;
   start = λ v l. (let a = one.start v l in let b = two.start v (let e = one.start_each in omega arith) in
       let c = sum_by-append (λ (pair : ℕ × ℕ). cond (eqb pair.0 v) pair.1 0) ds (d ∷ []) in omega arith);
-  total = (let a = one.total in let b = two.total in
-      let c = sum_by-append (λ (pair : ℕ × ℕ). pair.1) ds (d ∷ []) in omega arith);
+  total = (let c = sum_by-append (λ (pair : ℕ × ℕ). pair.1) ds (d ∷ []) in omega arith);
 }
 
 -- nothing was dropped

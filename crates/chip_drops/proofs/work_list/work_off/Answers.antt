@@ -5,7 +5,6 @@ use Rattle.chip_drops.proofs.work_list.work_off.Goals as goal
 
 pub turns-init : goal.turns-init
 turns-init c =
-    let begun = c.requires.begun in
     let a = length-set c.args.list.now 0 c.args.vertex in
     let b = listed_one _ _ _ _ c.requires.room c.requires.is_vertex c.requires.legal in
     rw (c.graph-graph.ensures.value, c.limit-limit.ensures.value) (grind (arith, common_steps))
@@ -32,7 +31,6 @@ turns-preserved c =
     let found = supported _ _ c.turns.fired c.turn.new.fired c.turns.support c.turns.found v so_far.support
     can.is_vertex c.turn.ensures.others (let a = c.if-found-support.false in let b = so_far.found in omega arith)
     (eqb (get_or c.turns.fired v 0) (get_or c.args.before.now v 0)) refl in
-    let turned = c.turn.ensures.turned in
-    let way = turned.1 _ so_far.on_the_way in
+    let way = c.turn.ensures.turned.1 _ so_far.on_the_way in
     let listed = c.in_ok-listed.ensures.listed in
     rw c.from-found.ensures (grind arith)

@@ -10,8 +10,8 @@ use Rattle.chip_sequence.specs.Play.{IsPlayed}
 use Rattle.chip_sequence.specs.declared.outcome.Outcome.{Outcome}
 use Rattle.chip_report.specs.ReportText.{report_text}
 use Rattle.chip_command.specs.Inputs.{MeansGame}
-use Rattle.chip_command.specs.OneReport.{OneReport}
-use Rattle.chip_command.specs.Reports.{plain_status}
+use Rattle.chip_command.specs.OneReport.{OneReport, PlainWrote}
+use Rattle.chip_command.specs.Reports.{Reports, plain_status}
 
 -- numbers that are the same at each place
 pub same_numbers : (xs ys : List ℕ) → length xs ≡ length ys
@@ -62,3 +62,14 @@ one_game limits others graph_text chips_text limit a b p q =
     let start : a.start ≡ b.start = ap (λ (o : Option (List ℕ)). unwrap_or o a.start)
     (sym x.start.1 ∙ ap (λ (G : Multigraph). chips_of_text G.vertices chips_text) graph ∙ y.start.1) in
     same_games a b graph start (x.limited ∙ sym y.limited)
+
+-- what `plain` wrote is the report of the game that the texts mean
+pub plain_reports : (limits : SizeLimits) (graph_text chips_text : List ℕ) (limit : ℕ) (report : List ℕ) (status : ℕ)
+    (g : ChipGame) → MeansGame limits graph_text chips_text limit g → PlainWrote graph_text chips_text limit report status
+    → Reports g report status
+plain_reports limits graph_text chips_text limit report status g means
+    (others, ended, (text, (h, gave, reports), out, cut), status_is) =
+    let same : h ≡ g =
+    one_game others limits graph_text chips_text limit h g (gave.means graph_text refl chips_text refl) means in
+    let wrote : report ≡ text = out in
+    rw (wrote, status_is) (subst (λ (k : ChipGame). Reports k text ended.status) same reports)

@@ -41,7 +41,7 @@ use Rattle.chip_trace.specs.TraceText as written
 use Rattle.chip_trace.specs.TraceText.{trace_text, lines_from}
 use Rattle.chip_trace.proofs.RowLemmas.{rows_of-append}
 use Rattle.chip_command.specs.Laws.{IsRowIn, AreTracesIn, WrittenIsRead, ReadIsInGraph, FileIsReadBack}
-use Rattle.chip_command.proofs.InputLemmas.{passed, alone_passed}
+use Rattle.chip_command.proofs.InputLemmas.{passed, alone_passed, none_parts}
 
 -- ---- a number as a field
 
@@ -374,11 +374,6 @@ row_fits G index row none =
     kind_fits G row (number_in 2 row) (number_in 3 row) (few_of (field_at row 3))
     (and_parts (nat_lt (number_in 0 row) G.vertices) (names_edge G (trace_row_in row)) both).1
 
-none_parts : {F : Type 0} (first later : Option F) → first_of_faults first later ≡ None
-    → (first ≡ None) × (later ≡ None)
-none_parts None later e = (refl, e)
-none_parts (Some f) later e = cc e
-
 rows_fit : (G : Multigraph) (before rows : List Row)
     → first_row_fault (by_index (trace_row_fault G)) before rows ≡ None
     → AllByRecursion (λ row. IsRowIn G (trace_row_in row)) rows
@@ -393,7 +388,8 @@ trace_fits : (G : Multigraph) (rows : List Row) → All (λ row. IsRowIn G (trac
 trace_fits G rows all v = All-map (IsRowIn G) trace_row_in (filter (λ row. number_in 0 row == v) rows)
     (All-filter (λ row. number_in 0 row == v) (λ row. IsRowIn G (trace_row_in row)) rows all)
 
-given : {A : Type 0} (f : Option FileFault) (x y : A) → (if is_none f then Some x else None) ≡ Some y
+-- a value that is given has no fault
+pub given : {A : Type 0} (f : Option FileFault) (x y : A) → (if is_none f then Some x else None) ≡ Some y
     → (f ≡ None) × (x ≡ y)
 given None x y e = (refl, cc)
 given (Some f) x y e = cc e

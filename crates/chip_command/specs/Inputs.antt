@@ -1,5 +1,5 @@
 -- The game that the files of a command mean, and why they mean none.
-use Rattle.std.specs.Prelude.{◌≡◌, ◌⊎◌, ℕ, ◌<◌, ◌≤◌, length, List, Option, Some, Result, Ok, Err}
+use Rattle.std.specs.Prelude.{◌≡◌, ◌⊎◌, ℕ, ◌<◌, ◌≤◌, length, List, Option, Some}
 use Rattle.std.specs.Option.{ForSome}
 use Rattle.chip_graph.specs.Limits.{SizeLimits}
 use Rattle.chip_graph.specs.Multigraph.{Multigraph}
@@ -11,6 +11,7 @@ use Rattle.chip_file.specs.GraphText.{MeansGraph, IsGraphTextFault}
 use Rattle.chip_file.specs.ChipsText.{chips_of_text, chips_text_fault}
 use Rattle.chip_file.specs.declared.fault.FileFault.{FileFault}
 use Rattle.chip_file.specs.declared.fault.FileFault.TheVariants as file_fault
+use Rattle.chip_command.specs.CommandAnswers.{Spec}
 use Rattle.chip_command.specs.Faults.{fault_of_file}
 use Rattle.chip_command.specs.declared.fault.Fault.{Fault}
 use Rattle.chip_command.specs.declared.fault.Fault.TheVariants.{Game}
@@ -40,6 +41,18 @@ IsRefused limits text IsFault f =
 abbrev pub RefusesText : SizeLimits → List ℕ → (FileFault → Type 0) → Fault → Type 0
 RefusesText limits text IsFault fault = (f : FileFault) × (fault ≡ fault_of_file f) × IsRefused limits text IsFault f
 
+-- what reading a text by its meanings and its faults may give, of a reader that may know it
+abbrev pub reading : {A : Type 0} → SizeLimits → (List ℕ → A → Type 0) → (List ℕ → FileFault → Type 0) → Option (List ℕ)
+    → Spec A
+reading limits IsMeant IsFault known = record {
+  gives = λ value. ForSome known (λ text. Reads limits text (IsMeant text value));
+  refuses = λ fault. ForSome known (λ text. RefusesText limits text (IsFault text) fault);
+}
+
+-- what reading a graph may give
+abbrev pub reading_graph : SizeLimits → Option (List ℕ) → Spec Multigraph
+reading_graph limits graph = reading limits (MeansGraph limits) (IsGraphTextFault limits) graph
+
 -- why the inputs are no game: the first fault of the graph, of the chips, or of the game that they make with the limit
 abbrev pub RefusesInputs : SizeLimits → List ℕ → List ℕ → ℕ → Fault → Type 0
 RefusesInputs limits graph_text chips_text limit fault =
@@ -59,7 +72,7 @@ abbrev pub GaveNoGame : SizeLimits → Option (List ℕ) → Option (List ℕ) �
 GaveNoGame limits graph chips limit fault =
     ForSome graph (λ graph_text. ForSome chips (λ chips_text. RefusesInputs limits graph_text chips_text limit fault))
 
--- what reading the inputs answers
-abbrev pub GivesGame : SizeLimits → Option (List ℕ) → Option (List ℕ) → ℕ → Result ChipGame Fault → Type 0
-GivesGame limits graph chips limit (Ok g) = GaveGame limits graph chips limit g
-GivesGame limits graph chips limit (Err fault) = GaveNoGame limits graph chips limit fault
+-- what reading the inputs may give
+abbrev pub reading_game : SizeLimits → Option (List ℕ) → Option (List ℕ) → ℕ → Spec ChipGame
+reading_game limits graph chips limit =
+    record { gives = GaveGame limits graph chips limit; refuses = GaveNoGame limits graph chips limit }

@@ -2,7 +2,8 @@
 use Rattle.std.specs.Prelude.{◌≡◌, ℕ, List, [], Some, Ok}
 use Rattle.chip_graph.specs.Limits.{SizeLimits}
 use Rattle.chip_graph.specs.ChipGame.{ChipGame}
-use Rattle.chip_command.specs.PlainCommand.{PlainAnswers}
+use Rattle.chip_command.specs.CommandAnswers.{AnswersBy}
+use Rattle.chip_command.specs.PlainCommand.{plain_spec}
 use Rattle.chip_command.specs.Reports.{Reports}
 use Rattle.chip_command.specs.declared.ended.Ended.{Ended}
 
@@ -13,6 +14,6 @@ OneReport = (g : ChipGame) (one other : List ℕ) (s t : ℕ) → Reports g one 
 -- `plain` wrote this report of the game that the texts mean, by whatever limits of its size, and answered this status
 abbrev pub PlainWrote : (graph_text chips_text : List ℕ) → ℕ → List ℕ → ℕ → Type 0
 PlainWrote graph_text chips_text limit report status =
-    (limits : SizeLimits) × (ended : Ended) × PlainAnswers limits (Some graph_text) (Some chips_text) limit
-    (Some []) (Some report) (Ok ended)
+    (limits : SizeLimits) × (ended : Ended)
+    × AnswersBy (plain_spec limits (Some graph_text) (Some chips_text) limit) (Some []) (Some report) (Ok ended)
     × (status ≡ ended.status)

@@ -1,24 +1,23 @@
 -- From the bytes of a graph file and a chips file to those of a report.
-use Rattle.std.specs.Prelude.{ℕ, List, Option, Result}
+use Rattle.std.specs.Prelude.{◌≡◌, ℕ, List, Option, Result}
 use Rattle.chip_graph.specs.Limits.{SizeLimits}
 use Rattle.chip_graph.specs.ChipGame.{ChipGame}
-use Rattle.chip_command.specs.CommandAnswers.{CommandAnswers, OrMemory}
-use Rattle.chip_command.specs.Inputs.{GaveGame, GaveNoGame}
+use Rattle.chip_command.specs.CommandAnswers.{Spec, bind, CommandAnswers}
+use Rattle.chip_command.specs.Inputs.{reading_game}
 use Rattle.chip_command.specs.Reports.{Reports}
 use Rattle.chip_command.specs.declared.ended.Ended.{Ended}
 use Rattle.chip_command.specs.declared.fault.Fault.{Fault}
+use Rattle.chip_command.specs.declared.fault.Fault.TheVariants.{NoMemory}
 
--- what `plain` writes: the report of the game of its inputs, played to its end, and its status
-abbrev pub PlainWrites : SizeLimits → Option (List ℕ) → Option (List ℕ) → ℕ → List ℕ → ℕ → Type 0
-PlainWrites limits graph chips limit text status =
-    (g : ChipGame) × GaveGame limits graph chips limit g × Reports g text status
+-- playing a game to its end gives its report and status; or there is no memory
+abbrev pub playing : ChipGame → Spec (List ℕ × ℕ)
+playing g = record { gives = λ (text, status). Reports g text status; refuses = λ fault. fault ≡ NoMemory }
 
--- why it writes nothing: the inputs are refused, or there is no memory
-abbrev pub PlainRefuses : SizeLimits → Option (List ℕ) → Option (List ℕ) → ℕ → Fault → Type 0
-PlainRefuses limits graph chips limit = OrMemory (GaveNoGame limits graph chips limit)
+-- what `plain` may give: the report of the game of its inputs
+abbrev pub plain_spec : SizeLimits → Option (List ℕ) → Option (List ℕ) → ℕ → Spec (List ℕ × ℕ)
+plain_spec limits graph chips limit = bind (reading_game limits graph chips limit) playing
 
 -- what `plain` answers by these limits, whose readers may know their texts
 abbrev pub PlainAnswers : SizeLimits → Option (List ℕ) → Option (List ℕ) → ℕ → Option (List ℕ) → Option (List ℕ)
     → Result Ended Fault → Type 0
-PlainAnswers limits graph chips limit old new result =
-    CommandAnswers (PlainWrites limits graph chips limit) (PlainRefuses limits graph chips limit) old new result
+PlainAnswers limits graph chips limit old new result = CommandAnswers (plain_spec limits graph chips limit) old new result

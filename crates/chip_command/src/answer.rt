@@ -1,7 +1,8 @@
 //! What a command answers.
 
-ghost use Rattle.std.specs.Prelude.{◌≡◌, IfOk, string_bytes};
-ghost use Rattle.chip_command.specs.CommandAnswers.{DeliversGiven};
+ghost use Rattle.std.specs.Prelude.{◌≡◌, IfOk, false, string_bytes};
+ghost use Rattle.chip_command.specs.Reports.{Delivers};
+ghost use Rattle.chip_command.specs.Statuses.{number_of_status};
 
 use crate::ended::{Ended, conclude, status_of};
 use crate::fault::Fault;
@@ -46,12 +47,10 @@ impl Answer {
     }
 }
 
-/// Writes the answer of a command, or hands on its fault.
-pub fn deliver<W: Write>(output: &mut W, given: Result<Answer, Fault>) -> Result<Ended, Fault>
-    ensures { DeliversGiven (W.contents output.old) (W.contents output.new) given result }
+/// Writes the answer of a command.
+pub fn deliver<W: Write>(output: &mut W, answer: Answer) -> Result<Ended, Fault>
+    ensures { Delivers (W.contents output.old) (W.contents output.new) answer.text.items
+        (record { status = number_of_status answer.status; cut = false }) result }
 {
-    match given {
-        Ok(answer) => conclude(output, &answer.text, Ended::of(answer.status)),
-        Err(fault) => Err(fault),
-    }
+    conclude(output, &answer.text, Ended::of(answer.status))
 }

@@ -1,6 +1,6 @@
 -- Serves SimulateCommand.antt.
 -- The lines of a schedule, as far as it was run.
-use Rattle.std.proofs.Common.{◌≡◌, ℕ, Bool, true, false, List, [], ◌∷◌, ◌++◌, refl, sym, ap, ◌∙◌, subst, append_assoc, append-nil}
+use Rattle.std.proofs.Common.{◌≡◌, ℕ, Bool, true, false, List, [], ◌∷◌, ◌++◌, flat_map, refl, sym, ap, ◌∙◌, subst, append_assoc, append-nil}
 use Rattle.chip_link.specs.declared.event.Event.{Event}
 use Rattle.chip_part.specs.declared.reply.Reply.{Reply}
 use Rattle.chip_part.specs.Setting.{Setting}
@@ -10,24 +10,19 @@ use Rattle.chip_world.specs.World.{WorldState, StandsForLog, WhateverLog, Steps}
 use Rattle.chip_world.specs.Run.{Runs}
 use Rattle.chip_world.specs.declared.world.running.Record.{Record}
 use Rattle.chip_engine.specs.Board.{board_text}
-use Rattle.chip_engine.specs.Lines.{lines_text}
 use Rattle.chip_engine.specs.SimulateCommand.{reply_text, answer_text, answers_text}
 
 answers_text-append : (books : Bool) (g : Setting) (log : Log) (xs ys : List Event)
     → answers_text books g log (xs ++ ys) ≡ answers_text books g log xs ++ answers_text books g (log_after g log xs) ys
 answers_text-append books g log [] ys = refl
-answers_text-append books g log (x ∷ xs) ys =
-    let first : List ℕ = answer_text books g (step g log x).0 (step g log x).1 in
-    ap (λ (t : List ℕ). first ++ t) (answers_text-append books g (step g log x).0 xs ys)
-    ∙ sym (append_assoc first (answers_text books g (step g log x).0 xs) (answers_text books g (log_after g log (x ∷ xs)) ys))
+answers_text-append books g log (x ∷ xs) ys = rw (answers_text-append books g (step g log x).0 xs ys)
+    (sym (append_assoc (answer_text books g (step g log x).0 (step g log x).1) _ _))
 
 answers_text-plain : (g : Setting) (log : Log) (xs : List Event)
-    → answers_text false g log xs ≡ lines_text reply_text (replies_to g log xs)
+    → answers_text false g log xs ≡ flat_map reply_text (replies_to g log xs)
 answers_text-plain g log [] = refl
 answers_text-plain g log (x ∷ xs) =
-    let reply : Reply = (step g log x).1 in
-    ap (λ (t : List ℕ). t ++ answers_text false g (step g log x).0 xs) (append-nil (reply_text reply))
-    ∙ ap (λ (t : List ℕ). reply_text reply ++ t) (answers_text-plain g (step g log x).0 xs)
+    rw (append-nil (reply_text (step g log x).1), answers_text-plain g (step g log x).0 xs) refl
 
 -- what was run, and the lines of it
 abbrev pub HasRun : Bool → Setting → List Event → WorldState → List ℕ → Type 0
@@ -55,12 +50,12 @@ one_answer_more g done x old new reply text middle text' (stands, text_is) steps
 -- a stretch of events more, and its replies
 pub one_stretch_more : (g : Setting) (done stretch : List Event) (old new : WorldState) (r : Record)
     (text text' : List ℕ) → HasRun false g done old text → WhateverLog old (λ h log. Runs h log stretch new r)
-    → text' ≡ text ++ lines_text reply_text r.replies.items → HasRun false g (done ++ stretch) new text'
+    → text' ≡ text ++ flat_map reply_text r.replies.items → HasRun false g (done ++ stretch) new text'
 one_stretch_more g done stretch old new r text text' (stands, text_is) runs wrote =
     let log : Log = log_after g [] done in
     let made = runs g log stands in
-    let said : lines_text reply_text r.replies.items ≡ answers_text false g log stretch =
-    ap (lines_text reply_text) made.recorded.replies_are ∙ sym (answers_text-plain g log stretch) in (
+    let said : flat_map reply_text r.replies.items ≡ answers_text false g log stretch =
+    ap (flat_map reply_text) made.recorded.replies_are ∙ sym (answers_text-plain g log stretch) in (
       subst (λ (l : Log). StandsForLog g l new) (sym (log_after-append g [] done stretch)) made.world,
       wrote ∙ (λ j. text_is j ++ said j) ∙ sym (answers_text-append false g [] done stretch),
     )

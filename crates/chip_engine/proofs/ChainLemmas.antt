@@ -6,7 +6,6 @@ use Rattle.std.specs.Prelude.{◌&&◌}
 use Rattle.std.proofs.lemmas.List.{append_cancel_left}
 use Rattle.chip_graph.specs.Limits.{SizeLimits}
 use Rattle.chip_graph.specs.Multigraph.{Multigraph}
-use Rattle.chip_graph.specs.ChipGame.{ChipGame}
 use Rattle.chip_file.specs.GraphText.{MeansGraph}
 use Rattle.chip_sequence.specs.Firing.{IsLegal}
 use Rattle.chip_sequence.specs.Sittings.{IsResumed, IsPlayFrom, LeadsTo}
@@ -14,10 +13,11 @@ use Rattle.chip_sequence.specs.declared.resumed.Resumed.{Resumed}
 use Rattle.chip_report.specs.ReportText.{is_empty, report_text}
 use Rattle.chip_report.specs.ReportTwo.{SittingContent, sitting_content, report_two_text, IsAnyReportOf}
 use Rattle.chip_report.proofs.ReportTwoLemmas.{one_sitting, not_both}
-use Rattle.chip_command.specs.Inputs.{Reads, MeansGame}
+use Rattle.chip_command.specs.Inputs.{Reads}
 use Rattle.chip_engine.specs.ResumeCommand.{LeadsToTheEnd}
 use Rattle.chip_command.specs.Sitting.{TellsPlayFrom}
 use Rattle.chip_command.proofs.SittingLemmas.{first_tells, report_tells}
+use Rattle.chip_command.proofs.OneReportLemmas.{plain_reports}
 use Rattle.chip_engine.specs.Sittings.{IsResumedTo, AreResumed}
 use Rattle.chip_core.specs.Positions.{chips_given}
 use Rattle.chip_engine.specs.Sittings.{PlainTellsPlay, SimulateTellsPlay, ResumedPlaysAddUp}
@@ -25,28 +25,14 @@ use Rattle.chip_engine.proofs.SittingLemmas.{LeavesNoneLegal, none_legal, leads_
 
 -- ---- a first sitting
 
--- two texts and a limit mean one game, whatever the limits of its size
+-- a text means one graph, whatever the limits of its size
 same_graph : (limits others : SizeLimits) (graph_text : List ℕ) (G H : Multigraph) → MeansGraph limits graph_text G
     → MeansGraph others graph_text H → G ≡ H
 same_graph limits others graph_text G H one other = let a = one.meaning in let b = other.meaning in cc
 
-same_start : (limits : SizeLimits) (graph_text chips_text : List ℕ) (limit : ℕ) (g h : ChipGame)
-    → MeansGame limits graph_text chips_text limit g
-    → MeansGame limits graph_text chips_text limit h → g.start ≡ h.start
-same_start limits graph_text chips_text limit g h one other =
-    let graphs = same_graph limits limits graph_text g.graph h.graph one.named.graph.1 other.named.graph.1 in
-    let vertices = ap (λ (G : Multigraph). G.vertices) graphs in
-    let a = one.named.start.1 in let b = other.named.start.1 in cc
-
 pub plain_tells_play : PlainTellsPlay
-plain_tells_play limits graph_text chips_text limit report ended (text, (h, gave, reports), wrote, cut) g means =
-    let means' = gave.means graph_text refl chips_text refl in
-    subst (λ (start : List ℕ). TellsPlayFrom g.graph (slice_index start) report)
-    (same_start limits graph_text chips_text limit h g means' means)
-    (subst (λ (G : Multigraph). TellsPlayFrom G (slice_index h.start) report)
-    (same_graph limits limits graph_text h.graph g.graph means'.named.graph.1 means.named.graph.1)
-    (subst (TellsPlayFrom h.graph (slice_index h.start)) (sym wrote)
-    (report_tells h gave.game text ended.status reports)))
+plain_tells_play limits graph_text chips_text limit report ended plain g means = report_tells g means.game report ended.status
+    (plain_reports limits graph_text chips_text limit report ended.status g means (limits, ended, plain.answer, refl))
 
 pub simulate_tells_play : SimulateTellsPlay
 simulate_tells_play g log end report status ends is =
@@ -80,11 +66,12 @@ goes_on : (limits : SizeLimits) (graph_text : List ℕ) (G : Multigraph)
     → (x : ℕ → ℕ) (before : List ℕ) → TellsPlayFrom G x before
     → (report : List ℕ) → IsResumedTo graph_text before report
     → (r : Resumed) → IsAnyReportOf report r → LeadsToTheEnd G x r
-goes_on limits graph_text G reads x before tells report (others, limit, ended, (text, (H, earlier, means, on), wrote, cut)) r is =
-    let graphs : H ≡ G = same_graph others limits graph_text H G (means.means graph_text refl).1 reads.1 in
+goes_on limits graph_text G reads x before tells report (others, limit, ended, resumed) r is =
+    let (text, (H, H_means, (earlier, told, on)), wrote, cut) = resumed.answer in
+    let graphs : H ≡ G = same_graph others limits graph_text H G (H_means graph_text refl).1 reads.1 in
     let same = read_again report on.resumed on.goes_on.in_range (wrote ∙ on.reported) r is in
     let from : IsPlayFrom H x earlier = subst (λ (K : Multigraph). IsPlayFrom K x earlier) (sym graphs)
-    (tells earlier (means.tells before refl).1.0) in
+    (tells earlier (told.0 before refl).1.0) in
     let leads : IsPlayFrom H x r = subst (LeadsInAll H x) same (on.adds_up x from).leads in
     let none : LeavesNoneLegal H r.outcome =
     subst (LeavesNone H) same (none_legal _ on.resumed.outcome on.goes_on.played) in

@@ -2,17 +2,15 @@
 -- Drops that a file names, and what playing them comes to.
 use Rattle.std.proofs.Common.{◌≡◌, ℕ, ◌+◌, ◌<◌, ◌≤◌, Bool, true, false, List, [], ◌∷◌, ◌++◌, length, map, take}
 use Rattle.std.proofs.Common.{slice_index, Option, None, Some, refl, sym, ap, ◌∙◌, subst, arith, inl, inr}
-use Rattle.std.specs.Prelude.{All, is_none, if◌then◌else◌}
+use Rattle.std.specs.Prelude.{All}
 use Rattle.std.proofs.Common.{ltb, ltb-true}
 use Rattle.std.proofs.lemmas.Bool.{false_from_ne_true}
-use Rattle.chip_graph.specs.Faults.{first_of_faults, fault_unless}
 use Rattle.std.specs.Io.KnownBytes.{Appends}
 use Rattle.std.proofs.lemmas.List.{take_all}
 use Rattle.std.proofs.lemmas.List.Elements.{All-nil, All-cons}
 use Rattle.chip_graph.specs.ChipGame.{ChipGame}
 use Rattle.chip_graph.specs.Multigraph.{Multigraph, degree}
 use Rattle.chip_graph.specs.More.{HasMore}
-use Rattle.chip_file.specs.declared.fault.FileFault.{FileFault}
 use Rattle.chip_file.specs.DropsText.{drop_in, drops_of_text, drops_text_fault}
 use Rattle.chip_file.specs.Rows.{Row, records_of, rows_under_header, by_index, first_row_fault}
 use Rattle.chip_file.specs.VertexRows.{vertex_in, vertex_row_fault}
@@ -26,41 +24,30 @@ use Rattle.chip_drops.specs.Avalanches.{AreAvalanches}
 use Rattle.chip_drops.specs.Pile.{IsPile, IsStable}
 use Rattle.chip_drops.specs.Rows.{rows_text, IsAfter, AreRows, EndsRows}
 use Rattle.chip_report.specs.ReportText.{is_closed}
+use Rattle.chip_command.proofs.InputLemmas.{alone_passed, none_parts}
+use Rattle.chip_command.proofs.RoundTripLemmas.{given}
 use Rattle.chip_engine.specs.AvalanchesCommand.{TellsDrops, ComesTo}
 
 -- ---- the vertices of drops
-
-none_of : {F : Type 0} (fault later : Option F) → first_of_faults fault later ≡ None → (fault ≡ None) × (later ≡ None)
-none_of None later is = (refl, is)
-none_of (Some f) later is = cc
-
-passed : {F : Type 0} (b : Bool) (f : F) → fault_unless b f ≡ None → b ≡ true
-passed true f is = refl
-passed false f is = cc
 
 rows_vertices : (n : ℕ) (before rows : List Row) → first_row_fault (by_index (vertex_row_fault n)) before rows ≡ None
     → All (λ (d : ℕ × ℕ). d.0 < n) (map drop_in rows)
 rows_vertices n before [] is = All-nil (λ (d : ℕ × ℕ). d.0 < n)
 rows_vertices n before (row ∷ rows) is =
-    let both = none_of (vertex_row_fault n (length before) row)
+    let both = none_parts (vertex_row_fault n (length before) row)
     (first_row_fault (by_index (vertex_row_fault n)) (before ++ row ∷ []) rows) is in
-    let last = (none_of _ _ (none_of _ _ both.0).1).1 in
+    let last = (none_parts _ _ (none_parts _ _ both.0).1).1 in
     All-cons (λ (d : ℕ × ℕ). d.0 < n) (drop_in row) (map drop_in rows)
-    (ltb-true (vertex_in row) n (passed (ltb (vertex_in row) n) _ last))
+    (ltb-true (vertex_in row) n (alone_passed (ltb (vertex_in row) n) _ last))
     (rows_vertices n (before ++ row ∷ []) rows both.1)
-
-chosen : {X : Type 0} (fault : Option FileFault) (xs ds : List X) → (if is_none fault then Some xs else None) ≡ Some ds
-    → (fault ≡ None) × (xs ≡ ds)
-chosen None xs ds is = (refl, cc)
-chosen (Some f) xs ds is = cc
 
 -- drops that a text means are on vertices
 pub drops_vertices : (n : ℕ) (text : List ℕ) (ds : List (ℕ × ℕ)) → drops_of_text n text ≡ Some ds
     → All (λ (d : ℕ × ℕ). d.0 < n) ds
 drops_vertices n text ds is =
-    let both = chosen (drops_text_fault n text) (map drop_in (rows_under_header (records_of text))) ds is in
+    let both = given (drops_text_fault n text) (map drop_in (rows_under_header (records_of text))) ds is in
     subst (All (λ (d : ℕ × ℕ). d.0 < n)) both.1
-    (rows_vertices n [] (rows_under_header (records_of text)) (none_of _ _ both.0).1)
+    (rows_vertices n [] (rows_under_header (records_of text)) (none_parts _ _ both.0).1)
 
 -- ---- what the rows come to
 

@@ -1,12 +1,7 @@
 pub mod ChainLemmas
-pub mod CheckLemmas
-pub mod EngineLemmas
-pub mod LineLemmas
-pub mod ExplainLemmas
 pub mod SittingLemmas
 pub mod GuessLemmas
 pub mod VerifyLemmas
-pub mod BoardLemmas
 pub mod AnswerLemmas
 pub mod DropLemmas
 pub mod SameLemmas

@@ -18,8 +18,7 @@ use Rattle.chip_core.proofs.NumberLemmas.{unfed_is_the_start}
 use Rattle.chip_world.specs.declared.world.driving.Drive.{Drive}
 use Rattle.chip_world.specs.declared.world.driving.Drive.TheVariants.{Closed, Unfinished}
 use Rattle.chip_command.specs.Inputs.{MeansGame}
-use Rattle.chip_command.specs.Reports.{Reports}
-use Rattle.chip_command.proofs.OneReportLemmas.{one_report, one_game}
+use Rattle.chip_command.proofs.OneReportLemmas.{one_report, plain_reports}
 use Rattle.chip_engine.specs.SimulateCommand.{EndsBy, EndsClosed}
 use Rattle.chip_engine.specs.SimulatedBytes.{IsWhatPlainWrites, ClosedAs, StayedOpen, SimulatedBytes}
 use Rattle.chip_engine.specs.declared.simulate.SimulateOptions.{SimulateOptions}
@@ -54,14 +53,10 @@ unsealed g log end status ends none v below = not_by_seal (part_in g log v).halt
 
 same : (g : Setting) (log : Log) (end : List ℕ) (status : ℕ) (ends : EndsClosed g log end status)
     → ends.outcome.sealed.items ≡ [] → IsWhatPlainWrites (played_game g log) ends.outcome status
-same g log end status ends none limits graph_text chips_text means report t
-    (others, ended, (text, (h, h_means, reports), out, cut), t_is) =
+same g log end status ends none limits graph_text chips_text means report t wrote =
     let given : ChipGame = played_game g log in
-    let is : h ≡ given = one_game others limits graph_text chips_text given.limit h given (h_means.means graph_text refl chips_text refl) means in
-    let alike = one_report given (report_text ends.outcome) text status ended.status
-    (ends.plays (unsealed g log end status ends none))
-    (subst (λ (k : ChipGame). Reports k text ended.status) is reports) in
-    (alike.0 ∙ sym out, alike.1 ∙ sym t_is)
+    one_report given (report_text ends.outcome) report status t (ends.plays (unsealed g log end status ends none))
+    (plain_reports limits graph_text chips_text given.limit report t given means wrote)
 
 ends_so : (graph_text chips_text : List ℕ) (options : SimulateOptions) (game : ChipGame)
     → MeansGame options.play.limits graph_text chips_text options.play.limit game → (log : Log) (drive : Drive)
@@ -84,6 +79,7 @@ ends_so graph_text chips_text options game means log Closed out lines end status
     })
 
 pub simulated_bytes : SimulatedBytes
-simulated_bytes graph_text chips_text schedule_text options out ended (text, (game, events, means, simulates), wrote, cut) =
-    ends_so graph_text chips_text options game (means.game.means graph_text refl chips_text refl) simulates.after simulates.drive out _ simulates.end ended.status
+simulated_bytes graph_text chips_text schedule_text options out ended simulated =
+    let (text, (game, gave, (events, read, simulates)), wrote, cut) = simulated.answer in
+    ends_so graph_text chips_text options game (gave.means graph_text refl chips_text refl) simulates.after simulates.drive out _ simulates.end ended.status
     (wrote ∙ simulates.lines) simulates.ends

@@ -1,10 +1,8 @@
 -- Serves ResumeCommand.antt.
 -- Plays that go on, from the report of one sitting to the report of the next.
 use Rattle.std.proofs.Common.{◌≡◌, ◌⊎◌, ℕ, ◌≤◌, true, List, [], ◌∷◌, Contains, length, slice_index}
-use Rattle.std.proofs.Common.{Option, Result, Ok, Err, refl, sym, ap, ◌∙◌, subst, arith, inl, inr}
+use Rattle.std.proofs.Common.{refl, sym, ap, ◌∙◌, subst, arith, inl, inr}
 use Rattle.std.specs.Prelude.{All}
-use Rattle.std.specs.Option.{ForSome}
-use Rattle.std.specs.Result.{IsErrAnd}
 use Rattle.std.proofs.lemmas.Bool.{and_parts}
 use Rattle.std.proofs.lemmas.List.{length-replicate}
 use Rattle.std.proofs.lemmas.List.Elements.{All-replicate}
@@ -24,11 +22,7 @@ use Rattle.chip_report.specs.declared.fault.ReportFault.{ReportFault}
 use Rattle.chip_report.specs.declared.fault.ReportFault.TheVariants as report_fault
 use Rattle.chip_file.specs.declared.fault.FileFault.TheVariants as file_fault
 use Rattle.chip_command.specs.Faults.{fault_of_report}
-use Rattle.chip_engine.specs.ResumeCommand.{GaveSitting, LeadsToTheEnd, ReportsOn, GivesSitting}
-use Rattle.chip_engine.specs.ResumeCommand.{RefusesReport, RefusesToGoOn, ResumeRefuses, ResumeWrites}
-use Rattle.chip_command.specs.CommandAnswers.{Gives, OrMemory}
-use Rattle.chip_command.specs.declared.answer.Answer.{Answer}
-use Rattle.chip_command.specs.declared.fault.Fault.{Fault}
+use Rattle.chip_engine.specs.ResumeCommand.{LeadsToTheEnd, RefusesReport}
 
 -- a sitting that some report tells is in range
 pub resumed_of_report : (bytes : List ℕ) (r : Resumed) → IsAnyReportOf bytes r → IsResumed r
@@ -70,27 +64,10 @@ leads_on G good x r leads none =
       };
     }
 
--- a reader that is refused gives no sitting
-pub refused_sitting : (limits : SizeLimits) (report : Option (List ℕ)) (result : Result Resumed Fault) (P : Fault → Type 0)
-    → IsErrAnd result P → ((fault : Fault) → P fault → ForSome report (λ text. RefusesReport limits text fault))
-    → GivesSitting limits report result
-refused_sitting limits report (Ok r) P is why = absurd is
-refused_sitting limits report (Err fault) P is why = why fault is
-
 -- bytes that are no report, or want of memory
 pub refused_report : (limits : SizeLimits) (text : List ℕ) (f : ReportFault) → length text ≤ limits.bytes
     → (f ≡ report_fault.NoMemory) ⊎ ((f ≡ report_fault.NotReport) × IsNoReportAtAllWithin limits text)
-    → (fault : Fault) → fault ≡ fault_of_report f → RefusesReport limits text fault
-refused_report limits text f short (inl none) fault is =
-    inl (file_fault.NoMemory, is ∙ ap fault_of_report none, inl (inr refl))
-refused_report limits text f short (inr nothing) fault is =
-    inr ((short, nothing.1), is ∙ ap fault_of_report nothing.0)
-
--- a sitting that goes on from the one that was given, or why it does not
-pub gives_sitting : (limits : SizeLimits) (graph report : Option (List ℕ)) (limit : ℕ) (G : Multigraph) (earlier : Resumed)
-    → GaveSitting limits graph report G earlier → (result : Result Answer Fault)
-    → Gives (ReportsOn G earlier limit) (OrMemory (RefusesToGoOn G earlier limit)) result
-    → Gives (ResumeWrites limits graph report limit) (ResumeRefuses limits graph report limit) result
-gives_sitting limits graph report limit G earlier gave (Ok answer) on = (G, earlier, gave, on)
-gives_sitting limits graph report limit G earlier gave (Err fault) (inl why) = inl (inr (inr (G, earlier, gave, why)))
-gives_sitting limits graph report limit G earlier gave (Err fault) (inr none) = inr none
+    → RefusesReport limits text (fault_of_report f)
+refused_report limits text f short (inl none) =
+    inl (file_fault.NoMemory, ap fault_of_report none, inl (inr refl))
+refused_report limits text f short (inr nothing) = inr ((short, nothing.1), ap fault_of_report nothing.0)

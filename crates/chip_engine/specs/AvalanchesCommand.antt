@@ -3,6 +3,7 @@ use Rattle.std.specs.Prelude.{◌≡◌, ◌⊎◌, ℕ, ◌+◌, ◌<◌, ◌�
 use Rattle.std.specs.Prelude.{Result, Ok, Err}
 use Rattle.std.specs.Io.KnownBytes.{Appends, Keeps}
 use Rattle.std.specs.Option.{ForSome}
+use Rattle.std.specs.Result.{IsErrAnd}
 use Rattle.chip_graph.specs.Limits.{SizeLimits, max_total}
 use Rattle.chip_graph.specs.ChipGame.{ChipGame}
 use Rattle.chip_graph.specs.More.{HasMore, AreOfVertices, all_brought}
@@ -19,8 +20,8 @@ use Rattle.chip_drops.specs.declared.rows.RowsFault.TheVariants as rows_fault
 use Rattle.chip_report.specs.ReportText.{is_closed, report_text}
 use Rattle.chip_report.specs.Written.{WritesAll}
 use Rattle.chip_report.specs.declared.write.WriteFault.{WriteFault}
-use Rattle.chip_command.specs.CommandAnswers.{OrMemory}
-use Rattle.chip_command.specs.Inputs.{Reads, RefusesText, GaveGame, GaveNoGame}
+use Rattle.chip_command.specs.CommandAnswers.{Spec, bind}
+use Rattle.chip_command.specs.Inputs.{Reads, RefusesText, GaveGame, reading_game}
 use Rattle.chip_command.specs.Reports.{plain_status}
 use Rattle.chip_command.specs.declared.ended.Ended.{Ended}
 use Rattle.chip_command.specs.declared.fault.Fault.{Fault}
@@ -39,17 +40,9 @@ NamesNone limits drops g fault =
     ⊎ ((ds : List (ℕ × ℕ)) × ForSome drops (λ text. Reads limits text (drops_of_text g.graph.vertices text ≡ Some ds))
     × (max_total < sum g.start + all_brought ds) × (fault ≡ Game Total))
 
--- three readers gave this game and these drops: where they tell their texts, these mean them
-pub record GaveDrops (limits : SizeLimits) (graph chips drops : Option (List ℕ)) (limit : ℕ) (g : ChipGame)
-    (ds : List (ℕ × ℕ)) : Type 0 where
-  pub game : GaveGame limits graph chips limit g
-  pub drops_are : NamesDrops limits drops g ds
-
--- why nothing is dropped: the inputs make no game, or the drops have a fault, or there are too many chips with them
-abbrev pub RefusesDrops : SizeLimits → (graph chips drops : Option (List ℕ)) → ℕ → Fault → Type 0
-RefusesDrops limits graph chips drops limit fault =
-    GaveNoGame limits graph chips limit fault
-    ⊎ ((g : ChipGame) × GaveGame limits graph chips limit g × NamesNone limits drops g fault)
+-- what reading the drops for a game may give
+abbrev pub reading_drops : SizeLimits → Option (List ℕ) → ChipGame → Spec (List (ℕ × ℕ))
+reading_drops limits drops g = record { gives = NamesDrops limits drops g; refuses = NamesNone limits drops g }
 
 -- a fault of the rows, among those of commands
 abbrev pub fault_of_rows : RowsFault → Fault
@@ -78,51 +71,42 @@ pub record Outputs : Type 0 where
   pub rows : Option (List ℕ)
   pub report : Option (Option (List ℕ))
 
--- a report went out where one was asked for
-abbrev pub AppendsReport : Option (Option (List ℕ)) → Option (Option (List ℕ)) → List ℕ → Type 0
-AppendsReport None None text = Unit {0}
-AppendsReport None (Some new) text = ⊥
-AppendsReport (Some old) None text = ⊥
-AppendsReport (Some old) (Some new) text = Appends old new text
-
--- the report of an outcome failed: there was no memory for it, or its output failed
-abbrev pub FailsReport : Option (Option (List ℕ)) → Option (Option (List ℕ)) → List ℕ → Fault → Type 0
-FailsReport (Some old) (Some new) text fault =
-    ((fault ≡ NoMemory) × Keeps old new) ⊎ ((w : WriteFault) × (fault ≡ Write w) × WritesAll old new text (Err w))
-FailsReport (Some old) None text fault = ⊥
-FailsReport None new text fault = ⊥
-
--- the rows failed: there was no memory for the play, or a fault came after a front of the rows of some drops
-abbrev pub FailsDrops : ChipGame → List (ℕ × ℕ) → Option (List ℕ) → Option (List ℕ) → Fault → Type 0
-FailsDrops g ds old new fault =
+-- what playing the game and then the drops answers: the outcome of the game with the chips that were dropped; or there was
+-- no memory for the play, or a fault came after a front of the rows of some drops
+abbrev pub PlaysDrops : ChipGame → List (ℕ × ℕ) → Option (List ℕ) → Option (List ℕ) → Result Outcome Fault → Type 0
+PlaysDrops g ds old new (Ok outcome) = (text : List ℕ) × (g' : ChipGame) × ComesTo g ds text g' outcome
+    × IsPlayed g' outcome × Appends old new text
+PlaysDrops g ds old new (Err fault) =
     ((fault ≡ NoMemory) × Keeps old new)
     ⊎ ((n : ℕ) × (text : List ℕ) × TellsDrops g ds n text
     × (f : RowsFault) × (fault ≡ fault_of_rows f) × FailsOut old new text f)
 
--- what playing the game and then the drops answers: the outcome of the game with the chips that were dropped
-abbrev pub PlaysDrops : ChipGame → List (ℕ × ℕ) → Option (List ℕ) → Option (List ℕ) → Result Outcome Fault → Type 0
-PlaysDrops g ds old new (Ok outcome) = (text : List ℕ) × (g' : ChipGame) × ComesTo g ds text g' outcome
-    × IsPlayed g' outcome × Appends old new text
-PlaysDrops g ds old new (Err fault) = FailsDrops g ds old new fault
-
--- what writing the report answers
+-- what writing the report answers, where one is asked for: it went out; or there was no memory, or its output failed
 abbrev pub WritesReport : Option (Option (List ℕ)) → Option (Option (List ℕ)) → List ℕ → Result (Unit {0}) Fault → Type 0
-WritesReport old new text (Ok done) = AppendsReport old new text
-WritesReport old new text (Err fault) = FailsReport old new text fault
+WritesReport None None text (Ok done) = Unit {0}
+WritesReport (Some old) (Some new) text (Ok done) = Appends old new text
+WritesReport (Some old) (Some new) text (Err fault) =
+    ((fault ≡ NoMemory) × Keeps old new) ⊎ ((w : WriteFault) × (fault ≡ Write w) × WritesAll old new text (Err w))
+WritesReport _ _ text result = ⊥
 
--- what `avalanches` answers by these limits: the rows went out and then the report; or nothing did, and this is why; or the
--- rows failed; or they went out, and the report failed
+-- what dropping chips on a game answers: the rows went out and then the report; or the rows failed; or they went out, and
+-- the report failed
+abbrev pub DropsAnswer : ChipGame → List (ℕ × ℕ) → Outputs → Outputs → Result Ended Fault → Type 0
+DropsAnswer g ds old new (Ok ended) =
+    (outcome : Outcome) × PlaysDrops g ds old.rows new.rows (Ok outcome)
+    × WritesReport old.report new.report (report_text outcome) (Ok tt)
+    × (ended.status ≡ plain_status outcome) × (ended.cut ≡ false)
+DropsAnswer g ds old new (Err fault) =
+    (PlaysDrops g ds old.rows new.rows (Err fault) × (new.report ≡ old.report))
+    ⊎ ((outcome : Outcome) × PlaysDrops g ds old.rows new.rows (Ok outcome)
+    × WritesReport old.report new.report (report_text outcome) (Err fault))
+
+-- what `avalanches` answers by these limits: the inputs make no game, or the drops have a fault, or there are too many
+-- chips with them, and nothing went out; or else what dropping them answers
 abbrev pub AvalanchesAnswers : SizeLimits → (graph chips drops : Option (List ℕ)) → ℕ → Outputs → Outputs
     → Result Ended Fault → Type 0
-AvalanchesAnswers limits graph chips drops limit old new (Ok ended) =
-    (g : ChipGame) × (ds : List (ℕ × ℕ)) × GaveDrops limits graph chips drops limit g ds
-    × (text : List ℕ) × (g' : ChipGame) × (outcome : Outcome) × ComesTo g ds text g' outcome × IsPlayed g' outcome
-    × Appends old.rows new.rows text × AppendsReport old.report new.report (report_text outcome)
-    × (ended.status ≡ plain_status outcome) × (ended.cut ≡ false)
-AvalanchesAnswers limits graph chips drops limit old new (Err fault) =
-    (OrMemory (RefusesDrops limits graph chips drops limit) fault × Keeps old.rows new.rows × (new.report ≡ old.report))
-    ⊎ ((g : ChipGame) × (ds : List (ℕ × ℕ)) × GaveDrops limits graph chips drops limit g ds
-    × FailsDrops g ds old.rows new.rows fault × (new.report ≡ old.report))
-    ⊎ ((g : ChipGame) × (ds : List (ℕ × ℕ)) × GaveDrops limits graph chips drops limit g ds
-    × (text : List ℕ) × (g' : ChipGame) × (outcome : Outcome) × ComesTo g ds text g' outcome × IsPlayed g' outcome
-    × Appends old.rows new.rows text × FailsReport old.report new.report (report_text outcome) fault)
+AvalanchesAnswers limits graph chips drops limit old new result =
+    IsErrAnd result (λ fault. (bind (reading_game limits graph chips limit) (reading_drops limits drops)).refuses fault
+    × Keeps old.rows new.rows × (new.report ≡ old.report))
+    ⊎ ((g : ChipGame) × GaveGame limits graph chips limit g × (ds : List (ℕ × ℕ)) × NamesDrops limits drops g ds
+    × DropsAnswer g ds old new result)

@@ -1,12 +1,11 @@
 -- The board: what stands in the books of the detector, as the lines that `simulate` writes behind a reply.
-use Rattle.std.specs.Prelude.{ℕ, zero, suc, List, [], ◌++◌, ◌==◌, if◌then◌else◌, codes, Option, Some, None}
+use Rattle.std.specs.Prelude.{ℕ, zero, suc, List, [], ◌++◌, ◌==◌, if◌then◌else◌, codes, flat_map, Option, Some, None}
 use Rattle.std.specs.Fmt.{decimal}
 use Rattle.chip_graph.specs.Multigraph.{edges_in}
 use Rattle.chip_part.specs.Setting.{Setting}
 use Rattle.chip_part.specs.Part.{owed, deficit}
 use Rattle.chip_part.specs.Edges.{root, root_edge}
 use Rattle.chip_core.specs.Core.{Log, part_in, into_in}
-use Rattle.chip_engine.specs.Lines.{lines_text}
 
 -- an edge with how many acknowledgements its head owes on it, where it owes some
 abbrev pub owed_text : Setting → Log → ℕ → List ℕ
@@ -25,7 +24,7 @@ abbrev pub vertex_line : Setting → Log → ℕ → Option ℕ → List ℕ
 vertex_line g log v None = []
 vertex_line g log v (Some parent) =
     books_text v parent (deficit g v (part_in g log v))
-    ++ lines_text (owed_text g log) (edges_in g.game.graph v) ++ owed_text g log (root_edge g v) ++ codes "\n"
+    ++ flat_map (owed_text g log) (edges_in g.game.graph v) ++ owed_text g log (root_edge g v) ++ codes "\n"
 
 -- the lines of the vertices below n
 abbrev pub vertex_lines : Setting → Log → ℕ → List ℕ

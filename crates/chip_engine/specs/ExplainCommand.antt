@@ -1,10 +1,10 @@
 -- From a number to what a table of faults or of rules says of it.
-use Rattle.std.specs.Prelude.{◌≡◌, ◌==◌, ℕ, List, ◌++◌, codes, find, Option, Some, None, option_map, map, Result}
+use Rattle.std.specs.Prelude.{◌≡◌, ◌==◌, ℕ, List, ◌++◌, codes, find, Option, Some, None, option_map, map, flat_map}
+use Rattle.std.specs.Prelude.{MatchOption, Result}
 use Rattle.std.specs.Borrow.{Bor}
 use Rattle.std.specs.Fmt.{decimal}
 use Rattle.chip_command.specs.declared.table.Explanation.{Explanation}
-use Rattle.chip_command.specs.CommandAnswers.{CommandAnswers}
-use Rattle.chip_engine.specs.Lines.{lines_text}
+use Rattle.chip_command.specs.CommandAnswers.{Spec, CommandAnswers}
 use Rattle.chip_command.specs.declared.ended.Ended.{Ended}
 use Rattle.chip_command.specs.declared.fault.Fault.{Fault}
 use Rattle.chip_command.specs.declared.fault.Fault.TheVariants.{NoMemory, Usage}
@@ -22,7 +22,7 @@ row_text what row = line_text what row ++ codes "\n" ++ row.place.reading.now ++
 -- a line for each row of a table, and where more is said
 abbrev pub table_text : List ℕ → List Explanation → List ℕ
 table_text what table =
-    lines_text (line_text what) table
+    flat_map (line_text what) table
     ++ codes "\n`chipfire explain N` says more of fault N, and `chipfire explain rule N` of rule N.\n"
 
 -- the rows that a table refers to
@@ -38,15 +38,13 @@ abbrev pub explanation : List ℕ → List Explanation → Option ℕ → Option
 explanation what table (Some number) = option_map (row_text what) (row_with table number)
 explanation what table None = Some (table_text what table)
 
--- why nothing is told: there is nothing to say, or else want of memory
-abbrev pub TellsNothing : Option (List ℕ) → Fault → Type 0
-TellsNothing None fault = fault ≡ Usage
-TellsNothing (Some text) fault = fault ≡ NoMemory
-
--- what `explain` writes: all that there is to say, with status 0
-abbrev pub ExplainWrites : Option (List ℕ) → List ℕ → ℕ → Type 0
-ExplainWrites said text status = (said ≡ Some text) × (status ≡ 0)
+-- telling what there is to say gives that, with status 0; or there is nothing, or no memory
+abbrev pub telling : Option (List ℕ) → Spec (List ℕ × ℕ)
+telling said = record {
+  gives = λ (text, status). (said ≡ Some text) × (status ≡ 0);
+  refuses = λ fault. MatchOption said (fault ≡ Usage) (λ text. fault ≡ NoMemory);
+}
 
 -- what `explain` answers
 abbrev pub ExplainAnswers : Option (List ℕ) → Option (List ℕ) → Option (List ℕ) → Result Ended Fault → Type 0
-ExplainAnswers said old new result = CommandAnswers (ExplainWrites said) (TellsNothing said) old new result
+ExplainAnswers said old new result = CommandAnswers (telling said) old new result

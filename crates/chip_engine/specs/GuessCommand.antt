@@ -1,18 +1,17 @@
 -- From the bytes of a graph file, a chips file and a guess of the counts to those of the report of the game.
 use Rattle.std.specs.Prelude.{◌≡◌, ◌≢◌, ◌⊎◌, ℕ, ◌<◌, ◌==◌, Bool, true, false, List, length, slice_index, Option, Some}
-use Rattle.std.specs.Prelude.{Result, Ok, Err}
+use Rattle.std.specs.Prelude.{Result}
 use Rattle.std.specs.Global.{Vec}
 use Rattle.std.specs.Option.{ForSome}
 use Rattle.chip_graph.specs.Limits.{SizeLimits}
-use Rattle.chip_graph.specs.ChipGame.{ChipGame}
 use Rattle.chip_file.specs.GuessText.{guess_of_text, guess_text_fault}
 use Rattle.chip_sequence.specs.Sittings.{fired_in_all}
 use Rattle.chip_sequence.specs.declared.resumed.Resumed.{Resumed}
 use Rattle.chip_fire.specs.declared.sitting.ResumeFault.TheVariants.{Mismatch}
 use Rattle.chip_report.specs.ReportTwo.{IsAnyReportWithin, IsNoReportAtAllWithin}
-use Rattle.chip_command.specs.CommandAnswers.{CommandAnswers, OrMemory}
-use Rattle.chip_command.specs.Inputs.{Reads, RefusesText, GaveGame, GaveNoGame}
-use Rattle.chip_command.specs.Reports.{Reports}
+use Rattle.chip_command.specs.CommandAnswers.{Spec, bind, CommandAnswers, OrMemory}
+use Rattle.chip_command.specs.Inputs.{Reads, RefusesText, reading_game}
+use Rattle.chip_command.specs.PlainCommand.{playing}
 use Rattle.chip_command.specs.declared.ended.Ended.{Ended}
 use Rattle.chip_command.specs.declared.fault.Fault.{Fault}
 use Rattle.chip_command.specs.declared.fault.Fault.TheVariants.{NotReport, Resume}
@@ -52,30 +51,16 @@ RefusesGuess limits vertices text fault =
     RefusesText limits text (λ f. (has_brace text ≡ false) × (guess_text_fault vertices text ≡ Some f)) fault
     ⊎ Reads limits text ((has_brace text ≡ true) × RefusesTold limits vertices text fault)
 
--- what reading a guess for so many vertices answers
-abbrev pub GivesGuess : SizeLimits → ℕ → Option (List ℕ) → Result (Vec ℕ) Fault → Type 0
-GivesGuess limits vertices guess (Ok counts) =
-    ForSome guess (λ text. Reads limits text (MeansGuess limits vertices text counts.items))
-GivesGuess limits vertices guess (Err fault) = ForSome guess (λ text. RefusesGuess limits vertices text fault)
+-- what reading a guess for so many vertices may give
+abbrev pub reading_guess : SizeLimits → ℕ → Option (List ℕ) → Spec (Vec ℕ)
+reading_guess limits vertices guess = record {
+  gives = λ counts. ForSome guess (λ text. Reads limits text (MeansGuess limits vertices text counts.items));
+  refuses = λ fault. ForSome guess (λ text. RefusesGuess limits vertices text fault);
+}
 
--- a reader gave a guess for so many vertices
-abbrev pub GaveGuess : SizeLimits → ℕ → Option (List ℕ) → Type 0
-GaveGuess limits vertices guess =
-    (counts : List ℕ) × ForSome guess (λ text. Reads limits text (MeansGuess limits vertices text counts))
-
--- what `plain` writes with a guess: what it writes without one, where the guess is one
-abbrev pub GuessWrites : SizeLimits → (graph chips guess : Option (List ℕ)) → ℕ → List ℕ → ℕ → Type 0
-GuessWrites limits graph chips guess limit text status = (g : ChipGame) × GaveGame limits graph chips limit g
-    × GaveGuess limits g.graph.vertices guess × Reports g text status
-
--- why it writes nothing: the inputs make no game, or the guess is none, or there is no memory
-abbrev pub GuessRefuses : SizeLimits → (graph chips guess : Option (List ℕ)) → ℕ → Fault → Type 0
-GuessRefuses limits graph chips guess limit = OrMemory (λ fault. GaveNoGame limits graph chips limit fault
-    ⊎ ((g : ChipGame) × GaveGame limits graph chips limit g
-    × ForSome guess (λ text. RefusesGuess limits g.graph.vertices text fault)))
-
--- what `plain` answers with a guess by these limits
+-- what `plain` answers with a guess by these limits: what it answers without one, where the guess is one
 abbrev pub GuessAnswers : SizeLimits → (graph chips guess : Option (List ℕ)) → ℕ → Option (List ℕ) → Option (List ℕ)
     → Result Ended Fault → Type 0
-GuessAnswers limits graph chips guess limit old new result =
-    CommandAnswers (GuessWrites limits graph chips guess limit) (GuessRefuses limits graph chips guess limit) old new result
+GuessAnswers limits graph chips guess limit old new result = CommandAnswers
+    (bind (reading_game limits graph chips limit) (λ g. bind (reading_guess limits g.graph.vertices guess) (λ _. playing g)))
+    old new result

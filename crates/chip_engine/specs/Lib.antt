@@ -1,4 +1,3 @@
-pub mod Lines
 pub mod Board
 pub mod CheckCommand
 pub mod ExplainCommand

@@ -1,8 +1,6 @@
 -- From the bytes of a graph file, a chips file and a trace file to the lines of the firings, and of what is left.
-use Rattle.std.specs.Prelude.{◌≡◌, ◌⊎◌, ℕ, List, [], ◌∷◌, ◌++◌, codes, Bool, if◌then◌else◌, Option, Some, Result}
+use Rattle.std.specs.Prelude.{◌≡◌, ℕ, List, [], ◌∷◌, ◌++◌, codes, flat_map, Bool, if◌then◌else◌, Option, Some, Result}
 use Rattle.std.specs.Fmt.{decimal}
-use Rattle.std.specs.Option.{ForSome}
-use Rattle.chip_graph.specs.Limits.{SizeLimits}
 use Rattle.chip_graph.specs.ChipGame.{ChipGame}
 use Rattle.chip_link.specs.declared.trace.TraceRow.{TraceRow}
 use Rattle.chip_file.specs.TraceText.{traces_of_text, trace_text_fault}
@@ -12,10 +10,9 @@ use Rattle.chip_trace.specs.Replay.{AreFirings}
 use Rattle.chip_trace.specs.Progress.{IsStuck}
 use Rattle.chip_trace.specs.declared.remaining.Left.{Left}
 use Rattle.chip_trace.specs.declared.remaining.Left.TheVariants.{Messages, CanFire, AtLimit}
-use Rattle.chip_engine.specs.Lines.{lines_text}
 use Rattle.chip_engine.specs.declared.replay.ReplayOptions.{ReplayOptions}
-use Rattle.chip_command.specs.CommandAnswers.{CommandAnswers, OrMemory}
-use Rattle.chip_command.specs.Inputs.{Reads, GaveGame, GaveNoGame, RefusesText}
+use Rattle.chip_command.specs.CommandAnswers.{Spec, bind, CommandAnswers, OrMemory}
+use Rattle.chip_command.specs.Inputs.{reading, reading_game}
 use Rattle.chip_command.specs.Statuses.{number_of_status}
 use Rattle.chip_command.specs.declared.ended.Ended.{Ended}
 use Rattle.chip_command.specs.declared.fault.Fault.{Fault}
@@ -48,44 +45,25 @@ pub record Replays (complete : Bool) (g : ChipGame) (traces : List (List TraceRo
     (status : ℕ) : Type 0 where
   pub fired : List (ℕ × ℕ)
   pub are_firings : AreFirings g traces fired
-  pub lines : text ≡ lines_text firing_text fired ++ lines_text left_text (told_left complete g traces)
+  pub lines : text ≡ flat_map firing_text fired ++ flat_map left_text (told_left complete g traces)
   pub status_is : status ≡ number_of_status (status_of_left (told_left complete g traces))
 
--- why the traces of a game are not replayed: their text has a fault, or they have no interleaving
-abbrev pub RefusesReplay : SizeLimits → ChipGame → List ℕ → Fault → Type 0
-RefusesReplay limits g trace_text fault =
-    RefusesText limits trace_text (λ f. trace_text_fault g.graph trace_text ≡ Some f) fault
-    ⊎ ((traces : List (List TraceRow)) × Reads limits trace_text (traces_of_text g.graph trace_text ≡ Some traces)
-    × (vertex : ℕ) × (row : ℕ) × (fault ≡ Stuck vertex row) × IsStuck g traces vertex row)
+-- replaying traces tells what they come to; or they have no interleaving, or there is no memory
+abbrev pub replaying : Bool → ChipGame → List (List TraceRow) → Spec (List ℕ × ℕ)
+replaying complete g traces = record {
+  gives = λ (text, status). Replays complete g traces text status;
+  refuses = OrMemory (λ fault. (vertex : ℕ) × (row : ℕ) × (fault ≡ Stuck vertex row) × IsStuck g traces vertex row);
+}
 
--- a reader gave these traces of a game: where it tells its text, they are what this means
-abbrev pub GaveTraces : SizeLimits → ChipGame → Option (List ℕ) → List (List TraceRow) → Type 0
-GaveTraces limits g trace traces = ForSome trace (λ text. Reads limits text (traces_of_text g.graph text ≡ Some traces))
+-- the same of the traces of a reader
+abbrev pub replaying_from : ReplayOptions → Option (List ℕ) → ChipGame → Spec (List ℕ × ℕ)
+replaying_from options trace g =
+    bind (reading options.play.limits (λ text traces. traces_of_text g.graph text ≡ Some traces)
+    (λ text f. trace_text_fault g.graph text ≡ Some f) trace) (replaying options.complete g)
 
--- why it gave none, or none that are replayed
-abbrev pub GaveNoReplay : SizeLimits → ChipGame → Option (List ℕ) → Fault → Type 0
-GaveNoReplay limits g trace fault = ForSome trace (λ text. RefusesReplay limits g text fault)
-
--- a text and a status tell what the traces that a reader gave of a game come to
-abbrev pub TellsReplay : ReplayOptions → ChipGame → Option (List ℕ) → List ℕ → ℕ → Type 0
-TellsReplay options g trace text status = (traces : List (List TraceRow))
-    × GaveTraces options.play.limits g trace traces × Replays options.complete g traces text status
-
--- what `replay` writes: the firings of an interleaving, and what is left if it is asked for; the status is 2 if that is
+-- what `replay` answers: the firings of an interleaving, and what is left if it is asked for; the status is 2 if that is
 -- something, and else 0
-abbrev pub ReplayWrites : (graph chips trace : Option (List ℕ)) → ReplayOptions → List ℕ → ℕ → Type 0
-ReplayWrites graph chips trace options text status = let o = options.play in
-    (g : ChipGame) × GaveGame o.limits graph chips o.limit g × TellsReplay options g trace text status
-
--- why nothing is replayed: the inputs make no game, or the trace file has a fault, or its traces have no interleaving, or
--- there is no memory
-abbrev pub ReplayRefuses : (graph chips trace : Option (List ℕ)) → ReplayOptions → Fault → Type 0
-ReplayRefuses graph chips trace options = let o = options.play in OrMemory (λ fault.
-    GaveNoGame o.limits graph chips o.limit fault
-    ⊎ ((g : ChipGame) × GaveGame o.limits graph chips o.limit g × GaveNoReplay o.limits g trace fault))
-
--- what `replay` answers
 abbrev pub ReplayAnswers : (graph chips trace : Option (List ℕ)) → ReplayOptions
     → Option (List ℕ) → Option (List ℕ) → Result Ended Fault → Type 0
-ReplayAnswers graph chips trace options old new result =
-    CommandAnswers (ReplayWrites graph chips trace options) (ReplayRefuses graph chips trace options) old new result
+ReplayAnswers graph chips trace options old new result = CommandAnswers
+    (bind (reading_game options.play.limits graph chips options.play.limit) (replaying_from options trace)) old new result

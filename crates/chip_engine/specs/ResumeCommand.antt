@@ -1,9 +1,8 @@
 -- From the bytes of a graph file and a report to those of the report of the sitting that goes on.
-use Rattle.std.specs.Prelude.{◌≡◌, ◌⊎◌, ℕ, ◌+◌, List, true, slice_index, Option, Result, Ok, Err}
+use Rattle.std.specs.Prelude.{◌≡◌, ◌⊎◌, ℕ, ◌+◌, List, true, slice_index, Option, Result}
 use Rattle.std.specs.Option.{ForSome}
 use Rattle.chip_graph.specs.Limits.{SizeLimits}
 use Rattle.chip_graph.specs.Multigraph.{Multigraph}
-use Rattle.chip_file.specs.GraphText.{MeansGraph, IsGraphTextFault}
 use Rattle.chip_sequence.specs.Sequence.{position_after, IsFiringSequence, counts, HasEnded}
 use Rattle.chip_sequence.specs.Sittings.{IsPlayFrom, IsResumed, fired_in_all}
 use Rattle.chip_fire.specs.Resume.{GoesOn, IsResumeFault}
@@ -11,20 +10,13 @@ use Rattle.chip_sequence.specs.declared.resumed.Resumed.{Resumed}
 use Rattle.chip_fire.specs.declared.sitting.ResumeFault.{ResumeFault}
 use Rattle.chip_report.specs.ReportText.{is_closed}
 use Rattle.chip_report.specs.ReportTwo.{report_two_text, IsAnyReportWithin, IsNoReportAtAllWithin}
-use Rattle.chip_command.specs.CommandAnswers.{CommandAnswers, OrMemory}
+use Rattle.chip_command.specs.CommandAnswers.{Spec, bind, CommandAnswers, OrMemory}
 use Rattle.chip_command.specs.Faults.{fault_of_resume}
-use Rattle.chip_command.specs.Inputs.{Reads, RefusesText}
+use Rattle.chip_command.specs.Inputs.{Reads, RefusesText, reading_graph}
 use Rattle.chip_command.specs.Reports.{plain_status}
 use Rattle.chip_command.specs.declared.ended.Ended.{Ended}
 use Rattle.chip_command.specs.declared.fault.Fault.{Fault}
 use Rattle.chip_command.specs.declared.fault.Fault.TheVariants.{NotReport}
-
--- two readers gave this graph, and this sitting to go on from: the first of a play, or one that went on itself. Where they
--- tell their texts, these mean it
-pub record GaveSitting (limits : SizeLimits) (graph report : Option (List ℕ)) (G : Multigraph) (earlier : Resumed) : Type 0 where
-  pub means : ForSome graph (λ text. Reads limits text (MeansGraph limits text G))
-  pub tells : ForSome report (λ text. Reads limits text (IsAnyReportWithin limits text earlier))
-  pub in_range : IsResumed earlier
 
 -- what was fired in all, and the chips that lie there, are those of every sequence from the start x that ends
 pub record EndsThePlay (G : Multigraph) (x : ℕ → ℕ) (r : Resumed) : Type 0 where
@@ -57,32 +49,23 @@ abbrev pub RefusesReport : SizeLimits → List ℕ → Fault → Type 0
 RefusesReport limits text fault =
     RefusesText limits text (λ f. ⊥) fault ⊎ (Reads limits text (IsNoReportAtAllWithin limits text) × (fault ≡ NotReport))
 
--- what reading a report answers
-abbrev pub GivesSitting : SizeLimits → Option (List ℕ) → Result Resumed Fault → Type 0
-GivesSitting limits report (Ok earlier) =
-    ForSome report (λ text. Reads limits text (IsAnyReportWithin limits text earlier)) × IsResumed earlier
-GivesSitting limits report (Err fault) = ForSome report (λ text. RefusesReport limits text fault)
+-- what reading a report may give: the first sitting of a play, or one that went on itself
+abbrev pub reading_sitting : SizeLimits → Option (List ℕ) → Spec Resumed
+reading_sitting limits report = record {
+  gives = λ told. ForSome report (λ text. Reads limits text (IsAnyReportWithin limits text told)) × IsResumed told;
+  refuses = λ fault. ForSome report (λ text. RefusesReport limits text fault);
+}
 
--- this is the first reason why a sitting does not go on
-abbrev pub RefusesToGoOn : Multigraph → Resumed → ℕ → Fault → Type 0
-RefusesToGoOn G earlier limit fault =
-    (f : ResumeFault) × (fault ≡ fault_of_resume f) × IsResumeFault G earlier limit f
-
--- why nothing is resumed: the first fault of the graph, of the report, or of going on; or there is no memory
-abbrev pub ResumeRefuses : SizeLimits → Option (List ℕ) → Option (List ℕ) → ℕ → Fault → Type 0
-ResumeRefuses limits graph report limit = OrMemory (λ fault.
-    ForSome graph (λ text. RefusesText limits text (IsGraphTextFault limits text) fault)
-    ⊎ ((G : Multigraph) × ForSome graph (λ text. Reads limits text (MeansGraph limits text G))
-    × ForSome report (λ text. RefusesReport limits text fault))
-    ⊎ ((G : Multigraph) × (earlier : Resumed) × GaveSitting limits graph report G earlier × RefusesToGoOn G earlier limit fault))
-
--- what `resume` writes: the report of the sitting that goes on from the one of its inputs, and its status
-abbrev pub ResumeWrites : SizeLimits → Option (List ℕ) → Option (List ℕ) → ℕ → List ℕ → ℕ → Type 0
-ResumeWrites limits graph report limit text status = (G : Multigraph) × (earlier : Resumed)
-    × GaveSitting limits graph report G earlier × ReportsOn G earlier limit text status
+-- going on from a sitting gives the report of the next one, and its status; or this is the first reason why it does not go
+-- on, or there is no memory
+abbrev pub going_on : Multigraph → ℕ → Resumed → Spec (List ℕ × ℕ)
+going_on G limit earlier = record {
+  gives = λ (text, status). ReportsOn G earlier limit text status;
+  refuses = OrMemory (λ fault. (f : ResumeFault) × (fault ≡ fault_of_resume f) × IsResumeFault G earlier limit f);
+}
 
 -- what `resume` answers by these limits
 abbrev pub ResumeAnswers : SizeLimits → Option (List ℕ) → Option (List ℕ) → ℕ → Option (List ℕ) → Option (List ℕ)
     → Result Ended Fault → Type 0
-ResumeAnswers limits graph report limit old new result =
-    CommandAnswers (ResumeWrites limits graph report limit) (ResumeRefuses limits graph report limit) old new result
+ResumeAnswers limits graph report limit old new result = CommandAnswers
+    (bind (reading_graph limits graph) (λ G. bind (reading_sitting limits report) (going_on G limit))) old new result

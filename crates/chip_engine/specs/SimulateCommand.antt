@@ -1,8 +1,7 @@
 -- From the bytes of a graph file, a chips file and a schedule to the replies of the core, and to the report where the
 -- root closes.
-use Rattle.std.specs.Prelude.{◌≡◌, ◌⊎◌, ℕ, List, [], ◌∷◌, ◌++◌, codes, Bool, if◌then◌else◌, Option, Some, Result}
+use Rattle.std.specs.Prelude.{◌≡◌, ℕ, List, [], ◌∷◌, ◌++◌, codes, Bool, if◌then◌else◌, Option, Some, Result}
 use Rattle.std.specs.Fmt.{decimal}
-use Rattle.std.specs.Option.{ForSome}
 use Rattle.chip_graph.specs.ChipGame.{ChipGame}
 use Rattle.chip_link.specs.declared.event.Event.{Event}
 use Rattle.chip_link.specs.declared.message.Message.{Message}
@@ -22,14 +21,14 @@ use Rattle.chip_file.specs.ScheduleText.{schedule_of_text, schedule_text_fault}
 use Rattle.chip_sequence.specs.declared.outcome.Outcome.{Outcome}
 use Rattle.chip_sequence.specs.Outcomes.{IsOutcome}
 use Rattle.chip_report.specs.ReportText.{report_text}
-use Rattle.chip_command.specs.CommandAnswers.{CommandAnswers, OrMemory}
-use Rattle.chip_command.specs.Inputs.{Reads, GaveGame, GaveNoGame, RefusesText}
+use Rattle.chip_command.specs.CommandAnswers.{Spec, bind, CommandAnswers}
+use Rattle.chip_command.specs.Inputs.{reading, reading_game}
 use Rattle.chip_engine.specs.Board.{board_text}
-use Rattle.chip_engine.specs.declared.options.PlayOptions.{PlayOptions}
 use Rattle.chip_engine.specs.declared.simulate.SimulateOptions.{SimulateOptions}
 use Rattle.chip_command.specs.Reports.{plain_status, Reports}
 use Rattle.chip_command.specs.declared.ended.Ended.{Ended}
 use Rattle.chip_command.specs.declared.fault.Fault.{Fault}
+use Rattle.chip_command.specs.declared.fault.Fault.TheVariants.{NoMemory}
 
 -- a message's place and count
 abbrev pub message_text : Message → List ℕ
@@ -89,31 +88,18 @@ pub record Simulates (g : Setting) (rounds : ℕ) (books : Bool) (events : List 
   pub lines : text ≡ answers_text books g [] events ++ end
   pub ends : EndsBy g after drive end status
 
--- the same of a game by the options
-abbrev pub SimulatesBy : SimulateOptions → ChipGame → List Event → List ℕ → ℕ → Type 0
-SimulatesBy options g events text status =
-    Simulates (setting_with g options.ring options.fed) options.rounds options.books events text status
-
--- three readers gave this game by the options, and these events for it: where they tell their texts, these mean them
-pub record GaveEvents (graph chips schedule : Option (List ℕ)) (options : PlayOptions) (g : ChipGame)
-    (events : List Event) : Type 0 where
-  pub game : GaveGame options.limits graph chips options.limit g
-  pub each : ForSome schedule (λ text. Reads options.limits text (schedule_of_text g.graph text ≡ Some events))
-
--- why nothing is simulated: the inputs make no game, or the schedule has a fault, or there is no memory
-abbrev pub SimulateRefuses : (graph chips schedule : Option (List ℕ)) → SimulateOptions → Fault → Type 0
-SimulateRefuses graph chips schedule options = let o = options.play in OrMemory (λ fault.
-    GaveNoGame o.limits graph chips o.limit fault
-    ⊎ ((g : ChipGame) × GaveGame o.limits graph chips o.limit g
-    × ForSome schedule (λ text. RefusesText o.limits text (λ f. schedule_text_fault g.graph text ≡ Some f) fault)))
-
--- what `simulate` writes: the text of the simulation, and its status
-abbrev pub SimulateWrites : (graph chips schedule : Option (List ℕ)) → SimulateOptions → List ℕ → ℕ → Type 0
-SimulateWrites graph chips schedule options text status = (g : ChipGame) × (events : List Event)
-    × GaveEvents graph chips schedule options.play g events × SimulatesBy options g events text status
+-- simulating a game by the options gives the text of the simulation, and its status; or there is no memory
+abbrev pub simulating : SimulateOptions → ChipGame → List Event → Spec (List ℕ × ℕ)
+simulating options g events = record {
+  gives = λ (text, status).
+      Simulates (setting_with g options.ring options.fed) options.rounds options.books events text status;
+  refuses = λ fault. fault ≡ NoMemory;
+}
 
 -- what `simulate` answers
 abbrev pub SimulateAnswers : (graph chips schedule : Option (List ℕ)) → SimulateOptions → Option (List ℕ) → Option (List ℕ)
     → Result Ended Fault → Type 0
-SimulateAnswers graph chips schedule options old new result = CommandAnswers
-    (SimulateWrites graph chips schedule options) (SimulateRefuses graph chips schedule options) old new result
+SimulateAnswers graph chips schedule options old new result = let o = options.play in CommandAnswers
+    (bind (reading_game o.limits graph chips o.limit)
+    (λ g. bind (reading o.limits (λ text events. schedule_of_text g.graph text ≡ Some events)
+    (λ text f. schedule_text_fault g.graph text ≡ Some f) schedule) (simulating options g))) old new result

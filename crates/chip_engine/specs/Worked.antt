@@ -1,5 +1,5 @@
 -- Worked rows, as the definitions compute them.
-use Rattle.std.specs.Prelude.{◌≡◌, ℕ, List, [], ◌∷◌, ◌++◌, codes, slice_index, Some, None, true, false}
+use Rattle.std.specs.Prelude.{◌≡◌, ℕ, List, [], ◌∷◌, ◌++◌, codes, flat_map, slice_index, Some, None, true, false}
 use Rattle.chip_sequence.specs.Firing.{legal_vertices}
 use Rattle.chip_sequence.specs.Sequence.{position_after, counts}
 use Rattle.chip_graph.specs.Worked.{triangle}
@@ -16,7 +16,6 @@ use Rattle.chip_command.specs.Faults.{fault_of_resume}
 use Rattle.chip_command.specs.FaultNumbers.{number_of, location_of}
 use Rattle.chip_command.specs.Reports.{plain_status}
 use Rattle.chip_command.specs.Statuses.{number_of_status}
-use Rattle.chip_engine.specs.Lines.{lines_text}
 use Rattle.chip_engine.specs.ReplayCommand.{left_text, status_of_left, told_left}
 use Rattle.chip_engine.specs.ExplainCommand.{explanation}
 use Rattle.chip_command.specs.declared.fault.Fault.TheVariants.{NotReport}
@@ -89,9 +88,9 @@ begun = (Take 4 4 ∷ Fire 1 ∷ []) ∷ (Take 0 1 ∷ []) ∷ [] ∷ []
 
 -- what is told to be left of these rows with a limit of two firings and of one, its status, and what is told unasked
 pub record TriangleLeaves : Type 0 where
-  pub can_fire : lines_text left_text (told_left true (triangle_within 2) begun)
+  pub can_fire : flat_map left_text (told_left true (triangle_within 2) begun)
       ≡ codes "left: edge 1 has 1 messages\nleft: vertex 0 can fire\n"
-  pub at_limit : lines_text left_text (told_left true (triangle_within 1) begun)
+  pub at_limit : flat_map left_text (told_left true (triangle_within 1) begun)
       ≡ codes "left: edge 1 has 1 messages\nleft: vertex 0 is at its limit\n"
   pub status : number_of_status (status_of_left (told_left true (triangle_within 1) begun)) ≡ 2
   pub unasked : told_left false (triangle_within 1) begun ≡ []

@@ -1,11 +1,10 @@
 //! The board: what stands in the books of the detector, as lines.
 
-ghost use Rattle.std.specs.Prelude.{◌≡◌, ◌++◌, ◌<◌, IfOk, string_bytes};
+ghost use Rattle.std.specs.Prelude.{◌≡◌, ◌++◌, ◌<◌, IfOk, flat_map, string_bytes};
 ghost use Rattle.std.specs.List.{All};
 ghost use Rattle.chip_part.specs.Edges.{all_edges};
 ghost use Rattle.chip_core.specs.Core.{part_in};
 ghost use Rattle.chip_world.specs.World.{WhateverLog};
-ghost use Rattle.chip_engine.specs.Lines.{lines_text};
 ghost use Rattle.chip_engine.specs.Board.{board_text, root_line, books_text, vertex_line, owed_text};
 
 use chip_world::World;
@@ -62,7 +61,7 @@ fn push_books(lines: &mut String, vertex: u64, parent: u64, deficit: u64) -> Res
 fn push_all_owed(lines: &mut String, world: &World, edges: &[u64]) -> Result<(), AllocError>
     requires { All (λ e. e < all_edges world.now.setting) edges.now }
     ensures { IfOk result (λ _. WhateverLog world.now
-        (λ g log. string_bytes lines.new ≡ string_bytes lines.old ++ lines_text (owed_text g log) edges.now)) }
+        (λ g log. string_bytes lines.new ≡ string_bytes lines.old ++ flat_map (owed_text g log) edges.now)) }
 {
     for edge in edges {
         push_owed(lines, world, *edge)?;

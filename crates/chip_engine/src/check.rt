@@ -1,11 +1,9 @@
 //! `check`: a valid graph, shown in lines.
 
-ghost use Rattle.std.specs.Prelude.{◌≡◌, ◌++◌, ◌<◌, ℕ, IfOk, codes, string_bytes};
+ghost use Rattle.std.specs.Prelude.{◌≡◌, ◌++◌, IfOk, string_bytes};
 ghost use Rattle.chip_graph.specs.Limits.{standard};
-ghost use Rattle.chip_graph.specs.Multigraph.{IsDistance, IsGraph, degree};
-ghost use Rattle.chip_command.specs.CommandAnswers.{Gives};
-ghost use Rattle.chip_engine.specs.CheckCommand.{CheckAnswers, CheckRefuses, CheckWrites};
-ghost use Rattle.chip_engine.specs.CheckCommand.{IsShown, head_text, vertex_text};
+ghost use Rattle.chip_graph.specs.Multigraph.{IsGraph};
+ghost use Rattle.chip_engine.specs.CheckCommand.{CheckAnswers, IsShownBelow, head_text, vertex_text};
 
 use chip_command::{Answer, Ended, Fault, deliver};
 use chip_file::read_graph_within;
@@ -34,20 +32,14 @@ pub fn check_engine_with<G: Read, W: Write>(
 ) -> Result<Ended, Fault>
     ensures { CheckAnswers limits (G.remaining graph.old) (W.contents output.old) (W.contents output.new) result }
 {
-    deliver(output, answer(alloc, graph, limits))
-}
-
-/// What `check` has to say of the graph of a file.
-fn answer<G: Read>(alloc: Global, graph: &mut G, limits: Limits) -> Result<Answer, Fault>
-    ensures { Gives (CheckWrites limits (G.remaining graph.old)) (CheckRefuses limits (G.remaining graph.old)) result }
-{
     let graph = read_graph_within(alloc, limits, graph)?;
-    Ok(Answer::of_lines(show(alloc, &graph)?))
+    let lines = show(alloc, &graph)?;
+    deliver(output, Answer::of_lines(lines))
 }
 
 /// The lines of a graph.
 fn show(alloc: Global, graph: &Graph) -> Result<String, AllocError>
-    ensures shown { IfOk result (λ text. IsShown graph.now (string_bytes text)) }
+    ensures shown { IfOk result (λ text. IsShownBelow graph.now graph.now.vertices (string_bytes text)) }
     ensures graph { IfOk result (λ _. IsGraph graph.now) }
 {
     let mut text = String::new(alloc);

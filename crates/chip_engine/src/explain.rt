@@ -2,7 +2,7 @@
 
 ghost use Rattle.std.specs.Prelude.{◌≡◌, ◌++◌, IfOk, option_map, string_bytes};
 ghost use Rattle.chip_command.specs.CommandAnswers.{Gives};
-ghost use Rattle.chip_engine.specs.ExplainCommand.{ExplainAnswers, ExplainWrites, TellsNothing, explanation, line_text};
+ghost use Rattle.chip_engine.specs.ExplainCommand.{ExplainAnswers, telling, explanation, line_text};
 ghost use Rattle.chip_engine.specs.ExplainCommand.{row_text, row_with, rows_of, table_text};
 
 use chip_command::{Answer, Ended, Explanation, Fault, deliver};
@@ -23,7 +23,8 @@ pub fn explain_engine<W: Write>(
     ensures { ExplainAnswers (explanation what.now (rows_of table.now) number) (W.contents output.old)
         (W.contents output.new) result }
 {
-    deliver(output, tell(alloc, what, table, number))
+    let answer = tell(alloc, what, table, number)?;
+    deliver(output, answer)
 }
 
 /// What a table says of the row with this number, or of all its rows.
@@ -33,7 +34,7 @@ fn tell(
     table: &[&Explanation],
     number: Option<u64>,
 ) -> Result<Answer, Fault>
-    ensures { let said = explanation what.now (rows_of table.now) number in Gives (ExplainWrites said) (TellsNothing said) result }
+    ensures { Gives (telling (explanation what.now (rows_of table.now) number)) result }
 {
     let Some(number) = number else {
         return Ok(Answer::of_lines(list_all(alloc, what, table)?));

@@ -1,12 +1,9 @@
 //! `plain`: the report of a game played on one thread.
 
-ghost use Rattle.std.specs.Prelude.{◌≡◌};
 ghost use Rattle.chip_graph.specs.Limits.{standard};
 ghost use Rattle.chip_command.specs.CommandAnswers.{Gives};
-ghost use Rattle.chip_command.specs.PlainCommand.{PlainAnswers, PlainRefuses, PlainWrites};
-ghost use Rattle.chip_command.specs.Reports.{Reports};
-ghost use Rattle.chip_command.specs.declared.fault.Fault.TheVariants.{NoMemory};
-ghost use Rattle.chip_engine.specs.GuessCommand.{GuessAnswers, GuessRefuses, GuessWrites};
+ghost use Rattle.chip_command.specs.PlainCommand.{PlainAnswers, playing};
+ghost use Rattle.chip_engine.specs.GuessCommand.{GuessAnswers};
 
 use crate::guess::read_guess;
 use crate::options::PlayOptions;
@@ -52,22 +49,9 @@ pub fn plain_engine_with<G: Read, C: Read, P: Watch, W: Write>(
     ensures { PlainAnswers options.limits (G.remaining graph.old) (C.remaining chips.old) options.limit
         (W.contents output.old) (W.contents output.new) result }
 {
-    deliver(output, answer(alloc, graph, chips, options, watch))
-}
-
-/// What `plain` has to say of a game.
-fn answer<G: Read, C: Read, P: Watch>(
-    alloc: Global,
-    graph: &mut G,
-    chips: &mut C,
-    options: PlayOptions,
-    watch: &mut P,
-) -> Result<Answer, Fault>
-    ensures { Gives (PlainWrites options.limits (G.remaining graph.old) (C.remaining chips.old) options.limit)
-        (PlainRefuses options.limits (G.remaining graph.old) (C.remaining chips.old) options.limit) result }
-{
     let game = read_game(alloc, options.limits, graph, chips, options.limit)?;
-    play(alloc, &game, &[], watch)
+    let answer = play(alloc, &game, &[], watch)?;
+    deliver(output, answer)
 }
 
 /// Does what `plain_engine_with` does, and reads a third text: a guess of how often each vertex fires, which may make the
@@ -84,33 +68,15 @@ pub fn plain_guess_engine_with<G: Read, C: Read, Q: Read, P: Watch, W: Write>(
     ensures { GuessAnswers options.limits (G.remaining graph.old) (C.remaining chips.old) (Q.remaining guess.old)
         options.limit (W.contents output.old) (W.contents output.new) result }
 {
-    deliver(
-        output,
-        guess_answer(alloc, graph, chips, guess, options, watch),
-    )
-}
-
-/// What `plain` has to say of a game and a guess.
-fn guess_answer<G: Read, C: Read, Q: Read, P: Watch>(
-    alloc: Global,
-    graph: &mut G,
-    chips: &mut C,
-    guess: &mut Q,
-    options: PlayOptions,
-    watch: &mut P,
-) -> Result<Answer, Fault>
-    ensures { let graph = G.remaining graph.old in let chips = C.remaining chips.old in let guess = Q.remaining guess.old in
-        Gives (GuessWrites options.limits graph chips guess options.limit)
-        (GuessRefuses options.limits graph chips guess options.limit) result }
-{
     let game = read_game(alloc, options.limits, graph, chips, options.limit)?;
     let counts = read_guess(alloc, options.limits, guess, game.graph().vertices())?;
-    play(alloc, &game, &counts, watch)
+    let answer = play(alloc, &game, &counts, watch)?;
+    deliver(output, answer)
 }
 
 /// The report of a game, which is played from given counts.
 fn play<P: Watch>(alloc: Global, game: &Game, given: &[u64], watch: &mut P) -> Result<Answer, Fault>
-    ensures { Gives (Reports game.now) (λ fault. fault ≡ NoMemory) result }
+    ensures { Gives (playing game.now) result }
 {
     watch.plays(game);
     let outcome = plain_given(alloc, game, given, watch)?;

@@ -1,11 +1,9 @@
 //! `replay`: the firings of a recorded run, in an order in which all rows fit together, and what is left.
 
-ghost use Rattle.std.specs.Prelude.{◌≡◌, ◌++◌, false, IfOk, string_bytes, if◌then◌else◌, []};
+ghost use Rattle.std.specs.Prelude.{◌≡◌, ◌++◌, false, IfOk, flat_map, string_bytes, if◌then◌else◌, []};
 ghost use Rattle.chip_graph.specs.Limits.{standard};
-ghost use Rattle.chip_command.specs.CommandAnswers.{Gives, OrMemory};
-ghost use Rattle.chip_engine.specs.Lines.{lines_text};
-ghost use Rattle.chip_engine.specs.ReplayCommand.{ReplayAnswers, ReplayRefuses, ReplayWrites, GaveNoReplay};
-ghost use Rattle.chip_engine.specs.ReplayCommand.{TellsReplay, firing_text, left_text, status_of_left};
+ghost use Rattle.chip_command.specs.CommandAnswers.{Gives};
+ghost use Rattle.chip_engine.specs.ReplayCommand.{ReplayAnswers, replaying_from, firing_text, left_text, status_of_left};
 
 use crate::lines::{end_by_number, push_number};
 use crate::options::PlayOptions;
@@ -59,23 +57,10 @@ pub fn replay_engine_with<G: Read, C: Read, T: Read, W: Write>(
     ensures { ReplayAnswers (G.remaining graph.old) (C.remaining chips.old) (T.remaining trace.old) options
         (W.contents output.old) (W.contents output.new) result }
 {
-    deliver(output, answer(alloc, graph, chips, trace, options))
-}
-
-/// What `replay` has to say of a game and its traces.
-fn answer<G: Read, C: Read, T: Read>(
-    alloc: Global,
-    graph: &mut G,
-    chips: &mut C,
-    trace: &mut T,
-    options: ReplayOptions,
-) -> Result<Answer, Fault>
-    ensures { let graph = G.remaining graph.old in let chips = C.remaining chips.old in let trace = T.remaining trace.old in
-        Gives (ReplayWrites graph chips trace options) (ReplayRefuses graph chips trace options) result }
-{
     let play = options.play;
     let game = read_game(alloc, play.limits, graph, chips, play.limit)?;
-    replay_traces(alloc, options, &game, trace)
+    let answer = replay_traces(alloc, options, &game, trace)?;
+    deliver(output, answer)
 }
 
 /// What `replay` has to say of the traces of a file, in a game.
@@ -85,8 +70,7 @@ fn replay_traces<T: Read>(
     game: &Game,
     trace: &mut T,
 ) -> Result<Answer, Fault>
-    ensures { Gives (TellsReplay options game.now (T.remaining trace.old))
-        (OrMemory (GaveNoReplay options.play.limits game.now (T.remaining trace.old))) result }
+    ensures { Gives (replaying_from options (T.remaining trace.old) game.now) result }
 {
     let traces = read_trace_within(alloc, options.play.limits, trace, game.graph())?;
     let replayed = replay(alloc, game, &traces)?;
@@ -98,8 +82,8 @@ fn replay_traces<T: Read>(
 /// The lines of a replay and its status, with what is left if it is asked for.
 fn tell(alloc: Global, replayed: &Replayed, complete: bool) -> Result<Answer, AllocError>
     ensures text { IfOk result (λ answer. answer.text.items
-        ≡ lines_text firing_text replayed.now.firings.items
-        ++ lines_text left_text (if complete then replayed.now.left.items else [])) }
+        ≡ flat_map firing_text replayed.now.firings.items
+        ++ flat_map left_text (if complete then replayed.now.left.items else [])) }
     ensures status { IfOk result (λ answer. answer.status
         ≡ status_of_left (if complete then replayed.now.left.items else [])) }
 {
@@ -116,7 +100,7 @@ fn tell(alloc: Global, replayed: &Replayed, complete: bool) -> Result<Answer, Al
 
 /// The lines of firings.
 fn lines_of(alloc: Global, firings: &[(u64, u64)]) -> Result<String, AllocError>
-    ensures { IfOk result (λ lines. string_bytes lines ≡ lines_text firing_text firings.now) }
+    ensures { IfOk result (λ lines. string_bytes lines ≡ flat_map firing_text firings.now) }
 {
     let mut lines = String::new(alloc);
     for (vertex, count) in firings {
@@ -135,7 +119,7 @@ fn push_firing(lines: &mut String, vertex: u64, count: u64) -> Result<(), AllocE
 
 /// Appends the lines of what is left.
 fn push_all_left(lines: &mut String, left: &[Left]) -> Result<(), AllocError>
-    ensures { IfOk result (λ _. string_bytes lines.new ≡ string_bytes lines.old ++ lines_text left_text left.now) }
+    ensures { IfOk result (λ _. string_bytes lines.new ≡ string_bytes lines.old ++ flat_map left_text left.now) }
 {
     for one in left {
         push_left(lines, *one)?;

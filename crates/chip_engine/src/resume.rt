@@ -2,9 +2,8 @@
 
 ghost use Rattle.chip_graph.specs.Limits.{standard};
 ghost use Rattle.chip_sequence.specs.Sittings.{IsResumed};
-ghost use Rattle.chip_engine.specs.ResumeCommand.{GivesSitting, RefusesToGoOn, ReportsOn};
-ghost use Rattle.chip_engine.specs.ResumeCommand.{ResumeAnswers, ResumeRefuses, ResumeWrites};
-ghost use Rattle.chip_command.specs.CommandAnswers.{Gives, OrMemory};
+ghost use Rattle.chip_command.specs.CommandAnswers.{Gives, Meets};
+ghost use Rattle.chip_engine.specs.ResumeCommand.{ResumeAnswers, going_on, reading_sitting};
 
 use crate::options::PlayOptions;
 use chip_command::{Answer, Ended, Fault, deliver, status_of};
@@ -53,23 +52,10 @@ pub fn resume_engine_with<G: Read, R: Read, P: Watch, W: Write>(
     ensures { ResumeAnswers options.limits (G.remaining graph.old) (R.remaining report.old) options.limit
         (W.contents output.old) (W.contents output.new) result }
 {
-    deliver(output, answer(alloc, graph, report, options, watch))
-}
-
-/// What `resume` has to say of a graph and a report.
-fn answer<G: Read, R: Read, P: Watch>(
-    alloc: Global,
-    graph: &mut G,
-    report: &mut R,
-    options: PlayOptions,
-    watch: &mut P,
-) -> Result<Answer, Fault>
-    ensures { Gives (ResumeWrites options.limits (G.remaining graph.old) (R.remaining report.old) options.limit)
-        (ResumeRefuses options.limits (G.remaining graph.old) (R.remaining report.old) options.limit) result }
-{
     let graph = read_graph_within(alloc, options.limits, graph)?;
     let earlier = read_sitting(alloc, options.limits, report)?;
-    go_on(alloc, graph, &earlier, options.limit, watch)
+    let answer = go_on(alloc, graph, &earlier, options.limit, watch)?;
+    deliver(output, answer)
 }
 
 /// The sitting that a report of at most so many vertices and bytes tells, of either version.
@@ -78,7 +64,7 @@ pub(crate) fn read_sitting<R: Read>(
     limits: Limits,
     report: &mut R,
 ) -> Result<Resumed, Fault>
-    ensures { GivesSitting limits (R.remaining report.old) result }
+    ensures { Meets (reading_sitting limits (R.remaining report.old)) result }
 {
     let text = read_whole_within(alloc, limits, report)?;
     Ok(read_any_within(alloc, limits, &text)?)
@@ -93,7 +79,7 @@ fn go_on<P: Watch>(
     watch: &mut P,
 ) -> Result<Answer, Fault>
     requires { IsResumed earlier.now }
-    ensures { Gives (ReportsOn graph earlier.now limit) (OrMemory (RefusesToGoOn graph earlier.now limit)) result }
+    ensures { Gives (going_on graph limit earlier.now) result }
 {
     let resumed = resume_watched(alloc, graph, earlier, limit, watch)?;
     let text = report_two(alloc, &resumed)?;

@@ -1,17 +1,14 @@
 //! `simulate`: the core's replies to a schedule, and the report where the root closes.
 
-ghost use Rattle.std.specs.Prelude.{◌≡◌, ◌++◌, [], true, false, IfOk, codes, string_bytes};
+ghost use Rattle.std.specs.Prelude.{◌≡◌, ◌++◌, [], true, false, IfOk, codes, flat_map, string_bytes};
 ghost use Rattle.chip_graph.specs.Limits.{standard};
 ghost use Rattle.chip_link.specs.Rings.{IsRing};
 ghost use Rattle.chip_part.specs.Setting.{Setting};
 ghost use Rattle.chip_core.specs.Core.{Log, IsClosed};
 ghost use Rattle.chip_world.specs.World.{StandsForLog, WhateverLog};
 ghost use Rattle.chip_world.specs.declared.world.driving.Drive.TheVariants.{Closed};
-ghost use Rattle.chip_command.specs.CommandAnswers.{Gives};
 ghost use Rattle.chip_command.specs.Statuses.{number_of_status};
-ghost use Rattle.chip_engine.specs.SimulateCommand.{SimulateAnswers, SimulateRefuses, SimulateWrites};
-ghost use Rattle.chip_engine.specs.Lines.{lines_text};
-ghost use Rattle.chip_engine.specs.SimulateCommand.{Simulates, EndsClosed, EndsBy, IsRunThrough};
+ghost use Rattle.chip_engine.specs.SimulateCommand.{SimulateAnswers, Simulates, EndsClosed, EndsBy, IsRunThrough};
 ghost use Rattle.chip_engine.specs.SimulateCommand.{message_text, reply_text, answers_text};
 
 use crate::board::push_board;
@@ -86,26 +83,12 @@ pub fn simulate_engine_with<G: Read, C: Read, S: Read, W: Write>(
     ensures { SimulateAnswers (G.remaining graph.old) (C.remaining chips.old) (S.remaining schedule.old) options
         (W.contents output.old) (W.contents output.new) result }
 {
-    deliver(output, answer(alloc, graph, chips, schedule, options))
-}
-
-/// What `simulate` has to say of a game and a schedule.
-fn answer<G: Read, C: Read, S: Read>(
-    alloc: Global,
-    graph: &mut G,
-    chips: &mut C,
-    schedule: &mut S,
-    options: SimulateOptions,
-) -> Result<Answer, Fault>
-    ensures { let graph = G.remaining graph.old in let chips = C.remaining chips.old in let schedule = S.remaining schedule.old in
-        Gives (SimulateWrites graph chips schedule options) (SimulateRefuses graph chips schedule options) result }
-{
     let PlayOptions { limits, limit } = options.play;
     let game = read_game(alloc, limits, graph, chips, limit)?;
     let events = read_schedule_within(alloc, limits, schedule, game.graph())?;
     let setting = Setting::new(game, options.ring, options.fed);
-    let said = simulate(alloc, setting, events, options.rounds, options.books)?;
-    Ok(said)
+    let answer = simulate(alloc, setting, events, options.rounds, options.books)?;
+    deliver(output, answer)
 }
 
 /// The lines of a simulation, and the exit status.
@@ -238,7 +221,7 @@ fn end_of_closed(alloc: Global, world: &World) -> Result<Answer, AllocError>
 /// Appends the lines of replies.
 fn push_replies(lines: &mut String, replies: &[Reply]) -> Result<(), AllocError>
     ensures { IfOk result
-        (λ _. string_bytes lines.new ≡ string_bytes lines.old ++ lines_text reply_text replies.now) }
+        (λ _. string_bytes lines.new ≡ string_bytes lines.old ++ flat_map reply_text replies.now) }
 {
     for reply in replies {
         push_reply(lines, *reply)?;

@@ -5,9 +5,8 @@ ghost use Rattle.std.specs.List.Sorted.{IsStrictlyIncreasing};
 ghost use Rattle.chip_graph.specs.Limits.{standard};
 ghost use Rattle.chip_sequence.specs.Outcomes.{IsOutcome};
 ghost use Rattle.chip_sequence.specs.Sittings.{IsResumed, fired_in_all};
-ghost use Rattle.chip_command.specs.CommandAnswers.{Gives, OrMemory};
-ghost use Rattle.chip_engine.specs.VerifyCommand.{AgreesAt, IsDifference, RefusesToVerify, Verifies};
-ghost use Rattle.chip_engine.specs.VerifyCommand.{VerifyAnswers, VerifyRefuses, VerifyWrites};
+ghost use Rattle.chip_command.specs.CommandAnswers.{Gives};
+ghost use Rattle.chip_engine.specs.VerifyCommand.{AgreesAt, IsDifference, VerifyAnswers, verifying};
 
 use crate::guess::counts_in_all;
 use crate::options::PlayOptions;
@@ -58,25 +57,10 @@ pub fn verify_engine_with<G: Read, C: Read, R: Read, P: Watch, W: Write>(
     ensures { VerifyAnswers options.limits (G.remaining graph.old) (C.remaining chips.old) (R.remaining report.old)
         options.limit (W.contents output.old) (W.contents output.new) result }
 {
-    deliver(output, answer(alloc, graph, chips, report, options, watch))
-}
-
-/// What `verify` has to say of a game and a report.
-fn answer<G: Read, C: Read, R: Read, P: Watch>(
-    alloc: Global,
-    graph: &mut G,
-    chips: &mut C,
-    report: &mut R,
-    options: PlayOptions,
-    watch: &mut P,
-) -> Result<Answer, Fault>
-    ensures { let graph = G.remaining graph.old in let chips = C.remaining chips.old in let report = R.remaining report.old in
-        Gives (VerifyWrites options.limits graph chips report options.limit)
-        (VerifyRefuses options.limits graph chips report options.limit) result }
-{
     let game = read_game(alloc, options.limits, graph, chips, options.limit)?;
     let told = read_sitting(alloc, options.limits, report)?;
-    verify(alloc, &game, &told, watch)
+    let answer = verify(alloc, &game, &told, watch)?;
+    deliver(output, answer)
 }
 
 /// That a sitting tells the outcome of the game, or why it does not.
@@ -87,7 +71,7 @@ fn verify<P: Watch>(
     watch: &mut P,
 ) -> Result<Answer, Fault>
     requires { IsResumed told.now }
-    ensures { Gives (Verifies game.now told.now) (OrMemory (RefusesToVerify game.now told.now)) result }
+    ensures { Gives (verifying game.now told.now) result }
 {
     if told.outcome.fired.len() as u64 != game.graph().vertices() {
         return Err(Fault::Resume(ResumeFault::Mismatch));

@@ -1,5 +1,5 @@
 use Rattle.std.proofs.Common.{◌≡◌, [], length, true, refl, sym, ◌∙◌, inr}
-use Rattle.std.proofs.lemmas.Result.{err_from_is_err_and}
+use Rattle.chip_command.proofs.CommandLemmas.{handed_on}
 use Rattle.chip_drops.specs.Rows.{rows_text}
 use Rattle.chip_drops.specs.declared.rows.RowsFault.TheVariants as rows_fault
 use Rattle.chip_report.specs.ReportText.{is_closed}
@@ -8,16 +8,14 @@ use Rattle.chip_engine.proofs.SittingLemmas.{none_legal}
 use Rattle.chip_engine.proofs.avalanches.play_drops.Goals as goal
 
 pub returns-in_err-write_all_of : goal.returns-in_err-write_all_of
-returns-in_err-write_all_of g c =
-    let p = err_from_is_err_and c.from_residual-in_err-write_all_of.result c.from_residual-in_err-write_all_of.ensures.1 in
-    rw (p.1, p.2) (inr (
-      0,
-      rows_text [] [],
-      tells_none c.args.game c.args.drops.now c.in_ok-outcome.outcome c.in_ok-outcome.ensures.played,
-      rows_fault.Write _,
-      refl,
-      c.in_err-write_all_of.ensures,
-    ))
+returns-in_err-write_all_of g c = rw (handed_on _ c.from_residual-in_err-write_all_of.ensures.1) (inr (
+  0,
+  rows_text [] [],
+  tells_none c.args.game c.args.drops.now c.in_ok-outcome.outcome c.in_ok-outcome.ensures.played,
+  rows_fault.Write _,
+  refl,
+  c.in_err-write_all_of.ensures,
+))
 
 pub returns-then-not-is_closed : goal.returns-then-not-is_closed
 returns-then-not-is_closed g c = (
@@ -43,8 +41,7 @@ returns-in_err-outcome-in-Ok g c =
     let come = ends_come c.args.game c.args.drops.now c.in_ok-outcome.outcome c.in_ok-outcome.ensures.played
     c.in_ok-pile.pile c.in_ok-pile.ensures.game c.in_ok-pile.ensures.chips _ _ c.in-Ok.end.pile c.in-Ok.end.all
     c.in-Ok.ensures in
-    let p = err_from_is_err_and c.from_residual-in_err-outcome-in-Ok.result c.from_residual-in_err-outcome-in-Ok.ensures.1 in
-    rw (p.1, p.2) (inr (come.2, come.0, come.3, rows_fault.NoMemory, refl, (length come.0, all_out _ _ come.0 come.4)))
+    rw (handed_on _ c.from_residual-in_err-outcome-in-Ok.ensures.1) (inr (come.2, come.0, come.3, rows_fault.NoMemory, refl, (length come.0, all_out _ _ come.0 come.4)))
 
 pub returns-in_ok-outcome-in-Ok : goal.returns-in_ok-outcome-in-Ok
 returns-in_ok-outcome-in-Ok g c =

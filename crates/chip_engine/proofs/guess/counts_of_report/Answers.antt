@@ -1,12 +1,13 @@
 use Rattle.std.proofs.Common.{◌≡◌, length, rules, arith, inl, inr, refl, ◌∙◌}
 use Rattle.chip_sequence.specs.Sittings.{IsResumed}
-use Rattle.chip_engine.proofs.GuessLemmas.{refused_told, no_report}
+use Rattle.chip_command.proofs.CommandLemmas.{handed_on}
+use Rattle.chip_engine.proofs.GuessLemmas.{no_report}
 use Rattle.chip_engine.proofs.SittingLemmas.{resumed_of_report}
 use Rattle.chip_engine.proofs.guess.counts_of_report.Goals as goal
 
 pub returns-in_err-told : goal.returns-in_err-told
-returns-in_err-told c = refused_told c.args.limits c.args.vertices c.args.text.now _ _ c.from_residual.ensures.1
-    (no_report c.args.limits c.args.vertices c.args.text.now c.in_err-told.field-0.0 c.in_err-told.ensures.sitting)
+returns-in_err-told c = rw (handed_on _ c.from_residual.ensures.1)
+    (no_report c.args.limits c.args.vertices c.args.text.now _ c.in_err-told.ensures.sitting)
 
 pub returns-then-len-vertices : goal.returns-then-len-vertices
 returns-then-len-vertices c = inl (inr ((c.in_ok-told.told, c.in_ok-told.ensures.sitting, search rules), refl))

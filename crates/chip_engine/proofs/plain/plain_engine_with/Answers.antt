@@ -1,9 +1,9 @@
-use Rattle.chip_command.specs.PlainCommand.{PlainWrites, PlainRefuses}
-use Rattle.chip_command.proofs.CommandLemmas.{answered}
+use Rattle.std.proofs.Common.{inl}
+use Rattle.chip_command.proofs.CommandLemmas.{refused, delivered}
 use Rattle.chip_engine.proofs.plain.plain_engine_with.Goals as goal
 
+pub returns-in_err-game : goal.returns-in_err-game
+returns-in_err-game g c = refused _ c.from_residual.ensures.1 (inl c.in_err-game.ensures)
+
 pub returns : goal.returns
-returns g c =
-    let graph = g.G.Read.remaining c.args.graph.now in let chips = g.C.Read.remaining c.args.chips.now in
-    answered (PlainWrites c.args.options.limits graph chips c.args.options.limit)
-    (PlainRefuses c.args.options.limits graph chips c.args.options.limit) _ _ _ _ c.answer.ensures c.deliver.ensures
+returns g c = delivered _ _ c.deliver.ensures (c.in_ok-game.game, c.in_ok-game.ensures, c.in_ok-answer.ensures)

@@ -1,11 +1,36 @@
-use Rattle.chip_command.proofs.CommandLemmas.{answered}
-use Rattle.chip_engine.specs.GuessCommand.{GuessWrites, GuessRefuses}
+use Rattle.std.proofs.Common.{◌≡◌, inl, inr, ap, ◌∙◌}
+use Rattle.chip_graph.specs.Multigraph.{Multigraph}
+use Rattle.chip_command.proofs.CommandLemmas.{refused, delivered}
 use Rattle.chip_engine.proofs.plain.plain_guess_engine_with.Goals as goal
 
+pub returns-in_err-game : goal.returns-in_err-game
+returns-in_err-game g c = refused _ c.from_residual.ensures.1 (inl c.in_err-game.ensures)
+
+pub returns-in_err-counts : goal.returns-in_err-counts
+returns-in_err-counts g c = refused _ c.from_residual-in_err-counts.ensures.1 (inr (
+  c.in_ok-game.game,
+  c.in_ok-game.ensures,
+  inl (rw (c.vertices.ensures.value ∙ ap (λ (G : Multigraph). G.vertices) c.graph.ensures.value) at c.in_err-counts.ensures),
+))
+
+pub returns-in_err-answer : goal.returns-in_err-answer
+returns-in_err-answer g c = refused _ c.from_residual-in_err-answer.ensures.1 (inr (
+  c.in_ok-game.game,
+  c.in_ok-game.ensures,
+  inr (
+    c.in_ok-counts.counts,
+    rw (c.vertices.ensures.value ∙ ap (λ (G : Multigraph). G.vertices) c.graph.ensures.value) at c.in_ok-counts.ensures,
+    c.in_err-answer.ensures,
+  ),
+))
+
 pub returns : goal.returns
-returns g c =
-    let graph = g.G.Read.remaining c.args.graph.now in let chips = g.C.Read.remaining c.args.chips.now in
-    let guess = g.Q.Read.remaining c.args.guess.now in
-    answered (GuessWrites c.args.options.limits graph chips guess c.args.options.limit)
-    (GuessRefuses c.args.options.limits graph chips guess c.args.options.limit) _ _ _ _ c.guess_answer.ensures
-    c.deliver.ensures
+returns g c = delivered _ _ c.deliver.ensures (
+  c.in_ok-game.game,
+  c.in_ok-game.ensures,
+  (
+    c.in_ok-counts.counts,
+    rw (c.vertices.ensures.value ∙ ap (λ (G : Multigraph). G.vertices) c.graph.ensures.value) at c.in_ok-counts.ensures,
+    c.in_ok-answer.ensures,
+  ),
+)

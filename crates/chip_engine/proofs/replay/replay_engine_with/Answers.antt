@@ -1,9 +1,13 @@
-use Rattle.chip_command.proofs.CommandLemmas.{answered}
-use Rattle.chip_engine.specs.ReplayCommand.{ReplayWrites, ReplayRefuses}
+use Rattle.std.proofs.Common.{inl, inr}
+use Rattle.chip_command.proofs.CommandLemmas.{refused, delivered}
 use Rattle.chip_engine.proofs.replay.replay_engine_with.Goals as goal
 
+pub returns-in_err-game : goal.returns-in_err-game
+returns-in_err-game g c = refused _ c.from_residual.ensures.1 (inl c.in_err-game.ensures)
+
+pub returns-in_err-answer : goal.returns-in_err-answer
+returns-in_err-answer g c = refused _ c.from_residual-in_err-answer.ensures.1
+    (inr (c.in_ok-game.game, c.in_ok-game.ensures, c.in_err-answer.ensures))
+
 pub returns : goal.returns
-returns g c =
-    let graph = g.G.Read.remaining c.args.graph.now in let chips = g.C.Read.remaining c.args.chips.now in let trace = g.T.Read.remaining c.args.trace.now in
-    answered (ReplayWrites graph chips trace c.args.options) (ReplayRefuses graph chips trace c.args.options) _ _ _ _
-    c.answer.ensures c.deliver.ensures
+returns g c = delivered _ _ c.deliver.ensures (c.in_ok-game.game, c.in_ok-game.ensures, c.in_ok-answer.ensures)

@@ -1,12 +1,22 @@
-use Rattle.std.proofs.Common.{Vec, Global, List, inl, inr, ◌∙◌, ap, map, length}
+use Rattle.std.proofs.Common.{◌≡◌, Bool, Vec, Global, List, inl, inr, refl, ◌∙◌, ap, map, length}
+use Rattle.chip_graph.specs.ChipGame.{ChipGame}
 use Rattle.chip_graph.specs.Multigraph.{Multigraph}
 use Rattle.chip_link.specs.declared.trace.TraceRow.{TraceRow}
-use Rattle.chip_command.specs.CommandAnswers.{OrMemory}
-use Rattle.chip_command.proofs.CommandLemmas.{refused}
+use Rattle.chip_trace.specs.declared.fault.ReplayFault.{ReplayFault}
+use Rattle.chip_trace.specs.declared.fault.ReplayFault.TheVariants as replay_fault
+use Rattle.chip_trace.specs.Replay.{IsReplayFault}
+use Rattle.chip_command.specs.Faults.{fault_of_replay}
+use Rattle.chip_command.specs.Statuses.{number_of_status}
+use Rattle.chip_command.proofs.CommandLemmas.{handed_on}
 use Rattle.chip_command.proofs.InputLemmas.{at_some}
-use Rattle.chip_engine.specs.ReplayCommand.{GaveNoReplay, TellsReplay}
-use Rattle.chip_engine.proofs.EngineLemmas.{refused_stuck, told}
+use Rattle.chip_engine.specs.ReplayCommand.{replaying}
 use Rattle.chip_engine.proofs.replay.replay_traces.Goals as goal
+
+-- why traces are not replayed
+not_replayed : (complete : Bool) (g : ChipGame) (traces : List (List TraceRow)) (f : ReplayFault) → IsReplayFault g traces f
+    → (replaying complete g traces).refuses (fault_of_replay f)
+not_replayed complete g traces (replay_fault.Stuck vertex row) stuck = inl (vertex, row, refl, stuck)
+not_replayed complete g traces replay_fault.NoMemory stuck = inr refl
 
 pub replay-requires : goal.replay-requires
 replay-requires g c =
@@ -14,36 +24,33 @@ replay-requires g c =
     ∙ ap (λ (G : Multigraph). G.vertices) c.graph.ensures.value
 
 pub returns-in_err-traces : goal.returns-in_err-traces
-returns-in_err-traces g c =
-    let trace = g.T.Read.remaining c.args.trace.now in
-    refused (TellsReplay c.args.options c.args.game.now trace)
-    (OrMemory (GaveNoReplay c.args.options.play.limits c.args.game.now trace)) _ _ c.from_residual.ensures.1
-    (λ fault is. inl (λ text text_is. let why = at_some _ _ text text_is c.in_err-traces.ensures.means in
-    inl (c.in_err-traces.field-0.0, is, rw c.graph.ensures.value at why)))
+returns-in_err-traces g c = rw (handed_on _ c.from_residual.ensures.1) (inl (λ text text_is.
+    let why = at_some _ _ text text_is c.in_err-traces.ensures.means in
+    (c.in_err-traces.field-0.0, refl, rw c.graph.ensures.value at why)))
 
 pub returns-in_err-replayed : goal.returns-in_err-replayed
-returns-in_err-replayed g c =
-    let trace = g.T.Read.remaining c.args.trace.now in
-    refused (TellsReplay c.args.options c.args.game.now trace)
-    (OrMemory (GaveNoReplay c.args.options.play.limits c.args.game.now trace)) _ _
-    c.from_residual-in_err-replayed.ensures.1
-    (λ fault is. refused_stuck c.args.options.play.limits c.args.game.now trace
-    (map (λ t. t.items) c.in_ok-traces.traces.items)
-    (λ text text_is. let read = at_some _ _ text text_is c.in_ok-traces.ensures.means in rw c.graph.ensures.value at read)
-    c.in_err-replayed.field-0.0 (rw c.deref.ensures.value at c.in_err-replayed.ensures) fault is)
-
-pub returns-in_err-tell : goal.returns-in_err-tell
-returns-in_err-tell g c =
-    let trace = g.T.Read.remaining c.args.trace.now in
-    refused (TellsReplay c.args.options c.args.game.now trace)
-    (OrMemory (GaveNoReplay c.args.options.play.limits c.args.game.now trace)) _ _
-    c.from_residual-in_err-tell.ensures.1 (λ fault is. inr is)
-
-pub returns : goal.returns
-returns g c = (
+returns-in_err-replayed g c = rw (handed_on _ c.from_residual-in_err-replayed.ensures.1) (inr (
   map (λ t. t.items) c.in_ok-traces.traces.items,
   (λ text text_is. let read = at_some _ _ text text_is c.in_ok-traces.ensures.means in rw c.graph.ensures.value at read),
-  told c.args.options.complete c.args.game.now (map (λ t. t.items) c.in_ok-traces.traces.items)
-      c.in_ok-replayed.replayed c.in_ok-tell.field-0 (rw c.deref.ensures.value at c.in_ok-replayed.ensures)
-      c.in_ok-tell.ensures.text c.in_ok-tell.ensures.status,
+  not_replayed c.args.options.complete c.args.game.now _ c.in_err-replayed.field-0.0
+      (rw c.deref.ensures.value at c.in_err-replayed.ensures),
+))
+
+pub returns-in_err-tell : goal.returns-in_err-tell
+returns-in_err-tell g c = rw (handed_on _ c.from_residual-in_err-tell.ensures.1) (inr (
+  map (λ t. t.items) c.in_ok-traces.traces.items,
+  (λ text text_is. let read = at_some _ _ text text_is c.in_ok-traces.ensures.means in rw c.graph.ensures.value at read),
+  inr refl,
+))
+
+pub returns : goal.returns
+returns g c = let is = rw c.deref.ensures.value at c.in_ok-replayed.ensures in (
+  map (λ t. t.items) c.in_ok-traces.traces.items,
+  (λ text text_is. let read = at_some _ _ text text_is c.in_ok-traces.ensures.means in rw c.graph.ensures.value at read),
+  record {
+    fired = c.in_ok-replayed.replayed.firings.items;
+    are_firings = is.firings;
+    lines = rw is.left at c.in_ok-tell.ensures.text;
+    status_is = rw is.left at (ap number_of_status c.in_ok-tell.ensures.status);
+  },
 )

@@ -1,9 +1,25 @@
-use Rattle.chip_command.proofs.CommandLemmas.{answered}
-use Rattle.chip_engine.specs.ResumeCommand.{ResumeWrites, ResumeRefuses}
+use Rattle.std.proofs.Common.{inl, inr}
+use Rattle.chip_command.proofs.CommandLemmas.{refused, delivered}
+use Rattle.chip_command.proofs.InputLemmas.{known, unread}
 use Rattle.chip_engine.proofs.resume.resume_engine_with.Goals as goal
 
+pub returns-in_err-graph : goal.returns-in_err-graph
+returns-in_err-graph g c = refused _ c.from_residual.ensures.1 (inl (unread c.in_err-graph.ensures))
+
+pub returns-in_err-earlier : goal.returns-in_err-earlier
+returns-in_err-earlier g c = refused _ c.from_residual-in_err-earlier.ensures.1
+    (inr (c.in_ok-graph.graph, known c.in_ok-graph.ensures, inl c.in_err-earlier.ensures))
+
+pub returns-in_err-answer : goal.returns-in_err-answer
+returns-in_err-answer g c = refused _ c.from_residual-in_err-answer.ensures.1 (inr (
+  c.in_ok-graph.graph,
+  known c.in_ok-graph.ensures,
+  inr (c.in_ok-earlier.earlier, c.in_ok-earlier.ensures, c.in_err-answer.ensures),
+))
+
 pub returns : goal.returns
-returns g c =
-    let graph = g.G.Read.remaining c.args.graph.now in let report = g.R.Read.remaining c.args.report.now in
-    answered (ResumeWrites c.args.options.limits graph report c.args.options.limit)
-    (ResumeRefuses c.args.options.limits graph report c.args.options.limit) _ _ _ _ c.answer.ensures c.deliver.ensures
+returns g c = delivered _ _ c.deliver.ensures (
+  c.in_ok-graph.graph,
+  known c.in_ok-graph.ensures,
+  (c.in_ok-earlier.earlier, c.in_ok-earlier.ensures, c.in_ok-answer.ensures),
+)

@@ -1,5 +1,4 @@
-use Rattle.std.proofs.Common.{List, ℕ, ◌++◌, refl, ap, ◌∙◌}
-use Rattle.chip_report.specs.ReportText.{report_text}
+use Rattle.std.proofs.Common.{refl, ap, ◌∙◌}
 use Rattle.chip_command.specs.Statuses.{number_of_status}
 use Rattle.chip_engine.proofs.simulate.end_of_closed.Goals as goal
 
@@ -12,9 +11,7 @@ returns c = λ g log stands. record {
   reportable = c.in-Ok.ensures.in_range;
   comes = c.in-Ok.ensures.comes g log stands;
   reported =
-      c.in_ok-extend_from_slice.ensures.items
-      ∙ ap (λ (t : List ℕ). c.in_ok-text.text.items ++ t) (c.deref.ensures.value ∙ c.in_ok-report.ensures)
-      ∙ ap (λ (t : List ℕ). t ++ report_text c.in-Ok.outcome) c.in_ok-text.ensures.items;
+      rw (c.deref.ensures.value ∙ c.in_ok-report.ensures, c.in_ok-text.ensures.items) at c.in_ok-extend_from_slice.ensures.items;
   status_is = ap number_of_status c.status_of.ensures;
   plays = λ none. (
     c.in-Ok.outcome,

@@ -1,9 +1,24 @@
-use Rattle.chip_command.proofs.CommandLemmas.{answered}
-use Rattle.chip_engine.specs.VerifyCommand.{VerifyWrites, VerifyRefuses}
+use Rattle.std.proofs.Common.{inl, inr}
+use Rattle.chip_command.proofs.CommandLemmas.{refused, delivered}
 use Rattle.chip_engine.proofs.verify.verify_engine_with.Goals as goal
 
+pub returns-in_err-game : goal.returns-in_err-game
+returns-in_err-game g c = refused _ c.from_residual.ensures.1 (inl c.in_err-game.ensures)
+
+pub returns-in_err-told : goal.returns-in_err-told
+returns-in_err-told g c = refused _ c.from_residual-in_err-told.ensures.1
+    (inr (c.in_ok-game.game, c.in_ok-game.ensures, inl c.in_err-told.ensures))
+
+pub returns-in_err-answer : goal.returns-in_err-answer
+returns-in_err-answer g c = refused _ c.from_residual-in_err-answer.ensures.1 (inr (
+  c.in_ok-game.game,
+  c.in_ok-game.ensures,
+  inr (c.in_ok-told.told, c.in_ok-told.ensures, c.in_err-answer.ensures),
+))
+
 pub returns : goal.returns
-returns g c =
-    let graph = g.G.Read.remaining c.args.graph.now in let chips = g.C.Read.remaining c.args.chips.now in let report = g.R.Read.remaining c.args.report.now in
-    answered (VerifyWrites c.args.options.limits graph chips report c.args.options.limit)
-    (VerifyRefuses c.args.options.limits graph chips report c.args.options.limit) _ _ _ _ c.answer.ensures c.deliver.ensures
+returns g c = delivered _ _ c.deliver.ensures (
+  c.in_ok-game.game,
+  c.in_ok-game.ensures,
+  (c.in_ok-told.told, c.in_ok-told.ensures, c.in_ok-answer.ensures),
+)

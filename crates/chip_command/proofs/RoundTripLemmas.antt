@@ -1,7 +1,7 @@
 -- Serves Laws.antt.
 -- What is read of the text of traces: the records, line by line, and of them the traces.
 use Rattle.std.proofs.Common.{◌≡◌, ℕ, zero, suc, ◌+◌, ◌^◌, ◌<◌, ◌≤◌, Bool, true, false, List, [], ◌∷◌, ◌++◌, length, map}
-use Rattle.std.proofs.Common.{get_or, codes, Option, None, Some, Result, Ok, Err, refl, sym, ap, ◌∙◌, subst, inl, inr}
+use Rattle.std.proofs.Common.{get_or, codes, flat_map, Option, None, Some, Result, Ok, Err, refl, sym, ap, ◌∙◌, subst, inl, inr}
 use Rattle.std.proofs.Common.{arith, append_assoc, append-nil, length-append}
 use Rattle.std.specs.Prelude.{◌&&◌, ◌==◌, nat_lt, is_some, is_none, option_and_then, unwrap_or, if◌then◌else◌, All}
 use Rattle.std.specs.Prelude.{bytes_eq}
@@ -11,6 +11,7 @@ use Rattle.std.specs.Str.{all_ascii_digits}
 use Rattle.std.specs.Str.Parse.{digits_value}
 use Rattle.std.proofs.lemmas.Bool.{cases_Bool, ltb-true, lt-ltb, ne_eqb, eq-eqb, and_parts}
 use Rattle.std.proofs.lemmas.Bool.Decides.{nat_tests}
+use Rattle.std.proofs.lemmas.Grind.{flat_map-append}
 use Rattle.std.proofs.lemmas.Fmt.{digits_decimal, digits_value-decimal, decimal_nonempty, length-decimal-le}
 use Rattle.std.proofs.lemmas.List.Elements.{All-head, All-tail, All-map, All-filter, All-from_recursion, recursion_from_All}
 use Rattle.std.proofs.lemmas.List.FromFn.{fill_by_all, length-map-range_with_len}
@@ -171,14 +172,7 @@ traces_read G v (trace ∷ traces) few within fit =
 -- ---- their text
 
 abbrev text_of : List Placed → List ℕ
-text_of [] = []
-text_of (x ∷ xs) = written.row_text x.vertex x.row ++ text_of xs
-
-text_of-append : (xs ys : List Placed) → text_of (xs ++ ys) ≡ text_of xs ++ text_of ys
-text_of-append [] ys = refl
-text_of-append (x ∷ xs) ys =
-    ap (λ (t : List ℕ). written.row_text x.vertex x.row ++ t) (text_of-append xs ys)
-    ∙ sym (append_assoc (written.row_text x.vertex x.row) (text_of xs) (text_of ys))
+text_of xs = flat_map (λ x. written.row_text x.vertex x.row) xs
 
 text_of-trace : (v : ℕ) (trace : List TraceRow) → text_of (map (placed v) trace) ≡ written.rows_text v trace
 text_of-trace v [] = refl
@@ -187,7 +181,7 @@ text_of-trace v (row ∷ rows) = ap (λ (t : List ℕ). written.row_text v row +
 text_of-traces : (v : ℕ) (traces : List (List TraceRow)) → text_of (placed_from v traces) ≡ lines_from v traces
 text_of-traces v [] = refl
 text_of-traces v (trace ∷ traces) =
-    text_of-append (map (placed v) trace) (placed_from (suc v) traces)
+    flat_map-append (λ x. written.row_text x.vertex x.row) (map (placed v) trace) (placed_from (suc v) traces)
     ∙ (λ i. text_of-trace v trace i ++ text_of-traces (suc v) traces i)
 
 -- it is what the default writer of csv would write of their records
@@ -234,55 +228,35 @@ header_line : (lines : List ℕ) → strip_bom (written.header ++ lines)
 unfolding strip_bom is_blank fields_text
 header_line lines = refl
 
-with_header : (rows : List Row) (lines : List ℕ) → rows_text rows ≡ lines
-    → strip_bom (written.header ++ lines) ≡ rows_text (trace_header ∷ rows)
-unfolding rows_text
-with_header rows lines same = header_line lines
-    ∙ ap (λ (t : List ℕ). writer.row_text default_writer trace_header ++ t) (sym same)
-
-records_of-rows : (rows : List Row) (text : List ℕ) → strip_bom text ≡ rows_text rows
-    → records_of text ≡ map read_back rows
-records_of-rows rows text same =
-    let few = fewer_records rows in
-    rw same (all_read rows (length (rows_text rows) + 1) (omega arith))
-
 records_of-traces : (G : Multigraph) (traces : List (List TraceRow)) → AreRead G (placed_from 0 traces)
     → records_of (trace_text traces) ≡ trace_header ∷ map record_at (placed_from 0 traces)
+unfolding rows_text
 records_of-traces G traces all =
     let xs = placed_from 0 traces in
-    let lines = text_of-records G xs all ∙ text_of-traces 0 traces in
-    records_of-rows (trace_header ∷ map record_at xs) (trace_text traces)
-    (with_header (map record_at xs) (lines_from 0 traces) lines)
-    ∙ ap (λ (rows : List Row). trace_header ∷ rows) (read_back-records xs)
+    let rows : List Row = trace_header ∷ map record_at xs in
+    let few = fewer_records rows in
+    let same : strip_bom (trace_text traces) ≡ rows_text rows = header_line (lines_from 0 traces)
+    ∙ ap (λ (t : List ℕ). writer.row_text default_writer trace_header ++ t)
+    (sym (text_of-records G xs all ∙ text_of-traces 0 traces)) in
+    rw same (all_read rows (length (rows_text rows) + 1) (omega arith))
+    ∙ ap (λ (read : List Row). trace_header ∷ read) (read_back-records xs)
 
 -- ---- nothing is wrong with them
-
-none_of : {F : Type 0} (first later : Option F) → first ≡ None → later ≡ None → first_of_faults first later ≡ None
-none_of None later e h = h
-none_of (Some f) later e h = cc e
 
 no_fault : (G : Multigraph) (before : List Row) (xs : List Placed) → AreRead G xs
     → first_row_fault (by_index (trace_row_fault G)) before (map record_at xs) ≡ None
 no_fault G before [] all = refl
 no_fault G before (x ∷ xs) all =
-    none_of (trace_row_fault G (length before) (record_at x))
-    (first_row_fault (by_index (trace_row_fault G)) (before ++ record_at x ∷ []) (map record_at xs))
-    (all.0.no_fault (length before)) (no_fault G (before ++ record_at x ∷ []) xs all.1)
+    rw (all.0.no_fault (length before)) (no_fault G (before ++ record_at x ∷ []) xs all.1)
 
 -- ---- what they say of a vertex
 
-said_by : (b : Bool) (fields : Row) (row : TraceRow) (others : List Row) (rows : List TraceRow)
-    → trace_row_in fields ≡ row → map trace_row_in others ≡ rows
-    → map trace_row_in (if b then fields ∷ others else others) ≡ (if b then row ∷ rows else rows)
-said_by true fields row others rows e h = λ i. e i ∷ h i
-said_by false fields row others rows e h = h
-
 said : (G : Multigraph) (v : ℕ) (xs : List Placed) → AreRead G xs → trace_in (map record_at xs) v ≡ rows_of xs v
 said G v [] all = refl
-said G v (x ∷ xs) all =
-    let others = filter (λ row. number_in 0 row == v) (map record_at xs) in
-    ap (λ (u : ℕ). map trace_row_in (if u == v then record_at x ∷ others else others)) all.0.vertex
-    ∙ said_by (x.vertex == v) (record_at x) x.row others (rows_of xs v) all.0.means (said G v xs all.1)
+said G v (x ∷ xs) all = rw all.0.vertex (elim (cases_Bool (x.vertex == v)) [
+  | inl own ↦ rw own (λ i. all.0.means i ∷ said G v xs all.1 i)
+  | inr other ↦ rw other (said G v xs all.1)
+])
 
 rows_of-own : (v : ℕ) (trace : List TraceRow) → rows_of (map (placed v) trace) v ≡ trace
 rows_of-own v [] = refl
@@ -332,11 +306,11 @@ written_is_read G traces graph are =
 
 -- ---- nothing else is read
 
+-- a field gives no number of more than 64 bits
 few_by : (test : Bool) (n : ℕ) → (test ≡ true → n < 2 ^ 64) → unwrap_or (if test then Some n else None) 0 < 2 ^ 64
 few_by true n fits = fits refl
 few_by false n fits = omega arith
 
--- a field gives no number of more than 64 bits
 few_of : (field : Option (List ℕ)) → unwrap_or (option_and_then number_of field) 0 < 2 ^ 64
 few_of None = omega arith
 few_of (Some field) = few_by _ (digits_value 10 field)
@@ -379,8 +353,7 @@ rows_fit : (G : Multigraph) (before rows : List Row)
     → AllByRecursion (λ row. IsRowIn G (trace_row_in row)) rows
 rows_fit G before [] none = tt
 rows_fit G before (row ∷ rows) none =
-    let parts = none_parts (trace_row_fault G (length before) row)
-    (first_row_fault (by_index (trace_row_fault G)) (before ++ row ∷ []) rows) none in
+    let parts = none_parts (trace_row_fault G (length before) row) _ none in
     (row_fits G (length before) row parts.0, rows_fit G (before ++ row ∷ []) rows parts.1)
 
 trace_fits : (G : Multigraph) (rows : List Row) → All (λ row. IsRowIn G (trace_row_in row)) rows → (v : ℕ)
@@ -398,8 +371,7 @@ pub read_is_in_graph : ReadIsInGraph
 read_is_in_graph G text traces meant =
     let rows = rows_under_header (records_of text) in
     let fine = given (trace_text_fault G text) (map (trace_in rows) (range_with_len 0 G.vertices)) traces meant in
-    let none = none_parts (fault_unless (has_header trace_header (records_of text)) fault.Header)
-    (first_row_fault (by_index (trace_row_fault G)) [] rows) fine.0 in
+    let none = none_parts (fault_unless (has_header trace_header (records_of text)) fault.Header) _ fine.0 in
     let all = All-from_recursion (λ row. IsRowIn G (trace_row_in row)) rows (rows_fit G [] rows none.1) in
     let are : AreTracesIn G (map (trace_in rows) (range_with_len 0 G.vertices)) = record {
       each = length-map-range_with_len (trace_in rows) 0 G.vertices;

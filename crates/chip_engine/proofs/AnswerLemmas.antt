@@ -1,6 +1,6 @@
 -- Serves SimulateCommand.antt.
 -- The lines of a schedule, as far as it was run.
-use Rattle.std.proofs.Common.{◌≡◌, ℕ, Bool, true, false, List, [], ◌∷◌, ◌++◌, flat_map, refl, sym, ap, ◌∙◌, subst, append_assoc, append-nil}
+use Rattle.std.proofs.Common.{◌≡◌, ℕ, Bool, true, false, List, [], ◌∷◌, ◌++◌, flat_map, refl, sym, append_assoc, append-nil}
 use Rattle.chip_link.specs.declared.event.Event.{Event}
 use Rattle.chip_part.specs.declared.reply.Reply.{Reply}
 use Rattle.chip_part.specs.Setting.{Setting}
@@ -28,23 +28,19 @@ answers_text-plain g log (x ∷ xs) =
 abbrev pub HasRun : Bool → Setting → List Event → WorldState → List ℕ → Type 0
 HasRun books g done w text = StandsForLog g (log_after g [] done) w × (text ≡ answers_text books g [] done)
 
+regroup : (text reply board : List ℕ) → (text ++ reply) ++ board ≡ text ++ ((reply ++ board) ++ [])
+regroup text reply board = simp (append_assoc, append-nil)
+
 -- one event more, its answer and the books
 pub one_answer_more : (g : Setting) (done : List Event) (x : Event) (old new : WorldState) (reply : Reply)
     (text middle text' : List ℕ) → HasRun true g done old text → Steps old new x reply → middle ≡ text ++ reply_text reply
     → WhateverLog new (λ h log. text' ≡ middle ++ board_text h log) → HasRun true g (done ++ x ∷ []) new text'
 one_answer_more g done x old new reply text middle text' (stands, text_is) steps wrote board =
-    let log : Log = log_after g [] done in
-    let after : Log = (step g log x).0 in
-    let made = steps g log stands in
-    let log_is : log_after g [] (done ++ x ∷ []) ≡ after = log_after-append g [] done (x ∷ []) in
-    let said : reply_text reply ++ board_text g after ≡ answers_text true g log (x ∷ []) =
-    ap (λ (r : Reply). reply_text r ++ board_text g after) made.1 ∙ sym (append-nil (answer_text true g after (step g log x).1)) in (
-      subst (λ (l : Log). StandsForLog g l new) (sym log_is) made.0,
-      board g after made.0
-          ∙ ap (λ (t : List ℕ). t ++ board_text g after) wrote
-          ∙ append_assoc text (reply_text reply) (board_text g after)
-          ∙ (λ j. text_is j ++ said j)
-          ∙ sym (answers_text-append true g [] done (x ∷ [])),
+    let made = steps g (log_after g [] done) stands in
+    rw (log_after-append g [] done (x ∷ []), answers_text-append true g [] done (x ∷ [])) (
+      made.0,
+      rw (board g _ made.0, wrote, text_is, made.1) (regroup _ (reply_text (step g (log_after g [] done) x).1)
+          (board_text g (step g (log_after g [] done) x).0)),
     )
 
 -- a stretch of events more, and its replies
@@ -52,10 +48,8 @@ pub one_stretch_more : (g : Setting) (done stretch : List Event) (old new : Worl
     (text text' : List ℕ) → HasRun false g done old text → WhateverLog old (λ h log. Runs h log stretch new r)
     → text' ≡ text ++ flat_map reply_text r.replies.items → HasRun false g (done ++ stretch) new text'
 one_stretch_more g done stretch old new r text text' (stands, text_is) runs wrote =
-    let log : Log = log_after g [] done in
-    let made = runs g log stands in
-    let said : flat_map reply_text r.replies.items ≡ answers_text false g log stretch =
-    ap (flat_map reply_text) made.recorded.replies_are ∙ sym (answers_text-plain g log stretch) in (
-      subst (λ (l : Log). StandsForLog g l new) (sym (log_after-append g [] done stretch)) made.world,
-      wrote ∙ (λ j. text_is j ++ said j) ∙ sym (answers_text-append false g [] done stretch),
+    let made = runs g (log_after g [] done) stands in
+    rw (log_after-append g [] done stretch, answers_text-append false g [] done stretch) (
+      made.world,
+      rw (wrote, text_is, answers_text-plain g (log_after g [] done) stretch, made.recorded.replies_are) refl,
     )

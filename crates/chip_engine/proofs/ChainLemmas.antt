@@ -1,7 +1,7 @@
 -- Serves Sittings.antt.
 -- Plays that go on, from text to text.
 use Rattle.std.proofs.Common.{◌≡◌, ℕ, ◌+◌, List, [], ◌∷◌, codes, slice_index, true}
-use Rattle.std.proofs.Common.{refl, sym, ap, ◌∙◌, subst, inl, inr}
+use Rattle.std.proofs.Common.{refl, sym, ◌∙◌, subst, inl, inr}
 use Rattle.std.specs.Prelude.{◌&&◌}
 use Rattle.std.proofs.lemmas.List.{append_cancel_left}
 use Rattle.chip_graph.specs.Limits.{SizeLimits}

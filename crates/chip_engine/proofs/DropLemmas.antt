@@ -1,7 +1,7 @@
 -- Serves AvalanchesCommand.antt.
 -- Drops that a file names, and what playing them comes to.
-use Rattle.std.proofs.Common.{◌≡◌, ℕ, ◌+◌, ◌<◌, ◌≤◌, Bool, true, false, List, [], ◌∷◌, ◌++◌, length, map, take}
-use Rattle.std.proofs.Common.{slice_index, Option, None, Some, refl, sym, ap, ◌∙◌, subst, arith, inl, inr}
+use Rattle.std.proofs.Common.{◌≡◌, ℕ, ◌<◌, ◌≤◌, Bool, true, false, List, [], ◌∷◌, ◌++◌, length, map, take}
+use Rattle.std.proofs.Common.{slice_index, Option, None, Some, refl, sym, ◌∙◌, subst, arith, inl, inr}
 use Rattle.std.specs.Prelude.{All}
 use Rattle.std.proofs.Common.{ltb, ltb-true}
 use Rattle.std.proofs.lemmas.Bool.{false_from_ne_true}
@@ -9,8 +9,7 @@ use Rattle.std.specs.Io.KnownBytes.{Appends}
 use Rattle.std.proofs.lemmas.List.{take_all}
 use Rattle.std.proofs.lemmas.List.Elements.{All-nil, All-cons}
 use Rattle.chip_graph.specs.ChipGame.{ChipGame}
-use Rattle.chip_graph.specs.Multigraph.{Multigraph, degree}
-use Rattle.chip_graph.specs.More.{HasMore}
+use Rattle.chip_graph.specs.Multigraph.{degree}
 use Rattle.chip_file.specs.DropsText.{drop_in, drops_of_text, drops_text_fault}
 use Rattle.chip_file.specs.Rows.{Row, records_of, rows_under_header, by_index, first_row_fault}
 use Rattle.chip_file.specs.VertexRows.{vertex_in, vertex_row_fault}
@@ -20,7 +19,6 @@ use Rattle.chip_sequence.proofs.CertificateLemmas.{end_of_the_way}
 use Rattle.chip_engine.proofs.SittingLemmas.{none_legal}
 use Rattle.chip_drops.specs.declared.avalanche.Avalanche.{Avalanche}
 use Rattle.chip_drops.specs.declared.pile.Pile.{Pile}
-use Rattle.chip_drops.specs.Avalanches.{AreAvalanches}
 use Rattle.chip_drops.specs.Pile.{IsPile, IsStable}
 use Rattle.chip_drops.specs.Rows.{rows_text, IsAfter, AreRows, EndsRows}
 use Rattle.chip_report.specs.ReportText.{is_closed}
@@ -91,10 +89,7 @@ module _ (g : ChipGame) (ds : List (ℕ × ℕ)) (o : Outcome) (played : IsPlaye
     played = played;
     told = told;
     left = slice_index p'.chips.items;
-    avalanches = subst (λ (G : Multigraph). AreAvalanches G (slice_index o.chips.items) (take n ds) told
-        (slice_index p'.chips.items)) (ap (λ (h : ChipGame). h.graph) game)
-        (subst (λ (l : List ℕ). AreAvalanches p.game.graph (slice_index l) (take n ds) told (slice_index p'.chips.items))
-        chips after.avalanches);
+    avalanches = rw (game, chips) at after.avalanches;
     text_is = refl;
   }
 
@@ -107,14 +102,10 @@ module _ (g : ChipGame) (ds : List (ℕ × ℕ)) (o : Outcome) (played : IsPlaye
       × TellsDrops g ds n text × Appends old new text
   ends_come old new p' true ends =
       let whole : take (length ds) ds ≡ ds = take_all (length ds) ds (omega arith) in
-      let after : IsAfter p (take (length ds) ds) ends.0 p' =
-      subst (λ (l : List (ℕ × ℕ)). IsAfter p l ends.0 p') (sym whole) ends.1 in
-      let text : List ℕ = rows_text ds ends.0 in
-      let told : TellsDrops g ds (length ds) text =
-      subst (λ (l : List (ℕ × ℕ)). TellsDrops g ds (length ds) (rows_text l ends.0)) whole
-      (tells (length ds) ends.0 p' after) in (
-        text,
-        (λ end is. inl (told, subst (λ (h : ChipGame). HasMore h ds p'.game) game ends.1.game)),
+      let told : TellsDrops g ds (length ds) (rows_text ds ends.0) =
+      rw whole at (tells (length ds) ends.0 p' (rw whole ends.1)) in (
+        rows_text ds ends.0,
+        (λ end is. inl (told, rw game at ends.1.game)),
         length ds,
         told,
         ends.2,
@@ -126,7 +117,7 @@ module _ (g : ChipGame) (ds : List (ℕ × ℕ)) (o : Outcome) (played : IsPlaye
           ends.0,
           ends.1.inside,
           told,
-          subst (λ (h : ChipGame). HasMore h (take (ends.0 + 1) ds) p'.game) game ends.1.game,
+          rw game at ends.1.game,
           stopped_open p' ends.1.pile ends.1.legal end is,
         ))),
         ends.0,

@@ -1,9 +1,9 @@
 -- Serves SimulatedBytes.antt.
 -- The report of a simulation is the one that `plain` writes.
-use Rattle.std.proofs.Common.{◌≡◌, ◌≢◌, ◌<◌, ◌⊎◌, ℕ, zero, suc, ◌++◌, List, [], ◌∷◌, nat_lt, Bool, true, false, cond, Option, Some, None}
-use Rattle.std.proofs.Common.{refl, sym, ap, ◌∙◌, subst, inl, inr, arith}
-use Rattle.std.proofs.lemmas.Bool.{ltb-true, ltb-false}
-use Rattle.chip_graph.proofs.SumLemmas.{by_test}
+use Rattle.std.proofs.Common.{◌≡◌, ◌≢◌, ◌<◌, ◌⊎◌, ℕ, ◌++◌, List, [], Bool, false, Contains, Option, Some, None}
+use Rattle.std.proofs.Common.{refl, sym, ap, ◌∙◌, inl, inr, arith}
+use Rattle.std.proofs.lemmas.Bool.{false_from_ne_true}
+use Rattle.chip_sequence.proofs.LegalLemmas.{picked_has}
 use Rattle.chip_graph.specs.ChipGame.{ChipGame}
 use Rattle.chip_graph.specs.Sums.{filter_below}
 use Rattle.chip_report.specs.ReportText.{report_text}
@@ -23,22 +23,10 @@ use Rattle.chip_engine.specs.SimulateCommand.{EndsBy, EndsClosed}
 use Rattle.chip_engine.specs.SimulatedBytes.{IsWhatPlainWrites, ClosedAs, StayedOpen, SimulatedBytes}
 use Rattle.chip_engine.specs.declared.simulate.SimulateOptions.{SimulateOptions}
 
-both_nil : {A : Type 0} (xs ys : List A) → xs ++ ys ≡ [] → (xs ≡ []) × (ys ≡ [])
-both_nil [] ys is = (refl, is)
-both_nil (x ∷ xs) ys is = cc
-
-not_one : (b : Bool) (n : ℕ) → cond b (n ∷ []) [] ≡ [] → b ≡ false
-not_one true n is = cc
-not_one false n is = refl
-
 -- where none is picked, each fails the test
 none_picked : (test : ℕ → Bool) (n : ℕ) → filter_below test n ≡ [] → (v : ℕ) → v < n → test v ≡ false
-none_picked test zero none v below = absurd (omega arith)
-none_picked test (suc n) none v below =
-    let parts = both_nil (filter_below test n) (cond (test n) (n ∷ []) []) none in
-    by_test (nat_lt v n) (λ is. none_picked test n parts.0 v (ltb-true v n is))
-    (λ is. let last : v ≡ n = (let past = ltb-false v n is in omega arith) in
-    subst (λ (k : ℕ). test k ≡ false) (sym last) (not_one (test n) n parts.1))
+none_picked test n none v below = false_from_ne_true (test v) (λ is.
+    let has : Contains [] v = rw none at (picked_has test n v below is) in let past = has.1 in omega arith)
 
 not_by_seal : (h : Option Cause) → is_by_seal h ≡ false → h ≢ Some SealedEdge
 not_by_seal None fails = λ is. cc

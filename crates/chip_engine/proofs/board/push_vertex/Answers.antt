@@ -1,4 +1,4 @@
-use Rattle.std.proofs.Common.{◌≡◌, ℕ, ◌<◌, List, ◌++◌, length, eqb, codes, flat_map, Option, string_bytes, sym, ap, ◌∙◌, arith, append_assoc}
+use Rattle.std.proofs.Common.{◌≡◌, ℕ, List, ◌++◌, length, eqb, codes, flat_map, Option, string_bytes, sym, ap, ◌∙◌, arith, append_assoc}
 use Rattle.chip_graph.specs.ChipGame.{ChipGame}
 use Rattle.chip_graph.specs.Multigraph.{edges_in, edge_at}
 use Rattle.chip_graph.proofs.PickLemmas.{All-picked}

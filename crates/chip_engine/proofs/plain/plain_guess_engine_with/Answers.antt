@@ -1,5 +1,4 @@
-use Rattle.std.proofs.Common.{◌≡◌, inl, inr, ap, ◌∙◌}
-use Rattle.chip_graph.specs.Multigraph.{Multigraph}
+use Rattle.std.proofs.Common.{inl, inr}
 use Rattle.chip_command.proofs.CommandLemmas.{refused, delivered}
 use Rattle.chip_engine.proofs.plain.plain_guess_engine_with.Goals as goal
 
@@ -10,7 +9,7 @@ pub returns-in_err-counts : goal.returns-in_err-counts
 returns-in_err-counts g c = refused _ c.from_residual-in_err-counts.ensures.1 (inr (
   c.in_ok-game.game,
   c.in_ok-game.ensures,
-  inl (rw (c.vertices.ensures.value ∙ ap (λ (G : Multigraph). G.vertices) c.graph.ensures.value) at c.in_err-counts.ensures),
+  inl (rw (c.vertices.ensures.value, c.graph.ensures.value) at c.in_err-counts.ensures),
 ))
 
 pub returns-in_err-answer : goal.returns-in_err-answer
@@ -19,7 +18,7 @@ returns-in_err-answer g c = refused _ c.from_residual-in_err-answer.ensures.1 (i
   c.in_ok-game.ensures,
   inr (
     c.in_ok-counts.counts,
-    rw (c.vertices.ensures.value ∙ ap (λ (G : Multigraph). G.vertices) c.graph.ensures.value) at c.in_ok-counts.ensures,
+    rw (c.vertices.ensures.value, c.graph.ensures.value) at c.in_ok-counts.ensures,
     c.in_err-answer.ensures,
   ),
 ))
@@ -30,7 +29,7 @@ returns g c = delivered _ _ c.deliver.ensures (
   c.in_ok-game.ensures,
   (
     c.in_ok-counts.counts,
-    rw (c.vertices.ensures.value ∙ ap (λ (G : Multigraph). G.vertices) c.graph.ensures.value) at c.in_ok-counts.ensures,
+    rw (c.vertices.ensures.value, c.graph.ensures.value) at c.in_ok-counts.ensures,
     c.in_ok-answer.ensures,
   ),
 )

@@ -1,6 +1,5 @@
-use Rattle.std.proofs.Common.{◌≡◌, Bool, Vec, Global, List, inl, inr, refl, ◌∙◌, ap, map, length}
+use Rattle.std.proofs.Common.{Bool, List, inl, inr, refl, ap, map}
 use Rattle.chip_graph.specs.ChipGame.{ChipGame}
-use Rattle.chip_graph.specs.Multigraph.{Multigraph}
 use Rattle.chip_link.specs.declared.trace.TraceRow.{TraceRow}
 use Rattle.chip_trace.specs.declared.fault.ReplayFault.{ReplayFault}
 use Rattle.chip_trace.specs.declared.fault.ReplayFault.TheVariants as replay_fault
@@ -19,9 +18,7 @@ not_replayed complete g traces (replay_fault.Stuck vertex row) stuck = inl (vert
 not_replayed complete g traces replay_fault.NoMemory stuck = inr refl
 
 pub replay-requires : goal.replay-requires
-replay-requires g c =
-    ap (λ (ts : List (Vec TraceRow Global)). length ts) c.deref.ensures.value ∙ c.in_ok-traces.ensures.each
-    ∙ ap (λ (G : Multigraph). G.vertices) c.graph.ensures.value
+replay-requires g c = rw (c.deref.ensures.value, ← c.graph.ensures.value) c.in_ok-traces.ensures.each
 
 pub returns-in_err-traces : goal.returns-in_err-traces
 returns-in_err-traces g c = rw (handed_on _ c.from_residual.ensures.1) (inl (λ text text_is.

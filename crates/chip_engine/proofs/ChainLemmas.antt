@@ -8,20 +8,20 @@ use Rattle.chip_graph.specs.Limits.{SizeLimits}
 use Rattle.chip_graph.specs.Multigraph.{Multigraph}
 use Rattle.chip_file.specs.GraphText.{MeansGraph}
 use Rattle.chip_sequence.specs.Firing.{IsLegal}
-use Rattle.chip_sequence.specs.Sittings.{IsResumed, IsPlayFrom, LeadsTo}
+use Rattle.chip_sequence.specs.Sittings.{IsResumed, LeadsTo}
 use Rattle.chip_sequence.specs.declared.resumed.Resumed.{Resumed}
 use Rattle.chip_report.specs.ReportText.{is_empty, report_text}
 use Rattle.chip_report.specs.ReportTwo.{SittingContent, sitting_content, report_two_text, IsAnyReportOf}
 use Rattle.chip_report.proofs.ReportTwoLemmas.{one_sitting, not_both}
 use Rattle.chip_command.specs.Inputs.{Reads}
-use Rattle.chip_engine.specs.ResumeCommand.{LeadsToTheEnd}
+use Rattle.chip_engine.specs.ResumeCommand.{LeadsToTheEnd, ReportsOn}
 use Rattle.chip_command.specs.Sitting.{TellsPlayFrom}
 use Rattle.chip_command.proofs.SittingLemmas.{first_tells, report_tells}
 use Rattle.chip_command.proofs.OneReportLemmas.{plain_reports}
 use Rattle.chip_engine.specs.Sittings.{IsResumedTo, AreResumed}
 use Rattle.chip_core.specs.Positions.{chips_given}
 use Rattle.chip_engine.specs.Sittings.{PlainTellsPlay, SimulateTellsPlay, ResumedPlaysAddUp}
-use Rattle.chip_engine.proofs.SittingLemmas.{LeavesNoneLegal, none_legal, leads_on}
+use Rattle.chip_engine.proofs.SittingLemmas.{none_legal, leads_on}
 
 -- ---- a first sitting
 
@@ -60,34 +60,28 @@ read_again report s fits spelled r (inl first) =
     absurd (not_both report r.outcome s first.0 (record { reportable = fits; spelled = spelled }))
 read_again report s fits spelled r (inr two) = one_sitting s r fits two.reportable (sym spelled ∙ two.spelled)
 
--- a report that `resume` wrote on one that tells a play tells the play that goes on
-goes_on : (limits : SizeLimits) (graph_text : List ℕ) (G : Multigraph)
-    → Reads limits graph_text (MeansGraph limits graph_text G)
-    → (x : ℕ → ℕ) (before : List ℕ) → TellsPlayFrom G x before
-    → (report : List ℕ) → IsResumedTo graph_text before report
-    → (r : Resumed) → IsAnyReportOf report r → LeadsToTheEnd G x r
-goes_on limits graph_text G reads x before tells report (others, limit, ended, resumed) r is =
-    let (text, (H, H_means, (earlier, told, on)), wrote, cut) = resumed.answer in
-    let graphs : H ≡ G = same_graph others limits graph_text H G (H_means graph_text refl).1 reads.1 in
-    let same = read_again report on.resumed on.goes_on.in_range (wrote ∙ on.reported) r is in
-    let from : IsPlayFrom H x earlier = subst (λ (K : Multigraph). IsPlayFrom K x earlier) (sym graphs)
-    (tells earlier (told.0 before refl).1.0) in
-    let leads : IsPlayFrom H x r = subst (LeadsInAll H x) same (on.adds_up x from).leads in
-    let none : LeavesNoneLegal H r.outcome =
-    subst (LeavesNone H) same (none_legal _ on.resumed.outcome on.goes_on.played) in
-    leads_on G reads.1.valid.graph x r (subst (λ (K : Multigraph). IsPlayFrom K x r) graphs leads)
-    (subst (λ (K : Multigraph). LeavesNoneLegal K r.outcome) graphs none)
+module _ (limits : SizeLimits) (graph_text : List ℕ) (G : Multigraph)
+    (reads : Reads limits graph_text (MeansGraph limits graph_text G)) (x : ℕ → ℕ) where
+  -- a report that `resume` wrote on one that tells a play tells the play that goes on
+  goes_on : (before : List ℕ) → TellsPlayFrom G x before → (report : List ℕ) → IsResumedTo graph_text before report
+      → (r : Resumed) → IsAnyReportOf report r → LeadsToTheEnd G x r
+  goes_on before tells report (others, limit, ended, resumed) r is =
+      let (text, (H, H_means, (earlier, told, H_on)), wrote, cut) = resumed.answer in
+      let graphs : H ≡ G = same_graph others limits graph_text H G (H_means graph_text refl).1 reads.1 in
+      let on : ReportsOn G earlier limit text ended.status =
+      subst (λ (K : Multigraph). ReportsOn K earlier limit text ended.status) graphs H_on in
+      let same = read_again report on.resumed on.goes_on.in_range (wrote ∙ on.reported) r is in
+      leads_on G reads.1.valid.graph x r
+      (subst (LeadsInAll G x) same (on.adds_up x (tells earlier (told.0 before refl).1.0)).leads)
+      (subst (LeavesNone G) same (none_legal _ on.resumed.outcome on.goes_on.played))
 
--- and so do all that follow
-all_tell : (limits : SizeLimits) (graph_text : List ℕ) (G : Multigraph)
-    → Reads limits graph_text (MeansGraph limits graph_text G)
-    → (x : ℕ → ℕ) (first : List ℕ) → TellsPlayFrom G x first
-    → (reports : List (List ℕ)) (last : List ℕ) → AreResumed graph_text first reports last → TellsPlayFrom G x last
-all_tell limits graph_text G reads x first tells [] last are = subst (TellsPlayFrom G x) are tells
-all_tell limits graph_text G reads x first tells (report ∷ reports) last are =
-    all_tell limits graph_text G reads x report
-    (λ r is. (goes_on limits graph_text G reads x first tells report are.0 r is).leads) reports last are.1
+  -- and so do all that follow
+  all_tell : (first : List ℕ) → TellsPlayFrom G x first → (reports : List (List ℕ)) (last : List ℕ)
+      → AreResumed graph_text first reports last → TellsPlayFrom G x last
+  all_tell first tells [] last are = subst (TellsPlayFrom G x) are tells
+  all_tell first tells (report ∷ reports) last are =
+      all_tell report (λ r is. (goes_on first tells report are.0 r is).leads) reports last are.1
 
 pub resumed_plays_add_up : ResumedPlaysAddUp
-resumed_plays_add_up limits graph_text G reads x first tells reports before last are on =
-    goes_on limits graph_text G reads x before (all_tell limits graph_text G reads x first tells reports before are) last on
+resumed_plays_add_up limits graph_text G reads x first tells reports before last are on = goes_on limits graph_text G reads x
+    before (all_tell limits graph_text G reads x first tells reports before are) last on

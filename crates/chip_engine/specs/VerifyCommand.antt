@@ -21,33 +21,21 @@ pub record AgreesAt (told : Resumed) (o : Outcome) (v : ℕ) : Type 0 where
   pub over : Contains told.outcome.over.items v ↔ Contains o.over.items v
   pub sealed : Contains told.outcome.sealed.items v ↔ Contains o.sealed.items v
 
--- a sitting tells the outcome of the game, whatever was fired before it
-pub record IsReportOfGame (g : ChipGame) (told : Resumed) : Type 0 where
-  pub outcome : Outcome
-  pub played : IsPlayed g outcome
-  pub as_many : length told.outcome.fired.items ≡ g.graph.vertices
-  pub agrees : (v : ℕ) → v < g.graph.vertices → AgreesAt told outcome v
-
 -- v is the least vertex of which they do not tell the same
 pub record IsDifference (told : Resumed) (o : Outcome) (v : ℕ) : Type 0 where
   pub is_vertex : v < length o.fired.items
   pub differs : AgreesAt told o v → ⊥
   pub agrees_below : (u : ℕ) → u < v → AgreesAt told o u
 
--- a sitting tells another outcome than that of the game, of as many vertices, and v is the least where it does
-pub record DiffersAt (g : ChipGame) (told : Resumed) (v : ℕ) : Type 0 where
-  pub outcome : Outcome
-  pub played : IsPlayed g outcome
-  pub as_many : length told.outcome.fired.items ≡ g.graph.vertices
-  pub difference : IsDifference told outcome v
-
--- verifying a sitting says that it tells the outcome of the game; or it has another number of vertices than the game, or it
--- tells another outcome, or there is no memory
+-- verifying a sitting says that it tells the outcome of the game, whatever was fired before it; or it has another number of
+-- vertices than the game, or it tells another outcome, and this is the least vertex where it does, or there is no memory
 abbrev pub verifying : ChipGame → Resumed → Spec (List ℕ × ℕ)
 verifying g told = record {
-  gives = λ (text, status). IsReportOfGame g told × (text ≡ codes "verified\n") × (status ≡ 0);
+  gives = λ (text, status). (o : Outcome) × IsPlayed g o × (length told.outcome.fired.items ≡ g.graph.vertices)
+      × ((v : ℕ) → v < g.graph.vertices → AgreesAt told o v) × (text ≡ codes "verified\n") × (status ≡ 0);
   refuses = OrMemory (λ fault. ((length told.outcome.fired.items ≢ g.graph.vertices) × (fault ≡ Resume Mismatch))
-      ⊎ ((v : ℕ) × (fault ≡ Differs v) × DiffersAt g told v));
+      ⊎ ((o : Outcome) × IsPlayed g o × (length told.outcome.fired.items ≡ g.graph.vertices)
+      × (v : ℕ) × (fault ≡ Differs v) × IsDifference told o v));
 }
 
 -- what `verify` answers by these limits

@@ -18,20 +18,6 @@ use Rattle.chip_command.specs.Inputs.{Reads, IsRefused}
 use Rattle.chip_command.specs.declared.fault.Fault.{Fault}
 use Rattle.chip_engine.specs.GuessCommand.{has_brace, TellsCounts, MeansGuess, RefusesTold, RefusesGuess, reading_guess}
 
--- a text that could not be taken whole
-pub refused_whole : (limits : SizeLimits) (vertices : ℕ) (text : List ℕ) (f : FileFault)
-    → IsRefused limits text (λ _. ⊥) f → RefusesGuess limits vertices text (fault_of_file f)
-refused_whole limits vertices text f (inl machine) = inl (f, refl, inl machine)
-refused_whole limits vertices text f (inr (inl long)) = inl (f, refl, inr (inl long))
-refused_whole limits vertices text f (inr (inr none)) = absurd none.1
-
--- rows that are wrong, or want of memory
-pub refused_rows : (limits : SizeLimits) (vertices : ℕ) (text : List ℕ) (f : FileFault) → length text ≤ limits.bytes
-    → has_brace text ≡ false → (f ≡ file_fault.NoMemory) ⊎ (guess_text_fault vertices text ≡ Some f)
-    → RefusesGuess limits vertices text (fault_of_file f)
-refused_rows limits vertices text f short rows (inl none) = inl (f, refl, inl (inr none))
-refused_rows limits vertices text f short rows (inr wrong) = inl (f, refl, inr (inr (short, (rows, wrong))))
-
 -- a text that is no report, or want of memory
 pub no_report : (limits : SizeLimits) (vertices : ℕ) (text : List ℕ) (f : ReportFault)
     → (f ≡ report_fault.NoMemory) ⊎ ((f ≡ report_fault.NotReport) × IsNoReportAtAllWithin limits text)

@@ -9,7 +9,8 @@ use Rattle.chip_command.specs.declared.fault.Fault.{Fault}
 use Rattle.chip_command.proofs.InputLemmas.{Keeps-same}
 
 -- a fault that is handed on
-pub handed_on : {T : Type 0} {result : Result T Fault} (fault : Fault) → IsErrAnd result (λ f. f ≡ fault) → result ≡ Err fault
+pub handed_on : {T : Type 0} {result : Result T Fault} (fault : Fault) → IsErrAnd result (λ f. f ≡ fault)
+    → result ≡ Err fault
 handed_on {result = Ok value} fault is = absurd is
 handed_on {result = Err f} fault is = ap Err is
 
@@ -19,7 +20,8 @@ pub refused : {spec : Spec (List ℕ × ℕ)} {known : Option (List ℕ)} {resul
 refused {known = known} fault is why = rw (handed_on fault is) (record { answer = inl (why, Keeps-same known) })
 
 -- the answer of a command goes out, or the output fails
-pub delivered : {spec : Spec (List ℕ × ℕ)} {old new : Option (List ℕ)} {result : Result Ended Fault} (text : List ℕ) (status : ℕ)
+pub delivered : {spec : Spec (List ℕ × ℕ)} {old new : Option (List ℕ)} {result : Result Ended Fault}
+    (text : List ℕ) (status : ℕ)
     → Delivers old new text (record { status = status; cut = false }) result → spec.gives (text, status)
     → CommandAnswers spec old new result
 delivered {spec = spec} {result = Ok ended} text status went gives = record {

@@ -65,8 +65,8 @@ one_game limits others graph_text chips_text limit a b p q =
 
 -- what `plain` wrote is the report of the game that the texts mean
 pub plain_reports : (limits : SizeLimits) (graph_text chips_text : List ℕ) (limit : ℕ) (report : List ℕ) (status : ℕ)
-    (g : ChipGame) → MeansGame limits graph_text chips_text limit g → PlainWrote graph_text chips_text limit report status
-    → Reports g report status
+    (g : ChipGame) → MeansGame limits graph_text chips_text limit g
+    → PlainWrote graph_text chips_text limit report status → Reports g report status
 plain_reports limits graph_text chips_text limit report status g means
     (others, ended, (text, (h, gave, reports), out, cut), status_is) =
     let same : h ≡ g =

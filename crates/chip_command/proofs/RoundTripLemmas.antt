@@ -1,8 +1,8 @@
 -- Serves Laws.antt.
 -- What is read of the text of traces: the records, line by line, and of them the traces.
 use Rattle.std.proofs.Common.{◌≡◌, ℕ, zero, suc, ◌+◌, ◌^◌, ◌<◌, ◌≤◌, Bool, true, false, List, [], ◌∷◌, ◌++◌, length, map}
-use Rattle.std.proofs.Common.{get_or, codes, flat_map, Option, None, Some, Result, Ok, Err, refl, sym, ap, ◌∙◌, subst, inl, inr}
-use Rattle.std.proofs.Common.{arith, append_assoc, append-nil, length-append}
+use Rattle.std.proofs.Common.{get_or, codes, flat_map, Option, None, Some, Result, Ok, Err, refl, sym, ap, ◌∙◌}
+use Rattle.std.proofs.Common.{subst, inl, inr, arith, append_assoc, append-nil, length-append}
 use Rattle.std.specs.Prelude.{◌&&◌, ◌==◌, nat_lt, is_some, is_none, option_and_then, unwrap_or, if◌then◌else◌, All}
 use Rattle.std.specs.Prelude.{bytes_eq}
 use Rattle.std.specs.Fmt.{decimal}
@@ -26,7 +26,7 @@ use Rattle.csv.proofs.RoundTrip.{rows_text, read-write}
 use Rattle.chip_graph.specs.Limits.{standard}
 use Rattle.chip_graph.specs.Multigraph.{Multigraph, IsGraph}
 use Rattle.chip_graph.specs.Edges.{all_edges}
-use Rattle.chip_graph.specs.Faults.{first_of_faults, fault_unless}
+use Rattle.chip_graph.specs.Faults.{fault_unless}
 use Rattle.chip_link.specs.declared.trace.TraceRow.{TraceRow}
 use Rattle.chip_link.specs.declared.trace.TraceRow.TheVariants.{Take, Fire}
 use Rattle.chip_file.specs.Answer.{Answers}

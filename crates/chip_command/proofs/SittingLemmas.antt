@@ -1,6 +1,6 @@
 -- Serves Sitting.antt.
 -- What the report of a first sitting tells.
-use Rattle.std.proofs.Common.{◌≡◌, ℕ, List, length, slice_index, sym, ap, ◌∙◌, subst, arith, inl, inr}
+use Rattle.std.proofs.Common.{◌≡◌, ℕ, List, length, slice_index, sym, ◌∙◌, subst, arith, inl, inr}
 use Rattle.std.specs.Prelude.{replicate}
 use Rattle.std.proofs.lemmas.List.{get_or-replicate, get_or_past, length-replicate}
 use mathlib.Core.Logic.{dite}
@@ -13,7 +13,7 @@ use Rattle.chip_sequence.specs.declared.outcome.Outcome.{Outcome}
 use Rattle.chip_sequence.proofs.SittingLemmas.{played_is_sitting}
 use Rattle.chip_fire.proofs.PlayLemmas.{outcome_is}
 use Rattle.chip_report.specs.ReportText.{report_text}
-use Rattle.chip_report.specs.Reportable.{Content, content}
+use Rattle.chip_report.specs.Reportable.{Content}
 use Rattle.chip_report.proofs.ReportLemmas.{one_outcome}
 use Rattle.chip_report.proofs.ReportTwoLemmas.{not_both}
 use Rattle.chip_command.specs.Reports.{Reports}
@@ -37,13 +37,11 @@ pub first_tells : (G : Multigraph) (x : ℕ → ℕ) (o : Outcome) → IsOutcome
     → LeadsTo G x (slice_index o.fired.items) (slice_index o.chips.items)
     → (report : List ℕ) → report ≡ report_text o → TellsPlayFrom G x report
 first_tells G x o fits leads report spelled r (inl first) =
-    let same : content o ≡ content r.outcome =
-    one_outcome o r.outcome fits first.0.reportable (sym spelled ∙ first.0.spelled) in
     let of_it : LeadsTo G x (slice_index r.outcome.fired.items) (slice_index r.outcome.chips.items) =
-    subst (Leads G x) same leads in
+    subst (Leads G x) (one_outcome o r.outcome fits first.0.reportable (sym spelled ∙ first.0.spelled)) leads in
     let in_all : (v : ℕ) → slice_index r.outcome.fired.items v ≡ fired_in_all r v =
-    (λ v. let none : slice_index r.prior.items v ≡ 0 = ap (λ (l : List ℕ). slice_index l v) first.1
-    ∙ none_before (length r.outcome.fired.items) v in omega arith) in
+    (λ v. let none : slice_index r.prior.items v ≡ 0 = rw first.1 (none_before (length r.outcome.fired.items) v) in
+    omega arith) in
     subst (λ (f : ℕ → ℕ). LeadsTo G x f (slice_index r.outcome.chips.items)) (λ i v. in_all v i) of_it
 first_tells G x o fits leads report spelled r (inr two) =
     absurd (not_both report o r (record { reportable = fits; spelled = spelled }) two)

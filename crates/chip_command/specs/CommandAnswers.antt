@@ -31,7 +31,8 @@ OrMemory Refuses fault = Refuses fault ⊎ (fault ≡ NoMemory)
 
 -- a command has a text to write, with its status; or it refuses
 abbrev pub Gives : Spec (List ℕ × ℕ) → Result Answer Fault → Type 0
-Gives spec result = MatchResult result (λ answer. spec.gives (answer.text.items, number_of_status answer.status)) spec.refuses
+Gives spec result =
+    MatchResult result (λ answer. spec.gives (answer.text.items, number_of_status answer.status)) spec.refuses
 
 -- a text that it may write went out, with its status; or it refuses, and nothing is written; or the output failed
 abbrev pub AnswersBy : Spec (List ℕ × ℕ) → Option (List ℕ) → Option (List ℕ) → Result Ended Fault → Type 0
@@ -43,5 +44,6 @@ AnswersBy spec old new (Err fault) =
     × (w : WriteFault) × (fault ≡ Write w) × WritesAll old new text (Err w))
 
 -- what a command answers
-pub record CommandAnswers (spec : Spec (List ℕ × ℕ)) (old new : Option (List ℕ)) (result : Result Ended Fault) : Type 0 where
+pub record CommandAnswers (spec : Spec (List ℕ × ℕ)) (old new : Option (List ℕ))
+    (result : Result Ended Fault) : Type 0 where
   pub answer : AnswersBy spec old new result

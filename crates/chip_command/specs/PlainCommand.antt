@@ -20,4 +20,5 @@ plain_spec limits graph chips limit = bind (reading_game limits graph chips limi
 -- what `plain` answers by these limits, whose readers may know their texts
 abbrev pub PlainAnswers : SizeLimits → Option (List ℕ) → Option (List ℕ) → ℕ → Option (List ℕ) → Option (List ℕ)
     → Result Ended Fault → Type 0
-PlainAnswers limits graph chips limit old new result = CommandAnswers (plain_spec limits graph chips limit) old new result
+PlainAnswers limits graph chips limit old new result =
+    CommandAnswers (plain_spec limits graph chips limit) old new result

@@ -1,6 +1,7 @@
 -- Serves SimulateCommand.antt.
 -- The lines of a schedule, as far as it was run.
-use Rattle.std.proofs.Common.{◌≡◌, ℕ, Bool, true, false, List, [], ◌∷◌, ◌++◌, flat_map, refl, sym, append_assoc, append-nil}
+use Rattle.std.proofs.Common.{◌≡◌, ℕ, Bool, true, false, List, [], ◌∷◌, ◌++◌, flat_map, refl, sym, append_assoc}
+use Rattle.std.proofs.Common.{append-nil}
 use Rattle.chip_link.specs.declared.event.Event.{Event}
 use Rattle.chip_part.specs.declared.reply.Reply.{Reply}
 use Rattle.chip_part.specs.Setting.{Setting}

@@ -31,7 +31,8 @@ same_graph : (limits others : SizeLimits) (graph_text : List ℕ) (G H : Multigr
 same_graph limits others graph_text G H one other = let a = one.meaning in let b = other.meaning in cc
 
 pub plain_tells_play : PlainTellsPlay
-plain_tells_play limits graph_text chips_text limit report ended plain g means = report_tells g means.game report ended.status
+plain_tells_play limits graph_text chips_text limit report ended plain g means =
+    report_tells g means.game report ended.status
     (plain_reports limits graph_text chips_text limit report ended.status g means (limits, ended, plain.answer, refl))
 
 pub simulate_tells_play : SimulateTellsPlay
@@ -83,5 +84,6 @@ module _ (limits : SizeLimits) (graph_text : List ℕ) (G : Multigraph)
       all_tell report (λ r is. (goes_on first tells report are.0 r is).leads) reports last are.1
 
 pub resumed_plays_add_up : ResumedPlaysAddUp
-resumed_plays_add_up limits graph_text G reads x first tells reports before last are on = goes_on limits graph_text G reads x
-    before (all_tell limits graph_text G reads x first tells reports before are) last on
+resumed_plays_add_up limits graph_text G reads x first tells reports before last are on =
+    goes_on limits graph_text G reads x before
+    (all_tell limits graph_text G reads x first tells reports before are) last on

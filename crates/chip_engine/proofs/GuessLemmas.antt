@@ -1,22 +1,19 @@
 -- Serves GuessCommand.antt.
 -- Counts that a text gives.
-use Rattle.std.proofs.Common.{◌≡◌, ◌⊎◌, ℕ, ◌≤◌, true, false, List, length, Option, Some, Result, Ok, Err, inl, inr}
-use Rattle.std.proofs.Common.{ap, refl, subst}
+use Rattle.std.proofs.Common.{◌≡◌, ◌⊎◌, ℕ, ◌≤◌, true, List, length, Option, Some, Result, Ok, Err, inl, inr}
+use Rattle.std.proofs.Common.{ap, subst}
 use Rattle.std.specs.Global.{Vec}
 use Rattle.std.specs.Option.{ForSome}
 use Rattle.std.specs.Result.{MatchResult}
 use Rattle.chip_graph.specs.Limits.{SizeLimits}
-use Rattle.chip_file.specs.GuessText.{guess_text_fault}
-use Rattle.chip_file.specs.declared.fault.FileFault.{FileFault}
-use Rattle.chip_file.specs.declared.fault.FileFault.TheVariants as file_fault
 use Rattle.chip_report.specs.ReportTwo.{IsNoReportAtAllWithin}
 use Rattle.chip_report.specs.declared.fault.ReportFault.{ReportFault}
 use Rattle.chip_report.specs.declared.fault.ReportFault.TheVariants as report_fault
 use Rattle.chip_command.specs.CommandAnswers.{Meets}
-use Rattle.chip_command.specs.Faults.{fault_of_file, fault_of_report}
-use Rattle.chip_command.specs.Inputs.{Reads, IsRefused}
+use Rattle.chip_command.specs.Faults.{fault_of_report}
+use Rattle.chip_command.specs.Inputs.{Reads}
 use Rattle.chip_command.specs.declared.fault.Fault.{Fault}
-use Rattle.chip_engine.specs.GuessCommand.{has_brace, TellsCounts, MeansGuess, RefusesTold, RefusesGuess, reading_guess}
+use Rattle.chip_engine.specs.GuessCommand.{has_brace, TellsCounts, MeansGuess, RefusesTold, reading_guess}
 
 -- a text that is no report, or want of memory
 pub no_report : (limits : SizeLimits) (vertices : ℕ) (text : List ℕ) (f : ReportFault)

@@ -69,5 +69,5 @@ ends_so graph_text chips_text options game means log Closed out lines end status
 pub simulated_bytes : SimulatedBytes
 simulated_bytes graph_text chips_text schedule_text options out ended simulated =
     let (text, (game, gave, (events, read, simulates)), wrote, cut) = simulated.answer in
-    ends_so graph_text chips_text options game (gave.means graph_text refl chips_text refl) simulates.after simulates.drive out _ simulates.end ended.status
-    (wrote ∙ simulates.lines) simulates.ends
+    ends_so graph_text chips_text options game (gave.means graph_text refl chips_text refl) simulates.after
+    simulates.drive out _ simulates.end ended.status (wrote ∙ simulates.lines) simulates.ends

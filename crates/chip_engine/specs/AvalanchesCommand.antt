@@ -71,8 +71,8 @@ pub record Outputs : Type 0 where
   pub rows : Option (List ℕ)
   pub report : Option (Option (List ℕ))
 
--- what playing the game and then the drops answers: the outcome of the game with the chips that were dropped; or there was
--- no memory for the play, or a fault came after a front of the rows of some drops
+-- what playing the game and then the drops answers: the outcome of the game with the chips that were dropped; or there
+-- was no memory for the play, or a fault came after a front of the rows of some drops
 abbrev pub PlaysDrops : ChipGame → List (ℕ × ℕ) → Option (List ℕ) → Option (List ℕ) → Result Outcome Fault → Type 0
 PlaysDrops g ds old new (Ok outcome) = (text : List ℕ) × (g' : ChipGame) × ComesTo g ds text g' outcome
     × IsPlayed g' outcome × Appends old new text
@@ -89,8 +89,8 @@ WritesReport (Some old) (Some new) text (Err fault) =
     ((fault ≡ NoMemory) × Keeps old new) ⊎ ((w : WriteFault) × (fault ≡ Write w) × WritesAll old new text (Err w))
 WritesReport _ _ text result = ⊥
 
--- what dropping chips on a game answers: the rows went out and then the report; or the rows failed; or they went out, and
--- the report failed
+-- what dropping chips on a game answers: the rows went out and then the report; or the rows failed; or they went out,
+-- and the report failed
 abbrev pub DropsAnswer : ChipGame → List (ℕ × ℕ) → Outputs → Outputs → Result Ended Fault → Type 0
 DropsAnswer g ds old new (Ok ended) =
     (outcome : Outcome) × PlaysDrops g ds old.rows new.rows (Ok outcome)

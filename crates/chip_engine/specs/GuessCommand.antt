@@ -62,5 +62,5 @@ reading_guess limits vertices guess = record {
 abbrev pub GuessAnswers : SizeLimits → (graph chips guess : Option (List ℕ)) → ℕ → Option (List ℕ) → Option (List ℕ)
     → Result Ended Fault → Type 0
 GuessAnswers limits graph chips guess limit old new result = CommandAnswers
-    (bind (reading_game limits graph chips limit) (λ g. bind (reading_guess limits g.graph.vertices guess) (λ _. playing g)))
-    old new result
+    (bind (reading_game limits graph chips limit)
+    (λ g. bind (reading_guess limits g.graph.vertices guess) (λ _. playing g))) old new result

@@ -61,9 +61,10 @@ replaying_from options trace g =
     bind (reading options.play.limits (λ text traces. traces_of_text g.graph text ≡ Some traces)
     (λ text f. trace_text_fault g.graph text ≡ Some f) trace) (replaying options.complete g)
 
--- what `replay` answers: the firings of an interleaving, and what is left if it is asked for; the status is 2 if that is
--- something, and else 0
+-- what `replay` answers: the firings of an interleaving, and what is left if it is asked for; the status is 2 if that
+-- is something, and else 0
 abbrev pub ReplayAnswers : (graph chips trace : Option (List ℕ)) → ReplayOptions
     → Option (List ℕ) → Option (List ℕ) → Result Ended Fault → Type 0
 ReplayAnswers graph chips trace options old new result = CommandAnswers
-    (bind (reading_game options.play.limits graph chips options.play.limit) (replaying_from options trace)) old new result
+    (bind (reading_game options.play.limits graph chips options.play.limit) (replaying_from options trace))
+    old new result

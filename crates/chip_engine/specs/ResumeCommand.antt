@@ -56,8 +56,8 @@ reading_sitting limits report = record {
   refuses = λ fault. ForSome report (λ text. RefusesReport limits text fault);
 }
 
--- going on from a sitting gives the report of the next one, and its status; or this is the first reason why it does not go
--- on, or there is no memory
+-- going on from a sitting gives the report of the next one, and its status; or this is the first reason why it does
+-- not go on, or there is no memory
 abbrev pub going_on : Multigraph → ℕ → Resumed → Spec (List ℕ × ℕ)
 going_on G limit earlier = record {
   gives = λ (text, status). ReportsOn G earlier limit text status;

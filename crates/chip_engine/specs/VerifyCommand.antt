@@ -27,8 +27,9 @@ pub record IsDifference (told : Resumed) (o : Outcome) (v : ℕ) : Type 0 where
   pub differs : AgreesAt told o v → ⊥
   pub agrees_below : (u : ℕ) → u < v → AgreesAt told o u
 
--- verifying a sitting says that it tells the outcome of the game, whatever was fired before it; or it has another number of
--- vertices than the game, or it tells another outcome, and this is the least vertex where it does, or there is no memory
+-- verifying a sitting says that it tells the outcome of the game, whatever was fired before it; or it has another
+-- number of vertices than the game, or it tells another outcome, and this is the least vertex where it does, or there
+-- is no memory
 abbrev pub verifying : ChipGame → Resumed → Spec (List ℕ × ℕ)
 verifying g told = record {
   gives = λ (text, status). (o : Outcome) × IsPlayed g o × (length told.outcome.fired.items ≡ g.graph.vertices)
@@ -42,4 +43,5 @@ verifying g told = record {
 abbrev pub VerifyAnswers : SizeLimits → (graph chips report : Option (List ℕ)) → ℕ → Option (List ℕ) → Option (List ℕ)
     → Result Ended Fault → Type 0
 VerifyAnswers limits graph chips report limit old new result = CommandAnswers
-    (bind (reading_game limits graph chips limit) (λ g. bind (reading_sitting limits report) (verifying g))) old new result
+    (bind (reading_game limits graph chips limit) (λ g. bind (reading_sitting limits report) (verifying g)))
+    old new result

@@ -41,7 +41,8 @@ returns-in_err-outcome-in-Ok g c =
     let come = ends_come c.args.game c.args.drops.now c.in_ok-outcome.outcome c.in_ok-outcome.ensures.played
     c.in_ok-pile.pile c.in_ok-pile.ensures.game c.in_ok-pile.ensures.chips _ _ c.in-Ok.end.pile c.in-Ok.end.all
     c.in-Ok.ensures in
-    rw (handed_on _ c.from_residual-in_err-outcome-in-Ok.ensures.1) (inr (come.2, come.0, come.3, rows_fault.NoMemory, refl, (length come.0, all_out _ _ come.0 come.4)))
+    rw (handed_on _ c.from_residual-in_err-outcome-in-Ok.ensures.1)
+    (inr (come.2, come.0, come.3, rows_fault.NoMemory, refl, (length come.0, all_out _ _ come.0 come.4)))
 
 pub returns-in_ok-outcome-in-Ok : goal.returns-in_ok-outcome-in-Ok
 returns-in_ok-outcome-in-Ok g c =

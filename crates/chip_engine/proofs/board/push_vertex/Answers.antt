@@ -1,4 +1,5 @@
-use Rattle.std.proofs.Common.{◌≡◌, ℕ, List, ◌++◌, length, eqb, codes, flat_map, Option, string_bytes, sym, ap, ◌∙◌, arith, append_assoc}
+use Rattle.std.proofs.Common.{◌≡◌, ℕ, List, ◌++◌, length, eqb, codes, flat_map, Option, string_bytes, sym, ap, ◌∙◌}
+use Rattle.std.proofs.Common.{arith, append_assoc}
 use Rattle.chip_graph.specs.ChipGame.{ChipGame}
 use Rattle.chip_graph.specs.Multigraph.{edges_in, edge_at}
 use Rattle.chip_graph.proofs.PickLemmas.{All-picked}
@@ -24,7 +25,8 @@ pub push_all_owed-requires : goal.push_all_owed-requires
 push_all_owed-requires c =
     let g = c.args.world.now.setting in
     rw (c.ins.ensures, graph_is (goal.at.push_all_owed-requires c).After-ins)
-    (All-picked (λ e. eqb (edge_at g.game.graph e).head c.args.vertex) (length g.game.graph.edges) (all_edges g) (omega arith))
+    (All-picked (λ e. eqb (edge_at g.game.graph e).head c.args.vertex) (length g.game.graph.edges) (all_edges g)
+    (omega arith))
 
 pub returns : goal.returns
 returns c = λ g log stands.

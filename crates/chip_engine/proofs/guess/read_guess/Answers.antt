@@ -5,8 +5,8 @@ use Rattle.chip_engine.proofs.GuessLemmas.{at_text, told_guess}
 use Rattle.chip_engine.proofs.guess.read_guess.Goals as goal
 
 pub returns-then-has_brace : goal.returns-then-has_brace
-returns-then-has_brace g c = told_guess c.args.limits c.args.vertices (g.R.Read.remaining c.args.guess.now) c.in_ok-text.text.items
-    (λ text is. at_some _ _ text is c.in_ok-text.ensures.known)
+returns-then-has_brace g c = told_guess c.args.limits c.args.vertices (g.R.Read.remaining c.args.guess.now)
+    c.in_ok-text.text.items (λ text is. at_some _ _ text is c.in_ok-text.ensures.known)
     (rw c.deref.ensures.value at (sym c.if-has_brace.ensures)) c.counts_of_report.result
     (rw c.deref-then-has_brace.ensures.value at c.counts_of_report.ensures)
 

@@ -11,7 +11,8 @@ returns c = λ g log stands. record {
   reportable = c.in-Ok.ensures.in_range;
   comes = c.in-Ok.ensures.comes g log stands;
   reported =
-      rw (c.deref.ensures.value ∙ c.in_ok-report.ensures, c.in_ok-text.ensures.items) at c.in_ok-extend_from_slice.ensures.items;
+      rw (c.deref.ensures.value ∙ c.in_ok-report.ensures, c.in_ok-text.ensures.items)
+      at c.in_ok-extend_from_slice.ensures.items;
   status_is = ap number_of_status c.status_of.ensures;
   plays = λ none. (
     c.in-Ok.outcome,

@@ -1,28 +1,6 @@
--- A play by a work list, and what is told of it.
-use Rattle.std.specs.Prelude.{◌≡◌, ◌≢◌, ℕ, ◌+◌, ◌-◌, ◌*◌, ◌<◌, ◌≤◌, ◌==◌, if◌then◌else◌, List, length, take}
-use Rattle.std.specs.Prelude.{slice_index, All, Contains, sum, sum_by}
-use Rattle.chip_graph.specs.Limits.{max_total}
+-- What is told of the firings between two counts.
+use Rattle.std.specs.Prelude.{ℕ, ◌-◌, ◌==◌, if◌then◌else◌, List, slice_index}
 use Rattle.chip_graph.specs.Sums.{sum_below}
-use Rattle.chip_graph.specs.Multigraph.{Multigraph}
-use Rattle.chip_graph.specs.declared.edge.Edge.{Edge}
-use Rattle.chip_sequence.specs.Firing.{IsLegal}
-
--- the list has vertices alone, and each that is legal
-pub record AreListed (G : Multigraph) (chips work : List ℕ) : Type 0 where
-  pub vertices : All (λ v. v < G.vertices) work
-  pub legal : (v : ℕ) → IsLegal G (slice_index chips) v → Contains work v
-
--- along the first i of these edges k firings have brought the chips from `taken` to what they are, and each legal
--- vertex is listed
-pub record IsSent (G : Multigraph) (k : ℕ) (links : List Edge) (taken : List ℕ) (i : ℕ) (chips work : List ℕ) : Type 0
-  where
-    pub heads : All (λ e. e.head < G.vertices) links
-    pub few : sum taken + k * sum_by (λ e. e.mult) links ≤ max_total
-    pub chips_each : length chips ≡ G.vertices
-    pub each : (u : ℕ) → slice_index chips u
-        ≡ slice_index taken u + k * sum_by (λ e. if e.head == u then e.mult else 0) (take i links)
-    pub all : sum chips ≡ sum taken + k * sum_by (λ e. e.mult) (take i links)
-    pub listed : AreListed G chips work
 
 -- how often all of n vertices fired between these counts
 abbrev pub size_between : ℕ → List ℕ → List ℕ → ℕ
@@ -31,8 +9,3 @@ size_between n fired fired' = sum_below n (λ v. slice_index fired' v - slice_in
 -- how many of them fired
 abbrev pub extent_between : ℕ → List ℕ → List ℕ → ℕ
 extent_between n fired fired' = sum_below n (λ v. if slice_index fired' v - slice_index fired v == 0 then 0 else 1)
-
--- the list has vertices alone, and each of the n that fired between these counts
-pub record HasSupport (n : ℕ) (fired fired' vs : List ℕ) : Type 0 where
-  pub vertices : All (λ v. v < n) vs
-  pub each : (v : ℕ) → v < n → slice_index fired v ≢ slice_index fired' v → Contains vs v

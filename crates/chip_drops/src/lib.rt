@@ -12,4 +12,3 @@ pub mod laws;
 pub mod pile;
 mod play;
 pub mod rows;
-mod work_list;

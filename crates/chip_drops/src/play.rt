@@ -5,10 +5,10 @@ ghost use Rattle.chip_graph.specs.Limits.{max_limit, max_vertices};
 ghost use Rattle.chip_sequence.specs.Firing.{IsLegal};
 ghost use Rattle.chip_fire.specs.Rounds.{IsBegun, IsAtRest};
 ghost use Rattle.chip_drops.specs.Pile.{IsRoom, IsStable};
-ghost use Rattle.chip_drops.specs.WorkList.{size_between, extent_between, HasSupport};
+ghost use Rattle.chip_fire.specs.WorkList.{HasSupport};
+ghost use Rattle.chip_drops.specs.WorkList.{size_between, extent_between};
 
-use crate::work_list::{is_legal, work_off};
-use chip_fire::{Unwatched, play_on};
+use chip_fire::{Unwatched, is_legal, play_on, work_off};
 use chip_graph::{Game, Graph};
 use std::alloc::{AllocError, Global};
 
@@ -68,7 +68,9 @@ pub(crate) fn play_out(
         support,
         list,
     } = room;
-    let worked = work_off(game, vertex, before, support, list, &mut chips, &mut fired);
+    list[0] = vertex;
+    let listed = usize::from(is_legal(game.graph(), &chips, vertex));
+    let worked = work_off(game, listed, before, support, list, &mut chips, &mut fired);
     if let Some(found) = worked {
         return (chips, fired, found, true);
     }

@@ -1,2 +1,3 @@
 pub mod PlayLemmas
 pub mod ResumeLemmas
+pub mod WorkLemmas

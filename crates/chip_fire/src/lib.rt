@@ -6,6 +6,7 @@ pub use chip_sequence::{AfterFault, NotLegal, Outcome, Resumed, after, after_int
 pub use player::{outcome_at_rest, plain, plain_given, plain_watched, play_on};
 pub use sitting::{ResumeFault, resume, resume_watched};
 pub use watch::{GivenUse, Unwatched, Watch};
+pub use work_list::{is_legal, work_off};
 
 mod certificate;
 mod given;
@@ -15,3 +16,4 @@ pub mod sitting;
 mod soon;
 mod start;
 pub mod watch;
+mod work_list;

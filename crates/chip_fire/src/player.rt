@@ -7,6 +7,7 @@ use crate::given::use_given;
 use crate::rounds::rounds;
 use crate::start::{advance, start};
 use crate::watch::{Unwatched, Watch};
+use crate::work_list::play_few;
 use chip_graph::{Game, Graph};
 use chip_guess::tuning::STRETCH;
 use chip_sequence::Outcome;
@@ -47,6 +48,7 @@ pub fn plain_given<W: Watch>(
 {
     let (chips, fired) = start(alloc, game)?;
     let (chips, fired) = use_given(alloc, game, given, chips, fired, watch);
+    let (chips, fired) = play_few(alloc, game, chips, fired);
     let (chips, fired) = play_on(alloc, game, chips, fired, watch);
     outcome_at_rest(alloc, game, chips, fired)
 }
@@ -90,7 +92,11 @@ pub fn outcome_at_rest(
 }
 
 /// The vertices that are legal, ascending.
-fn legal_vertices(alloc: Global, graph: &Graph, chips: &[u64]) -> Result<Vec<u64>, AllocError>
+pub(crate) fn legal_vertices(
+    alloc: Global,
+    graph: &Graph,
+    chips: &[u64],
+) -> Result<Vec<u64>, AllocError>
     requires { length chips.now ≡ graph.now.vertices }
     ensures { IfOk result (λ legal. legal.items ≡ legal_vertices graph.now (slice_index chips.now)) }
 {

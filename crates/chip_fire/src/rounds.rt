@@ -1,6 +1,6 @@
 //! Rounds, in which each vertex has its turn.
 
-ghost use Rattle.std.specs.Prelude.{◌≡◌, ℕ, ◌<◌, ◌≤◌, ◌/◌, slice_index};
+ghost use Rattle.std.specs.Prelude.{◌≡◌, ℕ, ◌+◌, ◌*◌, ◌/◌, ◌<◌, ◌≤◌, slice_index};
 ghost use Rattle.std.specs.Bool.{OnTrue, OnFalse};
 ghost use Rattle.chip_sequence.specs.Firing.{IsLegal};
 ghost use Rattle.chip_fire.specs.Rounds.{IsBegun, IsInRange, IsAtRest, StaysOnTheWay, GoesRound, firings_left, IsSwept};
@@ -154,11 +154,14 @@ fn turn(graph: &Graph, limit: u64, vertex: u64, chips: &mut [u64], fired: &mut [
 
 /// The quotient of numbers of which the first is not the smaller one, without the slow division
 /// where it can be: mostly the quotient is 1, and nearly always both numbers fit 32 bits.
+#[tactic(auto, using(crate::proofs::PlayLemmas::within_quotient, chip_sequence::proofs::BatchLemmas::above_quotient))]
 #[inline]
-fn times_in(chips: u64, degree: u64) -> u64
+pub(crate) fn times_in(chips: u64, degree: u64) -> u64
     requires some { 0 < degree }
     requires enough { degree ≤ chips }
-    ensures { result ≡ chips / degree }
+    ensures value { result ≡ chips / degree }
+    ensures enough { result * degree ≤ chips }
+    ensures no_more { chips < (result + 1) * degree }
 {
     if chips - degree < degree {
         1

@@ -58,7 +58,7 @@ fn leaves_little(limit: u64, fired: &[u64], done: u64, few: u64) -> bool {
 }
 
 /// The chips that legal vertices have above what they may keep, up to 2^64 - 1.
-fn waiting_chips(graph: &Graph, limit: u64, chips: &[u64], fired: &[u64]) -> u64
+pub(crate) fn waiting_chips(graph: &Graph, limit: u64, chips: &[u64], fired: &[u64]) -> u64
     requires { IsInRange graph.now limit chips.now fired.now }
 {
     let mut waits = 0u64;

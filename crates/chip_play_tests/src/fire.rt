@@ -162,6 +162,31 @@ fn plays_a_long_path(rt: HostRuntime) {
     );
 }
 
+/// Compares how often the vertices of the path fire that have one chip each, and one more at this place from the first
+/// end on: as often as their own place is from the nearer end, but no more often than that place is.
+fn expect_one_more(rt: &(impl AllocGlobal + Abort), place: u64) {
+    let mut start = vec![in rt.alloc(); 1; 4_096].expect(rt, "memory");
+    if let Some(chips) = start.get_mut(place.saturating_sub(1) as usize) {
+        *chips = 2;
+    }
+    let game = Game::new(Box::into_inner(long_path(rt)), start, 1 << 40).expect(rt, "a game");
+    let outcome = plain(rt.alloc(), &game).expect(rt, "memory");
+    let most = place.min((END + 1).saturating_sub(place));
+    for vertex in 0..END {
+        let expected = (vertex + 1).min(END - vertex).min(most);
+        assert!(rt; outcome.fired.get(vertex as usize).copied() == Some(expected));
+    }
+    assert!(rt; outcome.over.is_empty());
+}
+
+/// One chip waits to move. The first plays end by the work list alone, and the last ones go on by rounds.
+#[test]
+fn one_chip_more_on_a_long_path(rt: HostRuntime) {
+    for place in [1, 30, 4_080, 1_000, 2_048] {
+        expect_one_more(&rt, place);
+    }
+}
+
 /// The first sitting of a play.
 fn first_sitting(rt: &(impl AllocGlobal + Abort), game: &Game) -> Resumed
     ensures { IsResumed result }

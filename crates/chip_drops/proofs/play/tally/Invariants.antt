@@ -1,5 +1,6 @@
 use Rattle.std.proofs.Common.{◌≡◌, ◌+◌, length, drop}
-use Rattle.chip_drops.specs.WorkList.{HasSupport, size_between, extent_between}
+use Rattle.chip_fire.specs.WorkList.{HasSupport}
+use Rattle.chip_drops.specs.WorkList.{size_between, extent_between}
 use Rattle.chip_drops.proofs.play.tally.Given as goal
 
 abbrev pub invariant-loop-vertex : goal.invariant-loop-vertex

@@ -17,7 +17,7 @@ returns-clause-stays c =
     c.requires.not_sink in
     let is = c.out_degree-degree.ensures in
     let quotient : c.times_in.result ≡ get_or c.args.chips.now c.args.vertex 0 / degree c.args.graph.now c.args.vertex =
-    c.times_in.ensures ∙ ap (λ (d : ℕ). get_or c.args.chips.now c.args.vertex 0 / d) is in
+    c.times_in.ensures.value ∙ ap (λ (d : ℕ). get_or c.args.chips.now c.args.vertex 0 / d) is in
     let least = c.min-k.ensures in
     turn_stays c.args.graph.now c.args.limit c.args.chips.now c.args.fired.now c.requires.in_range c.args.vertex
     c.min-k.result c.requires.is_vertex (omega arith) c.requires.not_sink
@@ -29,7 +29,7 @@ returns-clause-fires c =
     let some = some_degree c.args.graph.now c.requires.in_range.graph_fits c.args.vertex c.requires.is_vertex
     c.requires.not_sink in
     let is = c.out_degree-degree.ensures in
-    let quotient = c.times_in.ensures in
+    let quotient = c.times_in.ensures.value in
     let enough = c.if-has-degree.false in
     let one = quotient_some (get_or c.args.chips.now c.args.vertex 0) c.out_degree-degree.result (omega arith)
     (omega arith) in

@@ -1,10 +1,10 @@
 use Rattle.std.proofs.Common.{◌<◌, length, arith}
 use Rattle.std.proofs.lemmas.List.{take-set, take_more_set}
-use Rattle.chip_drops.proofs.WorkLemmas.{sent_none, sent_room, sent_step, listed_push, listed_same, turned}
-use Rattle.chip_drops.proofs.work_list.turn.Goals as goal
-use Rattle.chip_drops.proofs.work_list.turn.Goals.{then-had-degree+then-degree-has, else-had-degree}
-use Rattle.chip_drops.proofs.work_list.turn.Goals.{else-had-degree-via-then-had-degree+else-degree-has}
-use Rattle.chip_drops.proofs.work_list.turn.Goals.{else-had-degree-via-else-had-degree}
+use Rattle.chip_fire.proofs.WorkLemmas.{sent_none, sent_room, sent_step, listed_push, listed_same, turned}
+use Rattle.chip_fire.proofs.work_list.turn.Goals as goal
+use Rattle.chip_fire.proofs.work_list.turn.Goals.{then-had-degree+then-degree-has, else-had-degree}
+use Rattle.chip_fire.proofs.work_list.turn.Goals.{else-had-degree-via-then-had-degree+else-degree-has}
+use Rattle.chip_fire.proofs.work_list.turn.Goals.{else-had-degree-via-else-had-degree}
 
 pub loop-link-init : goal.loop-link-init
 loop-link-init c =

@@ -4,20 +4,65 @@ ghost use Rattle.std.specs.Prelude.{◌≡◌, ◌≢◌, ◌↔◌, ℕ, ◌+�
 ghost use Rattle.std.specs.Prelude.{slice_index, MatchOption};
 ghost use Rattle.chip_sequence.specs.Firing.{IsLegal};
 ghost use Rattle.chip_fire.specs.Rounds.{IsBegun, IsInRange, StaysOnTheWay};
-ghost use Rattle.chip_drops.specs.Pile.{IsStable};
-ghost use Rattle.chip_drops.specs.WorkList.{AreListed, HasSupport};
+ghost use Rattle.chip_fire.specs.WorkList.{AreListed, HasSupport};
 
+use crate::player::legal_vertices;
+use crate::rounds::times_in;
+use crate::soon::waiting_chips;
 use chip_graph::{Game, Graph};
+use std::alloc::{AllocError, Global};
 
 /// How many turns at each vertex a play by a work list makes before it gives up.
 const TURNS: u64 = 64;
 
-/// Lets a vertex fire, the only one that may be legal, and those that get chips by it, until none is legal. Then so many at
-/// the front of `support` are all vertices that fired. It gives up after so many turns, or if a vertex would have to fire
-/// more often than the limit allows, or if a list is full.
-pub(crate) fn work_off(
+/// For how many vertices one chip may wait at most where a play begins by a work list.
+const VERTICES_PER_CHIP: u64 = 64;
+
+/// Goes on by a work list, where few chips wait to move: the chips and counts to which it comes. Where there is no memory
+/// for it, all stays as it is.
+pub(crate) fn play_few(
+    alloc: Global,
     game: &Game,
-    vertex: u64,
+    mut chips: Vec<u64>,
+    mut fired: Vec<u64>,
+) -> (Vec<u64>, Vec<u64>)
+    requires { IsBegun game.now chips.items fired.items }
+    ensures { IsBegun game.now result.0.items result.1.items }
+{
+    let graph = game.graph();
+    let waits = waiting_chips(graph, game.limit(), &chips, &fired);
+    if waits > 0 && waits <= graph.vertices() / VERTICES_PER_CHIP {
+        let _ = work_off_all(alloc, game, &mut chips, &mut fired);
+    }
+    (chips, fired)
+}
+
+/// Goes on by a work list, which begins with all legal vertices.
+fn work_off_all(
+    alloc: Global,
+    game: &Game,
+    chips: &mut [u64],
+    fired: &mut [u64],
+) -> Result<(), AllocError>
+    requires { IsBegun game.now chips.old fired.old }
+    ensures { IsBegun game.now chips.new fired.new }
+{
+    let vertices = game.graph().vertices() as usize;
+    let before = Vec::from_slice(alloc, fired)?;
+    let mut support = vec![in alloc; 0; vertices]?;
+    let mut list = legal_vertices(alloc, game.graph(), chips)?;
+    let listed = list.len();
+    list.resize(listed + 2 * vertices, 0)?;
+    work_off(game, listed, &before, &mut support, &mut list, chips, fired);
+    Ok(())
+}
+
+/// Lets so many vertices at the front of a list fire, among which are all that are legal, and those that get chips by it,
+/// until none is legal. Then so many at the front of `support` are all vertices that fired. It gives up after so many
+/// turns, or if a vertex would have to fire more often than the limit allows, or if a list is full.
+pub fn work_off(
+    game: &Game,
+    mut listed: usize,
     before: &[u64],
     support: &mut [u64],
     list: &mut [u64],
@@ -25,21 +70,16 @@ pub(crate) fn work_off(
     fired: &mut [u64],
 ) -> Option<usize>
     requires begun { IsBegun game.now chips.old fired.old }
-    requires is_vertex { vertex < game.now.graph.vertices }
-    requires legal { (v : ℕ) → IsLegal game.now.graph (slice_index chips.old) v → v ≡ vertex }
+    requires room { listed ≤ length list.old }
+    requires legal { AreListed game.now.graph chips.old (take listed list.old) }
     requires before { before.now ≡ fired.old }
-    requires room { 0 < length list.old }
     ensures begun { IsBegun game.now chips.new fired.new }
     ensures done { MatchOption result (Unit {0}) (λ n. (n ≤ length support.new)
-        × IsStable game.now.graph (slice_index chips.new)
+        × ((v : ℕ) → IsLegal game.now.graph (slice_index chips.new) v → ⊥)
         × HasSupport game.now.graph.vertices before.now fired.new (take n support.new)) }
 {
     let (graph, limit) = (game.graph(), game.limit());
-    if !is_legal(graph, chips, vertex) {
-        return Some(0);
-    }
-    list[0] = vertex;
-    let (mut listed, mut found) = (1, 0);
+    let mut found = 0;
     'turns: for _ in 0..graph.vertices() * TURNS {
         if listed == 0 {
             return Some(found);
@@ -58,29 +98,12 @@ pub(crate) fn work_off(
 
 /// Whether a vertex is legal.
 #[inline]
-pub(crate) fn is_legal(graph: &Graph, chips: &[u64], vertex: u64) -> bool
+pub fn is_legal(graph: &Graph, chips: &[u64], vertex: u64) -> bool
     requires is_vertex { vertex < graph.now.vertices }
     requires one_each { length chips.now ≡ graph.now.vertices }
     ensures { (result ≡ true) ↔ IsLegal graph.now (slice_index chips.now) vertex }
 {
     vertex != graph.sink() && graph.out_degree(vertex) <= chips[vertex as usize]
-}
-
-/// A quotient of numbers of which the first is not the smaller one, without the slow division if it can be: it is 1
-/// nearly always.
-#[tactic(auto, using(chip_fire::proofs::PlayLemmas::within_quotient, chip_sequence::proofs::BatchLemmas::above_quotient))]
-#[inline]
-fn times_in(chips: u64, degree: u64) -> u64
-    requires some { 0 < degree }
-    requires enough { degree ≤ chips }
-    ensures enough { result * degree ≤ chips }
-    ensures no_more { chips < (result + 1) * degree }
-{
-    if chips - degree < degree {
-        1
-    } else {
-        chips / degree
-    }
 }
 
 /// Lets a legal vertex fire as often as its chips allow, and lists in its place those that had not the chips to fire

@@ -1,6 +1,6 @@
 use Rattle.std.proofs.Common.{◌+◌, ◌≤◌, take}
-use Rattle.chip_drops.specs.WorkList.{IsSent}
-use Rattle.chip_drops.proofs.work_list.turn.Given as goal
+use Rattle.chip_fire.specs.WorkList.{IsSent}
+use Rattle.chip_fire.proofs.work_list.turn.Given as goal
 
 abbrev pub invariant-loop-link : goal.invariant-loop-link
 invariant-loop-link l = record {

@@ -1,8 +1,8 @@
 use Rattle.std.proofs.Common.{◌≤◌, length, take, slice_index}
 use Rattle.chip_sequence.specs.Certificate.{IsOnTheWay}
 use Rattle.chip_fire.specs.Rounds.{IsInRange}
-use Rattle.chip_drops.specs.WorkList.{AreListed, HasSupport}
-use Rattle.chip_drops.proofs.work_list.work_off.Given as goal
+use Rattle.chip_fire.specs.WorkList.{AreListed, HasSupport}
+use Rattle.chip_fire.proofs.work_list.work_off.Given as goal
 
 abbrev pub invariant-turns : goal.invariant-turns
 invariant-turns l = record {

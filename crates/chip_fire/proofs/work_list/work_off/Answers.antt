@@ -1,16 +1,16 @@
-use Rattle.std.proofs.Common.{eqb, ℕ, ◌-◌, get_or, refl, arith, length-set}
+use Rattle.std.proofs.Common.{eqb, ℕ, ◌-◌, get_or, refl, arith}
 use Rattle.std.proofs.lemmas.Grind.{common_steps}
-use Rattle.chip_drops.proofs.WorkLemmas.{listed_one, listed_last, supported}
-use Rattle.chip_drops.proofs.work_list.work_off.Goals as goal
+use Rattle.chip_fire.proofs.WorkLemmas.{listed_last, supported}
+use Rattle.chip_fire.proofs.work_list.work_off.Goals as goal
 
 pub turns-init : goal.turns-init
 turns-init c =
-    let a = length-set c.args.list.now 0 c.args.vertex in
-    let b = listed_one _ _ _ _ c.requires.room c.requires.is_vertex c.requires.legal in
+    let a = c.requires.room in
+    let b = c.requires.legal in
     rw (c.graph-graph.ensures.value, c.limit-limit.ensures.value) (grind (arith, common_steps))
 
-pub is_legal-requires-else-found-support-clause-is_vertex : goal.is_legal-requires-else-found-support-clause-is_vertex
-is_legal-requires-else-found-support-clause-is_vertex c =
+pub is_legal-requires-clause-is_vertex : goal.is_legal-requires-clause-is_vertex
+is_legal-requires-clause-is_vertex c =
     (listed_last _ _ _ _ c.turns.invariant.listed (omega arith) c.turns.invariant.room).1
 
 pub turn-requires-clause-listed : goal.turn-requires-clause-listed
@@ -27,7 +27,7 @@ pub turns-preserved : goal.turns-preserved
 turns-preserved c =
     let so_far = c.turns.invariant in
     let v : ℕ = get_or c.turns.list (c.turns.listed - 1) 0 in
-    let can = c.is_legal-else-found-support.ensures.0 c.if-not-is_legal-2.false in
+    let can = c.is_legal.ensures.0 c.if-not-is_legal.false in
     let found = supported _ _ c.turns.fired c.turn.new.fired c.turns.support c.turns.found v so_far.support
     can.is_vertex c.turn.ensures.others (let a = c.if-found-support.false in let b = so_far.found in omega arith)
     (eqb (get_or c.turns.fired v 0) (get_or c.args.before.now v 0)) refl in

@@ -1,15 +1,11 @@
-use Rattle.std.proofs.Common.{ap, option_map, subst}
-use Rattle.chip_crew.specs.Feeding.{Left}
-use Rattle.chip_crew.specs.Finished.{IsFinished, IsFaultOf}
+use Rattle.std.proofs.Common.{ap, option_map}
 use Rattle.chip_command.specs.Statuses.{number_of_status}
 use Rattle.chip_run.proofs.RunLemmas.{not_played}
 use Rattle.chip_run.proofs.running.play.Goals as goal
 
 pub returns-in-Ok-clause-played : goal.returns-in-Ok-clause-played
 returns-in-Ok-clause-played g c =
-    let finished : IsFinished c.args.options.sharing c.args.game.now (option_map (λ fed. fed.items) c.args.feeds) c.args.options.plan c.in-Ok.finished =
-    subst (λ (l : Left). IsFinished c.args.options.sharing c.args.game.now l c.args.options.plan c.in-Ok.finished) c.as_deref.ensures.value
-    c.in-Ok.ensures.finished in record {
+    let finished = rw c.as_deref.ensures.value at c.in-Ok.ensures.finished in record {
       crew = c.in-Ok.finished;
       finished = finished;
       actors_are = ap (λ a. a.items) c.in_ok-report_of-in-Ok.ensures.actors;
@@ -28,5 +24,4 @@ returns-in-Ok-clause-played g c =
 pub returns-clause-fault : goal.returns-clause-fault
 returns-clause-fault g c = not_played c.args.options.sharing c.args.game.now (option_map (λ fed. fed.items) c.args.feeds) c.args.options.plan
     (g.K.Gate.may_answer c.args.gate.now) c.requires.gate c.in-Err.fault _
-    (subst (λ (l : Left). IsFaultOf c.args.options.sharing c.args.game.now l c.args.options.plan (g.K.Gate.may_answer c.args.gate.now) c.in-Err.fault)
-    c.as_deref.ensures.value c.in-Err.ensures.fault) c.fault_of_crew.ensures
+    (rw c.as_deref.ensures.value at c.in-Err.ensures.fault) c.fault_of_crew.ensures

@@ -2,7 +2,7 @@ use Rattle.std.proofs.Common.{option_map}
 use Rattle.chip_graph.specs.Limits.{standard}
 use Rattle.chip_crew.specs.declared.plan.Sharing.TheVariants.{Queue}
 use Rattle.chip_run.specs.RunCommand.{Outputs, plan_of}
-use Rattle.chip_run.proofs.RunLemmas.{writes_reports}
+use Rattle.chip_run.proofs.RunLemmas.{for_text, writes_report}
 use Rattle.chip_run.proofs.running.run_engine.Goals as goal
 
 pub returns-clause-known : goal.returns-clause-known
@@ -18,6 +18,6 @@ returns-clause-report g c = λ graph_text graph_is chips_text chips_is.
       report = g.W.Write.contents c.run_engine_with.new.output;
       trace = option_map g.T.Write.contents c.run_engine_with.new.trace;
     } in
-    writes_reports standard Queue graph_text chips_text _ c.args.limit
-    (plan_of c.args.ring c.args.workers c.args.turns c.args.trace_rows) old new c.run_engine_with.result
+    for_text _ _ _ (λ feed_text. writes_report standard Queue graph_text chips_text feed_text c.args.limit
+    (plan_of c.args.ring c.args.workers c.args.turns c.args.trace_rows) old new c.run_engine_with.result)
     (returns-clause-known g c graph_text graph_is chips_text chips_is)

@@ -72,12 +72,8 @@ times_are (x ∷ xs) v = times_push x.vertex v x.row (firings xs) (rows_of xs v)
 
 -- ---- what one event adds
 
-look_fires : (empty : Bool) (e seen : ℕ) → fires (cond empty [] (Row.Take e seen ∷ [])) ≡ []
-look_fires true e seen = refl
-look_fires false e seen = refl
-
 fired_more : (x : Event) (seen fired : ℕ) → fired + sum (fires (row_of x seen)) ≡ fired_after x fired
-fired_more (Take e) seen fired = let a = ap sum (look_fires (eqb seen 0) e seen) in omega arith
+fired_more (Take e) seen fired = grind (arith, nat_tests)
 fired_more (Fire v k) seen fired = let a = sum_by-cons (λ (y : ℕ). y) k [] in omega arith
 fired_more x seen fired = omega arith
 
@@ -95,29 +91,12 @@ opens (suc n) some = refl
 abbrev due : Tail → ℕ → List ℕ
 due t pending = sent_counts t ++ opening pending
 
--- a claim of n sends all of it or nothing
-claimed : (here taken : Bool) (n : ℕ) (t : Tail) → (here ≡ true → (t.held ≡ None) × (0 < n))
-    → due t n ++ [] ≡ due (cond here (cond taken (record t { held = Some n; clear = false })
-    (record t { clear = false; refused = true })) t) (cond here (cond taken 0 n) n)
-claimed false taken n t may = append-nil (due t n)
-claimed true false n t may = append-nil (due t n)
-claimed true true n t may = append-nil (due t n)
-    ∙ ap (λ (h : Option ℕ). (t.put ++ option_to_list h) ++ opening n) (may refl).0
-    ∙ ap (λ (l : List ℕ). l ++ opening n) (append-nil t.put)
-    ∙ ap (λ (l : List ℕ). t.put ++ l) (opens n (may refl).1) ∙ sym (append-nil (t.put ++ n ∷ []))
-
 -- one message has all chips
 one_message : (xs : List ℕ) → length xs ≤ 1 → length xs ≤ sum xs → xs ≡ opening (sum xs)
 one_message [] few some = refl
 one_message (zero ∷ []) few some = grind arith
 one_message (suc x ∷ []) few some = grind arith
 one_message (x ∷ y ∷ xs) few some = absurd (omega arith)
-
--- choices that differ
-paired : {A B : Type 0} (b : Bool) (x y : A) (z w : B)
-    → ◌≡◌ {A = A × B} (cond b (x, z) (y, w)) (cond b x y, cond b z w)
-paired true x y z w = refl
-paired false x y z w = refl
 
 -- what v recorded tells what its part did
 record RowsTell (g : Setting) (v : ℕ) (rows : List TraceRow) (s : Part) : Type 0 where
@@ -159,32 +138,32 @@ module _ (g : Setting) where
         → KeepsOut g e (s.out e).link (s.out e).pending s.fired
         → due (s.out e).link (s.out e).pending ++ map (λ k. k * mult_of g e) (fires (row_of x seen))
         ≡ due (link_after x seen e (s.out e)) (pending_after g x seen e (s.out e))
-    due_more (Take j) seen e s inside mine may keeps = let o : Out = s.out e in
-        ap (λ (ks : List ℕ). due o.link o.pending ++ map (λ k. k * mult_of g e) ks) (look_fires (eqb seen 0) j seen)
-        ∙ append-nil (due o.link o.pending)
+    due_more (Take j) seen e s inside mine may keeps =
+        grind (arith, nat_tests, append-nil (due (s.out e).link (s.out e).pending))
     due_more (Fire v k) seen e s inside mine may keeps =
-        let t : Tail = (s.out e).link in
-        let n : ℕ = (s.out e).pending in
-        let made : ℕ = k * mult_of g e in
-        let none : n ≡ 0 = out_zero g v (λ i. (s.out i).pending) may.3 e (omega arith) mine in
-        ap (λ (m : ℕ). due t m ++ made ∷ []) none ∙ ap (λ (l : List ℕ). l ++ made ∷ []) (append-nil (sent_counts t))
-        ∙ sym (ap (due t) (cond_yes (tail_of g e) v made n mine) ∙ ap (λ (l : List ℕ). sent_counts t ++ l)
-        (opens made (mul-pos may.5 (game.graph_fits.edges_fit e inside).some_chips)))
-    due_more (Clear j) seen e s inside mine may keeps = let o : Out = s.out e in
-        at_edge (λ i (t : Tail). due o.link o.pending ++ [] ≡ due t o.pending) j (λ i. after_clear seen o.link)
-        (λ i. o.link) (append-nil (due o.link o.pending)) (λ i. append-nil (due o.link o.pending)) e
+        let none : (s.out e).pending ≡ 0 = out_zero g v (λ i. (s.out i).pending) may.3 e (omega arith) mine in
+        let some = mul-pos may.5 (game.graph_fits.edges_fit e inside).some_chips in
+        let made = opens (k * mult_of g e) some in
+        rw (none, append-nil (sent_counts (s.out e).link), eq-eqb (tail_of g e) v mine, made) refl
+    due_more (Clear j) seen e s inside mine may keeps =
+        grind (arith, nat_tests, append-nil (due (s.out e).link (s.out e).pending))
     due_more (Put j) seen e s inside mine may keeps = let o : Out = s.out e in
-        at_edge (λ i (t : Tail). due o.link o.pending ++ [] ≡ due t o.pending) j (λ i. after_put o.link) (λ i. o.link)
-        (append-nil (due o.link o.pending)
-        ∙ ap (λ (l : List ℕ). l ++ opening o.pending) (sym (append-nil (sent_counts o.link))))
-        (λ i. append-nil (due o.link o.pending)) e
-    due_more (Feed j k) seen e s inside mine may keeps = let o : Out = s.out e in let past = may.0 in
-        append-nil (due o.link o.pending) ∙ sym (ap (λ (u : Tail). due u o.pending)
-        (cond_no j e (after_claim k seen o.link) o.link (λ z. absurd (omega arith))))
-    due_more (Claim j) seen e s inside mine may keeps = let o : Out = s.out e in
-        claimed (eqb j e) (eqb seen (claims_of o.link)) o.pending o.link (λ here.
-        let clear : o.link.clear ≡ true = subst (λ (i : ℕ). (s.out i).link.clear ≡ true) (eqb-true j e here) may.2 in
-        let pends = keeps.clear_pends inside clear in (keeps.free_hand inside pends, pends))
+        grind (arith, nat_tests, append-nil (due o.link o.pending), append-nil (sent_counts o.link))
+    due_more (Feed j k) seen e s inside mine may keeps = let past = may.0 in
+        grind (arith, nat_tests, append-nil (due (s.out e).link (s.out e).pending))
+    due_more (Claim j) seen e s inside mine may keeps = let o : Out = s.out e in dite (ℕ_discrete j e)
+        (λ same.
+        let pends = keeps.clear_pends inside (subst (λ (i : ℕ). (s.out i).link.clear ≡ true) same may.2) in
+        let free = keeps.free_hand inside pends in
+        grind (
+          arith,
+          nat_tests,
+          append-nil (due o.link o.pending),
+          append-nil o.link.put,
+          opens o.pending pends,
+          append-nil (o.link.put ++ o.pending ∷ []),
+        ))
+        (λ other. grind (arith, nat_tests, append-nil (due o.link o.pending)))
     due_more x seen e s inside mine may keeps = append-nil (due (s.out e).link (s.out e).pending)
 
     outside_more : (x : Event) (seen : ℕ) (s : Part) → Met g x s → g.game.graph.vertices ≤ part_of g x → row_of x seen ≡ []
@@ -220,15 +199,11 @@ module _ (g : Setting) where
           ∙ nil_from_length (first_put g e) (first_few g e inside));
       outside = λ past. refl;
     }
-    tells (x ∷ log) legal v =
-        let p : ℕ = part_of g x.event in
-        subst (λ (z : List Step × Part). RowsTell g v (traces.rows_of z.0) z.1)
-        (paired (eqb p v) (done_by g v log ++ x ∷ []) (done_by g v log) (does g x (part_in g log v)) (part_in g log v))
-        (at_edge (λ u (z : List Step × Part). RowsTell g u (traces.rows_of z.0) z.1) p
-        (λ u. (done_by g u log ++ x ∷ [], does g x (part_in g log u))) (λ u. (done_by g u log, part_in g log u))
-        (subst (λ (rows : List TraceRow). RowsTell g p rows (does g x (part_in g log p))) (sym (rows_push (done_by g p log) x))
-        (tells_more x (recorded log p) (part_in g log p) (met_here g x log legal) (part_kept g game log legal.0 p)
-        (tells log legal.0 p))) (tells log legal.0) v)
+    tells (x ∷ log) legal v = let p : ℕ = part_of g x.event in dite (ℕ_discrete p v)
+        (λ same. subst (λ (u : ℕ). RowsTell g u (recorded (x ∷ log) u) (part_in g (x ∷ log) u)) same
+        (rw (eq-eqb p p refl, rows_push (done_by g p log) x) (tells_more x (recorded log p) (part_in g log p)
+        (met_here g x log legal) (part_kept g game log legal.0 p) (tells log legal.0 p))))
+        (λ other. rw (ne_eqb p v other) (tells log legal.0 v))
 
     pub times_fired : (log : Log) → IsLegalLog g log → (v : ℕ) → times_of v (firings (rows_in g log)) ≡ fired_by g log v
     times_fired log legal v = times_are (rows_in g log) v ∙ ap (λ (l : List TraceRow). sum (fires l)) (rows_are log v)
@@ -253,8 +228,10 @@ module _ (g : Setting) where
         let fed : List ℕ = fed_to g x.event v in
         let later = opened v l in (
           fed ++ later.0,
-          sym (append_assoc (sent_counts (out_in g log (root_edge g v)).link) fed later.0)
-              ∙ ap (λ (sent : List ℕ). sent ++ later.0) (sym (root_sends g game some_ring x log legal v)) ∙ later.1,
+          rw (
+            ← append_assoc (sent_counts (out_in g log (root_edge g v)).link) fed later.0,
+            ← root_sends g game some_ring x log legal v,
+          ) later.1,
         )
 
     -- the game that starts with this list
@@ -280,9 +257,6 @@ module _ (g : Setting) where
         let opening_is = subst (λ (i : ℕ). IsPrefix (sent_counts (out_in g log i).link) first) at (opened (e - m) (omega arith)) in
         (opening_is.0, opening_is.1 ∙ sym (cond_false (ltb e m) own first (le-ltb e m (omega arith)))))
 
-    goes_in : (e : ℕ) → goes_into g.game.graph (head_of g e) e ≡ true
-    goes_in e = grind (arith, nat_tests)
-
     take_met : (log : Log) → IsLegalLog g log → Opens log → (e seen : ℕ) → e < all_edges g
         → seen ≡ sees g log (Take e) → seen ≢ 0 → is_met whole (recorded log) (head_of g e) (Row.Take e seen) ≡ true
     take_met log legal opened e seen below is some =
@@ -296,7 +270,8 @@ module _ (g : Setting) where
         ∙ ap (λ (ms : List ℕ). slice_get ms n) (sym all.1)
         ∙ slice_get_keeps (sent_counts t) all.0 n found
         (slice_get_keeps t.put (option_to_list t.held) n found (slice_get-get_or t.put n 0 there)) in
-        and_from _ _ (goes_in e) (ap (λ (o : Option ℕ). has_count o seen) next ∙ eq-eqb found seen (sym is))
+        let goes : goes_into g.game.graph (head_of g e) e ≡ true = grind (arith, nat_tests) in
+        rw (goes, next) (eq-eqb found seen (sym is))
 
     fire_met : (log : Log) → IsLegalLog g log → (v k : ℕ) → Met g (Fire v k) (part_in g log v)
         → is_met whole (recorded log) v (Row.Fire k) ≡ true

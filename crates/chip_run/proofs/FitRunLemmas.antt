@@ -1,8 +1,9 @@
 -- Serves Laws.antt.
 -- The rows of a run's actors are those of one log, so they fit together.
-use Rattle.std.proofs.Common.{◌≡◌, ℕ, ◌<◌, true, false, List, [], ◌∷◌, length, map, inl, inr, slice_get, Option, Some, None}
+use Rattle.std.proofs.Common.{◌≡◌, ℕ, ◌<◌, arith, true, false, List, [], ◌∷◌, length, map, inl, inr, slice_get, Option, Some, None}
 use Rattle.std.proofs.Common.{is_some, Ok, leb, ltb, refl, sym, ap, ◌∙◌, subst, ltb-true}
 use Rattle.std.specs.Io.KnownBytes.{Appends}
+use Rattle.std.proofs.lemmas.Bool.Decides.{nat_tests}
 use Rattle.std.proofs.lemmas.Bool.{and_parts, or_parts, ltb-false}
 use Rattle.std.proofs.lemmas.List.{get_or-map, length-map, take_all}
 use Rattle.std.proofs.lemmas.List.FromFn.{fill_by_all}
@@ -26,7 +27,7 @@ use Rattle.chip_net.specs.Tokens.{NetId, ActorKnown, no_actor}
 use Rattle.chip_net.specs.Roots.{RootKnown, root_after}
 use Rattle.chip_net.specs.Finish.{reads_from}
 use Rattle.chip_net.specs.Traces.{rows_of}
-use Rattle.chip_net.specs.Meeting.{DidTheirs}
+use Rattle.chip_net.specs.Meeting.{DidTheirs, IsRun}
 use Rattle.chip_net.proofs.ReadingLemmas.{reads_feed_none}
 use Rattle.chip_crew.specs.Plans.{max_workers, max_turns, max_trace_rows, is_count, names_edge, is_plan, are_feeds}
 use Rattle.chip_crew.specs.Plans.{is_fed_plan}
@@ -43,7 +44,7 @@ use Rattle.chip_command.specs.declared.ended.Ended.{Ended}
 use Rattle.chip_command.proofs.OneReportLemmas.{one_report}
 use Rattle.chip_run.specs.Feeding.{MeansFed, MeansFedGame, feeds_of}
 use Rattle.chip_run.specs.Recording.{rows_kept, is_cut, is_any_cut}
-use Rattle.chip_run.specs.RunCommand.{Outputs, RunAnswers}
+use Rattle.chip_run.specs.RunCommand.{Outputs, RunAnswersFor}
 use Rattle.chip_run.specs.Replaying.{rows_in, traces_in, all_rows, HasOneEach, AreGivenOnce, FitTogether, WritesOneRun}
 use Rattle.chip_run.specs.Laws.{RowsFit, UncutTracesFit, FedRowsFit}
 use Rattle.chip_run.proofs.FitLemmas.{interleaves, times_fired}
@@ -72,131 +73,86 @@ module _ (g : Setting) (game : IsGame g.game) (some_ring : 0 < g.ring) (log : Lo
         ∙ sym ((outcomes_tell g game some_ring log legal o is).comes.counted v ∙ counts_are g log v);
   }
 
-ring_is_some : (g : ChipGame) (feeds : List (ℕ × ℕ)) (plan : Plan) → is_fed_plan g feeds plan ≡ true → 0 < plan.ring
-ring_is_some g feeds plan is =
-    let all = (and_parts (is_plan g plan) (are_feeds g feeds) is).0 in
-    let ranges = (and_parts _ (names_edge g plan.seal) all).0 in
-    let counts = (and_parts _ (is_count max_turns plan.turns) (and_parts _ (leb plan.trace_rows max_trace_rows) ranges).0).0 in
-    let ring = (and_parts (is_count max_workers plan.workers) (is_count max_ring plan.ring) counts).1 in
-    ltb-true 0 plan.ring (and_parts (ltb 0 plan.ring) (leb plan.ring max_ring) ring).0
-
--- the actors of a crew, in the game that has all chips at the start
+-- the actors of a crew, in the game that has all chips at the start, where no vertex is given chips more than once
 module _ (shared : Sharing) (g : ChipGame) (feeds : Left) (plan : Plan) (f : Finished) (game : IsGame g)
     (is : IsFinished shared g feeds plan f) where
-  abbrev closing : RootKnown
-  closing = is.finished.ends.ends.root
+  ring_is_some : is_fed_plan g (pairs feeds) plan ≡ true → 0 < plan.ring
+  ring_is_some within = grind (arith, nat_tests)
 
   abbrev t : Setting
   t = setting_with g plan.ring (is_some feeds)
-
-  receipt_is : f.receipt ≡ root_after closing (reads_from 0 is.finished.ends.ends.finishes.words)
-  receipt_is = is.finished.ends.ends.finishes.record_is
-
-  net_of : f.receipt.net ≡ is.crew.net
-  net_of = ap (λ (r : RootKnown). r.net) receipt_is ∙ net_is feeds plan is.crew f is.finished
 
   -- what the root fed in a log
   abbrev fed : Setting → Log → List (ℕ × ℕ)
   fed s log = fed_in s (done_by s (root s) log)
 
-  fed_is : fed f.receipt.net.setting is.finished.run.log ≡ pairs feeds
-  fed_is = let s : Setting = f.receipt.net.setting in
-      ap (fed_in s) (sym is.finished.run.agrees.root_did ∙ ap (λ (r : RootKnown). r.did) receipt_is)
-      ∙ reads_feed_none s closing.did 0 is.finished.ends.ends.finishes.words
-      ∙ ap (λ (r : RootKnown). fed_in r.net.setting closing.did) receipt_is ∙ is.fed
-
   crew_fits : (chips : List ℕ) → pairs feeds ≡ feeds_of chips → AreGivenOnce g (pairs feeds)
       → FitTogether is.whole (all_rows f.actors.items) f.outcome
   crew_fits chips feeds_are once =
-      let run = is.finished.run in
-      let log : Log = run.log in
+      let closing : RootKnown = is.finished.ends.ends.root in
+      let finishes = is.finished.ends.ends.finishes in
       let actors : List ActorKnown = f.actors.items in
+      let run : IsRun (root_after closing (reads_from 0 finishes.words)) actors f.outcome =
+      subst (λ (r : RootKnown). IsRun r actors f.outcome) finishes.record_is is.finished.run in
+      let log : Log = run.log in
+      let fed_is = ap (fed_in closing.net.setting) (sym run.agrees.root_did)
+      ∙ reads_feed_none closing.net.setting closing.did 0 finishes.words ∙ is.fed in
       let (legal, did, outcome, fed_all) = subst (λ (s : Setting). IsLegalLog s log × DidTheirs s log actors
-      × IsOutcomeOf s log f.outcome × (fed s log ≡ pairs feeds)) (ap (λ (n : NetId). n.setting) net_of ∙ is.opened.setting)
+      × IsOutcomeOf s log f.outcome × (fed s log ≡ pairs feeds))
+      (ap (λ (n : NetId). n.setting) (net_is feeds plan is.crew f is.finished) ∙ is.opened.setting)
       (run.legal, run.actors_did, run.outcome, fed_is) in
-      let ring : 0 < plan.ring = ring_is_some g (pairs feeds) plan is.opened.can.within in
-      let more : HasMore g (pairs feeds) (played_game t log) =
-      subst (λ (fs : List (ℕ × ℕ)). HasMore g fs (played_game t log)) fed_all (given_by_the_record t game ring log legal) in
-      let one : HasOneEach t log = given_once t game ring log legal chips (fed_all ∙ feeds_are)
-      (subst (AreGivenOnce g) feeds_are once) in
-      let count : length actors ≡ g.graph.vertices =
-      is.finished.actors.count ∙ ap (λ (s : Setting). s.game.graph.vertices) is.opened.setting in
+      let ring : 0 < plan.ring = ring_is_some is.opened.can.within in
+      let more = given_by_the_record t game ring log legal in
+      let one = given_once t game ring log legal chips (fed_all ∙ feeds_are) (subst (AreGivenOnce g) feeds_are once) in
+      let count = is.finished.actors.count ∙ ap (λ (s : Setting). s.game.graph.vertices) is.opened.setting in
       subst (λ (h : ChipGame). FitTogether h (all_rows actors) f.outcome)
-      (one_more g (pairs feeds) (played_game t log) is.whole more (has_more g feeds is.whole is.whole_is))
+      (one_more g (pairs feeds) (played_game t log) is.whole
+      (subst (λ (all : List (ℕ × ℕ)). HasMore g all (played_game t log)) fed_all more) (has_more g feeds is.whole is.whole_is))
       (fit_outcome t game ring log legal one actors count (λ v a here. (is.finished.actors.order v a here).1) did
       f.outcome outcome)
 
 -- ---- what `run` answers
 
-module _ (limits : SizeLimits) (graph_text chips_text : List ℕ) (limit : ℕ) (shared : Sharing) (plan : Plan)
-    (old new : Outputs) (ended : Ended) (unsealed : plan.seal ≡ None) where
-  -- what is fed is what some text of chips feeds
-  fed_chips : (text : Option (List ℕ)) (vertices : ℕ) (feeds : Left) → MeansFed limits text vertices feeds
-      → (chips : List ℕ) × (pairs feeds ≡ feeds_of chips)
-  fed_chips None vertices None fed = ([], refl)
-  fed_chips None vertices (Some feeds) fed = absurd fed
-  fed_chips (Some text) vertices None fed = absurd fed
-  fed_chips (Some text) vertices (Some feeds) fed = (fed.0, fed.2)
-
-  -- where no vertex is given chips more than once, it wrote one run of the game that has all of them at the start
-  abbrev WritesFor : Option (List ℕ) → ChipGame → Left → Type 0
-  WritesFor text g feeds = MeansFedGame limits graph_text chips_text text limit g feeds
-      × (AreGivenOnce g (pairs feeds) → (whole : ChipGame) × IsWhole g feeds whole × WritesOneRun whole old new ended.cut)
-
-  writes : (text : Option (List ℕ))
-      → RunAnswers limits shared graph_text chips_text text limit plan old new (Ok ended)
-      → (g : ChipGame) × (feeds : Left) × WritesFor text g feeds
-  writes text (inl refused) = absurd refused
-  writes text (inr (g, feeds, means, (actors, told, plays, records, out))) =
-      let o : Outcome = plays.crew.outcome in
-      let is = plays.finished in
-      let whole : ChipGame = is.whole in
-      let reports = subst (λ (h : ChipGame). Reports h told ended.status)
-      (one_whole g feeds plays.reports.0 whole plays.reports.1 is.whole_is) plays.reports.2 in
-      let same = one_report whole told (report_text o) ended.status (plain_status o) reports
-      (o, is.played unsealed, refl, refl) in
-      let chips = fed_chips text g.graph.vertices feeds means.fed in (
-        g,
-        feeds,
-        (
-          means,
-          λ once. (
-            whole,
-            is.whole_is,
-            record {
-              actors = actors;
-              outcome = o;
-              fit = subst (λ (all : List ActorKnown). FitTogether whole (all_rows all) o) (sym plays.actors_are)
-                  (crew_fits shared g feeds plan plays.crew means.game.game is chips.0 chips.1 once);
-              report = subst (λ (t : List ℕ). Appends old.report new.report t) same.0 out;
-              trace = records;
-            },
-          ),
-        ),
-      )
-
-  unfed_writes : (g : ChipGame) (feeds : Left) → WritesFor None g feeds → WritesOneRun g old new ended.cut
-  unfed_writes g (Some feeds) (means, wrote) = absurd means.fed
-  unfed_writes g None (means, wrote) = let (whole, whole_is, run) = wrote (λ v l. inr refl) in
-      subst (λ (h : ChipGame). WritesOneRun h old new ended.cut) whole_is run
-
-  fed_writes : (text : List ℕ) (g : ChipGame) (feeds : Left) → WritesFor (Some text) g feeds
-      → (all : List (ℕ × ℕ)) × WritesFor (Some text) g (Some all)
-  fed_writes text g None (means, wrote) = absurd means.fed
-  fed_writes text g (Some feeds) wrote = (feeds, wrote)
+writes_by : (shared : Sharing) (g : ChipGame) (feeds : Left) (plan : Plan) (old new : Outputs) (ended : Ended) → plan.seal ≡ None
+    → IsGame g → (chips : List ℕ) → pairs feeds ≡ feeds_of chips → RunAnswersFor shared g feeds plan old new (Ok ended)
+    → AreGivenOnce g (pairs feeds) → (whole : ChipGame) × IsWhole g feeds whole × WritesOneRun whole old new ended.cut
+writes_by shared g feeds plan old new ended unsealed game chips feeds_are (actors, text, plays, records, out) once =
+    let o : Outcome = plays.crew.outcome in
+    let is = plays.finished in
+    let reports = subst (λ (h : ChipGame). Reports h text ended.status)
+    (one_whole g feeds plays.reports.0 is.whole plays.reports.1 is.whole_is) plays.reports.2 in
+    let same = one_report is.whole text (report_text o) ended.status (plain_status o) reports (o, is.played unsealed, refl, refl) in (
+      is.whole,
+      is.whole_is,
+      record {
+        actors = actors;
+        outcome = o;
+        fit = subst (λ (all : List ActorKnown). FitTogether is.whole (all_rows all) o) (sym plays.actors_are)
+            (crew_fits shared g feeds plan plays.crew game is chips feeds_are once);
+        report = subst (λ (t : List ℕ). Appends old.report new.report t) same.0 out;
+        trace = records;
+      },
+    )
 
 pub rows_fit : RowsFit
-rows_fit limits graph_text chips_text limit shared plan old new ended unsealed answers =
-    let (g, feeds, wrote) = writes limits graph_text chips_text limit shared plan old new ended unsealed None answers in
-    (g, wrote.0.game, unfed_writes limits graph_text chips_text limit shared plan old new ended unsealed g feeds wrote)
+rows_fit limits graph_text chips_text limit shared plan old new ended unsealed (inl refused) = absurd refused
+rows_fit limits graph_text chips_text limit shared plan old new ended unsealed (inr (g, Some feeds, means, run)) =
+    absurd means.fed
+rows_fit limits graph_text chips_text limit shared plan old new ended unsealed (inr (g, None, means, run)) =
+    let (whole, whole_is, wrote) =
+    writes_by shared g None plan old new ended unsealed means.game.game [] refl run (λ v l. inr refl) in
+    (g, means.game, subst (λ (h : ChipGame). WritesOneRun h old new ended.cut) whole_is wrote)
 
 pub fed_rows_fit : FedRowsFit
-fed_rows_fit limits graph_text chips_text feed_text limit shared plan old new ended unsealed answers =
-    let (g, feeds, wrote) =
-    writes limits graph_text chips_text limit shared plan old new ended unsealed (Some feed_text) answers in
-    let (all, wrote_all) =
-    fed_writes limits graph_text chips_text limit shared plan old new ended unsealed feed_text g feeds wrote in
-    (g, all, wrote_all.0, wrote_all.1)
+fed_rows_fit limits graph_text chips_text feed_text limit shared plan old new ended unsealed (inl refused) = absurd refused
+fed_rows_fit limits graph_text chips_text feed_text limit shared plan old new ended unsealed (inr (g, None, means, run)) =
+    absurd means.fed
+fed_rows_fit limits graph_text chips_text feed_text limit shared plan old new ended unsealed (inr (g, Some feeds, means, run)) = (
+  g,
+  feeds,
+  means,
+  writes_by shared g (Some feeds) plan old new ended unsealed means.game.game means.fed.0 means.fed.2 run,
+)
 
 -- ---- where no row was cut
 
@@ -204,9 +160,8 @@ all_kept : (actors : List ActorKnown) → is_any_cut actors ≡ false → map ro
 all_kept [] uncut = refl
 all_kept (a ∷ rest) uncut =
     let parts = or_parts (is_cut a) (is_any_cut rest) uncut in
-    ap (λ (rows : List TraceRow). rows ∷ map rows_kept rest)
-    (take_all a.room (rows_of a.did) (ltb-false a.room (length (rows_of a.did)) parts.0))
-    ∙ ap (λ (traces : List (List TraceRow)). rows_of a.did ∷ traces) (all_kept rest parts.1)
+    let all = take_all a.room (rows_of a.did) (ltb-false a.room (length (rows_of a.did)) parts.0) in
+    rw (all, all_kept rest parts.1) refl
 
 pub uncut_traces_fit : UncutTracesFit
 uncut_traces_fit limits graph_text chips_text limit shared plan old_report new_report old_trace new_trace ended unsealed answers uncut =

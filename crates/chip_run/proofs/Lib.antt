@@ -1,4 +1,3 @@
-pub mod FeedLemmas
 pub mod RunLemmas
 pub mod SameLemmas
 pub mod FitLemmas

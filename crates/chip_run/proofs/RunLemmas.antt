@@ -43,12 +43,14 @@ keeps_both o = record { report = Keeps-same o.report; trace = refl }
 
 -- what `run` wrote that ended well is the plain player's report
 pub writes_report : (limits : SizeLimits) (shared : Sharing) (graph_text chips_text : List ℕ) (feed_text : Option (List ℕ))
-    (limit : ℕ) (plan : Plan) (old new : Outputs) (result : Result Ended Fault)
-    → RunAnswers limits shared graph_text chips_text feed_text limit plan old new result
-    → IfOk result (WritesReport limits graph_text chips_text feed_text limit old.report new.report)
-writes_report limits shared graph_text chips_text feed_text limit plan old new (Err f) answers = tt
-writes_report limits shared graph_text chips_text feed_text limit plan old new (Ok ended) (inl refused) = absurd refused
-writes_report limits shared graph_text chips_text feed_text limit plan old new (Ok ended)
+    (limit : ℕ) (plan : Plan) (old new : Option (List ℕ)) (old_trace new_trace : Option (Option (List ℕ)))
+    (result : Result Ended Fault) → RunAnswers limits shared graph_text chips_text feed_text limit plan
+    (record { report = old; trace = old_trace }) (record { report = new; trace = new_trace }) result
+    → IfOk result (WritesReport limits graph_text chips_text feed_text limit old new)
+writes_report limits shared graph_text chips_text feed_text limit plan old new old_trace new_trace (Err f) answers = tt
+writes_report limits shared graph_text chips_text feed_text limit plan old new old_trace new_trace (Ok ended) (inl refused) =
+    absurd refused
+writes_report limits shared graph_text chips_text feed_text limit plan old new old_trace new_trace (Ok ended)
     (inr (g, feeds, means, (actors, text, plays, records, out))) = (g, feeds, means, text, plays.reports, out)
 
 -- a game and the feeds that a text has for the vertices of its graph

@@ -62,19 +62,16 @@ whole_fits g fits (Some feeds) within whole is =
     }
 
 -- what a crew plays is the report of some game
-pub delivered_some : (shared : Sharing) (g : ChipGame) (feeds : Left) (plan : Plan) (actors : List ActorKnown) (text : List ℕ)
-    (status : ℕ) → IsGame g → Plays shared g feeds plan actors text status → (old new : Option (List ℕ)) (cut : Bool)
-    (result : Result Ended Fault) → Delivers old new text (record { status = status; cut = cut }) result
-    → ReportsSomeRun old new result
-delivered_some shared g feeds plan actors text status game plays old new cut result went = by result went
-  where
-    some : ReportsSome text status
-    some = let whole = plays.reports in
-        (whole.0, whole_fits g game feeds plays.finished.opened.can.total whole.0 whole.1, whole.2)
+pub plays_some : (shared : Sharing) (g : ChipGame) (feeds : Left) (plan : Plan) (actors : List ActorKnown) (text : List ℕ)
+    (status : ℕ) → IsGame g → Plays shared g feeds plan actors text status → ReportsSome text status
+plays_some shared g feeds plan actors text status game plays = let whole = plays.reports in
+    (whole.0, whole_fits g game feeds plays.finished.opened.can.total whole.0 whole.1, whole.2)
 
-    by : (r : Result Ended Fault) → Delivers old new text (record { status = status; cut = cut }) r → ReportsSomeRun old new r
-    by (Ok ended) went = rw went.0 (text, some, went.1)
-    by (Err f) failed = inr (text, status, some, failed.0, failed.1, failed.2)
+pub delivered_some : (old new : Option (List ℕ)) (text : List ℕ) (status : ℕ) (cut : Bool) → ReportsSome text status
+    → (result : Result Ended Fault) → Delivers old new text (record { status = status; cut = cut }) result
+    → ReportsSomeRun old new result
+delivered_some old new text status cut some (Ok ended) went = rw went.0 (text, some, went.1)
+delivered_some old new text status cut some (Err f) failed = inr (text, status, some, failed.0, failed.1, failed.2)
 
 -- ---- one report for the texts
 

@@ -4,7 +4,7 @@ use Rattle.chip_graph.specs.Multigraph.{Multigraph}
 use Rattle.chip_command.proofs.InputLemmas.{Keeps-same}
 use Rattle.chip_run.specs.Feeding.{RefusesFed}
 use Rattle.chip_run.proofs.RunLemmas.{for_text, for_each_text, keeps_both, means_fed, delivered_run}
-use Rattle.chip_run.proofs.SameLemmas.{delivered_some}
+use Rattle.chip_run.proofs.SameLemmas.{plays_some, delivered_some}
 use Rattle.chip_run.proofs.running.run_engine_with.Goals as goal
 
 pub returns-in_err-game-clause-known : goal.returns-in_err-game-clause-known
@@ -82,5 +82,6 @@ returns-in_err-cut-clause-any g c =
     rw p.1 (inl (Keeps-same _))
 
 pub returns-clause-any : goal.returns-clause-any
-returns-clause-any g c = delivered_some _ _ _ _ _ _ _ c.in_ok-game.ensures.game c.in_ok-played.ensures.played _ _ _
-    c.conclude.result (rw (c.deref-2.ensures.value, c.number.ensures) at c.conclude.ensures)
+returns-clause-any g c = delivered_some _ _ _ _ _
+    (plays_some _ _ _ _ _ _ _ c.in_ok-game.ensures.game c.in_ok-played.ensures.played) c.conclude.result
+    (rw (c.deref-2.ensures.value, c.number.ensures) at c.conclude.ensures)

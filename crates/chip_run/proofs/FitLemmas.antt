@@ -1,9 +1,10 @@
 -- Serves Replaying.antt, Laws.antt.
 -- The rows of a legal log, in its order, are an interleaving: what was taken is what the firings sent.
-use Rattle.std.proofs.Common.{◌≡◌, ◌≢◌, ℕ, zero, suc, ◌+◌, ◌-◌, ◌*◌, ◌<◌, ◌≤◌, Bool, true, false, cond, eqb}
-use Rattle.std.proofs.Common.{ltb, List, [], ◌∷◌, ◌++◌, length, map, sum, get_or, option_to_list, Option, Some, None}
-use Rattle.std.proofs.Common.{slice_get, slice_index, refl, sym, ap, ◌∙◌, subst, arith, append_assoc, append-nil, eq-eqb}
-use Rattle.std.proofs.Common.{ne_eqb, lt-ltb, le-ltb, mul_comm, mul-add, add-mul, mul-zero, mul-pos, eqb-true, inr}
+use Rattle.std.proofs.Common.{◌≡◌, ◌≢◌, ℕ, zero, suc, ◌+◌, ◌-◌, ◌*◌, ◌<◌, ◌≤◌, Bool, true, false, cond, eqb, ltb, List}
+use Rattle.std.proofs.Common.{[], ◌∷◌, ◌++◌, length, map, sum, get_or, option_to_list, Option, Some, None, slice_get}
+use Rattle.std.proofs.Common.{slice_index, refl, sym, ap, ◌∙◌, subst, arith, append_assoc, append-nil, eq-eqb, ne_eqb}
+use Rattle.std.proofs.Common.{lt-ltb, le-ltb, mul_comm, mul-add, add-mul, mul-zero, mul-pos, eqb-true, inr, filter}
+use Rattle.std.proofs.Common.{⊎_elim, length-append}
 use Rattle.std.proofs.lemmas.Bool.{and_from}
 use Rattle.std.proofs.lemmas.Bool.Decides.{nat_tests}
 use Rattle.std.proofs.lemmas.List.{map-append, length_push, nil_from_length, get_or_past}
@@ -21,20 +22,21 @@ use Rattle.chip_link.specs.Link.{Tail, claims_of, sent_counts, after_clear, afte
 use Rattle.chip_link.specs.Laws.{IsPrefix}
 use Rattle.chip_link.proofs.SoundsLemmas.{length-sent_counts}
 use Rattle.chip_part.specs.Setting.{Setting}
-use Rattle.chip_part.specs.Edges.{mult_of}
+use Rattle.chip_part.specs.Edges.{mult_of, start_of}
 use Rattle.chip_part.specs.Part.{first_put}
 use Rattle.chip_part.specs.Kept.{Met, KeepsOut, KeepsPart}
 use Rattle.chip_part.specs.Steps.{fired_after, chips_after, link_after, pending_after, got_after}
 use Rattle.chip_part.proofs.EdgeLemmas.{tail_graph}
-use Rattle.chip_part.proofs.OpeningLemmas.{first_few}
+use Rattle.chip_part.proofs.OpeningLemmas.{first_few, first_is}
 use Rattle.chip_part.proofs.PartLemmas.{out_zero, at_edge}
-use Rattle.chip_core.specs.Core.{Log, Step, Event, Take, Fire, Clear, Claim, Put, Feed, does}
-use Rattle.chip_core.specs.Core.{Part, Out, Into, part_of, part_in, out_in, into_in, fired_by, sees, IsLegalLog}
-use Rattle.chip_core.specs.Core.{tail_of, head_of, root_edge, all_edges, graph_edges}
+use Rattle.chip_core.specs.Core.{Log, Step, Event, Take, Fire, Clear, Claim, Put, Feed, does, Part, Out, Into, part_of}
+use Rattle.chip_core.specs.Core.{part_in, out_in, into_in, fired_by, sees, IsLegalLog, tail_of, head_of, root_edge}
+use Rattle.chip_core.specs.Core.{all_edges, graph_edges}
 use Rattle.chip_core.specs.Histories.{done_by}
-use Rattle.chip_core.specs.Positions.{chips_given, played_game}
+use Rattle.chip_core.specs.Positions.{chips_given, played_game, fed_of}
 use Rattle.chip_core.proofs.LogLemmas.{met_here, head_inside, part_kept}
 use Rattle.chip_core.proofs.GivenLemmas.{given_each, fed_to, root_sends, unfed_played, unfed_records}
+use Rattle.chip_core.proofs.GivenLemmas as given
 use Rattle.chip_core.proofs.NumberLemmas.{take_finds, few_root_claims}
 use Rattle.chip_net.specs.Traces.{row_of}
 use Rattle.chip_net.specs.Traces as traces
@@ -44,9 +46,69 @@ use Rattle.chip_trace.specs.Interleaving.{has_count, is_met, Placed, rows_of, Ar
 use Rattle.chip_trace.specs.Interleaving.{with_firing, firings}
 use Rattle.chip_trace.proofs.PrefixLemmas.{slice_get_keeps}
 use Rattle.chip_trace.proofs.RowLemmas.{fires-append, chips_taken-append, takes_of-append, rows_of-append, AreMet-push}
-use Rattle.chip_run.specs.Replaying.{row_at_vertex, rows_in, traces_in, times_of, HasOneEach}
+use Rattle.chip_run.specs.Replaying.{row_at_vertex, rows_in, traces_in, times_of, HasOneEach, AreGivenOnce}
 use Rattle.chip_run.specs.Laws.{LogsFit, UnfedLogsFit}
-use Rattle.chip_run.proofs.FitFedLemmas.{given_once}
+use Rattle.std.specs.List.{enumerate_from, count_by}
+use Rattle.chip_graph.specs.More.{brought_to}
+use Rattle.chip_run.specs.Feeding.{has_chips, feeds_of}
+
+-- ---- how many feeds are for a vertex
+
+abbrev many_of : ℕ → List (ℕ × ℕ) → ℕ
+many_of v feeds = count_by (λ feed. eqb feed.0 v) feeds
+
+-- of vertices from n on, of each at most one, and each brings chips
+record AreOnce (v n : ℕ) (feeds : List (ℕ × ℕ)) : Type 0 where
+  one : many_of v feeds ≤ 1
+  later : v < n → many_of v feeds ≡ 0
+  some : many_of v feeds ≤ brought_to feeds v
+
+once : (v n : ℕ) (chips : List ℕ) → AreOnce v n (filter has_chips (enumerate_from n chips))
+once v n [] = record { one = omega arith; later = λ l. refl; some = omega arith }
+once v n (c ∷ chips) =
+    let feeds : List (ℕ × ℕ) = filter has_chips (enumerate_from (n + 1) chips) in
+    let all = once v (n + 1) chips in
+    let a = sum_by-cons (λ (f : ℕ × ℕ). cond (eqb f.0 v) 1 0) (n, c) feeds in
+    let b = sum_by-cons (λ (f : ℕ × ℕ). cond (eqb f.0 v) f.1 0) (n, c) feeds in
+    record { one = grind (arith, nat_tests); later = λ l. grind (arith, nat_tests); some = grind (arith, nat_tests) }
+
+-- ---- the messages of a root edge where no vertex is given chips more than once
+
+module _ (g : Setting) (game : IsGame g.game) (some_ring : 0 < g.ring) where
+  fed_count : (x : Event) (s : Part) → Met g x s → (v : ℕ) → length (fed_to g x v) ≡ many_of v (fed_of g x)
+  fed_count (Feed i k) s may v =
+      let past = may.0 in
+      let a = sum_by-cons (λ (f : ℕ × ℕ). cond (eqb f.0 v) 1 0) (i - graph_edges g, k) [] in grind (arith, nat_tests)
+  fed_count _ s may v = refl
+
+  claims_are : (log : Log) → IsLegalLog g log → (v : ℕ) → length (sent_counts (out_in g log (root_edge g v)).link)
+      ≡ length (first_put g (root_edge g v)) + many_of v (given.recorded g game some_ring log)
+  claims_are [] legal v = let a = ap length (append-nil (first_put g (root_edge g v))) in omega arith
+  claims_are (x ∷ log) legal v =
+      let a = ap length (root_sends g game some_ring x log legal v) in
+      let b = length-append (sent_counts (out_in g log (root_edge g v)).link) (fed_to g x.event v) in
+      let c = fed_count x.event (part_in g log (part_of g x.event)) (met_here g x log legal) v in
+      let d = claims_are log legal.0 v in
+      let f = ap (many_of v) (given.recorded_step g game some_ring x log legal) in
+      let h = sum_by-append (λ (f : ℕ × ℕ). cond (eqb f.0 v) 1 0) (given.recorded g game some_ring log) (fed_of g x.event) in
+      omega arith
+
+  -- a root edge opens with one message at most, and with none where its vertex starts without chips
+  opens_once : (v : ℕ) → (length (first_put g (root_edge g v)) ≤ 1) × (length (first_put g (root_edge g v)) ≤ start_of g v)
+  opens_once v = let a = ap length (first_is g v) in (grind (arith, nat_tests), grind (arith, nat_tests))
+
+  -- a vertex starts with chips or is fed, once
+  pub given_once : (log : Log) → IsLegalLog g log → (chips : List ℕ) → given.recorded g game some_ring log ≡ feeds_of chips
+      → AreGivenOnce g.game (feeds_of chips) → HasOneEach g log
+  given_once log legal chips is given v l =
+      let a = claims_are log legal v in
+      let b = length-sent_counts (out_in g log (root_edge g v)).link in
+      let c = ap (many_of v) is in
+      let first = opens_once v in
+      let first_one = first.0 in
+      let first_some = first.1 in
+      let feeds = once v 0 chips in
+      ⊎_elim (λ (none : start_of g v ≡ 0). omega arith) (λ (none : brought_to (feeds_of chips) v ≡ 0). omega arith) (given v l)
 
 -- ---- rows of one vertex, placed
 
@@ -171,25 +233,6 @@ module _ (g : Setting) where
     outside_more (Fire v k) seen s may past = let l = may.0 in absurd (omega arith)
     outside_more x seen s may past = refl
 
-    tells_more : (x : Step) (rows : List TraceRow) (s : Part) → Met g x.event s → KeepsPart g (part_of g x.event) s
-        → RowsTell g (part_of g x.event) rows s
-        → RowsTell g (part_of g x.event) (rows ++ row_of x.event x.seen) (does g x s)
-    tells_more x rows s may keeps told =
-        let more : List TraceRow = row_of x.event x.seen in
-        let fires_are = fires-append rows more in record {
-          fired = (let a = ap sum fires_are in let b = sum_by-append (λ (n : ℕ). n) (fires rows) (fires more) in
-              let c = fired_more x.event x.seen s.fired in omega arith);
-          chips = (let a = chips_taken-append rows more in let b = chips_more x.event x.seen s may in omega arith);
-          taken = λ e. (let a = takes_of-append e rows more in let b = told.taken e in
-              let c = taken_more x.event x.seen e (s.into e) in omega arith);
-          sent = λ e inside mine. let send : ℕ → ℕ = λ k. k * mult_of g e in
-              ap (map send) fires_are ∙ map-append send (fires rows) (fires more)
-              ∙ ap (λ (l : List ℕ). l ++ map send (fires more)) (told.sent e inside mine)
-              ∙ due_more x.event x.seen e s inside mine may (keeps.outs e mine);
-          outside = λ past. ap (λ (l : List TraceRow). l ++ more) (told.outside past)
-              ∙ outside_more x.event x.seen s may past;
-        }
-
     tells : (log : Log) → IsLegalLog g log → (v : ℕ) → RowsTell g v (recorded log v) (part_in g log v)
     tells [] legal v = record {
       fired = refl;
@@ -199,10 +242,28 @@ module _ (g : Setting) where
           ∙ nil_from_length (first_put g e) (first_few g e inside));
       outside = λ past. refl;
     }
-    tells (x ∷ log) legal v = let p : ℕ = part_of g x.event in dite (ℕ_discrete p v)
+    tells (x ∷ log) legal v =
+        let p : ℕ = part_of g x.event in
+        let s : Part = part_in g log p in
+        let rows : List TraceRow = recorded log p in
+        let more : List TraceRow = row_of x.event x.seen in
+        let may = met_here g x log legal in
+        let told = tells log legal.0 p in
+        let fires_are = fires-append rows more in dite (ℕ_discrete p v)
         (λ same. subst (λ (u : ℕ). RowsTell g u (recorded (x ∷ log) u) (part_in g (x ∷ log) u)) same
-        (rw (eq-eqb p p refl, rows_push (done_by g p log) x) (tells_more x (recorded log p) (part_in g log p)
-        (met_here g x log legal) (part_kept g game log legal.0 p) (tells log legal.0 p))))
+        (rw (eq-eqb p p refl, rows_push (done_by g p log) x) (record {
+          fired = (let a = ap sum fires_are in let b = sum_by-append (λ (n : ℕ). n) (fires rows) (fires more) in
+              let c = fired_more x.event x.seen s.fired in omega arith);
+          chips = (let a = chips_taken-append rows more in let b = chips_more x.event x.seen s may in omega arith);
+          taken = λ e. (let a = takes_of-append e rows more in let b = told.taken e in
+              let c = taken_more x.event x.seen e (s.into e) in omega arith);
+          sent = λ e inside mine. let send : ℕ → ℕ = λ k. k * mult_of g e in
+              ap (map send) fires_are ∙ map-append send (fires rows) (fires more)
+              ∙ ap (λ (l : List ℕ). l ++ map send (fires more)) (told.sent e inside mine)
+              ∙ due_more x.event x.seen e s inside mine may ((part_kept g game log legal.0 p).outs e mine);
+          outside = λ past. ap (λ (l : List TraceRow). l ++ more) (told.outside past)
+              ∙ outside_more x.event x.seen s may past;
+        })))
         (λ other. rw (ne_eqb p v other) (tells log legal.0 v))
 
     pub times_fired : (log : Log) → IsLegalLog g log → (v : ℕ) → times_of v (firings (rows_in g log)) ≡ fired_by g log v

@@ -1,7 +1,7 @@
 -- Serves Laws.antt.
 -- The rows of a run's actors are those of one log, so they fit together.
-use Rattle.std.proofs.Common.{◌≡◌, ℕ, ◌<◌, arith, true, false, List, [], ◌∷◌, length, map, inl, inr, slice_get, Option, Some, None}
-use Rattle.std.proofs.Common.{is_some, Ok, leb, ltb, refl, sym, ap, ◌∙◌, subst, ltb-true}
+use Rattle.std.proofs.Common.{◌≡◌, ℕ, ◌<◌, arith, true, false, List, [], ◌∷◌, length, map, inl, inr, slice_get, Option}
+use Rattle.std.proofs.Common.{Some, None, is_some, Ok, leb, ltb, refl, sym, ap, ◌∙◌, subst, ltb-true}
 use Rattle.std.specs.Io.KnownBytes.{Appends}
 use Rattle.std.proofs.lemmas.Bool.Decides.{nat_tests}
 use Rattle.std.proofs.lemmas.Bool.{and_parts, or_parts, ltb-false}
@@ -47,31 +47,8 @@ use Rattle.chip_run.specs.Recording.{rows_kept, is_cut, is_any_cut}
 use Rattle.chip_run.specs.RunCommand.{Outputs, RunAnswersFor}
 use Rattle.chip_run.specs.Replaying.{rows_in, traces_in, all_rows, HasOneEach, AreGivenOnce, FitTogether, WritesOneRun}
 use Rattle.chip_run.specs.Laws.{RowsFit, UncutTracesFit, FedRowsFit}
-use Rattle.chip_run.proofs.FitLemmas.{interleaves, times_fired}
-use Rattle.chip_run.proofs.FitFedLemmas.{given_once}
-use Rattle.chip_run.proofs.SameLemmas.{has_more, one_more, one_whole}
-
--- the actors of a log
-module _ (g : Setting) (game : IsGame g.game) (some_ring : 0 < g.ring) (log : Log) (legal : IsLegalLog g log)
-    (one : HasOneEach g log) (actors : List ActorKnown) (count : length actors ≡ g.game.graph.vertices)
-    (places : (v : ℕ) (a : ActorKnown) → slice_get actors v ≡ Some a → a.vertex ≡ v)
-    (did : DidTheirs g log actors) where
-  all_recorded : all_rows actors ≡ traces_in g log
-  all_recorded = fill_by_all (λ v. rows_of (done_by g v log)) (all_rows actors) g.game.graph.vertices []
-      (length-map actors (λ a. rows_of a.did) ∙ count) (λ v l.
-      let inside : v < length actors = subst (λ (n : ℕ). v < n) (sym count) l in
-      let here = slice_get-get_or actors v no_actor inside in
-      get_or-map (λ a. rows_of a.did) actors v no_actor [] inside
-      ∙ ap rows_of (did v _ here) ∙ ap (λ (u : ℕ). rows_of (done_by g u log)) (places v _ here))
-
-  fit_outcome : (o : Outcome) → IsOutcomeOf g log o → FitTogether (played_game g log) (all_rows actors) o
-  fit_outcome o is = record {
-    rows = rows_in g log;
-    interleaving = subst (λ (traces : List (List TraceRow)). IsInterleaving (played_game g log) traces (rows_in g log))
-        (sym all_recorded) (interleaves g game some_ring log legal one);
-    fired = λ v. times_fired g game log legal v
-        ∙ sym ((outcomes_tell g game some_ring log legal o is).comes.counted v ∙ counts_are g log v);
-  }
+use Rattle.chip_run.proofs.FitLemmas.{interleaves, times_fired, given_once}
+use Rattle.chip_run.proofs.RunLemmas.{has_more, one_more, one_whole}
 
 -- the actors of a crew, in the game that has all chips at the start, where no vertex is given chips more than once
 module _ (shared : Sharing) (g : ChipGame) (feeds : Left) (plan : Plan) (f : Finished) (game : IsGame g)
@@ -105,11 +82,21 @@ module _ (shared : Sharing) (g : ChipGame) (feeds : Left) (plan : Plan) (f : Fin
       let more = given_by_the_record t game ring log legal in
       let one = given_once t game ring log legal chips (fed_all ∙ feeds_are) (subst (AreGivenOnce g) feeds_are once) in
       let count = is.finished.actors.count ∙ ap (λ (s : Setting). s.game.graph.vertices) is.opened.setting in
-      subst (λ (h : ChipGame). FitTogether h (all_rows actors) f.outcome)
-      (one_more g (pairs feeds) (played_game t log) is.whole
-      (subst (λ (all : List (ℕ × ℕ)). HasMore g all (played_game t log)) fed_all more) (has_more g feeds is.whole is.whole_is))
-      (fit_outcome t game ring log legal one actors count (λ v a here. (is.finished.actors.order v a here).1) did
-      f.outcome outcome)
+      let all : all_rows actors ≡ traces_in t log =
+      fill_by_all (λ v. rows_of (done_by t v log)) (all_rows actors) g.graph.vertices []
+      (length-map actors (λ a. rows_of a.did) ∙ count) (λ v l.
+      let inside : v < length actors = subst (λ (n : ℕ). v < n) (sym count) l in
+      let here = slice_get-get_or actors v no_actor inside in
+      get_or-map (λ a. rows_of a.did) actors v no_actor [] inside ∙ ap rows_of (did v _ here)
+      ∙ ap (λ (u : ℕ). rows_of (done_by t u log)) (is.finished.actors.order v _ here).1) in
+      let same = one_more g (pairs feeds) (played_game t log) is.whole
+      (subst (λ (all : List (ℕ × ℕ)). HasMore g all (played_game t log)) fed_all more) (has_more g feeds is.whole is.whole_is) in
+      subst (λ (h : ChipGame). FitTogether h (all_rows actors) f.outcome) same (record {
+        rows = rows_in t log;
+        interleaving = rw all (interleaves t game ring log legal one);
+        fired = λ v. times_fired t game log legal v
+            ∙ sym ((outcomes_tell t game ring log legal f.outcome outcome).comes.counted v ∙ counts_are t log v);
+      })
 
 -- ---- what `run` answers
 

@@ -41,15 +41,11 @@ fault_of_crew (crew.Unfinished deficit root) = fault.Unfinished deficit
 abbrev pub never_shut : ℕ → ℕ → Bool → Type 0
 never_shut worker turn answer = answer ≡ true
 
--- why a crew of this game by this plan, which shares the actors so, has these feeds and a gate that is never shut, didn't
--- finish
-abbrev pub IsCrewFault : Sharing → ChipGame → Option (List (ℕ × ℕ)) → Plan → Fault → Type 0
-IsCrewFault shared g feeds plan f =
-    (e : CrewFault) × IsFaultOf shared g feeds plan never_shut e × (f ≡ fault_of_crew e)
-
--- why a game has no report: its crew didn't finish, or there is no memory for it
+-- why a game has no report: a crew of it by this plan, which shares the actors so, has these feeds and a gate that is
+-- never shut, didn't finish; or there is no memory for the report
 abbrev pub IsNotPlayed : Sharing → ChipGame → Option (List (ℕ × ℕ)) → Plan → Fault → Type 0
-IsNotPlayed shared g feeds plan f = IsCrewFault shared g feeds plan f ⊎ (f ≡ fault.NoMemory)
+IsNotPlayed shared g feeds plan f =
+    ((e : CrewFault) × IsFaultOf shared g feeds plan never_shut e × (f ≡ fault_of_crew e)) ⊎ (f ≡ fault.NoMemory)
 
 -- a text and a status are the plain player's report of a game with these feeds, and its status
 abbrev pub ReportsFed : ChipGame → Option (List (ℕ × ℕ)) → List ℕ → ℕ → Type 0

@@ -1,4 +1,4 @@
-use Rattle.chip_run.proofs.SameLemmas as same
+use Rattle.chip_run.proofs.RunLemmas as same
 use Rattle.chip_run.proofs.laws.first_sitting.Goals as goal
 
 pub returns : goal.returns

@@ -4,7 +4,7 @@ use Rattle.chip_graph.specs.Multigraph.{Multigraph}
 use Rattle.chip_command.proofs.InputLemmas.{Keeps-same}
 use Rattle.chip_run.specs.Feeding.{RefusesFed}
 use Rattle.chip_run.proofs.RunLemmas.{for_text, for_each_text, keeps_both, means_fed, delivered_run}
-use Rattle.chip_run.proofs.SameLemmas.{plays_some, delivered_some}
+use Rattle.chip_run.proofs.RunLemmas.{plays_some, delivered_some}
 use Rattle.chip_run.proofs.running.run_engine_with.Goals as goal
 
 pub returns-in_err-game-clause-known : goal.returns-in_err-game-clause-known

@@ -90,16 +90,18 @@ module _ (g : Setting) (game : IsGame g.game) (some_ring : 0 < g.ring) where
       let c = fed_count x.event (part_in g log (part_of g x.event)) (met_here g x log legal) v in
       let d = claims_are log legal.0 v in
       let f = ap (many_of v) (given.recorded_step g game some_ring x log legal) in
-      let h = sum_by-append (λ (f : ℕ × ℕ). cond (eqb f.0 v) 1 0) (given.recorded g game some_ring log) (fed_of g x.event) in
+      let h = sum_by-append (λ (f : ℕ × ℕ). cond (eqb f.0 v) 1 0) (given.recorded g game some_ring log)
+      (fed_of g x.event) in
       omega arith
 
   -- a root edge opens with one message at most, and with none where its vertex starts without chips
-  opens_once : (v : ℕ) → (length (first_put g (root_edge g v)) ≤ 1) × (length (first_put g (root_edge g v)) ≤ start_of g v)
+  opens_once : (v : ℕ)
+      → (length (first_put g (root_edge g v)) ≤ 1) × (length (first_put g (root_edge g v)) ≤ start_of g v)
   opens_once v = let a = ap length (first_is g v) in (grind (arith, nat_tests), grind (arith, nat_tests))
 
   -- a vertex starts with chips or is fed, once
-  pub given_once : (log : Log) → IsLegalLog g log → (chips : List ℕ) → given.recorded g game some_ring log ≡ feeds_of chips
-      → AreGivenOnce g.game (feeds_of chips) → HasOneEach g log
+  pub given_once : (log : Log) → IsLegalLog g log → (chips : List ℕ)
+      → given.recorded g game some_ring log ≡ feeds_of chips → AreGivenOnce g.game (feeds_of chips) → HasOneEach g log
   given_once log legal chips is given v l =
       let a = claims_are log legal v in
       let b = length-sent_counts (out_in g log (root_edge g v)).link in
@@ -108,7 +110,8 @@ module _ (g : Setting) (game : IsGame g.game) (some_ring : 0 < g.ring) where
       let first_one = first.0 in
       let first_some = first.1 in
       let feeds = once v 0 chips in
-      ⊎_elim (λ (none : start_of g v ≡ 0). omega arith) (λ (none : brought_to (feeds_of chips) v ≡ 0). omega arith) (given v l)
+      ⊎_elim (λ (none : start_of g v ≡ 0). omega arith) (λ (none : brought_to (feeds_of chips) v ≡ 0). omega arith)
+      (given v l)
 
 -- ---- rows of one vertex, placed
 
@@ -121,7 +124,8 @@ placed_else u v [] ne = refl
 placed_else u v (row ∷ rows) ne = grind (arith, nat_tests, placed_else u v rows ne)
 
 -- the firings of v in a list are those of its rows
-times_push : (u v : ℕ) (row : TraceRow) (fired : List (ℕ × ℕ)) (rows : List TraceRow) → times_of v fired ≡ sum (fires rows)
+times_push : (u v : ℕ) (row : TraceRow) (fired : List (ℕ × ℕ)) (rows : List TraceRow)
+    → times_of v fired ≡ sum (fires rows)
     → times_of v (with_firing u row fired) ≡ sum (fires (cond (eqb u v) (row ∷ rows) rows))
 times_push u v (Row.Take edge count) fired rows is = grind (arith, nat_tests)
 times_push u v (Row.Fire k) fired rows is =
@@ -228,7 +232,8 @@ module _ (g : Setting) where
         (λ other. grind (arith, nat_tests, append-nil (due o.link o.pending)))
     due_more x seen e s inside mine may keeps = append-nil (due (s.out e).link (s.out e).pending)
 
-    outside_more : (x : Event) (seen : ℕ) (s : Part) → Met g x s → g.game.graph.vertices ≤ part_of g x → row_of x seen ≡ []
+    outside_more : (x : Event) (seen : ℕ) (s : Part) → Met g x s → g.game.graph.vertices ≤ part_of g x
+        → row_of x seen ≡ []
     outside_more (Take e) seen s may past = let l = head_inside g game e may in absurd (omega arith)
     outside_more (Fire v k) seen s may past = let l = may.0 in absurd (omega arith)
     outside_more x seen s may past = refl
@@ -315,8 +320,8 @@ module _ (g : Setting) where
         ))
         (λ n.
         let at : root_edge g (e - m) ≡ e = omega arith in
-        let opening_is = subst (λ (i : ℕ). IsPrefix (sent_counts (out_in g log i).link) first) at (opened (e - m) (omega arith)) in
-        (opening_is.0, opening_is.1 ∙ sym (cond_false (ltb e m) own first (le-ltb e m (omega arith)))))
+        let sent = subst (λ (i : ℕ). IsPrefix (sent_counts (out_in g log i).link) first) at (opened (e - m) (omega arith)) in
+        (sent.0, sent.1 ∙ sym (cond_false (ltb e m) own first (le-ltb e m (omega arith)))))
 
     take_met : (log : Log) → IsLegalLog g log → Opens log → (e seen : ℕ) → e < all_edges g
         → seen ≡ sees g log (Take e) → seen ≢ 0 → is_met whole (recorded log) (head_of g e) (Row.Take e seen) ≡ true
@@ -341,7 +346,8 @@ module _ (g : Setting) where
         let told = tells game log legal v in
         let inner = may.1 in let some = may.5 in let within = may.6 in let paid = may.7 in
         let a = add-mul (fired_by g log v) k d in let b = mul_comm (fired_by g log v) d in
-        let enough : (sum (fires (recorded log v)) + k) * d ≤ chips_taken (recorded log v) = rw told.fired (omega arith) in
+        let enough : (sum (fires (recorded log v)) + k) * d ≤ chips_taken (recorded log v) =
+        rw told.fired (omega arith) in
         grind (arith, nat_tests)
 
     -- it is met behind the rows of the log
@@ -357,7 +363,8 @@ module _ (g : Setting) where
         (λ none. rw (eq-eqb seen 0 none, append-nil) all)
         (λ some. rw (ne_eqb seen 0 some)
         (met_behind log (head_of g e) (Row.Take e seen) all (take_met log legal opened e seen may is some)))
-    met_more (Fire v k) seen log legal opened may is all = met_behind log v (Row.Fire k) all (fire_met log legal v k may)
+    met_more (Fire v k) seen log legal opened may is all =
+        met_behind log v (Row.Fire k) all (fire_met log legal v k may)
     met_more x seen log legal opened may is all = rw append-nil all
 
     all_met : (log : Log) → IsLegalLog g log → Opens log → AreMet whole [] (rows_in g log)

@@ -90,7 +90,8 @@ module _ (shared : Sharing) (g : ChipGame) (feeds : Left) (plan : Plan) (f : Fin
       get_or-map (λ a. rows_of a.did) actors v no_actor [] inside ∙ ap rows_of (did v _ here)
       ∙ ap (λ (u : ℕ). rows_of (done_by t u log)) (is.finished.actors.order v _ here).1) in
       let same = one_more g (pairs feeds) (played_game t log) is.whole
-      (subst (λ (all : List (ℕ × ℕ)). HasMore g all (played_game t log)) fed_all more) (has_more g feeds is.whole is.whole_is) in
+      (subst (λ (all : List (ℕ × ℕ)). HasMore g all (played_game t log)) fed_all more)
+      (has_more g feeds is.whole is.whole_is) in
       subst (λ (h : ChipGame). FitTogether h (all_rows actors) f.outcome) same (record {
         rows = rows_in t log;
         interleaving = rw all (interleaves t game ring log legal one);
@@ -100,15 +101,16 @@ module _ (shared : Sharing) (g : ChipGame) (feeds : Left) (plan : Plan) (f : Fin
 
 -- ---- what `run` answers
 
-writes_by : (shared : Sharing) (g : ChipGame) (feeds : Left) (plan : Plan) (old new : Outputs) (ended : Ended) → plan.seal ≡ None
-    → IsGame g → (chips : List ℕ) → pairs feeds ≡ feeds_of chips → RunAnswersFor shared g feeds plan old new (Ok ended)
+writes_by : (shared : Sharing) (g : ChipGame) (feeds : Left) (plan : Plan) (old new : Outputs) (ended : Ended)
+    → plan.seal ≡ None → IsGame g → (chips : List ℕ) → pairs feeds ≡ feeds_of chips → RunAnswersFor shared g feeds plan old new (Ok ended)
     → AreGivenOnce g (pairs feeds) → (whole : ChipGame) × IsWhole g feeds whole × WritesOneRun whole old new ended.cut
 writes_by shared g feeds plan old new ended unsealed game chips feeds_are (actors, text, plays, records, out) once =
     let o : Outcome = plays.crew.outcome in
     let is = plays.finished in
     let reports = subst (λ (h : ChipGame). Reports h text ended.status)
     (one_whole g feeds plays.reports.0 is.whole plays.reports.1 is.whole_is) plays.reports.2 in
-    let same = one_report is.whole text (report_text o) ended.status (plain_status o) reports (o, is.played unsealed, refl, refl) in (
+    let same = one_report is.whole text (report_text o) ended.status (plain_status o) reports
+    (o, is.played unsealed, refl, refl) in (
       is.whole,
       is.whole_is,
       record {
@@ -131,14 +133,14 @@ rows_fit limits graph_text chips_text limit shared plan old new ended unsealed (
     (g, means.game, subst (λ (h : ChipGame). WritesOneRun h old new ended.cut) whole_is wrote)
 
 pub fed_rows_fit : FedRowsFit
-fed_rows_fit limits graph_text chips_text feed_text limit shared plan old new ended unsealed (inl refused) = absurd refused
-fed_rows_fit limits graph_text chips_text feed_text limit shared plan old new ended unsealed (inr (g, None, means, run)) =
+fed_rows_fit limits graph_text chips_text feed limit shared plan old new ended unsealed (inl refused) = absurd refused
+fed_rows_fit limits graph_text chips_text feed limit shared plan old new ended unsealed (inr (g, None, means, run)) =
     absurd means.fed
-fed_rows_fit limits graph_text chips_text feed_text limit shared plan old new ended unsealed (inr (g, Some feeds, means, run)) = (
+fed_rows_fit limits graph_text chips_text feed limit shared plan old new ended unsealed (inr (g, Some all, means, run)) = (
   g,
-  feeds,
+  all,
   means,
-  writes_by shared g (Some feeds) plan old new ended unsealed means.game.game means.fed.0 means.fed.2 run,
+  writes_by shared g (Some all) plan old new ended unsealed means.game.game means.fed.0 means.fed.2 run,
 )
 
 -- ---- where no row was cut
@@ -151,9 +153,11 @@ all_kept (a ∷ rest) uncut =
     rw (all, all_kept rest parts.1) refl
 
 pub uncut_traces_fit : UncutTracesFit
-uncut_traces_fit limits graph_text chips_text limit shared plan old_report new_report old_trace new_trace ended unsealed answers uncut =
-    let (g, means, wrote) = rows_fit limits graph_text chips_text limit shared plan (record { report = old_report; trace = Some old_trace })
-    (record { report = new_report; trace = Some new_trace }) ended unsealed answers in (
+uncut_traces_fit limits graph_text chips_text limit shared plan old_report new_report old_trace new_trace ended unsealed
+    answers uncut =
+    let (g, means, wrote) = rows_fit limits graph_text chips_text limit shared plan
+    (record { report = old_report; trace = Some old_trace }) (record { report = new_report; trace = Some new_trace })
+    ended unsealed answers in (
       g,
       means,
       record {

@@ -48,28 +48,28 @@ pub keeps_both : (o : Outputs) → KeepsBoth o o
 keeps_both o = record { report = Keeps-same o.report; trace = refl }
 
 -- what `run` wrote that ended well is the plain player's report
-pub writes_report : (limits : SizeLimits) (shared : Sharing) (graph_text chips_text : List ℕ) (feed_text : Option (List ℕ))
-    (limit : ℕ) (plan : Plan) (old new : Option (List ℕ)) (old_trace new_trace : Option (Option (List ℕ)))
+pub writes_report : (limits : SizeLimits) (shared : Sharing) (graph_text chips_text : List ℕ)
+    (feed_text : Option (List ℕ)) (limit : ℕ) (plan : Plan) (old new : Option (List ℕ)) (old_trace new_trace : Option (Option (List ℕ)))
     (result : Result Ended Fault) → RunAnswers limits shared graph_text chips_text feed_text limit plan
     (record { report = old; trace = old_trace }) (record { report = new; trace = new_trace }) result
     → IfOk result (WritesReport limits graph_text chips_text feed_text limit old new)
 writes_report limits shared graph_text chips_text feed_text limit plan old new old_trace new_trace (Err f) answers = tt
-writes_report limits shared graph_text chips_text feed_text limit plan old new old_trace new_trace (Ok ended) (inl refused) =
-    absurd refused
+writes_report limits shared graph_text chips_text feed_text limit plan old new old_trace new_trace (Ok ended)
+    (inl refused) = absurd refused
 writes_report limits shared graph_text chips_text feed_text limit plan old new old_trace new_trace (Ok ended)
     (inr (g, feeds, means, (actors, text, plays, records, out))) = (g, feeds, means, text, plays.reports, out)
 
 -- a game and the feeds that a text has for the vertices of its graph
-pub means_fed : (limits : SizeLimits) (graph_text chips_text : List ℕ) (feed_text : Option (List ℕ)) (limit : ℕ) (g : ChipGame)
-    (feeds : Left) (vertices : ℕ) → vertices ≡ g.graph.vertices → MeansGame limits graph_text chips_text limit g
+pub means_fed : (limits : SizeLimits) (graph_text chips_text : List ℕ) (feed_text : Option (List ℕ)) (limit : ℕ)
+    (g : ChipGame) (feeds : Left) (vertices : ℕ) → vertices ≡ g.graph.vertices → MeansGame limits graph_text chips_text limit g
     → MeansFed limits feed_text vertices feeds → MeansFedGame limits graph_text chips_text feed_text limit g feeds
 means_fed limits graph_text chips_text feed_text limit g feeds vertices same game fed =
     record { game = game; fed = subst (λ (n : ℕ). MeansFed limits feed_text n feeds) same fed }
 
 -- the report of a crew that finished the game went out behind its trace, or its output failed
 pub delivered_run : (shared : Sharing) (g : ChipGame) (feeds : Left) (plan : Plan) (old new : Option (List ℕ))
-    (old_trace new_trace : Option (Option (List ℕ))) (actors : List ActorKnown) (text : List ℕ) (status : ℕ) (cut : Bool)
-    → Plays shared g feeds plan actors text status → RecordsIfAsked actors old_trace new_trace cut
+    (old_trace new_trace : Option (Option (List ℕ))) (actors : List ActorKnown) (text : List ℕ) (status : ℕ)
+    (cut : Bool) → Plays shared g feeds plan actors text status → RecordsIfAsked actors old_trace new_trace cut
     → (result : Result Ended Fault) → Delivers old new text (record { status = status; cut = cut }) result
     → RunAnswersFor shared g feeds plan (record { report = old; trace = old_trace })
     (record { report = new; trace = new_trace }) result
@@ -87,22 +87,23 @@ fails_by actors old new traces is trace.NoMemory wrote = wrote
 
 -- a crew whose gate may answer false nowhere did not finish: its fault is that of one whose gate is never shut
 of_open_gate : (shared : Sharing) (g : ChipGame) (feeds : Left) (plan : Plan) (may_answer : ℕ → ℕ → Bool → Type 0)
-    → ((worker turn : ℕ) → may_answer worker turn false → ⊥) → (e : CrewFault) → IsFaultOf shared g feeds plan may_answer e
-    → IsFaultOf shared g feeds plan never_shut e
+    → ((worker turn : ℕ) → may_answer worker turn false → ⊥) → (e : CrewFault)
+    → IsFaultOf shared g feeds plan may_answer e → IsFaultOf shared g feeds plan never_shut e
 of_open_gate shared g feeds plan may_answer never crew.GateShut (can, (worker, turn, in_crew, in_turns, shut)) =
     absurd (never worker turn shut)
 of_open_gate shared g feeds plan may_answer never e is = is
 
 -- so the game was not played
 pub not_played : (shared : Sharing) (g : ChipGame) (feeds : Left) (plan : Plan) (may_answer : ℕ → ℕ → Bool → Type 0)
-    → ((worker turn : ℕ) → may_answer worker turn false → ⊥) → (e : CrewFault) (f : Fault) → IsFaultOf shared g feeds plan may_answer e
-    → f ≡ fault_of_crew e → IsNotPlayed shared g feeds plan f
-not_played shared g feeds plan may_answer never e f is same = inl (e, of_open_gate shared g feeds plan may_answer never e is, same)
+    → ((worker turn : ℕ) → may_answer worker turn false → ⊥) → (e : CrewFault) (f : Fault)
+    → IsFaultOf shared g feeds plan may_answer e → f ≡ fault_of_crew e → IsNotPlayed shared g feeds plan f
+not_played shared g feeds plan may_answer never e f is same =
+    inl (e, of_open_gate shared g feeds plan may_answer never e is, same)
 
 -- ---- what a crew plays
 
-one_feed : (limits bounds : SizeLimits) (text : Option (List ℕ)) (vertices : ℕ) (a b : Left) → MeansFed limits text vertices a
-    → MeansFed bounds text vertices b → a ≡ b
+one_feed : (limits bounds : SizeLimits) (text : Option (List ℕ)) (vertices : ℕ) (a b : Left)
+    → MeansFed limits text vertices a → MeansFed bounds text vertices b → a ≡ b
 one_feed limits bounds None vertices None None p q = refl
 one_feed limits bounds None vertices None (Some feeds) p q = absurd q
 one_feed limits bounds None vertices (Some feeds) b p q = absurd p
@@ -132,8 +133,8 @@ pub one_whole : (g : ChipGame) (feeds : Left) (a b : ChipGame) → IsWhole g fee
 one_whole g feeds a b p q = one_more g (pairs feeds) a b (has_more g feeds a p) (has_more g feeds b q)
 
 -- with all chips at the start a game is within the limits where what is fed stays within the total
-whole_fits : (g : ChipGame) → IsGame g → (feeds : Left) → StaysWithin g feeds → (whole : ChipGame) → IsWhole g feeds whole
-    → IsGame whole
+whole_fits : (g : ChipGame) → IsGame g → (feeds : Left) → StaysWithin g feeds → (whole : ChipGame)
+    → IsWhole g feeds whole → IsGame whole
 whole_fits g fits None within whole is = subst IsGame (sym is) fits
 whole_fits g fits (Some feeds) within whole is =
     record {
@@ -144,8 +145,8 @@ whole_fits g fits (Some feeds) within whole is =
     }
 
 -- what a crew plays is the report of some game
-pub plays_some : (shared : Sharing) (g : ChipGame) (feeds : Left) (plan : Plan) (actors : List ActorKnown) (text : List ℕ)
-    (status : ℕ) → IsGame g → Plays shared g feeds plan actors text status → ReportsSome text status
+pub plays_some : (shared : Sharing) (g : ChipGame) (feeds : Left) (plan : Plan) (actors : List ActorKnown)
+    (text : List ℕ) (status : ℕ) → IsGame g → Plays shared g feeds plan actors text status → ReportsSome text status
 plays_some shared g feeds plan actors text status game plays = let whole = plays.reports in
     (whole.0, whole_fits g game feeds plays.finished.opened.can.total whole.0 whole.1, whole.2)
 
@@ -158,8 +159,8 @@ delivered_some old new text status cut some (Err f) failed = inr (text, status, 
 -- ---- one report for the texts
 
 -- what `run` wrote is the report of the game that has all chips at the start, which is within the limits
-pub run_reports : (graph_text chips_text : List ℕ) (feed_text : Option (List ℕ)) (limit : ℕ) (report : List ℕ) (status : ℕ)
-    → RunWrote graph_text chips_text feed_text limit report status → (limits : SizeLimits) (g : ChipGame)
+run_reports : (graph_text chips_text : List ℕ) (feed_text : Option (List ℕ)) (limit : ℕ) (report : List ℕ)
+    (status : ℕ) → RunWrote graph_text chips_text feed_text limit report status → (limits : SizeLimits) (g : ChipGame)
     (feeds : Left) → MeansFedGame limits graph_text chips_text feed_text limit g feeds → (whole : ChipGame)
     → IsWhole g feeds whole → Reports whole report status × IsGame whole
 run_reports graph_text chips_text feed_text limit report status (mine, shared, plan, old, new, ended, inl refused, s_is)
@@ -179,9 +180,10 @@ run_reports graph_text chips_text feed_text limit report status
     )
 
 pub same_bytes_fed : SameBytesFed
-same_bytes_fed graph_text chips_text feed_text limit whole_graph whole_chips (g, feeds, fed_by, means, whole, mine, whole_means, is_whole)
-    one other s t ran (limits, done, (text, (h, h_means, reports), out, cut), t_is) =
-    let same_game : h ≡ whole = one_game limits mine whole_graph whole_chips limit h whole (h_means.means whole_graph refl whole_chips refl) whole_means in
+same_bytes_fed graph_text chips_text feed_text limit whole_graph whole_chips
+    (g, feeds, fed_by, means, whole, mine, whole_means, is_whole) one other s t ran (limits, done, (text, (h, h_means, reports), out, cut), t_is) =
+    let same_game : h ≡ whole = one_game limits mine whole_graph whole_chips limit h whole
+    (h_means.means whole_graph refl whole_chips refl) whole_means in
     let same = one_report whole one text s done.status
     (run_reports graph_text chips_text feed_text limit one s ran fed_by g feeds means whole is_whole).0
     (subst (λ (k : ChipGame). Reports k text done.status) same_game reports) in
@@ -189,8 +191,8 @@ same_bytes_fed graph_text chips_text feed_text limit whole_graph whole_chips (g,
 
 pub run_tells_play : RunTellsPlay
 run_tells_play graph_text chips_text feed_text limit report status ran limits g feeds means whole is_whole =
-    let of_it = run_reports graph_text chips_text feed_text limit report status ran limits g feeds means whole is_whole in
-    report_tells whole of_it.1 report status of_it.0
+    let of_it = run_reports graph_text chips_text feed_text limit report status ran limits g feeds means whole
+    is_whole in report_tells whole of_it.1 report status of_it.0
 
 -- where nothing is fed, the whole game is the game
 pub same_bytes : SameBytes

@@ -7,6 +7,7 @@ use Rattle.chip_graph.specs.ChipGame.{ChipGame, IsGame}
 use Rattle.chip_graph.specs.declared.fault.GameFault.TheVariants.{Total}
 use Rattle.chip_report.specs.Written.{WritesAll}
 use Rattle.chip_report.specs.declared.write.WriteFault.{WriteFault}
+use Rattle.chip_crew.specs.Feeding.{Left}
 use Rattle.chip_crew.specs.Finished.{IsWhole, IsFinished, IsFaultOf}
 use Rattle.chip_crew.specs.declared.play.Finished.{Finished}
 use Rattle.chip_net.specs.Tokens.{ActorKnown}
@@ -43,16 +44,16 @@ never_shut worker turn answer = answer ≡ true
 
 -- why a game has no report: a crew of it by this plan, which shares the actors so, has these feeds and a gate that is
 -- never shut, didn't finish; or there is no memory for the report
-abbrev pub IsNotPlayed : Sharing → ChipGame → Option (List (ℕ × ℕ)) → Plan → Fault → Type 0
+abbrev pub IsNotPlayed : Sharing → ChipGame → Left → Plan → Fault → Type 0
 IsNotPlayed shared g feeds plan f =
     ((e : CrewFault) × IsFaultOf shared g feeds plan never_shut e × (f ≡ fault_of_crew e)) ⊎ (f ≡ fault.NoMemory)
 
 -- a text and a status are the plain player's report of a game with these feeds, and its status
-abbrev pub ReportsFed : ChipGame → Option (List (ℕ × ℕ)) → List ℕ → ℕ → Type 0
+abbrev pub ReportsFed : ChipGame → Left → List ℕ → ℕ → Type 0
 ReportsFed g feeds text status = (whole : ChipGame) × IsWhole g feeds whole × Reports whole text status
 
 -- a crew finished the game with these actors, and text and status are its report and its status
-pub record Plays (shared : Sharing) (g : ChipGame) (feeds : Option (List (ℕ × ℕ))) (plan : Plan)
+pub record Plays (shared : Sharing) (g : ChipGame) (feeds : Left) (plan : Plan)
     (actors : List ActorKnown) (text : List ℕ) (status : ℕ) : Type 0 where
   pub crew : Finished
   pub finished : IsFinished shared g feeds plan crew
@@ -72,7 +73,7 @@ pub record KeepsBoth (old new : Outputs) : Type 0 where
 -- what `run` answers where the inputs mean this game and these feeds: the trace of a crew that finished the game went
 -- out, and the plain player's report; or nothing did, since the crew didn't finish; or the trace did not go out, and
 -- nothing of the report; or the trace did, and the output of the report failed
-abbrev pub RunAnswersFor : Sharing → ChipGame → Option (List (ℕ × ℕ)) → Plan → Outputs → Outputs → Result Ended Fault → Type 0
+abbrev pub RunAnswersFor : Sharing → ChipGame → Left → Plan → Outputs → Outputs → Result Ended Fault → Type 0
 RunAnswersFor shared g feeds plan old new (Ok ended) =
     (actors : List ActorKnown) × (text : List ℕ) × Plays shared g feeds plan actors text ended.status
     × RecordsIfAsked actors old.trace new.trace ended.cut × Appends old.report new.report text
@@ -85,29 +86,33 @@ RunAnswersFor shared g feeds plan old new (Err f) =
     × (w : WriteFault) × (f ≡ fault.Write w) × WritesAll old.report new.report text (Err w))
 
 -- and where they mean none: nothing went out, and this is why
-abbrev pub IsRefused : SizeLimits → List ℕ → List ℕ → Option (List ℕ) → ℕ → Outputs → Outputs → Result Ended Fault → Type 0
+abbrev pub IsRefused : SizeLimits → List ℕ → List ℕ → Option (List ℕ) → ℕ → Outputs → Outputs → Result Ended Fault
+    → Type 0
 IsRefused limits graph_text chips_text feed_text limit old new (Ok ended) = ⊥
 IsRefused limits graph_text chips_text feed_text limit old new (Err f) =
     RefusesFedGame limits graph_text chips_text feed_text limit f × KeepsBoth old new
 
 -- what `run` answers
-abbrev pub RunAnswers : SizeLimits → Sharing → List ℕ → List ℕ → Option (List ℕ) → ℕ → Plan → Outputs → Outputs → Result Ended Fault → Type 0
+abbrev pub RunAnswers : SizeLimits → Sharing → List ℕ → List ℕ → Option (List ℕ) → ℕ → Plan → Outputs → Outputs
+    → Result Ended Fault → Type 0
 RunAnswers limits shared graph_text chips_text feed_text limit plan old new result =
     IsRefused limits graph_text chips_text feed_text limit old new result
-    ⊎ ((g : ChipGame) × (feeds : Option (List (ℕ × ℕ))) × MeansFedGame limits graph_text chips_text feed_text limit g feeds
+    ⊎ ((g : ChipGame) × (feeds : Left) × MeansFedGame limits graph_text chips_text feed_text limit g feeds
     × RunAnswersFor shared g feeds plan old new result)
 
 -- the same where what the readers have left may be known
-abbrev pub RunReads : SizeLimits → Sharing → Option (List ℕ) → Option (List ℕ) → Option (Option (List ℕ)) → ℕ → Plan → Outputs → Outputs
-    → Result Ended Fault → Type 0
-RunReads limits shared graph chips feed limit plan old new result = ForSome graph (λ graph_text. ForSome chips
-    (λ chips_text. ForText feed (λ feed_text. RunAnswers limits shared graph_text chips_text feed_text limit plan old new result)))
+abbrev pub RunReads : SizeLimits → Sharing → Option (List ℕ) → Option (List ℕ) → Option (Option (List ℕ)) → ℕ → Plan
+    → Outputs → Outputs → Result Ended Fault → Type 0
+RunReads limits shared graph chips feed limit plan old new result =
+    ForSome graph (λ graph_text. ForSome chips (λ chips_text. ForText feed
+    (λ feed_text. RunAnswers limits shared graph_text chips_text feed_text limit plan old new result)))
 
 -- what `run` wrote that ended well: the plain player's report of the game of these texts, with all chips that were fed at
 -- the start, and its status
-abbrev pub WritesReport : SizeLimits → List ℕ → List ℕ → Option (List ℕ) → ℕ → Option (List ℕ) → Option (List ℕ) → Ended → Type 0
+abbrev pub WritesReport : SizeLimits → List ℕ → List ℕ → Option (List ℕ) → ℕ → Option (List ℕ) → Option (List ℕ)
+    → Ended → Type 0
 WritesReport limits graph_text chips_text feed_text limit old new ended =
-    (g : ChipGame) × (feeds : Option (List (ℕ × ℕ))) × MeansFedGame limits graph_text chips_text feed_text limit g feeds
+    (g : ChipGame) × (feeds : Left) × MeansFedGame limits graph_text chips_text feed_text limit g feeds
     × (text : List ℕ) × ReportsFed g feeds text ended.status × Appends old new text
 
 -- a text and a status are the report of some game, and its status

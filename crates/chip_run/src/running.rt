@@ -3,8 +3,6 @@
 ghost use Rattle.std.specs.Prelude.{◌≡◌, ℕ, false, None, option_map, IfOk, IfErr};
 ghost use Rattle.std.specs.Option.{ForSome};
 ghost use Rattle.chip_graph.specs.Limits.{standard};
-ghost use Rattle.chip_report.specs.ReportText.{report_text};
-ghost use Rattle.chip_command.specs.Reports.{status_of_outcome};
 ghost use Rattle.chip_command.specs.Statuses.{number_of_status};
 ghost use Rattle.chip_crew.specs.declared.plan.Sharing.TheVariants.{Queue};
 ghost use Rattle.chip_run.specs.Feeding.{ForText};
@@ -13,10 +11,10 @@ ghost use Rattle.chip_run.specs.RunCommand.{RunReads, ReportsSomeRun, WritesRepo
 use crate::feeding::read_fed;
 use crate::recording::record_if_asked;
 use chip_command::{Answer, Ended, Fault, conclude, read_game};
-use chip_crew::{CrewFault, Finished, Gate, Plan, Sharing, run_with};
+use chip_crew::{CrewFault, Gate, Plan, Sharing, run_with};
 use chip_graph::{Game, GameFault, Limits};
 use chip_net::Actor;
-use std::alloc::{AllocError, Global};
+use std::alloc::Global;
 use std::io::{Read, Write};
 use std::sync::Wait;
 use std::thread::Threads;
@@ -127,32 +125,23 @@ pub fn run_engine_with<
     ensures any { ReportsSomeRun (W.contents output.old) (W.contents output.new) result }
 {
     // (the game is not held while the texts go out)
-    let played = {
+    let (answer, actors) = {
         let game = read_game(alloc, options.limits, graph, chips, options.limit)?;
         let feeds = read_fed(alloc, options.limits, feed, game.graph().vertices())?;
         play(rt, alloc, &game, feeds, options, gate)?
     };
-    let cut = record_if_asked(alloc, &played.actors, trace)?;
+    let cut = record_if_asked(alloc, &actors, trace)?;
     conclude(
         output,
-        &played.answer.text,
+        &answer.text,
         Ended {
-            status: played.answer.status.number(),
+            status: answer.status.number(),
             cut,
         },
     )
 }
 
-/// A game that was played.
-#[derive(Drop)]
-struct Played {
-    /// Its report, and the exit status.
-    answer: Answer,
-    /// Who played it.
-    actors: Vec<Actor>,
-}
-
-/// Plays a game, with these feeds if there are any.
+/// Plays a game, with these feeds if there are any: its report with the exit status, and who played it.
 fn play<R: Threads + Wait + Sync, K: Gate + Sync>(
     rt: &R,
     alloc: Global,
@@ -160,34 +149,22 @@ fn play<R: Threads + Wait + Sync, K: Gate + Sync>(
     feeds: Option<Vec<(u64, u64)>>,
     options: RunOptions,
     gate: &K,
-) -> Result<Played, Fault>
+) -> Result<(Answer, Vec<Actor>), Fault>
     requires seal { options.plan.seal ≡ None }
     requires gate { (worker turn : ℕ) → K.may_answer gate.now worker turn false → ⊥ }
     ensures played { IfOk result (λ p. Plays options.sharing game.now (option_map (λ fed. fed.items) feeds) options.plan
-        p.actors.items p.answer.text.items (number_of_status p.answer.status)) }
+        p.1.items p.0.text.items (number_of_status p.0.status)) }
     ensures fault { IfErr result
         (IsNotPlayed options.sharing game.now (option_map (λ fed. fed.items) feeds) options.plan) }
 {
     let RunOptions { plan, sharing, .. } = options;
     match run_with(rt, alloc, game, plan, sharing, feeds.as_deref(), gate) {
-        Ok(finished) => Ok(report_of(alloc, finished)?),
+        Ok(finished) => {
+            let answer = Answer::of_outcome(alloc, &finished.outcome)?;
+            Ok((answer, finished.actors))
+        }
         Err(fault) => Err(fault_of_crew(fault)),
     }
-}
-
-/// The report of a game that a crew finished.
-fn report_of(alloc: Global, finished: Finished) -> Result<Played, AllocError>
-    ensures text { IfOk result (λ p. p.answer.text.items ≡ report_text finished.outcome) }
-    ensures status { IfOk result (λ p. p.answer.status ≡ status_of_outcome finished.outcome) }
-    ensures actors { IfOk result (λ p. p.actors ≡ finished.actors) }
-{
-    let Finished {
-        outcome,
-        receipt: _,
-        actors,
-    } = finished;
-    let answer = Answer::of_outcome(alloc, &outcome)?;
-    Ok(Played { answer, actors })
 }
 
 /// A crew's fault, without the root.

@@ -1,27 +1,24 @@
-use Rattle.std.proofs.Common.{ap, option_map}
+use Rattle.std.proofs.Common.{ap, option_map, refl}
 use Rattle.chip_command.specs.Statuses.{number_of_status}
 use Rattle.chip_run.proofs.RunLemmas.{not_played}
 use Rattle.chip_run.proofs.running.play.Goals as goal
 
 pub returns-in-Ok-clause-played : goal.returns-in-Ok-clause-played
 returns-in-Ok-clause-played g c =
-    let finished = rw c.as_deref.ensures.value at c.in-Ok.ensures.finished in record {
+    let finished = rw c.as_deref.ensures.value at c.in-Ok.ensures.finished in
+    let answer = c.in_ok-answer-in-Ok.ensures in
+    record {
       crew = c.in-Ok.finished;
       finished = finished;
-      actors_are = ap (λ a. a.items) c.in_ok-report_of-in-Ok.ensures.actors;
+      actors_are = refl;
       reports = (
         finished.whole,
         finished.whole_is,
-        (
-          c.in-Ok.finished.outcome,
-          finished.played c.requires.seal,
-          c.in_ok-report_of-in-Ok.ensures.text,
-          ap number_of_status c.in_ok-report_of-in-Ok.ensures.status,
-        ),
+        (c.in-Ok.finished.outcome, finished.played c.requires.seal, answer.text, ap number_of_status answer.status),
       );
     }
 
 pub returns-clause-fault : goal.returns-clause-fault
-returns-clause-fault g c = not_played c.args.options.sharing c.args.game.now (option_map (λ fed. fed.items) c.args.feeds) c.args.options.plan
-    (g.K.Gate.may_answer c.args.gate.now) c.requires.gate c.in-Err.fault _
+returns-clause-fault g c = not_played c.args.options.sharing c.args.game.now (option_map (λ fed. fed.items) c.args.feeds)
+    c.args.options.plan (g.K.Gate.may_answer c.args.gate.now) c.requires.gate c.in-Err.fault _
     (rw c.as_deref.ensures.value at c.in-Err.ensures.fault) c.fault_of_crew.ensures

@@ -21,13 +21,21 @@ returns-in_err-feeds-clause-known g c = λ graph_text graph_is chips_text chips_
     let means = c.in_ok-game.ensures.means graph_text graph_is chips_text chips_is in
     rw (p.1, p.2) (inl (inr (c.in_ok-game.game, means, why), keeps_both _))) c.in_err-feeds.ensures
 
-pub returns-in_err-played-clause-known : goal.returns-in_err-played-clause-known
-returns-in_err-played-clause-known g c = λ graph_text graph_is chips_text chips_is. for_text
+pub returns-in_err-answer-clause-known : goal.returns-in_err-answer-clause-known
+returns-in_err-answer-clause-known g c = λ graph_text graph_is chips_text chips_is. for_text
     (option_map (λ reader. g.F.Read.remaining reader.now) c.args.feed) _ _ (λ feed_text fed.
-    let p = err_from_is_err_and c.from_residual-in_err-played.result c.from_residual-in_err-played.ensures.1 in
+    let p = err_from_is_err_and c.from_residual-in_err-answer.result c.from_residual-in_err-answer.ensures.1 in
     let vertices = c.vertices.ensures.value ∙ ap (λ (G : Multigraph). G.vertices) c.graph.ensures.value in
     let game = c.in_ok-game.ensures.means graph_text graph_is chips_text chips_is in
-    rw (p.1, p.2) (inr (_, _, means_fed _ _ _ _ _ _ _ _ vertices game fed, inl (c.in_err-played.ensures.fault, keeps_both _)))) c.in_ok-feeds.ensures
+    rw (p.1, p.2) (inr (
+      _,
+      _,
+      means_fed _ _ _ _ _ _ _ _ vertices game fed,
+      inl (
+        c.in_err-answer.ensures.fault,
+        keeps_both _,
+      ),
+    ))) c.in_ok-feeds.ensures
 
 pub returns-in_err-cut-clause-known : goal.returns-in_err-cut-clause-known
 returns-in_err-cut-clause-known g c = λ graph_text graph_is chips_text chips_is. for_text
@@ -43,7 +51,7 @@ returns-in_err-cut-clause-known g c = λ graph_text graph_is chips_text chips_is
         _,
         _,
         _,
-        c.in_ok-played.ensures.played,
+        c.in_ok-answer.ensures.played,
         rw c.deref.ensures.value at c.in_err-cut.ensures,
         Keeps-same _,
       )),
@@ -57,7 +65,7 @@ returns-clause-known g c = λ graph_text graph_is chips_text chips_is. for_text 
       _,
       _,
       means_fed _ _ _ _ _ _ _ _ vertices game fed,
-      delivered_run _ _ _ _ _ _ _ _ _ _ _ _ c.in_ok-played.ensures.played
+      delivered_run _ _ _ _ _ _ _ _ _ _ _ _ c.in_ok-answer.ensures.played
           (rw c.deref.ensures.value at c.in_ok-cut.ensures) c.conclude.result
           (rw (c.deref-2.ensures.value, c.number.ensures) at c.conclude.ensures),
     )) c.in_ok-feeds.ensures
@@ -71,9 +79,9 @@ returns-in_err-feeds-clause-any g c =
     let p = err_from_is_err_and c.from_residual-in_err-feeds.result c.from_residual-in_err-feeds.ensures.1 in
     rw p.1 (inl (Keeps-same _))
 
-pub returns-in_err-played-clause-any : goal.returns-in_err-played-clause-any
-returns-in_err-played-clause-any g c =
-    let p = err_from_is_err_and c.from_residual-in_err-played.result c.from_residual-in_err-played.ensures.1 in
+pub returns-in_err-answer-clause-any : goal.returns-in_err-answer-clause-any
+returns-in_err-answer-clause-any g c =
+    let p = err_from_is_err_and c.from_residual-in_err-answer.result c.from_residual-in_err-answer.ensures.1 in
     rw p.1 (inl (Keeps-same _))
 
 pub returns-in_err-cut-clause-any : goal.returns-in_err-cut-clause-any
@@ -83,5 +91,5 @@ returns-in_err-cut-clause-any g c =
 
 pub returns-clause-any : goal.returns-clause-any
 returns-clause-any g c = delivered_some _ _ _ _ _
-    (plays_some _ _ _ _ _ _ _ c.in_ok-game.ensures.game c.in_ok-played.ensures.played) c.conclude.result
+    (plays_some _ _ _ _ _ _ _ c.in_ok-game.ensures.game c.in_ok-answer.ensures.played) c.conclude.result
     (rw (c.deref-2.ensures.value, c.number.ensures) at c.conclude.ensures)

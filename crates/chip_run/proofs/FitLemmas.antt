@@ -320,7 +320,8 @@ module _ (g : Setting) where
         ))
         (λ n.
         let at : root_edge g (e - m) ≡ e = omega arith in
-        let sent = subst (λ (i : ℕ). IsPrefix (sent_counts (out_in g log i).link) first) at (opened (e - m) (omega arith)) in
+        let sent = subst (λ (i : ℕ). IsPrefix (sent_counts (out_in g log i).link) first) at
+        (opened (e - m) (omega arith)) in
         (sent.0, sent.1 ∙ sym (cond_false (ltb e m) own first (le-ltb e m (omega arith)))))
 
     take_met : (log : Log) → IsLegalLog g log → Opens log → (e seen : ℕ) → e < all_edges g

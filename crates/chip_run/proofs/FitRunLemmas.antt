@@ -102,7 +102,8 @@ module _ (shared : Sharing) (g : ChipGame) (feeds : Left) (plan : Plan) (f : Fin
 -- ---- what `run` answers
 
 writes_by : (shared : Sharing) (g : ChipGame) (feeds : Left) (plan : Plan) (old new : Outputs) (ended : Ended)
-    → plan.seal ≡ None → IsGame g → (chips : List ℕ) → pairs feeds ≡ feeds_of chips → RunAnswersFor shared g feeds plan old new (Ok ended)
+    → plan.seal ≡ None → IsGame g → (chips : List ℕ) → pairs feeds ≡ feeds_of chips
+    → RunAnswersFor shared g feeds plan old new (Ok ended)
     → AreGivenOnce g (pairs feeds) → (whole : ChipGame) × IsWhole g feeds whole × WritesOneRun whole old new ended.cut
 writes_by shared g feeds plan old new ended unsealed game chips feeds_are (actors, text, plays, records, out) once =
     let o : Outcome = plays.crew.outcome in
@@ -136,12 +137,13 @@ pub fed_rows_fit : FedRowsFit
 fed_rows_fit limits graph_text chips_text feed limit shared plan old new ended unsealed (inl refused) = absurd refused
 fed_rows_fit limits graph_text chips_text feed limit shared plan old new ended unsealed (inr (g, None, means, run)) =
     absurd means.fed
-fed_rows_fit limits graph_text chips_text feed limit shared plan old new ended unsealed (inr (g, Some all, means, run)) = (
-  g,
-  all,
-  means,
-  writes_by shared g (Some all) plan old new ended unsealed means.game.game means.fed.0 means.fed.2 run,
-)
+fed_rows_fit limits graph_text chips_text feed limit shared plan old new ended unsealed
+    (inr (g, Some all, means, run)) = (
+      g,
+      all,
+      means,
+      writes_by shared g (Some all) plan old new ended unsealed means.game.game means.fed.0 means.fed.2 run,
+    )
 
 -- ---- where no row was cut
 

@@ -49,8 +49,8 @@ keeps_both o = record { report = Keeps-same o.report; trace = refl }
 
 -- what `run` wrote that ended well is the plain player's report
 pub writes_report : (limits : SizeLimits) (shared : Sharing) (graph_text chips_text : List ℕ)
-    (feed_text : Option (List ℕ)) (limit : ℕ) (plan : Plan) (old new : Option (List ℕ)) (old_trace new_trace : Option (Option (List ℕ)))
-    (result : Result Ended Fault) → RunAnswers limits shared graph_text chips_text feed_text limit plan
+    (feed_text : Option (List ℕ)) (limit : ℕ) (plan : Plan) (old new : Option (List ℕ))
+    (old_trace new_trace : Option (Option (List ℕ))) (result : Result Ended Fault) → RunAnswers limits shared graph_text chips_text feed_text limit plan
     (record { report = old; trace = old_trace }) (record { report = new; trace = new_trace }) result
     → IfOk result (WritesReport limits graph_text chips_text feed_text limit old new)
 writes_report limits shared graph_text chips_text feed_text limit plan old new old_trace new_trace (Err f) answers = tt
@@ -61,8 +61,8 @@ writes_report limits shared graph_text chips_text feed_text limit plan old new o
 
 -- a game and the feeds that a text has for the vertices of its graph
 pub means_fed : (limits : SizeLimits) (graph_text chips_text : List ℕ) (feed_text : Option (List ℕ)) (limit : ℕ)
-    (g : ChipGame) (feeds : Left) (vertices : ℕ) → vertices ≡ g.graph.vertices → MeansGame limits graph_text chips_text limit g
-    → MeansFed limits feed_text vertices feeds → MeansFedGame limits graph_text chips_text feed_text limit g feeds
+    (g : ChipGame) (feeds : Left) (vertices : ℕ) → vertices ≡ g.graph.vertices
+    → MeansGame limits graph_text chips_text limit g → MeansFed limits feed_text vertices feeds → MeansFedGame limits graph_text chips_text feed_text limit g feeds
 means_fed limits graph_text chips_text feed_text limit g feeds vertices same game fed =
     record { game = game; fed = subst (λ (n : ℕ). MeansFed limits feed_text n feeds) same fed }
 
@@ -181,7 +181,8 @@ run_reports graph_text chips_text feed_text limit report status
 
 pub same_bytes_fed : SameBytesFed
 same_bytes_fed graph_text chips_text feed_text limit whole_graph whole_chips
-    (g, feeds, fed_by, means, whole, mine, whole_means, is_whole) one other s t ran (limits, done, (text, (h, h_means, reports), out, cut), t_is) =
+    (g, feeds, fed_by, means, whole, mine, whole_means, is_whole) one other s t ran
+    (limits, done, (text, (h, h_means, reports), out, cut), t_is) =
     let same_game : h ≡ whole = one_game limits mine whole_graph whole_chips limit h whole
     (h_means.means whole_graph refl whole_chips refl) whole_means in
     let same = one_report whole one text s done.status

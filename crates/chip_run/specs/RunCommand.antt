@@ -107,8 +107,8 @@ RunReads limits shared graph chips feed limit plan old new result =
     ForSome graph (λ graph_text. ForSome chips (λ chips_text. ForText feed
     (λ feed_text. RunAnswers limits shared graph_text chips_text feed_text limit plan old new result)))
 
--- what `run` wrote that ended well: the plain player's report of the game of these texts, with all chips that were fed at
--- the start, and its status
+-- what `run` wrote that ended well: the plain player's report of the game of these texts, with all chips that were fed
+-- at the start, and its status
 abbrev pub WritesReport : SizeLimits → List ℕ → List ℕ → Option (List ℕ) → ℕ → Option (List ℕ) → Option (List ℕ)
     → Ended → Type 0
 WritesReport limits graph_text chips_text feed_text limit old new ended =
@@ -119,8 +119,8 @@ WritesReport limits graph_text chips_text feed_text limit old new ended =
 abbrev pub ReportsSome : List ℕ → ℕ → Type 0
 ReportsSome text status = (g : ChipGame) × IsGame g × Reports g text status
 
--- what `run` answers at readers of which nothing is known: the report of some game went out, with its status; or nothing
--- did; or its output failed
+-- what `run` answers at readers of which nothing is known: the report of some game went out, with its status; or
+-- nothing did; or its output failed
 abbrev pub ReportsSomeRun : Option (List ℕ) → Option (List ℕ) → Result Ended Fault → Type 0
 ReportsSomeRun old new (Ok ended) = (text : List ℕ) × ReportsSome text ended.status × Appends old new text
 ReportsSomeRun old new (Err f) =

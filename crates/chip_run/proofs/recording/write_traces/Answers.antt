@@ -15,7 +15,8 @@ returns-clause-records g c =
 
 pub returns-in_err-write_trace-clause-fault : goal.returns-in_err-write_trace-clause-fault
 returns-in_err-write_trace-clause-fault g c =
-    let p = err_from_is_err_and c.from_residual-in_err-write_trace.result c.from_residual-in_err-write_trace.ensures.1 in
+    let p = err_from_is_err_and c.from_residual-in_err-write_trace.result
+    c.from_residual-in_err-write_trace.ensures.1 in
     let whole = take_all c.loop-actor.actor-index c.args.actors.now (omega (arith, c.loop-actor-test.false)) in
     let rows : map (λ t. t.now) c.deref.result.now ≡ map rows_kept c.args.actors.now =
     rw (c.deref.ensures.value, c.loop-actor.invariant.rows, whole) refl in

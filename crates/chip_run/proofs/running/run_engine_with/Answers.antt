@@ -17,7 +17,8 @@ pub returns-in_err-feeds-clause-known : goal.returns-in_err-feeds-clause-known
 returns-in_err-feeds-clause-known g c = λ graph_text graph_is chips_text chips_is. for_text _ _ _ (λ feed_text refuses.
     let p = err_from_is_err_and c.from_residual-in_err-feeds.result c.from_residual-in_err-feeds.ensures.1 in
     let vertices = c.vertices.ensures.value ∙ ap (λ (G : Multigraph). G.vertices) c.graph.ensures.value in
-    let why = subst (λ (n : ℕ). RefusesFed c.args.options.limits feed_text n c.in_err-feeds.field-0.0) vertices refuses in
+    let why = subst (λ (n : ℕ). RefusesFed c.args.options.limits feed_text n c.in_err-feeds.field-0.0) vertices
+    refuses in
     let means = c.in_ok-game.ensures.means graph_text graph_is chips_text chips_is in
     rw (p.1, p.2) (inl (inr (c.in_ok-game.game, means, why), keeps_both _))) c.in_err-feeds.ensures
 
@@ -25,50 +26,31 @@ pub returns-in_err-answer-clause-known : goal.returns-in_err-answer-clause-known
 returns-in_err-answer-clause-known g c = λ graph_text graph_is chips_text chips_is. for_text
     (option_map (λ reader. g.F.Read.remaining reader.now) c.args.feed) _ _ (λ feed_text fed.
     let p = err_from_is_err_and c.from_residual-in_err-answer.result c.from_residual-in_err-answer.ensures.1 in
-    let vertices = c.vertices.ensures.value ∙ ap (λ (G : Multigraph). G.vertices) c.graph.ensures.value in
+    let v = c.vertices.ensures.value ∙ ap (λ (G : Multigraph). G.vertices) c.graph.ensures.value in
     let game = c.in_ok-game.ensures.means graph_text graph_is chips_text chips_is in
-    rw (p.1, p.2) (inr (
-      _,
-      _,
-      means_fed _ _ _ _ _ _ _ _ vertices game fed,
-      inl (
-        c.in_err-answer.ensures.fault,
-        keeps_both _,
-      ),
-    ))) c.in_ok-feeds.ensures
+    let why = c.in_err-answer.ensures.fault in
+    rw (p.1, p.2) (inr (_, _, means_fed _ _ _ _ _ _ _ _ v game fed, inl (why, keeps_both _)))) c.in_ok-feeds.ensures
 
 pub returns-in_err-cut-clause-known : goal.returns-in_err-cut-clause-known
 returns-in_err-cut-clause-known g c = λ graph_text graph_is chips_text chips_is. for_text
     (option_map (λ reader. g.F.Read.remaining reader.now) c.args.feed) _ _ (λ feed_text fed.
     let p = err_from_is_err_and c.from_residual-in_err-cut.result c.from_residual-in_err-cut.ensures.1 in
-    let vertices = c.vertices.ensures.value ∙ ap (λ (G : Multigraph). G.vertices) c.graph.ensures.value in
+    let v = c.vertices.ensures.value ∙ ap (λ (G : Multigraph). G.vertices) c.graph.ensures.value in
     let game = c.in_ok-game.ensures.means graph_text graph_is chips_text chips_is in
-    rw (p.1, p.2) (inr (
-      _,
-      _,
-      means_fed _ _ _ _ _ _ _ _ vertices game fed,
-      inr (inl (
-        _,
-        _,
-        _,
-        c.in_ok-answer.ensures.played,
-        rw c.deref.ensures.value at c.in_err-cut.ensures,
-        Keeps-same _,
-      )),
-    ))) c.in_ok-feeds.ensures
+    let plays = c.in_ok-answer.ensures.played in
+    let why = rw c.deref.ensures.value at c.in_err-cut.ensures in
+    rw (p.1, p.2) (inr (_, _, means_fed _ _ _ _ _ _ _ _ v game fed, inr (inl (_, _, _, plays, why, Keeps-same _)))))
+    c.in_ok-feeds.ensures
 
 pub returns-clause-known : goal.returns-clause-known
 returns-clause-known g c = λ graph_text graph_is chips_text chips_is. for_text _ _ _ (λ feed_text fed.
-    let vertices = c.vertices.ensures.value ∙ ap (λ (G : Multigraph). G.vertices) c.graph.ensures.value in
+    let v = c.vertices.ensures.value ∙ ap (λ (G : Multigraph). G.vertices) c.graph.ensures.value in
     let game = c.in_ok-game.ensures.means graph_text graph_is chips_text chips_is in
-    inr (
-      _,
-      _,
-      means_fed _ _ _ _ _ _ _ _ vertices game fed,
-      delivered_run _ _ _ _ _ _ _ _ _ _ _ _ c.in_ok-answer.ensures.played
-          (rw c.deref.ensures.value at c.in_ok-cut.ensures) c.conclude.result
-          (rw (c.deref-2.ensures.value, c.number.ensures) at c.conclude.ensures),
-    )) c.in_ok-feeds.ensures
+    let plays = c.in_ok-answer.ensures.played in
+    let records = rw c.deref.ensures.value at c.in_ok-cut.ensures in
+    let went = rw (c.deref-2.ensures.value, c.number.ensures) at c.conclude.ensures in
+    let run = delivered_run _ _ _ _ _ _ _ _ _ _ _ _ plays records c.conclude.result went in
+    inr (_, _, means_fed _ _ _ _ _ _ _ _ v game fed, run)) c.in_ok-feeds.ensures
 
 pub returns-in_err-game-clause-any : goal.returns-in_err-game-clause-any
 returns-in_err-game-clause-any g c =

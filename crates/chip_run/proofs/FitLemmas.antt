@@ -94,11 +94,6 @@ module _ (g : Setting) (game : IsGame g.game) (some_ring : 0 < g.ring) where
       (fed_of g x.event) in
       omega arith
 
-  -- a root edge opens with one message at most, and with none where its vertex starts without chips
-  opens_once : (v : ℕ)
-      → (length (first_put g (root_edge g v)) ≤ 1) × (length (first_put g (root_edge g v)) ≤ start_of g v)
-  opens_once v = let a = ap length (first_is g v) in (grind (arith, nat_tests), grind (arith, nat_tests))
-
   -- a vertex starts with chips or is fed, once
   pub given_once : (log : Log) → IsLegalLog g log → (chips : List ℕ)
       → given.recorded g game some_ring log ≡ feeds_of chips → AreGivenOnce g.game (feeds_of chips) → HasOneEach g log
@@ -106,12 +101,10 @@ module _ (g : Setting) (game : IsGame g.game) (some_ring : 0 < g.ring) where
       let a = claims_are log legal v in
       let b = length-sent_counts (out_in g log (root_edge g v)).link in
       let c = ap (many_of v) is in
-      let first = opens_once v in
-      let first_one = first.0 in
-      let first_some = first.1 in
+      let first = ap length (first_is g v) in
       let feeds = once v 0 chips in
-      ⊎_elim (λ (none : start_of g v ≡ 0). omega arith) (λ (none : brought_to (feeds_of chips) v ≡ 0). omega arith)
-      (given v l)
+      ⊎_elim (λ (none : start_of g v ≡ 0). grind (arith, nat_tests))
+      (λ (none : brought_to (feeds_of chips) v ≡ 0). grind (arith, nat_tests)) (given v l)
 
 -- ---- rows of one vertex, placed
 
@@ -275,8 +268,8 @@ module _ (g : Setting) where
     times_fired log legal v = times_are (rows_in g log) v ∙ ap (λ (l : List TraceRow). sum (fires l)) (rows_are log v)
         ∙ (tells log legal v).fired
 
-    traces_are : (log : Log) → IsLegalLog g log → (v : ℕ) → recorded log v ≡ trace_of (traces_in g log) v
-    traces_are log legal v = let n : ℕ = g.game.graph.vertices in dite (dec_lt v n)
+    traces_are : (log : Log) → IsLegalLog g log → (v : ℕ) → rows_of (rows_in g log) v ≡ trace_of (traces_in g log) v
+    traces_are log legal v = let n : ℕ = g.game.graph.vertices in rows_are log v ∙ dite (dec_lt v n)
         (λ l. sym (get_or-map-range_with_len (recorded log) 0 n v v [] l (omega arith)))
         (λ past. (tells log legal v).outside (omega arith) ∙ sym (get_or_past (traces_in g log) v []
         (let a = length-map-range_with_len (recorded log) 0 n in omega arith)))
@@ -390,7 +383,7 @@ module _ (g : Setting) where
 
     pub interleaves : HasOneEach g log → IsInterleaving (played_game g log) (traces_in g log) (rows_in g log)
     interleaves one = record {
-      whole = λ v. rows_are log v ∙ traces_are game log legal v;
+      whole = traces_are game log legal;
       met = all_met game some_ring (played_game g log).start log legal (one_opens one);
     }
 

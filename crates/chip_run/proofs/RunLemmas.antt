@@ -86,19 +86,12 @@ fails_by actors old new traces is trace.Write wrote = rw is at wrote
 fails_by actors old new traces is trace.NoMemory wrote = wrote
 
 -- a crew whose gate may answer false nowhere did not finish: its fault is that of one whose gate is never shut
-of_open_gate : (shared : Sharing) (g : ChipGame) (feeds : Left) (plan : Plan) (may_answer : ℕ → ℕ → Bool → Type 0)
-    → ((worker turn : ℕ) → may_answer worker turn false → ⊥) → (e : CrewFault)
-    → IsFaultOf shared g feeds plan may_answer e → IsFaultOf shared g feeds plan never_shut e
-of_open_gate shared g feeds plan may_answer never crew.GateShut (can, (worker, turn, in_crew, in_turns, shut)) =
-    absurd (never worker turn shut)
-of_open_gate shared g feeds plan may_answer never e is = is
-
--- so the game was not played
 pub not_played : (shared : Sharing) (g : ChipGame) (feeds : Left) (plan : Plan) (may_answer : ℕ → ℕ → Bool → Type 0)
     → ((worker turn : ℕ) → may_answer worker turn false → ⊥) → (e : CrewFault) (f : Fault)
     → IsFaultOf shared g feeds plan may_answer e → f ≡ fault_of_crew e → IsNotPlayed shared g feeds plan f
-not_played shared g feeds plan may_answer never e f is same =
-    inl (e, of_open_gate shared g feeds plan may_answer never e is, same)
+not_played shared g feeds plan may_answer never crew.GateShut f (can, (worker, turn, in_crew, in_turns, shut)) same =
+    absurd (never worker turn shut)
+not_played shared g feeds plan may_answer never e f is same = inl (e, is, same)
 
 -- ---- what a crew plays
 

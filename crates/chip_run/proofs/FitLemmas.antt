@@ -1,11 +1,9 @@
 -- Serves Replaying.antt, Laws.antt.
 -- The rows of a legal log, in its order, are an interleaving: what was taken is what the firings sent.
-use Rattle.std.proofs.Common.{◌≡◌, ◌≢◌, ℕ, zero, suc, ◌+◌, ◌-◌, ◌*◌, ◌<◌, ◌≤◌, Bool, true, false, cond, eqb, ltb, List}
-use Rattle.std.proofs.Common.{[], ◌∷◌, ◌++◌, length, map, sum, get_or, option_to_list, Option, Some, None, slice_get}
-use Rattle.std.proofs.Common.{slice_index, refl, sym, ap, ◌∙◌, subst, arith, append_assoc, append-nil, eq-eqb, ne_eqb}
-use Rattle.std.proofs.Common.{lt-ltb, le-ltb, mul_comm, mul-add, add-mul, mul-zero, mul-pos, eqb-true, inr, filter}
-use Rattle.std.proofs.Common.{⊎_elim, length-append}
-use Rattle.std.proofs.lemmas.Bool.{and_from}
+use Rattle.std.proofs.Common.{◌≡◌, ◌≢◌, ℕ, zero, suc, ◌+◌, ◌-◌, ◌*◌, ◌<◌, ◌≤◌, true, cond, eqb, ltb, List, [], ◌∷◌}
+use Rattle.std.proofs.Common.{◌++◌, length, map, sum, get_or, option_to_list, Some, slice_get, slice_index, refl, sym}
+use Rattle.std.proofs.Common.{ap, ◌∙◌, subst, arith, append_assoc, append-nil, eq-eqb, ne_eqb, lt-ltb, le-ltb, mul_comm}
+use Rattle.std.proofs.Common.{mul-add, add-mul, mul-zero, mul-pos, inr, filter, ⊎_elim, length-append}
 use Rattle.std.proofs.lemmas.Bool.Decides.{nat_tests}
 use Rattle.std.proofs.lemmas.List.{map-append, length_push, nil_from_length, get_or_past}
 use Rattle.std.proofs.lemmas.List.FromFn.{get_or-map-range_with_len, length-map-range_with_len}
@@ -15,21 +13,21 @@ use mathlib.Core.Logic.{dite}
 use native.Mathlib.Decide.{ℕ_discrete, dec_lt}
 use Rattle.chip_graph.specs.Multigraph.{edge_at, degree}
 use Rattle.chip_graph.specs.ChipGame.{ChipGame, IsGame}
-use Rattle.chip_graph.proofs.SumLemmas.{cond_yes, cond_no, cond_true, cond_false}
+use Rattle.chip_graph.proofs.SumLemmas.{cond_true, cond_false}
 use Rattle.chip_link.specs.declared.trace.TraceRow.{TraceRow}
 use Rattle.chip_link.specs.declared.trace.TraceRow.TheVariants as Row
-use Rattle.chip_link.specs.Link.{Tail, claims_of, sent_counts, after_clear, after_claim, after_put}
+use Rattle.chip_link.specs.Link.{Tail, sent_counts}
 use Rattle.chip_link.specs.Laws.{IsPrefix}
 use Rattle.chip_link.proofs.SoundsLemmas.{length-sent_counts}
 use Rattle.chip_part.specs.Setting.{Setting}
 use Rattle.chip_part.specs.Edges.{mult_of, start_of}
 use Rattle.chip_part.specs.Part.{first_put}
-use Rattle.chip_part.specs.Kept.{Met, KeepsOut, KeepsPart}
+use Rattle.chip_part.specs.Kept.{Met, KeepsOut}
 use Rattle.chip_part.specs.Steps.{fired_after, chips_after, link_after, pending_after, got_after}
 use Rattle.chip_part.proofs.EdgeLemmas.{tail_graph}
 use Rattle.chip_part.proofs.OpeningLemmas.{first_few, first_is}
-use Rattle.chip_part.proofs.PartLemmas.{out_zero, at_edge}
-use Rattle.chip_core.specs.Core.{Log, Step, Event, Take, Fire, Clear, Claim, Put, Feed, does, Part, Out, Into, part_of}
+use Rattle.chip_part.proofs.PartLemmas.{out_zero}
+use Rattle.chip_core.specs.Core.{Log, Step, Event, Take, Fire, Clear, Claim, Put, Feed, Part, Out, Into, part_of}
 use Rattle.chip_core.specs.Core.{part_in, out_in, into_in, fired_by, sees, IsLegalLog, tail_of, head_of, root_edge}
 use Rattle.chip_core.specs.Core.{all_edges, graph_edges}
 use Rattle.chip_core.specs.Histories.{done_by}
@@ -42,8 +40,8 @@ use Rattle.chip_net.specs.Traces.{row_of}
 use Rattle.chip_net.specs.Traces as traces
 use Rattle.chip_net.proofs.ActingLemmas.{rows_push}
 use Rattle.chip_trace.specs.Interleaving.{fires, chips_taken, takes_of, opening, messages, goes_into, next_message}
-use Rattle.chip_trace.specs.Interleaving.{has_count, is_met, Placed, rows_of, AreMet, trace_of, IsInterleaving}
-use Rattle.chip_trace.specs.Interleaving.{with_firing, firings}
+use Rattle.chip_trace.specs.Interleaving.{is_met, Placed, rows_of, AreMet, trace_of, IsInterleaving, with_firing}
+use Rattle.chip_trace.specs.Interleaving.{firings}
 use Rattle.chip_trace.proofs.PrefixLemmas.{slice_get_keeps}
 use Rattle.chip_trace.proofs.RowLemmas.{fires-append, chips_taken-append, takes_of-append, rows_of-append, AreMet-push}
 use Rattle.chip_run.specs.Replaying.{row_at_vertex, rows_in, traces_in, times_of, HasOneEach, AreGivenOnce}

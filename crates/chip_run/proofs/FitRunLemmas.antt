@@ -1,18 +1,14 @@
 -- Serves Laws.antt.
 -- The rows of a run's actors are those of one log, so they fit together.
-use Rattle.std.proofs.Common.{◌≡◌, ℕ, ◌<◌, arith, true, false, List, [], ◌∷◌, length, map, inl, inr, slice_get, Option}
-use Rattle.std.proofs.Common.{Some, None, is_some, Ok, leb, ltb, refl, sym, ap, ◌∙◌, subst, ltb-true}
-use Rattle.std.specs.Io.KnownBytes.{Appends}
+use Rattle.std.proofs.Common.{◌≡◌, ℕ, ◌<◌, arith, true, false, List, [], ◌∷◌, length, map, inl, inr, Some, None}
+use Rattle.std.proofs.Common.{is_some, Ok, refl, sym, ap, ◌∙◌, subst}
 use Rattle.std.proofs.lemmas.Bool.Decides.{nat_tests}
-use Rattle.std.proofs.lemmas.Bool.{and_parts, or_parts, ltb-false}
+use Rattle.std.proofs.lemmas.Bool.{or_parts, ltb-false}
 use Rattle.std.proofs.lemmas.List.{get_or-map, length-map, take_all}
 use Rattle.std.proofs.lemmas.List.FromFn.{fill_by_all}
 use Rattle.std.proofs.lemmas.Option.{slice_get-get_or}
-use Rattle.chip_graph.specs.Limits.{SizeLimits}
 use Rattle.chip_graph.specs.ChipGame.{ChipGame, IsGame}
 use Rattle.chip_graph.specs.More.{HasMore}
-use Rattle.chip_link.specs.Rings.{max_ring}
-use Rattle.chip_link.specs.declared.trace.TraceRow.{TraceRow}
 use Rattle.chip_sequence.specs.declared.outcome.Outcome.{Outcome}
 use Rattle.chip_report.specs.ReportText.{report_text}
 use Rattle.chip_part.specs.Setting.{Setting, setting_with}
@@ -29,7 +25,6 @@ use Rattle.chip_net.specs.Finish.{reads_from}
 use Rattle.chip_net.specs.Traces.{rows_of}
 use Rattle.chip_net.specs.Meeting.{DidTheirs, IsRun}
 use Rattle.chip_net.proofs.ReadingLemmas.{reads_feed_none}
-use Rattle.chip_crew.specs.Plans.{max_workers, max_turns, max_trace_rows, is_count, names_edge, is_plan, are_feeds}
 use Rattle.chip_crew.specs.Plans.{is_fed_plan}
 use Rattle.chip_crew.specs.Feeding.{Left, pairs}
 use Rattle.chip_crew.specs.Finished.{IsWhole, IsFinished}
@@ -37,15 +32,13 @@ use Rattle.chip_crew.specs.declared.plan.Plan.{Plan}
 use Rattle.chip_crew.specs.declared.plan.Sharing.{Sharing}
 use Rattle.chip_crew.specs.declared.play.Finished.{Finished}
 use Rattle.chip_crew.proofs.FinishingLemmas.{net_is}
-use Rattle.chip_trace.specs.Interleaving.{IsInterleaving}
-use Rattle.chip_trace.specs.TraceText.{trace_text}
 use Rattle.chip_command.specs.Reports.{Reports, plain_status}
 use Rattle.chip_command.specs.declared.ended.Ended.{Ended}
 use Rattle.chip_command.proofs.OneReportLemmas.{one_report}
-use Rattle.chip_run.specs.Feeding.{MeansFed, MeansFedGame, feeds_of}
+use Rattle.chip_run.specs.Feeding.{feeds_of}
 use Rattle.chip_run.specs.Recording.{rows_kept, is_cut, is_any_cut}
 use Rattle.chip_run.specs.RunCommand.{Outputs, RunAnswersFor}
-use Rattle.chip_run.specs.Replaying.{rows_in, traces_in, all_rows, HasOneEach, AreGivenOnce, FitTogether, WritesOneRun}
+use Rattle.chip_run.specs.Replaying.{rows_in, traces_in, all_rows, AreGivenOnce, FitTogether, WritesOneRun}
 use Rattle.chip_run.specs.Laws.{RowsFit, UncutTracesFit, FedRowsFit}
 use Rattle.chip_run.proofs.FitLemmas.{interleaves, times_fired, given_once}
 use Rattle.chip_run.proofs.RunLemmas.{has_more, one_more, one_whole}
@@ -117,9 +110,8 @@ writes_by shared g feeds plan old new ended unsealed game chips feeds_are (actor
       record {
         actors = actors;
         outcome = o;
-        fit = subst (λ (all : List ActorKnown). FitTogether is.whole (all_rows all) o) (sym plays.actors_are)
-            (crew_fits shared g feeds plan plays.crew game is chips feeds_are once);
-        report = subst (λ (t : List ℕ). Appends old.report new.report t) same.0 out;
+        fit = rw plays.actors_are (crew_fits shared g feeds plan plays.crew game is chips feeds_are once);
+        report = rw same.0 at out;
         trace = records;
       },
     )
@@ -167,7 +159,6 @@ uncut_traces_fit limits graph_text chips_text limit shared plan old_report new_r
         outcome = wrote.outcome;
         fit = wrote.fit;
         report = wrote.report;
-        trace = subst (λ (traces : List (List TraceRow)). Appends old_trace new_trace (trace_text traces))
-            (all_kept wrote.actors (sym wrote.trace.cut_is ∙ uncut)) wrote.trace.text;
+        trace = rw (all_kept wrote.actors (sym wrote.trace.cut_is ∙ uncut)) at wrote.trace.text;
       },
     )

@@ -24,7 +24,7 @@ use Rattle.chip_crew.specs.declared.fault.CrewFault.TheVariants as crew
 use Rattle.chip_run.specs.Feeding.{ForText, MeansFed, MeansFedGame, feeds_of}
 use Rattle.chip_run.specs.Recording.{rows_kept, RecordsIfAsked, FailsToRecord}
 use Rattle.chip_run.specs.RunCommand.{RunAnswers, RunAnswersFor, Outputs, KeepsBoth, IsNotPlayed, Plays, WritesReport}
-use Rattle.chip_run.specs.RunCommand.{never_shut, fault_of_crew, ReportsSome, ReportsSomeRun}
+use Rattle.chip_run.specs.RunCommand.{fault_of_crew, ReportsSome, ReportsSomeRun}
 use Rattle.chip_graph.specs.Multigraph.{Multigraph, IsGraph}
 use Rattle.chip_graph.specs.More.{HasMore}
 use Rattle.chip_command.proofs.OneReportLemmas.{one_report, one_game, same_games, same_numbers}

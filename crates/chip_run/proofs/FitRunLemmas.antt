@@ -82,8 +82,7 @@ module _ (shared : Sharing) (g : ChipGame) (feeds : Left) (plan : Plan) (f : Fin
       let here = slice_get-get_or actors v no_actor inside in
       get_or-map (λ a. rows_of a.did) actors v no_actor [] inside ∙ ap rows_of (did v _ here)
       ∙ ap (λ (u : ℕ). rows_of (done_by t u log)) (is.finished.actors.order v _ here).1) in
-      let same = one_more g (pairs feeds) (played_game t log) is.whole
-      (subst (λ (all : List (ℕ × ℕ)). HasMore g all (played_game t log)) fed_all more)
+      let same = one_more g (pairs feeds) (played_game t log) is.whole (rw fed_all at more)
       (has_more g feeds is.whole is.whole_is) in
       subst (λ (h : ChipGame). FitTogether h (all_rows actors) f.outcome) same (record {
         rows = rows_in t log;
@@ -101,8 +100,7 @@ writes_by : (shared : Sharing) (g : ChipGame) (feeds : Left) (plan : Plan) (old 
 writes_by shared g feeds plan old new ended unsealed game chips feeds_are (actors, text, plays, records, out) once =
     let o : Outcome = plays.crew.outcome in
     let is = plays.finished in
-    let reports = subst (λ (h : ChipGame). Reports h text ended.status)
-    (one_whole g feeds plays.reports.0 is.whole plays.reports.1 is.whole_is) plays.reports.2 in
+    let reports = rw (one_whole g feeds plays.reports.0 is.whole plays.reports.1 is.whole_is) at plays.reports.2 in
     let same = one_report is.whole text (report_text o) ended.status (plain_status o) reports
     (o, is.played unsealed, refl, refl) in (
       is.whole,
@@ -123,7 +121,7 @@ rows_fit limits graph_text chips_text limit shared plan old new ended unsealed (
 rows_fit limits graph_text chips_text limit shared plan old new ended unsealed (inr (g, None, means, run)) =
     let (whole, whole_is, wrote) =
     writes_by shared g None plan old new ended unsealed means.game.game [] refl run (λ v l. inr refl) in
-    (g, means.game, subst (λ (h : ChipGame). WritesOneRun h old new ended.cut) whole_is wrote)
+    (g, means.game, rw whole_is at wrote)
 
 pub fed_rows_fit : FedRowsFit
 fed_rows_fit limits graph_text chips_text feed limit shared plan old new ended unsealed (inl refused) = absurd refused

@@ -162,10 +162,9 @@ run_reports graph_text chips_text feed_text limit report status
     (mine, shared, plan, old, new, ended, inr (g', feeds', means', (actors, told, played, records, out)), s_is)
     limits g feeds means whole is =
     let game : g' ≡ g = one_game mine limits graph_text chips_text limit g' g means'.game means.game in
-    let fed : feeds' ≡ feeds = one_feed mine limits feed_text g.graph.vertices feeds' feeds
+    let fed = one_feed mine limits feed_text g.graph.vertices feeds' feeds
     (subst (λ (k : ChipGame). MeansFed mine feed_text k.graph.vertices feeds') game means'.fed) means.fed in
-    let plays : Plays shared g feeds plan actors told ended.status =
-    subst (λ (z : ChipGame × Left). Plays shared z.0 z.1 plan actors told ended.status) (λ i. (game i, fed i)) played in
+    let plays : Plays shared g feeds plan actors told ended.status = rw (game, fed) at played in
     let all = plays.reports in (
       subst (λ (z : ChipGame × List ℕ × ℕ). Reports z.0 z.1 z.2)
           (λ i. (one_whole g feeds all.0 whole all.1 is i, sym out i, sym s_is i)) all.2,
@@ -180,8 +179,7 @@ same_bytes_fed graph_text chips_text feed_text limit whole_graph whole_chips
     (h_means.means whole_graph refl whole_chips refl) whole_means in
     let same = one_report whole one text s done.status
     (run_reports graph_text chips_text feed_text limit one s ran fed_by g feeds means whole is_whole).0
-    (subst (λ (k : ChipGame). Reports k text done.status) same_game reports) in
-    (same.0 ∙ sym out, same.1 ∙ sym t_is)
+    (rw same_game at reports) in (same.0 ∙ sym out, same.1 ∙ sym t_is)
 
 pub run_tells_play : RunTellsPlay
 run_tells_play graph_text chips_text feed_text limit report status ran limits g feeds means whole is_whole =

@@ -253,18 +253,18 @@ module _ (g : Setting) where
           chips = (let a = chips_taken-append rows more in let b = chips_more x.event x.seen s may in omega arith);
           taken = λ e. (let a = takes_of-append e rows more in let b = told.taken e in
               let c = taken_more x.event x.seen e (s.into e) in omega arith);
-          sent = λ e inside mine. let send : ℕ → ℕ = λ k. k * mult_of g e in
-              ap (map send) fires_are ∙ map-append send (fires rows) (fires more)
-              ∙ ap (λ (l : List ℕ). l ++ map send (fires more)) (told.sent e inside mine)
-              ∙ due_more x.event x.seen e s inside mine may ((part_kept g game log legal.0 p).outs e mine);
-          outside = λ past. ap (λ (l : List TraceRow). l ++ more) (told.outside past)
-              ∙ outside_more x.event x.seen s may past;
+          sent = λ e inside mine. rw (
+            fires_are,
+            map-append (λ (k : ℕ). k * mult_of g e) (fires rows) (fires more),
+            told.sent e inside mine,
+          )
+              (due_more x.event x.seen e s inside mine may ((part_kept g game log legal.0 p).outs e mine));
+          outside = λ past. rw (told.outside past) (outside_more x.event x.seen s may past);
         })))
         (λ other. rw (ne_eqb p v other) (tells log legal.0 v))
 
     pub times_fired : (log : Log) → IsLegalLog g log → (v : ℕ) → times_of v (firings (rows_in g log)) ≡ fired_by g log v
-    times_fired log legal v = times_are (rows_in g log) v ∙ ap (λ (l : List TraceRow). sum (fires l)) (rows_are log v)
-        ∙ (tells log legal v).fired
+    times_fired log legal v = times_are (rows_in g log) v ∙ rw (rows_are log v) (tells log legal v).fired
 
     traces_are : (log : Log) → IsLegalLog g log → (v : ℕ) → rows_of (rows_in g log) v ≡ trace_of (traces_in g log) v
     traces_are log legal v = let n : ℕ = g.game.graph.vertices in rows_are log v ∙ dite (dec_lt v n)

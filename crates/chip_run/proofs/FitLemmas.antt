@@ -1,9 +1,9 @@
 -- Serves Replaying.antt, Laws.antt.
 -- The rows of a legal log, in its order, are an interleaving: what was taken is what the firings sent.
 use Rattle.std.proofs.Common.{◌≡◌, ◌≢◌, ℕ, zero, suc, ◌+◌, ◌-◌, ◌*◌, ◌<◌, ◌≤◌, true, cond, eqb, ltb, List, [], ◌∷◌}
-use Rattle.std.proofs.Common.{◌++◌, length, map, sum, get_or, option_to_list, Some, slice_get, slice_index, refl, sym}
-use Rattle.std.proofs.Common.{ap, ◌∙◌, subst, arith, append_assoc, append-nil, eq-eqb, ne_eqb, lt-ltb, le-ltb, mul_comm}
-use Rattle.std.proofs.Common.{mul-add, add-mul, mul-zero, mul-pos, inr, filter, ⊎_elim, length-append}
+use Rattle.std.proofs.Common.{◌++◌, length, map, sum, get_or, option_to_list, Some, slice_index, refl, sym, ap, ◌∙◌}
+use Rattle.std.proofs.Common.{subst, arith, append_assoc, append-nil, eq-eqb, ne_eqb, lt-ltb, le-ltb, mul_comm, mul-add}
+use Rattle.std.proofs.Common.{add-mul, mul-zero, mul-pos, inr, filter, ⊎_elim, length-append}
 use Rattle.std.proofs.lemmas.Bool.Decides.{nat_tests}
 use Rattle.std.proofs.lemmas.List.{map-append, length_push, nil_from_length, get_or_past}
 use Rattle.std.proofs.lemmas.List.FromFn.{get_or-map-range_with_len, length-map-range_with_len}
@@ -324,10 +324,8 @@ module _ (g : Setting) where
         let all = begun log legal opened e below in
         let there : n < length t.put = (take_finds g game some_ring log legal e (λ z. some (is ∙ z))).0 in
         let next : next_message whole (recorded log) (head_of g e) e ≡ Some found =
-        ap (slice_get (messages whole (λ u. fires (recorded log u)) e)) ((tells game log legal (head_of g e)).taken e)
-        ∙ ap (λ (ms : List ℕ). slice_get ms n) (sym all.1)
-        ∙ slice_get_keeps (sent_counts t) all.0 n found
-        (slice_get_keeps t.put (option_to_list t.held) n found (slice_get-get_or t.put n 0 there)) in
+        rw ((tells game log legal (head_of g e)).taken e, ← all.1) (slice_get_keeps (sent_counts t) all.0 n found
+        (slice_get_keeps t.put (option_to_list t.held) n found (slice_get-get_or t.put n 0 there))) in
         let goes : goes_into g.game.graph (head_of g e) e ≡ true = grind (arith, nat_tests) in
         rw (goes, next) (eq-eqb found seen (sym is))
 
@@ -390,6 +388,6 @@ logs_fit g game some_ring log legal one = (interleaves g game some_ring log lega
 
 pub unfed_logs_fit : UnfedLogsFit
 unfed_logs_fit g game some_ring log legal unfed =
-    subst (λ (h : ChipGame). IsInterleaving h (traces_in g log) (rows_in g log))
-    (unfed_played g game some_ring unfed log legal) (interleaves g game some_ring log legal
-    (given_once g game some_ring log legal [] (unfed_records g game some_ring unfed log legal) (λ v l. inr refl)))
+    let none = unfed_records g game some_ring unfed log legal in
+    let one = given_once g game some_ring log legal [] none (λ v l. inr refl) in
+    rw (unfed_played g game some_ring unfed log legal) at (interleaves g game some_ring log legal one)

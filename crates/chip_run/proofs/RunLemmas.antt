@@ -175,11 +175,11 @@ pub same_bytes_fed : SameBytesFed
 same_bytes_fed graph_text chips_text feed_text limit whole_graph whole_chips
     (g, feeds, fed_by, means, whole, mine, whole_means, is_whole) one other s t ran
     (limits, done, (text, (h, h_means, reports), out, cut), t_is) =
-    let same_game : h ≡ whole = one_game limits mine whole_graph whole_chips limit h whole
+    let game = one_game limits mine whole_graph whole_chips limit h whole
     (h_means.means whole_graph refl whole_chips refl) whole_means in
     let same = one_report whole one text s done.status
-    (run_reports graph_text chips_text feed_text limit one s ran fed_by g feeds means whole is_whole).0
-    (rw same_game at reports) in (same.0 ∙ sym out, same.1 ∙ sym t_is)
+    (run_reports graph_text chips_text feed_text limit one s ran fed_by g feeds means whole is_whole).0 (rw game at reports)
+    in (same.0 ∙ sym out, same.1 ∙ sym t_is)
 
 pub run_tells_play : RunTellsPlay
 run_tells_play graph_text chips_text feed_text limit report status ran limits g feeds means whole is_whole =

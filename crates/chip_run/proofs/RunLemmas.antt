@@ -50,7 +50,8 @@ keeps_both o = record { report = Keeps-same o.report; trace = refl }
 -- what `run` wrote that ended well is the plain player's report
 pub writes_report : (limits : SizeLimits) (shared : Sharing) (graph_text chips_text : List ℕ)
     (feed_text : Option (List ℕ)) (limit : ℕ) (plan : Plan) (old new : Option (List ℕ))
-    (old_trace new_trace : Option (Option (List ℕ))) (result : Result Ended Fault) → RunAnswers limits shared graph_text chips_text feed_text limit plan
+    (old_trace new_trace : Option (Option (List ℕ))) (result : Result Ended Fault)
+    → RunAnswers limits shared graph_text chips_text feed_text limit plan
     (record { report = old; trace = old_trace }) (record { report = new; trace = new_trace }) result
     → IfOk result (WritesReport limits graph_text chips_text feed_text limit old new)
 writes_report limits shared graph_text chips_text feed_text limit plan old new old_trace new_trace (Err f) answers = tt
@@ -62,7 +63,8 @@ writes_report limits shared graph_text chips_text feed_text limit plan old new o
 -- a game and the feeds that a text has for the vertices of its graph
 pub means_fed : (limits : SizeLimits) (graph_text chips_text : List ℕ) (feed_text : Option (List ℕ)) (limit : ℕ)
     (g : ChipGame) (feeds : Left) (vertices : ℕ) → vertices ≡ g.graph.vertices
-    → MeansGame limits graph_text chips_text limit g → MeansFed limits feed_text vertices feeds → MeansFedGame limits graph_text chips_text feed_text limit g feeds
+    → MeansGame limits graph_text chips_text limit g → MeansFed limits feed_text vertices feeds
+    → MeansFedGame limits graph_text chips_text feed_text limit g feeds
 means_fed limits graph_text chips_text feed_text limit g feeds vertices same game fed =
     record { game = game; fed = subst (λ (n : ℕ). MeansFed limits feed_text n feeds) same fed }
 
@@ -178,8 +180,8 @@ same_bytes_fed graph_text chips_text feed_text limit whole_graph whole_chips
     let game = one_game limits mine whole_graph whole_chips limit h whole
     (h_means.means whole_graph refl whole_chips refl) whole_means in
     let same = one_report whole one text s done.status
-    (run_reports graph_text chips_text feed_text limit one s ran fed_by g feeds means whole is_whole).0 (rw game at reports)
-    in (same.0 ∙ sym out, same.1 ∙ sym t_is)
+    (run_reports graph_text chips_text feed_text limit one s ran fed_by g feeds means whole is_whole).0
+    (rw game at reports) in (same.0 ∙ sym out, same.1 ∙ sym t_is)
 
 pub run_tells_play : RunTellsPlay
 run_tells_play graph_text chips_text feed_text limit report status ran limits g feeds means whole is_whole =

@@ -46,8 +46,8 @@ impl Net {
         Ok((Net { setting, table }, seat))
     }
 
-    /// What the net was opened for.
-    pub(crate) fn setting(&self) -> &Setting
+    /// What the net was opened for: the game and the rings, and whether more is fed.
+    pub fn setting(&self) -> &Setting
         ensures value { result.now ≡ self.now.setting }
         ensures setting { IsSetting self.now.setting }
     {

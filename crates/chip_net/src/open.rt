@@ -1,6 +1,7 @@
 //! How a net is opened.
 
-ghost use Rattle.std.specs.Prelude.{◌≡◌, ℕ, ◌<◌, ◌≤◌, ◌+◌, [], length, IfOk, Some, None, All, slice_get, if◌then◌else◌, true};
+ghost use Rattle.std.specs.Prelude.{◌≡◌, ℕ, ◌<◌, ◌≤◌, ◌+◌, [], ◌++◌, length, IfOk, OnOk, Some, None, All, slice_get};
+ghost use Rattle.std.specs.Prelude.{if◌then◌else◌, true};
 ghost use Rattle.chip_link.specs.Rings.{IsRing};
 ghost use Rattle.chip_part.specs.Setting.{setting_of, setting_with};
 ghost use Rattle.chip_part.specs.Edges.{graph_edges, all_edges, root, stopper};
@@ -74,13 +75,24 @@ fn one_owned<J: OnePart>(
     Ok(Owned::new(state, setting, own, trace))
 }
 
-/// What the actors of all vertices own, ascending.
-fn all_owned(
+/// These own an actor each from now on. Their boxes are taken one behind the other, so that what consecutive actors own
+/// lies side by side: whoever gives them turns in order waits less for memory.
+fn box_all(alloc: Global, run: Vec<Owned>, actors: &mut Vec<Actor>) -> Result<(), AllocError>
+    ensures { OnOk result (actors.new.items ≡ actors.old.items ++ run.items) }
+{
+    for owned in run {
+        actors.push(Actor::new(alloc, owned)?)?;
+    }
+    Ok(())
+}
+
+/// The actors of all vertices, ascending. They are boxed in runs, so that few of them are held twice.
+fn all_actors(
     alloc: Global,
     net: &Net,
     seat: &mut PartSeat,
     trace_rows: u64,
-) -> Result<Vec<Owned>, AllocError>
+) -> Result<Vec<Actor>, AllocError>
     requires table { seat.old.table_id ≡ net.now.table }
     requires parts { (p : ℕ) → p < net.now.setting.game.graph.vertices + 2 → find p seat.old.me.0.parts ≡ Some [] }
     ensures table { seat.new.table_id ≡ seat.old.table_id }
@@ -91,22 +103,16 @@ fn all_owned(
         → slice_get v.items p ≡ Some (newcomer net.now trace_rows p)) }
 {
     let vertices = net.setting().vertices();
-    let mut all = Vec::with_capacity(alloc, vertices as usize)?;
+    let mut actors = Vec::with_capacity(alloc, vertices as usize)?;
+    let mut run = Vec::with_capacity(alloc, 256)?;
     for vertex in 0..vertices {
-        all.push_reserved(one_owned::<Brand>(alloc, net, seat, trace_rows, vertex)?);
+        run.push(one_owned::<Brand>(alloc, net, seat, trace_rows, vertex)?)?;
+        if run.len() == 256 {
+            box_all(alloc, run, &mut actors)?;
+            run = Vec::with_capacity(alloc, 256)?;
+        }
     }
-    Ok(all)
-}
-
-/// The actors that own these. Their boxes are taken one behind the other, so that what consecutive actors own lies side
-/// by side: whoever gives them turns in order waits less for memory.
-fn boxed(alloc: Global, all: Vec<Owned>) -> Result<Vec<Actor>, AllocError>
-    ensures { IfOk result (λ actors. actors.items ≡ all.items) }
-{
-    let mut actors = Vec::with_capacity(alloc, all.len())?;
-    for owned in all {
-        actors.push_reserved(Actor::new(alloc, owned)?);
-    }
+    box_all(alloc, run, &mut actors)?;
     Ok(actors)
 }
 
@@ -144,8 +150,7 @@ fn tokens(
     ensures ours { IfOk result (λ r. All (λ a. a.net ≡ net.now) r.1.items) }
     ensures stopper { IfOk result (λ r. r.2 ≡ (if stoppable then Some (new_stopper net.now) else None)) }
 {
-    let owned = all_owned(alloc, net, &mut seat, trace_rows)?;
-    let actors = boxed(alloc, owned)?;
+    let actors = all_actors(alloc, net, &mut seat, trace_rows)?;
     let stopper = stopper_of::<Brand>(net, &mut seat, stoppable);
     let root = Root::new(alloc, net.setting(), seat)?;
     Ok((root, actors, stopper))

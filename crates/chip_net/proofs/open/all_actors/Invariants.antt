@@ -1,9 +1,8 @@
-use Rattle.std.proofs.Common.{◌≡◌, ℕ, ◌<◌, ◌≤◌, ◌+◌, [], length, Some}
+use Rattle.std.proofs.Common.{◌≡◌, ℕ, ◌<◌, ◌≤◌, ◌+◌, ◌++◌, [], length, Some}
 use Rattle.std.specs.Prelude.{slice_get}
-use Rattle.std.specs.Vec.{vec_capacity}
 use Rattle.chip_net.specs.Views.{find}
 use Rattle.chip_net.specs.Tokens.{newcomer}
-use Rattle.chip_net.proofs.open.all_owned.Given as goal
+use Rattle.chip_net.proofs.open.all_actors.Given as goal
 
 abbrev pub ghosts-one_owned : goal.ghosts-one_owned
 ghosts-one_owned a = record { part = a.vertex }
@@ -12,7 +11,6 @@ abbrev pub invariant-loop-vertex : goal.invariant-loop-vertex
 invariant-loop-vertex l = record {
   table : l.seat.table_id ≡ l.initial.seat.table_id;
   parts : (p : ℕ) → l.vertex ≤ p → p < l.net.setting.game.graph.vertices + 2 → find p l.seat.me.0.parts ≡ Some [];
-  count : length l.all.items ≡ l.vertex;
-  room : l.net.setting.game.graph.vertices ≤ vec_capacity l.all;
-  actors : (p : ℕ) → p < l.vertex → slice_get l.all.items p ≡ Some (newcomer l.net l.trace_rows p);
+  count : length (l.actors.items ++ l.run.items) ≡ l.vertex;
+  made : (p : ℕ) → p < l.vertex → slice_get (l.actors.items ++ l.run.items) p ≡ Some (newcomer l.net l.trace_rows p);
 }

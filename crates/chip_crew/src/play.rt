@@ -24,7 +24,7 @@ use crate::plan::{Gate, Plan, Sharing};
 use crate::queue::{Crew, Pushed, Queue, QueuePass, SplitLedger};
 use crate::shared::Shared;
 use crate::worker::Share;
-use chip_graph::{Game, Graph};
+use chip_graph::Game;
 use chip_net::{Actor, Net, Opened, Receipt};
 use chip_part::Setting;
 use chip_sequence::Outcome;
@@ -162,14 +162,12 @@ fn work_all<'a, R: Threads + Wait, B: Crew + Send + Sync, G: Gate + Sync>(
 fn play_shared<'a, R: Threads + Wait, B: Crew + Send + Sync, G: Gate + Sync>(
     rt: &R,
     alloc: Global,
-    graph: &Graph,
     sharing: Sharing,
     shared: &'a Shared<'a, B, G>,
     leader: Leader<'a>,
     actors: Vec<Actor>,
 ) -> Result<Finished, CrewFault>
     requires sharing { sharing ≡ B.asked.crew.sharing }
-    requires graph { graph.now ≡ B.asked.crew.net.setting.game.graph }
     requires opened { AreOpened B.asked leader actors.items }
     ensures finished { IfOk result (HasFinished B.asked.crew B.asked.feeds B.asked.plan) }
     ensures stopped { IfErr result (IsStopped B.asked) }
@@ -183,6 +181,7 @@ fn play_shared<'a, R: Threads + Wait, B: Crew + Send + Sync, G: Gate + Sync>(
             work_all(rt, alloc, shared, leader, own, back)
         }
         Sharing::Dealt => {
+            let graph = shared.net.setting().game().graph();
             let (own, back) = deal(alloc, graph, actors, shared.plan.workers)?;
             work_all(rt, alloc, shared, leader, own, back)
         }
@@ -194,7 +193,6 @@ fn play_on<R: Threads + Wait, B: Crew + Send + Sync, G: Gate + Sync>(
     rt: &R,
     alloc: Global,
     opened: Opened,
-    graph: &Graph,
     feeds: Option<&[(u64, u64)]>,
     plan: &Plan,
     sharing: Sharing,
@@ -202,7 +200,6 @@ fn play_on<R: Threads + Wait, B: Crew + Send + Sync, G: Gate + Sync>(
 ) -> Result<Finished, CrewFault>
     requires asked { IsAsked B.asked opened.net plan.now (G.may_answer gate.now) }
     requires sharing { sharing ≡ B.asked.crew.sharing }
-    requires graph { graph.now ≡ B.asked.crew.net.setting.game.graph }
     requires opened { AreOpened B.asked (record { root = opened.root; feeds = feeds; seal = option_zip opened.stopper plan.now.seal; is_closed = false }) opened.actors.items }
     ensures finished { IfOk result (HasFinished B.asked.crew B.asked.feeds B.asked.plan) }
     ensures stopped { IfErr result (IsStopped B.asked) }
@@ -227,7 +224,7 @@ fn play_on<R: Threads + Wait, B: Crew + Send + Sync, G: Gate + Sync>(
         plan,
         of: PhantomData,
     };
-    play_shared(rt, alloc, graph, sharing, &shared, leader, actors)
+    play_shared(rt, alloc, sharing, &shared, leader, actors)
 }
 
 /// Plays a game on a net of its own by as many threads as the plan says, which share its actors in this way, and feeds it
@@ -241,19 +238,19 @@ fn play_on<R: Threads + Wait, B: Crew + Send + Sync, G: Gate + Sync>(
 pub fn run_with<R: Threads + Wait, G: Gate + Sync>(
     rt: &R,
     alloc: Global,
-    game: &Game,
+    game: Game,
     plan: Plan,
     sharing: Sharing,
     feeds: Option<&[(u64, u64)]>,
     gate: &G,
 ) -> Result<Finished, CrewFault>
-    ensures finished { IfOk result (IsFinished sharing game.now (option_copied feeds.entry) plan) }
-    ensures fault { IfErr result (IsFaultOf sharing game.now (option_copied feeds.entry) plan (G.may_answer gate.now)) }
+    ensures finished { IfOk result (IsFinished sharing game (option_copied feeds.entry) plan) }
+    ensures fault { IfErr result (IsFaultOf sharing game (option_copied feeds.entry) plan (G.may_answer gate.now)) }
 {
-    let ring = plan.ring_for(game, feeds)?;
-    let setting = Setting::of_copy(alloc, game, ring, feeds.is_some())?;
+    let ring = plan.ring_for(&game, feeds)?;
+    let setting = Setting::new(game, ring, feeds.is_some());
     let opened = Net::of(alloc, setting, plan.trace_rows, plan.seal.is_some())?;
-    play_on::<R, Brand, G>(rt, alloc, opened, game.graph(), feeds, &plan, sharing, gate)
+    play_on::<R, Brand, G>(rt, alloc, opened, feeds, &plan, sharing, gate)
 }
 
 /// Does what `run_with` does with a queue where nothing is fed.
@@ -267,6 +264,9 @@ pub fn run<R: Threads + Wait, G: Gate + Sync>(
     ensures finished { IfOk result (IsFinished shares.Queue game.now None plan) }
     ensures fault { IfErr result (IsFaultOf shares.Queue game.now None plan (G.may_answer gate.now)) }
 {
+    // (a plan that is refused is refused before memory is asked for)
+    plan.ring_for(game, None)?;
+    let game = game.copy(alloc)?;
     run_with(rt, alloc, game, plan, Sharing::Queue, None, gate)
 }
 
@@ -282,5 +282,7 @@ pub fn run_fed<R: Threads + Wait, G: Gate + Sync>(
     ensures finished { IfOk result (IsFinished shares.Queue game.now (Some feeds.now) plan) }
     ensures fault { IfErr result (IsFaultOf shares.Queue game.now (Some feeds.now) plan (G.may_answer gate.now)) }
 {
+    plan.ring_for(game, Some(feeds))?;
+    let game = game.copy(alloc)?;
     run_with(rt, alloc, game, plan, Sharing::Queue, Some(feeds), gate)
 }

@@ -81,7 +81,10 @@ fn played<R: Threads + Wait + Sync + Abort + AllocGlobal>(
     match (sharing, feeds) {
         (Sharing::Queue, None) => run(rt, rt.alloc(), game, plan, gate),
         (Sharing::Queue, Some(feeds)) => run_fed(rt, rt.alloc(), game, plan, feeds, gate),
-        (Sharing::Dealt, feeds) => run_with(rt, rt.alloc(), game, plan, sharing, feeds, gate),
+        (Sharing::Dealt, feeds) => {
+            let game = game.copy(rt.alloc())?;
+            run_with(rt, rt.alloc(), game, plan, sharing, feeds, gate)
+        }
     }
 }
 

@@ -128,7 +128,7 @@ pub fn run_engine_with<
     let (answer, actors) = {
         let game = read_game(alloc, options.limits, graph, chips, options.limit)?;
         let feeds = read_fed(alloc, options.limits, feed, game.graph().vertices())?;
-        play(rt, alloc, &game, feeds, options, gate)?
+        play(rt, alloc, game, feeds, options, gate)?
     };
     let cut = record_if_asked(alloc, &actors, trace)?;
     conclude(
@@ -145,17 +145,17 @@ pub fn run_engine_with<
 fn play<R: Threads + Wait + Sync, K: Gate + Sync>(
     rt: &R,
     alloc: Global,
-    game: &Game,
+    game: Game,
     feeds: Option<Vec<(u64, u64)>>,
     options: RunOptions,
     gate: &K,
 ) -> Result<(Answer, Vec<Actor>), Fault>
     requires seal { options.plan.seal ≡ None }
     requires gate { (worker turn : ℕ) → K.may_answer gate.now worker turn false → ⊥ }
-    ensures played { IfOk result (λ p. Plays options.sharing game.now (option_map (λ fed. fed.items) feeds) options.plan
+    ensures played { IfOk result (λ p. Plays options.sharing game (option_map (λ fed. fed.items) feeds) options.plan
         p.1.items p.0.text.items (number_of_status p.0.status)) }
     ensures fault { IfErr result
-        (IsNotPlayed options.sharing game.now (option_map (λ fed. fed.items) feeds) options.plan) }
+        (IsNotPlayed options.sharing game (option_map (λ fed. fed.items) feeds) options.plan) }
 {
     let RunOptions { plan, sharing, .. } = options;
     match run_with(rt, alloc, game, plan, sharing, feeds.as_deref(), gate) {

@@ -1,4 +1,4 @@
-use Rattle.std.proofs.Common.{◌≡◌, ◌∙◌, refl, sym, ap, rules, Bool, List, [], ℕ, Option, Some, None, Bor, ◌<◌}
+use Rattle.std.proofs.Common.{◌≡◌, ◌∙◌, refl, ap, rules, Bool, List, [], ℕ, Option, Some, None, Bor, ◌<◌}
 use Rattle.std.proofs.Common.{if◌then◌else◌, subst}
 use Rattle.std.proofs.lemmas.Result.{MatchResult-weaker}
 use Rattle.std.specs.Prelude.{is_some}
@@ -21,13 +21,9 @@ pub play_on-requires-clause-asked : goal.play_on-requires-clause-asked
 play_on-requires-clause-asked g c κs within = record {
   net_is = refl;
   plan_is = refl;
-  few_turns = (plan_fits c.args.game.now (option_copied c.args.feeds) c.args.plan c.in_ok-ring.ensures.0).2;
+  few_turns = (plan_fits c.args.game (option_copied c.args.feeds) c.args.plan c.in_ok-ring.ensures.0).2;
   gate = λ worker turn answer may. may;
 }
-
-pub play_on-requires-clause-graph : goal.play_on-requires-clause-graph
-play_on-requires-clause-graph g c κs within = c.graph.ensures.value
-    ∙ sym (ap (λ (s : Setting). s.game.graph) (c.in_ok-opened.ensures.setting ∙ c.in_ok-setting.ensures))
 
 pub play_on-requires-clause-opened : goal.play_on-requires-clause-opened
 play_on-requires-clause-opened g c κs within =
@@ -35,9 +31,9 @@ play_on-requires-clause-opened g c κs within =
     let asked : Asked = asked_of opened.net c.args.plan c.args.sharing (option_copied c.args.feeds)
     (g.G.Gate.may_answer c.args.gate.now) in
     let can = c.in_ok-ring.ensures.0 in
-    let setting = c.in_ok-opened.ensures.setting ∙ c.in_ok-setting.ensures in
-    let fits = plan_fits c.args.game.now (option_copied c.args.feeds) c.args.plan can in
-    let sealed = none_sealed asked.crew c.args.game.now c.args.plan.seal opened.stopper (c.in_ok-opened.ensures.stopper
+    let setting = c.in_ok-opened.ensures.setting ∙ c.new-setting.ensures in
+    let fits = plan_fits c.args.game (option_copied c.args.feeds) c.args.plan can in
+    let sealed = none_sealed asked.crew c.args.game c.args.plan.seal opened.stopper (c.in_ok-opened.ensures.stopper
     ∙ ap (λ (b : Bool). if b then Some (new_stopper opened.net) else None) c.is_some-2.ensures) fits.3
     (ap (λ (s : Setting). s.game) setting) in
     record {
@@ -48,14 +44,14 @@ play_on-requires-clause-opened g c κs within =
         seal = sealed;
         can = record {
           net_is = ap (λ (r : RootKnown). r.net) c.in_ok-opened.ensures.root;
-          may = may_begin c.args.game.now (option_copied c.args.feeds) c.args.plan opened.net opened.root _ can
-              (setting ∙ (λ i. setting_with c.args.game.now (c.in_ok-ring.ensures.1 i)
+          may = may_begin c.args.game (option_copied c.args.feeds) c.args.plan opened.net opened.root _ can
+              (setting ∙ (λ i. setting_with c.args.game (c.in_ok-ring.ensures.1 i)
               ((c.is_some.ensures ∙ copied_some c.args.feeds) i))) c.in_ok-opened.ensures.root;
           seal = may_seal asked.crew c.args.plan.seal 0 (option_zip opened.stopper c.args.plan.seal) sealed;
           closed = λ is. cc;
         };
       };
-      each = ours_by asked.crew c.in_ok-setting.setting.game.graph.vertices opened.actors.items
+      each = ours_by asked.crew c.new-setting.result.game.graph.vertices opened.actors.items
           (ap (λ (s : Setting). s.game.graph.vertices) c.in_ok-opened.ensures.setting) c.in_ok-opened.ensures.count
           c.in_ok-opened.ensures.actors;
       count = search rules;
@@ -72,10 +68,10 @@ returns g c =
     let feeds = option_copied c.args.feeds in
     let asked : Asked = asked_of c.in_ok-opened.opened.net c.args.plan c.args.sharing feeds
     (g.G.Gate.may_answer c.args.gate.now) in
-    let opened : IsCrewFor c.args.sharing c.args.game.now feeds c.args.plan asked.crew = record {
+    let opened : IsCrewFor c.args.sharing c.args.game feeds c.args.plan asked.crew = record {
       can = c.in_ok-ring.ensures.0;
-      setting = c.in_ok-opened.ensures.setting ∙ c.in_ok-setting.ensures
-          ∙ (λ i. setting_with c.args.game.now (c.in_ok-ring.ensures.1 i)
+      setting = c.in_ok-opened.ensures.setting ∙ c.new-setting.ensures
+          ∙ (λ i. setting_with c.args.game (c.in_ok-ring.ensures.1 i)
           ((c.is_some.ensures ∙ copied_some c.args.feeds) i));
       room = refl;
       workers = refl;
@@ -83,8 +79,8 @@ returns g c =
     } in
     record {
       finished = MatchResult-weaker c.play_on.result c.play_on.ensures.finished
-          (λ f has. finished_by feeds c.args.plan asked.crew f has c.args.sharing c.args.game.now opened)
+          (λ f has. finished_by feeds c.args.plan asked.crew f has c.args.sharing c.args.game opened)
           (λ e none. none);
       fault = MatchResult-weaker c.play_on.result c.play_on.ensures.stopped (λ f none. none)
-          (λ e why. stopped_by c.args.sharing c.args.game.now asked e opened why);
+          (λ e why. stopped_by c.args.sharing c.args.game asked e opened why);
     }

@@ -8,8 +8,6 @@ use Rattle.chip_graph.specs.declared.fault.GraphFault.{GraphFault}
 use Rattle.chip_graph.specs.declared.fault.GraphFault.TheVariants as graph_fault
 use Rattle.chip_graph.specs.Limits.{SizeLimits}
 use Rattle.chip_graph.specs.Multigraph.{Multigraph, IsDistance, ReachesSink}
-use Rattle.chip_graph.specs.declared.edge.Edge.{Edge}
-use Rattle.chip_graph.specs.Index.{IsIndex}
 use Rattle.chip_graph.specs.Faults.{fault_of_rows, IsGraphFault, NamesUnreached, MakesGraph}
 use Rattle.chip_graph.specs.Distances.{IsDistanceOf, AreDistances}
 
@@ -56,11 +54,3 @@ refused limits G (Err e) fault is why =
     let P : GraphFault → Type 0 =
     (λ f. ((f ≡ graph_fault.NoMemory) × (fault_of_rows limits G ≡ None)) ⊎ IsGraphFault limits G f) in
     subst P (sym is) why
-
--- what stands beside the edges of a graph stands beside the same edges elsewhere
-pub copied : (n s : ℕ) {es es' : List Edge} {ds ds' : List ℕ} {ts ts' : List (Option ℕ)}
-    {os os' is is' : List (List ℕ)} {ls ls' : List Edge}
-    → es' ≡ es → ds' ≡ ds → ts' ≡ ts → os' ≡ os → is' ≡ is → ls' ≡ ls
-    → IsIndex (record { vertices = n; sink = s; edges = es }) ds ts os is ls
-    → IsIndex (record { vertices = n; sink = s; edges = es' }) ds' ts' os' is' ls'
-copied n s e d t o i l h = rw e (rw d (rw t (rw o (rw i (rw l h)))))

@@ -64,17 +64,13 @@ impl Game {
     pub fn copy(&self, alloc: Global) -> Result<Game, AllocError>
         ensures { IfOk result (λ game. game ≡ self.now) }
     {
-        let Game {
+        let graph = self.graph.copy(alloc)?;
+        let start = Vec::from_slice(alloc, &self.start)?;
+        Ok(Game {
             graph,
             start,
-            limit,
-            total,
-        } = self;
-        Ok(Game {
-            graph: graph.copy(alloc)?,
-            start: Vec::from_slice(alloc, start)?,
-            limit: *limit,
-            total: *total,
+            limit: self.limit,
+            total: self.total,
         })
     }
 

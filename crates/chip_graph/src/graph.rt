@@ -68,66 +68,6 @@ impl Model for Rows {
     ghost invariant = { IsIndexed };
 }
 
-impl Rows {
-    ghost use Rattle.std.specs.Prelude.{◌≡◌};
-    ghost use Rattle.chip_graph.specs.Faults.{MakesGraph};
-
-    /// The rows of these edges, or the first reason why they are no graph within the limits.
-    fn new(
-        alloc: Global,
-        limits: Limits,
-        vertices: u64,
-        sink: u64,
-        edges: Vec<Edge>,
-    ) -> Result<Rows, GraphFault>
-        ensures makes { MakesGraph limits (record { vertices = vertices; sink = sink; edges = edges.items }) result }
-        ensures accepted { IfOk result (λ rows. fault_of_rows limits rows ≡ None) }
-    {
-        let rows = edges.as_slice();
-        check_rows(limits, vertices, sink, rows)?;
-        let (ins, distances) = ins_and_distances(alloc, vertices, sink, rows)?;
-        let outs = index::edges_by(alloc, vertices, rows, End::Tail)?;
-        let links = index::links_by(alloc, rows, outs.members())?;
-        let degrees = index::degrees(alloc, vertices, rows)?;
-        Ok(Rows {
-            vertices,
-            sink,
-            edges,
-            degrees,
-            distances,
-            outs,
-            ins,
-            links,
-        })
-    }
-
-    /// Equal rows.
-    fn copy(&self, alloc: Global) -> Result<Rows, AllocError>
-        ensures { IfOk result (λ rows. rows ≡ self.now) }
-    {
-        let Rows {
-            vertices,
-            sink,
-            edges,
-            degrees,
-            distances,
-            outs,
-            ins,
-            links,
-        } = self;
-        Ok(Rows {
-            vertices: *vertices,
-            sink: *sink,
-            edges: Vec::from_slice(alloc, edges)?,
-            degrees: Vec::from_slice(alloc, degrees)?,
-            distances: Vec::from_slice(alloc, distances)?,
-            outs: outs.copy(alloc)?,
-            ins: ins.copy(alloc)?,
-            links: index::copy_links(alloc, links)?,
-        })
-    }
-}
-
 impl Graph {
     ghost use Rattle.std.specs.Prelude.{◌≡◌, ◌<◌, map};
     ghost use Rattle.chip_graph.specs.Limits.{standard};
@@ -160,9 +100,24 @@ impl Graph {
     ) -> Result<Graph, GraphFault>
         ensures { MakesGraph limits (record { vertices = vertices; sink = sink; edges = edges.items }) result }
     {
-        let rows = Rows::new(alloc, limits, vertices, sink, edges)?;
+        let rows = edges.as_slice();
+        check_rows(limits, vertices, sink, rows)?;
+        let degrees = index::degrees(alloc, vertices, rows)?;
+        let outs = index::edges_by(alloc, vertices, rows, End::Tail)?;
+        let links = index::links_by(alloc, rows, outs.members())?;
+        let (ins, distances) = ins_and_distances(alloc, vertices, sink, rows)?;
+        let indexed = Rows {
+            vertices,
+            sink,
+            edges,
+            degrees,
+            distances,
+            outs,
+            ins,
+            links,
+        };
         Ok(Graph {
-            rows: Box::new(alloc, rows)?,
+            rows: Box::new(alloc, indexed)?,
         })
     }
 
@@ -170,10 +125,11 @@ impl Graph {
     pub fn copy(&self, alloc: Global) -> Result<Graph, AllocError>
         ensures { IfOk result (λ graph. graph ≡ self.now) }
     {
-        let rows = self.rows.copy(alloc)?;
-        Ok(Graph {
-            rows: Box::new(alloc, rows)?,
-        })
+        let edges = Vec::from_slice(alloc, self.edges())?;
+        match Graph::within(alloc, Limits::large(), self.vertices(), self.sink(), edges) {
+            Ok(graph) => Ok(graph),
+            Err(_) => Err(AllocError),
+        }
     }
 
     /// How many vertices there are, 1 to 2^20.

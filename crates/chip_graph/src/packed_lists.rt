@@ -1,7 +1,6 @@
-ghost use Rattle.std.specs.Prelude.{◌≡◌, [], length, map, slice_index_or, IfOk, ◌<◌};
+ghost use Rattle.std.specs.Prelude.{◌≡◌, [], length, map, slice_index_or, ◌<◌};
 ghost use Rattle.chip_graph.specs.PackedLists.{flat, lists_of, AreStarts};
 
-use std::alloc::{AllocError, Global};
 use std::marker::Model;
 
 /// Lists that lie side by side in one vector.
@@ -58,15 +57,5 @@ impl<T: Copy> PackedLists<T> {
         let start = self.starts[i];
         let end = self.starts[i + 1];
         &things[start..end]
-    }
-
-    /// The same lists once more.
-    pub(crate) fn copy(&self, alloc: Global) -> Result<Self, AllocError>
-        ensures { IfOk result (λ lists. lists ≡ self.now) }
-    {
-        Ok(PackedLists {
-            starts: Vec::from_slice(alloc, &self.starts)?,
-            members: Vec::from_slice(alloc, &self.members)?,
-        })
     }
 }

@@ -22,12 +22,12 @@ use Rattle.chip_detect.specs.Acknowledging as detector
 use Rattle.chip_detect.specs.Steps.{Gets, Acknowledges, Sends, Settles}
 use Rattle.chip_detect.proofs.SoundnessLemmas.{parent_goes_with_all}
 use Rattle.chip_detect.proofs.AllowedLemmas.{within_owed}
-use Rattle.chip_part.specs.Edges.{all_edges, tail_of, head_of, mult_of}
+use Rattle.chip_part.specs.Edges.{all_edges, tail_of, mult_of}
 use Rattle.chip_part.specs.declared.cause.Cause.{Cause}
-use Rattle.chip_part.specs.Part.{cause, may_ack}
-use Rattle.chip_part.specs.Rules.{Event, Take, Ack, Fire, Clear, Claim, Put, Halt, Settle}
+use Rattle.chip_part.specs.Part.{cause}
+use Rattle.chip_part.specs.Rules.{Take, Ack, Fire, Clear, Claim, Put, Halt, Settle}
 use Rattle.chip_part.specs.declared.reply.Reply.{Reply}
-use Rattle.chip_part.specs.Steps.{part_of, message_of, does, saw}
+use Rattle.chip_part.specs.Steps.{message_of, does, saw}
 use Rattle.chip_part.specs.declared.reply.Reply.TheVariants.{Done, Got, Sent, Empty, Full, Sealed}
 use Rattle.chip_actor.specs.declared.ends.outs.OutEnd.{OutEnd}
 use Rattle.chip_actor.specs.Ends.{OutEnds, InEnds, out_on, in_on, ChangesOut, ChangesOuts, ChangesIn}

@@ -3,7 +3,7 @@ ghost use Rattle.std.specs.Prelude.{slice_index, Bool, IfOk, IfSome, None, ⊤};
 
 use crate::ends::{Ins, OutEnd, Outs};
 use chip_detect::{Detect, Slot};
-use chip_graph::Game;
+use chip_graph::{Game, Graph};
 use chip_link::{Event, Ring};
 use chip_part::{Act, Cause, Observed, Reply, Rule, first_unmet, is_by_limit};
 use finding::{Found, event_of};
@@ -499,15 +499,17 @@ impl ActorState {
             StandsFor g (opening_part g) actor) }
     {
         let graph = game.graph();
+        let is_sink = vertex == graph.sink();
+        let degree = graph.out_degree(vertex);
+        let limit = game.limit();
         let cells = Ring::of(ring);
         let outs = Outs::new(alloc, graph, vertex, cells)?;
-        let ins = Ins::new(alloc, graph, vertex, cells)?;
-        let detect = new_books(alloc, &ins, graph.outs(vertex))?;
+        let (ins, detect) = ins_and_books(alloc, graph, vertex, cells)?;
         Ok(ActorState {
             vertex,
-            is_sink: vertex == graph.sink(),
-            degree: graph.out_degree(vertex),
-            limit: game.limit(),
+            is_sink,
+            degree,
+            limit,
             chips: 0,
             fired: 0,
             halt: None,
@@ -521,16 +523,25 @@ impl ActorState {
     }
 }
 
-ghost use Rattle.chip_detect.specs.Tally.{edge_limit};
+ghost use Rattle.chip_graph.specs.Multigraph.{edges_out};
 ghost use Rattle.chip_detect.specs.Books.{IsFresh, IsSound};
+ghost use Rattle.chip_actor.specs.Ends.{IsFreshIns};
 
-/// The books of a neutral vertex with these edges into it and out of it.
-fn new_books(alloc: Global, ins: &Ins, outs: &[u64]) -> Result<Detect, AllocError>
-    requires few_ins { length ins.now.edges ≤ edge_limit }
-    requires few_outs { length outs.now ≤ edge_limit }
-    ensures fresh { IfOk result (λ books. IsFresh books ins.now.edges outs.now) }
-    ensures sound { IfOk result IsSound }
+/// The edges into a vertex, its root edge last, on which nothing was taken, and the books of the neutral vertex.
+fn ins_and_books(
+    alloc: Global,
+    graph: &Graph,
+    vertex: u64,
+    ring: Ring,
+) -> Result<(Ins, Detect), AllocError>
+    requires { vertex < graph.now.vertices }
+    ensures { IfOk result (λ r. IsFreshIns graph.now ring vertex r.0
+        × IsFresh r.1 r.0.edges (edges_out graph.now vertex)
+        × IsSound r.1) }
 {
-    let numbers = ins.numbers(alloc)?;
-    Detect::new(alloc, &numbers, outs)
+    let mut numbers = Vec::from_slice(alloc, graph.ins(vertex))?;
+    numbers.push(graph.root_edge(vertex))?;
+    let ins = Ins::new(alloc, &numbers, ring)?;
+    let detect = Detect::new(alloc, &numbers, graph.outs(vertex))?;
+    Ok((ins, detect))
 }

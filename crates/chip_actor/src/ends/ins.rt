@@ -3,7 +3,6 @@ ghost use Rattle.std.specs.List.Sorted.{IsStrictlyIncreasing};
 
 use crate::medium::Medium;
 use chip_detect::{Detect, Slot};
-use chip_graph::Graph;
 use chip_link::{HeadLink, Message, Ring};
 use chip_part::Cursor;
 use std::alloc::{AllocError, Global};
@@ -27,8 +26,8 @@ impl Model for Ins {
 
 impl Ins {
     ghost use Rattle.chip_detect.specs.Slot.{IsSlotOf};
-    ghost use Rattle.chip_link.specs.Ends.{head_cell, message_taken, head_after_take};
-    ghost use Rattle.chip_actor.specs.Ends.{InEnds, ins_of, in_on, AreApart, ChangesIn, IsFreshIns};
+    ghost use Rattle.chip_link.specs.Ends.{head_cell, new_head, message_taken, head_after_take};
+    ghost use Rattle.chip_actor.specs.Ends.{InEnds, ins_of, in_on, AreApart, ChangesIn};
     ghost use Rattle.chip_actor.specs.Actor.{Actor, with_taken};
     ghost use Rattle.chip_actor.specs.Medium.{Meets, Moves};
 
@@ -105,29 +104,16 @@ impl Ins {
         work
     }
 
-    /// The edges into a vertex, its root edge last, on which nothing was taken.
-    pub fn new(alloc: Global, graph: &Graph, vertex: u64, ring: Ring) -> Result<Ins, AllocError>
-        requires { vertex < graph.now.vertices }
-        ensures { IfOk result (λ ins. IsFreshIns graph.now ring vertex ins) }
+    /// Edges with these numbers, on which nothing was taken.
+    pub fn new(alloc: Global, numbers: &[u64], ring: Ring) -> Result<Ins, AllocError>
+        requires { IsStrictlyIncreasing numbers.now }
+        ensures edges { IfOk result (λ ins. ins.edges ≡ numbers.now) }
+        ensures ends { IfOk result (λ ins. ins.ends ≡ map (λ e. new_head e ring) numbers.now) }
     {
-        let numbers = graph.ins(vertex);
-        let mut ends = Vec::with_capacity(alloc, numbers.len() + 1)?;
+        let mut ends = Vec::with_capacity(alloc, numbers.len())?;
         for &edge in numbers {
-            ends.push_reserved(HeadLink::new(edge, ring.cells()));
+            ends.push(HeadLink::new(edge, ring.cells()))?;
         }
-        let root_edge = graph.edges().len() as u64 + vertex;
-        ends.push_reserved(HeadLink::new(root_edge, ring.cells()));
         Ok(Ins { ends })
-    }
-
-    /// A list of the numbers of the edges.
-    pub fn numbers(&self, alloc: Global) -> Result<Vec<u64>, AllocError>
-        ensures { IfOk result (λ numbers. numbers.items ≡ self.now.edges) }
-    {
-        let mut numbers = Vec::with_capacity(alloc, self.ends.len())?;
-        for end in &self.ends {
-            numbers.push_reserved(end.edge());
-        }
-        Ok(numbers)
     }
 }

@@ -191,11 +191,11 @@ impl Outs {
         let mut ends = Vec::with_capacity(alloc, numbers.len())?;
         let rows = graph.edges();
         for &edge in numbers {
-            ends.push_reserved(OutEnd {
+            ends.push(OutEnd {
                 mult: rows[edge as usize].mult,
                 pending: 0,
                 link: TailLink::new(edge, ring.cells()),
-            });
+            })?;
         }
         Ok(Outs { ends })
     }

@@ -1,39 +1,26 @@
-use Rattle.std.proofs.Common.{◌≡◌, ◌∙◌, ◌++◌, ◌+◌, [], ◌∷◌, ℕ, List, length, map, refl, sym, ap}
-use Rattle.std.proofs.lemmas.List.{take_all, map-append}
-use Rattle.chip_graph.specs.Multigraph.{edges_in}
+use Rattle.std.proofs.Common.{◌≡◌, ◌∙◌, map, refl, ap}
+use Rattle.std.proofs.lemmas.List.{take_all}
 use Rattle.chip_link.specs.Ends.{HeadState, new_head}
-use Rattle.chip_part.proofs.PickedLemmas.{ins_rise}
 use Rattle.chip_actor.proofs.EndLemmas.{made_numbers, named_apart}
 use Rattle.chip_actor.proofs.ends.ins.Ins.new.Goals as goal
-use Rattle.chip_actor.proofs.ends.ins.Ins.new.Goals.{After-push_reserved-2}
+use Rattle.chip_actor.proofs.ends.ins.Ins.new.Goals.{After-loop-edge}
 
--- the edges into the vertex, its root edge last
-abbrev into : (c : After-push_reserved-2) → List ℕ
-into c = edges_in c.args.graph.now c.args.vertex ++ (length c.args.graph.now.edges + c.args.vertex) ∷ []
+-- each number has its end
+made : (c : After-loop-edge) → c.loop-edge.ends.items ≡ map (λ e. new_head e c.args.ring) c.args.numbers.now
+made c = c.loop-edge.invariant
+    ∙ ap (map (λ e. new_head e c.args.ring)) (take_all c.loop-edge.edge-index c.args.numbers.now c.loop-edge-test.false)
 
--- each has its end
-made : (c : After-push_reserved-2) → c.push_reserved-2.new.self.items ≡ map (λ e. new_head e c.args.ring) (into c)
-made c = c.push_reserved-2.ensures.items
-    ∙ (λ j. (c.loop-edge.invariant.0
-    ∙ ap (map (λ e. new_head e c.args.ring))
-    (take_all c.loop-edge.edge-index c.ins-numbers.result.now c.loop-edge-test.false ∙ c.ins-numbers.ensures)) j
-    ++ (c.new-2.ensures
-    ∙ (λ k. new_head (length (c.edges.ensures.value k) + c.args.vertex) (c.cells-2.ensures.number k))) j ∷ [])
-    ∙ sym (map-append (λ e. new_head e c.args.ring) (edges_in c.args.graph.now c.args.vertex)
-    ((length c.args.graph.now.edges + c.args.vertex) ∷ []))
-
--- and its number
-numbers : (c : After-push_reserved-2) → map (λ (h : HeadState). h.edge) c.push_reserved-2.new.self.items ≡ into c
+-- and is its number
+numbers : (c : After-loop-edge) → map (λ (h : HeadState). h.edge) c.loop-edge.ends.items ≡ c.args.numbers.now
 numbers c = ap (map (λ (h : HeadState). h.edge)) (made c)
-    ∙ made_numbers (λ (h : HeadState). h.edge) (λ e. new_head e c.args.ring) (λ e. refl) (into c)
+    ∙ made_numbers (λ (h : HeadState). h.edge) (λ e. new_head e c.args.ring) (λ e. refl) c.args.numbers.now
 
 pub invariant_of-result : goal.invariant_of-result
-invariant_of-result c =
-    let d = (goal.at.invariant_of-result c).After-push_reserved-2 in
-    named_apart (λ (h : HeadState). h.edge) c.push_reserved-2.new.self.items (into d) (numbers d)
-    (ins_rise c.args.graph.now c.args.vertex)
+invariant_of-result c = named_apart (λ (h : HeadState). h.edge) c.loop-edge.ends.items c.args.numbers.now
+    (numbers (goal.at.invariant_of-result c).After-loop-edge) c.requires
 
-pub returns : goal.returns
-returns c =
-    let d = (goal.at.returns c).After-push_reserved-2 in
-    record { edges = numbers d; ends = made d ∙ ap (map (λ e. new_head e c.args.ring)) (sym (numbers d)) }
+pub returns-clause-edges : goal.returns-clause-edges
+returns-clause-edges c = numbers (goal.at.returns-clause-edges c).After-loop-edge
+
+pub returns-clause-ends : goal.returns-clause-ends
+returns-clause-ends c = made (goal.at.returns-clause-ends c).After-loop-edge

@@ -1,7 +1,6 @@
-use Rattle.std.proofs.Common.{◌≡◌, ◌+◌, ◌≤◌, length, map, take, vec_capacity}
+use Rattle.std.proofs.Common.{◌≡◌, map, take}
 use Rattle.chip_link.specs.Ends.{new_head}
 use Rattle.chip_actor.proofs.ends.ins.Ins.new.Given as goal
 
 abbrev pub invariant-loop-edge : goal.invariant-loop-edge
-invariant-loop-edge l = (l.ends.items ≡ map (λ e. new_head e l.ring) (take l.edge-index l.numbers))
-    × (length l.numbers + 1 ≤ vec_capacity l.ends)
+invariant-loop-edge l = l.ends.items ≡ map (λ e. new_head e l.ring) (take l.edge-index l.numbers)

@@ -23,7 +23,7 @@ bounds-rows-edge c =
 -- each edge out of the vertex has its end
 made : (c : After-loop-edge) → c.loop-edge.ends.items
     ≡ map (fresh_out c.args.graph.now c.args.ring) (edges_out c.args.graph.now c.args.vertex)
-made c = c.loop-edge.invariant.0
+made c = c.loop-edge.invariant
     ∙ ap (map (fresh_out c.args.graph.now c.args.ring))
     (take_all c.loop-edge.edge-index c.outs-numbers.result.now c.loop-edge-test.false ∙ c.outs-numbers.ensures)
 

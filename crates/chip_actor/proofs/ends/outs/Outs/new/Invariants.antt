@@ -1,7 +1,6 @@
-use Rattle.std.proofs.Common.{◌≡◌, ◌≤◌, length, map, take, vec_capacity}
+use Rattle.std.proofs.Common.{◌≡◌, map, take}
 use Rattle.chip_actor.specs.Ends.{fresh_out}
 use Rattle.chip_actor.proofs.ends.outs.Outs.new.Given as goal
 
 abbrev pub invariant-loop-edge : goal.invariant-loop-edge
-invariant-loop-edge l = (l.ends.items ≡ map (fresh_out l.graph l.ring) (take l.edge-index l.numbers))
-    × (length l.numbers ≤ vec_capacity l.ends)
+invariant-loop-edge l = l.ends.items ≡ map (fresh_out l.graph l.ring) (take l.edge-index l.numbers)

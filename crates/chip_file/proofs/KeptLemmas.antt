@@ -1,6 +1,6 @@
 -- Serves GraphText.antt.
 -- A text of more edges than a graph has is refused alike, whether all of them are kept or only the first.
-use Rattle.std.proofs.Common.{◌≡◌, ℕ, ◌<◌, ◌≤◌, ◌⊎◌, leb, ltb, ◌&&◌, List, length, Option, Some, None}
+use Rattle.std.proofs.Common.{◌≡◌, ℕ, ◌<◌, ◌≤◌, ◌⊎◌, List, length, Option, Some, None}
 use Rattle.std.proofs.Common.{Ok, Err, refl, sym, ap, ◌∙◌, subst, arith, inl, inr}
 use Rattle.std.proofs.lemmas.Bool.{lt-leb}
 use Rattle.std.specs.Prelude.{option_and_then, Result}
@@ -10,8 +10,7 @@ use Rattle.chip_graph.specs.declared.fault.GraphFault.{GraphFault}
 use Rattle.chip_graph.specs.declared.fault.GraphFault.TheVariants as graph_fault
 use Rattle.chip_graph.specs.Limits.{SizeLimits}
 use Rattle.chip_graph.specs.Multigraph.{Multigraph, IsGraphWithin}
-use Rattle.chip_graph.specs.Faults.{first_of_faults, fault_unless, fault_of_rows, IsGraphFault}
-use Rattle.chip_graph.specs.Faults.{MakesGraph}
+use Rattle.chip_graph.specs.Faults.{IsGraphFault, MakesGraph}
 use Rattle.chip_graph.proofs.FaultLemmas.{rows_few}
 use Rattle.chip_json.specs.declared.fault.JsonFault.{JsonFault}
 use Rattle.chip_json.specs.declared.file.GraphFile.{GraphFile as Kept}
@@ -63,22 +62,13 @@ same_rows : (graph : Multigraph) (v s : ℕ) (edges : List Edge) → graph.verti
     → edges ≡ graph.edges → graph ≡ record { vertices = v; sink = s; edges = edges }
 same_rows graph v s edges a b c = rw (← a, ← b, c) refl
 
--- the first fault where there are too many edges: no edge is looked at
-abbrev crowded_fault : SizeLimits → ℕ → ℕ → Option GraphFault
-crowded_fault limits v s =
-    first_of_faults (fault_unless (ltb 0 v && leb v limits.vertices) graph_fault.Vertices)
-    (first_of_faults (fault_unless (ltb s v) graph_fault.Sink) (Some graph_fault.EdgeCount))
-
-crowded : (limits : SizeLimits) (v s : ℕ) (edges : List Edge) → limits.edges < length edges
-    → fault_of_rows limits (record { vertices = v; sink = s; edges = edges }) ≡ crowded_fault limits v s
-crowded limits v s edges many = rw (lt-leb (length edges) limits.edges many) refl
-
+-- where there are too many edges, none is looked at
 fault_of_many : (limits : SizeLimits) (v s : ℕ) (all kept : List Edge) (f : GraphFault) → limits.edges < length all
     → limits.edges < length kept
     → IsGraphFault limits (record { vertices = v; sink = s; edges = kept }) f
     → IsGraphFault limits (record { vertices = v; sink = s; edges = all }) f
 fault_of_many limits v s all kept f many more (inl is) =
-    inl (crowded limits v s all many ∙ sym (crowded limits v s kept more) ∙ is)
+    inl (rw (lt-leb (length all) limits.edges many) (rw (lt-leb (length kept) limits.edges more) at is))
 fault_of_many limits v s all kept f many more (inr h) =
     let few : length kept ≤ limits.edges = rows_few limits (record { vertices = v; sink = s; edges = kept }) h.0 in
     absurd (omega arith)

@@ -125,73 +125,59 @@ tells_failed T f kind (inl (inl e)) = rw e (λ is. is)
 tells_failed T f kind (inl (inr e)) = rw e (λ is. inl is)
 tells_failed T f kind (inr e) = rw e (λ is. is)
 
-means_failed : {T : Type 0} (limits : SizeLimits) (IsMeant : List ℕ → T → Type 0) (IsFault : List ℕ → FileFault → Type 0)
-    (input : Option (List ℕ)) (f : FileFault)
-    → IfSome input (λ text. Answers limits text (λ (bytes : Vec ℕ). bytes.items ≡ text) (λ _. ⊥) (Err f))
-    → IfSome input (λ text. Answers limits text (IsMeant text) (IsFault text) (Err f))
-means_failed limits IsMeant IsFault None f h = tt
-means_failed limits IsMeant IsFault (Some text) f (inl machine) = inl machine
-means_failed limits IsMeant IsFault (Some text) f (inr (inl long)) = inr (inl long)
-means_failed limits IsMeant IsFault (Some text) f (inr (inr never)) = absurd never.1
-
--- the bytes could not be read
-pub read_failed : {R T : Type 0} (remaining : R → Option (List ℕ)) (limits : SizeLimits) (IsMeant : List ℕ → T → Type 0)
-    (IsFault : List ℕ → FileFault → Type 0) (old new : Source R) (f : FileFault) (result : Result T FileFault)
-    → IsErrAnd result (λ e. e ≡ f) → ReadsWhole limits (bytes_left remaining old) (bytes_left remaining new) (Err f)
-    → reads new ≤ limits.bytes + 1 → last_read new ≡ last_of_whole {T = Vec ℕ} (Err f)
-    → ReadsSource remaining limits IsMeant IsFault old new result
-read_failed remaining limits IsMeant IsFault old new f (Ok value) is whole few told = absurd is
-read_failed {T = T} remaining limits IsMeant IsFault old new f (Err e) is whole few told =
-    subst (λ (g : FileFault). ReadsSource remaining limits IsMeant IsFault old new (Err g)) (sym is) (record {
-      text = record {
-        means = means_failed limits IsMeant IsFault (bytes_left remaining old) f whole.known;
-        read = whole.read;
-        taken = whole.taken;
-      };
-      few_reads = few;
-      told = tells_failed T f (last_read new) whole.faults told;
-    })
-
-means_text : {T : Type 0} (limits : SizeLimits) (IsMeant : List ℕ → T → Type 0) (IsFault : List ℕ → FileFault → Type 0)
-    (input : Option (List ℕ)) (bytes : Vec ℕ) (result : Result T FileFault)
-    → IfSome input (λ text. Answers limits text (λ (bytes : Vec ℕ). bytes.items ≡ text) (λ _. ⊥) (Ok bytes))
-    → Gives (IsMeant bytes.items) (IsFault bytes.items) result
-    → IfSome input (λ text. Answers limits text (IsMeant text) (IsFault text) result)
-means_text limits IsMeant IsFault None bytes result h gives = tt
-means_text limits IsMeant IsFault (Some text) bytes (Ok value) h gives = (h.0, rw h.1 at gives)
-means_text limits IsMeant IsFault (Some text) bytes (Err f) h (inl memory) = inl (inr memory)
-means_text limits IsMeant IsFault (Some text) bytes (Err f) h (inr bad) = inr (inr (h.0, rw h.1 at bad))
-
 -- a fault that a text gives is none of its source
 other_fault : (IsFault : FileFault → Type 0) (f : FileFault) → (f ≡ fault.NoMemory) ⊎ IsFault f
     → ((g : FileFault) → IsFault g → is_of_source g ≡ false) → is_of_source f ≡ false
 other_fault IsFault f (inl memory) alone = rw memory refl
 other_fault IsFault f (inr bad) alone = alone f bad
 
--- the bytes were read, and this is what they mean
-pub text_read : {R T : Type 0} (remaining : R → Option (List ℕ)) (limits : SizeLimits) (IsMeant : List ℕ → T → Type 0)
-    (IsFault : List ℕ → FileFault → Type 0) (old new : Source R) (bytes : Vec ℕ) (result : Result T FileFault)
-    → ReadsWhole limits (bytes_left remaining old) (bytes_left remaining new) (Ok bytes)
-    → reads new ≤ limits.bytes + 1 → last_read new ≡ last.End
-    → Gives (IsMeant bytes.items) (IsFault bytes.items) result
-    → ((f : FileFault) → IsFault bytes.items f → is_of_source f ≡ false)
-    → ReadsSource remaining limits IsMeant IsFault old new result
-text_read remaining limits IsMeant IsFault old new bytes (Ok value) whole few told gives alone = record {
-  text = record {
-    means = means_text limits IsMeant IsFault (bytes_left remaining old) bytes (Ok value) whole.known gives;
-    read = tt;
-    taken = whole.taken;
-  };
-  few_reads = few;
-  told = told;
-}
-text_read {T = T} remaining limits IsMeant IsFault old new bytes (Err f) whole few told gives alone =
-    let other = other_fault (IsFault bytes.items) f gives alone in record {
-      text = record {
-        means = means_text limits IsMeant IsFault (bytes_left remaining old) bytes (Err f) whole.known gives;
-        read = λ is. let never = rw is at other in absurd (cc never);
-        taken = whole.taken;
-      };
-      few_reads = few;
-      told = subst (λ (kind : LastRead). Tells {T = T} (Err f) kind) (sym told) (tells_end T f other);
-    }
+module _ {R T : Type 0} (remaining : R → Option (List ℕ)) (limits : SizeLimits) (IsMeant : List ℕ → T → Type 0)
+    (IsFault : List ℕ → FileFault → Type 0) (old new : Source R) where
+  means_text : (input : Option (List ℕ)) (bytes : Vec ℕ) (result : Result T FileFault)
+      → IfSome input (λ text. Answers limits text (λ (bytes : Vec ℕ). bytes.items ≡ text) (λ _. ⊥) (Ok bytes))
+      → Gives (IsMeant bytes.items) (IsFault bytes.items) result
+      → IfSome input (λ text. Answers limits text (IsMeant text) (IsFault text) result)
+  means_text None bytes result h gives = tt
+  means_text (Some text) bytes (Ok value) h gives = (h.0, rw h.1 at gives)
+  means_text (Some text) bytes (Err f) h (inl memory) = inl (inr memory)
+  means_text (Some text) bytes (Err f) h (inr bad) = inr (inr (h.0, rw h.1 at bad))
+
+  -- the bytes could not be read
+  pub read_failed : (f : FileFault) (result : Result T FileFault) → IsErrAnd result (λ e. e ≡ f)
+      → ReadsWhole limits (bytes_left remaining old) (bytes_left remaining new) (Err f)
+      → reads new ≤ limits.bytes + 1 → last_read new ≡ last_of_whole {T = Vec ℕ} (Err f)
+      → ReadsSource remaining limits IsMeant IsFault old new result
+  read_failed f (Ok value) is whole few told = absurd is
+  read_failed f (Err e) is whole few told =
+      subst (λ (g : FileFault). ReadsSource remaining limits IsMeant IsFault old new (Err g)) (sym is) (record {
+        text = record { means = grind (arith, common_steps, whole.known); read = whole.read; taken = whole.taken };
+        few_reads = few;
+        told = tells_failed T f (last_read new) whole.faults told;
+      })
+
+  -- the bytes were read, and this is what they mean
+  pub text_read : (bytes : Vec ℕ) (result : Result T FileFault)
+      → ReadsWhole limits (bytes_left remaining old) (bytes_left remaining new) (Ok bytes)
+      → reads new ≤ limits.bytes + 1 → last_read new ≡ last.End
+      → Gives (IsMeant bytes.items) (IsFault bytes.items) result
+      → ((f : FileFault) → IsFault bytes.items f → is_of_source f ≡ false)
+      → ReadsSource remaining limits IsMeant IsFault old new result
+  text_read bytes (Ok value) whole few told gives alone = record {
+    text = record {
+      means = means_text (bytes_left remaining old) bytes (Ok value) whole.known gives;
+      read = tt;
+      taken = whole.taken;
+    };
+    few_reads = few;
+    told = told;
+  }
+  text_read bytes (Err f) whole few told gives alone =
+      let other = other_fault (IsFault bytes.items) f gives alone in record {
+        text = record {
+          means = means_text (bytes_left remaining old) bytes (Err f) whole.known gives;
+          read = λ is. let never = rw is at other in absurd (cc never);
+          taken = whole.taken;
+        };
+        few_reads = few;
+        told = subst (λ (kind : LastRead). Tells {T = T} (Err f) kind) (sym told) (tells_end T f other);
+      }

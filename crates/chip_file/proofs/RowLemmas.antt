@@ -1,56 +1,44 @@
 -- Serves Standing.antt, Rows.antt.
 -- How reading one record after another gives the records of a text.
-use Rattle.std.proofs.Common.{◌≡◌, ℕ, zero, suc, ◌<◌, ◌≤◌, ◌+◌, Bool, true, false, List, [], ◌∷◌, ◌++◌, length, Option}
-use Rattle.std.proofs.Common.{None, Some, refl, ap, sym, ◌∙◌, arith, add-one, inl}
+use Rattle.std.proofs.Common.{◌≡◌, ◌⊎◌, ℕ, zero, suc, ◌<◌, ◌≤◌, ◌+◌, Bool, true, false, List, [], ◌∷◌, ◌++◌, length}
+use Rattle.std.proofs.Common.{Option, None, Some, refl, ap, sym, ◌∙◌, arith, add-one, inl, inr}
 use Rattle.std.specs.Prelude.{IsSome, unwrap_or, if◌then◌else◌}
 use Rattle.csv.specs.declared.parser.Config.{Config}
 use Rattle.csv.specs.declared.parser.State.{State}
 use Rattle.csv.specs.declared.parser.State.TheVariants as st
 use Rattle.csv.specs.Machine.{Read, next_record, step, is_end, ends_at_end, fields_after, field_after}
 use Rattle.csv.specs.Reading.{records_from, records_next, ReadsNext, NextIs, ReadRecord, default_config, took_first}
-use Rattle.csv.specs.Reading.{is_flexible, is_bom, strip_bom}
-use Rattle.chip_file.specs.Rows.{Row, records_of}
+use Rattle.csv.specs.Reading.{is_flexible}
+use Rattle.chip_file.specs.Rows.{Row}
 use Rattle.chip_file.specs.Standing.{IsOpen, Records, TakesRow, rows_left, source}
 
 -- ---- a record takes at least one byte, but for one that the end of a text ends
+
+-- so many turns are enough for the records of these bytes
+abbrev IsEnough : ℕ → State → List ℕ → Type 0
+IsEnough n s xs = (length xs < n) ⊎ ((s ≡ st.StartRecord) × (xs ≡ []))
 
 last_by : (b : Bool) (f : List (List ℕ)) (p : Read)
     → (if b then Some (f, st.StartRecord, []) else None) ≡ Some p → (p.1 ≡ st.StartRecord) × (p.2 ≡ [])
 last_by true f p e = (cc e, cc e)
 last_by false f p e = cc e
 
-at_end : (cfg : Config) (s : State) (f : List (List ℕ)) (g : List ℕ) (p : Read) → next_record cfg s f g [] ≡ Some p
-    → (p.1 ≡ st.StartRecord) × (p.2 ≡ [])
-unfolding next_record
-at_end cfg s f g p e = last_by (ends_at_end s) (f ++ (g ∷ [])) p e
+step_by : (b : Bool) (f : List (List ℕ)) (s : State) (rest : List ℕ) (more : Option Read) (n : ℕ) (p : Read)
+    → (if b then Some (f, s, rest) else more) ≡ Some p → length rest < n → (more ≡ Some p → IsEnough n p.1 p.2)
+    → IsEnough n p.1 p.2
+step_by true f s rest more n p e few h = let same : p.2 ≡ rest = cc e in inl (rw same few)
+step_by false f s rest more n p e few h = h e
 
-step_by : (b : Bool) (f : List (List ℕ)) (s : State) (rest : List ℕ) (more : Option Read) (p : Read)
-    → (if b then Some (f, s, rest) else more) ≡ Some p → (more ≡ Some p → length p.2 ≤ length rest)
-    → length p.2 ≤ length rest
-step_by true f s rest more p e h = let same : p.2 ≡ rest = cc e in rw same (omega arith)
-step_by false f s rest more p e h = h e
-
--- the record that a text's first byte goes on with, or ends
-after_byte : (cfg : Config) (s : State) (f : List (List ℕ)) (g : List ℕ) (c : ℕ) (rest : List ℕ) (p : Read)
-    → ((s2 : State) (f2 : List (List ℕ)) (g2 : List ℕ) → next_record cfg s2 f2 g2 rest ≡ Some p
-    → length p.2 ≤ length rest)
-    → next_record cfg s f g (c ∷ rest) ≡ Some p → length p.2 ≤ length rest
+shorter : (cfg : Config) (n : ℕ) (p : Read) (s : State) (f : List (List ℕ)) (g xs : List ℕ)
+    → next_record cfg s f g xs ≡ Some p → length xs ≤ n → IsEnough n p.1 p.2
 unfolding next_record
-after_byte cfg s f g c rest p h e =
+shorter cfg n p s f g [] e few = inr (last_by (ends_at_end s) (f ++ (g ∷ [])) p e)
+shorter cfg n p s f g (c ∷ rest) e few =
     let s2 = (step cfg s c).0 in
     let f2 = fields_after (step cfg s c).1 f g in
     let g2 = field_after (step cfg s c).1 c g in
-    step_by (is_end (step cfg s c).1) f2 s2 rest (next_record cfg s2 f2 g2 rest) p e (h s2 f2 g2)
-
-no_longer : (cfg : Config) (s : State) (f : List (List ℕ)) (g : List ℕ) (xs : List ℕ) (p : Read)
-    → next_record cfg s f g xs ≡ Some p → length p.2 ≤ length xs
-no_longer cfg s f g [] p e = let none = (at_end cfg s f g p e).1 in rw none (omega arith)
-no_longer cfg s f g (c ∷ rest) p e =
-    let few = after_byte cfg s f g c rest p (λ s2 f2 g2 k. no_longer cfg s2 f2 g2 rest p k) e in omega arith
-
-shorter : (cfg : Config) (s : State) (f : List (List ℕ)) (g : List ℕ) (c : ℕ) (rest : List ℕ) (p : Read)
-    → next_record cfg s f g (c ∷ rest) ≡ Some p → length p.2 ≤ length rest
-shorter cfg s f g c rest p e = after_byte cfg s f g c rest p (λ s2 f2 g2 k. no_longer cfg s2 f2 g2 rest p k) e
+    step_by (is_end (step cfg s c).1) f2 s2 rest (next_record cfg s2 f2 g2 rest) n p e (omega arith)
+    (λ k. shorter cfg n p s2 f2 g2 rest k (omega arith))
 
 -- ---- as many turns as a text has bytes, and one more, are enough
 
@@ -64,43 +52,33 @@ more_by : (o : Option Read) (f g : State → List ℕ → List Row) → ((p : Re
 more_by None f g h = refl
 more_by (Some p) f g h = ap (λ rows. p.0 ∷ rows) (h p refl)
 
-enough : (cfg : Config) (n m : ℕ) (s : State) (xs : List ℕ) → length xs < n → length xs < m
+enough : (cfg : Config) (n m : ℕ) (s : State) (xs : List ℕ) → IsEnough n s xs → IsEnough m s xs
     → records_from cfg n s xs ≡ records_from cfg m s xs
 unfolding records_from
-enough cfg zero m s xs h k = absurd (omega arith)
-enough cfg (suc n) zero s xs h k = absurd (omega arith)
-enough cfg (suc n) (suc m) s [] h k =
-    more_by _ _ _ (λ p e. let last = at_end cfg s [] [] p e in
-    rw (last.0, last.1) (no_more cfg n ∙ sym (no_more cfg m)))
-enough cfg (suc n) (suc m) s (c ∷ rest) h k =
-    more_by _ _ _ (λ p e. let few = shorter cfg s [] [] c rest p e in
-    enough cfg n m p.1 p.2 (omega arith) (omega arith))
+enough cfg n m s xs (inr end) k = rw (end.0, end.1) (no_more cfg n ∙ sym (no_more cfg m))
+enough cfg n m s xs (inl h) (inr end) = rw (end.0, end.1) (no_more cfg n ∙ sym (no_more cfg m))
+enough cfg zero m s xs (inl h) (inl k) = absurd (omega arith)
+enough cfg (suc n) zero s xs (inl h) (inl k) = absurd (omega arith)
+enough cfg (suc n) (suc m) s xs (inl h) (inl k) =
+    more_by _ _ _ (λ p e. enough cfg n m p.1 p.2 (shorter cfg n p s [] [] xs e (omega arith))
+    (shorter cfg m p s [] [] xs e (omega arith)))
 
 -- ---- the first record, and the records after it
 
-after_first : (cfg : Config) (s : State) (xs : List ℕ) (p : Read) → next_record cfg s [] [] xs ≡ Some p
-    → records_from cfg (length xs + 1) s xs ≡ p.0 ∷ records_from cfg (length p.2 + 1) p.1 p.2
+after_first : (cfg : Config) (s : State) (xs : List ℕ)
+    → records_from cfg (length xs + 1) s xs
+    ≡ records_next (λ s2 ys. records_from cfg (length ys + 1) s2 ys) (next_record cfg s [] [] xs)
 unfolding records_from
-after_first cfg s [] p e =
-    let last = at_end cfg s [] [] p e in
-    rw e (ap (λ rows. p.0 ∷ rows) (rw (last.0, last.1) (sym (no_more cfg 1))))
-after_first cfg s (c ∷ rest) p e =
-    let few = shorter cfg s [] [] c rest p e in
-    rw (add-one, e) (ap (λ rows. p.0 ∷ rows)
-    (enough cfg (suc (length rest)) (length p.2 + 1) p.1 p.2 (omega arith) (omega arith)))
+after_first cfg s xs =
+    rw add-one (more_by _ _ _ (λ p e. enough cfg (length xs) (length p.2 + 1) p.1 p.2
+    (shorter cfg (length xs) p s [] [] xs e (omega arith)) (inl (omega arith))))
 
-none_left : (cfg : Config) (s : State) (xs : List ℕ) → next_record cfg s [] [] xs ≡ None
-    → records_from cfg (length xs + 1) s xs ≡ []
-unfolding records_from
-none_left cfg s xs e = rw (add-one, e) refl
-
-takes_by : (cfg : Config) (s s2 : State) (xs ys : List ℕ) (found : Bool) (fields : Row) (o : Option Read)
-    → next_record cfg s [] [] xs ≡ o → NextIs o found fields s2 ys
-    → TakesRow found fields (records_from cfg (length xs + 1) s xs) (records_from cfg (length ys + 1) s2 ys)
-takes_by cfg s s2 xs ys true fields None e h = cc h
-takes_by cfg s s2 xs ys false fields None e h = none_left cfg s xs e
-takes_by cfg s s2 xs ys true fields (Some p) e h = rw (h.1, h.2, h.3) (after_first cfg s xs p e)
-takes_by cfg s s2 xs ys false fields (Some p) e h = cc h.0
+takes_by : (o : Option Read) (more : State → List ℕ → List Row) (found : Bool) (fields : Row) (s : State) (ys : List ℕ)
+    → NextIs o found fields s ys → TakesRow found fields (records_next more o) (more s ys)
+takes_by None more true fields s ys h = cc h
+takes_by None more false fields s ys h = refl
+takes_by (Some p) more true fields s ys h = rw (h.1, h.2, h.3) refl
+takes_by (Some p) more false fields s ys h = cc h.0
 
 takes_from : (cfg : Config) (s s2 : State) (before after : Option (List ℕ)) (found : Bool) (fields : Row)
     → IsSome before
@@ -109,8 +87,11 @@ takes_from : (cfg : Config) (s s2 : State) (before after : Option (List ℕ)) (f
     (records_from cfg (length (unwrap_or after []) + 1) s2 (unwrap_or after []))
 takes_from cfg s s2 None after found fields some h = cc some
 takes_from cfg s s2 (Some xs) None found fields some h = absurd h
-takes_from cfg s s2 (Some xs) (Some ys) found fields some h =
-    (refl, takes_by cfg s s2 xs ys found fields (next_record cfg s [] [] xs) refl h)
+takes_from cfg s s2 (Some xs) (Some ys) found fields some h = (
+  refl,
+  rw (after_first cfg s xs)
+      (takes_by (next_record cfg s [] [] xs) (λ s ys. records_from cfg (length ys + 1) s ys) found fields s2 ys h),
+)
 
 -- what a read of an open reader does to the rows that are left
 pub takes : (old new : Records) (found : Bool) (fields : Row) → IsOpen old
@@ -127,33 +108,3 @@ takes old new found fields was r first flexible =
       ready = inl first;
       source = t.0;
     } in (open_new, t.1)
-
--- ---- how many records a text has
-
-few_by : (n : ℕ) (o : Option Read) (more : State → List ℕ → List Row)
-    → ((t : State) (ys : List ℕ) → length (more t ys) ≤ n) → length (records_next more o) ≤ suc n
-few_by n None more h = omega arith
-few_by n (Some p) more h = let few = h p.1 p.2 in omega arith
-
-few_from : (cfg : Config) (n : ℕ) (s : State) (xs : List ℕ) → length (records_from cfg n s xs) ≤ n
-unfolding records_from
-few_from cfg zero s xs = omega arith
-few_from cfg (suc n) s xs = few_by n (next_record cfg s [] [] xs) (records_from cfg n) (few_from cfg n)
-
-stripped_by : (b : Bool) (xs rest : List ℕ) → length rest ≤ length xs → length (if b then rest else xs) ≤ length xs
-stripped_by true xs rest h = h
-stripped_by false xs rest h = omega arith
-
-stripped : (xs : List ℕ) → length (strip_bom xs) ≤ length xs
-unfolding strip_bom
-stripped [] = omega arith
-stripped (a ∷ []) = omega arith
-stripped (a ∷ b ∷ []) = omega arith
-stripped (a ∷ b ∷ c ∷ rest) = stripped_by (is_bom a b c) (a ∷ b ∷ c ∷ rest) rest (omega arith)
-
--- a text has at most one record more than bytes
-pub few_records : (text : List ℕ) → length (records_of text) ≤ length text + 1
-few_records text =
-    let few = few_from default_config (length (strip_bom text) + 1) st.StartRecord (strip_bom text) in
-    let no_longer_text = stripped text in
-    omega arith

@@ -1,21 +1,22 @@
 -- Serves TraceText.antt, Rows.antt.
 -- How one row after another gives the recorded run of each vertex.
-use Rattle.std.proofs.Common.{◌≡◌, ◌≢◌, ℕ, ◌<◌, Bool, true, false, List, [], ◌∷◌, ◌++◌, length, map, get_or, set, None}
-use Rattle.std.proofs.Common.{Some, refl, ap, arith, sym, ◌∙◌, replicate, get_or-set_same, get_or-set_other}
-use Rattle.std.specs.Prelude.{◌==◌}
-use Rattle.std.specs.List.{filter}
-use Rattle.std.proofs.lemmas.List.{append-nil, map-append, get_or-replicate, length-replicate, length-set}
+use Rattle.std.proofs.Common.{◌≡◌, ℕ, ◌<◌, Bool, true, false, List, [], ◌∷◌, ◌++◌, length, map, get_or, set, None}
+use Rattle.std.proofs.Common.{refl, ap, arith, sym, ◌∙◌, replicate}
+use Rattle.std.specs.Prelude.{◌==◌, if◌then◌else◌}
+use Rattle.std.specs.Global.{Vec}
+use Rattle.std.specs.List.{filter, range_with_len}
+use Rattle.std.proofs.lemmas.List.{append-nil, map-append, get_or-replicate, length-map, length-replicate, length-set}
 use Rattle.std.proofs.lemmas.List.Elements.{filter-append}
 use Rattle.std.proofs.lemmas.List.FromFn.{fill_by_all}
-use Rattle.std.proofs.lemmas.Bool.{eqb-true, eqb-false}
+use Rattle.std.proofs.lemmas.Bool.{eqb-true}
 use Rattle.std.proofs.lemmas.Bool.Decides.{nat_tests}
 use Rattle.std.proofs.lemmas.Grind.{common_steps}
 use Rattle.chip_graph.specs.Multigraph.{Multigraph}
 use Rattle.chip_link.specs.declared.trace.TraceRow.{TraceRow}
 use Rattle.chip_file.specs.Numbers.{number_in}
-use Rattle.chip_file.specs.Rows.{Row, records_of, rows_under_header}
-use Rattle.chip_file.specs.TraceText.{trace_row_in, trace_row_fault, trace_in}
-use Rattle.chip_file.specs.TraceText.{trace_text_fault, traces_of_text, HaveRecorded}
+use Rattle.chip_file.specs.Rows.{Row}
+use Rattle.chip_file.proofs.VertexRowLemmas.{get_or-set}
+use Rattle.chip_file.specs.TraceText.{trace_row_in, trace_row_fault, trace_in, HaveRecorded}
 
 -- a row with no fault names a vertex
 pub names_vertex : (G : Multigraph) (index : ℕ) (row : Row) → trace_row_fault G index row ≡ None
@@ -40,19 +41,10 @@ trace_in-push before row v =
     ∙ map-append trace_row_in (filter (λ row. number_in 0 row == v) before)
     (filter (λ row. number_in 0 row == v) (row ∷ []))
 
-push_by : (b : Bool) (traces : List (List TraceRow)) (before : List Row) (row : Row) (v : ℕ)
-    → (number_in 0 row == v) ≡ b → number_in 0 row < length traces
-    → get_or traces v [] ≡ trace_in before v
-    → get_or (set traces (number_in 0 row) (get_or traces (number_in 0 row) [] ++ trace_row_in row ∷ [])) v []
-    ≡ trace_in (before ++ row ∷ []) v
-push_by true traces before row v e below h =
-    let same = eqb-true (number_in 0 row) v e in
-    rw (trace_in-push before row v, e, ← h, ← same)
-    (get_or-set_same traces (number_in 0 row) (get_or traces (number_in 0 row) [] ++ trace_row_in row ∷ []) [] below)
-push_by false traces before row v e below h =
-    let other : v ≢ number_in 0 row = λ k. eqb-false (number_in 0 row) v e (sym k) in
-    rw (trace_in-push before row v, e, append-nil, ← h)
-    (get_or-set_other traces (number_in 0 row) v (get_or traces (number_in 0 row) [] ++ trace_row_in row ∷ []) [] other)
+push_by : (b : Bool) (row : Row) (was here before : List TraceRow) → here ≡ before → (b ≡ true → was ≡ here)
+    → (if b then was ++ trace_row_in row ∷ [] else here) ≡ before ++ map trace_row_in (if b then row ∷ [] else [])
+push_by true row was here before so_far same = rw (same refl, so_far) refl
+push_by false row was here before so_far same = rw append-nil so_far
 
 pub HaveRecorded-more : (G : Multigraph) (before : List Row) (traces : List (List TraceRow)) (row : Row)
     → HaveRecorded G before traces → number_in 0 row < G.vertices
@@ -63,14 +55,18 @@ HaveRecorded-more G before traces row have vertex =
     record {
       each = length-set traces (number_in 0 row) (get_or traces (number_in 0 row) [] ++ trace_row_in row ∷ [])
           ∙ have.each;
-      so_far = λ v h. push_by (number_in 0 row == v) traces before row v refl below (have.so_far v h);
+      so_far = λ v h.
+          rw (get_or-set traces (number_in 0 row) v _ [] below, trace_in-push before row v)
+          (push_by (number_in 0 row == v) row _ _ _ (have.so_far v h)
+          (λ e. ap (λ u. get_or traces u []) (eqb-true (number_in 0 row) v e)));
     }
 
 -- ---- all rows
 
-pub HaveRecorded-all : (G : Multigraph) (text : List ℕ) (traces : List (List TraceRow))
-    → trace_text_fault G text ≡ None → HaveRecorded G (rows_under_header (records_of text)) traces
-    → traces_of_text G text ≡ Some traces
-HaveRecorded-all G text traces none have =
-    let filled = fill_by_all (trace_in (rows_under_header (records_of text))) traces G.vertices [] have.each have.so_far in
-    rw none (ap Some (sym filled))
+pub HaveRecorded-all : (G : Multigraph) (rows : List Row) (traces : List (List TraceRow)) → HaveRecorded G rows traces
+    → map (trace_in rows) (range_with_len 0 G.vertices) ≡ traces
+HaveRecorded-all G rows traces have = sym (fill_by_all (trace_in rows) traces G.vertices [] have.each have.so_far)
+
+pub HaveRecorded-each : (G : Multigraph) (rows : List Row) (traces : List (Vec TraceRow))
+    → HaveRecorded G rows (map (λ trace. trace.items) traces) → length traces ≡ G.vertices
+HaveRecorded-each G rows traces have = sym (length-map traces (λ trace. trace.items)) ∙ have.each

@@ -1,6 +1,6 @@
 -- Serves VertexRows.antt, Rows.antt.
 -- How visiting one row after another gives the numbers of a text.
-use Rattle.std.proofs.Common.{◌≡◌, ◌≢◌, ℕ, ◌<◌, Bool, true, false, List, [], ◌∷◌, ◌++◌, length, map, get_or, set}
+use Rattle.std.proofs.Common.{◌≡◌, ℕ, ◌<◌, Bool, true, false, List, [], ◌∷◌, ◌++◌, length, map, get_or, set}
 use Rattle.std.proofs.Common.{Option, None, Some, refl, ap, arith, sym, ◌∙◌, get_or-set_same, get_or-set_other, replicate}
 use Rattle.std.specs.Prelude.{is_some, unwrap_or, ◌==◌, if◌then◌else◌}
 use Rattle.std.proofs.lemmas.List.{get_or-replicate, get_or-map, get_or_read_under, length-map, length-replicate}
@@ -33,23 +33,20 @@ named_push [] row v = refl
 named_push (r ∷ before) row v = push_by (vertex_in r == v) (given_in r) (number_named before v)
     (number_named (before ++ row ∷ []) v) _ (named_push before row v)
 
-keeps_known : (a : Option ℕ) → a ≡ (if is_some a then a else None)
-keeps_known None = refl
-keeps_known (Some x) = refl
+-- an element of a list in which one was set
+pub get_or-set : {T : Type 0} (xs : List T) (i v : ℕ) (x d : T) → i < length xs
+    → get_or (set xs i x) v d ≡ (if i == v then x else get_or xs v d)
+get_or-set xs i v x d inside = by (i == v) refl
+  where
+    by : (b : Bool) → (i == v) ≡ b → get_or (set xs i x) v d ≡ (if b then x else get_or xs v d)
+    by true e = rw (← eqb-true i v e) (get_or-set_same xs i x d inside)
+    by false e = get_or-set_other xs i v x d (λ k. eqb-false i v e (sym k))
 
-set_by : (b : Bool) (named : List (Option ℕ)) (before : List Row) (row : Row) (v : ℕ) → (vertex_in row == v) ≡ b
-    → vertex_in row < length named
-    → is_some (number_named before (vertex_in row)) ≡ false → get_or named v None ≡ number_named before v
-    → get_or (set named (vertex_in row) (Some (given_in row))) v None ≡ number_named (before ++ row ∷ []) v
-set_by true named before row v e below new h =
-    let same = eqb-true (vertex_in row) v e in
-    let none : is_some (number_named before v) ≡ false = rw (← same) new in
-    rw (named_push before row v, none, e, ← same)
-    (get_or-set_same named (vertex_in row) (Some (given_in row)) None below)
-set_by false named before row v e below new h =
-    let other : v ≢ vertex_in row = λ k. eqb-false (vertex_in row) v e (sym k) in
-    rw (named_push before row v, e, get_or-set_other named (vertex_in row) v (Some (given_in row)) None other, h)
-    (keeps_known (number_named before v))
+set_by : (b : Bool) (x : ℕ) (was known : Option ℕ) → was ≡ known → (b ≡ true → is_some known ≡ false)
+    → (if b then Some x else was) ≡ (if is_some known then known else (if b then Some x else None))
+set_by true x was known same new = rw (new refl) refl
+set_by false x was None same new = same
+set_by false x was (Some y) same new = same
 
 pub AreNamed-more : (vertices : ℕ) (before : List Row) (named : List (Option ℕ)) (index : ℕ) (row : Row) (was : Option ℕ)
     → AreNamed vertices before named → length before ≡ index → vertex_row_fault vertices index row ≡ None
@@ -64,7 +61,9 @@ AreNamed-more vertices before named index row was are counted fine is free =
       rw (counted, fine, new) refl,
       record {
         as_many = length-set named (vertex_in row) (Some (given_in row)) ∙ are.as_many;
-        each = λ v h. set_by (vertex_in row == v) named before row v refl (rw are.as_many below) new (are.each v h);
+        each = λ v h.
+            rw (get_or-set named (vertex_in row) v (Some (given_in row)) None (rw are.as_many below), named_push before row v)
+            (set_by (vertex_in row == v) (given_in row) _ _ (are.each v h) (λ e. rw (← eqb-true (vertex_in row) v e) new));
       },
     )
 

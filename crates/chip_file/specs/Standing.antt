@@ -36,11 +36,10 @@ abbrev pub TakesRow : Bool → Row → List Row → List Row → Type 0
 TakesRow true row old new = old ≡ row ∷ new
 TakesRow false row old new = old ≡ []
 
--- the rows under a header were visited, or the first fault of the records is told
-abbrev pub VisitsRecords : {C V T : Type 0} → (C → RowFault) → (C → List Row → V → Type 0) → Row → List Row → V → V
-    → Result T FileFault → Type 0
-VisitsRecords {C} row_fault HasVisited header records old new result =
-    (context : C) → HasVisited context [] old → Gives
-    (λ _. (records_fault header (row_fault context) records ≡ None)
-    × HasVisited context (rows_under_header records) new)
-    (λ f. records_fault header (row_fault context) records ≡ Some f) result
+-- all rows under a header were visited, from a first visitor on, or the first fault of the records is told
+abbrev pub VisitsRecords : {V : Type 0} → RowFault → (List Row → V → Type 0) → Row → List Row → V → Result V FileFault
+    → Type 0
+VisitsRecords row_fault HasVisited header records first result =
+    HasVisited [] first → Gives
+    (λ visitor. (records_fault header row_fault records ≡ None) × HasVisited (rows_under_header records) visitor)
+    (λ f. records_fault header row_fault records ≡ Some f) result

@@ -14,22 +14,15 @@ use csv::ByteRecord;
 use std::alloc::Global;
 
 /// The drops of the rows so far, on a graph of so many vertices.
-#[derive(Drop)]
-struct Drops {
-    vertices: u64,
-    drops: Vec<(u64, u64)>,
-}
-
-impl RowVisitor for Drops {
+impl RowVisitor for Vec<(u64, u64)> {
     type Context = u64;
 
     ghost row_fault = { λ vertices. by_index (vertex_row_fault vertices) };
 
-    ghost HasVisited = { λ vertices rows s. (s.vertices ≡ vertices) × (s.drops.items ≡ map drop_in rows) };
+    ghost HasVisited = { λ vertices rows drops. drops.items ≡ map drop_in rows };
 
-    fn visit(&mut self, row: &ByteRecord, index: u64) -> Result<(), FileFault> {
-        self.drops
-            .push(vertex_and_number(row, self.vertices, index)?)?;
+    fn visit(&mut self, vertices: &u64, row: &ByteRecord, index: u64) -> Result<(), FileFault> {
+        self.push(vertex_and_number(row, *vertices, index)?)?;
         Ok(())
     }
 }
@@ -46,10 +39,5 @@ pub fn drops_of_text(
     ensures { Gives (λ drops. drops_of_text vertices text.now ≡ Some drops.items)
         (λ f. drops_text_fault vertices text.now ≡ Some f) result }
 {
-    let mut visitor = Drops {
-        vertices,
-        drops: Vec::new(alloc),
-    };
-    visit_text(alloc, text, &HEADER, &mut visitor)?;
-    Ok(visitor.drops)
+    visit_text(alloc, text, &HEADER, &vertices, Vec::new(alloc))
 }

@@ -3,7 +3,7 @@ use chip_json::JsonFault;
 use std::alloc::{AllocError, AllocFailed};
 use thiserror::Error;
 
-/// Why a file was not read: the first reason in the order of its reader.
+/// Why a file was not read: the first reason in the order of its reader. Each message says which.
 #[derive(Clone, Copy, Debug, PartialEq, Eq, Error)]
 pub enum FileFault {
     /// The bytes are no UTF-8, or no JSON.
@@ -12,7 +12,6 @@ pub enum FileFault {
     /// The JSON is not an object of the four members of a graph.
     #[error("the JSON has not the shape of a graph")]
     Shape,
-    /// The version is not 1.
     #[error("the version is not 1")]
     Version,
     /// The rows are no graph. It is never the want of memory, which is a fault of its own.
@@ -21,31 +20,22 @@ pub enum FileFault {
     /// The first record is not the header, or there is none.
     #[error("the first record is not the header")]
     Header,
-    /// This row has another number of fields than the header.
     #[error("row {0} has another number of fields than the header")]
     Row(u64),
-    /// A field of this row must be a number and isn't one.
     #[error("a field of row {0} is no number")]
     Number(u64),
-    /// This row names a vertex that the graph has not.
     #[error("row {0} names no vertex")]
     Vertex(u64),
-    /// This row names a vertex that an earlier row named.
     #[error("row {0} names a vertex again")]
     Repeated(u64),
-    /// The kind of this row is none of the file's kinds.
     #[error("row {0} has no such kind")]
     Kind(u64),
-    /// There are more than 1,099,511,627,776 chips in all.
     #[error("there are more than 1099511627776 chips")]
     Total,
-    /// A read failed.
     #[error("a read failed")]
     Read,
-    /// The input has more bytes than the limits allow.
     #[error("there are more bytes than the limits allow")]
     TooLong,
-    /// Memory ran out.
     #[error("out of memory")]
     NoMemory,
 }

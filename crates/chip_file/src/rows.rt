@@ -1,6 +1,6 @@
 //! Files of rows: a header, and the rows under it.
 
-ghost use Rattle.std.specs.Prelude.{◌≡◌, ◌≤◌, ◌^◌, ◌∷◌, [], ◌++◌, List, length, map, Some, None, IfOk};
+ghost use Rattle.std.specs.Prelude.{◌≡◌, ◌∷◌, [], ◌++◌, List, length, map, Some, None, IfOk};
 ghost use Rattle.csv.specs.Records.{fields_of};
 ghost use Rattle.chip_file.specs.Answer.{Gives};
 ghost use Rattle.chip_file.specs.Rows.{Row, RowFault, records_of, has_fields};
@@ -10,11 +10,8 @@ use crate::fault::FileFault;
 use csv::{ByteRecord, Reader, ReaderBuilder};
 use std::alloc::{AllocError, Global};
 
-/// What `csv` reads of a text.
-type Records<'t> = Reader<&'t [u8]>;
-
 /// What is made of the rows of a file, which it visits in order.
-pub(crate) trait RowVisitor {
+pub(crate) trait RowVisitor: Drop {
     /// What the faults of rows depend on.
     type Context;
 
@@ -25,67 +22,68 @@ pub(crate) trait RowVisitor {
     ghost HasVisited: { Self.Context → List Row → Self → Type 0 };
 
     /// Visits the row with this index, or tells its fault.
-    fn visit(&mut self, row: &ByteRecord, index: u64) -> Result<(), FileFault>
-        ensures { (context : Self.Context) (before : List Row) → HasVisited context before self.old
-            → length before ≡ index
-            → Gives (λ _. (row_fault context before (fields_of row.now) ≡ None)
-            × HasVisited context (before ++ fields_of row.now ∷ []) self.new)
-            (λ f. row_fault context before (fields_of row.now) ≡ Some f) result };
+    fn visit(
+        &mut self,
+        context: &Self::Context,
+        row: &ByteRecord,
+        index: u64,
+    ) -> Result<(), FileFault>
+        ensures { (before : List Row) → HasVisited context.now before self.old → length before ≡ index
+            → Gives (λ _. (row_fault context.now before (fields_of row.now) ≡ None)
+            × HasVisited context.now (before ++ fields_of row.now ∷ []) self.new)
+            (λ f. row_fault context.now before (fields_of row.now) ≡ Some f) result };
 }
 
-/// Has the rows of a text under this header visited, or tells the text's first fault.
+/// The visitor of all rows of a text under this header, or the text's first fault.
 ///
 /// `csv` keeps two copies of a header, or of the first record where there is none. So it is given one that is empty.
 pub(crate) fn visit_text<V: RowVisitor>(
     alloc: Global,
     text: &[u8],
     header: &[&str],
-    visitor: &mut V,
-) -> Result<(), FileFault>
-    ensures { VisitsRecords V.row_fault V.HasVisited (map (λ name. name.now) header.now) (records_of text.now)
-        visitor.old visitor.new result }
+    context: &V::Context,
+    visitor: V,
+) -> Result<V, FileFault>
+    ensures { VisitsRecords (V.row_fault context.now) (V.HasVisited context.now)
+        (map (λ name. name.now) header.now) (records_of text.now) visitor result }
 {
-    // (Any length is below 2^64.)
-    let _length = text.len();
     let mut builder = ReaderBuilder::new();
     let mut records = builder.flexible(true).from_reader(alloc, text);
     let mut row = ByteRecord::new(alloc);
     match records.set_byte_headers(ByteRecord::new(alloc)) {
-        Ok(()) => visit_records(&mut records, &mut row, header, visitor),
+        Ok(()) => visit_records(&mut records, &mut row, header, context, visitor),
         Err(_) => Err(FileFault::NoMemory),
     }
 }
 
-/// The same of the records that are left.
+/// The same of the records that are left. More rows than a counter counts find no memory.
 fn visit_records<V: RowVisitor>(
-    records: &mut Records<'_>,
+    records: &mut Reader<&[u8]>,
     row: &mut ByteRecord,
     header: &[&str],
-    visitor: &mut V,
-) -> Result<(), FileFault>
-    requires ready { IsOpen records.old }
-    requires few { length (rows_left records.old) ≤ 2 ^ 64 }
-    ensures { VisitsRecords V.row_fault V.HasVisited (map (λ name. name.now) header.now) (rows_left records.old)
-        visitor.old visitor.new result }
+    context: &V::Context,
+    mut visitor: V,
+) -> Result<V, FileFault>
+    requires { IsOpen records.old }
+    ensures { VisitsRecords (V.row_fault context.now) (V.HasVisited context.now)
+        (map (λ name. name.now) header.now) (rows_left records.old) visitor result }
 {
-    if !read_record(records, row)? {
+    if !read_record(records, row)? || !has_fields(row, header) {
         return Err(FileFault::Header);
     }
-    if !has_fields(row, header) {
-        return Err(FileFault::Header);
+    for index in 0..u64::MAX {
+        if !read_record(records, row)? {
+            return Ok(visitor);
+        }
+        visitor.visit(context, row, index)?;
     }
-    let mut index = 0;
-    while read_record(records, row)? {
-        visitor.visit(row, index)?;
-        index += 1;
-    }
-    Ok(())
+    Err(FileFault::NoMemory)
 }
 
 /// Reads the next record into `row`, and says whether there was one.
 ///
 /// The text lies in memory, so that nothing is left to fail but an allocation.
-fn read_record(records: &mut Records<'_>, row: &mut ByteRecord) -> Result<bool, AllocError>
+fn read_record(records: &mut Reader<&[u8]>, row: &mut ByteRecord) -> Result<bool, AllocError>
     requires { IsOpen records.old }
     ensures { IfOk result (λ found. IsOpen records.new
         × TakesRow found (fields_of row.new) (rows_left records.old) (rows_left records.new)) }

@@ -93,21 +93,15 @@ impl EventKind {
 }
 
 /// The events of the rows so far, of a schedule for a graph.
-#[derive(Drop)]
-struct Schedule<'g> {
-    graph: &'g Graph,
-    events: Vec<Event>,
-}
-
-impl RowVisitor for Schedule<'_> {
+impl RowVisitor for Vec<Event> {
     type Context = Graph;
 
     ghost row_fault = { λ graph. by_index (event_fault graph) };
 
-    ghost HasVisited = { λ graph rows s. (s.graph.now ≡ graph) × (s.events.items ≡ map event_in rows) };
+    ghost HasVisited = { λ graph rows events. events.items ≡ map event_in rows };
 
-    fn visit(&mut self, row: &ByteRecord, index: u64) -> Result<(), FileFault> {
-        self.events.push(event_of(self.graph, row, index)?)?;
+    fn visit(&mut self, graph: &Graph, row: &ByteRecord, index: u64) -> Result<(), FileFault> {
+        self.push(event_of(graph, row, index)?)?;
         Ok(())
     }
 }
@@ -147,12 +141,7 @@ pub fn schedule_of_text(alloc: Global, text: &[u8], graph: &Graph) -> Result<Vec
     ensures { Gives (λ events. schedule_of_text graph.now text.now ≡ Some events.items)
         (λ f. schedule_text_fault graph.now text.now ≡ Some f) result }
 {
-    let mut visitor = Schedule {
-        graph,
-        events: Vec::new(alloc),
-    };
-    visit_text(alloc, text, &HEADER, &mut visitor)?;
-    Ok(visitor.events)
+    visit_text(alloc, text, &HEADER, graph, Vec::new(alloc))
 }
 
 /// The event of the row with this index.

@@ -21,19 +21,6 @@ pub enum LastRead {
     Failure,
 }
 
-impl LastRead {
-    /// How a read went that has room for a byte.
-    fn of(read: &io::Result<usize>) -> LastRead
-        ensures { result ≡ last_by read.now }
-    {
-        match read {
-            Ok(0) => LastRead::End,
-            Ok(_) => LastRead::Bytes,
-            Err(_) => LastRead::Failure,
-        }
-    }
-}
-
 /// A reader of one input, which counts the reads that are made of it and notes how the last one went.
 #[derive(Drop)]
 pub struct Source<'r, R> {
@@ -84,7 +71,11 @@ impl<'r, R: Read> Source<'r, R> {
     {
         self.reads += 1;
         let read = self.reader.read(buf);
-        self.last = LastRead::of(&read);
+        self.last = match &read {
+            Ok(0) => LastRead::End,
+            Ok(_) => LastRead::Bytes,
+            Err(_) => LastRead::Failure,
+        };
         read
     }
 }

@@ -47,24 +47,19 @@ impl TraceKind {
 }
 
 /// The recorded run of each vertex of a graph by the rows so far.
-#[derive(Drop)]
-struct Traces<'g> {
-    graph: &'g Graph,
-    traces: Vec<Vec<TraceRow>>,
-    ghost each: { length traces.items ≡ graph.now.vertices },
-}
-
-impl RowVisitor for Traces<'_> {
+impl RowVisitor for Vec<Vec<TraceRow>> {
     type Context = Graph;
 
     ghost row_fault = { λ graph. by_index (trace_row_fault graph) };
 
-    ghost HasVisited = { λ graph rows s. (s.graph.now ≡ graph)
-        × HaveRecorded graph rows (map (λ trace. trace.items) s.traces.items) };
+    ghost HasVisited = { λ graph rows traces. HaveRecorded graph rows (map (λ trace. trace.items) traces.items) };
 
-    fn visit(&mut self, row: &ByteRecord, index: u64) -> Result<(), FileFault> {
-        let (vertex, recorded) = row_of(self.graph, row, index)?;
-        let trace = &mut self.traces[vertex as usize];
+    fn visit(&mut self, graph: &Graph, row: &ByteRecord, index: u64) -> Result<(), FileFault> {
+        let (vertex, recorded) = row_of(graph, row, index)?;
+        if vertex >= self.len() as u64 {
+            return Err(FileFault::Vertex(index));
+        }
+        let trace = &mut self[vertex as usize];
         trace.push(recorded)?;
         Ok(())
     }
@@ -114,9 +109,7 @@ pub fn trace_of_text(
     ensures each { IfOk result (λ traces. length traces.items ≡ graph.now.vertices) }
 {
     let traces = empty_traces(alloc, graph.vertices())?;
-    let mut visitor = Traces { graph, traces };
-    visit_text(alloc, text, &HEADER, &mut visitor)?;
-    Ok(visitor.traces)
+    visit_text(alloc, text, &HEADER, graph, traces)
 }
 
 /// So many runs of which nothing is recorded.

@@ -1,6 +1,6 @@
 //! Rows that give vertices numbers.
 
-ghost use Rattle.std.specs.Prelude.{◌≡◌, Some, None, IfOk, IfErr, map, replicate, unwrap_or};
+ghost use Rattle.std.specs.Prelude.{◌≡◌, Some, None, IfOk, IfErr, map, unwrap_or};
 ghost use Rattle.csv.specs.Records.{fields_of};
 ghost use Rattle.chip_file.specs.Answer.{Gives};
 ghost use Rattle.chip_file.specs.VertexRows.{AreNamed, numbers_of_text, numbers_text_fault};
@@ -23,7 +23,7 @@ impl RowVisitor for Vec<Option<u64>> {
 
     ghost HasVisited = { λ vertices rows named. AreNamed vertices rows named.items };
 
-    fn visit(&mut self, row: &ByteRecord, index: u64) -> Result<(), FileFault> {
+    fn visit(&mut self, _vertices: &u64, row: &ByteRecord, index: u64) -> Result<(), FileFault> {
         let (vertex, number) = vertex_and_number(row, self.len() as u64, index)?;
         let named = &mut self[vertex as usize];
         if named.is_some() {
@@ -47,8 +47,8 @@ pub(crate) fn numbers_of_text(
         Gives (λ numbers. numbers_of_text names vertices text.now ≡ Some numbers.items)
         (λ f. numbers_text_fault names vertices text.now ≡ Some f) result }
 {
-    let mut named = no_numbers(alloc, vertices)?;
-    visit_text(alloc, text, header, &mut named)?;
+    let none = vec![in alloc; None; vertices as usize]?;
+    let named = visit_text(alloc, text, header, &vertices, none)?;
     Ok(numbers_or_none(alloc, &named)?)
 }
 
@@ -71,13 +71,6 @@ pub(crate) fn vertex_and_number(
         return Err(FileFault::Vertex(index));
     }
     Ok((vertex, number))
-}
-
-/// No number yet for any vertex.
-fn no_numbers(alloc: Global, vertices: u64) -> Result<Vec<Option<u64>>, AllocError>
-    ensures { IfOk result (λ named. named.items ≡ replicate vertices None) }
-{
-    vec![in alloc; None; vertices as usize]
 }
 
 /// The number of each vertex, 0 for one that no row named.

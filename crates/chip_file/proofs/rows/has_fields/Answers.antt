@@ -4,15 +4,17 @@ use Rattle.chip_file.proofs.rows.has_fields.Goals as goal
 
 pub returns-then-ne : goal.returns-then-ne
 returns-then-ne c =
-    let next = one_field _ c.args.fields.now c.loop-column.column _ _ _ _ c.loop-column-test.true c.get.ensures.value
-    c.as_bytes.ensures.value c.if-ne.ensures in
-    sym (c.loop-column.invariant.same_rest ∙ next)
+    let inv = c.loop-column.invariant in
+    sym (inv.same_rest ∙ one_field _ c.args.fields.now c.loop-column.column _ _ _ _ inv.as_many c.loop-column-test.true
+    c.get.ensures.value c.as_bytes.ensures.value c.if-ne.ensures)
 
 pub loop-column-preserved : goal.loop-column-preserved
 loop-column-preserved c =
-    let next = one_field _ c.args.fields.now c.loop-column.column _ _ _ _ c.loop-column-test.true c.get.ensures.value
-    c.as_bytes.ensures.value c.if-ne.ensures in
-    record { as_many = c.loop-column.invariant.as_many; same_rest = c.loop-column.invariant.same_rest ∙ next }
+    let inv = c.loop-column.invariant in record {
+      as_many = inv.as_many;
+      same_rest = inv.same_rest ∙ one_field _ c.args.fields.now c.loop-column.column _ _ _ _ inv.as_many
+          c.loop-column-test.true c.get.ensures.value c.as_bytes.ensures.value c.if-ne.ensures;
+    }
 
 pub returns : goal.returns
 returns c =

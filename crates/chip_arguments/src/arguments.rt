@@ -1,16 +1,16 @@
 //! The arguments of the program, and what they ask for.
 
 use crate::commands::{
-    BOOKS, CHIPS, COMPLETE, CommandRow, DEALT, DROPS, FAULT_NUMBER, FED, FEED, GRAPH, GUESS, LARGE,
-    LIMIT, Operand, OperandRow, OptionRow, OptionValue, PROGRESS, REPORT, RING, ROUNDS,
-    RULE_NUMBER, SCHEDULE, TRACE, TRACE_FILE, TRACE_ROWS, TURNS, WORKERS, WRITTEN_REPORT, commands,
+    Argument, ArgumentRow, BOOKS, CHIPS, COMPLETE, CommandRow, DEALT, DROPS, FAULT_NUMBER, FED,
+    FEED, GRAPH, GUESS, LARGE, LIMIT, PROGRESS, REPORT, RING, ROUNDS, RULE_NUMBER, SCHEDULE, TRACE,
+    TRACE_FILE, TRACE_ROWS, TURNS, WORKERS, WRITTEN_REPORT, commands,
 };
 use crate::fault::ArgumentsFault;
 use crate::help_texts as texts;
 use crate::limits::MAX_LIMIT;
 use clap::builder::ValueParser;
 use clap::error::ErrorKind;
-use clap::{Arg, ArgAction, ArgMatches, Command};
+use clap::{Arg, ArgAction, ArgMatches, Command, Error};
 use std::alloc::{AllocError, Global};
 
 // What numbers are if no option gives them.
@@ -148,53 +148,35 @@ impl Request<'_> {
 /// Reads the arguments of a process, the program's own name first.
 pub fn parse<'a>(alloc: Global, arguments: &'a [String]) -> Result<Request<'a>, ArgumentsFault> {
     match program(alloc)?.try_get_matches_from(arguments) {
-        Ok(matches) => match request_of(&matches, arguments) {
-            Some(request) => Ok(request),
-            None => Err(ArgumentsFault::Usage(String::new(alloc))),
-        },
-        Err(error) => match error.kind() {
-            ErrorKind::DisplayHelp | ErrorKind::DisplayVersion => {
-                Ok(Request::Help(error.to_string(alloc)?))
-            }
-            ErrorKind::OutOfMemory => Err(ArgumentsFault::NoMemory),
-            _ => Err(ArgumentsFault::Usage(error.to_string(alloc)?)),
-        },
+        Ok(matches) => request_of(alloc, &matches, arguments),
+        Err(error) => answer_of(alloc, &error),
     }
 }
 
-/// What the arguments ask for, if the command-line library took them.
-fn request_of<'a>(matches: &ArgMatches<'a>, arguments: &[String]) -> Option<Request<'a>> {
-    let (name, matches) = matches.subcommand()?;
-    let found = Found { matches, arguments };
-    match name {
-        "check" => Some(Request::Check(CheckArguments {
-            graph: found.file(GRAPH.name)?,
-            large: matches.get_flag(LARGE.name),
-        })),
-        "plain" => Some(Request::Plain(PlainArguments {
-            game: found.game(CHIPS)?,
-            guess: found.file(GUESS.name),
-        })),
-        "avalanches" => Some(Request::Avalanches(AvalancheArguments {
-            game: found.game(CHIPS)?,
-            drops: found.file(DROPS.name)?,
-            report: found.file(WRITTEN_REPORT.name),
-        })),
-        "simulate" => Some(Request::Simulate(found.simulation()?)),
-        "run" => Some(Request::Run(found.play_on_threads()?)),
-        "replay" => Some(Request::Replay(ReplayArguments {
-            game: found.game(CHIPS)?,
-            trace: found.file(TRACE_FILE.name)?,
-            complete: matches.get_flag(COMPLETE.name),
-        })),
-        "resume" => Some(Request::Resume(found.game(REPORT)?)),
-        "verify" => Some(Request::Verify(VerifyArguments {
-            game: found.game(CHIPS)?,
-            report: found.file(REPORT.name)?,
-        })),
-        "explain" => found.explanation(),
-        _ => None,
+/// What the arguments ask for if the command-line library did not take them.
+fn answer_of<'a>(alloc: Global, error: &Error) -> Result<Request<'a>, ArgumentsFault> {
+    match error.kind() {
+        ErrorKind::DisplayHelp | ErrorKind::DisplayVersion => {
+            Ok(Request::Help(error.to_string(alloc)?))
+        }
+        ErrorKind::OutOfMemory => Err(ArgumentsFault::NoMemory),
+        _ => Err(ArgumentsFault::Usage(error.to_string(alloc)?)),
     }
+}
+
+/// What the arguments ask for if the command-line library took them.
+fn request_of<'a>(
+    alloc: Global,
+    matches: &ArgMatches<'a>,
+    arguments: &[String],
+) -> Result<Request<'a>, ArgumentsFault> {
+    if let Some((name, matches)) = matches.subcommand() {
+        let found = Found { matches, arguments };
+        if let Some(request) = found.request(name) {
+            return Ok(request);
+        }
+    }
+    Err(ArgumentsFault::Usage(String::new(alloc)))
 }
 
 /// What the command-line library found in the arguments of a command.
@@ -205,81 +187,142 @@ struct Found<'m, 'a> {
 }
 
 impl<'m, 'a> Found<'m, 'a> {
-    /// The simulation that is asked for.
-    fn simulation(&self) -> Option<SimulationArguments<'a>> {
-        Some(SimulationArguments {
-            game: self.game(CHIPS)?,
-            schedule: self.file(SCHEDULE.name)?,
+    /// What is asked of the command with this name.
+    fn request(&self, name: &str) -> Option<Request<'a>> {
+        match name {
+            "check" => self.check(),
+            "plain" => self.plain(),
+            "avalanches" => self.avalanches(),
+            "simulate" => self.simulation(),
+            "run" => self.play_on_threads(),
+            "replay" => self.replay(),
+            "resume" => self.resume(),
+            "verify" => self.verify(),
+            _ => self.explanation(),
+        }
+    }
+
+    fn check(&self) -> Option<Request<'a>> {
+        Some(Request::Check(CheckArguments {
+            graph: self.file(GRAPH),
+            large: self.matches.get_flag(LARGE.name),
+        }))
+    }
+
+    fn plain(&self) -> Option<Request<'a>> {
+        Some(Request::Plain(PlainArguments {
+            game: self.game(CHIPS),
+            guess: self.file_if_named(GUESS),
+        }))
+    }
+
+    fn avalanches(&self) -> Option<Request<'a>> {
+        Some(Request::Avalanches(AvalancheArguments {
+            game: self.game(CHIPS),
+            drops: self.file(DROPS),
+            report: self.file_if_named(WRITTEN_REPORT),
+        }))
+    }
+
+    fn simulation(&self) -> Option<Request<'a>> {
+        Some(Request::Simulate(SimulationArguments {
+            game: self.game(CHIPS),
+            schedule: self.file(SCHEDULE),
             ring: self.number_or(RING, USUAL_RING),
             rounds: self.number_or(ROUNDS, 0),
             books: self.matches.get_flag(BOOKS.name),
             fed: self.matches.get_flag(FED.name),
-        })
+        }))
     }
 
-    /// The play on threads that is asked for.
-    fn play_on_threads(&self) -> Option<RunArguments<'a>> {
-        let game = self.game(CHIPS)?;
-        let trace = self.file(TRACE.name);
+    fn play_on_threads(&self) -> Option<Request<'a>> {
+        let trace = self.file_if_named(TRACE);
         let usual_rows = if trace.is_some() { USUAL_TRACE_ROWS } else { 0 };
-        Some(RunArguments {
-            game,
+        Some(Request::Run(RunArguments {
+            game: self.game(CHIPS),
             ring: self.number_or(RING, USUAL_RING),
             workers: self.number_or(WORKERS, USUAL_WORKERS),
             dealt: self.matches.get_flag(DEALT.name),
             turns: self.number_or(TURNS, USUAL_TURNS),
-            feed: self.file(FEED.name),
+            feed: self.file_if_named(FEED),
             trace,
             trace_rows: self.number_or(TRACE_ROWS, usual_rows),
-        })
+        }))
     }
 
-    /// The explanation that is asked for: of a fault, or after the word `rule` of a rule.
+    fn replay(&self) -> Option<Request<'a>> {
+        Some(Request::Replay(ReplayArguments {
+            game: self.game(CHIPS),
+            trace: self.file(TRACE_FILE),
+            complete: self.matches.get_flag(COMPLETE.name),
+        }))
+    }
+
+    fn resume(&self) -> Option<Request<'a>> {
+        Some(Request::Resume(self.game(REPORT)))
+    }
+
+    fn verify(&self) -> Option<Request<'a>> {
+        Some(Request::Verify(VerifyArguments {
+            game: self.game(CHIPS),
+            report: self.file(REPORT),
+        }))
+    }
+
+    /// Of a fault, or after the word `rule` of a rule.
     fn explanation(&self) -> Option<Request<'a>> {
         let rule = self.matches.get_one::<u64>(RULE_NUMBER.name);
-        let Some(word) = self.matches.get_str(FAULT_NUMBER.name) else {
-            return Some(Request::Explain(None));
-        };
-        if word == "rule" {
-            return Some(Request::ExplainRule(rule));
-        }
-        let number = self.matches.get_one::<u64>(FAULT_NUMBER.name)?;
-        match rule {
-            None => Some(Request::Explain(Some(number))),
-            Some(_) => None,
+        match self.matches.get_str(FAULT_NUMBER.name) {
+            None => Some(Request::Explain(None)),
+            Some("rule") => Some(Request::ExplainRule(rule)),
+            Some(_) if rule.is_some() => None,
+            Some(_) => {
+                let number = self.matches.get_one::<u64>(FAULT_NUMBER.name)?;
+                Some(Request::Explain(Some(number)))
+            }
         }
     }
 
     /// The game that is asked for, which starts with the file of this operand.
-    fn game(&self, start: &OperandRow) -> Option<GameArguments<'a>> {
-        Some(GameArguments {
-            graph: self.file(GRAPH.name)?,
-            start: self.file(start.name)?,
+    fn game(&self, start: &ArgumentRow) -> GameArguments<'a> {
+        GameArguments {
+            graph: self.file(GRAPH),
+            start: self.file(start),
             limit: self.number_or(LIMIT, MAX_LIMIT),
             large: self.matches.get_flag(LARGE.name),
             progress: self.matches.get_flag(PROGRESS.name),
-        })
+        }
     }
 
-    /// The file of an operand or an option, if there is one.
-    fn file(&self, name: &str) -> Option<FileArgument<'a>> {
-        Some(FileArgument {
-            path: self.matches.get_str(name)?,
-            number: number_at(self.arguments, self.matches.index_of(name)?)?,
-        })
+    /// The file of an argument that is there, as each operand with a file is.
+    fn file(&self, row: &ArgumentRow) -> FileArgument<'a> {
+        let place = self.matches.index_of(row.name).unwrap_or(0);
+        FileArgument {
+            path: self.matches.get_str(row.name).unwrap_or(""),
+            number: number_at(self.arguments, place),
+        }
+    }
+
+    /// The file of an option, if it is there.
+    fn file_if_named(&self, option: &ArgumentRow) -> Option<FileArgument<'a>> {
+        if self.matches.contains_id(option.name) {
+            Some(self.file(option))
+        } else {
+            None
+        }
     }
 
     /// The number of an option, or else the usual one.
-    fn number_or(&self, option: &OptionRow, usual: u64) -> u64 {
+    fn number_or(&self, option: &ArgumentRow, usual: u64) -> u64 {
         self.matches.get_one::<u64>(option.name).unwrap_or(usual)
     }
 }
 
-/// The number of the argument that has this place.
+/// The number of the argument that has this place, or 0.
 ///
 /// The command-line library counts places from 1. An argument takes one, but an option with its value after `=` takes
 /// two, and the first `--` takes none: only operands follow it.
-fn number_at(arguments: &[String], place: usize) -> Option<u64> {
+fn number_at(arguments: &[String], place: usize) -> u64 {
     let mut left = place;
     let mut only_operands = false;
     for (index, argument) in arguments.iter().enumerate().skip(2) {
@@ -293,11 +336,11 @@ fn number_at(arguments: &[String], place: usize) -> Option<u64> {
             && argument.as_bytes().contains(&b'=');
         let taken = if has_value { 2 } else { 1 };
         if left <= taken {
-            return Some(index as u64 - 1);
+            return index as u64 - 1;
         }
         left -= taken;
     }
-    None
+    0
 }
 
 /// The program as the command-line library knows it.
@@ -326,7 +369,7 @@ fn push_command<'a>(
     alloc: Global,
     row: &CommandRow,
 ) -> Result<(), AllocError> {
-    let arguments = arguments_of(alloc, row)?;
+    let arguments = arguments_of(alloc, row.arguments)?;
     let command = Command::new(alloc, row.name)
         .about(row.about)
         .after_help(row.after_help)
@@ -335,38 +378,25 @@ fn push_command<'a>(
 }
 
 /// The operands and the options of a command as the library knows them.
-fn arguments_of<'a>(alloc: Global, row: &CommandRow) -> Result<Vec<Arg<'a>>, AllocError> {
+fn arguments_of<'a>(alloc: Global, rows: &[&ArgumentRow]) -> Result<Vec<Arg<'a>>, AllocError> {
     let mut arguments = Vec::new(alloc);
-    for operand in row.operands {
-        arguments.push(argument_of_operand(alloc, operand))?;
-    }
-    for option in row.options {
-        arguments.push(argument_of_option(alloc, option))?;
+    for row in rows {
+        arguments.push(argument_of(alloc, row))?;
     }
     Ok(arguments)
 }
 
-/// An operand as the library knows it.
-fn argument_of_operand<'a>(alloc: Global, row: &OperandRow) -> Arg<'a> {
+/// An operand or an option as the library knows it.
+fn argument_of<'a>(alloc: Global, row: &ArgumentRow) -> Arg<'a> {
     let argument = Arg::new(alloc, row.name).help(row.help);
     match row.is {
-        Operand::File => argument.required(true),
-        Operand::Word => argument,
-        Operand::Number => argument.value_parser(ValueParser::Unsigned(0, u64::MAX)),
-    }
-}
-
-/// An option as the library knows it.
-fn argument_of_option<'a>(alloc: Global, row: &OptionRow) -> Arg<'a> {
-    let argument = Arg::new(alloc, row.name).long(row.name).help(row.help);
-    match row.takes {
-        OptionValue::Nothing => argument.action(ArgAction::SetTrue),
-        OptionValue::File => argument.value_name("FILE"),
-        OptionValue::Number {
-            letter,
-            least,
-            most,
-        } => argument
+        Argument::File => argument.required(true),
+        Argument::Word => argument,
+        Argument::Number => argument.value_parser(ValueParser::Unsigned(0, u64::MAX)),
+        Argument::Flag => argument.long(row.name).action(ArgAction::SetTrue),
+        Argument::FileOption => argument.long(row.name).value_name("FILE"),
+        Argument::NumberOption(letter, least, most) => argument
+            .long(row.name)
             .value_name(letter)
             .value_parser(ValueParser::Unsigned(least, most)),
     }

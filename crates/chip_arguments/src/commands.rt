@@ -9,214 +9,176 @@ pub struct CommandRow {
     pub about: &'static str,
     /// The end of its help: what the lists do not say, the exit statuses and an example.
     pub after_help: &'static str,
-    pub operands: &'static [&'static OperandRow],
-    pub options: &'static [&'static OptionRow],
+    /// Its operands and its options.
+    pub arguments: &'static [&'static ArgumentRow],
 }
 
-/// An operand of a command.
-pub struct OperandRow {
+/// An operand or an option of a command.
+pub struct ArgumentRow {
+    /// Of an option, without the two hyphens before it.
     pub name: &'static str,
     pub help: &'static str,
-    pub is: Operand,
+    pub is: Argument,
 }
 
-/// What an operand is.
-pub enum Operand {
-    /// A file, which must be named.
+/// What an argument is.
+pub enum Argument {
+    /// An operand, a file that must be named.
     File,
-    /// A word, which may be missing.
+    /// An operand, a word that may be missing.
     Word,
-    /// A number, which may be missing.
+    /// An operand, a number that may be missing.
     Number,
+    /// An option that takes nothing.
+    Flag,
+    /// An option that takes the name of a file.
+    FileOption,
+    /// An option that takes a number: the letter that the help calls it by, the least and the most.
+    NumberOption(&'static str, u64, u64),
 }
 
-/// An option of a command.
-pub struct OptionRow {
-    /// Its name, without the two hyphens before it.
-    pub name: &'static str,
-    pub help: &'static str,
-    pub takes: OptionValue,
-}
-
-/// What an option takes.
-pub enum OptionValue {
-    Nothing,
-    /// The name of a file.
-    File,
-    /// A number from the least to the most; the help calls it by this letter.
-    Number {
-        letter: &'static str,
-        least: u64,
-        most: u64,
-    },
-}
-
-pub const GRAPH: &OperandRow = &OperandRow {
+pub const GRAPH: &ArgumentRow = &ArgumentRow {
     name: "GRAPH",
     help: "The graph, as JSON",
-    is: Operand::File,
+    is: Argument::File,
 };
 
-pub const CHIPS: &OperandRow = &OperandRow {
+pub const CHIPS: &ArgumentRow = &ArgumentRow {
     name: "CHIPS",
     help: "The chips at the start (the configuration): rows vertex,chips",
-    is: Operand::File,
+    is: Argument::File,
 };
 
-pub const DROPS: &OperandRow = &OperandRow {
+pub const DROPS: &ArgumentRow = &ArgumentRow {
     name: "DROPS",
     help: "The chips to drop, in this order: rows vertex,chips",
-    is: Operand::File,
+    is: Argument::File,
 };
 
-pub const SCHEDULE: &OperandRow = &OperandRow {
+pub const SCHEDULE: &ArgumentRow = &ArgumentRow {
     name: "SCHEDULE",
     help: "The events, in this order: rows event,at,count",
-    is: Operand::File,
+    is: Argument::File,
 };
 
-pub const TRACE_FILE: &OperandRow = &OperandRow {
+pub const TRACE_FILE: &ArgumentRow = &ArgumentRow {
     name: "TRACE",
     help: "What each vertex took and fired: rows vertex,kind,edge,count",
-    is: Operand::File,
+    is: Argument::File,
 };
 
-pub const REPORT: &OperandRow = &OperandRow {
+pub const REPORT: &ArgumentRow = &ArgumentRow {
     name: "REPORT",
     help: "A report that chipfire wrote, of version 1 or 2",
-    is: Operand::File,
+    is: Argument::File,
 };
 
-pub const FAULT_NUMBER: &OperandRow = &OperandRow {
+pub const FAULT_NUMBER: &ArgumentRow = &ArgumentRow {
     name: "NUMBER",
     help: "The number of a fault, as in `fault 21 Shape`, or the word `rule`",
-    is: Operand::Word,
+    is: Argument::Word,
 };
 
-pub const RULE_NUMBER: &OperandRow = &OperandRow {
+pub const RULE_NUMBER: &ArgumentRow = &ArgumentRow {
     name: "RULE",
     help: "After the word `rule`: the number of a rule, as in `not-now 11`",
-    is: Operand::Number,
+    is: Argument::Number,
 };
 
-pub const LIMIT: &OptionRow = &OptionRow {
+pub const LIMIT: &ArgumentRow = &ArgumentRow {
     name: "limit",
     help: "How often each vertex may fire, 0 to 2^40 [default: 2^40]",
-    takes: OptionValue::Number {
-        letter: "F",
-        least: 0,
-        most: MAX_LIMIT,
-    },
+    is: Argument::NumberOption("F", 0, MAX_LIMIT),
 };
 
-pub const LARGE: &OptionRow = &OptionRow {
+pub const LARGE: &ArgumentRow = &ArgumentRow {
     name: "large",
     help: "Allows 2^20 vertices, 2^23 edges, 2^28 bytes a file [default: 4096, 65536, 16777216]",
-    takes: OptionValue::Nothing,
+    is: Argument::Flag,
 };
 
-pub const GUESS: &OptionRow = &OptionRow {
+pub const GUESS: &ArgumentRow = &ArgumentRow {
     name: "guess",
     help: "Begins with these counts of firings: rows vertex,fired, or a report",
-    takes: OptionValue::File,
+    is: Argument::FileOption,
 };
 
-pub const WRITTEN_REPORT: &OptionRow = &OptionRow {
+pub const WRITTEN_REPORT: &ArgumentRow = &ArgumentRow {
     name: "report",
     help: "Writes the report of the start and all drops together into this file",
-    takes: OptionValue::File,
+    is: Argument::FileOption,
 };
 
-pub const COMPLETE: &OptionRow = &OptionRow {
+pub const COMPLETE: &ArgumentRow = &ArgumentRow {
     name: "complete",
     help: "Lists what is left after all rows",
-    takes: OptionValue::Nothing,
+    is: Argument::Flag,
 };
 
-pub const RING: &OptionRow = &OptionRow {
+pub const RING: &ArgumentRow = &ArgumentRow {
     name: "ring",
     help: "How many messages an edge holds in its ring, 1 to 64 [default: 1]",
-    takes: OptionValue::Number {
-        letter: "R",
-        least: 1,
-        most: MAX_RING,
-    },
+    is: Argument::NumberOption("R", 1, MAX_RING),
 };
 
-pub const ROUNDS: &OptionRow = &OptionRow {
+pub const ROUNDS: &ArgumentRow = &ArgumentRow {
     name: "rounds",
     help: "How many rounds of turns follow at most, 0 to 2^40 [default: 0]",
-    takes: OptionValue::Number {
-        letter: "N",
-        least: 0,
-        most: MAX_ROUNDS,
-    },
+    is: Argument::NumberOption("N", 0, MAX_ROUNDS),
 };
 
-pub const BOOKS: &OptionRow = &OptionRow {
+pub const BOOKS: &ArgumentRow = &ArgumentRow {
     name: "books",
     help: "Writes the books of the detector after each reply: deficits, parents, what is owed",
-    takes: OptionValue::Nothing,
+    is: Argument::Flag,
 };
 
-pub const FED: &OptionRow = &OptionRow {
+pub const FED: &ArgumentRow = &ArgumentRow {
     name: "fed",
     help: "Lets the schedule feed chips, until its event `end`",
-    takes: OptionValue::Nothing,
+    is: Argument::Flag,
 };
 
-pub const WORKERS: &OptionRow = &OptionRow {
+pub const WORKERS: &ArgumentRow = &ArgumentRow {
     name: "workers",
     help: "How many threads share the vertices, 1 to 64 [default: 2]",
-    takes: OptionValue::Number {
-        letter: "W",
-        least: 1,
-        most: MAX_WORKERS,
-    },
+    is: Argument::NumberOption("W", 1, MAX_WORKERS),
 };
 
-pub const DEALT: &OptionRow = &OptionRow {
+pub const DEALT: &ArgumentRow = &ArgumentRow {
     name: "dealt",
     help: "Gives each thread vertices of its own [default: one queue for all threads]",
-    takes: OptionValue::Nothing,
+    is: Argument::Flag,
 };
 
-pub const TURNS: &OptionRow = &OptionRow {
+pub const TURNS: &ArgumentRow = &ArgumentRow {
     name: "turns",
     help: "How many turns each thread makes at most, 1 to 2^40 [default: 2^30]",
-    takes: OptionValue::Number {
-        letter: "N",
-        least: 1,
-        most: MAX_TURNS,
-    },
+    is: Argument::NumberOption("N", 1, MAX_TURNS),
 };
 
-pub const FEED: &OptionRow = &OptionRow {
+pub const FEED: &ArgumentRow = &ArgumentRow {
     name: "feed",
     help: "Adds the chips of this file while the vertices fire: rows vertex,chips",
-    takes: OptionValue::File,
+    is: Argument::FileOption,
 };
 
-pub const TRACE: &OptionRow = &OptionRow {
+pub const TRACE: &ArgumentRow = &ArgumentRow {
     name: "trace",
     help: "Writes what each vertex took and fired into this file, for `replay`",
-    takes: OptionValue::File,
+    is: Argument::FileOption,
 };
 
-pub const TRACE_ROWS: &OptionRow = &OptionRow {
+pub const TRACE_ROWS: &ArgumentRow = &ArgumentRow {
     name: "trace-rows",
     help: "How many trace rows each vertex has room for, 0 to 2^20 [default: 1024 with --trace]",
-    takes: OptionValue::Number {
-        letter: "K",
-        least: 0,
-        most: MAX_TRACE_ROWS,
-    },
+    is: Argument::NumberOption("K", 0, MAX_TRACE_ROWS),
 };
 
-pub const PROGRESS: &OptionRow = &OptionRow {
+pub const PROGRESS: &ArgumentRow = &ArgumentRow {
     name: "progress",
     help: "Writes to standard error how far the play is, at most once a second",
-    takes: OptionValue::Nothing,
+    is: Argument::Flag,
 };
 
 static CHECK: CommandRow = CommandRow {
@@ -226,8 +188,7 @@ static CHECK: CommandRow = CommandRow {
 Exit status: 0 it is a graph; 1 a fault, which `chipfire explain N` explains.
 
 Example: chipfire check graph.json",
-    operands: &[GRAPH],
-    options: &[LARGE],
+    arguments: &[GRAPH, LARGE],
 };
 
 static PLAIN: CommandRow = CommandRow {
@@ -245,8 +206,7 @@ Exit status: 0 no vertex can fire; 2 the limit stopped the vertices that the rep
 under \"over\"; 1 a fault, which `chipfire explain N` explains.
 
 Example: chipfire plain graph.json chips.csv --limit 1000 >report.json",
-    operands: &[GRAPH, CHIPS],
-    options: &[LIMIT, LARGE, GUESS, PROGRESS],
+    arguments: &[GRAPH, CHIPS, LIMIT, LARGE, GUESS, PROGRESS],
 };
 
 static AVALANCHES: CommandRow = CommandRow {
@@ -265,8 +225,7 @@ Exit status: 0 all drops were played; 2 some vertex was stopped after 2^40 firin
 fault, which `chipfire explain N` explains.
 
 Example: chipfire avalanches graph.json chips.csv drops.csv >avalanches.csv",
-    operands: &[GRAPH, CHIPS, DROPS],
-    options: &[LARGE, WRITTEN_REPORT, PROGRESS],
+    arguments: &[GRAPH, CHIPS, DROPS, LARGE, WRITTEN_REPORT, PROGRESS],
 };
 
 static RUN: CommandRow = CommandRow {
@@ -286,9 +245,8 @@ Exit status: 0 no vertex can fire; 2 the limit stopped the vertices that the rep
 under \"over\"; 3 the turns were too few; 1 another fault. `chipfire explain N` explains faults.
 
 Example: chipfire run graph.json chips.csv --dealt --workers 4 >report.json",
-    operands: &[GRAPH, CHIPS],
-    options: &[
-        LIMIT, LARGE, RING, WORKERS, DEALT, TURNS, FEED, TRACE, TRACE_ROWS, PROGRESS,
+    arguments: &[
+        GRAPH, CHIPS, LIMIT, LARGE, RING, WORKERS, DEALT, TURNS, FEED, TRACE, TRACE_ROWS, PROGRESS,
     ],
 };
 
@@ -308,8 +266,9 @@ Exit status: 0 the root closed; 2 it closed, and the report lists halted vertice
 open; 1 a fault, which `chipfire explain N` explains.
 
 Example: chipfire simulate graph.json chips.csv schedule.csv --rounds 10",
-    operands: &[GRAPH, CHIPS, SCHEDULE],
-    options: &[LIMIT, LARGE, RING, ROUNDS, BOOKS, FED],
+    arguments: &[
+        GRAPH, CHIPS, SCHEDULE, LIMIT, LARGE, RING, ROUNDS, BOOKS, FED,
+    ],
 };
 
 static REPLAY: CommandRow = CommandRow {
@@ -323,8 +282,7 @@ Exit status: 0 the rows fit together; 2 they do, and --complete lists something;
 which `chipfire explain N` explains: 70 if they do not fit.
 
 Example: chipfire replay graph.json chips.csv trace.csv",
-    operands: &[GRAPH, CHIPS, TRACE_FILE],
-    options: &[LIMIT, LARGE, COMPLETE],
+    arguments: &[GRAPH, CHIPS, TRACE_FILE, LIMIT, LARGE, COMPLETE],
 };
 
 static RESUME: CommandRow = CommandRow {
@@ -338,8 +296,7 @@ Exit status: 0 no vertex can fire; 2 the limit stopped the vertices that the rep
 under \"over\"; 1 a fault, which `chipfire explain N` explains.
 
 Example: chipfire resume graph.json report.json --limit 1000 >next.json",
-    operands: &[GRAPH, REPORT],
-    options: &[LIMIT, LARGE, PROGRESS],
+    arguments: &[GRAPH, REPORT, LIMIT, LARGE, PROGRESS],
 };
 
 static VERIFY: CommandRow = CommandRow {
@@ -355,8 +312,7 @@ Exit status: 0 the report is true; 1 a fault, which `chipfire explain N` explain
 differs.
 
 Example: chipfire verify graph.json chips.csv report.json",
-    operands: &[GRAPH, CHIPS, REPORT],
-    options: &[LIMIT, LARGE, PROGRESS],
+    arguments: &[GRAPH, CHIPS, REPORT, LIMIT, LARGE, PROGRESS],
 };
 
 static EXPLAIN: CommandRow = CommandRow {
@@ -368,8 +324,7 @@ If `simulate` answers `not-now N`, `chipfire explain rule N` explains it.
 Exit status: 0 done; 1 a fault: 91 if no fault or rule has this number.
 
 Example: chipfire explain 21",
-    operands: &[FAULT_NUMBER, RULE_NUMBER],
-    options: &[],
+    arguments: &[FAULT_NUMBER, RULE_NUMBER],
 };
 
 /// The commands, in the order in which the help lists them.

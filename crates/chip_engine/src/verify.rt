@@ -57,10 +57,12 @@ pub fn verify_engine_with<G: Read, C: Read, R: Read, P: Watch, W: Write>(
     ensures { VerifyAnswers options.limits (G.remaining graph.old) (C.remaining chips.old) (R.remaining report.old)
         options.limit (W.contents output.old) (W.contents output.new) result }
 {
-    let game = read_game(alloc, options.limits, graph, chips, options.limit)?;
-    let told = read_sitting(alloc, options.limits, report)?;
-    let answer = verify(alloc, &game, &told, watch)?;
-    deliver(output, answer)
+    let answer = {
+        let game = read_game(alloc, options.limits, graph, chips, options.limit)?;
+        let told = read_sitting(alloc, options.limits, report)?;
+        verify(alloc, &game, &told, watch)
+    };
+    deliver(output, answer?)
 }
 
 /// That a sitting tells the outcome of the game, or why it does not.

@@ -2,7 +2,6 @@
 use Rattle.std.specs.Prelude.{◌≡◌, ◌⊎◌, ℕ, ◌+◌, ◌<◌, ◌≤◌, false, List, length, take, sum, slice_index, Option, None, Some}
 use Rattle.std.specs.Prelude.{Result, Ok, Err}
 use Rattle.std.specs.Io.KnownBytes.{Appends, Keeps}
-use Rattle.std.specs.Option.{ForSome}
 use Rattle.std.specs.Result.{IsErrAnd}
 use Rattle.chip_graph.specs.Limits.{SizeLimits, max_total}
 use Rattle.chip_graph.specs.ChipGame.{ChipGame}
@@ -18,31 +17,22 @@ use Rattle.chip_drops.specs.Rows.{rows_text}
 use Rattle.chip_drops.specs.declared.rows.RowsFault.{RowsFault}
 use Rattle.chip_drops.specs.declared.rows.RowsFault.TheVariants as rows_fault
 use Rattle.chip_report.specs.ReportText.{is_closed, report_text}
-use Rattle.chip_report.specs.Written.{WritesAll}
-use Rattle.chip_report.specs.declared.write.WriteFault.{WriteFault}
 use Rattle.chip_command.specs.CommandAnswers.{Spec, bind}
-use Rattle.chip_command.specs.Inputs.{Reads, RefusesText, GaveGame, reading_game}
-use Rattle.chip_command.specs.Reports.{plain_status}
+use Rattle.chip_command.specs.Inputs.{GaveGame, reading, reading_game}
+use Rattle.chip_command.specs.Reports.{plain_status, Delivers}
 use Rattle.chip_command.specs.declared.ended.Ended.{Ended}
 use Rattle.chip_command.specs.declared.fault.Fault.{Fault}
 use Rattle.chip_command.specs.declared.fault.Fault.TheVariants.{Game, Write, NoMemory}
 
--- a reader gave these drops for the game
-abbrev pub NamesDrops : SizeLimits → Option (List ℕ) → ChipGame → List (ℕ × ℕ) → Type 0
-NamesDrops limits drops g ds =
-    ForSome drops (λ text. Reads limits text (drops_of_text g.graph.vertices text ≡ Some ds))
-    × AreOfVertices g ds × (sum g.start + all_brought ds ≤ max_total)
-
--- it gave none: they have a fault, or there are too many chips with them
-abbrev pub NamesNone : SizeLimits → Option (List ℕ) → ChipGame → Fault → Type 0
-NamesNone limits drops g fault =
-    ForSome drops (λ text. RefusesText limits text (λ f. drops_text_fault g.graph.vertices text ≡ Some f) fault)
-    ⊎ ((ds : List (ℕ × ℕ)) × ForSome drops (λ text. Reads limits text (drops_of_text g.graph.vertices text ≡ Some ds))
-    × (max_total < sum g.start + all_brought ds) × (fault ≡ Game Total))
-
--- what reading the drops for a game may give
+-- what reading the drops for a game may give: they have a fault, or there are too many chips with them
 abbrev pub reading_drops : SizeLimits → Option (List ℕ) → ChipGame → Spec (List (ℕ × ℕ))
-reading_drops limits drops g = record { gives = NamesDrops limits drops g; refuses = NamesNone limits drops g }
+reading_drops limits drops g =
+    let named = reading limits (λ text ds. drops_of_text g.graph.vertices text ≡ Some ds)
+    (λ text f. drops_text_fault g.graph.vertices text ≡ Some f) drops in record {
+      gives = λ ds. named.gives ds × AreOfVertices g ds × (sum g.start + all_brought ds ≤ max_total);
+      refuses = λ fault. named.refuses fault
+          ⊎ ((ds : List (ℕ × ℕ)) × named.gives ds × (max_total < sum g.start + all_brought ds) × (fault ≡ Game Total));
+    }
 
 -- a fault of the rows, among those of commands
 abbrev pub fault_of_rows : RowsFault → Fault
@@ -81,25 +71,23 @@ PlaysDrops g ds old new (Err fault) =
     ⊎ ((n : ℕ) × (text : List ℕ) × TellsDrops g ds n text
     × (f : RowsFault) × (fault ≡ fault_of_rows f) × FailsOut old new text f)
 
--- what writing the report answers, where one is asked for: it went out; or there was no memory, or its output failed
-abbrev pub WritesReport : Option (Option (List ℕ)) → Option (Option (List ℕ)) → List ℕ → Result (Unit {0}) Fault → Type 0
-WritesReport None None text (Ok done) = Unit {0}
-WritesReport (Some old) (Some new) text (Ok done) = Appends old new text
-WritesReport (Some old) (Some new) text (Err fault) =
-    ((fault ≡ NoMemory) × Keeps old new) ⊎ ((w : WriteFault) × (fault ≡ Write w) × WritesAll old new text (Err w))
-WritesReport _ _ text result = ⊥
+-- how a command ends that tells an outcome
+abbrev pub ended_of : Outcome → Ended
+ended_of outcome = record { status = plain_status outcome; cut = false }
 
--- what dropping chips on a game answers: the rows went out and then the report; or the rows failed; or they went out,
--- and the report failed
+-- what writing the report answers, where one is asked for: it goes out, or there is no memory
+abbrev pub WritesReport : Option (Option (List ℕ)) → Option (Option (List ℕ)) → Outcome → Result Ended Fault → Type 0
+WritesReport None None outcome result = result ≡ Ok (ended_of outcome)
+WritesReport (Some old) (Some new) outcome result =
+    Delivers old new (report_text outcome) (ended_of outcome) result ⊎ ((result ≡ Err NoMemory) × Keeps old new)
+WritesReport _ _ outcome result = ⊥
+
+-- what dropping chips on a game answers: the rows went out, and then the report is written; or the rows failed
 abbrev pub DropsAnswer : ChipGame → List (ℕ × ℕ) → Outputs → Outputs → Result Ended Fault → Type 0
-DropsAnswer g ds old new (Ok ended) =
-    (outcome : Outcome) × PlaysDrops g ds old.rows new.rows (Ok outcome)
-    × WritesReport old.report new.report (report_text outcome) (Ok tt)
-    × (ended.status ≡ plain_status outcome) × (ended.cut ≡ false)
-DropsAnswer g ds old new (Err fault) =
-    (PlaysDrops g ds old.rows new.rows (Err fault) × (new.report ≡ old.report))
-    ⊎ ((outcome : Outcome) × PlaysDrops g ds old.rows new.rows (Ok outcome)
-    × WritesReport old.report new.report (report_text outcome) (Err fault))
+DropsAnswer g ds old new result =
+    ((outcome : Outcome) × PlaysDrops g ds old.rows new.rows (Ok outcome)
+    × WritesReport old.report new.report outcome result)
+    ⊎ IsErrAnd result (λ fault. PlaysDrops g ds old.rows new.rows (Err fault) × (new.report ≡ old.report))
 
 -- what `avalanches` answers by these limits: the inputs make no game, or the drops have a fault, or there are too many
 -- chips with them, and nothing went out; or else what dropping them answers
@@ -108,5 +96,5 @@ abbrev pub AvalanchesAnswers : SizeLimits → (graph chips drops : Option (List 
 AvalanchesAnswers limits graph chips drops limit old new result =
     IsErrAnd result (λ fault. (bind (reading_game limits graph chips limit) (reading_drops limits drops)).refuses fault
     × Keeps old.rows new.rows × (new.report ≡ old.report))
-    ⊎ ((g : ChipGame) × GaveGame limits graph chips limit g × (ds : List (ℕ × ℕ)) × NamesDrops limits drops g ds
-    × DropsAnswer g ds old new result)
+    ⊎ ((g : ChipGame) × GaveGame limits graph chips limit g × (ds : List (ℕ × ℕ))
+    × (reading_drops limits drops g).gives ds × DropsAnswer g ds old new result)

@@ -4,12 +4,12 @@ ghost use Rattle.std.specs.Prelude.{◌≡◌, ◌↔◌, ◌+◌, ◌≤◌, tr
 ghost use Rattle.chip_graph.specs.Limits.{standard, max_total};
 ghost use Rattle.chip_graph.specs.ChipGame.{IsGame};
 ghost use Rattle.chip_graph.specs.More.{AreOfVertices, all_brought};
-ghost use Rattle.chip_report.specs.ReportText.{report_text};
-ghost use Rattle.chip_engine.specs.AvalanchesCommand.{AvalanchesAnswers, NamesDrops, NamesNone, PlaysDrops, WritesReport};
-ghost use Rattle.chip_engine.specs.AvalanchesCommand.{fault_of_rows};
+ghost use Rattle.chip_sequence.specs.Play.{IsPlayed};
+ghost use Rattle.chip_engine.specs.AvalanchesCommand.{AvalanchesAnswers, DropsAnswer, PlaysDrops, WritesReport};
+ghost use Rattle.chip_engine.specs.AvalanchesCommand.{fault_of_rows, reading_drops};
 
 use crate::options::PlayOptions;
-use chip_command::{Ended, Fault, read_game, status_of};
+use chip_command::{Ended, Fault, conclude, read_game, status_of};
 use chip_drops::{Pile, RowsFault, write_rows};
 use chip_file::{drops_of_text, read_whole_within};
 use chip_fire::{Unwatched, Watch, plain_watched};
@@ -73,9 +73,7 @@ pub fn avalanches_engine_with<G: Read, C: Read, D: Read, P: Watch, W: Write, T: 
     let game = read_game(alloc, options.limits, graph, chips, options.limit)?;
     let drops = read_drops(alloc, options.limits, drops, &game)?;
     watch.plays(&game);
-    let outcome = play_drops(alloc, game, &drops, watch, output)?;
-    write_report(alloc, &outcome, report)?;
-    Ok(Ended::of(status_of(&outcome)))
+    drop_all(alloc, game, &drops, watch, output, report)
 }
 
 /// The drops of a file for a game, each a vertex and how many chips are added there.
@@ -85,8 +83,8 @@ fn read_drops<D: Read>(
     drops: &mut D,
     game: &Game,
 ) -> Result<Vec<(u64, u64)>, Fault>
-    ensures { MatchResult result (λ ds. NamesDrops limits (D.remaining drops.old) game.now ds.items)
-        (NamesNone limits (D.remaining drops.old) game.now) }
+    ensures { let reading = reading_drops limits (D.remaining drops.old) game.now in
+        MatchResult result (λ ds. reading.gives ds.items) reading.refuses }
 {
     let text = read_whole_within(alloc, limits, drops)?;
     let drops = drops_of_text(alloc, &text, game.graph().vertices())?;
@@ -111,25 +109,46 @@ fn have_room(total: u64, drops: &[(u64, u64)]) -> bool
     true
 }
 
-/// Plays a game to its end, and then drop after drop; the outcome of the game with the chips that were dropped.
-fn play_drops<P: Watch, W: Write>(
+/// Plays a game and then drops on it: their rows, and the report.
+fn drop_all<P: Watch, W: Write, T: Write>(
     alloc: Global,
     game: Game,
     drops: &[(u64, u64)],
     watch: &mut P,
     output: &mut W,
+    report: &mut Option<T>,
+) -> Result<Ended, Fault>
+    requires game { IsGame game }
+    requires vertices { AreOfVertices game drops.now }
+    requires few { sum game.start + all_brought drops.now ≤ max_total }
+    ensures { DropsAnswer game drops.now
+        (record { rows = W.contents output.old; report = option_map T.contents report.old })
+        (record { rows = W.contents output.new; report = option_map T.contents report.new }) result }
+{
+    let rest = plain_watched(alloc, &game, watch)?;
+    let outcome = play_drops(alloc, game, rest, drops, output)?;
+    write_report(alloc, &outcome, report)
+}
+
+/// Plays drop after drop on a game that has come to this; the outcome of the game with the chips that were dropped.
+fn play_drops<W: Write>(
+    alloc: Global,
+    game: Game,
+    rest: Outcome,
+    drops: &[(u64, u64)],
+    output: &mut W,
 ) -> Result<Outcome, Fault>
     requires game { IsGame game }
+    requires played { IsPlayed game rest }
     requires vertices { AreOfVertices game drops.now }
     requires few { sum game.start + all_brought drops.now ≤ max_total }
     ensures { PlaysDrops game drops.now (W.contents output.old) (W.contents output.new) result }
 {
-    let outcome = plain_watched(alloc, &game, watch)?;
-    if !is_closed(&outcome) {
+    if !is_closed(&rest) {
         write_all_of(output, HEADER)?;
-        return Ok(outcome);
+        return Ok(rest);
     }
-    let pile = Pile::new(alloc, game, outcome)?;
+    let pile = Pile::new(alloc, game, rest)?;
     match write_rows(alloc, pile, drops, output) {
         Ok(end) => Ok(end.pile.outcome(alloc)?),
         Err(fault) => Err(fault_of_rows(fault)),
@@ -151,14 +170,12 @@ fn write_report<T: Write>(
     alloc: Global,
     outcome: &Outcome,
     output: &mut Option<T>,
-) -> Result<(), Fault>
-    ensures { WritesReport (option_map T.contents output.old) (option_map T.contents output.new)
-        (report_text outcome.now) result }
+) -> Result<Ended, Fault>
+    ensures { WritesReport (option_map T.contents output.old) (option_map T.contents output.new) outcome.now result }
 {
+    let ended = Ended::of(status_of(outcome));
     let Some(writer) = output else {
-        return Ok(());
+        return Ok(ended);
     };
-    let text = report(alloc, outcome)?;
-    write_all_of(writer, &text)?;
-    Ok(())
+    conclude(writer, &report(alloc, outcome)?, ended)
 }

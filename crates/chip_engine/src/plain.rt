@@ -68,8 +68,9 @@ pub fn plain_guess_engine_with<G: Read, C: Read, Q: Read, P: Watch, W: Write>(
     ensures { GuessAnswers options.limits (G.remaining graph.old) (C.remaining chips.old) (Q.remaining guess.old)
         options.limit (W.contents output.old) (W.contents output.new) result }
 {
-    let game = read_game(alloc, options.limits, graph, chips, options.limit)?;
-    let counts = read_guess(alloc, options.limits, guess, game.graph().vertices())?;
+    let PlayOptions { limits, limit } = options;
+    let game = read_game(alloc, limits, graph, chips, limit)?;
+    let counts = read_guess(alloc, limits, guess, game.graph().vertices())?;
     let answer = play(alloc, &game, &counts, watch)?;
     deliver(output, answer)
 }

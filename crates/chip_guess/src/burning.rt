@@ -1,40 +1,48 @@
 ghost use Rattle.std.specs.Prelude.{◌≡◌, ◌≤◌, ℕ, length, slice_index, IfOk};
 
 use crate::hierarchy::{Hierarchy, Kind};
-use crate::level::{Level, Link, narrow};
+use crate::level::{Level, Link, NONE, narrow};
 use crate::solver::{Progress, Target};
 use crate::tuning::{STALLED_STEPS, WALL_SPACING};
 use chip_graph::Graph;
 use std::alloc::{AllocError, Global};
+use std::mem;
 use std::num::saturating_f64_to_i64;
 
 /// What is known of a vertex while counts are burnt.
 #[derive(Clone, Copy)]
 pub(crate) struct Vertex {
-    /// How often it fires beyond what it had fired when the search began.
+    /// How often it fires beyond what it had fired when the search began; 0 where its count is to stay as it is.
     pub(crate) fires: i64,
-    /// What comes in where each vertex that unfires fires once.
+    /// The chips left to it less what its neighbours have taken back: it burns where this is not below 0.
+    slack: i64,
+    /// What comes in where each vertex that fires does so once.
     comes: i64,
+    /// The one that is to burn after it, while it waits for that.
+    next: u32,
     /// Whether it burnt.
     is_burnt: bool,
-    /// Whether its count stays as it is.
-    is_pinned: bool,
 }
+
+/// What is known of a vertex that does not fire.
+const AT_REST: Vertex = Vertex {
+    fires: 0,
+    slack: 0,
+    comes: 0,
+    next: NONE,
+    is_burnt: false,
+};
 
 /// Counts that are lowered until a test is passed.
 ///
 /// On one-way graphs the test is that each vertex that fires lacks one chip at most to fire once more. On others it is
-/// the burning test in reverse: each vertex that fires unfires once, and then those that have the chips for it fire
-/// again, one after the other: they burn. Those that do not burn are lower by one firing from then on.
+/// the burning test in reverse: each vertex that fires takes a firing back, and then those that have the chips for it
+/// fire again, one after the other: they burn. Those that do not burn are lower by one firing from then on.
 #[derive(Drop)]
 pub(crate) struct Burning<'a> {
     hierarchy: &'a Hierarchy,
     vertices: Vec<Vertex>,
-    /// The chips left to each vertex less what its neighbours have taken back: it burns where this is not below 0.
-    slacks: Vec<i64>,
-    /// The vertices that are to burn in this step, the last one next: its neighbours are still at hand.
-    waiting: Vec<u32>,
-    /// The first vertex that unfires or into which something comes, and where such vertices end.
+    /// The first vertex that fires or into which something comes, and where such vertices end.
     first: usize,
     end: usize,
     /// How many looks a step makes at most.
@@ -43,33 +51,17 @@ pub(crate) struct Burning<'a> {
     pub(crate) steps: u64,
     /// In how many of them in a row no vertex burnt.
     stalled: u64,
-    /// How many vertices unfired in the last one.
+    /// How many vertices took a firing back in the last one.
     pub(crate) unfired: u64,
     /// How many of them did not burn.
     pub(crate) unburnt: u64,
 }
 
 impl Vertex {
-    /// It does not fire.
-    fn at_rest() -> Vertex {
-        Vertex {
-            fires: 0,
-            comes: 0,
-            is_burnt: false,
-            is_pinned: false,
-        }
-    }
-
-    /// Whether it takes a firing back.
-    #[inline]
-    pub(crate) fn unfires(&self) -> bool {
-        self.fires > 0 && !self.is_pinned
-    }
-
     /// Whether it has taken a firing back and did not burn.
     #[inline]
     fn is_unburnt(&self) -> bool {
-        !self.is_burnt && self.unfires()
+        !self.is_burnt && self.fires > 0
     }
 }
 
@@ -79,8 +71,6 @@ impl<'a> Burning<'a> {
         Burning {
             hierarchy,
             vertices: Vec::new(alloc),
-            slacks: Vec::new(alloc),
-            waiting: Vec::new(alloc),
             first: 0,
             end: 0,
             looks: 0,
@@ -99,19 +89,17 @@ impl<'a> Burning<'a> {
         counts: &[f64],
     ) -> Result<bool, AllocError> {
         self.end(alloc);
-        let vertices = self.hierarchy.finest.rows.len();
-        self.vertices = vec![in alloc; Vertex::at_rest(); vertices]?;
-        self.slacks = vec![in alloc; 0; vertices]?;
+        let finest = &self.hierarchy.finest;
+        self.vertices = vec![in alloc; AT_REST; finest.rows.len()]?;
         let (chips, fired) = (target.game.start(), target.fired);
-        let slacks = self.slacks.as_mut_slice();
         for (vertex, own) in self.vertices.iter_mut().enumerate() {
-            if vertex < chips.len() && vertex < fired.len() && vertex < slacks.len() {
-                let (fires, left) = left_by(&self.hierarchy.finest, chips[vertex], counts, vertex);
-                own.fires = fires.wrapping_sub(fired[vertex].cast_signed());
+            if vertex < chips.len() && vertex < fired.len() {
+                let (fires, left) = left_by(finest, chips[vertex], counts, vertex);
                 let Ok(slack) = i64::try_from(left) else {
                     return Ok(false);
                 };
-                slacks[vertex] = slack;
+                own.fires = fires.wrapping_sub(fired[vertex].cast_signed());
+                own.slack = slack;
             }
         }
         self.begin_steps();
@@ -121,11 +109,9 @@ impl<'a> Burning<'a> {
     /// Keeps no vertex any more.
     pub(crate) fn end(&mut self, alloc: Global) {
         self.vertices = Vec::new(alloc);
-        self.slacks = Vec::new(alloc);
-        self.waiting = Vec::new(alloc);
     }
 
-    /// Finds what comes in from all that unfire, of which none is unburnt.
+    /// Finds what comes in from all that fire, of which none is unburnt.
     fn begin_steps(&mut self) {
         self.steps = 0;
         self.stalled = 0;
@@ -135,21 +121,21 @@ impl<'a> Burning<'a> {
         for vertex in 0..self.vertices.len() {
             let mut comes = 0i64;
             for link in self.hierarchy.finest.links_of(vertex) {
-                if self.at(link.vertex as usize).unfires() {
+                if self.at(link.vertex as usize).fires > 0 {
                     comes = comes.wrapping_add(i64::from(link.mult));
                 }
             }
-            if let Some(own) = self.vertices.get_mut(vertex) {
-                own.comes = comes;
-                own.is_burnt = true;
-            }
+            let own = &mut self.vertices[vertex];
+            own.comes = comes;
+            own.is_burnt = true;
+            let is_needed = comes > 0 || own.fires > 0;
             if self.end == 0 {
                 self.first = vertex;
                 looks = 0;
             }
             let links = self.hierarchy.outs().links_of(vertex).len() as u64;
             looks = looks.saturating_add(links).saturating_add(2);
-            if comes > 0 || self.at(vertex).unfires() {
+            if is_needed {
                 self.end = vertex.saturating_add(1);
                 self.looks = looks;
             }
@@ -159,108 +145,77 @@ impl<'a> Burning<'a> {
     /// What is known of a vertex.
     #[inline]
     pub(crate) fn at(&self, vertex: usize) -> Vertex {
-        self.vertices
-            .get(vertex)
-            .copied()
-            .unwrap_or(Vertex::at_rest())
+        self.vertices.get(vertex).copied().unwrap_or(AT_REST)
     }
 
     /// Lowers the counts once, where they do not pass the test.
-    pub(crate) fn step(&mut self) -> Result<Progress, AllocError> {
+    pub(crate) fn step(&mut self) -> Progress {
         self.steps = self.steps.saturating_add(1);
         if self.hierarchy.kind == Kind::General {
-            return Ok(if self.earn_all() {
+            return if self.earn_all() {
                 Progress::Going
             } else {
                 Progress::Converged
-            });
+            };
         }
-        self.unfired = 0;
-        for vertex in self.first..self.end {
-            self.unfire(vertex)?;
-        }
-        self.burn()?;
-        if self.unburnt == 0 {
-            return Ok(Progress::Converged);
-        }
+        self.burn();
         self.stalled = if self.unburnt == self.unfired {
             self.stalled.saturating_add(1)
         } else {
             0
         };
-        Ok(if self.stalled >= STALLED_STEPS {
+        if self.unburnt == 0 {
+            Progress::Converged
+        } else if self.stalled >= STALLED_STEPS {
             Progress::Diverged
         } else {
             Progress::Going
-        })
+        }
     }
 
-    /// Has a vertex take a firing back where it fires. If it is unburnt, it loses the one that it took back before.
-    #[inline]
-    fn unfire(&mut self, vertex: usize) -> Result<(), AllocError> {
-        let Some(own) = self.vertices.get_mut(vertex) else {
-            return Ok(());
-        };
-        let mut gained = 0;
-        if own.is_unburnt() {
-            gained = self.hierarchy.finest.degree(vertex);
-            own.fires = own.fires.wrapping_sub(1);
-            if own.fires == 0 {
-                self.stop_unfiring(vertex)?;
-            }
-        }
-        if vertex < self.vertices.len() && vertex < self.slacks.len() {
-            let own = &mut self.vertices[vertex];
-            own.is_burnt = false;
-            let slack = self.slacks[vertex]
-                .wrapping_add(gained)
-                .wrapping_sub(own.comes);
-            self.slacks[vertex] = slack;
-            if own.unfires() {
-                self.unfired = self.unfired.saturating_add(1);
-                if slack >= 0 {
-                    self.waiting.push(narrow(vertex))?;
-                }
-            }
-        }
-        Ok(())
-    }
-
-    /// Has a vertex whose firings are used up take none back from now on, where those below it have done so.
-    fn stop_unfiring(&mut self, vertex: usize) -> Result<(), AllocError> {
-        for link in self.hierarchy.outs().links_of(vertex) {
-            if let Some(head) = self.vertices.get_mut(link.vertex as usize) {
-                head.comes = head.comes.wrapping_sub(i64::from(link.mult));
-            }
-            if (link.vertex as usize) < vertex {
-                bring(&self.vertices, &mut self.slacks, &mut self.waiting, *link)?;
-            }
-        }
-        Ok(())
-    }
-
-    /// Burns the vertices that may burn, one after the other.
-    fn burn(&mut self) -> Result<(), AllocError> {
+    /// Has each vertex that fires take a firing back. One that was unburnt loses the firing that it took back before.
+    /// As soon as a vertex and all before it have taken theirs back, those of them burn that may, so that what burns
+    /// lies near.
+    fn burn(&mut self) {
         let outs = self.hierarchy.outs();
         // (what is reached through `self` is read anew at each link)
         let vertices = self.vertices.as_mut_slice();
-        let slacks = self.slacks.as_mut_slice();
-        let waiting = &mut self.waiting;
-        let mut unburnt = self.unfired;
-        for _ in 0..vertices.len() {
-            let Some(vertex) = waiting.pop() else {
-                break;
-            };
-            unburnt = unburnt.saturating_sub(1);
-            if let Some(own) = vertices.get_mut(vertex as usize) {
-                own.is_burnt = true;
+        let (mut unfired, mut unburnt) = (0u64, 0u64);
+        let mut next = NONE;
+        for vertex in self.first..self.end.min(vertices.len()) {
+            let own = &mut vertices[vertex];
+            if own.is_unburnt() {
+                own.slack = own.slack.wrapping_add(self.hierarchy.finest.degree(vertex));
+                own.fires = own.fires.wrapping_sub(1);
+                if own.fires == 0 {
+                    stop(vertices, outs.links_of(vertex), vertex, &mut next);
+                }
             }
-            for link in outs.links_of(vertex as usize) {
-                bring(vertices, slacks, waiting, *link)?;
+            let own = &mut vertices[vertex];
+            own.is_burnt = false;
+            own.slack = own.slack.wrapping_sub(own.comes);
+            if own.fires > 0 {
+                unfired = unfired.wrapping_add(1);
+                unburnt = unburnt.wrapping_add(1);
+                if own.slack >= 0 {
+                    own.next = mem::replace(&mut next, narrow(vertex));
+                }
+            }
+            for _ in 0..vertices.len() {
+                let Some(burns) = vertices.get_mut(next as usize) else {
+                    break;
+                };
+                burns.is_burnt = true;
+                unburnt = unburnt.wrapping_sub(1);
+                let links = outs.links_of(next as usize);
+                next = burns.next;
+                for link in links {
+                    bring(vertices, *link, vertex, &mut next);
+                }
             }
         }
+        self.unfired = unfired;
         self.unburnt = unburnt;
-        Ok(())
     }
 
     /// Fires a vertex so often, or takes so many firings back where the number is negative.
@@ -268,14 +223,12 @@ impl<'a> Burning<'a> {
         let sent = self.hierarchy.finest.degree(vertex).wrapping_mul(k);
         if let Some(own) = self.vertices.get_mut(vertex) {
             own.fires = own.fires.wrapping_add(k);
-        }
-        let slacks = self.slacks.as_mut_slice();
-        if vertex < slacks.len() {
-            slacks[vertex] = slacks[vertex].wrapping_sub(sent);
+            own.slack = own.slack.wrapping_sub(sent);
         }
         for link in self.hierarchy.outs().links_of(vertex) {
-            if let Some(slack) = slacks.get_mut(link.vertex as usize) {
-                *slack = slack.wrapping_add(i64::from(link.mult).wrapping_mul(k));
+            if let Some(head) = self.vertices.get_mut(link.vertex as usize) {
+                let comes = i64::from(link.mult).wrapping_mul(k);
+                head.slack = head.slack.wrapping_add(comes);
             }
         }
     }
@@ -285,9 +238,8 @@ impl<'a> Burning<'a> {
         let mut any = false;
         for vertex in self.first..self.end {
             let degree = self.hierarchy.finest.degree(vertex);
-            let chips = self.slacks.get(vertex).copied().unwrap_or(0);
-            let lacks = degree.wrapping_sub(1).wrapping_sub(chips);
-            let fires = self.at(vertex).fires;
+            let own = self.at(vertex);
+            let (fires, lacks) = (own.fires, degree.wrapping_sub(1).wrapping_sub(own.slack));
             if fires > 0 && lacks > 0 && degree > 0 {
                 self.fire(vertex, quotient(lacks, degree).min(fires).wrapping_neg());
                 any = true;
@@ -300,8 +252,8 @@ impl<'a> Burning<'a> {
     pub(crate) fn pin(&mut self, graph: &Graph, rest: u64) {
         for (vertex, own) in self.vertices.iter_mut().enumerate() {
             let vertex = vertex as u64;
-            if vertex < graph.vertices() {
-                own.is_pinned = graph.distance(vertex) % WALL_SPACING == rest;
+            if vertex < graph.vertices() && graph.distance(vertex) % WALL_SPACING == rest {
+                own.fires = 0;
             }
         }
         self.begin_steps();
@@ -320,19 +272,19 @@ impl<'a> Burning<'a> {
 
     /// The chips that the counts leave a vertex that takes a firing back.
     pub(crate) fn chips(&self, vertex: usize) -> i64 {
-        let slack = self.slacks.get(vertex).copied().unwrap_or(0);
-        if self.at(vertex).is_burnt {
-            slack
+        let own = self.at(vertex);
+        if own.is_burnt {
+            own.slack
         } else {
-            slack.wrapping_add(self.hierarchy.finest.degree(vertex))
+            own.slack.wrapping_add(self.hierarchy.finest.degree(vertex))
         }
     }
 
     /// Whether a vertex is legal, where a test is passed.
     pub(crate) fn leaves_some_legal(&self) -> bool {
-        for (vertex, chips) in self.slacks.iter().enumerate() {
+        for (vertex, own) in self.vertices.iter().enumerate() {
             let degree = self.hierarchy.finest.degree(vertex);
-            if degree > 0 && *chips >= degree {
+            if degree > 0 && own.slack >= degree {
                 return true;
             }
         }
@@ -379,24 +331,30 @@ impl<'a> Burning<'a> {
     }
 }
 
-/// Brings a vertex what another one sends it along a link, and has it wait where it may burn by that.
-#[inline]
-fn bring(
-    vertices: &[Vertex],
-    slacks: &mut [i64],
-    waiting: &mut Vec<u32>,
-    link: Link,
-) -> Result<(), AllocError> {
-    let head = link.vertex as usize;
-    if head < slacks.len() && head < vertices.len() {
-        let before = slacks[head];
-        let slack = before.wrapping_add(i64::from(link.mult));
-        slacks[head] = slack;
-        if before < 0 && slack >= 0 && vertices[head].unfires() {
-            waiting.push(link.vertex)?;
+/// Has a vertex whose firings are used up, with these links, take none back from now on, as those below it have done.
+fn stop(vertices: &mut [Vertex], links: &[Link], vertex: usize, next: &mut u32) {
+    for link in links {
+        if let Some(head) = vertices.get_mut(link.vertex as usize) {
+            head.comes = head.comes.wrapping_sub(i64::from(link.mult));
+        }
+        if (link.vertex as usize) < vertex {
+            bring(vertices, *link, vertex, next);
         }
     }
-    Ok(())
+}
+
+/// Brings a vertex what another one sends it along a link. It is to burn next where it may by that, and all up to the
+/// last one have taken a firing back.
+#[inline]
+fn bring(vertices: &mut [Vertex], link: Link, last: usize, next: &mut u32) {
+    if let Some(head) = vertices.get_mut(link.vertex as usize) {
+        let before = head.slack;
+        head.slack = before.wrapping_add(i64::from(link.mult));
+        let may_burn = before < 0 && head.slack >= 0 && link.vertex as usize <= last;
+        if may_burn && head.fires > 0 {
+            head.next = mem::replace(next, link.vertex);
+        }
+    }
 }
 
 /// A quotient of positive numbers, rounded up.

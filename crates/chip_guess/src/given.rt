@@ -37,7 +37,7 @@ fn lower_by(
     }
     // A step looks about once at each vertex and edge.
     for _ in 0..AHEAD {
-        match burning.step().ok()? {
+        match burning.step() {
             Progress::Converged => return burning.counts(alloc, fired, game.limit()).ok(),
             Progress::Diverged => return None,
             Progress::Going => {}

@@ -205,7 +205,7 @@ impl<'a> Search<'a> {
 
     /// Burns the counts between walls once, and solves for heights that are fitted to what is left after some times.
     fn fit(&mut self, alloc: Global) -> Result<Stage, AllocError> {
-        let progress = self.burning.step()?;
+        let progress = self.burning.step();
         if progress == Progress::Going && self.burning.steps < STEPS_OF_FIT {
             return Ok(Stage::Fitting);
         }
@@ -219,7 +219,7 @@ impl<'a> Search<'a> {
 
     /// Burns the counts once.
     fn burn(&mut self, alloc: Global) -> Result<Stage, AllocError> {
-        match self.burning.step()? {
+        match self.burning.step() {
             Progress::Converged => return Ok(self.pass()),
             // Counts that are greater than some that passed come back to these.
             Progress::Diverged if self.passed == 0 => {

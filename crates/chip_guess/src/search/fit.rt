@@ -62,9 +62,10 @@ impl<'a> Search<'a> {
     fn add_up(&self, patches: &[u32], sums: &mut [Sum]) {
         for (vertex, patch) in patches.iter().enumerate() {
             let (counts, fired) = (self.counts.as_slice(), self.target.fired);
-            if self.burning.at(vertex).unfires() && vertex < counts.len() && vertex < fired.len() {
+            let fires = self.burning.at(vertex).fires;
+            if fires > 0 && vertex < counts.len() && vertex < fired.len() {
                 if let Some(sum) = sums.get_mut(*patch as usize) {
-                    let fires = nearest_i64_to_f64(self.burning.at(vertex).fires);
+                    let fires = nearest_i64_to_f64(fires);
                     sum.chips += nearest_i64_to_f64(self.burning.chips(vertex));
                     sum.degrees += nearest_i64_to_f64(self.hierarchy.finest.degree(vertex));
                     sum.lost += counts[vertex] - nearest_u64_to_f64(fired[vertex]) - fires;

@@ -10,7 +10,7 @@ use std::mem;
 use std::num::saturating_f64_to_i64;
 
 /// What is known of a vertex while counts are burnt.
-#[derive(Clone, Copy)]
+#[derive(Clone, Copy, Default)]
 pub(crate) struct Vertex {
     /// How often it fires beyond what it had fired when the search began; 0 where its count is to stay as it is.
     pub(crate) fires: i64,
@@ -23,15 +23,6 @@ pub(crate) struct Vertex {
     /// Whether it burnt.
     is_burnt: bool,
 }
-
-/// What is known of a vertex that does not fire.
-const AT_REST: Vertex = Vertex {
-    fires: 0,
-    slack: 0,
-    comes: 0,
-    next: NONE,
-    is_burnt: false,
-};
 
 /// Counts that are lowered until a test is passed.
 ///
@@ -63,6 +54,12 @@ impl Vertex {
     fn is_unburnt(&self) -> bool {
         !self.is_burnt && self.fires > 0
     }
+
+    /// The chips that the counts leave it, if it takes a firing back, by its degree.
+    pub(crate) fn chips(&self, degree: i64) -> i64 {
+        self.slack
+            .wrapping_add(if self.is_burnt { 0 } else { degree })
+    }
 }
 
 impl<'a> Burning<'a> {
@@ -90,7 +87,7 @@ impl<'a> Burning<'a> {
     ) -> Result<bool, AllocError> {
         self.end(alloc);
         let finest = &self.hierarchy.finest;
-        self.vertices = vec![in alloc; AT_REST; finest.rows.len()]?;
+        self.vertices = vec![in alloc; Vertex::default(); finest.rows.len()]?;
         let (chips, fired) = (target.game.start(), target.fired);
         for (vertex, own) in self.vertices.iter_mut().enumerate() {
             if vertex < chips.len() && vertex < fired.len() {
@@ -145,7 +142,10 @@ impl<'a> Burning<'a> {
     /// What is known of a vertex.
     #[inline]
     pub(crate) fn at(&self, vertex: usize) -> Vertex {
-        self.vertices.get(vertex).copied().unwrap_or(AT_REST)
+        self.vertices
+            .get(vertex)
+            .copied()
+            .unwrap_or(Vertex::default())
     }
 
     /// Lowers the counts once, where they do not pass the test.
@@ -241,7 +241,8 @@ impl<'a> Burning<'a> {
             let own = self.at(vertex);
             let (fires, lacks) = (own.fires, degree.wrapping_sub(1).wrapping_sub(own.slack));
             if fires > 0 && lacks > 0 && degree > 0 {
-                self.fire(vertex, quotient(lacks, degree).min(fires).wrapping_neg());
+                let firings = ((lacks - 1) / degree).wrapping_add(1);
+                self.fire(vertex, firings.min(fires).wrapping_neg());
                 any = true;
             }
         }
@@ -268,16 +269,6 @@ impl<'a> Burning<'a> {
             }
         }
         chips
-    }
-
-    /// The chips that the counts leave a vertex that takes a firing back.
-    pub(crate) fn chips(&self, vertex: usize) -> i64 {
-        let own = self.at(vertex);
-        if own.is_burnt {
-            own.slack
-        } else {
-            own.slack.wrapping_add(self.hierarchy.finest.degree(vertex))
-        }
     }
 
     /// Whether a vertex is legal, where a test is passed.
@@ -357,15 +348,6 @@ fn bring(vertices: &mut [Vertex], link: Link, last: usize, next: &mut u32) {
     }
 }
 
-/// A quotient of positive numbers, rounded up.
-fn quotient(a: i64, b: i64) -> i64 {
-    if a > 0 && b > 0 {
-        ((a - 1) / b).wrapping_add(1)
-    } else {
-        0
-    }
-}
-
 /// How often a vertex fires by these counts, rounded down, and the chips that they leave it.
 fn left_by(level: &Level, chips: u64, counts: &[f64], vertex: usize) -> (i64, i128) {
     let own = floor(counts, vertex);
@@ -380,8 +362,5 @@ fn left_by(level: &Level, chips: u64, counts: &[f64], vertex: usize) -> (i64, i1
 
 /// The count of a vertex, rounded down.
 fn floor(counts: &[f64], vertex: usize) -> i64 {
-    match counts.get(vertex) {
-        Some(count) => saturating_f64_to_i64(count.floor()),
-        None => 0,
-    }
+    saturating_f64_to_i64(counts.get(vertex).copied().unwrap_or(0.0).floor())
 }

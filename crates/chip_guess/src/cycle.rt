@@ -16,7 +16,7 @@ pub(crate) struct Unknown {
 }
 
 /// What a vertex had before its aggregate was corrected.
-#[derive(Clone, Copy)]
+#[derive(Clone, Copy, Default)]
 struct Before {
     residual: f64,
     count: f64,
@@ -111,16 +111,12 @@ impl<'a> Problem<'a> {
         level: &'a Level,
         counts: Vec<f64>,
     ) -> Result<Problem<'a>, AllocError> {
-        let before = Before {
-            residual: 0.0,
-            count: 0.0,
-        };
         let vertices = level.rows.len();
         Ok(Problem {
             level,
             unknowns: vec![in alloc; Unknown::within(0.0, 0.0); vertices]?,
             counts,
-            before: vec![in alloc; before; vertices]?,
+            before: vec![in alloc; Before::default(); vertices]?,
         })
     }
 
@@ -266,9 +262,5 @@ impl<'a> Problem<'a> {
 
 /// A quotient from a quarter to eight, where both numbers are positive.
 fn ratio(a: f64, b: f64) -> Option<f64> {
-    if a > 0.0 && b > 0.0 {
-        Some((a / b).max(0.25).min(8.0))
-    } else {
-        None
-    }
+    (a > 0.0 && b > 0.0).then_some((a / b).max(0.25).min(8.0))
 }

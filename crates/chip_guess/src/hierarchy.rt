@@ -65,11 +65,7 @@ impl Hierarchy {
             kind,
             finest,
             coarser: Vec::new(alloc),
-            outs: if kind == Kind::Symmetric {
-                None
-            } else {
-                Some(outs)
-            },
+            outs: (kind != Kind::Symmetric).then_some(outs),
         })
     }
 

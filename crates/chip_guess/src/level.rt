@@ -1,6 +1,6 @@
 ghost use Rattle.std.specs.Prelude.{◌<◌, length};
 
-use chip_graph::{Edge, Graph};
+use chip_graph::Graph;
 use std::alloc::{AllocError, Global};
 
 /// No vertex, no place, or no aggregate, as that of the sink and of a vertex into which no link leads.
@@ -77,35 +77,30 @@ impl Level {
         })
     }
 
-    /// A graph, by the links into each vertex or those out of it.
+    /// A graph, by the links into each vertex or those out of it, without those to the sink.
     pub(crate) fn of(alloc: Global, graph: &Graph, by_ins: bool) -> Result<Level, AllocError> {
         let mut level = Level::new(alloc, graph.vertices() as usize, graph.edges().len())?;
         for vertex in 0..graph.vertices() {
-            if by_ins {
-                for e in graph.ins(vertex) {
-                    if let Some(edge) = graph.edges().get(*e as usize) {
-                        level.push_link(graph, edge, edge.tail)?;
-                    }
-                }
+            let numbers = if by_ins {
+                graph.ins(vertex)
             } else {
-                for edge in graph.links(vertex) {
-                    level.push_link(graph, edge, edge.head)?;
+                graph.outs(vertex)
+            };
+            for number in numbers {
+                let Some(edge) = graph.edges().get(*number as usize) else {
+                    continue;
+                };
+                if edge.head != graph.sink() {
+                    let other = if by_ins { edge.tail } else { edge.head };
+                    level.links.push(Link {
+                        vertex: narrow(other as usize),
+                        mult: narrow(edge.mult as usize),
+                    })?;
                 }
             }
             level.close_row(graph.out_degree(vertex))?;
         }
         Ok(level)
-    }
-
-    /// Adds an edge that does not lead to the sink, by the vertex at one of its ends.
-    fn push_link(&mut self, graph: &Graph, edge: &Edge, vertex: u64) -> Result<(), AllocError> {
-        if edge.head != graph.sink() {
-            self.links.push(Link {
-                vertex: narrow(vertex as usize),
-                mult: narrow(edge.mult as usize),
-            })?;
-        }
-        Ok(())
     }
 
     /// One more vertex, with the links behind those of the last one.

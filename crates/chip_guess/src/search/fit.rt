@@ -6,7 +6,7 @@ use std::alloc::{AllocError, Global};
 use std::num::{nearest_i64_to_f64, nearest_u64_to_f64};
 
 /// What the vertices of a patch have that fire while counts are burnt.
-#[derive(Clone, Copy)]
+#[derive(Clone, Copy, Default)]
 struct Sum {
     chips: f64,
     degrees: f64,
@@ -39,13 +39,7 @@ impl<'a> Search<'a> {
     /// come only a part of the way.
     pub(super) fn fit_heights(&mut self, alloc: Global) -> Result<(), AllocError> {
         let mut patches = vec![in alloc; 0; self.heights.len()]?;
-        let none = Sum {
-            chips: 0.0,
-            degrees: 0.0,
-            lost: 0.0,
-            vertices: 0.0,
-        };
-        let mut sums = vec![in alloc; none; find_patches(self.hierarchy, &mut patches)]?;
+        let mut sums = vec![in alloc; Sum::default(); find_patches(self.hierarchy, &mut patches)]?;
         self.add_up(&patches, &mut sums);
         let level: &Level = &self.hierarchy.finest;
         for (vertex, height) in self.heights.iter_mut().enumerate() {
@@ -62,12 +56,13 @@ impl<'a> Search<'a> {
     fn add_up(&self, patches: &[u32], sums: &mut [Sum]) {
         for (vertex, patch) in patches.iter().enumerate() {
             let (counts, fired) = (self.counts.as_slice(), self.target.fired);
-            let fires = self.burning.at(vertex).fires;
-            if fires > 0 && vertex < counts.len() && vertex < fired.len() {
+            let own = self.burning.at(vertex);
+            if own.fires > 0 && vertex < counts.len() && vertex < fired.len() {
                 if let Some(sum) = sums.get_mut(*patch as usize) {
-                    let fires = nearest_i64_to_f64(fires);
-                    sum.chips += nearest_i64_to_f64(self.burning.chips(vertex));
-                    sum.degrees += nearest_i64_to_f64(self.hierarchy.finest.degree(vertex));
+                    let degree = self.hierarchy.finest.degree(vertex);
+                    let fires = nearest_i64_to_f64(own.fires);
+                    sum.chips += nearest_i64_to_f64(own.chips(degree));
+                    sum.degrees += nearest_i64_to_f64(degree);
                     sum.lost += counts[vertex] - nearest_u64_to_f64(fired[vertex]) - fires;
                     sum.vertices += 1.0;
                 }

@@ -1,11 +1,15 @@
 //! Games worked out by hand, and each call once. What holds for all inputs stands in the contracts.
 
+ghost use Rattle.std.specs.Prelude.{◌≡◌, ◌≤◌, IfOk, length, take};
+ghost use Rattle.chip_fire.specs.Rounds.{IsBegun};
+ghost use Rattle.chip_fire.specs.WorkList.{AreListed};
 ghost use Rattle.chip_sequence.specs.Sittings.{IsResumed};
 
 use crate::games::{Rows, TRIANGLE, game_of, graph_of, triangle};
-use chip_fire::{ResumeFault, Watch, plain, plain_watched, resume};
+use chip_fire::{ResumeFault, Watch, is_legal, plain, plain_watched, resume, work_off};
 use chip_graph::{Game, Graph};
 use chip_sequence::{Outcome, Resumed};
+use std::alloc::{AllocError, Global};
 use std::process::Abort;
 
 /// A game, and where it ends.
@@ -31,6 +35,83 @@ fn plays(rt: &(impl AllocGlobal + Abort), played: &Played) {
         same,
         "{}: fired {:?}, chips {:?}, over {:?}",
         played.name, outcome.fired, outcome.chips, outcome.over
+    );
+}
+
+/// Lists the legal vertices; how many there are.
+fn list_legal(graph: &Graph, chips: &[u64], list: &mut [u64]) -> usize
+    requires one_each { length chips.now ≡ graph.now.vertices }
+    requires room { graph.now.vertices ≤ length list.old }
+    ensures room { result ≤ length list.new }
+    ensures listed { AreListed graph.now chips.now (take result list.new) }
+{
+    let mut listed = 0;
+    for vertex in 0..graph.vertices() {
+        if is_legal(graph, chips, vertex) {
+            list[listed] = vertex;
+            listed += 1;
+        }
+    }
+    listed
+}
+
+/// The chips and counts with which a play begins.
+fn start(alloc: Global, game: &Game) -> Result<(Vec<u64>, Vec<u64>), AllocError>
+    ensures { IfOk result (λ begun. IsBegun game.now begun.0.items begun.1.items) }
+{
+    let chips = Vec::from_slice(alloc, game.start())?;
+    let fired = vec![in alloc; 0; game.graph().vertices() as usize]?;
+    Ok((chips, fired))
+}
+
+/// Plays a game by a work list with room for all: the counts, the chips and the vertices that fired, if it does not give
+/// up.
+fn play_all(
+    alloc: Global,
+    game: &Game,
+) -> Result<Option<(Vec<u64>, Vec<u64>, Vec<u64>)>, AllocError> {
+    let vertices = game.graph().vertices() as usize;
+    let (mut chips, mut fired) = start(alloc, game)?;
+    let before = Vec::from_slice(alloc, &fired)?;
+    let mut support = vec![in alloc; 0; vertices]?;
+    let mut list = vec![in alloc; 0; 2 * vertices]?;
+    let listed = list_legal(game.graph(), &chips, &mut list);
+    let found = work_off(
+        game,
+        listed,
+        &before,
+        &mut support,
+        &mut list,
+        &mut chips,
+        &mut fired,
+    );
+    let Some(found) = found else {
+        return Ok(None);
+    };
+    support.truncate(found);
+    support.sort_unstable();
+    Ok(Some((fired, chips, support)))
+}
+
+/// Plays a game by a work list, and compares how often each vertex fired, the chips at the end and the vertices that
+/// fired.
+fn works_off(rt: &(impl AllocGlobal + Abort), played: &Played) {
+    let game = game_of(rt, played.edges, played.start, played.limit);
+    let worked = play_all(rt.alloc(), &game).expect(rt, "memory");
+    let (fired, chips, support) = worked.expect(rt, played.name);
+    let mut fires = Vec::new(rt.alloc());
+    for (vertex, times) in played.fired.iter().enumerate() {
+        if *times > 0 {
+            fires.push(vertex as u64).expect(rt, "memory");
+        }
+    }
+    let same = fired.as_slice() == played.fired
+        && chips.as_slice() == played.chips
+        && support.as_slice() == fires.as_slice();
+    assert!(rt;
+        same,
+        "{}: fired {:?}, chips {:?}, support {:?}",
+        played.name, fired, chips, support
     );
 }
 
@@ -91,12 +172,53 @@ const PLAYED: &[&Played] = &[
         chips: &[0, LARGEST],
         over: &[],
     },
+    &Played {
+        name: "a chain whose ends lose chips",
+        edges: &[
+            (0, 1, 1),
+            (0, 4, 1),
+            (1, 0, 1),
+            (1, 2, 1),
+            (2, 1, 1),
+            (2, 3, 1),
+            (3, 2, 1),
+            (3, 4, 1),
+        ],
+        start: &[1, 2, 1, 1, 0],
+        limit: 1 << 40,
+        fired: &[1, 2, 2, 1, 0],
+        chips: &[1, 1, 0, 1, 2],
+        over: &[],
+    },
+    &Played {
+        name: "a grid of two by two that loses chips all round",
+        edges: &[
+            (0, 1, 1),
+            (0, 2, 1),
+            (0, 4, 2),
+            (1, 0, 1),
+            (1, 3, 1),
+            (1, 4, 2),
+            (2, 0, 1),
+            (2, 3, 1),
+            (2, 4, 2),
+            (3, 1, 1),
+            (3, 2, 1),
+            (3, 4, 2),
+        ],
+        start: &[4, 3, 3, 4, 0],
+        limit: 1 << 40,
+        fired: &[1, 1, 1, 1, 0],
+        chips: &[2, 1, 1, 2, 8],
+        over: &[],
+    },
 ];
 
 #[test]
 fn small_games(rt: HostRuntime) {
     for played in PLAYED {
         plays(&rt, played);
+        works_off(&rt, played);
     }
 }
 
@@ -163,14 +285,17 @@ fn plays_a_long_path(rt: HostRuntime) {
 }
 
 /// Compares how often the vertices of the path fire that have one chip each, and one more at this place from the first
-/// end on: as often as their own place is from the nearer end, but no more often than that place is.
-fn expect_one_more(rt: &(impl AllocGlobal + Abort), place: u64) {
+/// end on: as often as their own place is from the nearer end, but no more often than that place is. Whether rounds fire
+/// some of them.
+fn expect_one_more(rt: &(impl AllocGlobal + Abort), place: u64, by_rounds: bool) {
     let mut start = vec![in rt.alloc(); 1; 4_096].expect(rt, "memory");
     if let Some(chips) = start.get_mut(place.saturating_sub(1) as usize) {
         *chips = 2;
     }
     let game = Game::new(Box::into_inner(long_path(rt)), start, 1 << 40).expect(rt, "a game");
-    let outcome = plain(rt.alloc(), &game).expect(rt, "memory");
+    let mut told = Told::nothing();
+    let outcome = plain_watched(rt.alloc(), &game, &mut told).expect(rt, "memory");
+    assert!(rt; (told.rounds > 0) == by_rounds);
     let most = place.min((END + 1).saturating_sub(place));
     for vertex in 0..END {
         let expected = (vertex + 1).min(END - vertex).min(most);
@@ -182,8 +307,15 @@ fn expect_one_more(rt: &(impl AllocGlobal + Abort), place: u64) {
 /// One chip waits to move. The first plays end by the work list alone, and the last ones go on by rounds.
 #[test]
 fn one_chip_more_on_a_long_path(rt: HostRuntime) {
-    for place in [1, 30, 4_080, 1_000, 2_048] {
-        expect_one_more(&rt, place);
+    let places = [
+        (1, false),
+        (30, false),
+        (4_080, false),
+        (1_000, true),
+        (2_048, true),
+    ];
+    for (place, by_rounds) in places {
+        expect_one_more(&rt, place, by_rounds);
     }
 }
 

@@ -1,6 +1,6 @@
 -- The recorded runs that a text of rows means, and what is wrong with a text that means none.
-use Rattle.std.specs.Prelude.{◌≡◌, ℕ, ◌+◌, ◌<◌, Bool, true, ◌==◌, nat_lt, ◌&&◌, if◌then◌else◌, List, [], ◌∷◌, codes}
-use Rattle.std.specs.Prelude.{length, slice_index_or, map, Option, None, Some, is_some, is_none, unwrap_or, Result, IfOk, IfSome}
+use Rattle.std.specs.Prelude.{◌≡◌, ℕ, ◌+◌, Bool, true, ◌==◌, nat_lt, ◌&&◌, if◌then◌else◌, List, [], ◌∷◌, codes}
+use Rattle.std.specs.Prelude.{length, map, Option, None, Some, is_some, is_none, unwrap_or, Result, IfOk, IfSome}
 use Rattle.std.specs.Global.{Vec}
 use Rattle.std.specs.List.{filter, range_with_len}
 use Rattle.chip_graph.specs.Multigraph.{Multigraph}
@@ -56,11 +56,6 @@ trace_row_fault G index row =
 -- what the rows of v say, in the order of the file
 abbrev pub trace_in : List Row → ℕ → List TraceRow
 trace_in rows v = map trace_row_in (filter (λ row. number_in 0 row == v) rows)
-
--- these are the recorded runs of the vertices by the rows so far
-pub record HaveRecorded (G : Multigraph) (rows : List Row) (traces : List (List TraceRow)) : Type 0 where
-  pub each : length traces ≡ G.vertices
-  pub so_far : (v : ℕ) → v < G.vertices → slice_index_or traces v [] ≡ trace_in rows v
 
 -- the first thing wrong with a text of recorded runs of a graph
 abbrev pub trace_text_fault : Multigraph → List ℕ → Option FileFault

@@ -49,7 +49,7 @@ numbers_of_text header vertices text =
     then Some (numbers_of_rows vertices (rows_under_header (records_of text)))
     else None
 
--- these are the numbers that rows give the vertices
-pub record AreNamed (vertices : ℕ) (rows : List Row) (named : List (Option ℕ)) : Type 0 where
-  pub as_many : length named ≡ vertices
-  pub each : (v : ℕ) → v < vertices → slice_index_or named v None ≡ number_named rows v
+-- a list has for each of so many vertices what the vertex has
+pub record IsByVertex {T : Type 0} (vertices : ℕ) (of : ℕ → T) (none : T) (xs : List T) : Type 0 where
+  pub as_many : length xs ≡ vertices
+  pub each : (v : ℕ) → v < vertices → slice_index_or xs v none ≡ of v

@@ -2,7 +2,7 @@
 
 ghost use Rattle.std.specs.Prelude.{◌≡◌};
 ghost use Rattle.csv.specs.Records.{fields_of};
-ghost use Rattle.chip_file.specs.Kinds.{kind_named, kind_at, named_kinds};
+ghost use Rattle.chip_file.specs.Kinds.{kind_at, named_kinds};
 
 use csv::ByteRecord;
 
@@ -10,13 +10,7 @@ use csv::ByteRecord;
 pub(crate) fn kind_at<K: Copy>(kinds: &[(&str, K)], row: &ByteRecord, column: usize) -> Option<K>
     ensures { result ≡ kind_at (named_kinds kinds.now) column (fields_of row.now) }
 {
-    kind_named(kinds, row.get(column)?)
-}
-
-/// The kind of this name.
-fn kind_named<K: Copy>(kinds: &[(&str, K)], name: &[u8]) -> Option<K>
-    ensures { result ≡ kind_named (named_kinds kinds.now) name.now }
-{
+    let name = row.get(column)?;
     for (kind_name, kind) in kinds {
         if name == kind_name.as_bytes() {
             return Some(*kind);

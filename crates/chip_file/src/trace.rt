@@ -6,8 +6,9 @@ ghost use Rattle.chip_file.specs.Answer.{Gives};
 ghost use Rattle.chip_file.specs.Numbers.{number_in};
 ghost use Rattle.chip_file.specs.Rows.{by_index};
 ghost use Rattle.chip_file.specs.Source.{IsFresh, ReadsSource};
-ghost use Rattle.chip_file.specs.TraceText.{row_of_kind, names_edge, trace_row_in, trace_row_fault};
-ghost use Rattle.chip_file.specs.TraceText.{trace_text_fault, traces_of_text, HaveRecorded, ReadsTraces};
+ghost use Rattle.chip_file.specs.TraceText.{row_of_kind, names_edge, trace_row_in, trace_row_fault, trace_in};
+ghost use Rattle.chip_file.specs.TraceText.{trace_text_fault, traces_of_text, ReadsTraces};
+ghost use Rattle.chip_file.specs.VertexRows.{IsByVertex};
 
 use crate::fault::FileFault;
 use crate::kind::kind_at;
@@ -52,7 +53,8 @@ impl RowVisitor for Vec<Vec<TraceRow>> {
 
     ghost row_fault = { λ graph. by_index (trace_row_fault graph) };
 
-    ghost HasVisited = { λ graph rows traces. HaveRecorded graph rows (map (λ trace. trace.items) traces.items) };
+    ghost HasVisited = { λ graph rows traces.
+        IsByVertex graph.vertices (trace_in rows) [] (map (λ trace. trace.items) traces.items) };
 
     fn visit(&mut self, graph: &Graph, row: &ByteRecord, index: u64) -> Result<(), FileFault> {
         let (vertex, recorded) = row_of(graph, row, index)?;

@@ -3,7 +3,7 @@
 ghost use Rattle.std.specs.Prelude.{◌≡◌, Some, None, IfOk, IfErr, map, unwrap_or};
 ghost use Rattle.csv.specs.Records.{fields_of};
 ghost use Rattle.chip_file.specs.Answer.{Gives};
-ghost use Rattle.chip_file.specs.VertexRows.{AreNamed, numbers_of_text, numbers_text_fault};
+ghost use Rattle.chip_file.specs.VertexRows.{IsByVertex, number_named, numbers_of_text, numbers_text_fault};
 ghost use Rattle.chip_file.specs.VertexRows.{vertex_row_fault, new_row_fault, vertex_in, given_in};
 
 use crate::fault::FileFault;
@@ -21,7 +21,7 @@ impl RowVisitor for Vec<Option<u64>> {
 
     ghost row_fault = { new_row_fault };
 
-    ghost HasVisited = { λ vertices rows named. AreNamed vertices rows named.items };
+    ghost HasVisited = { λ vertices rows named. IsByVertex vertices (number_named rows) None named.items };
 
     fn visit(&mut self, _vertices: &u64, row: &ByteRecord, index: u64) -> Result<(), FileFault> {
         let (vertex, number) = vertex_and_number(row, self.len() as u64, index)?;

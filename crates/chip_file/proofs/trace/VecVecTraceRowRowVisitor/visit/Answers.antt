@@ -1,7 +1,7 @@
 use Rattle.std.proofs.Common.{◌∙◌, [], sym, ap, arith}
 use Rattle.std.proofs.lemmas.List.{length-map, map-set, get_or-map}
 use Rattle.csv.specs.Records.{fields_of}
-use Rattle.chip_file.proofs.TraceLemmas.{names_vertex, HaveRecorded-more}
+use Rattle.chip_file.proofs.TraceLemmas.{names_vertex, recorded_more}
 use Rattle.chip_file.proofs.trace.VecVecTraceRowRowVisitor.visit.Goals as goal
 
 pub returns-then-vertex-len : goal.returns-then-vertex-len
@@ -10,7 +10,7 @@ returns-then-vertex-len c = λ before had counted.
     let vertex = names_vertex c.args.graph.now c.args.index (fields_of c.args.row.now) found.0 in
     let many = length-map c.args.self.now.items (λ trace. trace.items) in
     let named = found.1 in
-    let each = had.each in
+    let each = had.as_many in
     absurd (omega (arith, c.args.self.now.ok.0))
 
 pub returns : goal.returns
@@ -23,5 +23,5 @@ returns c = λ before had counted.
     (omega (arith, c.args.self.now.ok.0))) in (
       rw counted found.0,
       rw (map-set, c.in_ok-push.ensures.items, was, found.1, found.2)
-          (HaveRecorded-more c.args.graph.now before _ row had (names_vertex c.args.graph.now c.args.index row found.0)),
+          (recorded_more _ before _ row had (names_vertex c.args.graph.now c.args.index row found.0)),
     )

@@ -1,7 +1,7 @@
 use Rattle.std.proofs.Common.{◌≡◌, ◌∙◌, ap}
 use Rattle.csv.specs.Records.{fields_of}
 use Rattle.chip_file.specs.VertexRows.{vertex_in, given_in}
-use Rattle.chip_file.proofs.VertexRowLemmas.{AreNamed-more}
+use Rattle.chip_file.proofs.VertexRowLemmas.{named_more}
 use Rattle.chip_file.proofs.vertex_rows.VecOptionU64RowVisitor.visit.Goals as goal
 
 pub returns : goal.returns
@@ -11,5 +11,5 @@ returns c = λ before are counted.
     let vertex : c.in_ok-vertex.vertex ≡ vertex_in row = ap (λ given. given.0) found.1 in
     let number : c.in_ok-vertex.number ≡ given_in row = ap (λ given. given.1) found.1 in
     let many : c.len.result ≡ c.args._vertices.now = c.len.ensures ∙ c.args.self.now.ok.0 ∙ are.as_many in
-    rw (vertex, number) (AreNamed-more _ before _ c.args.index row c.index_mut-named.result.now are counted
+    rw (vertex, number) (named_more _ before _ c.args.index row c.index_mut-named.result.now are counted
     (rw many at found.0) (rw vertex at c.index_mut-named.ensures.value) c.if-is_some.ensures)

@@ -1,6 +1,6 @@
 use Rattle.std.proofs.Common.{◌≡◌, drop}
 use Rattle.chip_file.specs.Kinds.{kind_named, named_kinds}
-use Rattle.chip_file.proofs.kind.kind_named.Given as goal
+use Rattle.chip_file.proofs.kind.kind_at.Given as goal
 
 abbrev pub invariant-loop-kind_name : goal.invariant-loop-kind_name
 invariant-loop-kind_name g l =

@@ -2,7 +2,7 @@ use Rattle.std.proofs.Common.{◌≡◌, ℕ, ◌<◌, ◌+◌, Bool, true, fals
 use Rattle.std.proofs.Common.{add-one, drop-cons, Bor}
 use Rattle.std.specs.Prelude.{bytes_eq, if◌then◌else◌}
 use Rattle.chip_file.specs.Kinds.{kind_named, named_kinds}
-use Rattle.chip_file.proofs.kind.kind_named.Goals as goal
+use Rattle.chip_file.proofs.kind.kind_at.Goals as goal
 
 -- the kinds from an index on, by a test of the first one's name
 from_index : {K : Type 0} (kinds : List (Bor (List ℕ) × K)) (name : List ℕ) (i : ℕ) (kind : Bor (List ℕ) × K)
@@ -15,12 +15,12 @@ from_index kinds name i kind text test below is same e =
 
 pub returns-then-eq : goal.returns-then-eq
 returns-then-eq g c =
-    sym (c.loop-kind_name.invariant ∙ from_index c.args.kinds.now c.args.name.now c.loop-kind_name.kind_name-index _
-    c.as_bytes.result true
-    c.loop-kind_name-test.true c.loop-kind_name-item.is c.as_bytes.ensures.value c.if-eq.ensures)
+    rw (← c.in_ok-name.ensures.value) (sym (c.loop-kind_name.invariant ∙ from_index c.args.kinds.now c.in_ok-name.name.now
+    c.loop-kind_name.kind_name-index _ c.as_bytes.result true
+    c.loop-kind_name-test.true c.loop-kind_name-item.is c.as_bytes.ensures.value c.if-eq.ensures))
 
 pub loop-kind_name-preserved : goal.loop-kind_name-preserved
 loop-kind_name-preserved g c =
-    c.loop-kind_name.invariant ∙ from_index c.args.kinds.now c.args.name.now c.loop-kind_name.kind_name-index _
+    c.loop-kind_name.invariant ∙ from_index c.args.kinds.now c.in_ok-name.name.now c.loop-kind_name.kind_name-index _
     c.as_bytes.result false
     c.loop-kind_name-test.true c.loop-kind_name-item.is c.as_bytes.ensures.value c.if-eq.ensures

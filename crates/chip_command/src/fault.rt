@@ -11,12 +11,11 @@ use chip_graph::{GameFault, GraphFault};
 use chip_report::{ReportFault, WriteFault};
 use chip_trace::{ReplayFault, TraceFault};
 use std::alloc::{AllocError, AllocFailed};
+use std::error::Error;
 use std::fmt;
-use thiserror::Error;
 
 /// Why a command failed.
-#[derive(Clone, Copy, Debug, PartialEq, Eq, Error)]
-#[error("{}", self.line())]
+#[derive(Clone, Copy, PartialEq, Eq)]
 pub enum Fault {
     /// The text of a file, or its bytes.
     File(FileFault),
@@ -192,7 +191,7 @@ impl fmt::Display for Location {
     }
 }
 
-/// A fault as it is printed: its number, its name, and where it is.
+/// What is printed of a fault: its number, its name, and where it is.
 #[derive(Clone, Copy)]
 pub struct FaultLine {
     pub number: u64,
@@ -200,11 +199,20 @@ pub struct FaultLine {
     pub location: Location,
 }
 
-impl fmt::Display for FaultLine {
+impl fmt::Display for Fault {
     fn fmt<W: fmt::Write>(&self, f: &mut fmt::Formatter<W>) -> fmt::Result {
-        write!(f, "fault {} {}{}", self.number, self.name, self.location)
+        let line = self.line();
+        write!(f, "fault {} {}{}", line.number, line.name, line.location)
     }
 }
+
+impl fmt::Debug for Fault {
+    fn fmt<W: fmt::Write>(&self, f: &mut fmt::Formatter<W>) -> fmt::Result {
+        fmt::Display::fmt(self, f)
+    }
+}
+
+impl Error for Fault {}
 
 /// The number of a fault of a graph, and where it is.
 fn print_graph(fault: &GraphFault) -> (u64, Location)

@@ -3,8 +3,8 @@
 use crate::console::{Console, Reader};
 use crate::progress::RoundProgress;
 use chip_arguments::{
-    AvalancheArguments, CheckArguments, GameArguments, PlainArguments, ReplayArguments,
-    SimulationArguments, VerifyArguments,
+    AvalancheArguments, CheckArguments, FileArgument, GameArguments, PlainArguments,
+    ReplayArguments, SimulationArguments, VerifyArguments,
 };
 use chip_command::{Ended, Fault};
 use chip_engine::{
@@ -65,12 +65,8 @@ impl<R: Files<File = File> + Input + Clock + Eprint + AllocGlobal> Console<'_, R
         asked: &AvalancheArguments<'_>,
         output: &mut W,
     ) -> Result<Ended, Fault> {
-        let (mut graph, mut chips) = self.open_game(&asked.game)?;
-        let mut drops = self.open(&asked.drops)?;
-        let mut report = match &asked.report {
-            Some(file) => Some(self.create(file, &graph, &chips, Some(&drops))?),
-            None => None,
-        };
+        let (mut graph, mut chips, mut drops) = self.open_game_and(&asked.game, &asked.drops)?;
+        let mut report = self.create(&asked.report, &graph, &chips, Some(&drops))?;
         avalanches_engine_with(
             self.rt.alloc(),
             &mut graph,
@@ -89,16 +85,13 @@ impl<R: Files<File = File> + Input + Clock + Eprint + AllocGlobal> Console<'_, R
         asked: &SimulationArguments<'_>,
         output: &mut W,
     ) -> Result<Ended, Fault> {
-        let ring = Ring::new(asked.ring).ok_or(Fault::Usage)?;
-        let (mut graph, mut chips) = self.open_game(&asked.game)?;
-        let mut schedule = self.open(&asked.schedule)?;
-        let options = SimulateOptions {
-            play: play_options(&asked.game),
-            ring,
-            rounds: asked.rounds,
-            books: asked.books,
-            fed: asked.fed,
+        let Some(options) = simulate_options(asked) else {
+            return Err(Fault::Usage);
         };
+        let (mut graph, mut chips, mut schedule) = self.open_game_and(
+            &asked.game,
+            &asked.schedule,
+        )?;
         simulate_engine_with(
             self.rt.alloc(),
             &mut graph,
@@ -115,8 +108,7 @@ impl<R: Files<File = File> + Input + Clock + Eprint + AllocGlobal> Console<'_, R
         asked: &ReplayArguments<'_>,
         output: &mut W,
     ) -> Result<Ended, Fault> {
-        let (mut graph, mut chips) = self.open_game(&asked.game)?;
-        let mut trace = self.open(&asked.trace)?;
+        let (mut graph, mut chips, mut trace) = self.open_game_and(&asked.game, &asked.trace)?;
         replay_engine_with(
             self.rt.alloc(),
             &mut graph,
@@ -153,8 +145,7 @@ impl<R: Files<File = File> + Input + Clock + Eprint + AllocGlobal> Console<'_, R
         asked: &VerifyArguments<'_>,
         output: &mut W,
     ) -> Result<Ended, Fault> {
-        let (mut graph, mut chips) = self.open_game(&asked.game)?;
-        let mut report = self.open(&asked.report)?;
+        let (mut graph, mut chips, mut report) = self.open_game_and(&asked.game, &asked.report)?;
         verify_engine_with(
             self.rt.alloc(),
             &mut graph,
@@ -173,6 +164,27 @@ impl<R: Files<File = File> + Input + Clock + Eprint + AllocGlobal> Console<'_, R
     ) -> Result<(Reader<'_, R>, Reader<'_, R>), Fault> {
         Ok((self.open(&game.graph)?, self.open(&game.start)?))
     }
+
+    /// Opens the files of a game, and then one more.
+    fn open_game_and(
+        &self,
+        game: &GameArguments<'_>,
+        file: &FileArgument<'_>,
+    ) -> Result<(Reader<'_, R>, Reader<'_, R>, Reader<'_, R>), Fault> {
+        let (graph, start) = self.open_game(game)?;
+        Ok((graph, start, self.open(file)?))
+    }
+}
+
+/// What a simulation does, if its ring can be.
+fn simulate_options(asked: &SimulationArguments<'_>) -> Option<SimulateOptions> {
+    Some(SimulateOptions {
+        play: play_options(&asked.game),
+        ring: Ring::new(asked.ring)?,
+        rounds: asked.rounds,
+        books: asked.books,
+        fed: asked.fed,
+    })
 }
 
 /// How large a game may be, and how often a vertex may fire.

@@ -27,11 +27,8 @@ struct Pace {
 }
 
 impl Pace {
-    /// From now on. `None` if no lines are asked for, or the clock cannot be read.
-    fn start(clock: &impl Clock, asked: bool) -> Option<Pace> {
-        if !asked {
-            return None;
-        }
+    /// From now on. `None` if the clock cannot be read.
+    fn start(clock: &impl Clock) -> Option<Pace> {
         Some(Pace {
             start: Instant::now(clock).ok()?,
             last: AtomicU64::new(0),
@@ -69,7 +66,7 @@ impl<'a, R: Clock + Eprint> Console<'a, R> {
     pub fn start(rt: &'a R, has_progress: bool) -> Console<'a, R> {
         Console {
             rt,
-            pace: Pace::start(rt, has_progress),
+            pace: if has_progress { Pace::start(rt) } else { None },
             last: AtomicU64::new(0),
             has_standard: AtomicBool::new(false),
         }
@@ -118,14 +115,17 @@ impl<R: Files<File = File> + Input + Clock + Eprint> Console<'_, R> {
         })
     }
 
-    /// Creates the file that an argument names, or empties it, unless it is one of these inputs.
+    /// Creates the file of an option, if there is one, or empties it, unless it is one of these inputs.
     pub fn create(
         &self,
-        file: &FileArgument<'_>,
+        file: &Option<FileArgument<'_>>,
         graph: &Reader<'_, R>,
         chips: &Reader<'_, R>,
         more: Option<&Reader<'_, R>>,
-    ) -> Result<File, Fault> {
+    ) -> Result<Option<File>, Fault> {
+        let Some(file) = file else {
+            return Ok(None);
+        };
         self.last.store(file.number, SeqCst);
         let fault = Fault::Open(file.number);
         if let Ok(old) = fs::metadata(self.rt, file.path) {
@@ -137,9 +137,10 @@ impl<R: Files<File = File> + Input + Clock + Eprint> Console<'_, R> {
                 return Err(fault);
             }
         }
-        fs::create(self.rt, file.path)
-            .and_then(above_streams)
-            .map_err(|_| fault)
+        match fs::create(self.rt, file.path).and_then(above_streams) {
+            Ok(created) => Ok(Some(created)),
+            Err(_) => Err(fault),
+        }
     }
 }
 

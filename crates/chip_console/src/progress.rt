@@ -66,7 +66,11 @@ impl<R: Clock + Eprint> Watch for RoundProgress<'_, R> {
         self.rounds = self.rounds.saturating_add(more);
         if self.console.is_due() {
             let rounds = self.rounds;
-            let firings = sum_of(fired);
+            // At most 2^64 - 1. The firings of a game are fewer.
+            let mut firings = 0u64;
+            for count in fired {
+                firings = firings.saturating_add(*count);
+            }
             let _ = eprintln!(self.console.rt;
                 "chipfire: progress: {rounds} rounds, {firings} firings"
             );
@@ -78,13 +82,4 @@ impl<R: Clock + Eprint> Watch for RoundProgress<'_, R> {
             let _ = eprintln!(self.console.rt; "chipfire: progress: writing {bytes} bytes");
         }
     }
-}
-
-/// The sum of some numbers, at most 2^64 - 1. The firings of a game are fewer.
-fn sum_of(numbers: &[u64]) -> u64 {
-    let mut sum = 0u64;
-    for number in numbers {
-        sum = sum.saturating_add(*number);
-    }
-    sum
 }

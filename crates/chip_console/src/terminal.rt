@@ -11,12 +11,13 @@ pub fn tell_more<R: Eprint>(rt: &R, fault: &Fault, about: &str) -> io::Result<()
     }
     let said = fault.line();
     let number = said.number;
+    // Faults from 24 to 28 are in a row of a file. Those below 60, 70 and 92 are about a file.
     match said.location {
-        Location::At(row) if is_in_a_row(number) => {
+        Location::At(row) if number >= 24 && number <= 28 => {
             let line = row.saturating_add(2);
             eprintln!(rt; "  in {about}: row {row}, which is line {line} if no line is empty")?;
         }
-        _ if is_about_a_file(number) => eprintln!(rt; "  in {about}")?,
+        _ if number < 60 || number == 70 || number == 92 => eprintln!(rt; "  in {about}")?,
         _ => {}
     }
     for row in &explanations() {
@@ -28,14 +29,4 @@ pub fn tell_more<R: Eprint>(rt: &R, fault: &Fault, about: &str) -> io::Result<()
         }
     }
     eprintln!(rt; "  `chipfire explain {number}` says more.")
-}
-
-/// Whether faults with this number are in a row of a file of rows.
-fn is_in_a_row(number: u64) -> bool {
-    number >= 24 && number <= 28
-}
-
-/// Whether faults with this number are about a file: what it means, the game of it, or that it could not be opened.
-fn is_about_a_file(number: u64) -> bool {
-    number < 60 || number == 70 || number == 92
 }

@@ -140,10 +140,7 @@ fn play_on_threads<
         Some(file) => Some(console.open(file)?),
         None => None,
     };
-    let mut trace = match &asked.trace {
-        Some(file) => Some(console.create(file, &graph, &chips, feed.as_ref())?),
-        None => None,
-    };
+    let mut trace = console.create(&asked.trace, &graph, &chips, feed.as_ref())?;
     run_engine_with(
         console.rt,
         console.rt.alloc(),

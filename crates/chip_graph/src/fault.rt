@@ -1,46 +1,36 @@
 use std::alloc::{AllocError, AllocFailed};
-use std::{error, fmt};
+use thiserror::Error;
 
 /// Why rows of edges are no graph: the first reason in this order.
-#[derive(Clone, Copy, Debug, PartialEq, Eq)]
+#[derive(Clone, Copy, Debug, PartialEq, Eq, Error)]
 pub enum GraphFault {
     /// There are no vertices, or more than the limits allow.
+    #[error("there are no vertices, or too many")]
     Vertices,
     /// The sink is no vertex.
+    #[error("the sink is no vertex")]
     Sink,
     /// There are more edges than the limits allow.
+    #[error("there are too many edges")]
     EdgeCount,
     /// An end of this edge is no vertex.
+    #[error("edge {0} has an end that is no vertex")]
     Endpoint(u64),
     /// This edge sends no chips, or more than 1,048,576.
+    #[error("edge {0} must send 1 to 1048576 chips")]
     Mult(u64),
     /// This edge goes back into its tail.
+    #[error("edge {0} is a loop")]
     Loop(u64),
     /// This edge leaves the sink.
+    #[error("edge {0} leaves the sink")]
     FromSink(u64),
     /// No walk leads from this vertex to the sink, and it is the least such vertex.
+    #[error("no walk leads from vertex {0} to the sink")]
     Unreached(u64),
     /// Memory ran out.
+    #[error("out of memory")]
     NoMemory,
-}
-
-impl error::Error for GraphFault {}
-
-impl fmt::Display for GraphFault {
-    fn fmt<W: fmt::Write>(&self, f: &mut fmt::Formatter<W>) -> fmt::Result {
-        let (before, number, after) = match *self {
-            GraphFault::Vertices => return f.write_str("there are no vertices, or too many"),
-            GraphFault::Sink => return f.write_str("the sink is no vertex"),
-            GraphFault::EdgeCount => return f.write_str("there are too many edges"),
-            GraphFault::Endpoint(edge) => ("edge", edge, "has an end that is no vertex"),
-            GraphFault::Mult(edge) => ("edge", edge, "must send 1 to 1048576 chips"),
-            GraphFault::Loop(edge) => ("edge", edge, "is a loop"),
-            GraphFault::FromSink(edge) => ("edge", edge, "leaves the sink"),
-            GraphFault::Unreached(vertex) => ("no walk leads from vertex", vertex, "to the sink"),
-            GraphFault::NoMemory => return f.write_str("out of memory"),
-        };
-        write!(f, "{before} {number} {after}")
-    }
 }
 
 impl<T: Drop> From<AllocFailed<T>> for GraphFault {
@@ -66,24 +56,15 @@ impl From<AllocError> for GraphFault {
 }
 
 /// Why a graph, a start and a limit are no game: the first reason in this order.
-#[derive(Clone, Copy, Debug, PartialEq, Eq)]
+#[derive(Clone, Copy, Debug, PartialEq, Eq, Error)]
 pub enum GameFault {
     /// The start has not one number for each vertex.
+    #[error("the start must have one number for each vertex")]
     StartLength,
     /// There are more than 1,099,511,627,776 chips in all.
+    #[error("there are more than 1099511627776 chips")]
     Total,
     /// The firing limit is above 1,099,511,627,776.
+    #[error("the firing limit is above 1099511627776")]
     Limit,
-}
-
-impl error::Error for GameFault {}
-
-impl fmt::Display for GameFault {
-    fn fmt<W: fmt::Write>(&self, f: &mut fmt::Formatter<W>) -> fmt::Result {
-        f.write_str(match self {
-            GameFault::StartLength => "the start must have one number for each vertex",
-            GameFault::Total => "there are more than 1099511627776 chips",
-            GameFault::Limit => "the firing limit is above 1099511627776",
-        })
-    }
 }

@@ -154,7 +154,8 @@ fn play_on_threads<
     )
 }
 
-/// How the threads play.
+/// How the threads play. It is never inlined: so the loop of `Root::poll` lies where it is quick (`docs/BENCHMARKS.md`).
+#[inline(never)]
 fn options_of(asked: &RunArguments<'_>) -> RunOptions
     ensures { result.plan.seal ≡ None }
 {

@@ -142,8 +142,12 @@ fn turn(graph: &Graph, limit: u64, vertex: u64, chips: &mut [u64], fired: &mut [
     let v = vertex as usize;
     let degree = graph.out_degree(vertex);
     let has = chips[v];
+    // (most vertices are left here: their counts are not read)
+    if has < degree {
+        return false;
+    }
     let left = limit - fired[v];
-    if has < degree || left == 0 {
+    if left == 0 {
         return false;
     }
     let k = times_in(has, degree).min(left);

@@ -48,7 +48,7 @@ pub fn plain_given<W: Watch>(
 {
     let (chips, fired) = start(alloc, game)?;
     let (chips, fired) = use_given(alloc, game, given, chips, fired, watch);
-    let (chips, fired) = play_few(alloc, game, chips, fired);
+    let (chips, fired) = play_few(alloc, game, chips, fired, watch);
     let (chips, fired) = play_on(alloc, game, chips, fired, watch);
     outcome_at_rest(alloc, game, chips, fired)
 }

@@ -7,33 +7,50 @@ ghost use Rattle.chip_fire.specs.Rounds.{IsBegun, IsInRange, StaysOnTheWay};
 ghost use Rattle.chip_fire.specs.WorkList.{AreListed, HasSupport};
 
 use crate::player::legal_vertices;
-use crate::rounds::times_in;
-use crate::soon::waiting_chips;
+use crate::rounds::{ends_within, times_in};
+use crate::soon::{looks_at_all, waiting_chips};
+use crate::watch::Watch;
 use chip_graph::{Game, Graph};
 use std::alloc::{AllocError, Global};
 
 /// How many turns at each vertex a play by a work list makes before it gives up.
 const TURNS: u64 = 64;
 
-/// For how many vertices one chip may wait at most where a play begins by a work list.
+/// For how many vertices one chip waits where few do.
 const VERTICES_PER_CHIP: u64 = 64;
 
-/// Goes on by a work list, where few chips wait to move: the chips and counts to which it comes. Where there is no memory
-/// for it, all stays as it is.
-pub(crate) fn play_few(
+/// For how many vertices a work list has one place: rounds are twice as quick where many vertices fire (full-1000).
+const VERTICES_PER_PLACE: usize = 8;
+
+/// How many looks at each vertex and edge are made by rounds, where few chips set off many: a search is slower than most
+/// such plays (full-1000, and some hundreds of chips on a full grid of 300 by 300).
+const LOOKS_OF_FEW: u64 = 2048;
+
+/// Goes on by a work list where few chips wait to move, and by rounds where these have set off many: the chips and counts
+/// to which it comes.
+pub(crate) fn play_few<W: Watch>(
     alloc: Global,
     game: &Game,
     mut chips: Vec<u64>,
     mut fired: Vec<u64>,
+    watch: &mut W,
 ) -> (Vec<u64>, Vec<u64>)
     requires { IsBegun game.now chips.items fired.items }
     ensures { IsBegun game.now result.0.items result.1.items }
 {
-    let graph = game.graph();
-    let waits = waiting_chips(graph, game.limit(), &chips, &fired);
-    if waits > 0 && waits <= graph.vertices() / VERTICES_PER_CHIP {
-        let _ = work_off_all(alloc, game, &mut chips, &mut fired);
+    let (graph, limit) = (game.graph(), game.limit());
+    let few = graph.vertices() / VERTICES_PER_CHIP;
+    let waits = waiting_chips(graph, limit, &chips, &fired);
+    if waits == 0 || waits > few {
+        return (chips, fired);
     }
+    let _ = work_off_all(alloc, game, &mut chips, &mut fired);
+    let most = if waiting_chips(graph, limit, &chips, &fired) > few {
+        looks_at_all(graph).saturating_mul(LOOKS_OF_FEW)
+    } else {
+        0
+    };
+    ends_within(game, most, &mut 0, &mut chips, &mut fired, watch);
     (chips, fired)
 }
 
@@ -52,7 +69,7 @@ fn work_off_all(
     let mut support = vec![in alloc; 0; vertices]?;
     let mut list = legal_vertices(alloc, game.graph(), chips)?;
     let listed = list.len();
-    list.resize(listed + 2 * vertices, 0)?;
+    list.resize(listed + vertices / VERTICES_PER_PLACE, 0)?;
     work_off(game, listed, &before, &mut support, &mut list, chips, fired);
     Ok(())
 }

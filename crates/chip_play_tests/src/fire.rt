@@ -319,6 +319,56 @@ fn one_chip_more_on_a_long_path(rt: HostRuntime) {
     }
 }
 
+/// The side of a grid whose borders lose chips to the sink.
+const SIDE: u64 = 61;
+
+/// The cell in the middle of the grid.
+const MIDDLE: u64 = SIDE * SIDE / 2;
+
+/// The grid with three chips on each cell, as many as stay there, and so many more in the middle.
+fn full_grid(rt: &(impl AllocGlobal + Abort), more: u64) -> Box<Game> {
+    let sink = SIDE * SIDE;
+    let mut rows = Vec::new(rt.alloc());
+    for cell in 0..sink {
+        let (row, column) = (cell / SIDE, cell % SIDE);
+        let beside = [
+            if row > 0 { cell - SIDE } else { sink },
+            if column > 0 { cell - 1 } else { sink },
+            if column < SIDE - 1 { cell + 1 } else { sink },
+            (cell + SIDE).min(sink),
+        ];
+        for head in beside {
+            rows.push((cell, head, 1)).expect(rt, "memory");
+        }
+    }
+    let mut start = vec![in rt.alloc(); 3; sink as usize + 1].expect(rt, "memory");
+    if let Some(chips) = start.get_mut(MIDDLE as usize) {
+        *chips = more.wrapping_add(3);
+    }
+    let graph = graph_of(rt, sink + 1, sink, &rows);
+    let game = Game::new(Box::into_inner(graph), start, 1 << 40).expect(rt, "a game");
+    Box::new(rt.alloc(), game).expect(rt, "memory")
+}
+
+/// One chip more has each cell fire as often as its layer is from the border on, the outermost ones once. Where few chips
+/// set off many, rounds play them, and no counts are searched.
+#[test]
+fn few_chips_more_on_a_full_grid(rt: HostRuntime) {
+    for more in [1, 50] {
+        let mut told = Told::nothing();
+        let game = full_grid(&rt, more);
+        let outcome = plain_watched(rt.alloc(), &game, &mut told).expect(&rt, "memory");
+        assert!(rt; told.rounds > 0 && told.searches == 0);
+        assert!(rt; outcome.over.is_empty());
+        for cell in 0..SIDE * SIDE {
+            let (row, column) = (cell / SIDE, cell % SIDE);
+            let layer = row.min(column).min(SIDE - 1 - row).min(SIDE - 1 - column) + 1;
+            let fired = outcome.fired.get(cell as usize).copied();
+            assert!(rt; more > 1 || fired == Some(layer));
+        }
+    }
+}
+
 /// The first sitting of a play.
 fn first_sitting(rt: &(impl AllocGlobal + Abort), game: &Game) -> Resumed
     ensures { IsResumed result }
@@ -339,12 +389,14 @@ fn a_long_path_in_two_sittings(rt: HostRuntime) {
     long_path_ends(&rt, &last.outcome);
 }
 
-/// How often it was told something, of how many rounds in all, and how many firings there were after the last of them.
+/// How often it was told something, of how many rounds in all, how many firings there were after the last of them, and of
+/// how many searches.
 #[derive(Drop)]
 struct Told {
     times: u64,
     rounds: u64,
     firings: u64,
+    searches: u64,
 }
 
 impl Told {
@@ -353,6 +405,7 @@ impl Told {
             times: 0,
             rounds: 0,
             firings: 0,
+            searches: 0,
         }
     }
 }
@@ -362,6 +415,10 @@ impl Watch for Told {
         self.times = self.times.saturating_add(1);
         self.rounds = self.rounds.saturating_add(more);
         self.firings = all_firings(fired);
+    }
+
+    fn searched(&mut self, _game: &Game, _played: u64, _searched: u64) {
+        self.searches = self.searches.saturating_add(1);
     }
 }
 

@@ -39,6 +39,7 @@ pub record IsLeader (asked : Asked) (leader : Leader) : Type 0 where
   pub root : leader.root ≡ root_of asked.crew asked.plan
   pub feeds : option_copied leader.feeds ≡ asked.feeds
   pub seal : HasSealed asked.crew asked.plan.seal 0 leader.seal
+  pub goes_on : leader.is_closed ≡ false
   pub can : CanLead asked.crew.net leader
 
 -- it led in so many turns, of which so many make a round

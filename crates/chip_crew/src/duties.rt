@@ -5,11 +5,14 @@ use chip_net::Net;
 
 /// Done by a worker beside the turns of its actors, by its own thread.
 pub(crate) trait Duties {
-    ghost use Rattle.std.specs.Prelude.{ℕ, Bool};
+    ghost use Rattle.std.specs.Prelude.{◌≡◌, ℕ, Bool, false};
     ghost use Rattle.chip_net.specs.Tokens.{NetId};
 
     // Whether they can be done at this net.
     ghost can: { NetId → Self → Type 0 };
+
+    // Whether no round ended so that the crew is to stop.
+    ghost goes_on: { Self → Type 0 };
 
     // What was done before the turn of this number.
     ghost before: { ℕ → Self → Self → Type 0 };
@@ -22,14 +25,18 @@ pub(crate) trait Duties {
 
     /// Done before each turn.
     fn begin_turn(&mut self, net: &Net, turn: u64)
-        requires { can net.now self.old }
+        requires can { can net.now self.old }
+        requires goes_on { goes_on self.old }
         ensures can { can net.now self.new }
+        ensures goes_on { goes_on self.new }
         ensures done { before turn self.old self.new };
 
     /// Done after each whole round, of which this was the last turn: whether the crew is to stop.
     fn end_round<G: Gate>(&mut self, net: &Net, gate: &G, turn: u64) -> bool
-        requires { can net.now self.old }
+        requires can { can net.now self.old }
+        requires goes_on { goes_on self.old }
         ensures can { can net.now self.new }
+        ensures goes_on { result ≡ false → goes_on self.new }
         ensures done { after self.old self.new }
         ensures stops { stops result self.new };
 }
@@ -42,6 +49,8 @@ impl Duties for NoDuties {
     ghost use Rattle.std.specs.Prelude.{◌≡◌, false, ⊤};
 
     ghost can = { λ _ _. ⊤ };
+
+    ghost goes_on = { λ _. ⊤ };
 
     ghost before = { λ _ old new. new ≡ old };
 

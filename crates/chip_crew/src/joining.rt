@@ -59,6 +59,7 @@ fn start<'s, E, B: Crew + Send + Sync, G: Gate + Sync, D: Duties + Send + Drop +
 ) -> Result<Started<'s, B, D>, CrewFault>
     requires made { HasMade B.asked worker.number 0 worker.share }
     requires can { D.can B.asked.crew.net worker.duties }
+    requires goes_on { D.goes_on worker.duties }
     ensures fault { IfErr result (λ fault. fault ≡ Spawn) }
     ensures started { IfOk result (λ s. (s.promise.number ≡ worker.entry.number) × (s.promise.share.value ≡ worker.entry.share) × (s.promise.duties.value ≡ worker.entry.duties)) }
 {

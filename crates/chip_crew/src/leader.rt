@@ -39,9 +39,12 @@ fn seal_before(net: &Net, seal: &mut Option<(Stopper, SealAt)>, turn: u64)
 }
 
 impl<'a> Duties for Leader<'a> {
+    ghost use Rattle.std.specs.Prelude.{◌≡◌, false};
     ghost use Rattle.chip_crew.specs.Leading.{CanLead, LeadsTurn, LeadsRound, Stops};
 
     ghost can = { CanLead };
+
+    ghost goes_on = { λ leader. leader.is_closed ≡ false };
 
     ghost before = { LeadsTurn };
 

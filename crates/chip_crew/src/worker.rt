@@ -117,7 +117,9 @@ impl<'a, B: Crew, G: Gate> Shared<'a, B, G> {
     fn begin<D: Duties>(&self, worker: u64, turn: u64, duties: &mut D) -> bool
         requires turn { turn < B.asked.plan.turns }
         requires can { D.can B.asked.crew.net duties.old }
+        requires goes_on { D.goes_on duties.old }
         ensures can { D.can B.asked.crew.net duties.new }
+        ensures goes_on { D.goes_on duties.new }
         ensures begins { Begins (D.before turn) (passes B.asked worker turn) (ShutFor B.asked worker) duties.old duties.new result }
     {
         if !self.gate.pass(worker, turn) {
@@ -144,10 +146,12 @@ impl<'a, B: Crew, G: Gate> Shared<'a, B, G> {
         requires first { first % max 1 (length actors.old.items) ≡ 0 }
         requires made { HasDealt B.asked worker first actors.old.items }
         requires can { D.can B.asked.crew.net duties.old }
+        requires goes_on { D.goes_on duties.old }
         ensures round { IsRoundOf B.asked worker most result }
         ensures made { HasDealt B.asked worker (first + result) actors.new.items }
         ensures count { length actors.new.items ≡ length actors.old.items }
         ensures can { D.can B.asked.crew.net duties.new }
+        ensures goes_on { D.goes_on duties.new }
         ensures done { BeginsEach D.before first result duties.old duties.new }
     {
         // Read once: behind an atomic operation it would be read again.
@@ -183,10 +187,12 @@ impl<'a, B: Crew, G: Gate> Shared<'a, B, G> {
         requires first { first % round_of share.old ≡ 0 }
         requires made { HasMade B.asked worker first share.old }
         requires can { D.can B.asked.crew.net duties.old }
+        requires goes_on { D.goes_on duties.old }
         ensures round { IsRoundOf B.asked worker most result }
         ensures made { HasMade B.asked worker (first + result) share.new }
         ensures same { (round_of share.new ≡ round_of share.old) × (queue_of share.new ≡ queue_of share.old) }
         ensures can { D.can B.asked.crew.net duties.new }
+        ensures goes_on { D.goes_on duties.new }
         ensures done { BeginsEach D.before first result duties.old duties.new }
     {
         match share {
@@ -207,6 +213,7 @@ impl<'a, B: Crew, G: Gate, D: Duties> Worker<'a, B, G, D> {
     pub fn work(self) -> WorkerResult<'a, B, D>
         requires made { HasMade B.asked self.number 0 self.share }
         requires can { D.can B.asked.crew.net self.duties }
+        requires goes_on { D.goes_on self.duties }
         ensures { HasWorked B.asked D.can D.before D.after self.entry.number self.entry.share self.entry.duties result }
     {
         let Worker {

@@ -42,6 +42,7 @@ play_on-requires-clause-opened g c κs within =
             ∙ ap (λ (b : Bool). new_root opened.net (if b then None else Some [])) c.is_some-2.ensures;
         feeds = refl;
         seal = sealed;
+        goes_on = refl;
         can = record {
           net_is = ap (λ (r : RootKnown). r.net) c.in_ok-opened.ensures.root;
           may = may_begin c.args.game (option_copied c.args.feeds) c.args.plan opened.net opened.root _ can

@@ -8,9 +8,9 @@ pub returns-clause-can : goal.returns-clause-can
 returns-clause-can c = record {
   net_is = c.feed_once.ensures.net;
   may = (once_goes_on (option_copied c.args.self.now.feeds) (option_copied c.feed_once.new.left) c.args.self.now.root
-      c.feed_once.new.root c.feed_once.ensures.fed).may c.requires.may;
+      c.feed_once.new.root c.feed_once.ensures.fed).may c.requires.can.may;
   seal = seal_stays c.args.net.now c.args.turn c.args.self.now.seal c.seal_before.new.seal c.seal_before.ensures
-      c.requires.seal;
+      c.requires.can.seal;
   closed = λ is. over_fed (option_copied c.args.self.now.feeds) (option_copied c.feed_once.new.left) c.args.self.now.root
-      c.feed_once.new.root c.requires.may c.feed_once.ensures.fed (c.requires.closed is);
+      c.feed_once.new.root c.requires.can.may c.feed_once.ensures.fed (c.requires.can.closed is);
 }

@@ -5,15 +5,15 @@ use Rattle.chip_crew.proofs.leader.LeaderDuties.end_round.Goals as goal
 
 pub returns-in-Running-eq0-clause-can : goal.returns-in-Running-eq0-clause-can
 returns-in-Running-eq0-clause-can g c = can_still c.args.net.now c.args.self.now _ _ c.poll.ensures.polls.polling
-    c.poll.ensures.same (λ is. over_polled _ _ c.args.self.now.root.net.setting.game.graph.vertices c.poll.ensures.polls.polling (c.requires.closed is)) c.requires
+    c.poll.ensures.same (λ is. over_polled _ _ c.args.self.now.root.net.setting.game.graph.vertices c.poll.ensures.polls.polling (c.requires.can.closed is)) c.requires.can
 
 pub returns-in-Running-clause-can : goal.returns-in-Running-clause-can
 returns-in-Running-clause-can g c = can_still c.args.net.now c.args.self.now _ _ c.poll.ensures.polls.polling
-    c.poll.ensures.same (λ is. over_polled _ _ c.args.self.now.root.net.setting.game.graph.vertices c.poll.ensures.polls.polling (c.requires.closed is)) c.requires
+    c.poll.ensures.same (λ is. over_polled _ _ c.args.self.now.root.net.setting.game.graph.vertices c.poll.ensures.polls.polling (c.requires.can.closed is)) c.requires.can
 
 pub returns-in-Closed-clause-can : goal.returns-in-Closed-clause-can
 returns-in-Closed-clause-can g c = can_still c.args.net.now c.args.self.now _ _ c.poll.ensures.polls.polling
-    c.poll.ensures.same (λ is. c.in-Closed.ensures.polls.answers) c.requires
+    c.poll.ensures.same (λ is. c.in-Closed.ensures.polls.answers) c.requires.can
 
 -- nothing is outstanding, but the end of feeding is not noted
 apart : true ≡ false → ⊥

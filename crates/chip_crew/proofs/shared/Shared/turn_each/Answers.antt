@@ -46,6 +46,7 @@ loop-place-preserved g c =
       made = both.0;
       count = both.1;
       can = search rules;
+      goes_on = search rules;
       done = begins_more g.D.Duties.before c.args.first place c.args.duties.now c.loop-place.duties _ i.done
           c.if-not-begin.ensures.begins.1;
     }

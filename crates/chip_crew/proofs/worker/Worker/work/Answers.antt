@@ -20,6 +20,7 @@ loop-turns-preserved g c =
       uses = c.round-made.ensures.same.1 ∙ i.uses;
       begins = round_over c.round-round.result c.loop-turns.turns c.round-made.result whole i.begins;
       can = search rules;
+      goes_on = search rules;
       served = serves_round g.D.Duties.before g.D.Duties.after c.round-round.result c.loop-turns.turns c.round-made.result
           c.args.self.duties c.loop-turns.duties c.round-made.new.duties c.end_round.new.self whole i.begins i.some i.served
           c.round-made.ensures.done c.end_round.ensures.done;

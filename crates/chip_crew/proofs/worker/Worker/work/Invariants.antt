@@ -12,6 +12,7 @@ invariant-loop-turns g l = record {
   uses : queue_of l.share ≡ queue_of l.fn.self.share;
   begins : l.turns % l.round ≡ 0;
   can : g.D.Duties.can g.B.Crew.asked.crew.net l.duties;
+  goes_on : g.D.Duties.goes_on l.duties;
   served : Serves g.D.Duties.before g.D.Duties.after l.round l.turns l.fn.self.duties l.duties;
   passed : l.passed ≡ true;
 }

@@ -126,6 +126,19 @@ const RESUME_TEXTS: &[&(ResumeFault, &str)] = &[
     &(ResumeFault::NoMemory, "out of memory"),
 ];
 
+/// What `chip_net` says of chips that are not fed.
+const FEED_TEXTS: &[&(FeedFault, &str)] = &[
+    &(FeedFault::Ended, "the end of feeding is noted"),
+    &(
+        FeedFault::Total,
+        "more than 1099511627776 chips would have been given",
+    ),
+    &(
+        FeedFault::Full,
+        "the next cell of the ring to the vertex is full",
+    ),
+];
+
 #[test]
 fn the_other_libraries_say_what_is_wrong(rt: HostRuntime) {
     shows(&rt, &ReportFault::NotReport, "the bytes are no report");
@@ -145,6 +158,10 @@ fn the_other_libraries_say_what_is_wrong(rt: HostRuntime) {
     }
     shows(&rt, &WorldFault::NotClosed, "the root is not closed");
     shows(&rt, &WorldFault::NoMemory, "out of memory");
+    for (fault, text) in FEED_TEXTS {
+        shows(&rt, fault, text);
+    }
+    shows(&rt, &NoEdge, "no edge of the graph has this number");
 }
 
 /// The faults that only callers of the libraries meet have rows of the table, by their numbers.

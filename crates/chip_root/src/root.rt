@@ -279,6 +279,10 @@ impl RootBooks {
         requires { SomeRoot self.old (λ g s. RootCanDo g s (Settle (root_edge g vertex)) seen) }
         ensures { RootSettles self.old self.new vertex seen result }
     {
+        // (mostly nothing is new: a poll looks at each root edge, and what else is to do stays out of its loop)
+        if self.settled[vertex] == seen {
+            return 0;
+        }
         self.count(vertex, seen)
     }
 
@@ -292,6 +296,7 @@ impl RootBooks {
     }
 
     /// Notes how many messages of a vertex's root edge are settled, and gives how many of them are new.
+    #[cold]
     fn count(&mut self, vertex: usize, settled: u64) -> u64
         requires vertex { vertex < length self.old.settled }
         requires more { slice_index self.old.settled vertex ≤ settled }
@@ -303,11 +308,8 @@ impl RootBooks {
         ensures feeder { self.new.feeder ≡ self.old.feeder }
     {
         let more = settled - self.settled[vertex];
-        // (mostly nothing is new, and then nothing is written: a poll looks at each root edge)
-        if more > 0 {
-            self.settled[vertex] = settled;
-            self.outstanding -= more;
-        }
+        self.settled[vertex] = settled;
+        self.outstanding -= more;
         more
     }
 }

@@ -1,12 +1,12 @@
 -- Serves Avalanches.antt, Pile.antt, Laws.antt.
 -- What a drop changes, and what the play after it comes to.
-use Rattle.std.proofs.Common.{◌≡◌, ℕ, ◌+◌, ◌-◌, ◌*◌, ◌<◌, ◌≤◌, cond, eqb, List, [], ◌∷◌, length, sum}
-use Rattle.std.proofs.Common.{get_or, set, slice_index, refl, sym, ap, ◌∙◌, subst, arith, get_or-set_same}
-use Rattle.std.proofs.Common.{get_or-set_other, length-set, mul-zero}
+use Rattle.std.proofs.Common.{◌≡◌, ℕ, ◌+◌, ◌-◌, ◌<◌, ◌≤◌, cond, eqb, List, [], ◌∷◌, length, map, sum, get_or, set}
+use Rattle.std.proofs.Common.{slice_index, refl, sym, ap, ◌∙◌, subst, arith, get_or-set_same, get_or-set_other}
+use Rattle.std.proofs.Common.{length-set, mul-zero}
 use Rattle.std.proofs.lemmas.Bool.Decides.{nat_tests}
 use mathlib.Core.Logic.{dite}
 use native.Mathlib.Decide.{ℕ_discrete, dec_lt}
-use Rattle.std.proofs.lemmas.List.Sums.{sum_by-set, sum_by-cons}
+use Rattle.std.proofs.lemmas.List.Sums.{sum_by-cons}
 use Rattle.std.proofs.lemmas.List.{get_or_past, get_or_read}
 use Rattle.chip_graph.specs.Limits.{max_total}
 use Rattle.chip_graph.specs.Sums.{sum_below}
@@ -20,22 +20,20 @@ use Rattle.chip_sequence.specs.Certificate.{IsOnTheWay}
 use Rattle.chip_sequence.specs.Play.{IsPlayed}
 use Rattle.chip_sequence.specs.declared.outcome.Outcome.{Outcome}
 use Rattle.chip_sequence.specs.Sittings.{LeadsTo}
-use Rattle.chip_sequence.proofs.FiringLemmas.{counts_here, counts_else, led_once, position_is, sink_never, more_chips}
+use Rattle.chip_sequence.proofs.FiringLemmas.{counts_here, counts_else, position_is, sink_never, more_chips}
 use Rattle.chip_sequence.proofs.EndLemmas.{continued}
-use Rattle.chip_sequence.proofs.BoundLemmas.{led_total, ends}
-use Rattle.chip_sequence.proofs.CertificateLemmas.{led, end_of_the_way, same_way, playing_on, start_on_the_way}
+use Rattle.chip_sequence.proofs.BoundLemmas.{chips_are_kept, ends}
+use Rattle.chip_sequence.proofs.CertificateLemmas.{end_of_the_way, same_way, playing_on, start_on_the_way}
 use Rattle.chip_sequence.proofs.SittingLemmas.{leads_both, ends_alike, played_is_sitting}
 use Rattle.chip_fire.specs.Rounds.{IsBegun, IsAtRest}
 use Rattle.chip_drops.specs.declared.avalanche.Avalanche.{Avalanche}
+use Rattle.chip_drops.specs.declared.pile.Pile.{Pile}
 use Rattle.chip_drops.specs.Avalanches.{dropped, IsAvalanche}
-use Rattle.chip_drops.specs.Pile.{IsStable}
-use Rattle.chip_drops.specs.Laws.{all_dropped, DropsAddUp}
-use Rattle.chip_drops.specs.WorkList.{size_between, extent_between}
-
--- ---- lists that fire
+use Rattle.chip_drops.specs.Pile.{IsPile, IsStable, sum_between}
+use Rattle.chip_drops.specs.Laws.{DropsAddUp}
 
 -- a list has as many firings as all vertices have in it
-pub length_counts : (G : Multigraph) (vs : List ℕ) (x : ℕ → ℕ) → IsFiringSequence G x vs
+length_counts : (G : Multigraph) (vs : List ℕ) (x : ℕ → ℕ) → IsFiringSequence G x vs
     → length vs ≡ sum_below G.vertices (counts vs)
 length_counts G [] x ok = sym (sum_below_none G.vertices (counts []) (λ e l. refl))
 length_counts G (v ∷ vs) x ok =
@@ -46,36 +44,41 @@ length_counts G (v ∷ vs) x ok =
 
 -- ---- what a play leads to
 
--- who is on the way and rests was led there
-rest_leads : (G : Multigraph) (x : ℕ → ℕ) (limit : ℕ) (y f : ℕ → ℕ) → IsOnTheWay G x limit y f
-    → ((v : ℕ) → IsLegal G y v → f v ≡ limit) → LeadsTo G x f y
-rest_leads G x limit y f is rests =
-    let whole = continued G x limit [] tt (λ v. omega arith) in
-    let end = end_of_the_way G x limit y f is rests whole.0 whole.1 in
-    (whole.0, record { sequence = whole.1.sequence; counted = end.0; position = end.1 })
+-- a play at rest was led there
+rest_leads : (g : ChipGame) (chips fired : List ℕ) → IsBegun g chips fired → IsAtRest g.graph g.limit chips fired
+    → LeadsTo g.graph (slice_index g.start) (slice_index fired) (slice_index chips)
+rest_leads g chips fired begun rests =
+    let (vs, whole) = continued g.graph (slice_index g.start) g.limit [] tt (λ v. omega arith) in
+    let end = end_of_the_way _ _ _ _ _ begun.on_the_way rests vs whole in
+    (vs, record { sequence = whole.sequence; counted = end.0; position = end.1 })
 
 -- who was led there within the limit is on the way
 led_way : (G : Multigraph) (x : ℕ → ℕ) (limit : ℕ) (y f : ℕ → ℕ) → LeadsTo G x f y → ((v : ℕ) → f v ≤ limit)
     → IsOnTheWay G x limit y f
-led_way G x limit y f one low =
-    same_way G x limit _ _ y f
-    (playing_on G x limit x (λ v. 0) (start_on_the_way G x limit) one.0 one.1.sequence
-    (λ u. let a = low u in let b = one.1.counted u in omega arith))
-    one.1.position (λ u. let a = one.1.counted u in omega arith)
+led_way G x limit y f (vs, one) low =
+    same_way G x limit _ _ y f (playing_on G x limit x (λ v. 0) (start_on_the_way G x limit) vs one.sequence
+    (λ u. let a = low u in let b = one.counted u in omega arith))
+    one.position (λ u. let a = one.counted u in omega arith)
+
+-- no chip is lost on the way
+led_kept : (G : Multigraph) → IsGraph G → (xs ys : List ℕ) (f : ℕ → ℕ) → length xs ≡ G.vertices
+    → length ys ≡ G.vertices → LeadsTo G (slice_index xs) f (slice_index ys) → sum ys ≡ sum xs
+led_kept G good xs ys f each each' (vs, one) =
+    let a = chips_are_kept G good (slice_index xs) vs one.sequence in
+    let b = sum_below_ext G.vertices (slice_index ys) _ (λ v l. one.position v) in
+    cc (sum_by_place xs, sum_by_place ys)
 
 -- what leads from x to y leads with d more from the one to the other
-pub leads_more : (G : Multigraph) (x y f d x' y' : ℕ → ℕ) → LeadsTo G x f y → ((u : ℕ) → x' u ≡ x u + d u)
+leads_more : (G : Multigraph) (x y f d x' y' : ℕ → ℕ) → LeadsTo G x f y → ((u : ℕ) → x' u ≡ x u + d u)
     → ((u : ℕ) → y' u ≡ y u + d u) → LeadsTo G x' f y'
-leads_more G x y f d x' y' one start here =
-    let ok = more_chips G x x' (λ u. let a = start u in omega arith) one.0 one.1.sequence in (
-      one.0,
+leads_more G x y f d x' y' (vs, one) start here =
+    let ok = more_chips G x x' (λ u. let a = start u in omega arith) vs one.sequence in (
+      vs,
       record {
         sequence = ok;
-        counted = one.1.counted;
-        position = led_once G x' _ _ y' _
-            (λ u. let a = position_is G one.0 x one.1.sequence u in let b = one.1.position u in let c = start u in
-            let e = here u in omega arith)
-            (position_is G one.0 x' ok) (λ u. refl);
+        counted = one.counted;
+        position = λ u. (let a = start u in let b = here u in let c = one.position u in
+            let e = position_is G vs x one.sequence u in let h = position_is G vs x' ok u in omega arith);
       },
     )
 
@@ -87,13 +90,12 @@ module _ (G : Multigraph) (good : IsGraph G) (x f y f' z : ℕ → ℕ) (one : L
   drop_ends : (vs : List ℕ) → IsFiringSequence G y vs → HasEnded G y vs → ((v : ℕ) → f v + counts vs v ≡ f' v)
       × ((v : ℕ) → z v ≡ position_after G y vs v)
   drop_ends vs ok ended =
-      let there : position_after G x two.0 ≡ z = (λ i u. sym (two.1.position u) i) in
-      let alike = ends_alike G good x f y one vs ok ended two.0 two.1.sequence
-      (λ v can. stable v (subst (λ (p : ℕ → ℕ). IsLegal G p v) there can)) in
+      let there : z ≡ position_after G x two.0 = (λ i u. two.1.position u i) in
+      let alike = ends_alike G good x f y one vs ok ended two.0 two.1.sequence (rw there at stable) in
       ((λ v. alike.0 v ∙ sym (two.1.counted v)), (λ v. two.1.position v ∙ sym (alike.1 v)))
 
   -- told by what is between the counts
-  pub drop_tells : (a : Avalanche) → a.size ≡ sum_below G.vertices (λ v. f' v - f v)
+  drop_tells : (a : Avalanche) → a.size ≡ sum_below G.vertices (λ v. f' v - f v)
       → a.extent ≡ sum_below G.vertices (λ v. cond (eqb (f' v - f v) 0) 0 1) → a.lost ≡ z G.sink - y G.sink
       → IsAvalanche G y a z
   drop_tells a size extent lost = record {
@@ -106,85 +108,71 @@ module _ (G : Multigraph) (good : IsGraph G) (x f y f' z : ℕ → ℕ) (one : L
           size = size ∙ ap (sum_below G.vertices) between ∙ sym (length_counts G vs y ok);
           extent = extent ∙ ap (λ (h : ℕ → ℕ). sum_below G.vertices (λ v. cond (eqb (h v) 0) 0 1)) between;
           lost =
-              let b = position_is G vs y ok G.sink in
-              let d : degree G G.sink * counts vs G.sink ≡ 0 =
-              ap (λ (n : ℕ). degree G G.sink * n) (sink_never G vs y ok) ∙ mul-zero (degree G G.sink) in
+              let b = rw (sink_never G vs y ok, mul-zero (degree G G.sink)) at (position_is G vs y ok G.sink) in
               let e = to.1 G.sink in omega arith;
         };
     leaves = λ vs ok ended. (drop_ends vs ok ended).1;
   }
 
--- ---- a drop on a pile
-
--- a play keeps its chips
-begun_total : (g : ChipGame) → IsGame g → (chips fired : List ℕ) → IsBegun g chips fired → sum chips ≡ sum g.start
-begun_total g ok chips fired begun =
-    sum_by_place chips ∙ ap (λ (n : ℕ). sum_below n (slice_index chips)) begun.in_range.chips_each
-    ∙ led_total g.graph ok.graph_fits (slice_index g.start) (slice_index fired) (slice_index chips)
-    (λ u l. led g.graph (slice_index g.start) g.limit (slice_index chips) (slice_index fired) begun.on_the_way u)
-    ∙ sym (sum_by_place g.start ∙ ap (λ (n : ℕ). sum_below n (slice_index g.start)) ok.start_fits)
-
--- c chips more on v, which has `added`, of a game that rests
-module _ (g g' : ChipGame) (chips fired : List ℕ) (ok : IsGame g) (begun : IsBegun g chips fired)
-    (rests : IsAtRest g.graph g.limit chips fired) (v c added : ℕ) (more : HasMore g ((v, c) ∷ []) g')
-    (inside : v < g.graph.vertices) (few : sum g.start + c ≤ max_total) (was : added ≡ get_or chips v added) where
-  vertex_in : v < length chips
-  vertex_in = let a = begun.in_range.chips_each in omega arith
-
-  start_more : (u : ℕ) → slice_index g'.start u ≡ slice_index g.start u + cond (eqb v u) c 0
-  start_more u = dite (dec_lt u (length g.start))
-      (λ l. let a = more.start u l in grind (arith, nat_tests))
-      (λ past. let a = more.start_each in let b = ok.start_fits in
-      grind (arith, nat_tests, get_or_past g'.start u 0 (omega arith), get_or_past g.start u 0 (omega arith)))
-
+-- c chips more on v, which has `added`, of a pile
+module _ (p : Pile) (pile : IsPile p) (g' : ChipGame) (v c added : ℕ) (more : HasMore p.game ((v, c) ∷ []) g')
+    (inside : v < p.game.graph.vertices) (few : sum p.game.start + c ≤ max_total)
+    (was : added ≡ get_or p.chips.items v added) where
   -- the chips with the drop
   abbrev now : List ℕ
-  now = set chips v (added + c)
+  now = set p.chips.items v (added + c)
 
-  here : (u : ℕ) → slice_index now u ≡ dropped (slice_index chips) v c u
-  here u = dite (ℕ_discrete v u)
-      (λ e. let a = get_or-set_same chips v (added + c) 0 vertex_in in
-      let b = get_or_read chips v added vertex_in was 0 in
-      subst (λ (w : ℕ). get_or now w 0 ≡ dropped (slice_index chips) v c w) e (grind (arith, nat_tests)))
-      (λ ne. let a = get_or-set_other chips v u (added + c) 0 (λ z. ne (sym z)) in grind (arith, nat_tests))
+  here : (u : ℕ) → slice_index now u ≡ dropped (slice_index p.chips.items) v c u
+  here u =
+      let long : v < length p.chips.items = (let a = pile.begun.in_range.chips_each in omega arith) in
+      dite (ℕ_discrete v u)
+      (λ e. rw (← e) (let a = get_or-set_same p.chips.items v (added + c) 0 long in
+      let b = get_or_read p.chips.items v added long was 0 in grind (arith, nat_tests)))
+      (λ ne. let a = get_or-set_other p.chips.items v u (added + c) 0 (λ z. ne (sym z)) in grind (arith, nat_tests))
+
+  start_more : (u : ℕ) → slice_index g'.start u ≡ slice_index p.game.start u + cond (eqb v u) c 0
+  start_more u = dite (dec_lt u (length p.game.start))
+      (λ l. let a = more.start u l in grind (arith, nat_tests))
+      (λ past. let a = more.start_each in let b = pile.game.start_fits in
+      grind (arith, nat_tests, get_or_past g'.start u 0 (omega arith), get_or_past p.game.start u 0 (omega arith)))
 
   -- the counts lead to them
-  led_drop : LeadsTo g.graph (slice_index g'.start) (slice_index fired) (dropped (slice_index chips) v c)
-  led_drop = leads_more _ _ _ _ (λ u. cond (eqb v u) c 0) _ _ (rest_leads _ _ _ _ _ begun.on_the_way rests) start_more
-      (λ u. refl)
+  led_drop : LeadsTo p.game.graph (slice_index g'.start) (slice_index p.fired.items) (slice_index now)
+  led_drop = leads_more _ _ _ _ (λ u. cond (eqb v u) c 0) _ _ (rest_leads _ _ _ pile.begun pile.at_rest) start_more here
 
   -- so the play goes on
-  pub begun_drop : IsBegun g' (set chips v (added + c)) fired
+  pub begun_drop : IsBegun g' (set p.chips.items v (added + c)) p.fired.items
   begun_drop =
-      let in_range = begun.in_range in
-      let a = sum_by-set (λ (n : ℕ). n) chips v (added + c) 0 vertex_in in
-      let b = begun_total g ok chips fired begun in
-      let d = get_or_read chips v added vertex_in was 0 in
-      let e = length-set chips v (added + c) in
+      let in_range = pile.begun.in_range in
+      let each : length now ≡ p.game.graph.vertices = length-set p.chips.items v (added + c) ∙ in_range.chips_each in
+      let kept = led_kept p.game.graph in_range.graph_fits g'.start now _ (more.start_each ∙ pile.game.start_fits) each
+      led_drop in
+      let total = more.total in
       rw (more.same_graph, more.same_limit) (record {
         in_range = grind arith;
-        on_the_way = led_way _ _ _ _ _
-            (subst (LeadsTo g.graph (slice_index g'.start) (slice_index fired)) (λ i u. sym (here u) i) led_drop)
-            in_range.low_counts;
+        on_the_way = led_way _ _ _ _ _ led_drop in_range.low_counts;
       })
 
   -- if no vertex is legal where the play ends that goes on from there, this is the avalanche
   pub drop_told : (chips' fired' : List ℕ) → IsBegun g' chips' fired' → IsStable g'.graph (slice_index chips')
-      → (a : Avalanche) → a.size ≡ size_between (length fired') fired fired'
-      → a.extent ≡ extent_between (length fired') fired fired'
-      → (left arrived : ℕ) → left ≡ get_or chips' g.graph.sink left → arrived ≡ get_or now g.graph.sink arrived
-      → a.lost ≡ left - arrived → IsAvalanche g.graph (dropped (slice_index chips) v c) a (slice_index chips')
-  drop_told chips' fired' begun' stable a size extent left arrived is_left is_arrived lost =
-      let each = begun'.in_range.fired_each in
-      let way = rw (more.same_graph, more.same_limit) at begun'.on_the_way in
-      let none = rw more.same_graph at stable in
-      let vertices : g'.graph.vertices ≡ g.graph.vertices = ap (λ (G : Multigraph). G.vertices) more.same_graph in
-      let d = get_or_read chips' g.graph.sink left (omega arith) is_left 0 in
-      let b = length-set chips v (added + c) in
-      let e = get_or_read now g.graph.sink arrived (omega arith) is_arrived 0 in
-      let f = here g.graph.sink in
-      drop_tells _ ok.graph_fits _ _ _ _ _ led_drop (rest_leads _ _ _ _ _ way (λ u can. absurd (none u can))) none a
-      (rw (each, more.same_graph) at size) (rw (each, more.same_graph) at extent) (omega arith)
+      → (a : Avalanche) → a.size ≡ sum_between (λ k. k) (length fired') p.fired.items fired'
+      → a.extent ≡ sum_between (λ k. cond (eqb k 0) 0 1) (length fired') p.fired.items fired'
+      → (left arrived : ℕ) → left ≡ get_or chips' p.game.graph.sink left
+      → arrived ≡ get_or now p.game.graph.sink arrived → a.lost ≡ left - arrived
+      → IsAvalanche p.game.graph (dropped (slice_index p.chips.items) v c) a (slice_index chips')
+  drop_told chips' fired' begun stable a size extent left arrived is_left is_arrived lost =
+      let two = rest_leads g' chips' fired' begun (λ u can. absurd (stable u can)) in
+      let vertices : g'.graph.vertices ≡ p.game.graph.vertices = ap (λ (G : Multigraph). G.vertices) more.same_graph in
+      let each = begun.in_range.fired_each ∙ vertices in
+      let each' = begun.in_range.chips_each in
+      let old = pile.begun.in_range.chips_each in
+      let sink = pile.game.graph_fits.sink_is_vertex in
+      let long = length-set p.chips.items v (added + c) in
+      let b = get_or_read chips' p.game.graph.sink left (omega arith) is_left 0 in
+      let d = get_or_read now p.game.graph.sink arrived (omega arith) is_arrived 0 in
+      subst (λ (x : ℕ → ℕ). IsAvalanche p.game.graph x a (slice_index chips')) (λ i u. here u i)
+      (drop_tells _ pile.game.graph_fits _ _ _ _ _ led_drop (rw more.same_graph at two) (rw more.same_graph at stable) a
+      (rw each at size) (rw each at extent) (omega arith))
 
 -- ---- the first play
 
@@ -199,48 +187,34 @@ module _ (g : ChipGame) (ok : IsGame g) (o : Outcome) (played : IsPlayed g o) wh
   -- where it rests
   pub played_rests : IsAtRest g.graph g.limit o.chips.items o.fired.items
   played_rests v can =
-      let ws : List ℕ = played.ends.0 in
-      let play = played.ends.1 in
-      let there : slice_index o.chips.items ≡ position_after g.graph (slice_index g.start) ws =
-      (λ i u. played.position ws play u i) in
-      played.counted ws play v ∙ play.ended v (subst (λ (p : ℕ → ℕ). IsLegal g.graph p v) there can)
+      let (vs, play) = played.ends in
+      let there : slice_index o.chips.items ≡ position_after g.graph (slice_index g.start) vs =
+      (λ i u. played.position vs play u i) in
+      played.counted vs play v ∙ play.ended v (rw there at can)
 
 -- ---- all drops
 
--- the same drops, the first one at once
-all_at_once : (x : ℕ → ℕ) (d : ℕ × ℕ) (ds : List (ℕ × ℕ))
-    → all_dropped (dropped x d.0 d.1) ds ≡ all_dropped x (d ∷ ds)
-all_at_once x d ds = λ i u. (let a = sum_by-cons (λ (pair : ℕ × ℕ). cond (eqb pair.0 u) pair.1 0) d ds in
-    let same : all_dropped (dropped x d.0 d.1) ds u ≡ all_dropped x (d ∷ ds) u = omega arith in same i)
-
 pub drops_add_up : DropsAddUp
-drops_add_up G good x f y one stable [] [] z are vs ok ended =
-    let none : all_dropped x [] ≡ x = (λ i v. (let same : all_dropped x [] v ≡ x v = omega arith in same i)) in
-    let ok' : IsFiringSequence G x vs = subst (λ (p : ℕ → ℕ). IsFiringSequence G p vs) none ok in
-    let ended' : HasEnded G x vs = subst (λ (p : ℕ → ℕ). HasEnded G p vs) none ended in
-    let alike = ends_alike G good x f y one [] tt stable vs ok' ended' in (
+drops_add_up G good x f y one stable [] z are x' start vs ok ended =
+    let same = leads_more G x y f (λ u. 0) x' y one (λ u. let a = start u in omega arith) (λ u. omega arith) in
+    let alike = ends_alike G good x' f y same [] tt stable vs ok ended in (
       (let a = sum_below_ext G.vertices f (counts vs) (λ v l. let b = alike.0 v in omega arith) in
-          let b = length_counts G vs x ok' in omega arith),
-      (λ v. are v ∙ alike.1 v ∙ ap (λ (p : ℕ → ℕ). position_after G p vs v) (sym none)),
+          let b = length_counts G vs x' ok in omega arith),
+      (λ v. are v ∙ alike.1 v),
     )
-drops_add_up G good x f y one stable [] (a ∷ more) z are vs ok ended = absurd are
-drops_add_up G good x f y one stable (d ∷ ds) [] z are vs ok ended = absurd are
-drops_add_up G good x f y one stable (d ∷ ds) (a ∷ more) z are vs ok ended =
-    let z' : ℕ → ℕ = are.0 in
-    let is : IsAvalanche G (dropped y d.0 d.1) a z' = are.1 in
-    let ws : List ℕ = is.ends.0 in
-    let leaves = is.leaves ws is.ends.1 is.ends.2 in
-    let there : z' ≡ position_after G (dropped y d.0 d.1) ws = (λ i v. leaves v i) in
+drops_add_up G good x f y one stable ((d, a) ∷ told) z (z', is, are) x' start vs ok ended =
+    let (ws, fires, rests) = is.ends in
+    let there : z' ≡ position_after G (dropped y d.0 d.1) ws = (λ i v. is.leaves ws fires rests v i) in
     let both = leads_both G (dropped x d.0 d.1) f (dropped y d.0 d.1) (counts ws) z'
     (leads_more G x y f (λ u. cond (eqb d.0 u) d.1 0) _ _ one (λ u. refl) (λ u. refl))
-    (ws, record { sequence = is.ends.1; counted = λ v. refl; position = leaves }) in
-    let same = all_at_once x d ds in
+    (ws, record { sequence = fires; counted = λ v. refl; position = is.leaves ws fires rests }) in
     let rest = drops_add_up G good (dropped x d.0 d.1) (λ v. f v + counts ws v) z' both
-    (λ v can. is.ends.2 v (subst (λ (p : ℕ → ℕ). IsLegal G p v) there can)) ds more z are.2 vs
-    (subst (λ (p : ℕ → ℕ). IsFiringSequence G p vs) (sym same) ok)
-    (subst (λ (p : ℕ → ℕ). HasEnded G p vs) (sym same) ended) in (
+    (subst (IsStable G) (sym there) rests) told z are x'
+    (λ v. let e = start v in
+    let b = sum_by-cons (λ (pair : ℕ × ℕ). cond (eqb pair.0 v) pair.1 0) d (map (λ t. t.0) told) in omega arith)
+    vs ok ended in (
       (let e = rest.0 in let b = sum_below_add G.vertices f (counts ws) in
-          let c = length_counts G ws (dropped y d.0 d.1) is.ends.1 in let h = (is.tells ws is.ends.1 is.ends.2).size in
-          let k = sum_by-cons (λ (v : Avalanche). v.size) a more in omega arith),
-      (λ v. rest.1 v ∙ ap (λ (p : ℕ → ℕ). position_after G p vs v) same),
+          let c = length_counts G ws (dropped y d.0 d.1) fires in let h = (is.tells ws fires rests).size in
+          let k = sum_by-cons (λ (t : (ℕ × ℕ) × Avalanche). t.1.size) (d, a) told in omega arith),
+      rest.1,
     )

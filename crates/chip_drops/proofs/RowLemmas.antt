@@ -1,12 +1,13 @@
 -- Serves Rows.antt, Out.antt.
 -- Drops one after another, and the bytes of their rows.
-use Rattle.std.proofs.Common.{◌≡◌, ℕ, ◌+◌, ◌<◌, ◌≤◌, List, [], ◌∷◌, ◌++◌, length, take, get_or, sum}
-use Rattle.std.proofs.Common.{slice_index, refl, sym, ap, ◌∙◌, subst, arith, rules, append_assoc, append-nil, Option}
-use Rattle.std.proofs.Common.{cond, eqb, length-append}
-use Rattle.std.proofs.Math.Seq.{take-append-add}
-use Rattle.std.proofs.lemmas.List.{take_at, take_more}
+use Rattle.std.proofs.Common.{◌≡◌, ℕ, ◌+◌, ◌<◌, ◌≤◌, List, [], ◌∷◌, ◌++◌, length, map, take, get_or, sum, slice_index}
+use Rattle.std.proofs.Common.{refl, sym, ap, ◌∙◌, subst, arith, rules, Option, Result, Ok, Err, cond, eqb, take-add}
+use Rattle.std.proofs.Common.{length-append}
+use Rattle.std.proofs.lemmas.List.{take_all, take_more, take-append-drop, take-append-le, drop-append-le, drop_all}
+use Rattle.std.proofs.lemmas.List.{length-drop, map-append, flat_map_more}
 use Rattle.std.proofs.lemmas.List.Sums.{sum_by-append, sum_by_more_le}
 use Rattle.std.specs.Io.KnownBytes.{Appends}
+use Rattle.std.specs.Result.{IsErrAnd}
 use Rattle.std.proofs.KnownBytes.{Appends-trans}
 use Rattle.chip_graph.specs.Limits.{max_total}
 use Rattle.chip_graph.specs.Multigraph.{Multigraph}
@@ -14,29 +15,21 @@ use Rattle.chip_graph.specs.ChipGame.{ChipGame}
 use Rattle.chip_graph.specs.More.{HasMore, all_brought}
 use Rattle.chip_drops.specs.declared.avalanche.Avalanche.{Avalanche}
 use Rattle.chip_drops.specs.declared.pile.Pile.{Pile}
+use Rattle.chip_drops.specs.declared.rows.RowsFault.{RowsFault}
 use Rattle.chip_drops.specs.Avalanches.{dropped, IsAvalanche, AreAvalanches}
 use Rattle.chip_drops.specs.Pile.{IsPile, IsStable}
-use Rattle.chip_drops.specs.Rows.{row_text, rows_of, rows_text, LeavesRows}
+use Rattle.chip_drops.specs.Rows.{row_text, rows_text, LeavesRows}
 use Rattle.chip_drops.specs.Out.{IsOut}
 
 -- ---- drops
 
--- one more avalanche, and its row
-told_more : (G : Multigraph) (x : ℕ → ℕ) (ds : List (ℕ × ℕ)) (told : List Avalanche) (y : ℕ → ℕ) (d : ℕ × ℕ)
-    (a : Avalanche) (z : ℕ → ℕ) → AreAvalanches G x ds told y → IsAvalanche G (dropped y d.0 d.1) a z
-    → AreAvalanches G x (ds ++ d ∷ []) (told ++ a ∷ []) z
-    × (rows_of (ds ++ d ∷ []) (told ++ a ∷ []) ≡ rows_of ds told ++ row_text d a)
-told_more G x [] [] y d a z are is =
-    let there : y ≡ x = (λ i v. are v i) in (
-      (z, subst (λ (p : ℕ → ℕ). IsAvalanche G (dropped p d.0 d.1) a z) there is, (λ v. refl)),
-      append-nil (row_text d a),
-    )
-told_more G x (c ∷ ds) (b ∷ told) y d a z are is =
-    let more = told_more G are.0 ds told y d a z are.2 is in (
-      (are.0, are.1, more.0),
-      ap (λ (l : List ℕ). row_text c b ++ l) more.1 ∙ sym (append_assoc (row_text c b) (rows_of ds told) (row_text d a)),
-    )
-told_more G x _ _ y d a z are is = absurd are
+-- one more avalanche
+told_more : (G : Multigraph) (x : ℕ → ℕ) (told : List ((ℕ × ℕ) × Avalanche)) (y : ℕ → ℕ) (d : ℕ × ℕ) (a : Avalanche)
+    (z : ℕ → ℕ) → AreAvalanches G x told y → IsAvalanche G (dropped y d.0 d.1) a z
+    → AreAvalanches G x (told ++ (d, a) ∷ []) z
+told_more G x [] y d a z are is =
+    (z, subst (λ (p : ℕ → ℕ). IsAvalanche G (dropped p d.0 d.1) a z) (λ i v. are v i) is, (λ v. refl))
+told_more G x (t ∷ told) y d a z are is = (are.0, are.1, told_more G are.0 told y d a z are.2 is)
 
 -- one more drop on a game
 game_more : (g g' g'' : ChipGame) (ds : List (ℕ × ℕ)) (d : ℕ × ℕ) → HasMore g ds g' → HasMore g' (d ∷ []) g''
@@ -51,83 +44,86 @@ game_more g g' g'' ds d one two = record {
 }
 
 -- nothing was dropped
-pub rows_none : (p : Pile) (ds : List (ℕ × ℕ)) → IsPile p → IsStable p.game.graph (slice_index p.chips.items)
-    → LeavesRows p ds 0 p (rows_text [] [])
-rows_none p ds is stable = ([], search rules, refl)
-
--- the chips of the next drop have room
-pub room_for_drop : (p : Pile) (ds : List (ℕ × ℕ)) (i : ℕ) (p' : Pile) (text : List ℕ) → LeavesRows p ds i p' text
-    → i < length ds → sum p.game.start + all_brought ds ≤ max_total
-    → sum p'.game.start + (get_or ds i (0, 0)).1 ≤ max_total
-room_for_drop p ds i p' text so_far l few =
-    let a = so_far.1.game.total in
-    let b = sum_by_more_le (λ (pair : ℕ × ℕ). pair.1) ds i (0, 0) l in omega arith
+pub rows_none : (p : Pile) → IsPile p → IsStable p.game.graph (slice_index p.chips.items)
+    → LeavesRows p [] p (rows_text [])
+rows_none p is stable = record {
+  pile = is;
+  stable = stable;
+  game = search rules;
+  rows = ([], refl, (λ v. refl), refl);
+}
 
 -- the drop at i, after those before it
-module _ (p : Pile) (ds : List (ℕ × ℕ)) (i : ℕ) (p' p'' : Pile) (text : List ℕ) (so_far : LeavesRows p ds i p' text)
-    (inside : i < length ds) (game : HasMore p'.game (get_or ds i (0, 0) ∷ []) p''.game) where
-  taken : take (i + 1) ds ≡ take i ds ++ get_or ds i (0, 0) ∷ []
-  taken = take_more ds i (0, 0) inside
+module _ (p : Pile) (ds : List (ℕ × ℕ)) (i : ℕ) (p' : Pile) (text : List ℕ) (so_far : LeavesRows p (take i ds) p' text)
+    (inside : i < length ds) where
+  -- there is room for its chips
+  pub room_for_drop : sum p.game.start + all_brought ds ≤ max_total
+      → sum p'.game.start + (get_or ds i (0, 0)).1 ≤ max_total
+  room_for_drop few =
+      let a = so_far.game.total in
+      let b = sum_by_more_le (λ (pair : ℕ × ℕ). pair.1) ds i (0, 0) inside in omega arith
 
-  pub next_game : HasMore p.game (take (i + 1) ds) p''.game
-  next_game = rw taken (game_more _ _ _ _ _ so_far.1.game game)
+  pub next_game : (g : ChipGame) → HasMore p'.game (get_or ds i (0, 0) ∷ []) g → HasMore p.game (take (i + 1) ds) g
+  next_game g more = rw (take_more ds i (0, 0) inside) (game_more _ _ _ _ _ so_far.game more)
 
-  pub next_rows : IsPile p'' → (a : Avalanche) → IsStable p''.game.graph (slice_index p''.chips.items)
+  pub next_rows : (p'' : Pile) (a : Avalanche) → IsPile p'' → HasMore p'.game (get_or ds i (0, 0) ∷ []) p''.game
+      → IsStable p''.game.graph (slice_index p''.chips.items)
       × IsAvalanche p'.game.graph (dropped (slice_index p'.chips.items) (get_or ds i (0, 0)).0 (get_or ds i (0, 0)).1) a
       (slice_index p''.chips.items)
-      → LeavesRows p ds (i + 1) p'' (text ++ row_text (get_or ds i (0, 0)) a)
-  next_rows is a told_by =
-      let more = told_more p.game.graph (slice_index p.chips.items) (take i ds) so_far.0 (slice_index p'.chips.items)
-      (get_or ds i (0, 0)) a (slice_index p''.chips.items) so_far.1.avalanches
-      (rw so_far.1.game.same_graph at told_by.1) in
-      rw (taken, so_far.2) (
-        so_far.0 ++ a ∷ [],
-        record {
-          pile = is;
-          stable = told_by.0;
-          game = game_more _ _ _ _ _ so_far.1.game game;
-          avalanches = more.0;
-        },
-        sym (ap (λ (l : List ℕ). rows_text [] [] ++ l) more.1),
-      )
+      → LeavesRows p (take (i + 1) ds) p'' (text ++ row_text (get_or ds i (0, 0), a))
+  next_rows p'' a is more told_by =
+      let (told, drops, avalanches, text_is) = so_far.rows in
+      record {
+        pile = is;
+        stable = told_by.0;
+        game = next_game _ more;
+        rows = (
+          told ++ (get_or ds i (0, 0), a) ∷ [],
+          map-append _ told _ ∙ ap (λ (l : List (ℕ × ℕ)). l ++ get_or ds i (0, 0) ∷ []) drops
+              ∙ sym (take_more ds i (0, 0) inside),
+          told_more _ _ told _ _ a _ avalanches (rw so_far.game.same_graph at told_by.1),
+          rw text_is (flat_map_more row_text (rows_text []) told (get_or ds i (0, 0), a)),
+        );
+      }
 
 -- ---- bytes
 
+-- a fault is handed on
+pub handed_on : {T : Type 0} {result : Result T RowsFault} (fault : RowsFault) → IsErrAnd result (λ f. f ≡ fault)
+    → result ≡ Err fault
+handed_on {result = Ok value} fault is = absurd is
+handed_on {result = Err f} fault is = ap Err is
+
 module _ (old now : Option (List ℕ)) (pending : List ℕ) (written : ℕ) (all : List ℕ)
     (is : IsOut old now pending written all) where
-  -- all goes out
-  pub out_all : (now' : Option (List ℕ)) (written' : ℕ) → Appends now now' pending → written' ≡ written + length pending
-      → IsOut old now' [] written' all
-  out_all now' written' went counted = record {
-    front = all;
-    went = subst (Appends old now') is.whole (Appends-trans old now now' is.front pending is.went went);
-    whole = append-nil all;
-    counted =
-        (let a = ap length is.whole in let b = length-append is.front pending in let d = is.counted in omega arith);
+  left : written + length pending ≡ length all
+  left = let a = ap length is.rest in let b = length-drop written all in let c = is.within in omega arith
+
+  -- more bytes come
+  pub out_put : (more : List ℕ) → IsOut old now (pending ++ more) written (all ++ more)
+  out_put more = record {
+    within = (let a = length-append all more in let b = is.within in omega arith);
+    went = rw (take-append-le written all more is.within) is.went;
+    rest = drop-append-le written all more is.within ∙ ap (λ (l : List ℕ). l ++ more) is.rest;
   }
 
-  -- a front of it does
+  -- the pending ones go out
+  pub out_all : (now' : Option (List ℕ)) (written' : ℕ) → Appends now now' pending → written' ≡ written + length pending
+      → IsOut old now' [] written' all
+  out_all now' written' went counted =
+      let full : length all ≤ written' = (let a = left in omega arith) in record {
+        within = (let a = left in omega arith);
+        went = rw (take_all written' all full, ← take-append-drop written all, is.rest)
+            (Appends-trans old now now' _ _ is.went went);
+        rest = drop_all written' all full;
+      }
+
+  -- a front of them does
   pub out_part : (now' : Option (List ℕ)) (n : ℕ) → n < length pending → Appends now now' (take n pending)
       → (written + n < length all) × Appends old now' (take (written + n) all)
-  out_part now' n l went = (
-    (let a = ap length is.whole in let b = length-append is.front pending in let e = is.counted in omega arith),
-    subst (Appends old now') (sym (ap (take (written + n)) (sym is.whole)
-        ∙ ap (λ (k : ℕ). take (k + n) (is.front ++ pending)) (sym is.counted) ∙ take-append-add is.front pending n))
-        (Appends-trans old now now' is.front (take n pending) is.went went),
-  )
+  out_part now' n l went =
+      ((let a = left in omega arith), rw (take-add written n all, is.rest) (Appends-trans old now now' _ _ is.went went))
 
-  -- nothing more does, whatever comes after it
-  pub out_stopped : (more : List ℕ) → (k : ℕ) × Appends old now (take k (all ++ more))
-  out_stopped more = (
-    written,
-    subst (Appends old now) (sym (ap (take written) (ap (λ (l : List ℕ). l ++ more) (sym is.whole)
-        ∙ append_assoc is.front pending more) ∙ take_at is.front (pending ++ more) written is.counted)) is.went,
-  )
-
-  pub out_none : (k : ℕ) × Appends old now (take k all)
-  out_none = subst (λ (l : List ℕ). (k : ℕ) × Appends old now (take k l)) (append-nil all) (out_stopped [])
-
-  -- nothing is pending
+  -- none is pending
   pub out_end : pending ≡ [] → Appends old now all
-  out_end none = subst (Appends old now) (sym (append-nil is.front) ∙ ap (λ (l : List ℕ). is.front ++ l) (sym none)
-      ∙ is.whole) is.went
+  out_end none = rw (take_all written all (let a = left in let b = ap length none in omega arith)) at is.went

@@ -1,57 +1,49 @@
--- Serves WorkList.antt.
--- What is told of the firings between two counts.
+-- Serves Pile.antt.
+-- The work list of a drop, and what is told of the firings between two counts.
 use Rattle.std.proofs.Common.{◌≡◌, ◌≢◌, ℕ, zero, suc, ◌+◌, ◌-◌, ◌<◌, ◌≤◌, ◌^◌, Bool, true, false, cond, eqb, List}
-use Rattle.std.proofs.Common.{[], ◌∷◌, length, take, drop, get_or, set, slice_index, sym, ap, ◌∙◌}
-use Rattle.std.proofs.Common.{subst, arith, get_or-set_same, get_or-set_other, length-drop}
-use Rattle.std.proofs.Common.{mul-le-mul_right}
+use Rattle.std.proofs.Common.{[], ◌∷◌, length, take, get_or, set, slice_index, refl, sym, ap, ◌∙◌, subst, arith}
+use Rattle.std.proofs.Common.{get_or-set_same, get_or-set_other, mul-le-mul_right, true≢false}
 use Rattle.std.proofs.lemmas.Bool.Decides.{nat_tests}
 use mir.Val.{bool_byte}
 use Rattle.std.specs.Prelude.{Contains}
 use Rattle.std.proofs.lemmas.List.{take_more_set, take_all, ext_get_or}
-use Rattle.std.proofs.lemmas.List.Elements.{All-nil, All-cons, All-head, All-tail, All-from_get_or}
+use Rattle.std.proofs.lemmas.List.Elements.{All-nil, All-cons, All-tail, All-from_get_or}
 use Rattle.std.proofs.lemmas.List.Elements.{Contains-get_or, Contains-push}
 use mathlib.Core.Logic.{dite}
 use native.Mathlib.Decide.{ℕ_discrete}
 use Rattle.chip_graph.specs.Limits.{max_vertices, max_limit}
-use Rattle.chip_graph.specs.Sums.{sum_below}
 use Rattle.chip_graph.specs.Multigraph.{Multigraph}
-use Rattle.chip_graph.proofs.SumLemmas.{cond_yes, sum_below_move, sum_below_none}
+use Rattle.chip_graph.proofs.SumLemmas.{sum_below_move, sum_below_none}
 use Rattle.chip_sequence.specs.Firing.{IsLegal}
 use Rattle.chip_sequence.proofs.AfterLemmas.{sum_small}
 use Rattle.chip_fire.specs.WorkList.{AreListed, HasSupport}
-use Rattle.chip_drops.specs.WorkList.{size_between, extent_between}
-use Rattle.std.proofs.Common.{true≢false}
-use Rattle.std.proofs.lemmas.List.Elements.{All-nil as all_nil}
+use Rattle.chip_drops.specs.Pile.{sum_between}
 
--- a vertex that alone may be legal
-pub listed_one : (G : Multigraph) (chips list : List ℕ) (v : ℕ) → 0 < length list → v < G.vertices
-    → ((u : ℕ) → IsLegal G (slice_index chips) u → u ≡ v) → AreListed G chips (take 1 (set list 0 v))
-listed_one G chips list v room is_vertex alone = subst (AreListed G chips) (sym (take_more_set list 0 v room)) (record {
-  vertices = All-cons (λ (u : ℕ). u < G.vertices) v [] is_vertex (All-nil (λ (u : ℕ). u < G.vertices));
-  legal = λ u can. subst (Contains (v ∷ [])) (sym (alone u can)) (Contains-push [] v);
-})
-
--- it stands in the list if it is
+-- a vertex that alone may be legal is listed if it is
 pub listed_if : (G : Multigraph) (chips list : List ℕ) (v : ℕ) (b : Bool) → (IsLegal G (slice_index chips) v → b ≡ true)
     → 0 < length list → v < G.vertices → ((u : ℕ) → IsLegal G (slice_index chips) u → u ≡ v)
     → AreListed G chips (take (bool_byte b) (set list 0 v))
-listed_if G chips list v true is room is_vertex alone = listed_one G chips list v room is_vertex alone
+listed_if G chips list v true is room is_vertex alone =
+    subst (AreListed G chips) (sym (take_more_set list 0 v room)) (record {
+      vertices = All-cons (λ (u : ℕ). u < G.vertices) v [] is_vertex (All-nil (λ (u : ℕ). u < G.vertices));
+      legal = λ u can. subst (Contains (v ∷ [])) (sym (alone u can)) (Contains-push [] v);
+    })
 listed_if G chips list v false is room is_vertex alone = record {
-  vertices = all_nil (λ (u : ℕ). u < G.vertices);
+  vertices = All-nil (λ (u : ℕ). u < G.vertices);
   legal = λ u can. absurd (true≢false (sym (is (subst (IsLegal G (slice_index chips)) (alone u can) can))));
 }
 
 -- where all vertices are listed, those that fired are
 pub all_supported : (n : ℕ) (fired fired' vs : List ℕ) (m : ℕ) → length vs ≡ n → length vs ≤ m
     → ((v : ℕ) → v < length vs → get_or vs v 0 ≡ v) → HasSupport n fired fired' (take m vs)
-all_supported n fired fired' vs m each all are = subst (HasSupport n fired fired') (sym (take_all m vs all)) (record {
+all_supported n fired fired' vs m each all are = rw (take_all m vs all) (record {
   vertices = All-from_get_or (λ (v : ℕ). v < n) vs 0 (λ i l. let a = are i l in omega arith);
   each = λ v l ne. subst (Contains vs) (are v (omega arith)) (Contains-get_or vs v 0 (omega arith));
 })
 
 -- few firings of few vertices
 pub few_between : (n : ℕ) (before fired : List ℕ) → n ≤ max_vertices → ((v : ℕ) → slice_index fired v ≤ max_limit)
-    → (size_between n before fired ≤ 2 ^ 60) × (extent_between n before fired ≤ n)
+    → (sum_between (λ k. k) n before fired ≤ 2 ^ 60) × (sum_between (λ k. cond (eqb k 0) 0 1) n before fired ≤ n)
 few_between n before fired few low =
     let a = sum_small n max_limit (λ v. true) (λ v. slice_index fired v - slice_index before v)
     (λ v l. let b = low v in omega arith) in
@@ -60,30 +52,32 @@ few_between n before fired few low =
     (λ v l. grind (arith, nat_tests)) in
     (omega arith, omega arith)
 
+-- nothing is between equal counts
+pub none_between : (h : ℕ → ℕ) → h 0 ≡ 0 → (n : ℕ) (fired : List ℕ) → sum_between h n fired fired ≡ 0
+none_between h none n fired = sum_below_none n _
+    (λ v l. ap h (let a : get_or fired v 0 - get_or fired v 0 ≡ 0 = omega arith in a) ∙ none)
+
 module _ (n : ℕ) (now fired : List ℕ) (each : length now ≡ n) where
   -- a vertex whose count is made the later one drops out of the sum of what is between
   pub dropped_out : (h : ℕ → ℕ) → h 0 ≡ 0 → (v : ℕ) → v < n
-      → sum_below n (λ u. h (get_or fired u 0 - get_or (set now v (get_or fired v 0)) u 0))
-      + h (get_or fired v 0 - get_or now v 0)
-      ≡ sum_below n (λ u. h (get_or fired u 0 - get_or now u 0))
+      → sum_between h n (set now v (get_or fired v 0)) fired + h (get_or fired v 0 - get_or now v 0)
+      ≡ sum_between h n now fired
   dropped_out h none v l =
       let now' : List ℕ = set now v (get_or fired v 0) in
       let a = sum_below_move n (λ u. h (get_or fired u 0 - get_or now' u 0))
       (λ u. h (get_or fired u 0 - get_or now u 0)) v l
       (λ u m ne. ap (λ (k : ℕ). h (get_or fired u 0 - k)) (get_or-set_other now v u (get_or fired v 0) 0 ne)) in
       let b = get_or-set_same now v (get_or fired v 0) 0 (omega arith) in
-      let c : h (get_or fired v 0 - get_or now' v 0) ≡ 0 =
-      ap h (let d : get_or fired v 0 - get_or now' v 0 ≡ 0 = omega arith in d) ∙ none in
-      omega arith
+      let c : get_or fired v 0 - get_or now' v 0 ≡ 0 = omega arith in
+      let d = ap h c ∙ none in omega arith
 
   -- and out of the list of those that are not alike
-  pub support_step : (v : ℕ) (vs : List ℕ) → HasSupport n now fired (v ∷ vs)
+  pub support_step : (v : ℕ) (vs : List ℕ) → v < n → HasSupport n now fired (v ∷ vs)
       → HasSupport n (set now v (get_or fired v 0)) fired vs
-  support_step v vs so_far = record {
+  support_step v vs inside so_far = record {
     vertices = All-tail (λ (u : ℕ). u < n) v vs so_far.vertices;
     each = λ u l ne. dite (ℕ_discrete v u)
-        (λ e. absurd (ne (rw (← e) (get_or-set_same now v (get_or fired v 0) 0
-        (let a = All-head (λ (w : ℕ). w < n) v vs so_far.vertices in omega arith)))))
+        (λ e. absurd (ne (rw (← e) (get_or-set_same now v (get_or fired v 0) 0 (omega arith)))))
         (λ apart. rest u apart (so_far.each u l
         (λ same. ne (get_or-set_other now v u (get_or fired v 0) 0 (λ z. apart (sym z)) ∙ same))));
   }
@@ -92,16 +86,8 @@ module _ (n : ℕ) (now fired : List ℕ) (each : length now ≡ n) where
       rest u apart (zero, l, e) = absurd (apart e)
       rest u apart (suc k, l, e) = (k, (let a : k < length vs = omega arith in a), e)
 
-  -- after the last one all are alike, and nothing is between
-  pub tallied_all : length fired ≡ n → (i : ℕ) (vs : List ℕ) → length vs ≤ i → HasSupport n now fired (drop i vs)
-      → (now ≡ fired) × (size_between n now fired ≡ 0) × (extent_between n now fired ≡ 0)
-  tallied_all long i vs past so_far = (
-    ext_get_or 0 now fired (each ∙ sym long) (λ v l. alike v (omega arith)),
-    sum_below_none n (λ v. slice_index fired v - slice_index now v) (λ v l. let a = alike v l in omega arith),
-    sum_below_none n (λ v. cond (eqb (slice_index fired v - slice_index now v) 0) 0 1)
-        (λ v l. cond_yes _ 0 0 1 (let a = alike v l in omega arith)),
-  )
-    where
-      alike : (v : ℕ) → v < n → get_or now v 0 ≡ get_or fired v 0
-      alike v l = dite (ℕ_discrete (get_or now v 0) (get_or fired v 0)) (λ e. e)
-          (λ ne. let is = so_far.each v l ne in let a = is.1 in let b = length-drop i vs in absurd (omega arith))
+  -- after the last one all are alike
+  pub tallied_all : length fired ≡ n → HasSupport n now fired [] → now ≡ fired
+  tallied_all long so_far = ext_get_or 0 now fired (each ∙ sym long)
+      (λ v l. dite (ℕ_discrete (get_or now v 0) (get_or fired v 0)) (λ e. e)
+      (λ ne. let a = (so_far.each v (omega arith) ne).1 in absurd (omega arith)))

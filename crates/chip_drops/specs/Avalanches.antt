@@ -25,11 +25,9 @@ pub record IsAvalanche (G : Multigraph) (x : ℕ → ℕ) (a : Avalanche) (y : �
   pub tells : (vs : List ℕ) → IsFiringSequence G x vs → HasEnded G x vs → Tells G x a vs
   pub leaves : (vs : List ℕ) → IsFiringSequence G x vs → HasEnded G x vs → (v : ℕ) → y v ≡ position_after G x vs v
 
--- these are the avalanches of these drops, each a vertex and a count of chips: the first on x, each other one on what the
--- one before it left; and the last leaves y
-abbrev pub AreAvalanches : Multigraph → (ℕ → ℕ) → List (ℕ × ℕ) → List Avalanche → (ℕ → ℕ) → Type 0
-AreAvalanches G x [] [] y = (v : ℕ) → y v ≡ x v
-AreAvalanches G x [] (a ∷ more) y = ⊥
-AreAvalanches G x (d ∷ ds) [] y = ⊥
-AreAvalanches G x (d ∷ ds) (a ∷ more) y =
-    (z : ℕ → ℕ) × IsAvalanche G (dropped x d.0 d.1) a z × AreAvalanches G z ds more y
+-- drops, each a vertex and a count of chips, with their avalanches: the first on x, each other one on what the one before
+-- it left; and the last leaves y
+abbrev pub AreAvalanches : Multigraph → (ℕ → ℕ) → List ((ℕ × ℕ) × Avalanche) → (ℕ → ℕ) → Type 0
+AreAvalanches G x [] y = (v : ℕ) → y v ≡ x v
+AreAvalanches G x ((d, a) ∷ more) y =
+    (z : ℕ → ℕ) × IsAvalanche G (dropped x d.0 d.1) a z × AreAvalanches G z more y

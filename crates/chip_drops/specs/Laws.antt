@@ -1,5 +1,5 @@
 -- What the avalanches of drops add up to.
-use Rattle.std.specs.Prelude.{◌≡◌, ℕ, ◌+◌, List, length, sum_by}
+use Rattle.std.specs.Prelude.{◌≡◌, ℕ, ◌+◌, List, length, map, sum_by}
 use Rattle.chip_graph.specs.Sums.{sum_below}
 use Rattle.chip_graph.specs.Multigraph.{Multigraph, IsGraph}
 use Rattle.chip_graph.specs.More.{brought_to}
@@ -9,17 +9,13 @@ use Rattle.chip_drops.specs.declared.avalanche.Avalanche.{Avalanche}
 use Rattle.chip_drops.specs.Avalanches.{AreAvalanches}
 use Rattle.chip_drops.specs.Pile.{IsStable}
 
--- the position x with the chips of all these drops more
-abbrev pub all_dropped : (ℕ → ℕ) → List (ℕ × ℕ) → ℕ → ℕ
-all_dropped x drops v = x v + brought_to drops v
-
--- a play with the counts f leads from x to y, where no vertex is legal, and the avalanches of the drops from there leave z.
--- Then each sequence from x with all drops at once that ends leaves z too, and fires as often as the play and all
--- avalanches together
+-- a play with the counts f leads from x to y, where no vertex is legal, and drops with their avalanches lead from there to
+-- z. Then each sequence that ends from x', which is x with all drops at once, leaves z too, and fires as often as the play
+-- and all avalanches together
 abbrev pub DropsAddUp : Type 0
 DropsAddUp =
     (G : Multigraph) → IsGraph G → (x f y : ℕ → ℕ) → LeadsTo G x f y → IsStable G y
-    → (drops : List (ℕ × ℕ)) (avalanches : List Avalanche) (z : ℕ → ℕ) → AreAvalanches G y drops avalanches z
-    → (vs : List ℕ) → IsFiringSequence G (all_dropped x drops) vs → HasEnded G (all_dropped x drops) vs
-    → (sum_below G.vertices f + sum_by (λ a. a.size) avalanches ≡ length vs)
-    × ((v : ℕ) → z v ≡ position_after G (all_dropped x drops) vs v)
+    → (told : List ((ℕ × ℕ) × Avalanche)) (z : ℕ → ℕ) → AreAvalanches G y told z
+    → (x' : ℕ → ℕ) → ((v : ℕ) → x' v ≡ x v + brought_to (map (λ t. t.0) told) v)
+    → (vs : List ℕ) → IsFiringSequence G x' vs → HasEnded G x' vs
+    → (sum_below G.vertices f + sum_by (λ t. t.1.size) told ≡ length vs) × ((v : ℕ) → z v ≡ position_after G x' vs v)

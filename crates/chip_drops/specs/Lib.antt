@@ -10,7 +10,6 @@ pub use Rattle.chip_fire.specs.Rounds
 pub use Rattle.chip_fire.specs.Player
 pub mod Avalanches
 pub mod Pile
-pub mod WorkList
 pub mod Out
 pub mod Rows
 pub mod Laws

@@ -1,16 +1,15 @@
 -- Bytes that go out by and by.
-use Rattle.std.specs.Prelude.{◌≡◌, ℕ, List, ◌++◌, length, take, Option, Result, Ok, Err}
+use Rattle.std.specs.Prelude.{◌≡◌, ℕ, ◌≤◌, List, length, take, drop, Option, Result, Ok, Err}
 use Rattle.std.specs.Io.KnownBytes.{Appends}
 use Rattle.chip_report.specs.Written.{WritesAll}
 use Rattle.chip_drops.specs.declared.rows.RowsFault.{RowsFault}
 use Rattle.chip_drops.specs.declared.rows.RowsFault.TheVariants.{Write, NoMemory}
 
--- of all bytes so many were written, and the pending ones are still to be
+-- of all bytes so many were written, and the others are pending
 pub record IsOut (old now : Option (List ℕ)) (pending : List ℕ) (written : ℕ) (all : List ℕ) : Type 0 where
-  pub front : List ℕ
-  pub went : Appends old now front
-  pub whole : front ++ pending ≡ all
-  pub counted : length front ≡ written
+  pub within : written ≤ length all
+  pub went : Appends old now (take written all)
+  pub rest : drop written all ≡ pending
 
 -- a fault says how many bytes were written, or there was no memory after a front of them
 abbrev pub FailsOut : Option (List ℕ) → Option (List ℕ) → List ℕ → RowsFault → Type 0

@@ -1,5 +1,6 @@
 -- What a pile keeps from drop to drop.
-use Rattle.std.specs.Prelude.{◌≡◌, ℕ, ◌<◌, List, length}
+use Rattle.std.specs.Prelude.{◌≡◌, ℕ, ◌-◌, ◌<◌, List, length, slice_index}
+use Rattle.chip_graph.specs.Sums.{sum_below}
 use Rattle.chip_graph.specs.Multigraph.{Multigraph}
 use Rattle.chip_graph.specs.ChipGame.{IsGame}
 use Rattle.chip_sequence.specs.Firing.{IsLegal}
@@ -10,6 +11,10 @@ use Rattle.chip_drops.specs.declared.play.Room.{Room}
 -- no vertex is legal at x
 abbrev pub IsStable : Multigraph → (ℕ → ℕ) → Type 0
 IsStable G x = (v : ℕ) → IsLegal G x v → ⊥
+
+-- the sum over n vertices of h at how often each fired between these counts
+abbrev pub sum_between : (ℕ → ℕ) → ℕ → List ℕ → List ℕ → ℕ
+sum_between h n fired fired' = sum_below n (λ v. h (slice_index fired' v - slice_index fired v))
 
 -- room for plays on so many vertices that have fired so often
 pub record IsRoom (n : ℕ) (fired : List ℕ) (r : Room) : Type 0 where

@@ -90,7 +90,7 @@ impl Rows {
         ensures { (old : Option (List ℕ)) (all : List ℕ)
             → IsOut old (W.contents output.old) (string_bytes self.old.text) self.old.written all
             → GoesOut old (W.contents output.new) (string_bytes self.new.text) self.new.written
-            (all ++ row_text (vertex, count) avalanche) result }
+            (all ++ row_text ((vertex, count), avalanche)) result }
     {
         push_row(&mut self.text, vertex, count, avalanche)?;
         if self.text.len() < STRETCH {
@@ -108,7 +108,7 @@ fn push_row(
     avalanche: Avalanche,
 ) -> Result<(), AllocError>
     ensures { IfOk result
-        (λ _. string_bytes text.new ≡ string_bytes text.old ++ row_text (vertex, count) avalanche) }
+        (λ _. string_bytes text.new ≡ string_bytes text.old ++ row_text ((vertex, count), avalanche)) }
 {
     let Avalanche { size, extent, lost } = avalanche;
     writeln!(text, "{vertex},{count},{size},{extent},{lost}")
@@ -131,17 +131,16 @@ pub fn write_rows<W: Write>(
     let mut text = String::with_capacity(alloc, STRETCH + ROW)?;
     text.push_str("vertex,chips,size,extent,lost\n")?;
     let mut rows = Rows { text, written: 0 };
+    let mut all = true;
     'drops: for &(vertex, count) in drops {
         let (next, avalanche) = pile.drop_chips(alloc, vertex, count);
         pile = next;
-        match avalanche {
-            None => {
-                rows.write(output)?;
-                return Ok(Dropped { pile, all: false });
-            }
-            Some(avalanche) => rows.push(vertex, count, avalanche, output)?,
-        }
+        let Some(avalanche) = avalanche else {
+            all = false;
+            break;
+        };
+        rows.push(vertex, count, avalanche, output)?;
     }
     rows.write(output)?;
-    Ok(Dropped { pile, all: true })
+    Ok(Dropped { pile, all })
 }

@@ -1,6 +1,6 @@
 -- From the bytes of a graph file, a chips file and a file of drops to the rows of the drops, and to a report.
-use Rattle.std.specs.Prelude.{◌≡◌, ◌⊎◌, ℕ, ◌+◌, ◌<◌, ◌≤◌, false, List, length, take, sum, slice_index, Option, None, Some}
-use Rattle.std.specs.Prelude.{Result, Ok, Err}
+use Rattle.std.specs.Prelude.{◌≡◌, ◌⊎◌, ℕ, ◌+◌, ◌<◌, ◌≤◌, false, List, [], length, take, sum, slice_index, Option}
+use Rattle.std.specs.Prelude.{None, Some, Result, Ok, Err}
 use Rattle.std.specs.Io.KnownBytes.{Appends, Keeps}
 use Rattle.std.specs.Result.{IsErrAnd}
 use Rattle.chip_graph.specs.Limits.{SizeLimits, max_total}
@@ -10,10 +10,8 @@ use Rattle.chip_graph.specs.declared.fault.GameFault.TheVariants.{Total}
 use Rattle.chip_file.specs.DropsText.{drops_of_text, drops_text_fault}
 use Rattle.chip_sequence.specs.Play.{IsPlayed}
 use Rattle.chip_sequence.specs.declared.outcome.Outcome.{Outcome}
-use Rattle.chip_drops.specs.declared.avalanche.Avalanche.{Avalanche}
-use Rattle.chip_drops.specs.Avalanches.{AreAvalanches}
 use Rattle.chip_drops.specs.Out.{FailsOut}
-use Rattle.chip_drops.specs.Rows.{rows_text}
+use Rattle.chip_drops.specs.Rows.{TellsRows}
 use Rattle.chip_drops.specs.declared.rows.RowsFault.{RowsFault}
 use Rattle.chip_drops.specs.declared.rows.RowsFault.TheVariants as rows_fault
 use Rattle.chip_report.specs.ReportText.{is_closed, report_text}
@@ -39,22 +37,19 @@ abbrev pub fault_of_rows : RowsFault → Fault
 fault_of_rows (rows_fault.Write w) = Write w
 fault_of_rows rows_fault.NoMemory = NoMemory
 
--- a text has the rows of the first n drops on the game, each the avalanche on what the drop before it left
-pub record TellsDrops (g : ChipGame) (ds : List (ℕ × ℕ)) (n : ℕ) (text : List ℕ) : Type 0 where
-  pub outcome : Outcome
-  pub played : IsPlayed g outcome
-  pub told : List Avalanche
-  pub left : ℕ → ℕ
-  pub avalanches : AreAvalanches g.graph (slice_index outcome.chips.items) (take n ds) told left
-  pub text_is : text ≡ rows_text (take n ds) told
+-- a text has the rows of these drops on the game, each the avalanche on what the drop before it left
+abbrev pub TellsDrops : ChipGame → List (ℕ × ℕ) → List ℕ → Type 0
+TellsDrops g ds text = (outcome : Outcome) × IsPlayed g outcome
+    × (left : ℕ → ℕ) × TellsRows g.graph (slice_index outcome.chips.items) ds text left
 
 -- what the drops come to: a text with a row for each, and the game with all their chips; or the limit stopped the play of
 -- the drop at i, the text has the rows before it, and the game the chips up to it; or the limit stopped the game itself
 abbrev pub ComesTo : ChipGame → List (ℕ × ℕ) → List ℕ → ChipGame → Outcome → Type 0
 ComesTo g ds text g' outcome =
-    (TellsDrops g ds (length ds) text × HasMore g ds g')
-    ⊎ ((i : ℕ) × (i < length ds) × TellsDrops g ds i text × HasMore g (take (i + 1) ds) g' × (is_closed outcome ≡ false))
-    ⊎ (TellsDrops g ds 0 text × (g' ≡ g) × (is_closed outcome ≡ false))
+    (TellsDrops g ds text × HasMore g ds g')
+    ⊎ ((i : ℕ) × (i < length ds) × TellsDrops g (take i ds) text × HasMore g (take (i + 1) ds) g'
+    × (is_closed outcome ≡ false))
+    ⊎ (TellsDrops g [] text × (g' ≡ g) × (is_closed outcome ≡ false))
 
 -- what two outputs hold: that of the rows, and that of the report where there is one
 pub record Outputs : Type 0 where
@@ -68,7 +63,7 @@ PlaysDrops g ds old new (Ok outcome) = (text : List ℕ) × (g' : ChipGame) × C
     × IsPlayed g' outcome × Appends old new text
 PlaysDrops g ds old new (Err fault) =
     ((fault ≡ NoMemory) × Keeps old new)
-    ⊎ ((n : ℕ) × (text : List ℕ) × TellsDrops g ds n text
+    ⊎ ((n : ℕ) × (text : List ℕ) × TellsDrops g (take n ds) text
     × (f : RowsFault) × (fault ≡ fault_of_rows f) × FailsOut old new text f)
 
 -- how a command ends that tells an outcome

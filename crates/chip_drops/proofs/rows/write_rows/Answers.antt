@@ -1,93 +1,63 @@
-use Rattle.std.proofs.Common.{ℕ, ◌++◌, List, [], codes, refl, ap, ◌∙◌}
+use Rattle.std.proofs.Common.{refl, arith}
 use Rattle.std.proofs.KnownBytes.{Appends-nil}
+use Rattle.std.proofs.lemmas.Grind.{common_steps}
 use Rattle.std.proofs.lemmas.List.{take_all}
 use Rattle.std.proofs.lemmas.Option.{MatchOption-at_none, MatchOption-at_some}
-use Rattle.std.proofs.lemmas.Result.{err_from_is_err_and}
-use Rattle.chip_drops.proofs.RowLemmas.{rows_none, room_for_drop, next_game, next_rows, out_end}
+use Rattle.chip_drops.specs.Rows.{EndsRows}
+use Rattle.chip_drops.proofs.RowLemmas.{rows_none, room_for_drop, next_game, next_rows, handed_on, out_end}
+use Rattle.chip_drops.proofs.rows.write_rows.Goals.{else-drops-test, then-drops-test+in_default}
 use Rattle.chip_drops.proofs.rows.write_rows.Goals as goal
 
 pub returns-in_err-text : goal.returns-in_err-text
-returns-in_err-text g c =
-    let p = err_from_is_err_and c.from_residual.result c.from_residual.ensures.1 in
-    rw (p.1, p.2)
-    (0, _, (_, rows_none c.args.pile c.args.drops.now c.requires.pile c.requires.stable), (0, Appends-nil _))
+returns-in_err-text g c = rw (handed_on _ c.from_residual.ensures.1)
+    (0, _, (_, rows_none _ c.requires.pile c.requires.stable), (0, Appends-nil _))
 
 pub drops-init : goal.drops-init
-drops-init g c = (
-  _,
-  rows_none c.args.pile c.args.drops.now c.requires.pile c.requires.stable,
-  record {
-    front = [];
-    went = Appends-nil (g.W.Write.contents c.args.output.now);
-    whole = c.in_ok-push_str.ensures.bytes
-        ∙ ap (λ (l : List ℕ). l ++ codes "vertex,chips,size,extent,lost\n") c.in_ok-text.ensures.bytes;
-    counted = refl;
-  },
-)
+drops-init g c = (_, rows_none _ c.requires.pile c.requires.stable, record {
+  within = grind (arith, common_steps);
+  went = Appends-nil (g.W.Write.contents c.args.output.now);
+  rest = grind (arith, common_steps);
+}, refl)
 
 pub drop_chips-next-requires-clause-few_chips : goal.drop_chips-next-requires-clause-few_chips
 drop_chips-next-requires-clause-few_chips g c =
     room_for_drop _ _ _ _ _ c.drops.invariant.1 c.drops-test.true c.requires.few_chips
 
-pub returns-in_err-write-in-None : goal.returns-in_err-write-in-None
-returns-in_err-write-in-None g c =
-    let so_far = c.drops.invariant in
-    let from = c.from_residual-in_err-write-in-None in
-    let p = err_from_is_err_and from.result from.ensures.1 in
-    rw (p.1, p.2) (_, _, (_, so_far.1), c.in_err-write-in-None.ensures.bytes _ _ so_far.2)
-
-pub returns-in-None : goal.returns-in-None
-returns-in-None g c =
-    let so_far = c.drops.invariant in
-    let next = c.drop_chips-next.ensures in (
-      _,
-      record {
-        inside = c.drops-test.true;
-        pile = next.pile;
-        legal = MatchOption-at_none _ _ c.in-None.is next.avalanche;
-        game = next_game _ _ _ _ c.drop_chips-next.result.0 _ so_far.1 c.drops-test.true next.game;
-      },
-      _,
-      (_, so_far.1),
-      out_end _ _ _ _ _ (c.in_ok-write-in-None.ensures.bytes _ _ so_far.2) c.in_ok-write-in-None.ensures.flushed,
-    )
-
-pub returns-in_err-push-in-Some : goal.returns-in_err-push-in-Some
-returns-in_err-push-in-Some g c =
-    let so_far = c.drops.invariant in
+pub returns-in_err-push : goal.returns-in_err-push
+returns-in_err-push g c =
+    let (text, so_far, out, all) = c.drops.invariant in
     let next = c.drop_chips-next.ensures in
-    let from = c.from_residual-in_err-push-in-Some in
-    let p = err_from_is_err_and from.result from.ensures.1 in
-    rw (p.1, p.2) (
-      _,
-      _,
-      (
-        _,
-        next_rows _ _ _ _ _ _ so_far.1 c.drops-test.true next.game next.pile _
-            (MatchOption-at_some _ _ _ c.in-Some.is next.avalanche),
-      ),
-      c.in_err-push-in-Some.ensures _ _ so_far.2,
-    )
+    let rows = next_rows _ _ _ _ _ so_far c.drops-test.true _ _ next.pile next.game
+    (MatchOption-at_some _ _ _ c.in-Some.is next.avalanche) in
+    rw (handed_on _ c.from_residual-in_err-push.ensures.1) (_, _, (_, rows), c.in_err-push.ensures _ _ out)
 
 pub drops-preserved : goal.drops-preserved
 drops-preserved g c =
-    let so_far = c.drops.invariant in
-    let next = c.drop_chips-next.ensures in (
-      _,
-      next_rows _ _ _ _ _ _ so_far.1 c.drops-test.true next.game next.pile _
-          (MatchOption-at_some _ _ _ c.in-Some.is next.avalanche),
-      c.in_ok-push-in-Some.ensures _ _ so_far.2,
-    )
+    let (text, so_far, out, all) = c.drops.invariant in
+    let next = c.drop_chips-next.ensures in
+    let rows = next_rows _ _ _ _ _ so_far c.drops-test.true _ _ next.pile next.game
+    (MatchOption-at_some _ _ _ c.in-Some.is next.avalanche) in
+    (_, rows, c.in_ok-push.ensures _ _ out, all)
 
 pub returns-in_err-write : goal.returns-in_err-write
 returns-in_err-write g c =
-    let so_far = c.drops.invariant in
-    let p = err_from_is_err_and c.from_residual-in_err-write.result c.from_residual-in_err-write.ensures.1 in
-    rw (p.1, p.2) (_, _, (_, so_far.1), c.in_err-write.ensures.bytes _ _ so_far.2)
+    let (text, so_far, out, all) = c.drops.invariant in
+    rw (handed_on _ c.from_residual-in_err-write.ensures.1) (_, _, (_, so_far), c.in_err-write.ensures.bytes _ _ out)
 
 pub returns : goal.returns
 returns g c =
-    let so_far = c.drops.invariant in
-    let after = rw (take_all c.drops.vertex-index c.args.drops.now c.drops-test.false) at so_far.1 in
-    let went = out_end _ _ _ _ _ (c.in_ok-write.ensures.bytes _ _ so_far.2) c.in_ok-write.ensures.flushed in
-    (after.0, after.1, rw after.2 at went)
+    let (text, so_far, out, all) = c.drops.invariant in
+    let ends : EndsRows c.args.pile c.args.drops.now text c.drops-test.pile c.drops-test.all =
+    elim c.drops-test.branch [
+      else-drops-test w ↦
+        rw (w.pile-is, w.all-is, all) (rw (take_all c.drops.vertex-index _ w.drops-test.false) at so_far)
+    | then-drops-test+in_default w ↦
+        let next = w.drop_chips-next.ensures in
+        rw (w.pile-is, w.all-is) (_, record {
+          inside = w.drops-test.true;
+          pile = next.pile;
+          legal = MatchOption-at_none _ _ w.in_default.is next.avalanche;
+          game = next_game _ _ _ _ _ so_far w.drops-test.true _ next.game;
+        }, (_, so_far))
+    ] in
+    (_, ends, out_end _ _ _ _ _ (c.in_ok-write.ensures.bytes _ _ out) c.in_ok-write.ensures.flushed)

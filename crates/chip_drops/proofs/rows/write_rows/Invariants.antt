@@ -1,9 +1,10 @@
-use Rattle.std.proofs.Common.{List, ℕ, string_bytes}
+use Rattle.std.proofs.Common.{◌≡◌, true, List, ℕ, string_bytes, take}
 use Rattle.chip_drops.specs.Rows.{LeavesRows}
 use Rattle.chip_drops.specs.Out.{IsOut}
 use Rattle.chip_drops.proofs.rows.write_rows.Given as goal
 
 abbrev pub invariant-drops : goal.invariant-drops
 invariant-drops g l =
-    (text : List ℕ) × LeavesRows l.fn.pile l.drops l.vertex-index l.pile text
+    (text : List ℕ) × LeavesRows l.fn.pile (take l.vertex-index l.drops) l.pile text
     × IsOut (g.W.Write.contents l.initial.output) (g.W.Write.contents l.output) (string_bytes l.rows.text) l.rows.written text
+    × (l.all ≡ true)

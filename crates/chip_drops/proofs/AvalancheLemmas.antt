@@ -1,4 +1,4 @@
--- Serves Avalanches.antt, Pile.antt, Laws.antt.
+-- Serves Avalanches.antt, Pile.antt.
 -- What a drop changes, and what the play after it comes to.
 use Rattle.std.proofs.Common.{◌≡◌, ℕ, ◌+◌, ◌-◌, ◌<◌, ◌≤◌, cond, eqb, List, [], ◌∷◌, length, map, sum, get_or, set}
 use Rattle.std.proofs.Common.{slice_index, refl, sym, ap, ◌∙◌, subst, arith, get_or-set_same, get_or-set_other}
@@ -28,9 +28,8 @@ use Rattle.chip_sequence.proofs.SittingLemmas.{leads_both, ends_alike, played_is
 use Rattle.chip_fire.specs.Rounds.{IsBegun, IsAtRest}
 use Rattle.chip_drops.specs.declared.avalanche.Avalanche.{Avalanche}
 use Rattle.chip_drops.specs.declared.pile.Pile.{Pile}
-use Rattle.chip_drops.specs.Avalanches.{dropped, IsAvalanche}
+use Rattle.chip_drops.specs.Avalanches.{dropped, once, IsAvalanche, DropsAddUp}
 use Rattle.chip_drops.specs.Pile.{IsPile, IsStable, sum_between}
-use Rattle.chip_drops.specs.Laws.{DropsAddUp}
 
 -- a list has as many firings as all vertices have in it
 length_counts : (G : Multigraph) (vs : List ℕ) (x : ℕ → ℕ) → IsFiringSequence G x vs
@@ -96,7 +95,7 @@ module _ (G : Multigraph) (good : IsGraph G) (x f y f' z : ℕ → ℕ) (one : L
 
   -- told by what is between the counts
   drop_tells : (a : Avalanche) → a.size ≡ sum_below G.vertices (λ v. f' v - f v)
-      → a.extent ≡ sum_below G.vertices (λ v. cond (eqb (f' v - f v) 0) 0 1) → a.lost ≡ z G.sink - y G.sink
+      → a.extent ≡ sum_below G.vertices (λ v. once (f' v - f v)) → a.lost ≡ z G.sink - y G.sink
       → IsAvalanche G y a z
   drop_tells a size extent lost = record {
     ends = ends G good y [] tt;
@@ -106,7 +105,7 @@ module _ (G : Multigraph) (good : IsGraph G) (x f y f' z : ℕ → ℕ) (one : L
         let d : f' v - f v ≡ counts vs v = omega arith in d i) in
         record {
           size = size ∙ ap (sum_below G.vertices) between ∙ sym (length_counts G vs y ok);
-          extent = extent ∙ ap (λ (h : ℕ → ℕ). sum_below G.vertices (λ v. cond (eqb (h v) 0) 0 1)) between;
+          extent = extent ∙ ap (λ (h : ℕ → ℕ). sum_below G.vertices (λ v. once (h v))) between;
           lost =
               let b = rw (sink_never G vs y ok, mul-zero (degree G G.sink)) at (position_is G vs y ok G.sink) in
               let e = to.1 G.sink in omega arith;
@@ -124,17 +123,15 @@ module _ (p : Pile) (pile : IsPile p) (g' : ChipGame) (v c added : ℕ) (more : 
 
   here : (u : ℕ) → slice_index now u ≡ dropped (slice_index p.chips.items) v c u
   here u =
-      let long : v < length p.chips.items = (let a = pile.begun.in_range.chips_each in omega arith) in
-      dite (ℕ_discrete v u)
-      (λ e. rw (← e) (let a = get_or-set_same p.chips.items v (added + c) 0 long in
-      let b = get_or_read p.chips.items v added long was 0 in grind (arith, nat_tests)))
-      (λ ne. let a = get_or-set_other p.chips.items v u (added + c) 0 (λ z. ne (sym z)) in grind (arith, nat_tests))
+      let long = pile.begun.in_range.chips_each in
+      let a = get_or-set_same p.chips.items v (added + c) 0 (omega arith) in
+      let b = get_or_read p.chips.items v added (omega arith) was 0 in
+      grind (arith, nat_tests, get_or-set_other p.chips.items v u (added + c) 0)
 
   start_more : (u : ℕ) → slice_index g'.start u ≡ slice_index p.game.start u + cond (eqb v u) c 0
-  start_more u = dite (dec_lt u (length p.game.start))
-      (λ l. let a = more.start u l in grind (arith, nat_tests))
-      (λ past. let a = more.start_each in let b = pile.game.start_fits in
-      grind (arith, nat_tests, get_or_past g'.start u 0 (omega arith), get_or_past p.game.start u 0 (omega arith)))
+  start_more u =
+      let a = more.start_each in let b = pile.game.start_fits in
+      grind (arith, nat_tests, more.start u, get_or_past g'.start u 0, get_or_past p.game.start u 0)
 
   -- the counts lead to them
   led_drop : LeadsTo p.game.graph (slice_index g'.start) (slice_index p.fired.items) (slice_index now)
@@ -156,7 +153,7 @@ module _ (p : Pile) (pile : IsPile p) (g' : ChipGame) (v c added : ℕ) (more : 
   -- if no vertex is legal where the play ends that goes on from there, this is the avalanche
   pub drop_told : (chips' fired' : List ℕ) → IsBegun g' chips' fired' → IsStable g'.graph (slice_index chips')
       → (a : Avalanche) → a.size ≡ sum_between (λ k. k) (length fired') p.fired.items fired'
-      → a.extent ≡ sum_between (λ k. cond (eqb k 0) 0 1) (length fired') p.fired.items fired'
+      → a.extent ≡ sum_between once (length fired') p.fired.items fired'
       → (left arrived : ℕ) → left ≡ get_or chips' p.game.graph.sink left
       → arrived ≡ get_or now p.game.graph.sink arrived → a.lost ≡ left - arrived
       → IsAvalanche p.game.graph (dropped (slice_index p.chips.items) v c) a (slice_index chips')

@@ -1,25 +1,23 @@
--- Serves Rows.antt, Out.antt.
+-- Serves Rows.antt.
 -- Drops one after another, and the bytes of their rows.
-use Rattle.std.proofs.Common.{◌≡◌, ℕ, ◌+◌, ◌<◌, ◌≤◌, List, [], ◌∷◌, ◌++◌, length, map, take, get_or, sum, slice_index}
+use Rattle.std.proofs.Common.{◌≡◌, ℕ, ◌+◌, ◌<◌, ◌≤◌, List, [], ◌∷◌, ◌++◌, length, map, take, get_or, slice_index}
 use Rattle.std.proofs.Common.{refl, sym, ap, ◌∙◌, subst, arith, rules, Option, Result, Ok, Err, cond, eqb, take-add}
 use Rattle.std.proofs.Common.{length-append}
 use Rattle.std.proofs.lemmas.List.{take_all, take_more, take-append-drop, take-append-le, drop-append-le, drop_all}
 use Rattle.std.proofs.lemmas.List.{length-drop, map-append, flat_map_more}
-use Rattle.std.proofs.lemmas.List.Sums.{sum_by-append, sum_by_more_le}
+use Rattle.std.proofs.lemmas.List.Sums.{sum_by_more}
 use Rattle.std.specs.Io.KnownBytes.{Appends}
 use Rattle.std.specs.Result.{IsErrAnd}
 use Rattle.std.proofs.KnownBytes.{Appends-trans}
-use Rattle.chip_graph.specs.Limits.{max_total}
 use Rattle.chip_graph.specs.Multigraph.{Multigraph}
 use Rattle.chip_graph.specs.ChipGame.{ChipGame}
-use Rattle.chip_graph.specs.More.{HasMore, all_brought}
+use Rattle.chip_graph.specs.More.{HasMore}
 use Rattle.chip_drops.specs.declared.avalanche.Avalanche.{Avalanche}
 use Rattle.chip_drops.specs.declared.pile.Pile.{Pile}
 use Rattle.chip_drops.specs.declared.rows.RowsFault.{RowsFault}
 use Rattle.chip_drops.specs.Avalanches.{dropped, IsAvalanche, AreAvalanches}
 use Rattle.chip_drops.specs.Pile.{IsPile, IsStable}
-use Rattle.chip_drops.specs.Rows.{row_text, rows_text, LeavesRows}
-use Rattle.chip_drops.specs.Out.{IsOut}
+use Rattle.chip_drops.specs.Rows.{row_text, rows_text, IsOut, LeavesRows}
 
 -- ---- drops
 
@@ -31,40 +29,24 @@ told_more G x [] y d a z are is =
     (z, subst (λ (p : ℕ → ℕ). IsAvalanche G (dropped p d.0 d.1) a z) (λ i v. are v i) is, (λ v. refl))
 told_more G x (t ∷ told) y d a z are is = (are.0, are.1, told_more G are.0 told y d a z are.2 is)
 
--- one more drop on a game
-game_more : (g g' g'' : ChipGame) (ds : List (ℕ × ℕ)) (d : ℕ × ℕ) → HasMore g ds g' → HasMore g' (d ∷ []) g''
-    → HasMore g (ds ++ d ∷ []) g''
-game_more g g' g'' ds d one two = record {
-  same_graph = two.same_graph ∙ one.same_graph;
-  same_limit = two.same_limit ∙ one.same_limit;
-  start_each = two.start_each ∙ one.start_each;
-  start = λ v l. (let a = one.start v l in let b = two.start v (let e = one.start_each in omega arith) in
-      let c = sum_by-append (λ (pair : ℕ × ℕ). cond (eqb pair.0 v) pair.1 0) ds (d ∷ []) in omega arith);
-  total = (let c = sum_by-append (λ (pair : ℕ × ℕ). pair.1) ds (d ∷ []) in omega arith);
-}
-
 -- nothing was dropped
 pub rows_none : (p : Pile) → IsPile p → IsStable p.game.graph (slice_index p.chips.items)
     → LeavesRows p [] p (rows_text [])
-rows_none p is stable = record {
-  pile = is;
-  stable = stable;
-  game = search rules;
-  rows = ([], refl, (λ v. refl), refl);
-}
+rows_none p is stable =
+    record { pile = is; stable = stable; game = search rules; rows = ([], refl, (λ v. refl), refl) }
 
 -- the drop at i, after those before it
 module _ (p : Pile) (ds : List (ℕ × ℕ)) (i : ℕ) (p' : Pile) (text : List ℕ) (so_far : LeavesRows p (take i ds) p' text)
     (inside : i < length ds) where
-  -- there is room for its chips
-  pub room_for_drop : sum p.game.start + all_brought ds ≤ max_total
-      → sum p'.game.start + (get_or ds i (0, 0)).1 ≤ max_total
-  room_for_drop few =
-      let a = so_far.game.total in
-      let b = sum_by_more_le (λ (pair : ℕ × ℕ). pair.1) ds i (0, 0) inside in omega arith
-
   pub next_game : (g : ChipGame) → HasMore p'.game (get_or ds i (0, 0) ∷ []) g → HasMore p.game (take (i + 1) ds) g
-  next_game g more = rw (take_more ds i (0, 0) inside) (game_more _ _ _ _ _ so_far.game more)
+  next_game g more = let before = so_far.game in record {
+    same_graph = more.same_graph ∙ before.same_graph;
+    same_limit = more.same_limit ∙ before.same_limit;
+    start_each = more.start_each ∙ before.start_each;
+    start = λ v l. (let a = before.start v l in let b = more.start v (let e = before.start_each in omega arith) in
+        let c = sum_by_more (λ (pair : ℕ × ℕ). cond (eqb pair.0 v) pair.1 0) ds i (0, 0) inside in omega arith);
+    total = (let c = sum_by_more (λ (pair : ℕ × ℕ). pair.1) ds i (0, 0) inside in omega arith);
+  }
 
   pub next_rows : (p'' : Pile) (a : Avalanche) → IsPile p'' → HasMore p'.game (get_or ds i (0, 0) ∷ []) p''.game
       → IsStable p''.game.graph (slice_index p''.chips.items)
@@ -79,8 +61,7 @@ module _ (p : Pile) (ds : List (ℕ × ℕ)) (i : ℕ) (p' : Pile) (text : List 
         game = next_game _ more;
         rows = (
           told ++ (get_or ds i (0, 0), a) ∷ [],
-          map-append _ told _ ∙ ap (λ (l : List (ℕ × ℕ)). l ++ get_or ds i (0, 0) ∷ []) drops
-              ∙ sym (take_more ds i (0, 0) inside),
+          rw (take_more ds i (0, 0) inside, ← drops) (map-append _ told _),
           told_more _ _ told _ _ a _ avalanches (rw so_far.game.same_graph at told_by.1),
           rw text_is (flat_map_more row_text (rows_text []) told (get_or ds i (0, 0), a)),
         );
@@ -96,23 +77,20 @@ handed_on {result = Err f} fault is = ap Err is
 
 module _ (old now : Option (List ℕ)) (pending : List ℕ) (written : ℕ) (all : List ℕ)
     (is : IsOut old now pending written all) where
-  left : written + length pending ≡ length all
-  left = let a = ap length is.rest in let b = length-drop written all in let c = is.within in omega arith
-
   -- more bytes come
   pub out_put : (more : List ℕ) → IsOut old now (pending ++ more) written (all ++ more)
   out_put more = record {
-    within = (let a = length-append all more in let b = is.within in omega arith);
-    went = rw (take-append-le written all more is.within) is.went;
-    rest = drop-append-le written all more is.within ∙ ap (λ (l : List ℕ). l ++ more) is.rest;
+    counted = (let a = length-append all more in let b = length-append pending more in omega arith);
+    went = rw (take-append-le written all more (omega arith)) is.went;
+    rest = drop-append-le written all more (omega arith) ∙ ap (λ (l : List ℕ). l ++ more) is.rest;
   }
 
   -- the pending ones go out
   pub out_all : (now' : Option (List ℕ)) (written' : ℕ) → Appends now now' pending → written' ≡ written + length pending
       → IsOut old now' [] written' all
   out_all now' written' went counted =
-      let full : length all ≤ written' = (let a = left in omega arith) in record {
-        within = (let a = left in omega arith);
+      let full : length all ≤ written' = omega arith in record {
+        counted = omega arith;
         went = rw (take_all written' all full, ← take-append-drop written all, is.rest)
             (Appends-trans old now now' _ _ is.went went);
         rest = drop_all written' all full;
@@ -122,8 +100,8 @@ module _ (old now : Option (List ℕ)) (pending : List ℕ) (written : ℕ) (all
   pub out_part : (now' : Option (List ℕ)) (n : ℕ) → n < length pending → Appends now now' (take n pending)
       → (written + n < length all) × Appends old now' (take (written + n) all)
   out_part now' n l went =
-      ((let a = left in omega arith), rw (take-add written n all, is.rest) (Appends-trans old now now' _ _ is.went went))
+      (omega arith, rw (take-add written n all, is.rest) (Appends-trans old now now' _ _ is.went went))
 
   -- none is pending
   pub out_end : pending ≡ [] → Appends old now all
-  out_end none = rw (take_all written all (let a = left in let b = ap length none in omega arith)) at is.went
+  out_end none = rw (take_all written all (let a = ap length none in omega arith)) at is.went

@@ -1,6 +1,6 @@
 -- Serves Pile.antt.
 -- The work list of a drop, and what is told of the firings between two counts.
-use Rattle.std.proofs.Common.{◌≡◌, ◌≢◌, ℕ, zero, suc, ◌+◌, ◌-◌, ◌<◌, ◌≤◌, ◌^◌, Bool, true, false, cond, eqb, List}
+use Rattle.std.proofs.Common.{◌≡◌, ◌≢◌, ℕ, zero, suc, ◌+◌, ◌-◌, ◌<◌, ◌≤◌, ◌^◌, Bool, true, false, List}
 use Rattle.std.proofs.Common.{[], ◌∷◌, length, take, get_or, set, slice_index, refl, sym, ap, ◌∙◌, subst, arith}
 use Rattle.std.proofs.Common.{get_or-set_same, get_or-set_other, mul-le-mul_right, true≢false}
 use Rattle.std.proofs.lemmas.Bool.Decides.{nat_tests}
@@ -17,6 +17,7 @@ use Rattle.chip_graph.proofs.SumLemmas.{sum_below_move, sum_below_none}
 use Rattle.chip_sequence.specs.Firing.{IsLegal}
 use Rattle.chip_sequence.proofs.AfterLemmas.{sum_small}
 use Rattle.chip_fire.specs.WorkList.{AreListed, HasSupport}
+use Rattle.chip_drops.specs.Avalanches.{once}
 use Rattle.chip_drops.specs.Pile.{sum_between}
 
 -- a vertex that alone may be legal is listed if it is
@@ -43,12 +44,12 @@ all_supported n fired fired' vs m each all are = rw (take_all m vs all) (record 
 
 -- few firings of few vertices
 pub few_between : (n : ℕ) (before fired : List ℕ) → n ≤ max_vertices → ((v : ℕ) → slice_index fired v ≤ max_limit)
-    → (sum_between (λ k. k) n before fired ≤ 2 ^ 60) × (sum_between (λ k. cond (eqb k 0) 0 1) n before fired ≤ n)
+    → (sum_between (λ k. k) n before fired ≤ 2 ^ 60) × (sum_between once n before fired ≤ n)
 few_between n before fired few low =
     let a = sum_small n max_limit (λ v. true) (λ v. slice_index fired v - slice_index before v)
     (λ v l. let b = low v in omega arith) in
     let b = mul-le-mul_right max_limit few in
-    let c = sum_small n 1 (λ v. true) (λ v. cond (eqb (slice_index fired v - slice_index before v) 0) 0 1)
+    let c = sum_small n 1 (λ v. true) (λ v. once (slice_index fired v - slice_index before v))
     (λ v l. grind (arith, nat_tests)) in
     (omega arith, omega arith)
 

@@ -1,17 +1,24 @@
--- Avalanches: what chips set off that are dropped on a position.
-use Rattle.std.specs.Prelude.{◌≡◌, ℕ, ◌+◌, ◌==◌, if◌then◌else◌, List, [], ◌∷◌, length}
+-- Avalanches: what chips set off that are dropped on a position, and what they add up to. A drop is a vertex and a count.
+use Rattle.std.specs.Prelude.{◌≡◌, ℕ, ◌+◌, ◌==◌, if◌then◌else◌, List, [], ◌∷◌, length, map, sum_by}
 use Rattle.chip_graph.specs.Sums.{sum_below}
-use Rattle.chip_graph.specs.Multigraph.{Multigraph}
+use Rattle.chip_graph.specs.Multigraph.{Multigraph, IsGraph}
+use Rattle.chip_graph.specs.More.{brought_to}
 use Rattle.chip_sequence.specs.Sequence.{position_after, IsFiringSequence, counts, HasEnded}
+use Rattle.chip_sequence.specs.Sittings.{LeadsTo}
 use Rattle.chip_drops.specs.declared.avalanche.Avalanche.{Avalanche}
+use Rattle.chip_drops.specs.Pile.{IsStable}
 
 -- the position x with so many chips more on v
 abbrev pub dropped : (ℕ → ℕ) → ℕ → ℕ → ℕ → ℕ
 dropped x v count u = x u + (if v == u then count else 0)
 
+-- however many firings, counted once
+abbrev pub once : ℕ → ℕ
+once k = if k == 0 then 0 else 1
+
 -- how many different vertices fire in a list
 abbrev pub extent_of : Multigraph → List ℕ → ℕ
-extent_of G vs = sum_below G.vertices (λ v. if counts vs v == 0 then 0 else 1)
+extent_of G vs = sum_below G.vertices (λ v. once (counts vs v))
 
 -- a list that fires from x has so many firings, of so many vertices, and brings so many chips to the sink
 pub record Tells (G : Multigraph) (x : ℕ → ℕ) (a : Avalanche) (vs : List ℕ) : Type 0 where
@@ -25,9 +32,19 @@ pub record IsAvalanche (G : Multigraph) (x : ℕ → ℕ) (a : Avalanche) (y : �
   pub tells : (vs : List ℕ) → IsFiringSequence G x vs → HasEnded G x vs → Tells G x a vs
   pub leaves : (vs : List ℕ) → IsFiringSequence G x vs → HasEnded G x vs → (v : ℕ) → y v ≡ position_after G x vs v
 
--- drops, each a vertex and a count of chips, with their avalanches: the first on x, each other one on what the one before
--- it left; and the last leaves y
+-- drops with their avalanches: the first on x, each other one on what the one before it left; and the last leaves y
 abbrev pub AreAvalanches : Multigraph → (ℕ → ℕ) → List ((ℕ × ℕ) × Avalanche) → (ℕ → ℕ) → Type 0
 AreAvalanches G x [] y = (v : ℕ) → y v ≡ x v
 AreAvalanches G x ((d, a) ∷ more) y =
     (z : ℕ → ℕ) × IsAvalanche G (dropped x d.0 d.1) a z × AreAvalanches G z more y
+
+-- a play with the counts f leads from x to y, where no vertex is legal, and drops with their avalanches lead from there to
+-- z. Then each sequence that ends from x', which is x with all drops at once, leaves z too, and fires as often as the play
+-- and all avalanches together
+abbrev pub DropsAddUp : Type 0
+DropsAddUp =
+    (G : Multigraph) → IsGraph G → (x f y : ℕ → ℕ) → LeadsTo G x f y → IsStable G y
+    → (told : List ((ℕ × ℕ) × Avalanche)) (z : ℕ → ℕ) → AreAvalanches G y told z
+    → (x' : ℕ → ℕ) → ((v : ℕ) → x' v ≡ x v + brought_to (map (λ t. t.0) told) v)
+    → (vs : List ℕ) → IsFiringSequence G x' vs → HasEnded G x' vs
+    → (sum_below G.vertices f + sum_by (λ t. t.1.size) told ≡ length vs) × ((v : ℕ) → z v ≡ position_after G x' vs v)

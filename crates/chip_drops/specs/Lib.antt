@@ -1,16 +1,4 @@
-pub use Rattle.chip_graph.specs.Limits
-pub use Rattle.chip_graph.specs.Sums
-pub use Rattle.chip_graph.specs.Multigraph
-pub use Rattle.chip_graph.specs.ChipGame
-pub use Rattle.chip_graph.specs.More
-pub use Rattle.chip_sequence.specs.Play
-pub use Rattle.chip_sequence.specs.Outcomes
-pub use Rattle.chip_sequence.specs.Sittings
-pub use Rattle.chip_fire.specs.Rounds
-pub use Rattle.chip_fire.specs.Player
 pub mod Avalanches
 pub mod Pile
-pub mod Out
 pub mod Rows
-pub mod Laws
 pub mod Worked

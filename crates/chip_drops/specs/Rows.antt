@@ -1,17 +1,18 @@
 -- Drops on a pile as rows of text, one for each drop whose play has ended with no vertex legal.
-use Rattle.std.specs.Prelude.{◌≡◌, ℕ, ◌+◌, ◌<◌, Bool, true, false, List, ◌++◌, codes, length, map, take, slice_index}
-use Rattle.std.specs.Prelude.{Option, Result, Ok, Err}
+use Rattle.std.specs.Prelude.{◌≡◌, ℕ, ◌+◌, ◌<◌, Bool, true, false, List, ◌++◌, codes, length, map, take, drop}
+use Rattle.std.specs.Prelude.{slice_index, Option, Result, Ok, Err}
 use Rattle.std.specs.List.{flat_map}
 use Rattle.std.specs.Fmt.{decimal}
 use Rattle.std.specs.Io.KnownBytes.{Appends}
 use Rattle.chip_graph.specs.Multigraph.{Multigraph}
 use Rattle.chip_graph.specs.More.{HasMore}
+use Rattle.chip_report.specs.Written.{WritesAll}
 use Rattle.chip_drops.specs.declared.avalanche.Avalanche.{Avalanche}
 use Rattle.chip_drops.specs.declared.pile.Pile.{Pile}
 use Rattle.chip_drops.specs.declared.rows.Dropped.{Dropped}
 use Rattle.chip_drops.specs.declared.rows.RowsFault.{RowsFault}
+use Rattle.chip_drops.specs.declared.rows.RowsFault.TheVariants.{Write, NoMemory}
 use Rattle.chip_drops.specs.Avalanches.{AreAvalanches}
-use Rattle.chip_drops.specs.Out.{FailsOut}
 use Rattle.chip_drops.specs.Pile.{IsPile, IsStable}
 
 -- the row of a drop and its avalanche
@@ -29,6 +30,17 @@ abbrev pub TellsRows : Multigraph → (ℕ → ℕ) → List (ℕ × ℕ) → Li
 TellsRows G x ds text y =
     (told : List ((ℕ × ℕ) × Avalanche)) × (map (λ t. t.0) told ≡ ds) × AreAvalanches G x told y × (text ≡ rows_text told)
 
+-- of all bytes so many were written, and the others are pending
+pub record IsOut (old now : Option (List ℕ)) (pending : List ℕ) (written : ℕ) (all : List ℕ) : Type 0 where
+  pub counted : written + length pending ≡ length all
+  pub went : Appends old now (take written all)
+  pub rest : drop written all ≡ pending
+
+-- a fault says how many bytes were written, or there was no memory after a front of them
+abbrev pub FailsOut : Option (List ℕ) → Option (List ℕ) → List ℕ → RowsFault → Type 0
+FailsOut old now all (Write w) = WritesAll old now all (Err w)
+FailsOut old now all NoMemory = (k : ℕ) × Appends old now (take k all)
+
 -- the drops were made on the pile p, one after another, each played until no vertex was legal; they left p', and the text
 -- has their rows
 pub record LeavesRows (p : Pile) (ds : List (ℕ × ℕ)) (p' : Pile) (text : List ℕ) : Type 0 where
@@ -37,24 +49,15 @@ pub record LeavesRows (p : Pile) (ds : List (ℕ × ℕ)) (p' : Pile) (text : Li
   pub game : HasMore p.game ds p'.game
   pub rows : TellsRows p.game.graph (slice_index p.chips.items) ds text (slice_index p'.chips.items)
 
--- the drop at i was made after the first i, and the limit has stopped its play
-pub record IsStoppedAt (p : Pile) (ds : List (ℕ × ℕ)) (i : ℕ) (p' : Pile) : Type 0 where
-  pub inside : i < length ds
-  pub pile : IsPile p'
-  pub legal : IsStable p'.game.graph (slice_index p'.chips.items) → ⊥
-  pub game : HasMore p.game (take (i + 1) ds) p'.game
+-- the first n drops are all, and have left p'; or one more was made, and the limit has stopped its play
+abbrev pub EndsAt : Pile → List (ℕ × ℕ) → ℕ → Pile → Pile → Bool → Type 0
+EndsAt p ds n left p' true = (take n ds ≡ ds) × (p' ≡ left)
+EndsAt p ds n left p' false = (n < length ds) × IsPile p' × HasMore p.game (take (n + 1) ds) p'.game
+    × (IsStable p'.game.graph (slice_index p'.chips.items) → ⊥)
 
--- a text has the rows of the first n drops
-abbrev pub AreRows : Pile → List (ℕ × ℕ) → ℕ → List ℕ → Type 0
-AreRows p ds n text = (p' : Pile) × LeavesRows p (take n ds) p' text
-
--- a text has the rows of all drops, or of those before the one that the limit stopped
-abbrev pub EndsRows : Pile → List (ℕ × ℕ) → List ℕ → Pile → Bool → Type 0
-EndsRows p ds text p' true = LeavesRows p ds p' text
-EndsRows p ds text p' false = (i : ℕ) × IsStoppedAt p ds i p' × AreRows p ds i text
-
--- what writing the rows of drops answers: they went out; or the output failed or there was no memory, and only a front of
--- some rows went out
+-- what writing the rows of drops answers: some went out; or the output failed, or there was no memory, after a front of some
 abbrev pub WritesRows : Pile → List (ℕ × ℕ) → Option (List ℕ) → Option (List ℕ) → Result Dropped RowsFault → Type 0
-WritesRows p ds old new (Ok end) = (text : List ℕ) × EndsRows p ds text end.pile end.all × Appends old new text
-WritesRows p ds old new (Err fault) = (n : ℕ) × (text : List ℕ) × AreRows p ds n text × FailsOut old new text fault
+WritesRows p ds old new (Ok end) = (n : ℕ) × (text : List ℕ) × (left : Pile) × LeavesRows p (take n ds) left text
+    × EndsAt p ds n left end.pile end.all × Appends old new text
+WritesRows p ds old new (Err fault) = (n : ℕ) × (text : List ℕ) × (left : Pile) × LeavesRows p (take n ds) left text
+    × FailsOut old new text fault

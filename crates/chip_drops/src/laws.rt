@@ -1,6 +1,6 @@
 //! Laws of drops: functions that do nothing, whose contracts are the laws.
 
-ghost use Rattle.chip_drops.specs.Laws.{DropsAddUp};
+ghost use Rattle.chip_drops.specs.Avalanches.{DropsAddUp};
 ghost use Rattle.chip_drops.specs.Worked.{ThreeDrops};
 
 /// Three drops on the triangle, as the definitions tell them.

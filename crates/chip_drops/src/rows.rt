@@ -1,12 +1,11 @@
 //! The rows of drops.
 
 ghost use Rattle.std.specs.Prelude.{◌≡◌, ℕ, ◌+◌, ◌<◌, ◌≤◌, ◌++◌, [], IfOk, List, sum, slice_index};
-ghost use Rattle.std.specs.Prelude.{string_bytes, Option};
+ghost use Rattle.std.specs.Prelude.{string_bytes, Option, MatchResult};
 ghost use Rattle.chip_graph.specs.Limits.{max_total};
 ghost use Rattle.chip_graph.specs.More.{AreOfVertices, all_brought};
 ghost use Rattle.chip_drops.specs.Pile.{IsPile, IsStable};
-ghost use Rattle.chip_drops.specs.Rows.{WritesRows, row_text};
-ghost use Rattle.chip_drops.specs.Out.{IsOut, GoesOut};
+ghost use Rattle.chip_drops.specs.Rows.{WritesRows, IsOut, FailsOut, row_text};
 
 use crate::avalanche::Avalanche;
 use crate::pile::Pile;
@@ -62,7 +61,9 @@ impl Rows {
         ensures flushed { IfOk result (λ _. string_bytes self.new.text ≡ []) }
         ensures bytes { (old : Option (List ℕ)) (all : List ℕ)
             → IsOut old (W.contents output.old) (string_bytes self.old.text) self.old.written all
-            → GoesOut old (W.contents output.new) (string_bytes self.new.text) self.new.written all result }
+            → MatchResult result
+            (λ _. IsOut old (W.contents output.new) (string_bytes self.new.text) self.new.written all)
+            (FailsOut old (W.contents output.new) all) }
     {
         let Some(written) = self.written.checked_add(self.text.len() as u64) else {
             return Err(RowsFault::NoMemory);
@@ -89,8 +90,9 @@ impl Rows {
     ) -> Result<(), RowsFault>
         ensures { (old : Option (List ℕ)) (all : List ℕ)
             → IsOut old (W.contents output.old) (string_bytes self.old.text) self.old.written all
-            → GoesOut old (W.contents output.new) (string_bytes self.new.text) self.new.written
-            (all ++ row_text ((vertex, count), avalanche)) result }
+            → let more = all ++ row_text ((vertex, count), avalanche) in MatchResult result
+            (λ _. IsOut old (W.contents output.new) (string_bytes self.new.text) self.new.written more)
+            (FailsOut old (W.contents output.new) more) }
     {
         push_row(&mut self.text, vertex, count, avalanche)?;
         if self.text.len() < STRETCH {

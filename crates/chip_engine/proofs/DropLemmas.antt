@@ -1,10 +1,11 @@
 -- Serves AvalanchesCommand.antt.
 -- Drops that a file names, and what playing them comes to.
 use Rattle.std.proofs.Common.{◌≡◌, ℕ, ◌<◌, Bool, true, false, List, [], ◌∷◌, length, map, take, slice_index, None, Some}
-use Rattle.std.proofs.Common.{refl, sym, ◌∙◌, subst, arith, inl, inr, ltb, ltb-true}
+use Rattle.std.proofs.Common.{refl, sym, ◌∙◌, subst, arith, inl, inr}
 use Rattle.std.specs.Prelude.{All}
 use Rattle.std.proofs.lemmas.Bool.{false_from_ne_true}
-use Rattle.std.proofs.lemmas.List.{take_all}
+use Rattle.std.proofs.lemmas.Bool.Decides.{nat_tests}
+use Rattle.std.proofs.lemmas.Grind.{common_steps}
 use Rattle.std.proofs.lemmas.List.Elements.{All-nil, All-cons}
 use Rattle.chip_graph.specs.ChipGame.{ChipGame}
 use Rattle.chip_file.specs.DropsText.{drop_in, drops_of_text, drops_text_fault}
@@ -16,22 +17,24 @@ use Rattle.chip_sequence.proofs.CertificateLemmas.{end_of_the_way}
 use Rattle.chip_engine.proofs.SittingLemmas.{none_legal}
 use Rattle.chip_drops.specs.declared.pile.Pile.{Pile}
 use Rattle.chip_drops.specs.Pile.{IsPile, IsStable}
-use Rattle.chip_drops.specs.Rows.{rows_text, LeavesRows, EndsRows}
+use Rattle.chip_drops.specs.Rows.{rows_text, LeavesRows, EndsAt}
 use Rattle.chip_report.specs.ReportText.{is_closed}
-use Rattle.chip_command.proofs.InputLemmas.{alone_passed, none_parts}
+use Rattle.chip_command.proofs.InputLemmas.{none_parts}
 use Rattle.chip_command.proofs.RoundTripLemmas.{given}
 use Rattle.chip_engine.specs.AvalanchesCommand.{TellsDrops, ComesTo}
 
 -- ---- the vertices of drops
+
+-- a row with no fault of its own names a vertex
+names_vertex : (n index : ℕ) (row : Row) → vertex_row_fault n index row ≡ None → vertex_in row < n
+names_vertex n index row e = grind (arith, nat_tests, common_steps)
 
 rows_vertices : (n : ℕ) (before rows : List Row) → first_row_fault (by_index (vertex_row_fault n)) before rows ≡ None
     → All (λ (d : ℕ × ℕ). d.0 < n) (map drop_in rows)
 rows_vertices n before [] is = All-nil _
 rows_vertices n before (row ∷ rows) is =
     let both = none_parts (vertex_row_fault n (length before) row) _ is in
-    let last = (none_parts _ _ (none_parts _ _ both.0).1).1 in
-    All-cons (λ (d : ℕ × ℕ). d.0 < n) (drop_in row) _
-    (ltb-true (vertex_in row) n (alone_passed (ltb (vertex_in row) n) _ last)) (rows_vertices n _ rows both.1)
+    All-cons (λ (d : ℕ × ℕ). d.0 < n) (drop_in row) _ (names_vertex n _ row both.0) (rows_vertices n _ rows both.1)
 
 -- drops that a text means are on vertices
 pub drops_vertices : (n : ℕ) (text : List ℕ) (ds : List (ℕ × ℕ)) → drops_of_text n text ≡ Some ds
@@ -62,19 +65,10 @@ module _ (g : ChipGame) (o : Outcome) (played : IsPlayed g o) (p : Pile) (game :
   pub tells : (ds : List (ℕ × ℕ)) (p' : Pile) (text : List ℕ) → LeavesRows p ds p' text → TellsDrops g ds text
   tells ds p' text leaves = (o, played, _, rw (game, chips) at leaves.rows)
 
-  -- at the end some rows are told, whatever comes of the outcome
-  pub told_at_end : (ds : List (ℕ × ℕ)) (text : List ℕ) (p' : Pile) (all : Bool) → EndsRows p ds text p' all
-      → (n : ℕ) × TellsDrops g (take n ds) text
-  told_at_end ds text p' true leaves = (length ds, rw (take_all (length ds) ds (omega arith)) (tells ds p' text leaves))
-  told_at_end ds text p' false (i, stopped, are) = (i, tells _ _ text are.1)
-
-  pub comes_to : (ds : List (ℕ × ℕ)) (text : List ℕ) (p' : Pile) (all : Bool) → EndsRows p ds text p' all
+  pub comes_to : (ds : List (ℕ × ℕ)) (n : ℕ) (text : List ℕ) (left p' : Pile) (all : Bool)
+      → LeavesRows p (take n ds) left text → EndsAt p ds n left p' all
       → (end : Outcome) → IsPlayed p'.game end → ComesTo g ds text p'.game end
-  comes_to ds text p' true leaves end is = inl (tells ds p' text leaves, rw game at leaves.game)
-  comes_to ds text p' false (i, stopped, are) end is = inr (inl (
-    i,
-    stopped.inside,
-    tells _ _ text are.1,
-    rw game at stopped.game,
-    stopped_open p' stopped.pile stopped.legal end is,
-  ))
+  comes_to ds n text left p' true leaves (whole, same) end is =
+      let rows = rw whole at leaves in inl (tells ds left text rows, rw (same, ← game) rows.game)
+  comes_to ds n text left p' false leaves (inside, pile, more, legal) end is =
+      inr (inl (n, inside, tells _ left text leaves, rw game at more, stopped_open p' pile legal end is))

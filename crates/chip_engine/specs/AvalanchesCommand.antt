@@ -10,8 +10,7 @@ use Rattle.chip_graph.specs.declared.fault.GameFault.TheVariants.{Total}
 use Rattle.chip_file.specs.DropsText.{drops_of_text, drops_text_fault}
 use Rattle.chip_sequence.specs.Play.{IsPlayed}
 use Rattle.chip_sequence.specs.declared.outcome.Outcome.{Outcome}
-use Rattle.chip_drops.specs.Out.{FailsOut}
-use Rattle.chip_drops.specs.Rows.{TellsRows}
+use Rattle.chip_drops.specs.Rows.{TellsRows, FailsOut}
 use Rattle.chip_drops.specs.declared.rows.RowsFault.{RowsFault}
 use Rattle.chip_drops.specs.declared.rows.RowsFault.TheVariants as rows_fault
 use Rattle.chip_report.specs.ReportText.{is_closed, report_text}

@@ -1,5 +1,6 @@
-use Rattle.std.proofs.Common.{◌≡◌, ◌+◌, cond, eqb, length, drop}
+use Rattle.std.proofs.Common.{◌≡◌, ◌+◌, length, drop}
 use Rattle.chip_fire.specs.WorkList.{HasSupport}
+use Rattle.chip_drops.specs.Avalanches.{once}
 use Rattle.chip_drops.specs.Pile.{sum_between}
 use Rattle.chip_drops.proofs.play.tally.Given as goal
 
@@ -10,6 +11,6 @@ invariant-loop-vertex l = record {
       l.size + sum_between (λ k. k) (length l.fired) l.before l.fired
       ≡ sum_between (λ k. k) (length l.fired) l.fn.before l.fired;
   extent :
-      l.extent + sum_between (λ k. cond (eqb k 0) 0 1) (length l.fired) l.before l.fired
-      ≡ sum_between (λ k. cond (eqb k 0) 0 1) (length l.fired) l.fn.before l.fired;
+      l.extent + sum_between once (length l.fired) l.before l.fired
+      ≡ sum_between once (length l.fired) l.fn.before l.fired;
 }

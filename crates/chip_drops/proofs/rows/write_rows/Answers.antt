@@ -1,27 +1,29 @@
-use Rattle.std.proofs.Common.{refl, arith}
+use Rattle.std.proofs.Common.{ℕ, refl, arith}
 use Rattle.std.proofs.KnownBytes.{Appends-nil}
 use Rattle.std.proofs.lemmas.Grind.{common_steps}
 use Rattle.std.proofs.lemmas.List.{take_all}
+use Rattle.std.proofs.lemmas.List.Sums.{sum_by_more_le}
 use Rattle.std.proofs.lemmas.Option.{MatchOption-at_none, MatchOption-at_some}
-use Rattle.chip_drops.specs.Rows.{EndsRows}
-use Rattle.chip_drops.proofs.RowLemmas.{rows_none, room_for_drop, next_game, next_rows, handed_on, out_end}
+use Rattle.chip_drops.specs.Rows.{EndsAt}
+use Rattle.chip_drops.proofs.RowLemmas.{rows_none, next_game, next_rows, handed_on, out_end}
 use Rattle.chip_drops.proofs.rows.write_rows.Goals.{else-drops-test, then-drops-test+in_default}
 use Rattle.chip_drops.proofs.rows.write_rows.Goals as goal
 
 pub returns-in_err-text : goal.returns-in_err-text
 returns-in_err-text g c = rw (handed_on _ c.from_residual.ensures.1)
-    (0, _, (_, rows_none _ c.requires.pile c.requires.stable), (0, Appends-nil _))
+    (0, _, _, rows_none _ c.requires.pile c.requires.stable, (0, Appends-nil _))
 
 pub drops-init : goal.drops-init
 drops-init g c = (_, rows_none _ c.requires.pile c.requires.stable, record {
-  within = grind (arith, common_steps);
+  counted = grind (arith, common_steps);
   went = Appends-nil (g.W.Write.contents c.args.output.now);
   rest = grind (arith, common_steps);
 }, refl)
 
 pub drop_chips-next-requires-clause-few_chips : goal.drop_chips-next-requires-clause-few_chips
 drop_chips-next-requires-clause-few_chips g c =
-    room_for_drop _ _ _ _ _ c.drops.invariant.1 c.drops-test.true c.requires.few_chips
+    let before = c.drops.invariant.1.game.total in
+    let more = sum_by_more_le (λ (pair : ℕ × ℕ). pair.1) _ _ (0, 0) c.drops-test.true in omega arith
 
 pub returns-in_err-push : goal.returns-in_err-push
 returns-in_err-push g c =
@@ -29,7 +31,7 @@ returns-in_err-push g c =
     let next = c.drop_chips-next.ensures in
     let rows = next_rows _ _ _ _ _ so_far c.drops-test.true _ _ next.pile next.game
     (MatchOption-at_some _ _ _ c.in-Some.is next.avalanche) in
-    rw (handed_on _ c.from_residual-in_err-push.ensures.1) (_, _, (_, rows), c.in_err-push.ensures _ _ out)
+    rw (handed_on _ c.from_residual-in_err-push.ensures.1) (_, _, _, rows, c.in_err-push.ensures _ _ out)
 
 pub drops-preserved : goal.drops-preserved
 drops-preserved g c =
@@ -42,22 +44,18 @@ drops-preserved g c =
 pub returns-in_err-write : goal.returns-in_err-write
 returns-in_err-write g c =
     let (text, so_far, out, all) = c.drops.invariant in
-    rw (handed_on _ c.from_residual-in_err-write.ensures.1) (_, _, (_, so_far), c.in_err-write.ensures.bytes _ _ out)
+    rw (handed_on _ c.from_residual-in_err-write.ensures.1) (_, _, _, so_far, c.in_err-write.ensures.bytes _ _ out)
 
 pub returns : goal.returns
 returns g c =
     let (text, so_far, out, all) = c.drops.invariant in
-    let ends : EndsRows c.args.pile c.args.drops.now text c.drops-test.pile c.drops-test.all =
+    let ends : EndsAt c.args.pile c.args.drops.now c.drops.vertex-index c.drops.pile c.drops-test.pile c.drops-test.all =
     elim c.drops-test.branch [
-      else-drops-test w ↦
-        rw (w.pile-is, w.all-is, all) (rw (take_all c.drops.vertex-index _ w.drops-test.false) at so_far)
+      else-drops-test w ↦ rw (w.all-is, all) (take_all _ _ w.drops-test.false, w.pile-is)
     | then-drops-test+in_default w ↦
         let next = w.drop_chips-next.ensures in
-        rw (w.pile-is, w.all-is) (_, record {
-          inside = w.drops-test.true;
-          pile = next.pile;
-          legal = MatchOption-at_none _ _ w.in_default.is next.avalanche;
-          game = next_game _ _ _ _ _ so_far w.drops-test.true _ next.game;
-        }, (_, so_far))
+        let game = next_game _ _ _ _ _ so_far w.drops-test.true _ next.game in
+        rw (w.pile-is, w.all-is)
+        (w.drops-test.true, next.pile, game, MatchOption-at_none _ _ w.in_default.is next.avalanche)
     ] in
-    (_, ends, out_end _ _ _ _ _ (c.in_ok-write.ensures.bytes _ _ out) c.in_ok-write.ensures.flushed)
+    (_, _, _, so_far, ends, out_end _ _ _ _ _ (c.in_ok-write.ensures.bytes _ _ out) c.in_ok-write.ensures.flushed)

@@ -1,6 +1,5 @@
 use Rattle.std.proofs.Common.{◌≡◌, true, List, ℕ, string_bytes, take}
-use Rattle.chip_drops.specs.Rows.{LeavesRows}
-use Rattle.chip_drops.specs.Out.{IsOut}
+use Rattle.chip_drops.specs.Rows.{LeavesRows, IsOut}
 use Rattle.chip_drops.proofs.rows.write_rows.Given as goal
 
 abbrev pub invariant-drops : goal.invariant-drops

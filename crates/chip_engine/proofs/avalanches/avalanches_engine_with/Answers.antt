@@ -8,17 +8,8 @@ returns-in_err-game g c = rw (handed_on _ c.from_residual.ensures.1)
     (inl (inl c.in_err-game.ensures, Keeps-same (g.W.Write.contents c.args.output.now), refl))
 
 pub returns-in_err-drops : goal.returns-in_err-drops
-returns-in_err-drops g c = rw (handed_on _ c.from_residual-in_err-drops.ensures.1) (inl (
-  inr (c.in_ok-game.game, c.in_ok-game.ensures, c.in_err-drops.ensures),
-  Keeps-same (g.W.Write.contents c.args.output.now),
-  refl,
-))
+returns-in_err-drops g c = rw (handed_on _ c.from_residual-in_err-drops.ensures.1)
+    (inl (inr (_, c.in_ok-game.ensures, c.in_err-drops.ensures), Keeps-same (g.W.Write.contents c.args.output.now), refl))
 
 pub returns : goal.returns
-returns g c = inr (
-  c.in_ok-game.game,
-  c.in_ok-game.ensures,
-  c.in_ok-drops.drops.items,
-  c.in_ok-drops.ensures,
-  rw c.deref.ensures.value at c.drop_all.ensures,
-)
+returns g c = inr (_, c.in_ok-game.ensures, _, c.in_ok-drops.ensures, rw c.deref.ensures.value at c.drop_all.ensures)

@@ -1,3 +1,1 @@
-pub mod AvalancheLemmas
-pub mod WorkLemmas
-pub mod RowLemmas
+pub mod DropLemmas

@@ -1,5 +1,5 @@
--- Avalanches: what chips set off that are dropped on a position, and what they add up to. A drop is a vertex and a count.
-use Rattle.std.specs.Prelude.{◌≡◌, ℕ, ◌+◌, ◌==◌, if◌then◌else◌, List, [], ◌∷◌, length, map, sum_by}
+-- Avalanches: what drops of chips set off, each a vertex and a count, and what they add up to.
+use Rattle.std.specs.Prelude.{◌≡◌, ℕ, ◌+◌, ◌==◌, if◌then◌else◌, List, [], ◌∷◌, length, map, min, sum_by}
 use Rattle.chip_graph.specs.Sums.{sum_below}
 use Rattle.chip_graph.specs.Multigraph.{Multigraph, IsGraph}
 use Rattle.chip_graph.specs.More.{brought_to}
@@ -12,13 +12,9 @@ use Rattle.chip_drops.specs.Pile.{IsStable}
 abbrev pub dropped : (ℕ → ℕ) → ℕ → ℕ → ℕ → ℕ
 dropped x v count u = x u + (if v == u then count else 0)
 
--- however many firings, counted once
-abbrev pub once : ℕ → ℕ
-once k = if k == 0 then 0 else 1
-
 -- how many different vertices fire in a list
 abbrev pub extent_of : Multigraph → List ℕ → ℕ
-extent_of G vs = sum_below G.vertices (λ v. once (counts vs v))
+extent_of G vs = sum_below G.vertices (λ v. min (counts vs v) 1)
 
 -- a list that fires from x has so many firings, of so many vertices, and brings so many chips to the sink
 pub record Tells (G : Multigraph) (x : ℕ → ℕ) (a : Avalanche) (vs : List ℕ) : Type 0 where
@@ -38,9 +34,8 @@ AreAvalanches G x [] y = (v : ℕ) → y v ≡ x v
 AreAvalanches G x ((d, a) ∷ more) y =
     (z : ℕ → ℕ) × IsAvalanche G (dropped x d.0 d.1) a z × AreAvalanches G z more y
 
--- a play with the counts f leads from x to y, where no vertex is legal, and drops with their avalanches lead from there to
--- z. Then each sequence that ends from x', which is x with all drops at once, leaves z too, and fires as often as the play
--- and all avalanches together
+-- a play with counts f leads from x to a y with no vertex legal, and drops with their avalanches from there to z. Then
+-- each sequence that ends from x with all drops at once leaves z too, and fires as often as the play and all avalanches
 abbrev pub DropsAddUp : Type 0
 DropsAddUp =
     (G : Multigraph) → IsGraph G → (x f y : ℕ → ℕ) → LeadsTo G x f y → IsStable G y

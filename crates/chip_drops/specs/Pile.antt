@@ -22,8 +22,7 @@ pub record IsRoom (n : ℕ) (fired : List ℕ) (r : Room) : Type 0 where
   pub support_each : length r.support.items ≡ n
   pub list_room : 0 < length r.list.items
 
--- the play of the game, whose start has all chips that were dropped, has come to these chips and counts, and no vertex may
--- fire within the limit
+-- the play of the game with all chips that were dropped has come to these chips and counts, and rests within the limit
 pub record IsPile (p : Pile) : Type 0 where
   pub game : IsGame p.game
   pub begun : IsBegun p.game p.chips.items p.fired.items

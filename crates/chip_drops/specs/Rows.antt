@@ -27,8 +27,8 @@ rows_text told = codes "vertex,chips,size,extent,lost\n" ++ flat_map row_text to
 
 -- a text has the rows of these drops, the first on x, and the last leaves y
 abbrev pub TellsRows : Multigraph → (ℕ → ℕ) → List (ℕ × ℕ) → List ℕ → (ℕ → ℕ) → Type 0
-TellsRows G x ds text y =
-    (told : List ((ℕ × ℕ) × Avalanche)) × (map (λ t. t.0) told ≡ ds) × AreAvalanches G x told y × (text ≡ rows_text told)
+TellsRows G x ds text y = (told : List ((ℕ × ℕ) × Avalanche)) × (map (λ t. t.0) told ≡ ds)
+    × AreAvalanches G x told y × (text ≡ rows_text told)
 
 -- of all bytes so many were written, and the others are pending
 pub record IsOut (old now : Option (List ℕ)) (pending : List ℕ) (written : ℕ) (all : List ℕ) : Type 0 where
@@ -41,8 +41,7 @@ abbrev pub FailsOut : Option (List ℕ) → Option (List ℕ) → List ℕ → R
 FailsOut old now all (Write w) = WritesAll old now all (Err w)
 FailsOut old now all NoMemory = (k : ℕ) × Appends old now (take k all)
 
--- the drops were made on the pile p, one after another, each played until no vertex was legal; they left p', and the text
--- has their rows
+-- the drops were made on the pile p one by one, each until no vertex was legal, and left p'; the text has their rows
 pub record LeavesRows (p : Pile) (ds : List (ℕ × ℕ)) (p' : Pile) (text : List ℕ) : Type 0 where
   pub pile : IsPile p'
   pub stable : IsStable p'.game.graph (slice_index p'.chips.items)
@@ -55,7 +54,7 @@ EndsAt p ds n left p' true = (take n ds ≡ ds) × (p' ≡ left)
 EndsAt p ds n left p' false = (n < length ds) × IsPile p' × HasMore p.game (take (n + 1) ds) p'.game
     × (IsStable p'.game.graph (slice_index p'.chips.items) → ⊥)
 
--- what writing the rows of drops answers: some went out; or the output failed, or there was no memory, after a front of some
+-- what writing rows answers: those of the first n drops went out; or a front of them did, and there is a fault
 abbrev pub WritesRows : Pile → List (ℕ × ℕ) → Option (List ℕ) → Option (List ℕ) → Result Dropped RowsFault → Type 0
 WritesRows p ds old new (Ok end) = (n : ℕ) × (text : List ℕ) × (left : Pile) × LeavesRows p (take n ds) left text
     × EndsAt p ds n left end.pile end.all × Appends old new text

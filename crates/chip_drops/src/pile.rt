@@ -30,7 +30,7 @@ pub struct Pile {
 impl Pile {
     /// A pile on which nothing was dropped, of a game and its outcome. Drops take no more memory than it has then, but
     /// for what a search takes where there is some.
-    #[tactic(auto, using(crate::proofs::AvalancheLemmas::played_begun, crate::proofs::AvalancheLemmas::played_rests))]
+    #[tactic(auto, using(crate::proofs::DropLemmas::played_begun, crate::proofs::DropLemmas::played_rests))]
     pub fn new(alloc: Global, game: Game, outcome: Outcome) -> Result<Pile, AllocError>
         requires game { IsGame game }
         requires played { IsPlayed game outcome }

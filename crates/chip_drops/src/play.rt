@@ -1,10 +1,9 @@
 //! The play of a game that goes on after a drop: by a work list, and if that gives up by rounds and a search.
 
-ghost use Rattle.std.specs.Prelude.{◌≡◌, ◌↔◌, ℕ, ◌<◌, ◌≤◌, true, length, take, slice_index, IfOk};
+ghost use Rattle.std.specs.Prelude.{◌≡◌, ◌↔◌, ℕ, ◌<◌, ◌≤◌, true, length, min, take, slice_index, IfOk};
 ghost use Rattle.chip_graph.specs.Limits.{max_limit, max_vertices};
 ghost use Rattle.chip_sequence.specs.Firing.{IsLegal};
 ghost use Rattle.chip_fire.specs.Rounds.{IsBegun, IsAtRest};
-ghost use Rattle.chip_drops.specs.Avalanches.{once};
 ghost use Rattle.chip_drops.specs.Pile.{IsRoom, IsStable, sum_between};
 ghost use Rattle.chip_fire.specs.WorkList.{HasSupport};
 
@@ -105,14 +104,14 @@ fn is_stable(graph: &Graph, chips: &[u64]) -> bool
 
 /// How often all vertices fired between these counts, and how many different ones did, if all that did are listed.
 /// `before` has the later counts then.
-#[tactic(auto, using(crate::proofs::WorkLemmas::few_between))]
+#[tactic(auto, using(crate::proofs::DropLemmas::few_between))]
 pub(crate) fn tally(support: &[u64], fired: &[u64], before: &mut [u64]) -> (u64, u64)
     requires before_each { length before.old ≡ length fired.now }
     requires support { HasSupport (length fired.now) before.old fired.now support.now }
     requires few_vertices { length fired.now ≤ max_vertices }
     requires low_counts { (v : ℕ) → slice_index fired.now v ≤ max_limit }
     ensures size { result.0 ≡ sum_between (λ k. k) (length fired.now) before.old fired.now }
-    ensures extent { result.1 ≡ sum_between once (length fired.now) before.old fired.now }
+    ensures extent { result.1 ≡ sum_between (λ k. min k 1) (length fired.now) before.old fired.now }
     ensures after { before.new ≡ fired.now }
 {
     let mut size = 0u64;

@@ -1,8 +1,7 @@
 -- Serves AvalanchesCommand.antt.
 -- Drops that a file names, and what playing them comes to.
 use Rattle.std.proofs.Common.{◌≡◌, ℕ, ◌<◌, Bool, true, false, List, [], ◌∷◌, length, map, take, slice_index, None, Some}
-use Rattle.std.proofs.Common.{refl, sym, ◌∙◌, subst, arith, inl, inr}
-use Rattle.std.specs.Prelude.{All}
+use Rattle.std.proofs.Common.{All, refl, sym, ◌∙◌, subst, arith, inl, inr}
 use Rattle.std.proofs.lemmas.Bool.{false_from_ne_true}
 use Rattle.std.proofs.lemmas.Bool.Decides.{nat_tests}
 use Rattle.std.proofs.lemmas.Grind.{common_steps}
@@ -23,8 +22,6 @@ use Rattle.chip_command.proofs.InputLemmas.{none_parts}
 use Rattle.chip_command.proofs.RoundTripLemmas.{given}
 use Rattle.chip_engine.specs.AvalanchesCommand.{TellsDrops, ComesTo}
 
--- ---- the vertices of drops
-
 -- a row with no fault of its own names a vertex
 names_vertex : (n index : ℕ) (row : Row) → vertex_row_fault n index row ≡ None → vertex_in row < n
 names_vertex n index row e = grind (arith, nat_tests, common_steps)
@@ -42,8 +39,6 @@ pub drops_vertices : (n : ℕ) (text : List ℕ) (ds : List (ℕ × ℕ)) → dr
 drops_vertices n text ds is =
     let both = given (drops_text_fault n text) _ ds is in
     subst (All (λ (d : ℕ × ℕ). d.0 < n)) both.1 (rows_vertices n [] _ (none_parts _ _ both.0).1)
-
--- ---- what the rows come to
 
 -- no rows
 pub tells_none : (g : ChipGame) (o : Outcome) → IsPlayed g o → TellsDrops g [] (rows_text [])

@@ -5,7 +5,7 @@ ghost use Rattle.chip_graph.specs.Limits.{standard, max_total};
 ghost use Rattle.chip_graph.specs.ChipGame.{IsGame};
 ghost use Rattle.chip_graph.specs.More.{AreOfVertices, all_brought};
 ghost use Rattle.chip_sequence.specs.Play.{IsPlayed};
-ghost use Rattle.chip_engine.specs.AvalanchesCommand.{AvalanchesAnswers, DropsAnswer, PlaysDrops, WritesReport};
+ghost use Rattle.chip_engine.specs.AvalanchesCommand.{AvalanchesAnswers, PlaysDrops, WritesReport};
 ghost use Rattle.chip_engine.specs.AvalanchesCommand.{fault_of_rows, reading_drops};
 
 use crate::options::PlayOptions;
@@ -73,7 +73,9 @@ pub fn avalanches_engine_with<G: Read, C: Read, D: Read, P: Watch, W: Write, T: 
     let game = read_game(alloc, options.limits, graph, chips, options.limit)?;
     let drops = read_drops(alloc, options.limits, drops, &game)?;
     watch.plays(&game);
-    drop_all(alloc, game, &drops, watch, output, report)
+    let rest = plain_watched(alloc, &game, watch)?;
+    let outcome = play_drops(alloc, game, rest, &drops, output)?;
+    write_report(alloc, &outcome, report)
 }
 
 /// The drops of a file for a game, each a vertex and how many chips are added there.
@@ -107,27 +109,6 @@ fn have_room(total: u64, drops: &[(u64, u64)]) -> bool
         room -= count;
     }
     true
-}
-
-/// Plays a game and then drops on it: their rows, and the report.
-fn drop_all<P: Watch, W: Write, T: Write>(
-    alloc: Global,
-    game: Game,
-    drops: &[(u64, u64)],
-    watch: &mut P,
-    output: &mut W,
-    report: &mut Option<T>,
-) -> Result<Ended, Fault>
-    requires game { IsGame game }
-    requires vertices { AreOfVertices game drops.now }
-    requires few { sum game.start + all_brought drops.now ≤ max_total }
-    ensures { DropsAnswer game drops.now
-        (record { rows = W.contents output.old; report = option_map T.contents report.old })
-        (record { rows = W.contents output.new; report = option_map T.contents report.new }) result }
-{
-    let rest = plain_watched(alloc, &game, watch)?;
-    let outcome = play_drops(alloc, game, rest, drops, output)?;
-    write_report(alloc, &outcome, report)
 }
 
 /// Plays drop after drop on a game that has come to this; the outcome of the game with the chips that were dropped.

@@ -1,4 +1,4 @@
-use Rattle.chip_drops.proofs.AvalancheLemmas.{drops_add_up}
+use Rattle.chip_drops.proofs.DropLemmas.{drops_add_up}
 use Rattle.chip_drops.proofs.laws.drops_add_up.Goals as goal
 
 pub returns : goal.returns

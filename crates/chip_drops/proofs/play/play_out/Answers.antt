@@ -1,6 +1,6 @@
 use Rattle.std.proofs.Common.{arith}
 use Rattle.std.proofs.lemmas.Grind.{common_steps}
-use Rattle.chip_drops.proofs.WorkLemmas.{all_supported, listed_if}
+use Rattle.chip_drops.proofs.DropLemmas.{all_supported, listed_if}
 use Rattle.chip_drops.proofs.play.play_out.Goals as goal
 
 pub returns-clause-support : goal.returns-clause-support

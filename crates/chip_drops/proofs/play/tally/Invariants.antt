@@ -1,6 +1,5 @@
-use Rattle.std.proofs.Common.{◌≡◌, ◌+◌, length, drop}
+use Rattle.std.proofs.Common.{◌≡◌, ◌+◌, length, min, drop}
 use Rattle.chip_fire.specs.WorkList.{HasSupport}
-use Rattle.chip_drops.specs.Avalanches.{once}
 use Rattle.chip_drops.specs.Pile.{sum_between}
 use Rattle.chip_drops.proofs.play.tally.Given as goal
 
@@ -11,6 +10,6 @@ invariant-loop-vertex l = record {
       l.size + sum_between (λ k. k) (length l.fired) l.before l.fired
       ≡ sum_between (λ k. k) (length l.fired) l.fn.before l.fired;
   extent :
-      l.extent + sum_between once (length l.fired) l.before l.fired
-      ≡ sum_between once (length l.fired) l.fn.before l.fired;
+      l.extent + sum_between (λ k. min k 1) (length l.fired) l.before l.fired
+      ≡ sum_between (λ k. min k 1) (length l.fired) l.fn.before l.fired;
 }

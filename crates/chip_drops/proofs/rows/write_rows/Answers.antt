@@ -5,7 +5,7 @@ use Rattle.std.proofs.lemmas.List.{take_all}
 use Rattle.std.proofs.lemmas.List.Sums.{sum_by_more_le}
 use Rattle.std.proofs.lemmas.Option.{MatchOption-at_none, MatchOption-at_some}
 use Rattle.chip_drops.specs.Rows.{EndsAt}
-use Rattle.chip_drops.proofs.RowLemmas.{rows_none, next_game, next_rows, handed_on, out_end}
+use Rattle.chip_drops.proofs.DropLemmas.{rows_none, next_game, next_rows, handed_on, out_end}
 use Rattle.chip_drops.proofs.rows.write_rows.Goals.{else-drops-test, then-drops-test+in_default}
 use Rattle.chip_drops.proofs.rows.write_rows.Goals as goal
 
@@ -14,11 +14,9 @@ returns-in_err-text g c = rw (handed_on _ c.from_residual.ensures.1)
     (0, _, _, rows_none _ c.requires.pile c.requires.stable, (0, Appends-nil _))
 
 pub drops-init : goal.drops-init
-drops-init g c = (_, rows_none _ c.requires.pile c.requires.stable, record {
-  counted = grind (arith, common_steps);
-  went = Appends-nil (g.W.Write.contents c.args.output.now);
-  rest = grind (arith, common_steps);
-}, refl)
+drops-init g c =
+    let none = Appends-nil (g.W.Write.contents c.args.output.now) in
+    (_, rows_none _ c.requires.pile c.requires.stable, grind (arith, common_steps), refl)
 
 pub drop_chips-next-requires-clause-few_chips : goal.drop_chips-next-requires-clause-few_chips
 drop_chips-next-requires-clause-few_chips g c =
@@ -49,13 +47,13 @@ returns-in_err-write g c =
 pub returns : goal.returns
 returns g c =
     let (text, so_far, out, all) = c.drops.invariant in
-    let ends : EndsAt c.args.pile c.args.drops.now c.drops.vertex-index c.drops.pile c.drops-test.pile c.drops-test.all =
+    let end : EndsAt c.args.pile c.args.drops.now c.drops.vertex-index c.drops.pile c.drops-test.pile c.drops-test.all =
     elim c.drops-test.branch [
-      else-drops-test w ↦ rw (w.all-is, all) (take_all _ _ w.drops-test.false, w.pile-is)
-    | then-drops-test+in_default w ↦
-        let next = w.drop_chips-next.ensures in
-        let game = next_game _ _ _ _ _ so_far w.drops-test.true _ next.game in
-        rw (w.pile-is, w.all-is)
-        (w.drops-test.true, next.pile, game, MatchOption-at_none _ _ w.in_default.is next.avalanche)
+      | else-drops-test w ↦ rw (w.all-is, all) (take_all _ _ w.drops-test.false, w.pile-is)
+      | then-drops-test+in_default w ↦
+          let next = w.drop_chips-next.ensures in
+          let game = next_game _ _ _ _ _ so_far w.drops-test.true _ next.game in
+          rw (w.pile-is, w.all-is)
+          (w.drops-test.true, next.pile, game, MatchOption-at_none _ _ w.in_default.is next.avalanche)
     ] in
-    (_, _, _, so_far, ends, out_end _ _ _ _ _ (c.in_ok-write.ensures.bytes _ _ out) c.in_ok-write.ensures.flushed)
+    (_, _, _, so_far, end, out_end _ _ _ _ _ (c.in_ok-write.ensures.bytes _ _ out) c.in_ok-write.ensures.flushed)

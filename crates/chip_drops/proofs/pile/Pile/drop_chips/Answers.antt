@@ -1,6 +1,6 @@
 use Rattle.std.proofs.Common.{ap, ◌∙◌}
 use Rattle.chip_graph.specs.Multigraph.{Multigraph}
-use Rattle.chip_drops.proofs.AvalancheLemmas.{begun_drop, drop_told}
+use Rattle.chip_drops.proofs.DropLemmas.{begun_drop, drop_told}
 use Rattle.chip_drops.proofs.pile.Pile.drop_chips.Goals as goal
 
 pub play_out-chips-requires-clause-begun : goal.play_out-chips-requires-clause-begun

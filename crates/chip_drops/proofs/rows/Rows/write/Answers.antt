@@ -1,5 +1,5 @@
 use Rattle.std.proofs.Common.{ap, length, arith}
-use Rattle.chip_drops.proofs.RowLemmas.{out_all, out_part}
+use Rattle.chip_drops.proofs.DropLemmas.{out_all, out_part}
 use Rattle.chip_drops.proofs.rows.Rows.write.Goals as goal
 
 pub returns-in_default-clause-bytes : goal.returns-in_default-clause-bytes

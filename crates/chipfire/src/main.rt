@@ -130,7 +130,8 @@ fn serve<
     }
 }
 
-/// Plays a game on threads.
+/// Plays a game on threads. It is never inlined: so the loop of `Root::poll` lies where it is quick (`docs/BENCHMARKS.md`).
+#[inline(never)]
 fn play_on_threads<
     R: Files<File = File> + Input + Clock + Eprint + AllocGlobal + Threads + Wait + Sync,
     W: io::Write,
@@ -154,8 +155,7 @@ fn play_on_threads<
     )
 }
 
-/// How the threads play. It is never inlined: so the loop of `Root::poll` lies where it is quick (`docs/BENCHMARKS.md`).
-#[inline(never)]
+/// How the threads play.
 fn options_of(asked: &RunArguments<'_>) -> RunOptions
     ensures { result.plan.seal ≡ None }
 {

@@ -14,7 +14,7 @@ use Rattle.std.proofs.lemmas.List.Elements.{All-contains, Contains-push, Contain
 use Rattle.std.proofs.lemmas.List.Elements.{Contains-append_left}
 use mathlib.Core.Logic.{dite}
 use native.Mathlib.Decide.{ℕ_discrete}
-use Rattle.chip_graph.specs.declared.edge.Edge.{Edge}
+use Rattle.chip_graph.specs.declared.edge.Link.{Link}
 use Rattle.chip_graph.specs.Limits.{max_total}
 use Rattle.chip_graph.specs.Multigraph.{Multigraph, degree}
 use Rattle.chip_sequence.specs.Firing.{IsLegal}
@@ -135,22 +135,22 @@ module _ (G : Multigraph) (limit : ℕ) (chips fired : List ℕ) (ok : IsInRange
                 (rw (take_all i (links_of G ok.graph_fits v) all) at sent.each)),
           )
 
-module _ (G : Multigraph) (k : ℕ) (links : List Edge) (taken : List ℕ) (i : ℕ) (chips work : List ℕ)
+module _ (G : Multigraph) (k : ℕ) (links : List Link) (taken : List ℕ) (i : ℕ) (chips work : List ℕ)
     (so_far : IsSent G k links taken i chips work) (inside : i < length links) where
   -- the link that is next
-  abbrev link : Edge
+  abbrev link : Link
   link = link_at links i
 
   head_in : link.head < length chips
   head_in =
-      let a = so_far.heads i (record { tail = 0; head = 0; mult = 0 }) inside in omega arith
+      let a = so_far.heads i (record { head = 0; mult = 0 }) inside in omega arith
 
   pub sent_room : get_or chips link.head 0 + k * link.mult ≤ max_total
   sent_room =
       let a = get_or-le-sum_by (λ (n : ℕ). n) chips link.head 0 head_in in
-      let b = mul-le-mul_left k (sum_by_more_le (λ (e : Edge). e.mult) links i (record { tail = 0; head = 0; mult = 0 })
+      let b = mul-le-mul_left k (sum_by_more_le (λ (e : Link). e.mult) links i (record { head = 0; mult = 0 })
       inside) in
-      let c = mul-add k (sum_by (λ (e : Edge). e.mult) (take i links)) link.mult in omega arith
+      let c = mul-add k (sum_by (λ (e : Link). e.mult) (take i links)) link.mult in omega arith
 
   -- one link further
   pub sent_step : (work' : List ℕ) → AreListed G (set chips link.head (get_or chips link.head 0 + k * link.mult)) work'

@@ -3,7 +3,7 @@ use Rattle.std.specs.Prelude.{◌≡◌, ◌≢◌, ℕ, ◌+◌, ◌*◌, ◌<�
 use Rattle.std.specs.Prelude.{All, Contains, sum, sum_by}
 use Rattle.chip_graph.specs.Limits.{max_total}
 use Rattle.chip_graph.specs.Multigraph.{Multigraph}
-use Rattle.chip_graph.specs.declared.edge.Edge.{Edge}
+use Rattle.chip_graph.specs.declared.edge.Link.{Link}
 use Rattle.chip_sequence.specs.Firing.{IsLegal}
 
 -- the list has vertices alone, and each that is legal
@@ -13,7 +13,7 @@ pub record AreListed (G : Multigraph) (chips work : List ℕ) : Type 0 where
 
 -- along the first i of these edges k firings have brought the chips from `taken` to what they are, and each legal
 -- vertex is listed
-pub record IsSent (G : Multigraph) (k : ℕ) (links : List Edge) (taken : List ℕ) (i : ℕ) (chips work : List ℕ) : Type 0
+pub record IsSent (G : Multigraph) (k : ℕ) (links : List Link) (taken : List ℕ) (i : ℕ) (chips work : List ℕ) : Type 0
   where
     pub heads : All (λ e. e.head < G.vertices) links
     pub few : sum taken + k * sum_by (λ e. e.mult) links ≤ max_total

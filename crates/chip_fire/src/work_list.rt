@@ -24,7 +24,7 @@ const VERTICES_PER_PLACE: usize = 8;
 
 /// How many looks at each vertex and edge are made by rounds, where few chips set off many: a search is slower than most
 /// such plays (full-1000, and some hundreds of chips on a full grid of 300 by 300).
-const LOOKS_OF_FEW: u64 = 2048;
+const LOOKS_OF_FEW: u64 = 1024;
 
 /// Goes on by a work list where few chips wait to move, and by rounds where these have set off many: the chips and counts
 /// to which it comes.
@@ -155,10 +155,10 @@ fn turn(
     fired[vertex as usize] += k;
     chips[vertex as usize] -= k * degree;
     for link in links {
-        let head = link.head;
+        let head = u64::from(link.head);
         let degree = graph.out_degree(head);
         let had = chips[head as usize];
-        let has = had + k * link.mult;
+        let has = had + k * u64::from(link.mult);
         chips[head as usize] = has;
         list[listed] = head;
         if had < degree && degree <= has {

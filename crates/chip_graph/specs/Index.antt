@@ -1,24 +1,18 @@
 -- What a graph keeps beside its edges, and that this is what follows from them.
-use Rattle.std.specs.Prelude.{◌≡◌, ℕ, ◌<◌, List, [], length, map, slice_index, slice_index_or, Option, Some, None, Vec}
-use Rattle.std.specs.declared.alloc.Global.{Global}
+use Rattle.std.specs.Prelude.{◌≡◌, ℕ, ◌<◌, List, [], length, map, slice_index, slice_index_or, Option}
 use Rattle.chip_graph.specs.declared.graph.Rows.TheInside.{Inside}
-use Rattle.chip_graph.specs.declared.edge.Edge.{Edge}
+use Rattle.chip_graph.specs.declared.edge.Link.{Link}
 use Rattle.chip_graph.specs.PackedLists.{flat}
-use Rattle.chip_graph.specs.Multigraph.{Multigraph, IsGraph, edge_at, edges_out, edges_in, degree}
+use Rattle.chip_graph.specs.Multigraph.{Multigraph, IsGraph, edge_at, link_of, edges_out, edges_in, degree}
 use Rattle.chip_graph.specs.Distances.{AreDistances}
 
 -- the graph without what follows from its edges
 abbrev pub graph_of : Inside → Multigraph
 graph_of a = record { vertices = a.vertices; sink = a.sink; edges = a.edges.items }
 
--- the edges in another order than that of their numbers, where it is another
-abbrev pub links_of : Option (Vec Edge Global) → List Edge → List Edge
-links_of None edges = edges
-links_of (Some links) edges = links.items
-
 -- degrees, distances and lists are those of the graph, and the links are the edges out of each vertex in turn
 pub record IsIndex (G : Multigraph) (degree_of : List ℕ) (distance_of : List (Option ℕ)) (outs_of ins_of : List (List ℕ))
-    (links : List Edge) : Type 0 where
+    (links : List Link) : Type 0 where
   pub graph : IsGraph G
   pub degree_each : length degree_of ≡ G.vertices
   pub degrees : (v : ℕ) → v < G.vertices → slice_index degree_of v ≡ degree G v
@@ -27,8 +21,8 @@ pub record IsIndex (G : Multigraph) (degree_of : List ℕ) (distance_of : List (
   pub outs : (v : ℕ) → v < G.vertices → slice_index_or outs_of v [] ≡ edges_out G v
   pub ins_each : length ins_of ≡ G.vertices
   pub ins : (v : ℕ) → v < G.vertices → slice_index_or ins_of v [] ≡ edges_in G v
-  pub linked : links ≡ map (edge_at G) (flat outs_of)
+  pub linked : links ≡ map (λ e. link_of (edge_at G e)) (flat outs_of)
 
 -- what stands beside the edges follows from them
 abbrev pub IsIndexed : Inside → Type 0
-IsIndexed a = IsIndex (graph_of a) a.degrees.items a.distances.items a.outs a.ins (links_of a.links a.edges.items)
+IsIndexed a = IsIndex (graph_of a) a.degrees.items a.distances.items a.outs a.ins a.links.items

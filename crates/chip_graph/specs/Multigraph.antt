@@ -2,6 +2,7 @@
 -- (Björner and Lovász, Chip-firing games on directed graphs, 1992).
 use Rattle.std.specs.Prelude.{◌≡◌, ◌≢◌, ℕ, ◌<◌, ◌≤◌, ◌==◌, if◌then◌else◌, List, [], ◌∷◌, length, slice_index_or}
 use Rattle.chip_graph.specs.declared.edge.Edge.{Edge}
+use Rattle.chip_graph.specs.declared.edge.Link.{Link}
 use Rattle.chip_graph.specs.Limits.{SizeLimits, max_vertices, max_edges, max_mult}
 use Rattle.chip_graph.specs.Sums.{sum_below, filter_below}
 
@@ -14,6 +15,10 @@ pub record Multigraph : Type 0 where
 -- the edge that has this number
 abbrev pub edge_at : Multigraph → ℕ → Edge
 edge_at G e = slice_index_or G.edges e (record { tail = 0; head = 0; mult = 0 })
+
+-- what a firing of its tail reads of an edge
+abbrev pub link_of : Edge → Link
+link_of edge = record { head = edge.head; mult = edge.mult }
 
 -- the edges out of v, ascending
 abbrev pub edges_out : Multigraph → ℕ → List ℕ

@@ -13,6 +13,15 @@ pub struct Edge {
     pub mult: u64,
 }
 
+/// An edge out of a vertex, as what fires the vertex reads it: a third of an `Edge`.
+#[derive(Clone, Copy)]
+pub struct Link {
+    /// The vertex that it goes into.
+    pub head: u32,
+    /// How many chips one firing sends along it, 1 to 2^20 in a graph.
+    pub mult: u32,
+}
+
 /// An edge of a running game.
 #[derive(Clone, Copy, PartialEq, Eq)]
 pub enum AnyEdge {

@@ -9,7 +9,7 @@ ghost use Rattle.chip_graph.specs.Faults.{refusal, fault_of_edge, fault_of_rows,
 ghost use Rattle.chip_graph.specs.declared.fault.GraphFault.TheVariants.{NoMemory, Unreached};
 
 use crate::distance::distances;
-use crate::edge::{AnyEdge, Edge, End};
+use crate::edge::{AnyEdge, Edge, End, Link};
 use crate::fault::GraphFault;
 use crate::index;
 use crate::limits::Limits;
@@ -52,8 +52,8 @@ struct Rows {
     outs: PackedLists<u64>,
     /// The edges into each vertex, ascending.
     ins: PackedLists<u64>,
-    /// The edges in the order of `outs`, unless that is their own.
-    links: Option<Vec<Edge>>,
+    /// The edges in the order of `outs`.
+    links: Vec<Link>,
 }
 
 impl Model for Rows {
@@ -72,7 +72,7 @@ impl Graph {
     ghost use Rattle.std.specs.Prelude.{◌≡◌, ◌<◌, map};
     ghost use Rattle.chip_graph.specs.Limits.{standard};
     ghost use Rattle.chip_graph.specs.Multigraph.{Multigraph, IsGraph, IsDistance};
-    ghost use Rattle.chip_graph.specs.Multigraph.{edge_at, edges_out, edges_in, degree};
+    ghost use Rattle.chip_graph.specs.Multigraph.{edge_at, link_of, edges_out, edges_in, degree};
     ghost use Rattle.chip_graph.specs.Edges.{all_edges, root_edge, IsNumbered};
     ghost use Rattle.chip_graph.specs.Faults.{MakesGraph};
 
@@ -224,16 +224,12 @@ impl Graph {
     }
 
     /// The edges out of this vertex, in the order of `outs`, side by side in memory.
-    pub fn links(&self, vertex: u64) -> &[Edge]
+    pub fn links(&self, vertex: u64) -> &[Link]
         requires { vertex < self.now.vertices }
-        ensures { result.now ≡ map (edge_at self.now) (edges_out self.now vertex) }
+        ensures { result.now ≡ map (λ e. link_of (edge_at self.now e)) (edges_out self.now vertex) }
     {
         let rows: &Rows = &self.rows;
-        let links: &[Edge] = match &rows.links {
-            Some(links) => links,
-            None => self.edges(),
-        };
-        rows.outs.beside(vertex as usize, links)
+        rows.outs.beside(vertex as usize, &rows.links)
     }
 
     /// How many edges a shortest walk from this vertex to the sink has; 0 at the sink.

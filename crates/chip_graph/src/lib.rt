@@ -5,7 +5,7 @@
 //! (`specs/Multigraph.antt`), and a `Game` as graph, start and limit (`specs/ChipGame.antt`).
 #![tactic(auto)]
 
-pub use edge::{AnyEdge, Edge};
+pub use edge::{AnyEdge, Edge, Link};
 pub use fault::{GameFault, GraphFault};
 pub use game::{Game, MAX_LIMIT, MAX_TOTAL};
 pub use graph::{Graph, MAX_MULT};

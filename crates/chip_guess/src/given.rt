@@ -74,9 +74,9 @@ fn take_back(slacks: &mut [i64], graph: &Graph, fired: &[u64], counts: &[u64], c
     }
     for vertex in 0..graph.vertices() {
         if fires(fired, counts, vertex as usize) {
-            for edge in graph.links(vertex) {
-                if let Some(slack) = slacks.get_mut(edge.head as usize) {
-                    *slack = slack.wrapping_sub(edge.mult.cast_signed());
+            for link in graph.links(vertex) {
+                if let Some(slack) = slacks.get_mut(link.head as usize) {
+                    *slack = slack.wrapping_sub(i64::from(link.mult));
                 }
             }
         }
@@ -109,12 +109,12 @@ fn burn(
             *own = rank;
         }
         if vertex < graph.vertices() {
-            for edge in graph.links(vertex) {
-                if let Some(slack) = slacks.get_mut(edge.head as usize) {
+            for link in graph.links(vertex) {
+                if let Some(slack) = slacks.get_mut(link.head as usize) {
                     let before = *slack;
-                    *slack = before.wrapping_add(edge.mult.cast_signed());
+                    *slack = before.wrapping_add(i64::from(link.mult));
                     if before < 0 && *slack >= 0 {
-                        waiting.push(edge.head)?;
+                        waiting.push(u64::from(link.head))?;
                     }
                 }
             }

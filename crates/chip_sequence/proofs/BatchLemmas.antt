@@ -7,31 +7,31 @@ use Rattle.std.proofs.lemmas.List.Sums.{sum_by-cons, sum_by_more, sum_by-set}
 use Rattle.std.proofs.lemmas.List.Elements.{All-map}
 use mathlib.Core.Logic.{dite}
 use native.Mathlib.Decide.{ℕ_discrete}
-use Rattle.chip_graph.specs.declared.edge.Edge.{Edge}
-use Rattle.chip_graph.specs.Multigraph.{Multigraph, IsGraph, edge_at, edges_out, degree}
+use Rattle.chip_graph.specs.declared.edge.Link.{Link}
+use Rattle.chip_graph.specs.Multigraph.{Multigraph, IsGraph, edge_at, link_of, edges_out, degree}
 use Rattle.chip_graph.proofs.SumLemmas.{cond_yes, cond_no, picked_sum, sum_below_ext}
 use Rattle.chip_graph.proofs.PickLemmas.{All-picked}
 use Rattle.chip_sequence.specs.Sequence.{position_after}
 use Rattle.chip_sequence.proofs.FiringLemmas.{brings, batch_position}
 use Rattle.std.proofs.lemmas.Bool.Decides.{nat_tests}
 
--- ---- along a list of edges
+-- ---- along a list of links
 
--- the edge at a place
-abbrev pub link_at : List Edge → ℕ → Edge
-link_at links i = get_or links i (record { tail = 0; head = 0; mult = 0 })
+-- the link at a place
+abbrev pub link_at : List Link → ℕ → Link
+link_at links i = get_or links i (record { head = 0; mult = 0 })
 
--- what an edge brings to u
-abbrev pub brought : ℕ → Edge → ℕ
+-- what a link brings to u
+abbrev pub brought : ℕ → Link → ℕ
 brought u e = cond (eqb e.head u) e.mult 0
 
-module _ (links : List Edge) (k : ℕ) (old now : List ℕ) (i : ℕ) (inside : i < length links)
+module _ (links : List Link) (k : ℕ) (old now : List ℕ) (i : ℕ) (inside : i < length links)
     (head_in : (link_at links i).head < length now) where
-  -- the chips of the head after edge i
+  -- the chips of the head after link i
   abbrev pub chips_then : ℕ
   chips_then = get_or now (link_at links i).head 0 + k * (link_at links i).mult
 
-  -- one edge further, at each vertex
+  -- one link further, at each vertex
   pub sent_each : ((u : ℕ) → get_or now u 0 ≡ get_or old u 0 + k * sum_by (brought u) (take i links)) → (u : ℕ)
       → get_or (set now (link_at links i).head chips_then) u 0 ≡ get_or old u 0 + k * sum_by (brought u)
       (take (i + 1) links)
@@ -39,7 +39,7 @@ module _ (links : List Edge) (k : ℕ) (old now : List ℕ) (i : ℕ) (inside : 
       let h : ℕ = (link_at links i).head in
       let more : k * sum_by (brought u) (take (i + 1) links)
       ≡ k * (sum_by (brought u) (take i links) + brought u (link_at links i)) =
-      ap (λ (n : ℕ). k * n) (sum_by_more (brought u) links i (record { tail = 0; head = 0; mult = 0 }) inside) in
+      ap (λ (n : ℕ). k * n) (sum_by_more (brought u) links i (record { head = 0; mult = 0 }) inside) in
       let apart = mul-add k (sum_by (brought u) (take i links)) (brought u (link_at links i)) in
       let c = so_far u in
       dite (ℕ_discrete h u)
@@ -59,16 +59,16 @@ module _ (links : List Edge) (k : ℕ) (old now : List ℕ) (i : ℕ) (inside : 
       omega arith)
 
   -- and in all
-  pub sent_all : sum now ≡ sum old + k * sum_by (λ (e : Edge). e.mult) (take i links)
+  pub sent_all : sum now ≡ sum old + k * sum_by (λ (e : Link). e.mult) (take i links)
       → sum (set now (link_at links i).head chips_then) ≡ sum old + k * sum_by
-      (λ (e : Edge). e.mult) (take (i + 1) links)
+      (λ (e : Link). e.mult) (take (i + 1) links)
   sent_all so_far =
       let h : ℕ = (link_at links i).head in
-      let more : k * sum_by (λ (e : Edge). e.mult) (take (i + 1) links)
-      ≡ k * (sum_by (λ (e : Edge). e.mult) (take i links) + (link_at links i).mult) =
-      ap (λ (n : ℕ). k * n) (sum_by_more (λ (e : Edge). e.mult) links i (record { tail = 0; head = 0; mult = 0 })
+      let more : k * sum_by (λ (e : Link). e.mult) (take (i + 1) links)
+      ≡ k * (sum_by (λ (e : Link). e.mult) (take i links) + (link_at links i).mult) =
+      ap (λ (n : ℕ). k * n) (sum_by_more (λ (e : Link). e.mult) links i (record { head = 0; mult = 0 })
       inside) in
-      let apart = mul-add k (sum_by (λ (e : Edge). e.mult) (take i links)) (link_at links i).mult in
+      let apart = mul-add k (sum_by (λ (e : Link). e.mult) (take i links)) (link_at links i).mult in
       let a = sum_by-set (λ (n : ℕ). n) now h chips_then 0 head_in in
       omega arith
 
@@ -80,24 +80,24 @@ sum_by-map f h (x ∷ xs) = sum_by-cons f (h x) (map h xs) ∙ ap (λ (n : ℕ).
     ∙ sym (sum_by-cons (λ y. f (h y)) x xs)
 
 module _ (G : Multigraph) (good : IsGraph G) (v : ℕ) where
-  -- the edges out of v, as they are
-  abbrev pub links_of : List Edge
-  links_of = map (edge_at G) (edges_out G v)
+  -- the links out of v
+  abbrev pub links_of : List Link
+  links_of = map (λ e. link_of (edge_at G e)) (edges_out G v)
 
-  pub links_inside : All (λ (e : Edge). e.head < G.vertices) links_of
-  links_inside = All-map (λ (e : Edge). e.head < G.vertices) (edge_at G) (edges_out G v)
+  pub links_inside : All (λ (e : Link). e.head < G.vertices) links_of
+  links_inside = All-map (λ (e : Link). e.head < G.vertices) (λ e. link_of (edge_at G e)) (edges_out G v)
       (λ k d l. (good.edges_fit (get_or (edges_out G v) k d) (All-picked
       (λ e. eqb (edge_at G e).tail v) (length G.edges) (length G.edges) (omega arith) k d l)).head_is_vertex)
 
-  pub links_degree : sum_by (λ (e : Edge). e.mult) links_of ≡ degree G v
-  links_degree = sum_by-map (λ (e : Edge). e.mult) (edge_at G) (edges_out G v) ∙ picked_sum (λ e. (edge_at G e).mult)
+  pub links_degree : sum_by (λ (e : Link). e.mult) links_of ≡ degree G v
+  links_degree = sum_by-map (λ (e : Link). e.mult) (λ e. link_of (edge_at G e)) (edges_out G v) ∙ picked_sum (λ e. (edge_at G e).mult)
       (λ e. eqb (edge_at G e).tail v) (length G.edges)
 
   pub links_bring : (u : ℕ) → sum_by (brought u) links_of ≡ brings G v u
   unfolding brings
   links_bring u =
-      sum_by-map (brought u) (edge_at G) (edges_out G v)
-      ∙ picked_sum (λ e. brought u (edge_at G e)) (λ e. eqb (edge_at G e).tail v) (length G.edges)
+      sum_by-map (brought u) (λ e. link_of (edge_at G e)) (edges_out G v)
+      ∙ picked_sum (λ e. brought u (link_of (edge_at G e))) (λ e. eqb (edge_at G e).tail v) (length G.edges)
       ∙ sum_below_ext (length G.edges) _ _
       (λ e l. one (eqb (edge_at G e).tail v) (eqb (edge_at G e).head u) (edge_at G e).mult)
     where
@@ -119,7 +119,7 @@ module _ (G : Multigraph) (good : IsGraph G) (v : ℕ) where
     pub taken_sum : sum taken + k * degree G v ≡ sum old
     taken_sum = let a = sum_by-set (λ (n : ℕ). n) old v (get_or old v 0 - k * degree G v) 0 inside in omega arith
 
-    pub taken_room : sum taken + k * sum_by (λ (e : Edge). e.mult) links_of ≡ sum old
+    pub taken_room : sum taken + k * sum_by (λ (e : Link). e.mult) links_of ≡ sum old
     taken_room = ap (λ (n : ℕ). sum taken + k * n) links_degree ∙ taken_sum
 
     -- taken and given, the position is that after k firings

@@ -4,7 +4,7 @@ ghost use Rattle.chip_graph.specs.Limits.{max_total};
 ghost use Rattle.chip_graph.specs.Multigraph.{IsGraph, degree};
 ghost use Rattle.chip_sequence.specs.Sequence.{position_after};
 
-use chip_graph::{Edge, Graph};
+use chip_graph::{Graph, Link};
 use thiserror::Error;
 
 /// A vertex may not fire (topple) this often: it is the sink, has too few chips, or is to fire 0 times.
@@ -62,7 +62,7 @@ pub fn fire_batch(position: &mut [u64], graph: &Graph, vertex: u64, k: u64)
 
 /// Adds to each head what its edge brings in `k` firings.
 #[inline]
-fn send(position: &mut [u64], links: &[Edge], k: u64)
+fn send(position: &mut [u64], links: &[Link], k: u64)
     requires heads { All (λ e. e.head < length position.old) links.now }
     requires room { sum position.old + k * sum_by (λ e. e.mult) links.now ≤ max_total }
     ensures each { (u : ℕ) → slice_index position.new u
@@ -70,6 +70,6 @@ fn send(position: &mut [u64], links: &[Edge], k: u64)
     ensures all { sum position.new ≡ sum position.old + k * sum_by (λ e. e.mult) links.now }
 {
     for link in links {
-        position[link.head as usize] += k * link.mult;
+        position[link.head as usize] += k * u64::from(link.mult);
     }
 }

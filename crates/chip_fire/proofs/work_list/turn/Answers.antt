@@ -23,7 +23,7 @@ pub loop-link-preserved : goal.loop-link-preserved
 loop-link-preserved c =
     let so_far = c.loop-link.invariant in
     let sent = so_far.sent in
-    let head_in = sent.heads c.loop-link.link-index (record { tail = 0; head = 0; mult = 0 }) c.loop-link-test.true in
+    let head_in = sent.heads c.loop-link.link-index (record { head = 0; mult = 0 }) c.loop-link-test.true in
     let room : c.loop-link.listed < length c.loop-link.list = omega arith in
     let step = sent_step _ _ _ _ _ _ _ sent c.loop-link-test.true in
     let degree = c.out_degree-degree-in-loop-link.ensures in

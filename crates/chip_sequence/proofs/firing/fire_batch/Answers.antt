@@ -1,14 +1,14 @@
 use Rattle.std.proofs.Common.{ℕ, ◌+◌, ◌-◌, ◌*◌, ◌<◌, All, List, sum, sum_by, set, get_or, sym, ap, ◌∙◌, subst, arith}
 use Rattle.std.proofs.Common.{length-set}
-use Rattle.chip_graph.specs.declared.edge.Edge.{Edge}
+use Rattle.chip_graph.specs.declared.edge.Link.{Link}
 use Rattle.chip_sequence.proofs.BatchLemmas.{brought, links_inside, taken, taken_room, batch_fired}
 use Rattle.chip_sequence.proofs.firing.fire_batch.Goals as goal
 
 pub send-requires-clause-heads : goal.send-requires-clause-heads
 send-requires-clause-heads c k d l =
-    let P : ℕ → Type 0 = λ n. All (λ (e : Edge). e.head < n) c.links.result.now in
-    let inside : All (λ (e : Edge). e.head < c.args.graph.now.vertices) c.links.result.now =
-    subst (λ (es : List Edge). All (λ (e : Edge). e.head < c.args.graph.now.vertices) es) (sym c.links.ensures)
+    let P : ℕ → Type 0 = λ n. All (λ (e : Link). e.head < n) c.links.result.now in
+    let inside : All (λ (e : Link). e.head < c.args.graph.now.vertices) c.links.result.now =
+    subst (λ (es : List Link). All (λ (e : Link). e.head < c.args.graph.now.vertices) es) (sym c.links.ensures)
     (links_inside c.args.graph.now c.requires.graph_fits c.args.vertex) in
     subst P (sym
     (length-set c.args.position.now c.args.vertex
@@ -30,7 +30,7 @@ returns-clause-fired c =
     ∙ ap (λ (d : ℕ). get_or
     (set c.args.position.now c.args.vertex (get_or c.args.position.now c.args.vertex 0 - c.args.k * d)) u
     0 + c.args.k * sum_by (brought u) c.links.result.now) c.out_degree.ensures
-    ∙ ap (λ (es : List Edge). get_or (taken c.args.graph.now c.requires.graph_fits c.args.vertex c.args.k
+    ∙ ap (λ (es : List Link). get_or (taken c.args.graph.now c.requires.graph_fits c.args.vertex c.args.k
     c.args.position.now c.requires.is_vertex c.requires.one_each c.requires.enough_chips) u 0 + c.args.k * sum_by
     (brought u) es) c.links.ensures)
 
@@ -39,9 +39,9 @@ returns-clause-kept c =
     c.send.ensures.all
     ∙ ap (λ (d : ℕ). sum
     (set c.args.position.now c.args.vertex (get_or c.args.position.now c.args.vertex 0 - c.args.k * d)) + c.args.k
-    * sum_by (λ (e : Edge). e.mult) c.links.result.now) c.out_degree.ensures
-    ∙ ap (λ (es : List Edge). sum (taken c.args.graph.now c.requires.graph_fits c.args.vertex c.args.k
+    * sum_by (λ (e : Link). e.mult) c.links.result.now) c.out_degree.ensures
+    ∙ ap (λ (es : List Link). sum (taken c.args.graph.now c.requires.graph_fits c.args.vertex c.args.k
     c.args.position.now c.requires.is_vertex c.requires.one_each c.requires.enough_chips) + c.args.k * sum_by
-    (λ (e : Edge). e.mult) es) c.links.ensures
+    (λ (e : Link). e.mult) es) c.links.ensures
     ∙ taken_room c.args.graph.now c.requires.graph_fits c.args.vertex c.args.k c.args.position.now c.requires.is_vertex
     c.requires.one_each c.requires.enough_chips

@@ -1,7 +1,7 @@
-use Rattle.std.proofs.Common.{length, map, ap, inl, inr, refl, ⊎_elim, ◌∙◌, arith}
-use Rattle.chip_graph.specs.declared.edge.End.TheVariants.{Tail}
+use Rattle.std.proofs.Common.{map, ap, inl, inr, refl, ⊎_elim, ◌∙◌, arith}
+use Rattle.chip_graph.specs.declared.edge.End.TheVariants.{Tail, Head}
 use Rattle.chip_graph.specs.declared.fault.GraphFault.TheVariants.{NoMemory}
-use Rattle.chip_graph.specs.Multigraph.{Multigraph}
+use Rattle.chip_graph.specs.Multigraph.{Multigraph, link_of}
 use Rattle.chip_graph.specs.Ends.{edge_of}
 use Rattle.chip_graph.proofs.PickLemmas.{All-edges_by}
 use Rattle.chip_graph.proofs.FaultLemmas.{accepted, edges_end, rows_edge, rows_mults, rows_graph, rows_sink}
@@ -45,8 +45,14 @@ links_by-requires-clause-numbers c =
     rw c.members.ensures (All-edges_by Tail c.as_slice-rows.result.now c.args.vertices c.in_ok-outs.outs
     c.in_ok-outs.ensures)
 
-pub links_by-requires-clause-one_each : goal.links_by-requires-clause-one_each
-links_by-requires-clause-one_each c = ap length c.members.ensures ∙ c.in_ok-outs.ensures.all
+pub links_by-requires-clause-short : goal.links_by-requires-clause-short
+links_by-requires-clause-short c e l =
+    let none = accepted _ c.in_ok-check_rows.ensures.first in
+    let head = edges_end _ (rows_edge c.args.limits _ none) Head e l in
+    let mult = rows_mults c.args.limits _ none e l in
+    let most = c.in_ok-check_rows.ensures.limits.few_vertices in
+    let vertices = rows_vertices c.args.limits _ none in
+    (omega (arith, vertices.1), omega arith)
 
 pub degrees-requires-clause-tails : goal.degrees-requires-clause-tails
 degrees-requires-clause-tails c = edges_end _ (rows_edge c.args.limits _ (accepted _ c.in_ok-check_rows.ensures.first)) Tail
@@ -88,7 +94,7 @@ invariant_of-indexed c =
       outs = outs.each;
       ins_each = ins.ins.one_each;
       ins = ins.ins.each;
-      linked = c.in_ok-links.ensures ∙ ap (map (edge_of c.as_slice-rows.result.now)) c.members.ensures;
+      linked = c.in_ok-links.ensures ∙ ap (map (λ e. link_of (edge_of c.as_slice-rows.result.now e))) c.members.ensures;
     })
 
 pub returns : goal.returns

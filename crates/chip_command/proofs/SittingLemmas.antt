@@ -11,7 +11,7 @@ use Rattle.chip_sequence.specs.Outcomes.{IsOutcome}
 use Rattle.chip_sequence.specs.Sittings.{LeadsTo, fired_in_all}
 use Rattle.chip_sequence.specs.declared.outcome.Outcome.{Outcome}
 use Rattle.chip_sequence.proofs.SittingLemmas.{played_is_sitting}
-use Rattle.chip_fire.proofs.PlayLemmas.{outcome_is}
+use Rattle.chip_sequence.proofs.OutcomeLemmas.{outcome_is}
 use Rattle.chip_report.specs.ReportText.{report_text}
 use Rattle.chip_report.specs.Reportable.{Content}
 use Rattle.chip_report.proofs.ReportLemmas.{one_outcome}

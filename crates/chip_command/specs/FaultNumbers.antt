@@ -7,8 +7,8 @@ use Rattle.chip_graph.specs.declared.fault.GameFault.{GameFault}
 use Rattle.chip_graph.specs.declared.fault.GameFault.TheVariants as game
 use Rattle.chip_file.specs.declared.fault.FileFault.{FileFault}
 use Rattle.chip_file.specs.declared.fault.FileFault.TheVariants as file
-use Rattle.chip_fire.specs.declared.sitting.ResumeFault.{ResumeFault}
-use Rattle.chip_fire.specs.declared.sitting.ResumeFault.TheVariants as resume
+use Rattle.chip_sequence.specs.declared.resumed.ResumeFault.{ResumeFault}
+use Rattle.chip_sequence.specs.declared.resumed.ResumeFault.TheVariants as resume
 use Rattle.chip_command.specs.declared.fault.Fault.{Fault}
 use Rattle.chip_command.specs.declared.fault.Fault.TheVariants as fault
 use Rattle.chip_command.specs.declared.fault.Location.{Location}

@@ -1,8 +1,8 @@
 -- The faults of libraries among those of commands.
 use Rattle.chip_file.specs.declared.fault.FileFault.{FileFault}
 use Rattle.chip_file.specs.declared.fault.FileFault.TheVariants as file
-use Rattle.chip_fire.specs.declared.sitting.ResumeFault.{ResumeFault}
-use Rattle.chip_fire.specs.declared.sitting.ResumeFault.TheVariants as resume
+use Rattle.chip_sequence.specs.declared.resumed.ResumeFault.{ResumeFault}
+use Rattle.chip_sequence.specs.declared.resumed.ResumeFault.TheVariants as resume
 use Rattle.chip_report.specs.declared.fault.ReportFault.{ReportFault}
 use Rattle.chip_report.specs.declared.fault.ReportFault.TheVariants as report
 use Rattle.chip_trace.specs.declared.fault.ReplayFault.{ReplayFault}

@@ -6,9 +6,9 @@ ghost use Rattle.chip_command.specs.FaultNumbers.{print_graph_fault, print_game_
 use crate::status::Status;
 use crate::table::name_of;
 use chip_file::FileFault;
-use chip_fire::ResumeFault;
 use chip_graph::{GameFault, GraphFault};
 use chip_report::{ReportFault, WriteFault};
+use chip_sequence::ResumeFault;
 use chip_trace::{ReplayFault, TraceFault};
 use std::alloc::{AllocError, AllocFailed};
 use std::error::Error;

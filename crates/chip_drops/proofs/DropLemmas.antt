@@ -33,8 +33,8 @@ use Rattle.chip_sequence.proofs.BoundLemmas.{chips_are_kept, ends}
 use Rattle.chip_sequence.proofs.CertificateLemmas.{end_of_the_way, same_way, playing_on, start_on_the_way}
 use Rattle.chip_sequence.proofs.SittingLemmas.{leads_both, ends_alike, played_is_sitting}
 use Rattle.chip_sequence.proofs.AfterLemmas.{sum_small}
-use Rattle.chip_fire.specs.Rounds.{IsBegun, IsAtRest}
-use Rattle.chip_fire.specs.WorkList.{AreListed, HasSupport}
+use Rattle.chip_rounds.specs.Rounds.{IsBegun, IsAtRest}
+use Rattle.chip_rounds.specs.WorkList.{AreListed, HasSupport}
 use Rattle.chip_drops.specs.declared.avalanche.Avalanche.{Avalanche}
 use Rattle.chip_drops.specs.declared.pile.Pile.{Pile}
 use Rattle.chip_drops.specs.Avalanches.{dropped, IsAvalanche, DropsAddUp, AreAvalanches}

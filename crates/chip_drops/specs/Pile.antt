@@ -4,7 +4,7 @@ use Rattle.chip_graph.specs.Sums.{sum_below}
 use Rattle.chip_graph.specs.Multigraph.{Multigraph}
 use Rattle.chip_graph.specs.ChipGame.{IsGame}
 use Rattle.chip_sequence.specs.Firing.{IsLegal}
-use Rattle.chip_fire.specs.Rounds.{IsBegun, IsAtRest}
+use Rattle.chip_rounds.specs.Rounds.{IsBegun, IsAtRest}
 use Rattle.chip_drops.specs.declared.pile.Pile.{Pile}
 use Rattle.chip_drops.specs.declared.play.Room.{Room}
 

@@ -5,14 +5,14 @@ ghost use Rattle.chip_graph.specs.Limits.{max_total};
 ghost use Rattle.chip_graph.specs.ChipGame.{IsGame};
 ghost use Rattle.chip_graph.specs.More.{HasMore};
 ghost use Rattle.chip_sequence.specs.Play.{IsPlayed};
-ghost use Rattle.chip_fire.specs.Player.{PlaysOut};
+ghost use Rattle.chip_rounds.specs.Player.{PlaysOut};
 ghost use Rattle.chip_drops.specs.Avalanches.{IsAvalanche, dropped};
 ghost use Rattle.chip_drops.specs.Pile.{IsPile, IsStable};
 
 use crate::avalanche::Avalanche;
 use crate::play::{Room, play_out, tally};
-use chip_fire::outcome_at_rest;
 use chip_graph::Game;
+use chip_rounds::outcome_at_rest;
 use chip_sequence::Outcome;
 use std::alloc::{AllocError, Global};
 

@@ -3,12 +3,13 @@
 ghost use Rattle.std.specs.Prelude.{◌≡◌, ◌↔◌, ℕ, ◌<◌, ◌≤◌, true, length, min, take, slice_index, IfOk};
 ghost use Rattle.chip_graph.specs.Limits.{max_limit, max_vertices};
 ghost use Rattle.chip_sequence.specs.Firing.{IsLegal};
-ghost use Rattle.chip_fire.specs.Rounds.{IsBegun, IsAtRest};
+ghost use Rattle.chip_rounds.specs.Rounds.{IsBegun, IsAtRest};
 ghost use Rattle.chip_drops.specs.Pile.{IsRoom, IsStable, sum_between};
-ghost use Rattle.chip_fire.specs.WorkList.{HasSupport};
+ghost use Rattle.chip_rounds.specs.WorkList.{HasSupport};
 
-use chip_fire::{Unwatched, is_legal, play_on, work_off};
+use chip_fire::{Unwatched, play_on};
 use chip_graph::{Game, Graph};
+use chip_rounds::{is_legal, work_off};
 use std::alloc::{AllocError, Global};
 
 /// Room for plays.

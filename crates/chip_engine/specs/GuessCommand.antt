@@ -7,7 +7,7 @@ use Rattle.chip_graph.specs.Limits.{SizeLimits}
 use Rattle.chip_file.specs.GuessText.{guess_of_text, guess_text_fault}
 use Rattle.chip_sequence.specs.Sittings.{fired_in_all}
 use Rattle.chip_sequence.specs.declared.resumed.Resumed.{Resumed}
-use Rattle.chip_fire.specs.declared.sitting.ResumeFault.TheVariants.{Mismatch}
+use Rattle.chip_sequence.specs.declared.resumed.ResumeFault.TheVariants.{Mismatch}
 use Rattle.chip_report.specs.ReportTwo.{IsAnyReportWithin, IsNoReportAtAllWithin}
 use Rattle.chip_command.specs.CommandAnswers.{Spec, bind, CommandAnswers, OrMemory}
 use Rattle.chip_command.specs.Inputs.{Reads, RefusesText, reading_game}

@@ -5,9 +5,9 @@ use Rattle.chip_graph.specs.Limits.{SizeLimits}
 use Rattle.chip_graph.specs.Multigraph.{Multigraph}
 use Rattle.chip_sequence.specs.Sequence.{position_after, IsFiringSequence, counts, HasEnded}
 use Rattle.chip_sequence.specs.Sittings.{IsPlayFrom, IsResumed, fired_in_all}
-use Rattle.chip_fire.specs.Resume.{GoesOn, IsResumeFault}
+use Rattle.chip_sequence.specs.Resume.{GoesOn, IsResumeFault}
 use Rattle.chip_sequence.specs.declared.resumed.Resumed.{Resumed}
-use Rattle.chip_fire.specs.declared.sitting.ResumeFault.{ResumeFault}
+use Rattle.chip_sequence.specs.declared.resumed.ResumeFault.{ResumeFault}
 use Rattle.chip_report.specs.ReportText.{is_closed}
 use Rattle.chip_report.specs.ReportTwo.{report_two_text, IsAnyReportWithin, IsNoReportAtAllWithin}
 use Rattle.chip_command.specs.CommandAnswers.{Spec, bind, CommandAnswers, OrMemory}

@@ -6,7 +6,7 @@ use Rattle.chip_sequence.specs.Play.{IsPlayed}
 use Rattle.chip_sequence.specs.Sittings.{fired_in_all}
 use Rattle.chip_sequence.specs.declared.outcome.Outcome.{Outcome}
 use Rattle.chip_sequence.specs.declared.resumed.Resumed.{Resumed}
-use Rattle.chip_fire.specs.declared.sitting.ResumeFault.TheVariants.{Mismatch}
+use Rattle.chip_sequence.specs.declared.resumed.ResumeFault.TheVariants.{Mismatch}
 use Rattle.chip_command.specs.CommandAnswers.{Spec, bind, CommandAnswers, OrMemory}
 use Rattle.chip_command.specs.Inputs.{reading_game}
 use Rattle.chip_command.specs.declared.ended.Ended.{Ended}

@@ -9,7 +9,7 @@ use Rattle.chip_link.specs.declared.trace.TraceRow.TheVariants.{Take, Fire}
 use Rattle.chip_sequence.specs.Worked.{chips_on, on_each}
 use Rattle.chip_sequence.specs.Sittings.{fired_in_all}
 use Rattle.chip_sequence.specs.declared.resumed.Resumed.{Resumed}
-use Rattle.chip_fire.specs.declared.sitting.ResumeFault.TheVariants.{Mismatch, Total, Limit, Prior}
+use Rattle.chip_sequence.specs.declared.resumed.ResumeFault.TheVariants.{Mismatch, Total, Limit, Prior}
 use Rattle.chip_report.specs.ReportTwo.{report_two_text}
 use Rattle.chip_command.specs.declared.table.Explanation.{Explanation}
 use Rattle.chip_command.specs.Faults.{fault_of_resume}

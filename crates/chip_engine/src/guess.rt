@@ -7,10 +7,9 @@ ghost use Rattle.chip_engine.specs.GuessCommand.{RefusesTold, TellsCounts, has_b
 
 use chip_command::Fault;
 use chip_file::{guess_of_text, read_whole_within};
-use chip_fire::ResumeFault;
 use chip_graph::Limits;
 use chip_report::read_any_within;
-use chip_sequence::Resumed;
+use chip_sequence::{ResumeFault, Resumed};
 use std::alloc::{AllocError, Global};
 use std::io::Read;
 

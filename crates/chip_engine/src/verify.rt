@@ -12,10 +12,10 @@ use crate::guess::counts_in_all;
 use crate::options::PlayOptions;
 use crate::resume::read_sitting;
 use chip_command::{Answer, Ended, Fault, deliver, read_game};
-use chip_fire::{ResumeFault, Unwatched, Watch, plain_given};
+use chip_fire::{Unwatched, Watch, plain_given};
 use chip_graph::Game;
 use chip_report::is_in;
-use chip_sequence::{Outcome, Resumed};
+use chip_sequence::{Outcome, ResumeFault, Resumed};
 use std::alloc::Global;
 use std::io::{Read, Write};
 

@@ -1,3 +1,1 @@
-pub mod PlayLemmas
 pub mod ResumeLemmas
-pub mod WorkLemmas

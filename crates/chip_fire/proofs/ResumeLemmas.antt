@@ -11,7 +11,7 @@ use Rattle.chip_sequence.specs.declared.resumed.Resumed.{Resumed}
 use Rattle.chip_sequence.specs.Outcomes.{IsOutcome}
 use Rattle.chip_sequence.specs.Play.{IsPlayed}
 use Rattle.chip_sequence.specs.Sittings.{IsResumed, LeadsTo, IsPlayFrom, fired_in_all, max_prior}
-use Rattle.chip_fire.specs.Resume.{GoesOn, game_from}
+use Rattle.chip_sequence.specs.Resume.{GoesOn, game_from}
 use Rattle.chip_sequence.proofs.SittingLemmas.{leads_both, played_is_sitting}
 
 module _ (G : Multigraph) (earlier r : Resumed) (limit : ℕ) (fits : IsResumed earlier)

@@ -1,7 +1,7 @@
 -- What becomes of counts that are given to a play.
 use Rattle.std.specs.Prelude.{◌≡◌, ℕ, ◌<◌, List, length, slice_index}
 use Rattle.chip_graph.specs.ChipGame.{ChipGame}
-use Rattle.chip_fire.specs.Rounds.{IsAtRest}
+use Rattle.chip_rounds.specs.Rounds.{IsAtRest}
 use Rattle.chip_fire.specs.declared.watch.GivenUse.{GivenUse}
 use Rattle.chip_fire.specs.declared.watch.GivenUse.TheVariants.{Certified, PlayedOn, Lowered, Dropped}
 

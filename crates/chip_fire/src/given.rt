@@ -2,7 +2,7 @@
 
 ghost use Rattle.std.specs.Prelude.{◌≡◌, ℕ, ◌≤◌, ◌↔◌, IfSome, IsTrue, length, slice_index};
 ghost use Rattle.chip_sequence.specs.Certificate.{AreForced};
-ghost use Rattle.chip_fire.specs.Rounds.{IsAtRest, IsBegun};
+ghost use Rattle.chip_rounds.specs.Rounds.{IsAtRest, IsBegun};
 ghost use Rattle.chip_fire.specs.Given.{IsUse, TakesAll, TakesNone};
 
 use crate::certificate::certify;

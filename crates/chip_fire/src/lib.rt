@@ -2,11 +2,10 @@
 #![tactic(auto)]
 
 pub use chip_guess::Search;
-pub use chip_sequence::{AfterFault, NotLegal, Outcome, Resumed, after, after_into, enough, fire};
-pub use player::{outcome_at_rest, plain, plain_given, plain_watched, play_on};
-pub use sitting::{ResumeFault, resume, resume_watched};
+pub use chip_sequence::{AfterFault, NotLegal, Outcome, ResumeFault, Resumed, after, after_into, enough, fire};
+pub use player::{plain, plain_given, plain_watched, play_on};
+pub use sitting::{resume, resume_watched};
 pub use watch::{GivenUse, Unwatched, Watch};
-pub use work_list::{is_legal, work_off};
 
 mod certificate;
 mod given;
@@ -16,4 +15,3 @@ pub mod sitting;
 mod soon;
 mod start;
 pub mod watch;
-mod work_list;

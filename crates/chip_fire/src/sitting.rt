@@ -2,60 +2,13 @@
 
 ghost use Rattle.std.specs.Prelude.{◌≡◌, ℕ, ◌<◌, ◌≤◌, IfOk, IfErr, length, slice_index};
 ghost use Rattle.chip_sequence.specs.Sittings.{IsResumed, IsPlayFrom, fired_in_all, max_prior};
-ghost use Rattle.chip_fire.specs.Resume.{Resumes, IsPriorFault};
+ghost use Rattle.chip_sequence.specs.Resume.{Resumes, IsPriorFault};
 
 use crate::player::plain_watched;
 use crate::watch::{Unwatched, Watch};
-use chip_graph::{Game, GameFault, Graph};
-use chip_sequence::{MAX_PRIOR, Resumed};
-use std::alloc::{AllocError, Global};
-use thiserror::Error;
-
-/// Why a play does not go on: the first reason in this order.
-#[derive(Clone, Copy, Debug, PartialEq, Eq, Error)]
-pub enum ResumeFault {
-    /// The earlier sitting was on a graph with another number of vertices.
-    #[error("the earlier play has another number of vertices")]
-    Mismatch,
-    /// The earlier sitting left more than 1,099,511,627,776 chips.
-    #[error("there are more than 1099511627776 chips")]
-    Total,
-    /// The firing limit is above 1,099,511,627,776.
-    #[error("the firing limit is above 1099511627776")]
-    Limit,
-    /// This vertex fired more than 1,152,921,504,606,846,976 times in all, and it is the least such vertex.
-    #[error("vertex {0} fired more than 1152921504606846976 times before")]
-    Prior(u64),
-    /// Memory ran out.
-    #[error("out of memory")]
-    NoMemory,
-}
-
-impl From<AllocError> for ResumeFault {
-    ghost use Rattle.std.specs.Prelude.{◌≡◌};
-    ghost use Rattle.chip_fire.specs.declared.sitting.ResumeFault.TheVariants.{NoMemory};
-
-    ghost from_gives = { λ _ fault. fault ≡ NoMemory };
-
-    fn from(_error: AllocError) -> ResumeFault {
-        ResumeFault::NoMemory
-    }
-}
-
-impl From<GameFault> for ResumeFault {
-    ghost use Rattle.std.specs.Prelude.{◌≡◌};
-    ghost use Rattle.chip_fire.specs.Resume.{resume_fault};
-
-    ghost from_gives = { λ game fault. fault ≡ resume_fault game };
-
-    fn from(fault: GameFault) -> ResumeFault {
-        match fault {
-            GameFault::StartLength => ResumeFault::Mismatch,
-            GameFault::Total => ResumeFault::Total,
-            GameFault::Limit => ResumeFault::Limit,
-        }
-    }
-}
+use chip_graph::{Game, Graph};
+use chip_sequence::{MAX_PRIOR, ResumeFault, Resumed};
+use std::alloc::Global;
 
 /// Plays on from where an earlier sitting ended, on the same graph, with a firing limit of this sitting's own.
 ///

@@ -1,10 +1,47 @@
 ghost use Rattle.std.specs.Prelude.{◌≡◌, ◌+◌, ◌≤◌, length, slice_index};
-ghost use Rattle.chip_fire.specs.Rounds.{IsBegun, IsInRange};
+ghost use Rattle.chip_rounds.specs.Rounds.{IsBegun, IsInRange};
 
 use crate::rounds::ends_within;
 use crate::watch::Watch;
 use chip_graph::{Game, Graph};
 use chip_guess::tuning::{FEW_LOOKS, FIRST_LOOKS};
+use chip_rounds::work_off_all;
+use std::alloc::Global;
+
+/// For how many vertices one chip waits where few do.
+const VERTICES_PER_CHIP: u64 = 64;
+
+/// How many looks at each vertex and edge are made by rounds, where few chips set off many: a search is slower than most
+/// such plays (full-1000, and some hundreds of chips on a full grid of 300 by 300).
+const LOOKS_OF_FEW: u64 = 1024;
+
+/// Goes on by a work list where few chips wait to move, and by rounds where these have set off many: the chips and counts
+/// to which it comes.
+pub(crate) fn play_few<W: Watch>(
+    alloc: Global,
+    game: &Game,
+    mut chips: Vec<u64>,
+    mut fired: Vec<u64>,
+    watch: &mut W,
+) -> (Vec<u64>, Vec<u64>)
+    requires { IsBegun game.now chips.items fired.items }
+    ensures { IsBegun game.now result.0.items result.1.items }
+{
+    let (graph, limit) = (game.graph(), game.limit());
+    let few = graph.vertices() / VERTICES_PER_CHIP;
+    let waits = waiting_chips(graph, limit, &chips, &fired);
+    if waits == 0 || waits > few {
+        return (chips, fired);
+    }
+    let _ = work_off_all(alloc, game, &mut chips, &mut fired);
+    let most = if waiting_chips(graph, limit, &chips, &fired) > few {
+        looks_at_all(graph).saturating_mul(LOOKS_OF_FEW)
+    } else {
+        0
+    };
+    ends_within(game, most, &mut 0, &mut chips, &mut fired, watch);
+    (chips, fired)
+}
 
 /// Plays for as long as this takes it soon to an end: each time with twice the work, while that halves
 /// the chips that wait to move or the limit leaves little to do. Whether the play has ended. The looks are added to

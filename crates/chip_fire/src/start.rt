@@ -1,5 +1,6 @@
 ghost use Rattle.std.specs.Prelude.{◌≡◌, length, IfOk};
-ghost use Rattle.chip_fire.specs.Rounds.{IsBegun, IsShort};
+ghost use Rattle.chip_fire.specs.Search.{IsShort};
+ghost use Rattle.chip_rounds.specs.Rounds.{IsBegun};
 
 use crate::certificate::certify;
 use crate::rounds::ends_within;

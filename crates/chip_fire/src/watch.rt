@@ -1,7 +1,8 @@
 //! Who is told how a play goes on.
 
 ghost use Rattle.chip_fire.specs.Given.{IsUse};
-ghost use Rattle.chip_fire.specs.Rounds.{IsBegun, IsShort};
+ghost use Rattle.chip_fire.specs.Search.{IsShort};
+ghost use Rattle.chip_rounds.specs.Rounds.{IsBegun};
 
 use chip_graph::Game;
 use chip_guess::Search;

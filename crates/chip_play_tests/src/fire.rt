@@ -1,13 +1,14 @@
 //! Games worked out by hand, and each call once. What holds for all inputs stands in the contracts.
 
 ghost use Rattle.std.specs.Prelude.{◌≡◌, ◌≤◌, IfOk, length, take};
-ghost use Rattle.chip_fire.specs.Rounds.{IsBegun};
-ghost use Rattle.chip_fire.specs.WorkList.{AreListed};
+ghost use Rattle.chip_rounds.specs.Rounds.{IsBegun};
+ghost use Rattle.chip_rounds.specs.WorkList.{AreListed};
 ghost use Rattle.chip_sequence.specs.Sittings.{IsResumed};
 
 use crate::games::{Rows, TRIANGLE, game_of, graph_of, triangle};
-use chip_fire::{ResumeFault, Watch, is_legal, plain, plain_watched, resume, work_off};
+use chip_fire::{ResumeFault, Watch, plain, plain_watched, resume};
 use chip_graph::{Game, Graph};
+use chip_rounds::{is_legal, work_off};
 use chip_sequence::{Outcome, Resumed};
 use std::alloc::{AllocError, Global};
 use std::process::Abort;

@@ -4,6 +4,7 @@ pub mod BoundLemmas
 pub mod CertificateLemmas
 pub mod BurningLemmas
 pub mod LegalLemmas
+pub mod OutcomeLemmas
 pub mod BatchLemmas
 pub mod AfterLemmas
 pub mod SittingLemmas

@@ -13,3 +13,4 @@ pub mod Play
 pub mod Outcomes
 pub mod Faults
 pub mod Sittings
+pub mod Resume

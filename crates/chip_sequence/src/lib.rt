@@ -8,7 +8,7 @@ pub use bound::enough;
 pub use counted::{AfterFault, after, after_from, after_into};
 pub use firing::{NotLegal, fire, fire_batch};
 pub use outcome::Outcome;
-pub use resumed::{MAX_PRIOR, Resumed};
+pub use resumed::{MAX_PRIOR, ResumeFault, Resumed};
 
 pub mod bound;
 pub mod counted;

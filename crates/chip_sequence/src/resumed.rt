@@ -1,5 +1,7 @@
 use crate::outcome::Outcome;
+use chip_graph::GameFault;
 use std::alloc::{AllocError, Global};
+use thiserror::Error;
 
 /// The most that a vertex may have fired before a sitting: 2^60.
 pub const MAX_PRIOR: u64 = 1 << 60;
@@ -27,5 +29,51 @@ impl Resumed {
     {
         let prior = vec![in alloc; 0; outcome.fired.len()]?;
         Ok(Resumed { outcome, prior })
+    }
+}
+
+/// Why a play does not go on: the first reason in this order.
+#[derive(Clone, Copy, Debug, PartialEq, Eq, Error)]
+pub enum ResumeFault {
+    /// The earlier sitting was on a graph with another number of vertices.
+    #[error("the earlier play has another number of vertices")]
+    Mismatch,
+    /// The earlier sitting left more than 1,099,511,627,776 chips.
+    #[error("there are more than 1099511627776 chips")]
+    Total,
+    /// The firing limit is above 1,099,511,627,776.
+    #[error("the firing limit is above 1099511627776")]
+    Limit,
+    /// This vertex fired more than 1,152,921,504,606,846,976 times in all, and it is the least such vertex.
+    #[error("vertex {0} fired more than 1152921504606846976 times before")]
+    Prior(u64),
+    /// Memory ran out.
+    #[error("out of memory")]
+    NoMemory,
+}
+
+impl From<AllocError> for ResumeFault {
+    ghost use Rattle.std.specs.Prelude.{◌≡◌};
+    ghost use Rattle.chip_sequence.specs.declared.resumed.ResumeFault.TheVariants.{NoMemory};
+
+    ghost from_gives = { λ _ fault. fault ≡ NoMemory };
+
+    fn from(_error: AllocError) -> ResumeFault {
+        ResumeFault::NoMemory
+    }
+}
+
+impl From<GameFault> for ResumeFault {
+    ghost use Rattle.std.specs.Prelude.{◌≡◌};
+    ghost use Rattle.chip_sequence.specs.Resume.{resume_fault};
+
+    ghost from_gives = { λ game fault. fault ≡ resume_fault game };
+
+    fn from(fault: GameFault) -> ResumeFault {
+        match fault {
+            GameFault::StartLength => ResumeFault::Mismatch,
+            GameFault::Total => ResumeFault::Total,
+            GameFault::Limit => ResumeFault::Limit,
+        }
     }
 }

@@ -1,4 +1,4 @@
-use Rattle.chip_fire.specs.Rounds.{IsBegun, firings_left}
+use Rattle.chip_rounds.specs.Rounds.{IsBegun, firings_left}
 use Rattle.chip_fire.proofs.player.play_on.Given as goal
 
 abbrev pub invariant-stretches : goal.invariant-stretches

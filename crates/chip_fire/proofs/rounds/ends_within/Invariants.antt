@@ -1,5 +1,5 @@
 use Rattle.std.proofs.Common.{◌≤◌}
-use Rattle.chip_fire.specs.Rounds.{IsBegun, firings_left}
+use Rattle.chip_rounds.specs.Rounds.{IsBegun, firings_left}
 use Rattle.chip_fire.proofs.rounds.ends_within.Given as goal
 
 abbrev pub invariant-stretches : goal.invariant-stretches

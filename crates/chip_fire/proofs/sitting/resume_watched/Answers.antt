@@ -1,7 +1,7 @@
 use Rattle.std.proofs.Common.{◌≡◌, ℕ, List, ◌∙◌, ap, subst}
 use Rattle.chip_graph.specs.ChipGame.{ChipGame, IsGame}
 use Rattle.chip_sequence.specs.Play.{IsPlayed}
-use Rattle.chip_fire.specs.Resume.{game_from}
+use Rattle.chip_sequence.specs.Resume.{game_from}
 use Rattle.chip_fire.proofs.ResumeLemmas.{goes_on, still_leads}
 use Rattle.chip_fire.proofs.sitting.resume_watched.Goals as goal
 

@@ -1,4 +1,4 @@
-use Rattle.chip_fire.specs.Rounds.{IsBegun}
+use Rattle.chip_rounds.specs.Rounds.{IsBegun}
 use Rattle.chip_fire.proofs.soon.ends_soon.Given as goal
 
 abbrev pub invariant-doublings : goal.invariant-doublings

@@ -1,5 +1,6 @@
 use Rattle.std.proofs.Common.{◌≤◌}
-use Rattle.chip_fire.specs.Rounds.{IsBegun, IsShort}
+use Rattle.chip_fire.specs.Search.{IsShort}
+use Rattle.chip_rounds.specs.Rounds.{IsBegun}
 use Rattle.chip_fire.proofs.start.search_counts.Given as goal
 
 abbrev pub invariant-turns : goal.invariant-turns

@@ -1,6 +1,6 @@
 use Rattle.std.proofs.Common.{ℕ, replicate, ap, ◌∙◌}
 use Rattle.chip_graph.specs.Multigraph.{Multigraph}
-use Rattle.chip_fire.proofs.PlayLemmas.{begun_none}
+use Rattle.chip_rounds.proofs.PlayLemmas.{begun_none}
 use Rattle.chip_fire.proofs.start.start.Goals as goal
 
 pub returns : goal.returns

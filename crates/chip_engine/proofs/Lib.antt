@@ -2,6 +2,5 @@ pub mod ChainLemmas
 pub mod SittingLemmas
 pub mod GuessLemmas
 pub mod VerifyLemmas
-pub mod AnswerLemmas
 pub mod DropLemmas
 pub mod SameLemmas

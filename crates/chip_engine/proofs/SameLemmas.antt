@@ -19,9 +19,9 @@ use Rattle.chip_world.specs.declared.world.driving.Drive.{Drive}
 use Rattle.chip_world.specs.declared.world.driving.Drive.TheVariants.{Closed, Unfinished}
 use Rattle.chip_command.specs.Inputs.{MeansGame}
 use Rattle.chip_command.proofs.OneReportLemmas.{one_report, plain_reports}
-use Rattle.chip_engine.specs.SimulateCommand.{EndsBy, EndsClosed}
+use Rattle.chip_simulate.specs.SimulateCommand.{EndsBy, EndsClosed}
 use Rattle.chip_engine.specs.SimulatedBytes.{IsWhatPlainWrites, ClosedAs, StayedOpen, SimulatedBytes}
-use Rattle.chip_engine.specs.declared.simulate.SimulateOptions.{SimulateOptions}
+use Rattle.chip_simulate.specs.declared.simulate.SimulateOptions.{SimulateOptions}
 
 -- where none is picked, each fails the test
 none_picked : (test : ℕ → Bool) (n : ℕ) → filter_below test n ≡ [] → (v : ℕ) → v < n → test v ≡ false

@@ -1,8 +1,5 @@
-pub mod Board
 pub mod CheckCommand
 pub mod ExplainCommand
-pub mod ReplayCommand
-pub mod SimulateCommand
 pub mod ResumeCommand
 pub mod VerifyCommand
 pub mod GuessCommand

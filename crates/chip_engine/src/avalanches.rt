@@ -8,8 +8,7 @@ ghost use Rattle.chip_sequence.specs.Play.{IsPlayed};
 ghost use Rattle.chip_engine.specs.AvalanchesCommand.{AvalanchesAnswers, PlaysDrops, WritesReport};
 ghost use Rattle.chip_engine.specs.AvalanchesCommand.{fault_of_rows, reading_drops};
 
-use crate::options::PlayOptions;
-use chip_command::{Ended, Fault, conclude, read_game, status_of};
+use chip_command::{Ended, Fault, PlayOptions, conclude, read_game, status_of};
 use chip_drops::{Pile, RowsFault, write_rows};
 use chip_file::{drops_of_text, read_whole_within};
 use chip_fire::{Unwatched, Watch, plain_watched};

@@ -6,8 +6,7 @@ ghost use Rattle.chip_command.specs.PlainCommand.{PlainAnswers, playing};
 ghost use Rattle.chip_engine.specs.GuessCommand.{GuessAnswers};
 
 use crate::guess::read_guess;
-use crate::options::PlayOptions;
-use chip_command::{Answer, Ended, Fault, deliver, read_game};
+use chip_command::{Answer, Ended, Fault, PlayOptions, deliver, read_game};
 use chip_fire::{Unwatched, Watch, plain_given};
 use chip_graph::Game;
 use std::alloc::Global;

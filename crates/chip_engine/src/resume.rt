@@ -5,8 +5,7 @@ ghost use Rattle.chip_sequence.specs.Sittings.{IsResumed};
 ghost use Rattle.chip_command.specs.CommandAnswers.{Gives, Meets};
 ghost use Rattle.chip_engine.specs.ResumeCommand.{ResumeAnswers, going_on, reading_sitting};
 
-use crate::options::PlayOptions;
-use chip_command::{Answer, Ended, Fault, deliver, status_of};
+use chip_command::{Answer, Ended, Fault, PlayOptions, deliver, status_of};
 use chip_file::{read_graph_within, read_whole_within};
 use chip_fire::{Unwatched, Watch, resume_watched};
 use chip_graph::{Graph, Limits};

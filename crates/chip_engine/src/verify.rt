@@ -9,9 +9,8 @@ ghost use Rattle.chip_command.specs.CommandAnswers.{Gives};
 ghost use Rattle.chip_engine.specs.VerifyCommand.{AgreesAt, IsDifference, VerifyAnswers, verifying};
 
 use crate::guess::counts_in_all;
-use crate::options::PlayOptions;
 use crate::resume::read_sitting;
-use chip_command::{Answer, Ended, Fault, deliver, read_game};
+use chip_command::{Answer, Ended, Fault, PlayOptions, deliver, read_game};
 use chip_fire::{Unwatched, Watch, plain_given};
 use chip_graph::Game;
 use chip_report::is_in;

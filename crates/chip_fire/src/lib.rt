@@ -2,7 +2,9 @@
 #![tactic(auto)]
 
 pub use chip_guess::Search;
-pub use chip_sequence::{AfterFault, NotLegal, Outcome, ResumeFault, Resumed, after, after_into, enough, fire};
+pub use chip_sequence::{
+    AfterFault, NotLegal, Outcome, ResumeFault, Resumed, after, after_into, enough, fire,
+};
 pub use player::{plain, plain_given, plain_watched, play_on};
 pub use sitting::{resume, resume_watched};
 pub use watch::{GivenUse, Unwatched, Watch};

@@ -1,7 +1,8 @@
 -- Serves Multigraph.antt, Faults.antt, Distances.antt.
 -- What a graph keeps beside its edges is what follows from them.
-use Rattle.std.proofs.Common.{◌≡◌, ℕ, ◌<◌, ◌⊎◌, List, length, get_or, Option, Some, None}
-use Rattle.std.proofs.Common.{Result, Ok, Err, sym, subst, arith}
+use Rattle.std.proofs.Common.{◌≡◌, ℕ, ◌<◌, ◌≤◌, ◌⊎◌, List, length, map, take, get_or, Option, Some, None}
+use Rattle.std.proofs.Common.{Result, Ok, Err, sym, ap, ◌∙◌, subst, arith}
+use Rattle.std.proofs.lemmas.List.{length-map, length-take-le, get_or-map, get_or-take}
 use Rattle.std.specs.Result.{IsErrAnd}
 use Rattle.std.specs.Prelude.{IfErr}
 use Rattle.chip_graph.specs.declared.fault.GraphFault.{GraphFault}
@@ -16,13 +17,28 @@ reaches : (G : Multigraph) (v : ℕ) (found : Option ℕ) (d : ℕ) → found �
     → ReachesSink G v
 reaches G v found d is of = let at : IsDistance G v d = subst (IsDistanceOf G v) is of in (at.reached.0, at.reached.1)
 
--- where each vertex has a distance, each reaches the sink
-pub all_reach : (G : Multigraph) (distances : List (Option ℕ)) → AreDistances G distances
-    → ((v : ℕ) → v < length distances → (d : ℕ) × (get_or distances v None ≡ Some d)) → (v : ℕ) → v < G.vertices
-    → ReachesSink G v
-all_reach G distances are all v l =
-    let there = all v (let each = are.one_each in omega arith) in
-    reaches G v (get_or distances v None) there.0 there.1 (are.each v l)
+-- what was found at the front of a list
+pub known : (distances : List ℕ) (found : List (Option ℕ)) (n : ℕ) → n ≤ length found
+    → map (λ d. Some d) distances ≡ take n found → (v : ℕ) → v < n → get_or found v None ≡ Some (get_or distances v 0)
+known distances found n room same v l =
+    let each : length distances ≡ n = sym (length-map distances (λ d. Some d)) ∙ ap length same ∙ length-take-le n found room in
+    sym (get_or-take n found v None l)
+    ∙ ap (λ (xs : List (Option ℕ)). get_or xs v None) (sym same)
+    ∙ get_or-map (λ d. Some d) distances v 0 None (omega arith)
+
+module _ (G : Multigraph) (distances : List ℕ) (are : AreDistances G (map (λ d. Some d) distances)) (v : ℕ)
+    (is_vertex : v < G.vertices) where
+  pub distance_within : v < length distances
+  distance_within = let each = are.one_each in let same = length-map distances (λ d. Some d) in omega arith
+
+  -- where each vertex has a distance, this is it
+  pub distance_is : IsDistance G v (get_or distances v 0)
+  distance_is =
+      subst (IsDistanceOf G v) (get_or-map (λ d. Some d) distances v 0 None distance_within) (are.each v is_vertex)
+
+  -- and it reaches the sink
+  pub all_reach : ReachesSink G v
+  all_reach = (distance_is.reached.0, distance_is.reached.1)
 
 -- the first distance that is missing names the fault
 pub unreached_fault : (G : Multigraph) (found : List (Option ℕ)) → AreDistances G found

@@ -1,5 +1,5 @@
 -- What a graph keeps beside its edges, and that this is what follows from them.
-use Rattle.std.specs.Prelude.{◌≡◌, ℕ, ◌<◌, List, [], length, map, slice_index, slice_index_or, Option}
+use Rattle.std.specs.Prelude.{◌≡◌, ℕ, ◌<◌, List, [], length, map, slice_index, slice_index_or, Some}
 use Rattle.chip_graph.specs.declared.graph.Rows.TheInside.{Inside}
 use Rattle.chip_graph.specs.declared.edge.Link.{Link}
 use Rattle.chip_graph.specs.PackedLists.{flat}
@@ -11,12 +11,12 @@ abbrev pub graph_of : Inside → Multigraph
 graph_of a = record { vertices = a.vertices; sink = a.sink; edges = a.edges.items }
 
 -- degrees, distances and lists are those of the graph, and the links are the edges out of each vertex in turn
-pub record IsIndex (G : Multigraph) (degree_of : List ℕ) (distance_of : List (Option ℕ)) (outs_of ins_of : List (List ℕ))
+pub record IsIndex (G : Multigraph) (degree_of : List ℕ) (distance_of : List ℕ) (outs_of ins_of : List (List ℕ))
     (links : List Link) : Type 0 where
   pub graph : IsGraph G
   pub degree_each : length degree_of ≡ G.vertices
   pub degrees : (v : ℕ) → v < G.vertices → slice_index degree_of v ≡ degree G v
-  pub distances : AreDistances G distance_of
+  pub distances : AreDistances G (map (λ d. Some d) distance_of)
   pub outs_each : length outs_of ≡ G.vertices
   pub outs : (v : ℕ) → v < G.vertices → slice_index_or outs_of v [] ≡ edges_out G v
   pub ins_each : length ins_of ≡ G.vertices

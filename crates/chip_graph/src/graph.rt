@@ -1,6 +1,6 @@
 ghost use Rattle.std.specs.Prelude.{◌≡◌, ◌+◌, ◌<◌, ◌≤◌, ◌⊎◌, ℕ, [], map, length, take, IfOk, IfErr, Some, None};
 ghost use Rattle.std.specs.Prelude.{slice_index, slice_index_or};
-ghost use Rattle.chip_graph.specs.Limits.{max_vertices, AreLimits};
+ghost use Rattle.chip_graph.specs.Limits.{max_vertices, max_edges, AreLimits};
 ghost use Rattle.chip_graph.specs.Multigraph.{IsEdge, ReachesSink};
 ghost use Rattle.chip_graph.specs.Distances.{AreDistances};
 ghost use Rattle.chip_graph.specs.Ends.{edge_of, AreEdgesBy};
@@ -47,7 +47,7 @@ struct Rows {
     /// The out-degrees, by vertex.
     degrees: Vec<u64>,
     /// How far each vertex is from the sink, by vertex: each reaches it.
-    distances: Vec<Option<u64>>,
+    distances: Vec<u64>,
     /// The edges out of each vertex, ascending.
     outs: PackedLists<u64>,
     /// The edges into each vertex, ascending.
@@ -238,10 +238,7 @@ impl Graph {
         ensures { IsDistance self.now vertex result }
     {
         let rows: &Rows = &self.rows;
-        match rows.distances[vertex as usize] {
-            Some(distance) => distance,
-            None => unreachable!(),
-        }
+        rows.distances[vertex as usize]
     }
 }
 
@@ -291,38 +288,38 @@ fn ins_and_distances(
     vertices: u64,
     sink: u64,
     edges: &[Edge],
-) -> Result<(PackedLists<u64>, Vec<Option<u64>>), GraphFault>
+) -> Result<(PackedLists<u64>, Vec<u64>), GraphFault>
     requires few_vertices { vertices ≤ max_vertices }
+    requires few_edges { length edges.now ≤ max_edges }
     requires sink_is_vertex { sink < vertices }
     requires edges { (e : ℕ) → e < length edges.now → IsEdge vertices sink (edge_of edges.now e) }
     ensures ins { IfOk result (λ r. AreEdgesBy Head edges.now vertices r.0) }
     ensures distances { IfOk result
-        (λ r. AreDistances (record { vertices = vertices; sink = sink; edges = edges.now }) r.1.items) }
+        (λ r. AreDistances (record { vertices = vertices; sink = sink; edges = edges.now }) (map (λ d. Some d) r.1.items)) }
     ensures reached { IfOk result (λ r. (v : ℕ) → v < vertices
         → ReachesSink (record { vertices = vertices; sink = sink; edges = edges.now }) v) }
     ensures none { IfErr result (λ fault. (fault ≡ NoMemory)
         ⊎ NamesUnreached (record { vertices = vertices; sink = sink; edges = edges.now }) fault) }
 {
     let ins = index::edges_by(alloc, vertices, edges, End::Head)?;
-    let distances = distances(alloc, vertices, sink, edges, &ins)?;
-    check_reached(&distances)?;
-    Ok((ins, distances))
+    let found = distances(alloc, vertices, sink, edges, &ins)?;
+    Ok((ins, all_known(alloc, &found)?))
 }
 
-/// Whether each vertex has a distance; if not, the least that has none is the fault.
-fn check_reached(distances: &[Option<u64>]) -> Result<(), GraphFault>
-    ensures all { IfOk result
-        (λ _. (v : ℕ) → v < length distances.now → (d : ℕ) × (slice_index_or distances.now v None ≡ Some d)) }
-    ensures least { IfErr result (λ fault. (v : ℕ) × (fault ≡ Unreached v)
-        × (v < length distances.now)
-        × (slice_index_or distances.now v None ≡ None)
-        × ((u : ℕ) → u < v → (d : ℕ) × (slice_index_or distances.now u None ≡ Some d))) }
+/// The distances that were found, if each vertex has one; if not, the least that has none is the fault.
+fn all_known(alloc: Global, found: &[Option<u64>]) -> Result<Vec<u64>, GraphFault>
+    ensures all { IfOk result (λ distances. map (λ d. Some d) distances.items ≡ found.now) }
+    ensures least { IfErr result (λ fault. (fault ≡ NoMemory) ⊎ ((v : ℕ) × (fault ≡ Unreached v)
+        × (v < length found.now)
+        × (slice_index_or found.now v None ≡ None)
+        × ((u : ℕ) → u < v → (d : ℕ) × (slice_index_or found.now u None ≡ Some d)))) }
 {
-    for (v, distance) in distances.iter().enumerate() {
+    let mut distances = Vec::with_capacity(alloc, found.len())?;
+    for (v, distance) in found.iter().enumerate() {
         match distance {
-            Some(_) => {}
+            Some(distance) => distances.push_reserved(*distance),
             None => return Err(GraphFault::Unreached(v as u64)),
         }
     }
-    Ok(())
+    Ok(distances)
 }

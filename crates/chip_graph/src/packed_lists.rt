@@ -7,7 +7,7 @@ use std::marker::Model;
 #[derive(Drop)]
 pub(crate) struct PackedLists<T> {
     /// Where each list begins, and then where the last one ends.
-    starts: Vec<usize>,
+    starts: Vec<u32>,
     members: Vec<T>,
 }
 
@@ -25,7 +25,7 @@ impl<T> Model for PackedLists<T> {
 
 impl<T: Copy> PackedLists<T> {
     /// The members, cut into lists at these starts.
-    pub(crate) fn new(starts: Vec<usize>, members: Vec<T>) -> Self
+    pub(crate) fn new(starts: Vec<u32>, members: Vec<T>) -> Self
         requires { AreStarts starts.items (length members.items) }
         ensures { result ≡ lists_of starts.items members.items }
     {
@@ -56,6 +56,6 @@ impl<T: Copy> PackedLists<T> {
     {
         let start = self.starts[i];
         let end = self.starts[i + 1];
-        &things[start..end]
+        &things[start as usize..end as usize]
     }
 }

@@ -4,12 +4,13 @@
 //! (`specs/`). It opens no file and knows no command line. What can go wrong is a `Fault` of `chip_command`.
 #![tactic(auto)]
 
-pub use chip_command::PlayOptions;
-pub use chip_simulate::{ReplayOptions, SimulateOptions, replay_engine, replay_engine_with};
-pub use chip_simulate::{simulate_engine, simulate_engine_with};
-
 pub use avalanches::{avalanches_engine, avalanches_engine_with};
 pub use check::{check_engine, check_engine_with};
+pub use chip_command::PlayOptions;
+pub use chip_simulate::{
+    ReplayOptions, SimulateOptions, replay_engine, replay_engine_with, simulate_engine,
+    simulate_engine_with,
+};
 pub use explain::explain_engine;
 pub use plain::{plain_engine, plain_engine_with, plain_guess_engine_with};
 pub use resume::{resume_engine, resume_engine_with};

@@ -279,7 +279,7 @@ impl RootBooks {
         requires { SomeRoot self.old (λ g s. RootCanDo g s (Settle (root_edge g vertex)) seen) }
         ensures { RootSettles self.old self.new vertex seen result }
     {
-        // (mostly nothing is new: a poll looks at each root edge, and what else is to do stays out of its loop)
+        // (mostly nothing is new: a poll looks at each root edge)
         if self.settled[vertex] == seen {
             return 0;
         }

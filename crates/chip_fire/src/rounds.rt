@@ -56,7 +56,7 @@ pub(crate) fn rounds<W: Watch>(
     let made = make_rounds(game, most, chips, fired, &mut turns);
     watch.rounds(made, game, chips, fired);
     let at_vertices = made.saturating_add(1).min(most).saturating_mul(vertices);
-    let at_edges = turns.saturating_mul(edges / vertices);
+    let at_edges = turns.saturating_mul(edges) / vertices;
     *looks = looks.saturating_add(at_vertices).saturating_add(at_edges);
     made == most
 }

@@ -38,6 +38,8 @@ pub(crate) struct Burning<'a> {
     end: usize,
     /// How many looks a step makes at most.
     pub(crate) looks: u64,
+    /// How many the last one made, up to that.
+    pub(crate) looked: u64,
     /// How many steps were made.
     pub(crate) steps: u64,
     /// In how many of them in a row no vertex burnt.
@@ -71,6 +73,7 @@ impl<'a> Burning<'a> {
             first: 0,
             end: 0,
             looks: 0,
+            looked: 0,
             steps: 0,
             stalled: 0,
             unfired: 0,
@@ -152,6 +155,7 @@ impl<'a> Burning<'a> {
     pub(crate) fn step(&mut self) -> Progress {
         self.steps = self.steps.saturating_add(1);
         if self.hierarchy.kind == Kind::General {
+            self.looked = self.looks;
             return if self.earn_all() {
                 Progress::Going
             } else {
@@ -181,8 +185,10 @@ impl<'a> Burning<'a> {
         // (what is reached through `self` is read anew at each link)
         let vertices = self.vertices.as_mut_slice();
         let (mut unfired, mut unburnt) = (0u64, 0u64);
+        let mut looked = 0u64;
         let mut next = NONE;
         for vertex in self.first..self.end.min(vertices.len()) {
+            looked = looked.wrapping_add(1);
             let own = &mut vertices[vertex];
             if own.is_unburnt() {
                 own.slack = own.slack.wrapping_add(self.hierarchy.finest.degree(vertex));
@@ -208,6 +214,7 @@ impl<'a> Burning<'a> {
                 burns.is_burnt = true;
                 unburnt = unburnt.wrapping_sub(1);
                 let links = outs.links_of(next as usize);
+                looked = looked.wrapping_add(1).wrapping_add(links.len() as u64);
                 next = burns.next;
                 for link in links {
                     bring(vertices, *link, vertex, &mut next);
@@ -216,6 +223,7 @@ impl<'a> Burning<'a> {
         }
         self.unfired = unfired;
         self.unburnt = unburnt;
+        self.looked = looked.min(self.looks);
     }
 
     /// Fires a vertex so often, or takes so many firings back where the number is negative.

@@ -103,16 +103,20 @@ impl<'a> Search<'a> {
             let vertices = (finest.rows.len() as u64).saturating_mul(10);
             let phase = finest.size().saturating_mul(3).saturating_add(vertices);
             let rest = most.saturating_sub(phase).max(*looks);
+            let before = *looks;
             if !spend(looks, self.looks_of_step(), rest) {
                 return Ok(false);
             }
             self.steps = self.steps.saturating_add(1);
-            let phases = self.phases;
+            let (phases, is_burning) = (self.phases, self.stage != Stage::Solving);
             self.stage = match mem::replace(&mut self.stage, Stage::GivenUp) {
                 Stage::Solving => self.solve(alloc)?,
                 Stage::Fitting => self.fit(alloc)?,
                 _ => self.burn(alloc)?,
             };
+            if is_burning {
+                *looks = before.saturating_add(self.burning.looked).min(*looks);
+            }
             if self.phases != phases {
                 spend(looks, phase, most);
             }

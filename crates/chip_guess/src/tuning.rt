@@ -9,8 +9,8 @@ pub const FEW_LOOKS: u64 = 480;
 /// How many looks at each vertex and edge a search may make beside two for each look of the play: as reading takes.
 pub const AHEAD: u64 = 160;
 
-/// How many looks at each vertex and edge the search and the play make in each of their turns.
-pub const TURN: u64 = 16;
+/// How many looks at each vertex and edge the play makes in each of its turns beside a search.
+pub const TURN: u64 = 4;
 
 /// How many looks lie about between two times that it is told how far a play has come: some milliseconds.
 pub const STRETCH: u64 = 1 << 20;

@@ -57,7 +57,7 @@ fn list_legal(graph: &Graph, chips: &[u64], list: &mut [u64]) -> usize
 }
 
 /// The chips and counts with which a play begins.
-fn start(alloc: Global, game: &Game) -> Result<(Vec<u64>, Vec<u64>), AllocError>
+pub(crate) fn start(alloc: Global, game: &Game) -> Result<(Vec<u64>, Vec<u64>), AllocError>
     ensures { IfOk result (λ begun. IsBegun game.now begun.0.items begun.1.items) }
 {
     let chips = Vec::from_slice(alloc, game.start())?;
@@ -239,7 +239,7 @@ fn limit_of_two(rt: HostRuntime) {
 }
 
 /// The last vertex of a long path.
-const END: u64 = 4_095;
+pub(crate) const END: u64 = 4_095;
 
 /// As many vertices as there may be, on a path whose ends lose chips to its sink, the last vertex.
 fn long_path(rt: &(impl AllocGlobal + Abort)) -> Box<Graph> {
@@ -285,15 +285,20 @@ fn plays_a_long_path(rt: HostRuntime) {
     );
 }
 
-/// Compares how often the vertices of the path fire that have one chip each, and one more at this place from the first
-/// end on: as often as their own place is from the nearer end, but no more often than that place is. Whether rounds fire
-/// some of them.
-fn expect_one_more(rt: &(impl AllocGlobal + Abort), place: u64, by_rounds: bool) {
+/// One chip on each vertex of the path, and one more at this place from the first end on.
+pub(crate) fn one_more(rt: &(impl AllocGlobal + Abort), place: u64) -> Box<Game> {
     let mut start = vec![in rt.alloc(); 1; 4_096].expect(rt, "memory");
     if let Some(chips) = start.get_mut(place.saturating_sub(1) as usize) {
         *chips = 2;
     }
     let game = Game::new(Box::into_inner(long_path(rt)), start, 1 << 40).expect(rt, "a game");
+    Box::new(rt.alloc(), game).expect(rt, "memory")
+}
+
+/// Compares how often the vertices of the path fire where one more chip is at this place: as often as their own place is
+/// from the nearer end, but no more often than that place is. Whether rounds fire some of them.
+fn expect_one_more(rt: &(impl AllocGlobal + Abort), place: u64, by_rounds: bool) {
+    let game = one_more(rt, place);
     let mut told = Told::nothing();
     let outcome = plain_watched(rt.alloc(), &game, &mut told).expect(rt, "memory");
     assert!(rt; (told.rounds > 0) == by_rounds);

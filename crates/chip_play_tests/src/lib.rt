@@ -1,4 +1,5 @@
-//! Games, sequences and plays worked out by hand: what no contract says of `chip_graph`, `chip_sequence` and `chip_fire`.
+//! Games, sequences and plays worked out by hand: what no contract says of `chip_graph`, `chip_sequence`, `chip_rounds`
+//! and `chip_fire`.
 #![tactic(auto)]
 
 #[cfg(test)]
@@ -9,5 +10,7 @@ mod games;
 mod given;
 #[cfg(test)]
 mod graph;
+#[cfg(test)]
+mod rounds;
 #[cfg(test)]
 mod sequence;

@@ -71,7 +71,7 @@ class Frames:
 
 def frames(
     graph: AnyGraph, chips: Chips, limits: Iterable[int] | None = None, *, columns: int | None = None,
-    palette: Palette | None = None, large: bool = False, program: AnyProgram = None,
+    palette: Palette | None = None, program: AnyProgram = None,
 ) -> Frames:
     """The play of these chips as it stands at growing limits: each vertex may fire so often at most.
 

@@ -16,7 +16,7 @@ import weakref
 from collections.abc import Iterable, Mapping, Sequence
 from typing import TYPE_CHECKING, Any, Union
 
-from chipfire.values import HERE, MAX_EDGES, MAX_LARGE_EDGES, MAX_LARGE_VERTICES, MAX_VERTICES, FileName, own_text
+from chipfire.values import HERE, MAX_LARGE_EDGES, MAX_LARGE_VERTICES, FileName, own_text
 
 if TYPE_CHECKING:
     from chipfire.graphs import Graph
@@ -135,8 +135,7 @@ def ask(
     """Runs a command, and returns what it writes, which `begins` so; a fault is raised. `graph` is the one that is
     asked about, if Python has it. An option that is None or False is left out, and one that is True has no value."""
     path = find_program() if program is None else os.fspath(program)
-    is_large = graph is None or graph.vertices > MAX_VERTICES or len(graph.columns.tails) > MAX_EDGES
-    options = {"large": is_large, **(options or {})}
+    options = {"large": command != "explain", **(options or {})}
     given = {name: value for name, value in options.items() if value is not None and value is not False}
     names = [f"/dev/fd/{it.number}" if isinstance(it, Kept) else os.fspath(it) for _, it in inputs]
     names = [f"./{name}" if name.startswith("-") else name for name in names]  # (it is no option)

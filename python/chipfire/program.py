@@ -93,7 +93,7 @@ class _Question:
         return ask(self.program, command, [self.file, *inputs], words, self.own, *begins)
 
 
-def check(graph: AnyGraph, *, large: bool = False, program: AnyProgram = None) -> Check:
+def check(graph: AnyGraph, *, program: AnyProgram = None) -> Check:
     """Looks whether a graph is one that chipfire takes: each vertex with its degree and its distance to the sink."""
     lines = [line.split() for line in _Question(graph, program).ask("check", [], "vertices ").splitlines()]
     vertices, edges, sink = (int(words[1]) for words in lines[:3])
@@ -103,7 +103,7 @@ def check(graph: AnyGraph, *, large: bool = False, program: AnyProgram = None) -
 
 def plain(
     graph: AnyGraph, chips: Chips, *, limit: int | None = None, guess: Chips | Report | None = None,
-    large: bool = False, progress: bool = False, program: AnyProgram = None,
+    progress: bool = False, program: AnyProgram = None,
 ) -> Report:
     """Stabilizes: plays on one thread until no vertex is legal, or all that are have fired `limit` times.
 
@@ -119,8 +119,8 @@ def plain(
 
 
 def verify(
-    graph: AnyGraph, chips: Chips, report: Report | Chips, *, limit: int | None = None, large: bool = False,
-    progress: bool = False, program: AnyProgram = None,
+    graph: AnyGraph, chips: Chips, report: Report | Chips, *, limit: int | None = None, progress: bool = False,
+    program: AnyProgram = None,
 ) -> bool:
     """Whether a report is what `plain` finds for this game and limit; or, in a form of chips, whether counts are those.
     A name is that of the file of a report. One that was stopped by a smaller limit may be honest, and is not verified.
@@ -145,8 +145,8 @@ def verify(
 
 
 def drops(
-    graph: AnyGraph, chips: Chips, vertices: Iterable[Hashable] | FileName, *, large: bool = False,
-    progress: bool = False, program: AnyProgram = None,
+    graph: AnyGraph, chips: Chips, vertices: Iterable[Hashable] | FileName, *, progress: bool = False,
+    program: AnyProgram = None,
 ) -> Drops:
     """Drops one chip after another, each on what the play of the one before it left, by one start of the program.
 
@@ -233,10 +233,10 @@ def resume(
 def explain(number: int | None = None, *, program: AnyProgram = None) -> str:
     """What the fault with this number means and what to do; without a number the table of all faults."""
     words: list[Input] = [] if number is None else [("number", str(whole(number, "a fault's number")))]
-    return ask(program, "explain", words, {"large": None}, begins="fault ")
+    return ask(program, "explain", words, begins="fault ")
 
 
-def identity(graph: AnyGraph, *, large: bool = False, program: AnyProgram = None) -> Configuration:
+def identity(graph: AnyGraph, *, program: AnyProgram = None) -> Configuration:
     """The recurrent identity: of the recurrent configurations, the one that adds nothing to any of them."""
     graph = known_graph(graph, program)
     return Configuration(graph, identity_numbers(graph, program))

@@ -28,15 +28,13 @@ def _held(graph: AnyGraph, chips: Chips, program: AnyProgram) -> Configuration:
     return Configuration(known, known_chips(known, chips, program))
 
 
-def stabilize(graph: AnyGraph, chips: Chips, *, large: bool = False, program: AnyProgram = None) -> Configuration:
+def stabilize(graph: AnyGraph, chips: Chips, *, program: AnyProgram = None) -> Configuration:
     """What lies there when no vertex can fire any more: `plain(graph, chips).configuration`.
     Proved: the chips, which are those of every play to the end, in any order. Not proved: that they are passed on."""
     return _held(graph, chips, program).stabilize(program=program)
 
 
-def add(
-    graph: AnyGraph, first: Chips, second: Chips, *, large: bool = False, program: AnyProgram = None
-) -> Configuration:
+def add(graph: AnyGraph, first: Chips, second: Chips, *, program: AnyProgram = None) -> Configuration:
     """The stable sum: both configurations together, stabilized. The recurrent ones are a group under it.
     Proved: the stabilization. Not proved: that Python adds."""
     known = known_graph(graph, program)
@@ -49,7 +47,7 @@ def is_stable(graph: AnyGraph, chips: Chips) -> bool:
     return _held(graph, chips, None).is_stable()
 
 
-def burning_script(graph: AnyGraph, *, large: bool = False, program: AnyProgram = None) -> Configuration:
+def burning_script(graph: AnyGraph, *, program: AnyProgram = None) -> Configuration:
     """The least burning script, by Speer: how often each vertex fires when a recurrent configuration burns.
 
     It fires each vertex at least once, on an undirected graph exactly once, and leaves no vertex with more chips than
@@ -59,14 +57,14 @@ def burning_script(graph: AnyGraph, *, large: bool = False, program: AnyProgram 
     return Configuration(known, burning(known, program)[0])
 
 
-def burning_configuration(graph: AnyGraph, *, large: bool = False, program: AnyProgram = None) -> Configuration:
+def burning_configuration(graph: AnyGraph, *, program: AnyProgram = None) -> Configuration:
     """The chips that `burning_script` takes away. Added to a recurrent configuration and stabilized, it comes back.
     Proved: the counts of the play that `burning_script` tells of. Not proved: that they come to these chips."""
     known = known_graph(graph, program)
     return Configuration(known, burning(known, program)[1])
 
 
-def is_recurrent(graph: AnyGraph, chips: Chips, *, large: bool = False, program: AnyProgram = None) -> bool:
+def is_recurrent(graph: AnyGraph, chips: Chips, *, program: AnyProgram = None) -> bool:
     """Whether a configuration is recurrent: stable, and what each can become by more chips and firings.
 
     This is the burning test, for directed multigraphs too: a configuration is recurrent exactly if it comes back when
@@ -75,9 +73,7 @@ def is_recurrent(graph: AnyGraph, chips: Chips, *, large: bool = False, program:
     return _held(graph, chips, program).is_recurrent(program=program)
 
 
-def recurrent_representative(
-    graph: AnyGraph, chips: Chips, *, large: bool = False, program: AnyProgram = None
-) -> Configuration:
+def recurrent_representative(graph: AnyGraph, chips: Chips, *, program: AnyProgram = None) -> Configuration:
     """The one recurrent configuration to which firings, also backward, lead from this one; chips may be below 0.
     It is the stable sum with the recurrent identity; if some are below 0, chips that are equivalent to none are added.
     Proved: the stabilizations. Not proved: the sums between them."""
@@ -100,7 +96,7 @@ def superstable_representative(graph: AnyGraph, chips: Chips, *, program: AnyPro
     return most - recurrent_representative(held.graph, most - held, program=program)
 
 
-def is_superstable(graph: AnyGraph, chips: Chips, *, large: bool = False, program: AnyProgram = None) -> bool:
+def is_superstable(graph: AnyGraph, chips: Chips, *, program: AnyProgram = None) -> bool:
     """Whether a configuration is superstable: no vertices can fire together, not even several times each.
 
     Together they may fire if none is left with fewer than 0 chips. On an undirected graph these are the parking
@@ -232,16 +228,14 @@ class Avalanche:
         return {name: after - before for name, (before, after) in zip(names, counts) if after > before}
 
 
-def avalanche(
-    graph: AnyGraph, chips: Chips, vertex: Hashable, *, large: bool = False, program: AnyProgram = None
-) -> Avalanche:
+def avalanche(graph: AnyGraph, chips: Chips, vertex: Hashable, *, program: AnyProgram = None) -> Avalanche:
     """What happens when one chip is dropped on a vertex of a stable configuration.
     Proved: `size`, `extent`, `lost`, and the plays that `fired` and `configuration` come from. Not proved: the rest."""
     return next(avalanches(graph, chips, [vertex], program=program))
 
 
 def avalanches(
-    graph: AnyGraph, chips: Chips, vertices: Iterable[Hashable], *, large: bool = False, program: AnyProgram = None
+    graph: AnyGraph, chips: Chips, vertices: Iterable[Hashable], *, program: AnyProgram = None
 ) -> Iterator[Avalanche]:
     """The avalanches of one chip after another: each is dropped on a vertex of what the one before it left.
 

@@ -24,7 +24,7 @@ import chipfire.model
 
 grid = chipfire.grid(3, 3)
 chips: dict[int, int] = {4: 9}
-report = chipfire.plain(grid, chips, limit=3, guess={4: 2}, large=True)
+report = chipfire.plain(grid, chips, limit=3, guess={4: 2})
 left: tuple[int, ...] = report.chips
 sum_: chipfire.Configuration = report.configuration + grid.max_stable() - 2 * chipfire.identity(grid)
 print(sum_[0] + 1, chipfire.Program().verify(grid, chips, report), chipfire.machine.Schedule().take(4).fire(0, 2))
@@ -91,7 +91,7 @@ class Modules(unittest.TestCase):
 class Signatures(unittest.TestCase):
     def test_the_options_of_each_command_are_told(self):
         told = {name: list(inspect.signature(getattr(chipfire, name)).parameters) for name in COMMANDS}
-        self.assertEqual(told["plain"], ["graph", "chips", "limit", "guess", "large", "progress", "program"])
+        self.assertEqual(told["plain"], ["graph", "chips", "limit", "guess", "progress", "program"])
         self.assertIn("workers", told["run"])
         for name in COMMANDS:
             method = getattr(chipfire.Program("/nowhere"), name)

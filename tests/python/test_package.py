@@ -148,7 +148,7 @@ class Plain(WithFolder):
         options = {"limit": 1, "ring": 2, "workers": 3, "dealt": True, "turns": 4, "trace_rows": 5, "progress": True}
         program = self.program(f'echo "$@" >{self.file("words")}')
         chipfire.run(TRIANGLE, {0: 4}, trace="/trace", feed=CHIPS_FILE, program=program, **options)
-        words = "--limit=1 --ring=2 --workers=3 --dealt --turns=4 --trace-rows=5 --progress --trace=/trace"
+        words = "--large --limit=1 --ring=2 --workers=3 --dealt --turns=4 --trace-rows=5 --progress --trace=/trace"
         handed = text_of(self.file("words")).split()
         self.assertEqual(set(handed[3:]), {*words.split(), f"--feed={CHIPS_FILE}"})
 
@@ -246,26 +246,37 @@ class Large(WithFolder):
 
     def test_a_large_graph_is_looked_at(self):
         wanted = chipfire.Check(5000, 4999, 4999, (2,) * 4999 + (0,), (1,) * 4999 + (0,))
-        self.assertEqual(chipfire.check(self.FAN, large=True), wanted)
+        self.assertEqual(chipfire.check(self.FAN), wanted)
 
     def test_a_large_game_in_one_sitting_and_in_two(self):
-        whole = chipfire.plain(self.FAN, self.CHIPS, large=True, progress=True)
+        whole = chipfire.plain(self.FAN, self.CHIPS, progress=True)
         self.assertEqual(whole, chipfire.Report((1, 1, *[0] * 4996, 1, 6), (2, 0, *[0] * 4996, 1, 0)))
-        self.assertEqual(chipfire.stabilize(self.FAN, self.CHIPS, large=True), whole.configuration)
-        first = chipfire.plain(self.FAN, self.CHIPS, limit=1, large=True)
+        self.assertEqual(chipfire.stabilize(self.FAN, self.CHIPS), whole.configuration)
+        first = chipfire.plain(self.FAN, self.CHIPS, limit=1)
         self.assertEqual((first.over, first.chips[4999]), ((0,), 4))
-        second = chipfire.resume(self.FAN, first, large=True)
+        second = chipfire.resume(self.FAN, first)
         self.assertEqual((second.chips, second.total, second.over), (whole.chips, whole.fired, ()))
 
     def test_a_large_game_of_files(self):
         self.FAN.write(self.file("graph.json"))
         chipfire.write_chips(self.file("chips.csv"), self.FAN, self.CHIPS)
-        report = chipfire.plain(self.file("graph.json"), self.file("chips.csv"), large=True)
+        report = chipfire.plain(self.file("graph.json"), self.file("chips.csv"))
         self.assertEqual((report.fired[0], report.graph, sum(report.odometer.values())), (2, self.FAN, 3))
         report.write(self.file("report.json"))
-        self.assertEqual(chipfire.resume(self.file("graph.json"), self.file("report.json"), large=True).total[0], 2)
+        self.assertEqual(chipfire.resume(self.file("graph.json"), self.file("report.json")).total[0], 2)
 
-    def test_the_word_is_not_needed(self):
+    def test_a_small_graph_has_large_files(self):
+        # (17 million bytes, which is more than a program takes without --large)
+        rows = "00000000000000000002,00000000000000000001\n" * 400_000
+        found = chipfire.drops(TRIANGLE, {}, self.file("drops.csv", f"vertex,chips\n{rows}"))
+        self.assertEqual((len(found), found.report), (400_000, chipfire.Report((0, 0, 400_000), (0, 0, 0))))
+        with open(self.file("large.csv"), "w", encoding="ascii") as file:
+            file.truncate(2**28 + 1)
+        with self.assertRaisesRegex(chipfire.Fault, "plain takes .* files of up to 268435456 bytes") as caught:
+            chipfire.plain(TRIANGLE, file.name)
+        self.assertEqual(caught.exception.name, "TooLong")
+
+    def test_large_graphs_and_files_of_them(self):
         self.FAN.write(self.file("graph.json"))
         for graph in (self.FAN, self.file("graph.json")):
             self.assertEqual(chipfire.check(graph).edges, 4999)
@@ -285,15 +296,15 @@ class Large(WithFolder):
         most = chipfire.MAX_LARGE_VERTICES
         for vertices, fault in [(most, (8, (1,))), (most + 1, (1, ()))]:
             with self.subTest(vertices=vertices):
-                self.assertEqual(self.fault_of(chipfire.check, chipfire.Graph(vertices, 0, ()), large=True), fault)
+                self.assertEqual(self.fault_of(chipfire.check, chipfire.Graph(vertices, 0, ())), fault)
 
     def test_the_identity_of_a_large_grid(self):
         grid = chipfire.grid(70, 70)
-        identity = chipfire.identity(grid, large=True)
-        self.assertTrue(chipfire.is_recurrent(grid, identity, large=True))
-        self.assertEqual(chipfire.add(grid, identity, identity, large=True), identity)
+        identity = chipfire.identity(grid)
+        self.assertTrue(chipfire.is_recurrent(grid, identity))
+        self.assertEqual(chipfire.add(grid, identity, identity), identity)
         self.assertEqual(identity, {70 * (square % 70) + square // 70: chips for square, chips in identity.items()})
-        self.assertEqual(chipfire.recurrent_representative(grid, {}, large=True), identity)
+        self.assertEqual(chipfire.recurrent_representative(grid, {}), identity)
 
 
 class Detector(WithFolder):

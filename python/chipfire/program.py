@@ -34,6 +34,8 @@ _RANGES = {
     "limit": (0, MAX_LIMIT), "ring": (1, 64), "workers": (1, 64), "turns": (1, 2**40), "trace_rows": (0, 2**20),
     "rounds": (0, 2**40),
 }
+#: The options that are there or not.
+_FLAGS = {"progress", "dealt", "books", "fed"}
 
 
 class Check(NamedTuple):
@@ -89,6 +91,8 @@ class _Question:
         for name, value in options.items():
             if name in _RANGES and value is not None:
                 options[name] = whole(value, name, *_RANGES[name])
+            elif name in _FLAGS:
+                options[name] = bool(value)
         words = {name.replace("_", "-"): value for name, value in options.items()}
         return ask(self.program, command, [self.file, *inputs], words, self.own, *begins)
 
@@ -217,13 +221,16 @@ def replay(
 
 
 def resume(
-    graph: AnyGraph, report: Report | FileName, *, limit: int | None = None, large: bool = False,
+    graph: AnyGraph, report: Report | FileName, *, limit: int | None = None, progress: bool = False,
     program: AnyProgram = None,
 ) -> Report:
     """Goes on from where a limit or a seal stopped a play; `total` of what comes is what was fired in all.
-    A report of another graph is refused if it knows its own, or cannot be one of this; `prior` is not checked."""
+    A report of another graph is refused if it knows its own, or cannot be one of this; `prior` is not checked.
+    `progress` is as in `plain`."""
+    if not isinstance(report, (Report, *FILE)):
+        raise TypeError(f"a report is a chipfire.Report or the name of a file, and not of {type(report).__name__}")
     question, own = _Question(graph, program), None if isinstance(report, FILE) else report
-    text = question.ask("resume", [_input("report", report, Report.text)], limit=limit)
+    text = question.ask("resume", [_input("report", report, Report.text)], limit=limit, progress=progress)
     found = Report.parse(text, question.graph)
     if own and not (own.graph.is_like(question.graph) if own.graph else own.fits(question.graph)):
         raise ValueError("the report is one of another graph")

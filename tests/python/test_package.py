@@ -141,8 +141,16 @@ class Plain(WithFolder):
         lines = ["chipfire: progress: 1 rounds, 3 firings", "chipfire: progress: 2 rounds, 4 firings"]
         program = self.program("; ".join(f"echo '{line}' >&2" for line in lines))
         with contextlib.redirect_stderr(io.StringIO()) as told:
-            report = chipfire.plain(TRIANGLE, [4, 0, 0], program=program, progress=True)
-        self.assertEqual((report.fired, told.getvalue().splitlines()), ((2, 1, 0), lines))
+            reports = [chipfire.plain(TRIANGLE, [4, 0, 0], program=program, progress=True)]
+            reports.append(chipfire.resume(TRIANGLE, reports[0], program=program, progress=True))
+        self.assertEqual(([it.fired for it in reports], told.getvalue().splitlines()), ([(2, 1, 0)] * 2, 2 * lines))
+
+    def test_what_is_there_or_not_goes_by_its_truth(self):
+        program = self.program(f'echo "$@" >{self.file("words")}')
+        for value in (1, "yes", [0], 0, "", None):
+            chipfire.plain(TRIANGLE_FILE, CHIPS_FILE, progress=value, program=program)
+            words = ["plain", TRIANGLE_FILE, CHIPS_FILE, "--large", *["--progress"] * bool(value)]
+            self.assertEqual(text_of(self.file("words")).split(), words)
 
     def test_each_option_is_handed_on(self):
         options = {"limit": 1, "ring": 2, "workers": 3, "dealt": True, "turns": 4, "trace_rows": 5, "progress": True}

@@ -75,21 +75,26 @@ def is_recurrent(graph: AnyGraph, chips: Chips, *, program: AnyProgram = None) -
 
 def recurrent_representative(graph: AnyGraph, chips: Chips, *, program: AnyProgram = None) -> Configuration:
     """The one recurrent configuration to which firings, also backward, lead from this one; chips may be below 0.
-    It is the stable sum with the recurrent identity; if some are below 0, chips that are equivalent to none are added.
+    It is the stable sum with the recurrent identity, after chips that are equivalent to none lifted all to 0 or more.
+    Whether it is recurrent is tested before it is returned.
     Proved: the stabilizations. Not proved: the sums between them."""
     held = _held(graph, chips, program)
-    held += identity(held.graph, program)
     if min(held.numbers) < 0:
         # (a chip for each edge out, less what these become, is equivalent to none, and 1 on each vertex at least)
         degrees = Configuration(held.graph, held.graph.degrees())
         lift = degrees - degrees.stabilize(program=program)
-        held += max(-count // more + 1 for count, more in zip(held.numbers, lift.numbers) if more) * lift
-    return held.stabilize(program=program)
+        held += max(-(count // more) for count, more in zip(held.numbers, lift.numbers) if more) * lift
+    # (a sum is recurrent if one of the two is, and no chips of the other are below 0)
+    found = (held + identity(held.graph, program)).stabilize(program=program)
+    if not found.is_recurrent(program=program):
+        raise RuntimeError("what was found is not recurrent, by a mistake of this package")
+    return found
 
 
 def superstable_representative(graph: AnyGraph, chips: Chips, *, program: AnyProgram = None) -> Configuration:
     """The one superstable configuration that is equivalent to this one, the q-reduced one; chips may be below 0.
-    With `m` the maximal stable configuration, it is `m` less the recurrent representative of `m` less this one.
+    With `m` the maximal stable configuration, it is `m` less the recurrent representative of `m` less this one. So it
+    is tested too.
     Proved: the stabilizations. Not proved: the sums between them."""
     held = _held(graph, chips, program)
     most = held.graph.max_stable()

@@ -1,11 +1,13 @@
 """Chips as arrays and as configurations, and what is asked of these: against hand, and against model.py beside this."""
 import collections
+import functools
 import importlib
 import itertools
 import json
 import random
 import tempfile
 import unittest
+from unittest import mock
 
 import chipfire
 import model
@@ -166,6 +168,47 @@ class Less(unittest.TestCase):
                     self.assertTrue(model.are_equivalent(graph, chips, found.numbers))
                     self.assertTrue(found.is_recurrent() and found.is_stable())
             self.assertEqual(len(recurrent), len({tuple(it) for it in recurrent}))
+
+    def test_representatives_of_all_chips_near_0(self):
+        stabilized = functools.cache(model.stabilized)
+
+        def played(chips, program=None):
+            self.assertGreaterEqual(min(chips.numbers), 0)
+            return stabilized(chips.graph, chips.numbers)
+
+        differ = "two that differ"
+        by_program = [("a cycle", chipfire.cycle(3)), ("a path", chipfire.path(2)), (differ, DIRECTED[differ])]
+        by_hand = [("a path", chipfire.path(3)), ("K4", chipfire.complete(4)), ("a grid", chipfire.grid(2, 2)),
+                   ("the sink among them", DIRECTED["the sink among them"])]
+        for how, graph in by_program:
+            self.check_all(how, graph, None)
+        with mock.patch("chipfire.chips.played", played):
+            for how, graph in by_hand:
+                self.check_all(how, graph, "nowhere")
+
+    def check_all(self, how, graph, program):
+        """The representatives of all chips from -2 to two more than the degree."""
+        class_of, recurrents = model.classes(graph), model.recurrents(graph)
+        superstables = [tuple(full(graph, chips)) for chips in model.superstables(graph)]
+        # (each class has one of each)
+        wanted = [{class_of(chips): chips for chips in some} for some in (recurrents, superstables)]
+        self.assertEqual([len(it) for it in wanted], [len(recurrents)] * 2)
+        degrees = [row[at] for at, row in enumerate(model.reduced(graph))]
+        for chips in itertools.product(*(range(-2, degree + 3) for degree in degrees)):
+            if how == "a grid" and chips[0] < max(chips):
+                continue  # (turned, it is one of the others)
+            chips = full(graph, chips)
+            found = [call(graph, chips, program=program).numbers for call in
+                     (chipfire.recurrent_representative, chipfire.superstable_representative)]
+            self.assertEqual(found, [it[class_of(chips)] for it in wanted], (how, chips))
+
+    def test_what_is_not_recurrent_is_not_returned(self):
+        graph = chipfire.cycle(3)
+        with mock.patch("chipfire.sandpiles.identity", return_value=[0, 0, 0]):
+            self.assertEqual(chipfire.recurrent_representative(graph, 2), {1: 1, 2: 1})
+            for call, chips in [(chipfire.recurrent_representative, 0), (chipfire.superstable_representative, 1)]:
+                with self.assertRaisesRegex(RuntimeError, "not recurrent"):
+                    call(graph, chips)
 
     def test_they_are_not_played(self):
         for call in (chipfire.plain, chipfire.stabilize):

@@ -26,8 +26,10 @@ _CARRIED = os.path.join(HERE, "program", "chipfire")
 _REPOSITORY = os.path.dirname(os.path.dirname(HERE))
 #: The faults of a graph file, and of a file of rows.
 _OF_GRAPH, _OF_ROWS = (*range(1, 9), 20, 21, 22), (*range(23, 29), 10)
-#: What makes a process end with the one that started it (PR_SET_PDEATHSIG), if the system has that.
+#: What makes a process end with the thread that started it (PR_SET_PDEATHSIG), if the system has that; and the words
+#: that have setpriv do the same, sooner than Python makes a copy of itself to do it.
 _PRCTL = ctypes.CDLL(None).prctl if sys.platform == "linux" else None
+_SETPRIV = "setpriv", "--pdeathsig", "KILL", "--"
 
 
 class ProgramNotFound(FileNotFoundError):
@@ -174,26 +176,45 @@ def _meant(
     return f"in {' or '.join(names)}" if names and number <= 53 else ""
 
 
+@functools.cache
+def _has_setpriv() -> bool:
+    """Whether setpriv is there, and can do what `_started` has it do."""
+    setpriv = shutil.which(_SETPRIV[0])
+    words = [*_SETPRIV, _while_alive(setpriv or ""), "--version"]
+    quiet = subprocess.DEVNULL
+    return setpriv is not None and subprocess.run(words, stdin=quiet, stdout=quiet, stderr=quiet).returncode == 0
+
+
+def _while_alive(file: str) -> str:
+    """A name of a file that leads to it only as long as this process lives."""
+    return f"/proc/{os.getpid()}/root{os.path.abspath(file)}"
+
+
+def _bind(parent: int) -> None:
+    """Ends this process with the thread that started it, also if that has ended before."""
+    if _PRCTL is not None:
+        _PRCTL(1, signal.SIGKILL)
+        if os.getppid() != parent:
+            os._exit(1)
+
+
 def _started(words: Sequence[str], kept: Sequence[int] = ()) -> tuple[int, str, list[str]]:
     """Runs the program to its end, or to that of this Python, and returns its status, its output, and the lines of its
-    errors. What it tells meanwhile of its progress goes to `sys.stderr`."""
+    errors. What it tells meanwhile of its progress goes to `sys.stderr`.
+
+    The signal that the end of this Python sends comes only to who has asked for it before. If this Python ends sooner,
+    setpriv, which asks first, does not find the program."""
     errors: list[str] = []
-    parent = os.getpid()
-
-    def bind() -> None:
-        if _PRCTL is not None:
-            _PRCTL(1, signal.SIGKILL)
-            if os.getppid() != parent:
-                os._exit(1)
-
+    program = shutil.which(words[0])
+    if program is None:
+        raise ProgramNotFound(2, "no program that can be started", words[0])
+    by_setpriv = _has_setpriv()
+    command = [*_SETPRIV, _while_alive(program)] if by_setpriv else [program]
     with tempfile.TemporaryFile("w+", encoding="utf-8", newline="") as output:
-        try:
-            running = subprocess.Popen(
-                words, stdin=subprocess.DEVNULL, stdout=output, stderr=subprocess.PIPE, encoding="utf-8",
-                errors="replace", pass_fds=kept, preexec_fn=bind,
-            )
-        except (FileNotFoundError, PermissionError) as error:
-            raise ProgramNotFound(error.errno, "no program that can be started", words[0]) from None
+        running = subprocess.Popen(
+            [*command, *words[1:]], stdin=subprocess.DEVNULL, stdout=output, stderr=subprocess.PIPE, encoding="utf-8",
+            errors="replace", pass_fds=kept, preexec_fn=None if by_setpriv else functools.partial(_bind, os.getpid()),
+        )
         with running:
             try:
                 for line in running.stderr or ():

@@ -6,6 +6,7 @@ its schedules in examples/detector/README.md, and examples/ has the files that a
 import contextlib
 import gc
 import io
+import itertools
 import json
 import os
 import pickle
@@ -20,6 +21,8 @@ import unittest
 from unittest import mock
 
 import chipfire
+import model
+from chipfire import process
 
 HERE = os.path.dirname(os.path.realpath(__file__))
 ROOT = os.path.dirname(os.path.dirname(HERE))
@@ -597,21 +600,28 @@ class Killed(WithFolder):
 
     # (a shell that starts the tests beside others has them ignore SIGINT)
     PLAY = ("import chipfire, signal, threading\nsignal.signal(signal.SIGINT, signal.default_int_handler)\n"
+            "if %r: chipfire.process._has_setpriv = lambda: False\n"
             "g = chipfire.grid(9, 9)\n"
-            "play = lambda: chipfire.plain(g, {0: 4}, program='%s')\n%s")
+            "play = lambda: chipfire.plain(g, {0: 4}, program=%r)\n%s")
 
-    def begun(self, how):
-        """A Python that plays, and the process of its program, which does not end by itself."""
-        part, whole = self.file("part"), self.file("pid")
-        program = self.program(f"echo $$ >{part} && mv {part} {whole}; exec sleep 60")
+    def setUp(self):
+        super().setUp()
         os.mkdir(self.file("temporary"))
-        environment = {**os.environ, "TMPDIR": self.file("temporary")}
-        python = subprocess.Popen([sys.executable, "-c", self.PLAY % (program, how)], env=environment,
+        self.file("pids", "")
+
+    def begun(self, how, is_copied=False, before=""):
+        """A Python that plays by a program that does not end by itself, either started by setpriv or as a copy."""
+        program = self.program(f"echo $$ >>{self.file('pids')}; exec sleep 60")
+        environment = {**os.environ, "TMPDIR": self.file("temporary"), "PATH": before + os.environ["PATH"]}
+        python = subprocess.Popen([sys.executable, "-c", self.PLAY % (is_copied, program, how)], env=environment,
                                   stderr=subprocess.DEVNULL)
         self.addCleanup(python.wait)
         self.addCleanup(python.kill)
-        self.wait(lambda: os.path.exists(self.file("pid")))
-        return python, int(text_of(self.file("pid")))
+        return python
+
+    def processes(self, name="pids"):
+        """The numbers of processes that a file has."""
+        return [int(line) for line in text_of(self.file(name)).splitlines(True) if line.endswith("\n")]
 
     def wait(self, is_so):
         for _ in range(500):
@@ -630,19 +640,49 @@ class Killed(WithFolder):
 
     @unittest.skipUnless(sys.platform == "linux", "only Linux tells a process that its parent ended")
     def test_the_program_ends_with_python_and_leaves_no_file(self):
-        for sent in (signal.SIGTERM, signal.SIGKILL, signal.SIGINT):
-            for how in ("play()", "threading.Thread(target=play).start()"):
-                if sent == signal.SIGINT and how != "play()":
-                    continue
-                with self.subTest(sent, how=how):
-                    python, process = self.begun(how)
-                    self.assertTrue(self.is_running(process))
-                    python.send_signal(sent)
-                    self.wait(lambda: not self.is_running(process))
-                    python.wait(10)
-                    self.assertEqual(os.listdir(self.file("temporary")), [])
-                    for name in ("temporary", "pid"):
-                        os.rmdir(self.file(name)) if name == "temporary" else os.remove(self.file(name))
+        thread = "threading.Thread(target=play).start()"
+        cases = [(signal.SIGTERM, "play()"), (signal.SIGINT, "play()"), (signal.SIGKILL, "play()"),
+                 (signal.SIGTERM, thread), (signal.SIGKILL, thread)]
+        for (sent, how), is_copied in itertools.product(cases, (False, True)):
+            with self.subTest(sent, how=how, is_copied=is_copied):
+                self.file("pids", "")
+                python = self.begun(how, is_copied)
+                self.wait(self.processes)
+                self.assertTrue(self.is_running(*self.processes()))
+                python.send_signal(sent)
+                self.wait(lambda: not self.is_running(*self.processes()))
+                python.wait(10)
+                self.assertEqual(os.listdir(self.file("temporary")), [])
+
+    @unittest.skipUnless(process._has_setpriv(), "this system has no setpriv that sets a signal for a parent's end")
+    def test_a_python_that_ends_before_setpriv_has_asked_starts_no_program(self):
+        # Another setpriv comes first on the path. It waits, and begins after Python has ended.
+        waits = f"echo $$ >>{self.file('waiting')}; until test -e {self.file('go')}; do sleep 0.05; done"
+        script = f"#!/bin/sh\ncase $* in *--version) ;; *) {waits};; esac\nexec {shutil.which('setpriv')} \"$@\"\n"
+        os.mkdir(self.file("first"))
+        os.chmod(self.file("first/setpriv", script), 0o755)
+        for how in ("play()", "threading.Thread(target=play).start()"):
+            self.file("waiting", "")
+            python = self.begun(how, before=self.file("first") + ":")
+            self.wait(lambda: self.processes("waiting"))
+            python.kill()
+            python.wait(10)
+            self.assertTrue(self.is_running(*self.processes("waiting")))
+            self.file("go", "")
+            self.wait(lambda: not self.is_running(*self.processes("waiting")))
+            self.assertEqual(self.processes(), [])
+            os.remove(self.file("go"))
+
+    @unittest.skipUnless(sys.platform == "linux", "only Linux tells a process that its parent ended")
+    def test_a_python_that_is_killed_at_once(self):
+        # (from before the program starts until after it has: whichever is first, nothing is left)
+        for step in range(20):
+            python = self.begun("play()", is_copied=step % 4 == 3)
+            time.sleep(0.12 + 0.01 * step)
+            python.kill()
+            python.wait(10)
+        time.sleep(0.5)
+        self.wait(lambda: not any(map(self.is_running, self.processes())))
 
     def test_a_graph_is_written_once_and_goes_with_the_object(self):
         graph, count = chipfire.grid(4, 4), lambda: len(os.listdir("/dev/fd"))

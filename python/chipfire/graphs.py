@@ -7,8 +7,11 @@ import functools
 import itertools
 import json
 import os
+import threading
+import weakref
 from array import array
-from collections.abc import Callable, Hashable, Iterable, Iterator, Mapping, Sequence
+from collections import Counter, OrderedDict
+from collections.abc import Callable, Hashable, Iterable, Iterator, Mapping, Sequence, Set
 from typing import Any, NamedTuple
 
 from chipfire.chips import Chips, Configuration
@@ -23,6 +26,10 @@ _BESIDE: dict[str, Sequence[Sequence[tuple[int, int]]]] = {
 }
 #: How many edges become text at a time.
 _PART = 2**16
+#: The files of the graphs that were asked about last, by the graph's `id`, and how many of them are kept.
+_FILES: OrderedDict[int, tuple[weakref.ref[Graph], Kept]] = OrderedDict()
+_MOST_FILES = 64
+_FILES_LOCK = threading.Lock()
 
 
 class Columns(NamedTuple):
@@ -95,9 +102,6 @@ class Graph:
     def __setattr__(self, name: str, value: Any) -> None:
         raise AttributeError("a graph is never changed: make another one")
 
-    def __getstate__(self) -> dict[str, Any]:
-        return {name: value for name, value in vars(self).items() if name != "kept"}
-
     def __eq__(self, other: object) -> bool:
         if not isinstance(other, Graph):
             return False
@@ -157,10 +161,17 @@ class Graph:
         with open(file, "wb") as out:
             out.writelines(self._parts())
 
-    @functools.cached_property
+    @property
     def kept(self) -> Kept:
-        """The graph file that the program reads. It stays as long as this graph does."""
-        return Kept(self._parts())
+        """The graph file that the program reads. It stays as long as this graph, or until 64 others are asked about."""
+        key = id(self)
+        with _FILES_LOCK:
+            if key not in _FILES:
+                _FILES[key] = weakref.ref(self, lambda _: _FILES.pop(key, None)), Kept(self._parts())
+            _FILES.move_to_end(key)
+            if len(_FILES) > _MOST_FILES:
+                _FILES.popitem(last=False)  # (whoever plays on that graph has the file as long as that takes)
+            return _FILES[key][1]
 
     def _parts(self) -> Iterator[bytes]:
         """The text of the graph file in parts."""

@@ -701,6 +701,19 @@ class Killed(WithFolder):
         copy = pickle.loads(kept)
         self.assertEqual((copy, copy.shape, chipfire.plain(copy, {0: 9}).fired[0]), (chipfire.grid(4, 4), (4, 4), 2))
 
+    def test_many_graphs_keep_few_files_open(self):
+        play = ("import chipfire, concurrent.futures, resource\n"
+                "resource.setrlimit(resource.RLIMIT_NOFILE, (128, 128))\n"
+                "paths = [chipfire.path(1 + n % 7) for n in range(200)]\n"
+                "play = lambda graph: chipfire.plain(graph, {0: 9}).chips[0]\n"
+                "one = [play(path) for path in paths + paths[:9]]\n"
+                "with concurrent.futures.ThreadPoolExecutor(4) as pool: several = list(pool.map(play, paths))\n"
+                "print(one[:200] == several, *one[200:])")
+        ran = subprocess.run([sys.executable, "-c", play], capture_output=True, encoding="utf-8")
+        paths = [chipfire.path(1 + n % 7) for n in range(9)]
+        wanted = [model.stabilized(path, [9, *[0] * (path.vertices - 1)])[0][0] for path in paths]
+        self.assertEqual((ran.stdout.split(), ran.stderr), (["True", *map(str, wanted)], ""))
+
 
 class Checks(unittest.TestCase):
     def test_the_triangle(self):

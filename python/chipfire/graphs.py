@@ -2,7 +2,6 @@
 
 from __future__ import annotations
 
-import contextlib
 import functools
 import itertools
 import json
@@ -40,13 +39,20 @@ class Columns(NamedTuple):
     mults: array[int]
 
 
-def _columns(edges: Iterable[Sequence[Any]]) -> Columns:
-    """Rows (tail, head) or (tail, head, mult) by columns."""
+def _rows(edges: Iterable[Any]) -> list[tuple[Any, ...]]:
+    """Edges (tail, head) or (tail, head, mult), all with their multiplicity."""
     rows = []
     for edge, row in enumerate(edges):
-        if len(row) not in (2, 3):
+        fields = tuple(row) if isinstance(row, Iterable) else ()
+        if len(fields) not in (2, 3):
             raise ValueError(f"edge {edge} is neither (tail, head) nor (tail, head, mult): {row!r}")
-        rows.append(row if len(row) == 3 else (*row, 1))
+        rows.append((*fields, 1)[:3])
+    return rows
+
+
+def _columns(edges: Iterable[Any]) -> Columns:
+    """Rows (tail, head) or (tail, head, mult) by columns."""
+    rows = _rows(edges)
 
     def column(place: int, what: str) -> array[int]:
         return array("i", wholes([row[place] for row in rows], lambda edge: f"the {what} of edge {edge}", 0, 2**31 - 1))
@@ -75,6 +81,7 @@ class Graph:
     names     what the vertices are called in dicts, by number; their numbers, if none are given
     shape     how many rows and columns a picture of it has, or None; `squares` has the place of each vertex in them,
               by rows; a sink that is the last vertex has none
+    from_sink edges out of the sink, rows (head, mult) that only `laplacian` shows; None: one back for each edge into it
 
     A graph is never changed. The program says whether chipfire takes it: `check(graph)`.
     """
@@ -84,11 +91,13 @@ class Graph:
     columns: Columns
     names: Sequence[Hashable]
     squares: Sequence[int]
+    from_sink: Sequence[tuple[int, int]] | None
     answers: dict[Any, Any]  # (what was found out about it)
 
     def __init__(
         self, vertices: int, sink: int, edges: Iterable[Sequence[int]], names: Sequence[Hashable] = (),
         shape: tuple[int, int] | None = None, squares: Sequence[int] | None = None,
+        from_sink: Sequence[tuple[int, int]] | None = (),
     ) -> None:
         vertices, sink, names = whole(vertices, "the number of vertices"), whole(sink, "the sink"), tuple(names)
         if names and not len(names) == len(set(names)) == vertices:
@@ -96,7 +105,7 @@ class Graph:
         vars(self).update(
             vertices=vertices, sink=sink, columns=edges if isinstance(edges, Columns) else _columns(edges),
             names=names or range(vertices), answers={}, **({} if shape is None else {"shape": shape}),
-            squares=range(vertices - (sink == vertices - 1)) if squares is None else squares,
+            squares=range(vertices - (sink == vertices - 1)) if squares is None else squares, from_sink=from_sink,
         )
 
     def __setattr__(self, name: str, value: Any) -> None:
@@ -136,11 +145,8 @@ class Graph:
     def undirected(cls, edges: Iterable[Sequence[Any]], sink: Any) -> Graph:
         """The graph of edges (name, name) or (name, name, mult), each of which is one edge each way.
         The order of the names, or else that in which they come, gives the numbers. Sinks are as in `from_networkx`."""
-        rows: list[tuple[Any, ...]] = [(*edge, 1)[:3] for edge in edges]
-        names: list[Any] = list(dict.fromkeys(name for row in rows for name in row[:2]))
-        with contextlib.suppress(TypeError):
-            names.sort()
-        return _named(names, sink, rows, False)
+        rows = _rows(edges)
+        return _named(_ordered(dict.fromkeys(name for row in rows for name in row[:2])), sink, rows, False)
 
     @classmethod
     def read(cls, file: FileName) -> Graph:
@@ -325,7 +331,7 @@ class Graph:
 def _both_ways(vertices: int, sink: int, pairs: Iterable[tuple[int, int]], shape: Any = None) -> Graph:
     """The graph with an edge each way for each pair, but none out of the sink."""
     rows = sorted((tail, head, 1) for u, v in pairs for tail, head in ((u, v), (v, u)) if tail != sink)
-    return Graph(vertices, sink, rows, shape=shape)
+    return Graph(vertices, sink, rows, shape=shape, from_sink=None)
 
 
 def grid(width: int, height: int) -> Graph:
@@ -342,7 +348,7 @@ def grid(width: int, height: int) -> Graph:
         return _columns(_beside([(it, *divmod(it, width)) for it in squares], at, "square", sink))
 
     if not inner:
-        return Graph(sink + 1, sink, edges(range(sink)), shape=(height, width))
+        return Graph(sink + 1, sink, edges(range(sink)), shape=(height, width), from_sink=None)
     # (between the first row and the last each square has four edges: up, left, right, down, or some to the sink)
     squares, tails = array("i", range(sink)), array("i", [0]) * (4 * len(inner))
     heads = tails[:]
@@ -354,7 +360,8 @@ def grid(width: int, height: int) -> Graph:
     heads[step - 2 :: step], heads[step - 1 :: step] = heads[step - 1 :: step], sinks
     middle = Columns(tails, heads, array("i", [1]) * len(tails))
     parts = zip(edges(range(width)), middle, edges(range(sink - width, sink)))
-    return Graph(sink + 1, sink, Columns(*(one + two + three for one, two, three in parts)), shape=(height, width))
+    columns = Columns(*(one + two + three for one, two, three in parts))
+    return Graph(sink + 1, sink, columns, shape=(height, width), from_sink=None)
 
 
 def _beside(
@@ -386,7 +393,7 @@ def region(mask: Iterable[Iterable[Any]], lattice: str = "square") -> Graph:
     numbers = {divmod(square, width): vertex for vertex, square in enumerate(squares)}
     found = ((vertex, *place) for place, vertex in numbers.items())
     edges = _beside(found, lambda row, column: numbers.get((row, column)), lattice, len(squares))
-    return Graph(len(squares) + 1, len(squares), edges, shape=(len(rows), width), squares=squares)
+    return Graph(len(squares) + 1, len(squares), edges, shape=(len(rows), width), squares=squares, from_sink=None)
 
 
 def aztec(size: int) -> Graph:
@@ -400,7 +407,8 @@ def path(length: int) -> Graph:
     """A path of so many vertices whose two ends lose a chip to the sink, which is the last vertex."""
     length = whole(length, "the length of a path", 1)
     edges = [(v, u, 1) for v in range(length) for u in (v - 1, v + 1) if 0 <= u < length]
-    return Graph(length + 1, length, [*edges, (0, length, 1), (length - 1, length, 1)], shape=(1, length))
+    edges += [(0, length, 1), (length - 1, length, 1)]
+    return Graph(length + 1, length, edges, shape=(1, length), from_sink=None)
 
 
 def cycle(length: int) -> Graph:
@@ -430,42 +438,57 @@ def complete(vertices: int) -> Graph:
     return _both_ways(vertices, 0, ((u, v) for u in range(vertices) for v in range(u)))
 
 
+def _ordered(names: Iterable[Any]) -> list[Any]:
+    """Names in their order, or in that in which they come if they have none."""
+    names = list(names)
+    try:
+        return sorted(names)
+    except TypeError:
+        return names
+
+
 def _named(names: Iterable[Hashable], sink: Any, edges: Iterable[tuple[Any, ...]], is_directed: bool) -> Graph:
-    """A graph of named vertices, without the edges out of the sink, since it never fires."""
+    """A graph of named vertices. Edges out of the sink are in the Laplacian alone, since it never fires."""
     names, edges, is_one = list(names), list(edges), not isinstance(sink, (list, set, frozenset))
     edges += [] if is_directed else [(head, tail, mult) for tail, head, mult in edges]
-    several = [sink] if is_one else [*sink]
+    several, known = {sink} if is_one else {*sink}, {*names}
     for name in several:
-        if name not in names:
+        if name not in known:
             raise KeyError(f"the graph has no vertex {name!r}")
+    if not several:
+        raise ValueError("the list of sinks is empty")
     if not is_one:
         names, sink = [*(name for name in names if name not in several), "sink"], "sink"
+        if "sink" in names[:-1]:
+            raise ValueError("a vertex that is none of the sinks is called 'sink', as the one that they become")
     numbers = {name: vertex for vertex, name in enumerate(names)}
     numbers |= dict.fromkeys(several, numbers[sink])
     rows = [
         (numbers[tail], numbers[head], whole(mult, f"the multiplicity of the edge from {tail!r} to {head!r}", 1))
         for tail, head, mult in edges
-        if numbers[tail] != numbers[sink]
     ]
-    return Graph(len(names), numbers[sink], rows, names)
+    at = numbers[sink]
+    back = [(head, mult) for tail, head, mult in rows if tail == at != head]
+    return Graph(len(names), at, [row for row in rows if row[0] != at], names, from_sink=back)
 
 
 def from_networkx(graph: Any, sink: Any, weight: str | None = "weight") -> Graph:
     """A graph of NetworkX, of any of its four kinds, with one of its vertices as the sink, or a list or set of them.
 
     An edge sends as many chips as its attribute of the name `weight` says, a whole number above 0; without that, or if
-    `weight` is None, it sends one. An undirected edge is one edge each way. Edges out of the sink are left out. The
-    vertices keep their names; a list or a set of sinks becomes one vertex, the last, whose name is "sink"."""
+    `weight` is None, it sends one. An undirected edge is one edge each way. Edges out of the sink are in the Laplacian
+    alone. Vertices keep their names; a list or a set of sinks becomes one vertex, the last, whose name is "sink"."""
     return _named(graph.nodes(), sink, graph.edges(data=weight, default=1), graph.is_directed())
 
 
 def from_sage(graph: Any, sink: Any = None) -> Graph:
     """A graph of SageMath: a `Sandpile` with the sink that it has, or a `DiGraph` or `Graph` and its sink.
     An edge sends as many chips as its label says, or one if it has none; one of label 0, which Sage adds in some
-    graphs, is left out. All else is as in `from_networkx`."""
+    graphs, is left out. Vertices have the order of Sage's `vertices()`. All else is as in `from_networkx`."""
     if sink is None:
         if not hasattr(graph, "sink") or not hasattr(graph, "nonsink_vertices"):
             raise ValueError("which vertex is the sink?")
         sink = graph.sink()
     labelled = ((tail, head, 1 if label is None else label) for tail, head, label in graph.edge_iterator(labels=True))
-    return _named(graph.vertex_iterator(), sink, (edge for edge in labelled if edge[2] != 0), graph.is_directed())
+    edges = (edge for edge in labelled if edge[2] != 0)
+    return _named(_ordered(graph.vertex_iterator()), sink, edges, graph.is_directed())

@@ -156,7 +156,11 @@ def recurrents(graph: AnyGraph, *, program: AnyProgram = None) -> Iterator[Confi
 
 
 def laplacian(graph: AnyGraph, *, sparse: bool = False) -> Any:
-    """The Laplacian, rows as lists, or `sparse` by SciPy: what each vertex sends away, less what it sends to each."""
+    """The Laplacian, rows as lists, or `sparse` by SciPy: what each vertex sends away, less what it sends to each.
+
+    The sink never fires, but has a row too. In an undirected graph (a family, `Graph.undirected`, one of NetworkX or
+    Sage) it sends back what it gets, so the matrix is symmetric. In a directed graph of NetworkX or Sage it has the
+    edges that it has there. In a `Graph` of rows, which has no edge out of the sink, and in one of a file it is 0."""
     return _matrix(smith.laplacian(known_graph(graph)), sparse)
 
 

@@ -4,6 +4,7 @@ import functools
 import importlib
 import itertools
 import json
+import pickle
 import random
 import tempfile
 import unittest
@@ -273,16 +274,35 @@ class Groups(unittest.TestCase):
             self.assertEqual(chipfire.order(graph), product)
 
     def test_laplacians(self):
-        for graph in [*DIRECTED.values(), GRID, chipfire.torus(3, 3), random_graph(random.Random(29), 6, 3)]:
+        for graph in [*DIRECTED.values(), chipfire.Graph(1, 0, []), random_graph(random.Random(29), 6, 3)]:
             self.assertEqual(chipfire.laplacian(graph), model.laplacian(graph))
             self.assertEqual(chipfire.reduced_laplacian(graph), model.reduced(graph))
+
+    def test_laplacians_of_undirected_graphs_are_symmetric(self):
+        triangle = [[2, -1, -1], [-1, 2, -1], [-1, -1, 2]]
+        square = [(1, 2), (2, 3), (3, 4), (4, 1), (1, 3)]
+        for graph, wanted in [
+            (chipfire.cycle(3), triangle), (chipfire.complete(3), triangle), (chipfire.path(2), triangle),
+            (chipfire.grid(1, 1), [[4, -4], [-4, 4]]),
+            (chipfire.Graph.undirected([("a", "b", 2), ("b", "c")], "b"), [[2, -2, 0], [-2, 3, -1], [0, -1, 1]]),
+            (chipfire.Graph.undirected(square, [1, 3]), [[2, 0, -2], [0, 2, -2], [-2, -2, 4]]),
+        ]:
+            self.assertEqual(chipfire.laplacian(graph), wanted)
+        hexagons, copy = chipfire.region([[1, 1], [0, 1]], "hexagonal"), pickle.loads(pickle.dumps(GRID))
+        for graph in (GRID, TEE, chipfire.grid(1, 4), chipfire.grid(3, 3), chipfire.torus(4, 3), chipfire.wheel(5),
+                      chipfire.aztec(2), hexagons, copy):
+            found = chipfire.laplacian(graph)
+            self.assertEqual((found, {*map(sum, found)}), ([list(column) for column in zip(*found)], {0}))
+            self.assertEqual(chipfire.reduced_laplacian(graph), model.reduced(graph))
+            self.assertEqual([row for at, row in enumerate(found) if at != graph.sink],
+                             [row for at, row in enumerate(model.laplacian(graph)) if at != graph.sink])
 
     @unittest.skipUnless(has("scipy") and has("numpy"), "SciPy is not here")
     def test_sparse_laplacians_and_orders_by_numpy(self):
         import numpy
 
         for graph in [*DIRECTED.values(), GRID, chipfire.grid(1, 1), chipfire.wheel(7), chipfire.Graph(1, 0, [])]:
-            self.assertEqual(chipfire.laplacian(graph, sparse=True).toarray().tolist(), model.laplacian(graph))
+            self.assertEqual(chipfire.laplacian(graph, sparse=True).toarray().tolist(), chipfire.laplacian(graph))
             found = chipfire.reduced_laplacian(graph, sparse=True).toarray()
             self.assertEqual(found.tolist(), model.reduced(graph))
             self.assertEqual(chipfire.order(graph), round(numpy.linalg.det(found)))
@@ -347,6 +367,21 @@ class Families(unittest.TestCase):
             self.assertEqual(collections.Counter(graph.edges), {(0, 2, 1): 2, (1, 2, 1): 2})
         with self.assertRaises(KeyError):
             chipfire.Graph.undirected(square, [1, 9])
+
+    def test_many_sinks_are_not_looked_for_in_lists(self):
+        compared = []
+
+        class Name:
+            __hash__ = object.__hash__
+
+            def __eq__(self, other):
+                compared.append(other)
+                return self is other
+
+        names = [Name() for _ in range(1000)]
+        graph = chipfire.Graph.undirected(zip(names, names[1:]), names[::2])
+        self.assertEqual((graph.vertices, chipfire.order(graph)), (501, 2**499))
+        self.assertLess(len(compared), 1000)
 
     @unittest.skipUnless(has("networkx"), "NetworkX is not here")
     def test_several_vertices_of_networkx_are_one_sink(self):

@@ -3,6 +3,7 @@ import collections
 import importlib.util
 import json
 import os
+import random
 import unittest
 
 import chipfire
@@ -155,8 +156,19 @@ class NetworkX(unittest.TestCase):
         for weight, refusal in [(0, ValueError), (-1, ValueError), (2.5, TypeError), (None, TypeError)]:
             drawn = networkx.Graph()
             drawn.add_edge("a", "b", weight=weight)
-            with self.assertRaisesRegex(refusal, "from 'b' to 'a'"):
+            with self.assertRaisesRegex(refusal, "the edge from 'a' to 'b'"):
                 chipfire.from_networkx(drawn, "a")
+
+    def test_laplacians_have_degrees_and_edges(self):
+        import networkx
+
+        for drawn in (networkx.path_graph(5), networkx.petersen_graph(), networkx.gnm_random_graph(9, 20, seed=3)):
+            wanted = [[drawn.degree(u) if u == v else -drawn.number_of_edges(u, v) for v in drawn] for u in drawn]
+            for sink in (0, 3):
+                self.assertEqual(chipfire.laplacian(chipfire.from_networkx(drawn, sink)), wanted)
+        drawn = networkx.DiGraph([("a", "b"), ("b", "c"), ("c", "a")])
+        found = chipfire.laplacian(chipfire.from_networkx(drawn, "c"))
+        self.assertEqual(found, [[1, -1, 0], [0, 1, -1], [-1, 0, 1]])
 
     def test_a_sink_that_is_no_vertex(self):
         import networkx
@@ -166,7 +178,7 @@ class NetworkX(unittest.TestCase):
 
 
 class Labelled:
-    """What a graph of SageMath has: vertices, and edges with labels."""
+    """What a graph of SageMath has: vertices, which come in any order, and edges with labels."""
 
     def __init__(self, vertices, edges, directed=True):
         self.vertices, self.edges, self.directed = vertices, edges, directed
@@ -193,6 +205,25 @@ class Sunk(Labelled):
 
 class LikeSage(unittest.TestCase):
     """Graphs that answer as those of SageMath do, which need not be here."""
+
+    def test_vertices_have_the_order_that_sage_gives_them(self):
+        for case in CASES:
+            mixed = random.Random(1).sample(case.names, len(case.names))
+            graph = chipfire.from_sage(Sunk([*mixed, case.sink], case.edges))
+            with self.subTest(case.how):
+                self.assertEqual([name for name in graph.names if name != case.sink], case.names)
+                self.assertEqual(list(graph.names), sorted(graph.names))
+                for play in case.stored["plays"]:
+                    self.assertEqual(list(chipfire.stabilize(graph, play["chips"]).values()), play["stable"])
+        self.assertEqual(chipfire.from_sage(Labelled(["b", 1], [("b", 1, 2)]), 1).names, ("b", 1))
+
+    def test_the_laplacian_is_that_of_sage(self):
+        # (worked by hand: Sage's has a row for the sink, too)
+        directed = chipfire.from_sage(Sunk(["a", "b", "out"], self.EDGES))
+        self.assertEqual(chipfire.laplacian(directed), [[3, -3, 0], [-1, 3, -2], [-1, 0, 1]])
+        path = chipfire.from_sage(Labelled([0, 1, 2], [(0, 1, None), (1, 2, 4)], directed=False), 1)
+        self.assertEqual(chipfire.laplacian(path), [[1, -1, 0], [-1, 5, -4], [0, -4, 4]])
+        self.assertEqual(chipfire.reduced_laplacian(path), [[1, 0], [0, 4]])
 
     EDGES = [("a", "b", 3), ("b", "a", None), ("b", "out", 2), ("out", "a", 1), ("a", "out", 0)]
 

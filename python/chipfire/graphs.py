@@ -100,8 +100,10 @@ class Graph:
         from_sink: Sequence[tuple[int, int]] | None = (),
     ) -> None:
         vertices, sink, names = whole(vertices, "the number of vertices"), whole(sink, "the sink"), tuple(names)
-        if names and not len(names) == len(set(names)) == vertices:
-            raise ValueError("each vertex has one name, and no two the same")
+        if names and len(names) != vertices:
+            raise ValueError(f"there are {len(names)} names, and the graph has {vertices} vertices")
+        if len({*names}) < len(names):
+            raise ValueError(f"two vertices are called {Counter(names).most_common(1)[0][0]!r}")
         vars(self).update(
             vertices=vertices, sink=sink, columns=edges if isinstance(edges, Columns) else _columns(edges),
             names=names or range(vertices), answers={}, **({} if shape is None else {"shape": shape}),
@@ -197,9 +199,11 @@ class Graph:
 
     def number(self, name: Hashable) -> int:
         """The number of the vertex with this name; a KeyError says that there is none."""
-        if name not in self._numbers:
-            raise KeyError(f"the graph has no vertex {name!r}")
-        return self._numbers[name]
+        if isinstance(name, Hashable) and name in self._numbers:
+            return self._numbers[name]
+        is_square = isinstance(name, tuple) and isinstance(self.names, range) and isinstance(self.squares, range)
+        hint = f": that of a square is {self.shape[1]} * row + column" if is_square and self.shape else ""
+        raise KeyError(f"the graph has no vertex {name!r}{hint}")
 
     @functools.cached_property
     def _numbers(self) -> dict[Hashable, int]:
@@ -248,14 +252,18 @@ class Graph:
         for count, most, word in sizes:
             if count > most:
                 return f"the graph has {count} {word}, and {most} at most can be played on"
-        last = max(self.sink, max(tails, default=0), max(heads, default=0))
-        if last >= self.vertices:
-            return f"the sink or an end of an edge is {last}, and there are {self.vertices} vertices"
+        if self.sink >= self.vertices:
+            return f"the sink is {self.sink}, and there are {self.vertices} vertices"
+        if max(max(tails, default=0), max(heads, default=0)) >= self.vertices:
+            edge = next(edge for edge, ends in enumerate(zip(tails, heads)) if max(ends) >= self.vertices)
+            return f"edge {edge} leads from {tails[edge]} to {heads[edge]}, and there are {self.vertices} vertices"
         into: list[list[int]] = [[] for _ in range(self.vertices)]
-        for tail, head, mult in zip(*self.columns):
+        for edge, (tail, head, mult) in enumerate(zip(*self.columns)):
             if not 1 <= mult <= MAX_MULT or tail in (head, self.sink):
+                sends = f"sends {mult} chips, and 1 to {MAX_MULT} can be sent"
+                why = "is a loop" if tail == head else "leaves the sink"
                 ends = f"from {self.names[tail]!r} to {self.names[head]!r}"
-                return f"the edge {ends} sends no chip or more than {MAX_MULT}, is a loop or leaves the sink"
+                return f"edge {edge} {ends} {why if 1 <= mult <= MAX_MULT else sends}"
             into[head].append(tail)
         reached, waiting = {self.sink}, [self.sink]
         for vertex in waiting:
@@ -280,20 +288,19 @@ class Graph:
 
         They come by names from what has items, as dicts and Series of pandas; as an array of the graph's shape, or rows
         of one; as a sequence with a number for each vertex, or for each but the sink; as one number for each but the
-        sink; and a report has its own."""
+        sink; and a report has its own. A configuration goes by names. Both are refused if they are of another graph."""
         return self.numbers(chips, least=0)
 
-    def numbers(self, values: Any, least: int | None = None) -> tuple[int, ...]:
-        """The same, of `least` or more if that is said."""
-        if hasattr(values, "fired") and hasattr(values, "chips"):
+    def numbers(self, values: Any, least: int | None = None, of: str = "chips") -> tuple[int, ...]:
+        """The same, of `least` or more if that is said; or numbers of something else, as of "firings"."""
+        is_report = hasattr(values, "fired") and hasattr(values, "chips")
+        if is_report or isinstance(values, Configuration):
             if values.graph is not None and not values.graph.is_like(self):
-                raise ValueError("the report is one of another graph")
-            values = values.chips
-        if isinstance(values, Configuration) and values.graph is self:
-            rows: Sequence[Any] = values.numbers
-        else:
-            rows = self._by_names(values) if hasattr(values, "items") else self._in_order(values)
-        return tuple(wholes(rows, lambda vertex: f"the number of chips of vertex {self.names[vertex]!r}", least))
+                raise ValueError(f"the {'report' if is_report else 'configuration'} is one of another graph")
+            if is_report or values.graph.names == self.names:
+                values = values.chips if is_report else values.numbers
+        rows = self._by_names(values) if hasattr(values, "items") else self._in_order(values, of)
+        return tuple(wholes(rows, lambda vertex: f"the number of {of} of vertex {self.names[vertex]!r}", least))
 
     def _by_names(self, values: Mapping[Hashable, Any]) -> list[Any]:
         found: dict[int, Any] = {}
@@ -303,28 +310,31 @@ class Graph:
             found[self.number(name)] = count
         return [found.get(vertex, 0) for vertex in range(self.vertices)]
 
-    def _in_order(self, values: Any) -> list[Any]:
+    def _in_order(self, values: Any, of: str) -> list[Any]:
         values = values.tolist() if hasattr(values, "tolist") else values
+        if isinstance(values, (Set, str, bytes)):
+            kind = type(values).__name__
+            raise TypeError(f"{of} are a dict by names, or numbers in an order, and no {kind}: {values!r}")
         rows = list(values) if isinstance(values, Iterable) else [values] * (self.vertices - 1)
-        if rows and all(isinstance(row, Iterable) for row in rows):
-            return self._by_squares([list(row) for row in rows])
+        if rows and all(isinstance(row, Iterable) and not isinstance(row, str) for row in rows):
+            return self._by_squares([list(row) for row in rows], of)
         if len(rows) == self.vertices - 1:
             rows.insert(self.sink, 0)
         if len(rows) != self.vertices:
-            raise ValueError(f"there are chips for {len(rows)} vertices, and the graph has {self.vertices}")
+            raise ValueError(f"there are {of} for {len(rows)} vertices, and the graph has {self.vertices}")
         return rows
 
-    def _by_squares(self, rows: list[list[Any]]) -> list[Any]:
+    def _by_squares(self, rows: list[list[Any]], of: str) -> list[Any]:
         """What stands in rows of the graph's shape, by numbers of vertices; the sink's square counts for nothing."""
         if self.shape is None or {*map(len, rows)} != {self.shape[1]} or len(rows) != self.shape[0]:
             widths = " or ".join(map(str, sorted({*map(len, rows)})))
-            raise ValueError(f"the chips stand in {len(rows)} rows of {widths}, and the graph has shape {self.shape}")
+            raise ValueError(f"the {of} stand in {len(rows)} rows of {widths}, and the graph has shape {self.shape}")
         flat = list(itertools.chain(*rows))
         found = [0] * self.vertices
         for vertex, square in enumerate(self.squares):
             found[vertex], flat[square] = (0 if vertex == self.sink else flat[square]), 0
         if any(flat):
-            raise ValueError("there are chips on a square that is no vertex of the graph")
+            raise ValueError(f"there are {of} on a square that is no vertex of the graph")
         return found
 
 

@@ -15,7 +15,7 @@ from typing import Any, NamedTuple
 from chipfire import model
 from chipfire.graphs import Graph
 from chipfire.reports import Report
-from chipfire.values import MAX_LIMIT, MAX_VERTICES, FileName, begins, own_text, read_rows, rows_text, write
+from chipfire.values import MAX_LIMIT, MAX_VERTICES, FileName, begins, own_text, read_rows, rows_text, whole, write
 
 SCHEDULE_HEADER = ("event", "at", "count")
 NOTED_HEADER = (*SCHEDULE_HEADER, "note")
@@ -220,13 +220,21 @@ def _engaged(line: str) -> tuple[int, Books]:
 @dataclass(frozen=True)
 class Setting:
     """How a game is set up that a schedule plays: the graph, the chips of each vertex at the start, how often each may
-    fire, how many cells the ring of each edge has, and whether the schedule may feed chips."""
+    fire, how many cells the ring of each edge has, and whether the schedule may feed chips. Chips of any form become
+    numbers by vertex."""
 
     graph: Graph
     chips: tuple[int, ...]
     limit: int = MAX_LIMIT
     ring: int = 1
     fed: bool = False
+
+    def __post_init__(self) -> None:
+        if not isinstance(self.graph, Graph):
+            raise TypeError(f"the graph of a setting is a chipfire.Graph, and not of {type(self.graph).__name__}")
+        object.__setattr__(self, "chips", self.graph.chips(self.chips))
+        whole(self.limit, "limit", 0, MAX_LIMIT)
+        whole(self.ring, "ring", 1, 64)
 
 
 @dataclass(frozen=True)

@@ -167,6 +167,9 @@ def _meant(
     if number in (1, 3, 30):
         most = f"{MAX_LARGE_VERTICES} vertices, up to {MAX_LARGE_EDGES} edges, and files of up to {2**28} bytes"
         return f"{words[0]} takes 1 to {most}."
+    if number == 91:
+        kept = {f"/dev/fd/{file.number}": f"({kind})" for kind, file in inputs if isinstance(file, Kept)}
+        return f"it does not take the words `{' '.join(kept.get(word, word) for word in words)}`"
     if number == 92:
         return f"{re.sub('^--[a-z]+=', '', words[place[0]])} cannot be opened, or is also written"
     kinds = {kind: file for kind, file in inputs if not isinstance(file, Kept) or kind in ("schedule", "trace")}

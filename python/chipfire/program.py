@@ -85,7 +85,8 @@ class _Question:
         return known_graph(self.given, self.program)
 
     def chips(self, chips: Chips, kind: str = "chips", header: Sequence[str] = CHIPS_HEADER) -> Input:
-        return _input(kind, chips, lambda given: chips_text(self.graph.chips(given), header))
+        of = "chips" if header is CHIPS_HEADER else "firings"
+        return _input(kind, chips, lambda given: chips_text(self.graph.numbers(given, 0, of), header))
 
     def ask(self, command: str, inputs: Sequence[Input], *begins: str, **options: Any) -> str:
         for name, value in options.items():
@@ -131,7 +132,7 @@ def verify(
     Proved: the verdict on a report. Not proved: the chips that counts alone leave, which Python computes."""
     question = _Question(graph, program)
     if not isinstance(report, (Report, *FILE)):
-        known, counts = question.graph, question.graph.numbers(report)
+        known, counts = question.graph, question.graph.numbers(report, of="firings")
         chips = known_chips(known, chips, program)
         left = known.position_after(chips, counts)
         over = [vertex for vertex, degree in enumerate(known.degrees()) if 0 < degree <= left[vertex]]

@@ -50,6 +50,26 @@ class Forms(unittest.TestCase):
         self.assertEqual(chipfire.add(GRID, iter(range(6)), iter([0] * 6)), chipfire.stabilize(GRID, ROWS))
         self.assertTrue(chipfire.verify(GRID, iter(range(6)), chipfire.plain(GRID, ROWS).fired))
 
+    def test_configurations_of_another_graph_are_refused(self):
+        wide, high = chipfire.grid(4, 3), chipfire.grid(3, 4)
+        small, long = chipfire.grid(2, 2), chipfire.path(3)
+        for call, arguments in [
+            (chipfire.is_recurrent, (high, chipfire.identity(wide))), (chipfire.add, (small, 1, long.max_stable())),
+            (chipfire.Configuration, (high, wide.max_stable())), (high.max_stable().__add__, (wide.max_stable(),)),
+            (chipfire.drops, (high, wide.max_stable(), [0])), (chipfire.verify, (high, 0, wide.max_stable())),
+        ]:
+            with self.subTest(call), self.assertRaisesRegex(ValueError, "the configuration is one of another graph"):
+                call(*arguments)
+
+    def test_configurations_of_the_same_graph_go_by_names(self):
+        graph = chipfire.Graph(3, 2, [(0, 1), (1, 0), (0, 2), (1, 2)], ["a", "b", "out"])
+        chips = chipfire.Configuration(graph, {"a": 1, "b": 2})
+        for names, wanted in [(["a", "b", "out"], (1, 2, 0)), (["b", "a", "out"], (2, 1, 0))]:
+            other = chipfire.Graph(3, 2, graph.edges[::-1], names)
+            self.assertEqual(other.chips(chips), wanted)
+        with self.assertRaisesRegex(KeyError, "no vertex 'a'"):
+            chipfire.Graph(3, 2, graph.edges).chips(chips)
+
     def test_one_number_is_that_of_all_but_the_sink(self):
         self.assertEqual(GRID.chips(4), (4,) * 6 + (0,))
         self.assertEqual(chipfire.torus(3, 3).chips(2), (0,) + (2,) * 8)

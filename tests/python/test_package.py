@@ -515,7 +515,8 @@ class Mistakes(WithFolder):
     def test_vertices_are_called_by_their_names(self):
         for edges, said in [
             ([("a", "b"), ("b", "a")], "no walk leads to the sink from 2 of the vertices: 'a', 'b'"),
-            ([("a", "out"), ("b", "b")], "the edge from 'b' to 'b'"), ([("a", "out"), ("out", "b")], "'out' to 'b'"),
+            ([("a", "out"), ("b", "b")], "edge 1 from 'b' to 'b' is a loop"),
+            ([("a", "out"), ("out", "b")], "edge 1 from 'out' to 'b' leaves the sink"),
         ]:
             names = ["a", "b", "out"]
             graph = chipfire.Graph(3, 2, [tuple(map(names.index, edge)) for edge in edges], names)
@@ -562,6 +563,14 @@ class Mistakes(WithFolder):
         for call, others in [(chipfire.plain, [{}]), (chipfire.resume, [report]), (chipfire.replay, [{}, []])]:
             with self.assertRaisesRegex(ValueError, "^limit is above"):
                 call(TRIANGLE, *others, limit=2**41)
+
+    def test_words_that_the_program_does_not_take_are_told(self):
+        fault = self.fault(chipfire.explain, 999)
+        self.assertEqual((fault.number, fault.words), (91, "it does not take the words `explain 999`"))
+        program = self.program("test $1 = explain || { echo 'chipfire: fault 91 Usage' >&2; exit 1; }")
+        fault = self.fault(chipfire.plain, TRIANGLE, CHIPS_FILE, limit=3, program=program)
+        said = f"it does not take the words `plain (graph) {CHIPS_FILE} --large --limit=3`"
+        self.assertTrue(str(fault).startswith(f"fault 91 Usage: {said}"), fault)
 
     def test_what_is_no_graph_at_all(self):
         for value in (None, 3, {0: [1]}):

@@ -105,12 +105,16 @@ class Picture:
         head = f'<svg xmlns="http://www.w3.org/2000/svg" {size} shape-rendering="crispEdges" role="img">'
         return "\n".join([head, f"<title>{html.escape(self.title)}</title>", *shapes, "</svg>\n"])
 
-    def legend(self, used: Iterable[int] | None = None) -> str:
-        """What the colours mean that are used, or that stand in the picture, as HTML; of spread ones, the two ends."""
+    def labels(self) -> list[str]:
+        """What each colour means; of spread ones, the two ends."""
         last = len(self.palette) - 2
-        labels = [*map(str, range(last)), f"{last} or more", "the sink"]
         if self.most is not None:
-            labels = ["0", *[""] * (last - 1), f"{self.most:,}", "the sink"]
+            return ["0", *[""] * (last - 1), f"{self.most:,}", "the sink"]
+        return [*map(str, range(last)), f"{last} or more", "the sink"]
+
+    def legend(self, used: Iterable[int] | None = None) -> str:
+        """What the colours mean that are used, or that stand in the picture, as HTML."""
+        labels = self.labels()
         box = '<span style="display:inline-block;width:1em;height:1em;border:1px solid #555;background:{}"></span> {}'
         shown = sorted({*(itertools.chain(*self.rows) if used is None else used)})
         return "&ensp;".join(box.format(self.palette[it], labels[it]) for it in shown if labels[it])
@@ -136,6 +140,13 @@ class Picture:
             size = min(max(1, min(SCALE, _MOST_POINTS // longest)) * width, _MOST_POINTS)
             drawn = f'<img alt="{title}" src="{self.data()}" width="{size}" style="image-rendering:pixelated">'
         return f"<figure>{drawn}<figcaption>{title}<br>{self.legend()}</figcaption></figure>"
+
+
+def _spread(counts: Iterable[int], scale: str, most: int, last: int) -> list[int]:
+    """The colours of counts, from 0 to the last one, which the most has."""
+    spread = _SPREADS[scale]
+    top = spread(most) or 1
+    return [min(int(last * spread(max(count, 0)) / top), last) for count in counts]
 
 
 def colours_of(palette: Palette) -> tuple[str, ...]:
@@ -215,10 +226,8 @@ class Drawn:
         if scale:
             if scale not in _SPREADS:
                 raise ValueError(f"a scale is 'linear' or 'log', and not {scale!r}")
-            spread = _SPREADS[scale]
             most = max((count for vertex, count in enumerate(values) if vertex != sink), default=0)
-            top = spread(most) or 1
-            numbers = [min(int(last * spread(max(count, 0)) / top), last) for count in values]
+            numbers = _spread(values, scale, most, last)
         if sink is not None:
             numbers[sink] = last + 1
         if positions is None:
@@ -259,14 +268,27 @@ class Drawn:
         return self.array().astype(dtype or "int64")
 
     def plot(
-        self, columns: int | None = None, palette: Palette | None = None, axes: Any = None, *, of: str = "chips"
+        self, columns: int | None = None, palette: Palette | None = None, axes: Any = None, *, of: str = "chips",
+        scale: str | None = None, positions: Positions | None = None, bar: bool = False,
     ) -> Any:
-        """Draws the picture by Matplotlib into axes, or into new ones, which it returns."""
+        """Draws the picture by Matplotlib into axes, or into new ones, which it returns. A colour `bar` stands beside
+        it if that is wanted; all else is as in `picture`."""
         colors, pyplot = (library(f"matplotlib.{it}", "a plot is one of Matplotlib") for it in ("colors", "pyplot"))
-        picture = self.picture(columns, palette, of=of)
+        picture = self.picture(columns, palette, of=of, scale=scale, positions=positions)
         axes = pyplot.subplots()[1] if axes is None else axes
         cmap = colors.ListedColormap(picture.palette)
-        axes.imshow([list(row) for row in picture.rows], cmap=cmap, vmin=0, vmax=len(picture.palette) - 1)
+        last = len(picture.palette) - 2
+        image = axes.imshow([list(row) for row in picture.rows], cmap=cmap, vmin=-0.5, vmax=last + 1.5)
+        if bar:
+            marks = dict(enumerate(picture.labels()[:-1]))
+            if picture.most is not None:
+                most, powers = picture.most, [10**power for power in range(13) if 2 * 10**power <= picture.most]
+                between = powers if scale == "log" else [most * step // 4 for step in (1, 2, 3)]
+                marks |= {_spread([count], scale or "linear", most, last)[0]: f"{count:,}" for count in between}
+            marks = {number: label for number, label in marks.items() if label}
+            drawn = axes.figure.colorbar(image, ax=axes, ticks=[*marks])
+            drawn.ax.set_yticklabels(marks.values())
+            drawn.ax.set_ylim(-0.5, last + 0.5)
         axes.set_title(picture.title)
         axes.set_axis_off()
         return axes

@@ -6,6 +6,7 @@ and show them too.
 import base64
 import contextlib
 import html
+import importlib
 import io
 import json
 import math
@@ -567,6 +568,34 @@ class Plots(unittest.TestCase):
         (drawn,) = axes.get_images()
         points = drawn.to_rgba(drawn.get_array(), bytes=True)[..., :3].tolist()
         self.assertEqual([[tuple(it) for it in row] for row in points], coloured(position, 5, 15))
+
+    def test_a_plot_has_a_scale_and_a_bar_that_tells_it(self):
+        pyplot = importlib.import_module("matplotlib.pyplot")
+        report = chipfire.plain(chipfire.grid(5, 3), {7: 4000})
+        most = f"{max(report.fired):,}"
+        for options, wanted in [
+            ({}, ["0", "1", "2", "3", "4 or more"]), ({"palette": ["#000000", "#ffffff"]}, ["0", "1 or more"]),
+            ({"of": "odometer", "scale": "log"}, ["0", "1", "10", "100", most]),
+            ({"of": "odometer"}, ["0", *(f"{max(report.fired) * step // 4:,}" for step in (1, 2, 3)), most]),
+        ]:
+            axes = report.plot(bar=True, **options)
+            (drawn,), bar = axes.get_images(), axes.figure.axes[1]
+            marks = dict(zip([label.get_text() for label in bar.get_yticklabels()], bar.get_yticks()))
+            picture = report.picture(**options)
+            with self.subTest(options):
+                self.assertEqual(drawn.get_array().tolist(), [list(row) for row in picture.rows])
+                self.assertEqual(sorted(marks, key=marks.get), wanted)
+                # (the sink has no colour on the bar)
+                self.assertEqual(bar.get_ylim(), (-0.5, len(picture.palette) - 1.5))
+        # (a vertex that fired as often as a mark says has the colour of that mark)
+        chips = chipfire.Report((0,) * 7, (1, 10, 100, 250, 0, 0, 0), graph=chipfire.grid(3, 2))
+        axes = chips.plot(of="odometer", scale="log", bar=True)
+        marks = [label.get_text() for label in axes.figure.axes[1].get_yticklabels()]
+        at = dict(zip(marks, axes.figure.axes[1].get_yticks()))
+        first, second = chips.picture(of="odometer", scale="log").rows
+        self.assertEqual([at[it] for it in ("1", "10", "100", "250", "0", "0")], [*first, *second])
+        self.assertEqual(len(report.plot().figure.axes), 1)
+        pyplot.close("all")
 
 
 if __name__ == "__main__":

@@ -9,7 +9,7 @@ import zlib
 
 from packing import archive, contents, debian, proved, wheel
 from packing.contents import Build
-from packing.repository import ROOT, Refused, sha256
+from packing.repository import ROOT, Refused, content, sha256
 
 #: How the files of each form begin.
 FORMS = {b"\xfd7zXZ\0": archive, b"!<arch>\n": debian, b"PK\3\4": wheel}
@@ -21,8 +21,8 @@ BROKEN = (OSError, tarfile.TarError, zipfile.BadZipFile, lzma.LZMAError, zlib.er
           EOFError, NotImplementedError, RuntimeError, ValueError, LookupError)
 
 
-def built_here():
-    """Returns what is stated of the program that was proved and built here of these sources, or None."""
+def packed_here():
+    """Returns what is stated of the program that ./package packed here of these sources, or None."""
     try:
         with open(RECORD, "rb") as file:
             stated = proved.read(file.read())
@@ -32,12 +32,12 @@ def built_here():
 
 
 def judge_program(program, here):
-    """Returns what is stated of the bytes of a program, where it is the one that was built here."""
+    """Returns what is stated of the bytes of a program, where it is the one that was packed here."""
     if here is None:
         raise Refused("no program was packed of these sources here, and a program alone does not state its own: "
                       "./package makes one to compare with")
     if sha256(program) != here.program:
-        raise Refused("it is not the program that was proved and built from these sources here")
+        raise Refused("it is not the program that ./package packed of these sources here")
     return here
 
 
@@ -52,9 +52,9 @@ def judge_stated(stated, program, here):
     if proved.has_other_sources(stated.commit):
         raise Refused("its PROVED states a commit that has other sources than these")
     if here is not None and stated.program != here.program:
-        raise Refused("its program is not the one that was proved and built from these sources here")
+        raise Refused("its program is not the one that ./package packed of these sources here")
     if here is not None and stated.kit != here.kit:
-        raise Refused(f"its PROVED states another kit than proved these sources here: {stated.kit}")
+        raise Refused(f"its PROVED states another kit than that of the program packed here: {stated.kit}")
 
 
 def documents_of(program):
@@ -81,7 +81,7 @@ def unpacked(form, path, part):
 def judge_package(form, path, here):
     """Returns what is stated in a package of this form, where all its files are those of these sources.
 
-    Its program is started for its documents only where it is the one that was built here."""
+    Its program is started for its documents only where it is the one that was packed here."""
     found, documents = unpacked(form, path, form.documents)
     of_program, of_proved = form.places()
     for name in (of_program, of_proved):
@@ -98,19 +98,24 @@ def judge_package(form, path, here):
     return stated
 
 
+def ground(here):
+    """Returns on what a judgement stands."""
+    if here is None:
+        return ("Nothing was packed here to compare with: that its program is what the kit made of these sources, and "
+                "what its manual page and completions say, is taken from the file.")
+    if os.path.isfile(f"{ROOT}/release/PROVED") and content("release/PROVED") == here.text().encode():
+        return "Its program is the one in release/, and was not proved here: ./package --prove does that."
+    return "Its program is the one that was proved and built here."
+
+
 def judge(path):
     """Returns what is stated of a file, where it is of these sources, and on what that stands."""
     with open(path, "rb") as file:
         data = file.read()
-    here = built_here()
-    compared = "Its program is the one that was proved and built here."
+    here = packed_here()
     if data.startswith(ELF):
-        return judge_program(data, here), compared
+        return judge_program(data, here), ground(here)
     form = next((form for begin, form in FORMS.items() if data.startswith(begin)), None)
     if form is None:
         raise Refused("it is neither a program nor an archive, a Debian package or a wheel")
-    stated = judge_package(form, path, here)
-    if here is None:
-        compared = ("Nothing was proved and built here to compare with: that its program is what the kit made of these "
-                    "sources, and what its manual page and completions say, is taken from the file.")
-    return stated, compared
+    return judge_package(form, path, here), ground(here)

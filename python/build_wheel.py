@@ -1,14 +1,16 @@
 """What pip asks to install the package: a wheel with the folder chipfire, made by the standard library alone.
 
-So `pip install ./python` needs no network and no other package. The functions are those of Python's PEP 517. `./package`
-of the repository makes a wheel that carries the program, too.
+So `pip install ./python` needs no network and no other package. The functions are those of Python's PEP 517. The wheel
+carries the program in release/ of the repository if `./chipfire` takes it there.
 """
 import base64
 import hashlib
 import io
 import os
 import re
+import sys
 import tarfile
+import tempfile
 import zipfile
 
 HERE = os.path.dirname(os.path.realpath(__file__))
@@ -87,9 +89,31 @@ def write_wheel(path, files, programs=()):
             archive.writestr(entry, text)
 
 
+def _carry_release(folder):
+    """Writes the wheel with the program in release/ of the repository and returns its name, or None and says why not."""
+    sys.path += [REPOSITORY, f"{REPOSITORY}/tools"]
+    import release
+    from packing import contents, wheel
+    try:
+        with tempfile.TemporaryDirectory(prefix="chipfire-wheel-") as room:
+            stated, program = release.fitting(f"{room}/chipfire")
+    except (release.Refused, OSError) as why:
+        print(f"chipfire: the package has no program, since the one in release/ is not taken: {why}", file=sys.stderr)
+        return None
+    build = contents.Build(program, stated, {})
+    wheel.write(os.path.join(folder, wheel.name(build)), build)
+    return wheel.name(build)
+
+
 def build_wheel(wheel_directory, config_settings=None, metadata_directory=None):
-    """Writes the wheel without the program and returns its name. It notes the repository that will have the program."""
-    noted = {"chipfire/repository": os.fsencode(REPOSITORY)} if os.path.isfile(SOURCE) else {}
+    """Writes the wheel and returns its name: with the program in release/ if that fits, and else without a program."""
+    noted = {}
+    if os.path.isfile(SOURCE):
+        name = _carry_release(wheel_directory)
+        if name:
+            return name
+        # (the repository will have a program)
+        noted = {"chipfire/repository": os.fsencode(REPOSITORY)}
     write_wheel(os.path.join(wheel_directory, wheel_name(PURE)), wheel_files(PURE, noted))
     return wheel_name(PURE)
 

@@ -6,8 +6,8 @@
     tools/release.py --compare FILE KIT   compares the program with FILE, which KIT built here from these sources
 
 Standard error says in one line where the program comes from, or why it is not taken. Of a comparison, standard output
-says how it ends. The status is 1 if the program is not taken; if release/ is damaged; and if the same kit built another
-program from the same sources.
+says how it ends. The status is 1 if the program is not taken; if release/ is damaged; if the same kit built another
+program from the same sources; and if an earlier release of another program has the version.
 """
 import os
 import subprocess
@@ -16,11 +16,13 @@ import sys
 sys.dont_write_bytecode = True
 sys.path.insert(0, os.path.dirname(os.path.dirname(os.path.realpath(__file__))))
 from packing import archive, judge, proved  # noqa: E402
-from packing.repository import ROOT, Refused, content, sha256  # noqa: E402
+from packing.repository import ROOT, Refused, content, git, sha256  # noqa: E402
 
 import prove  # noqa: E402  (how long it takes to prove all)
 
 SYSTEM = ("Linux", "x86_64")
+#: What stands in target/chipfire.stamp if ./chipfire took the program from release/.
+STAMP = "release"
 
 
 def released():
@@ -43,8 +45,8 @@ def starts(path, version):
     return (told.returncode, told.stdout) == (0, f"chipfire {version}\n".encode())
 
 
-def take(path, kit):
-    """Makes a file the program, and returns what to say of it."""
+def fitting(path):
+    """Makes a file the program, if it fits the sources and the machine, and returns what is stated of it, and its bytes."""
     system = os.uname()
     if (system.sysname, system.machine) != SYSTEM:
         raise Refused(f"it is for {' '.join(SYSTEM)}, and this is {system.sysname} {system.machine}")
@@ -56,10 +58,25 @@ def take(path, kit):
     os.chmod(path, 0o755)
     if not starts(path, stated.version):
         raise Refused("it does not start here")
+    return stated, program
+
+
+def take(path, kit):
+    """Makes a file the program, and returns what to say of it."""
+    stated, _ = fitting(path)
     other = f"; the kit on the PATH is another, {kit}" if kit not in ("", stated.kit) else ""
     minutes = round(prove.minutes("chipfire"))
     return (f"the program comes from release/: {stated.kit} proved and built it from these very sources, of commit "
             f"{stated.commit[:12]}; ./chipfire --prove does it here, in some {minutes} min{other}")
+
+
+def check_version(stated):
+    """Refuses the version that is stated of a program if a release before this commit has it, and another program."""
+    for commit in (git("log", "--format=%H", "--", "release/PROVED") or "").split():
+        version, *_, program = (git("show", f"{commit}:release/PROVED") or "\n").split("\n")
+        if version == f"chipfire {stated.version}" and program != f"program sha256:{stated.program}":
+            raise Refused(f"the release of commit {commit[:12]} has version {stated.version}, and another program: the new "
+                          "one needs a version of its own")
 
 
 def compare(path, kit):
@@ -69,6 +86,7 @@ def compare(path, kit):
     stated, program = released()
     if stated.sources != proved.sources():
         return f"release/ was built from other sources than these, at commit {stated.commit[:12]}."
+    check_version(stated)
     with open(path, "rb") as file:
         is_same = file.read() == program
     if stated.kit != kit:

@@ -82,9 +82,9 @@ def commit(top):
 
 
 def checkout():
-    """Returns a new checkout of the repository as it is here, with nothing built in it."""
+    """Returns a new checkout of the repository as it is here, with nothing built in it, and no release."""
     top = room()
-    for name in repository_files():
+    for name in (it for it in repository_files() if not it.startswith("release/")):
         os.makedirs(os.path.dirname(f"{top}/{name}"), exist_ok=True)
         shutil.copy(f"{ROOT}/{name}", f"{top}/{name}")
     run("git", "init", "-q", cwd=top, check=True)

@@ -122,7 +122,7 @@ class Taken(Checked):
         for path in map(made.path_of, PACKAGES):
             said = self.takes(path, bare())
             self.assertIn(made.read(f"{made.home()}/dist/PROVED").decode(), said)
-            self.assertIn("Nothing was proved and built here", said)
+            self.assertIn("Nothing was packed here", said)
 
     def test_not_a_program_alone_where_nothing_was_built(self):
         self.refuses(made.PROGRAM, "no program was packed of these sources here", bare())
@@ -147,7 +147,7 @@ class ProgramChanged(Checked):
         path = f"{made.room()}/chipfire"
         for place in (16, 100_000, os.path.getsize(made.PROGRAM) - 1):
             made.write(path, changed(made.read(made.PROGRAM), place))
-            self.refuses(path, "not the program that was proved and built")
+            self.refuses(path, "not the program that ./package packed")
 
     def test_in_an_archive(self):
         def edit(files):
@@ -176,7 +176,7 @@ class ProgramChanged(Checked):
         made.build(top, program)
         self.assertEqual(made.package(top).returncode, 0)
         for path in (made.path_of(it, top) for it in PACKAGES):
-            self.refuses(path, "not the one that was proved and built from these sources here")
+            self.refuses(path, "not the one that ./package packed of these sources here")
 
 
 class SourcesChanged(Checked):
@@ -190,7 +190,7 @@ class SourcesChanged(Checked):
     def test_where_other_sources_were_built(self):
         for path in map(made.path_of, PACKAGES):
             self.refuses(path, "its PROVED states other sources than these", other())
-        self.refuses(made.PROGRAM, "not the program that was proved and built", other())
+        self.refuses(made.PROGRAM, "not the program that ./package packed", other())
 
     def test_since_the_build(self):
         top = made.built()
@@ -233,7 +233,7 @@ class StatementChanged(Checked):
         version, kit = made.version().encode(), made.KIT.encode()
         self.refuses(self.replaced(b"chipfire " + version, b"chipfire 9" + version), "states version 9")
         self.refuses(self.replaced(b"program sha256:", b"program sha256:0"), "not the one that its PROVED states")
-        self.refuses(self.replaced(kit, b"another kit"), "states another kit than proved these sources here: another kit")
+        self.refuses(self.replaced(kit, b"another kit"), "states another kit than that of the program packed here: another kit")
 
     def test_a_commit_with_other_sources(self):
         top = made.built()

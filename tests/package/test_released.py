@@ -5,8 +5,12 @@ import resource
 import shutil
 import sys
 import unittest
+import zipfile
 
 import made
+
+#: What is asked of the Python package.
+ASK = "import chipfire; print(chipfire.find_program(), chipfire.plain(chipfire.path(1), [3]).fired)"
 
 
 @functools.cache
@@ -46,6 +50,12 @@ def change(path):
     made.write(path, data[:half] + bytes([data[half] ^ 1]) + data[half + 1:])
 
 
+def change_sources(top):
+    """Adds a line to a source of a checkout."""
+    with open(f"{top}/crates/chip_graph/src/lib.rt", "a", encoding="utf-8") as file:
+        file.write("// one line more\n")
+
+
 class Carried(unittest.TestCase):
     def test_it_is_the_archive_and_PROVED(self):
         top = released()
@@ -69,8 +79,7 @@ class Carried(unittest.TestCase):
 
     def test_it_is_not_made_of_sources_that_are_not_committed(self):
         top = clone()
-        with open(f"{top}/crates/chip_graph/src/lib.rt", "a", encoding="utf-8") as file:
-            file.write("// one line more\n")
+        change_sources(top)
         made.build(top)
         answer = made.package(top, "--release")
         self.assertEqual((answer.returncode, answer.stdout), (1, ""))
@@ -78,11 +87,9 @@ class Carried(unittest.TestCase):
 
 
 class Python(unittest.TestCase):
-    ASK = "import chipfire; print(chipfire.find_program(), chipfire.plain(chipfire.path(1), [3]).fired)"
-
     def asks(self, top, *python):
         """Asks the package that lies in a checkout, by a command that is Python."""
-        return made.run(*python, "-c", self.ASK, PYTHONPATH=f"{top}/python", TMPDIR="/tmp")
+        return made.run(*python, "-c", ASK, PYTHONPATH=f"{top}/python", TMPDIR="/tmp")
 
     def test_it_finds_the_program_in_a_clone(self):
         top = clone()
@@ -109,6 +116,76 @@ class Python(unittest.TestCase):
         os.remove(f"{top}/crates/chip_graph/src/lib.rt")
         asked = self.asks(top, sys.executable)
         self.assertIn("the program in release/ is not taken: it was built from other sources than these", asked.stderr)
+        self.assertIn("ProgramNotFound", asked.stderr)
+
+
+class Packed(unittest.TestCase):
+    def test_package_takes_it_and_proves_nothing(self):
+        top = clone()
+        made_of_it = made.package(top)
+        self.assertEqual(made_of_it.returncode, 0, made_of_it.stderr)
+        self.assertRegex(made_of_it.stderr, r"\Achipfire: the program comes from release/: .*\n\Z")
+        self.assertEqual(made.read(f"{top}/dist/PROVED"), made.read(f"{top}/release/PROVED"))
+        self.assertEqual(made.read(made.path_of(".tar.xz", top)), made.read(archive_of(top)))
+        with zipfile.ZipFile(made.path_of(".whl", top)) as wheel:
+            self.assertTrue(wheel.read("chipfire/program/chipfire") == made.read(made.PROGRAM))
+        self.assertIn("is the one in release/, and was not proved here", made.package(top, "--check", archive_of(top)).stdout)
+
+    def test_package_proves_if_that_is_asked_or_the_sources_are_others(self):
+        for words in (["--prove"], ["--release"], []):
+            top = clone()
+            if not words:
+                change_sources(top)
+            answer = made.package(top, *words)
+            self.assertEqual((answer.returncode, answer.stdout), (1, ""), words)
+            self.assertIn("chipfire: the program has to be proved and built first", answer.stderr)
+
+    def test_a_release_of_another_program_needs_another_version(self):
+        top = clone()
+        change_sources(top)
+        made.commit(top)
+        program = f"{made.room()}/chipfire"
+        made.write(program, made.read(made.PROGRAM) + b"\0")
+        os.chmod(program, 0o755)
+        made.build(top, program)
+        answer = made.package(top, "--release")
+        self.assertEqual((answer.returncode, answer.stdout), (1, ""))
+        self.assertRegex(answer.stderr, f"release: the release of commit [0-9a-f]{{12}} has version {made.version()}, and another")
+        self.assertEqual(made.read(f"{top}/release/PROVED"), made.read(f"{released()}/release/PROVED"))
+
+
+class Installed(unittest.TestCase):
+    """What pip installs of a clone alone."""
+
+    def installs(self, what):
+        """Installs by pip without network, and returns what it says, and what the package answers in another folder."""
+        room = made.room()
+        made.run(sys.executable, "-m", "venv", room, check=True)
+        said = made.run(f"{room}/bin/pip", "install", "-v", "--no-index", what, check=True)
+        return said.stdout + said.stderr, made.run(f"{room}/bin/python", "-c", ASK, cwd=made.rooms()), room
+
+    def test_the_address_of_a_clone_or_its_folder_gives_the_package_with_its_program(self):
+        for form in ("git+file://{}#subdirectory=python", "{}/python"):
+            top = clone()
+            _, asked, room = self.installs(form.format(top))
+            shutil.rmtree(top)
+            self.assertTrue(asked.stdout.startswith(os.path.realpath(room)), asked.stdout + asked.stderr)
+            self.assertTrue(asked.stdout.endswith("/chipfire/program/chipfire (1, 0)\n"), asked.stdout)
+            self.assertEqual(made.run(f"{room}/bin/chipfire", "--version").stdout, f"chipfire {made.version()}\n")
+
+    def test_the_wheel_is_that_of_package(self):
+        top, room = clone(), made.room()
+        self.assertEqual(made.package(top).returncode, 0)
+        build = f"import sys; sys.path.insert(0, 'python'); import build_wheel; print(build_wheel.build_wheel({room!r}))"
+        name = made.run(sys.executable, "-c", build, cwd=top, check=True).stdout.strip()
+        self.assertEqual(os.listdir(room), [name])
+        self.assertTrue(made.read(f"{room}/{name}") == made.read(made.path_of(name, top)))
+
+    def test_where_the_sources_are_others_it_is_installed_without_and_says_so(self):
+        top = clone()
+        change_sources(top)
+        said, asked, _ = self.installs(f"{top}/python")
+        self.assertIn("chipfire: the package has no program, since the one in release/ is not taken: it was built from", said)
         self.assertIn("ProgramNotFound", asked.stderr)
 
 
@@ -143,8 +220,7 @@ class Compared(unittest.TestCase):
 
     def test_other_sources(self):
         top = clone()
-        with open(f"{top}/crates/chip_graph/src/lib.rt", "a", encoding="utf-8") as file:
-            file.write("// one line more\n")
+        change_sources(top)
         answer = self.compare(top, self.another_program())
         self.goes_on(answer, "release/ was built from other sources than these, at commit [0-9a-f]{12}.")
 
@@ -167,6 +243,15 @@ class Compared(unittest.TestCase):
             top = clone()
             os.remove(f"{top}/release/{name}")
             self.fails(self.compare(top), ".*No such file or directory.*")
+
+    def test_a_version_that_another_program_had(self):
+        top = clone()
+        now = {name: made.read(f"{top}/release/{name}") for name in os.listdir(f"{top}/release")}
+        made.write(f"{top}/release/PROVED", now["PROVED"].replace(b"program sha256:", b"program sha256:0"))
+        made.commit(top)
+        made.write(f"{top}/release/PROVED", now["PROVED"])
+        made.commit(top)
+        self.fails(self.compare(top), f"the release of commit [0-9a-f]{{12}} has version {made.version()}, and another .*")
 
     def test_none(self):
         top = clone()

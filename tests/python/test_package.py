@@ -758,7 +758,7 @@ class Finding(WithFolder):
 
     def test_pip_installs_the_package_and_it_finds_the_program_that_is_built_later(self):
         clone, source = self.file("clone"), "crates/chip_arguments/src"
-        for folder in ("python", source):
+        for folder in ("python", "packing", "tools", source):
             shutil.copytree(f"{ROOT}/{folder}", f"{clone}/{folder}")
         words = [sys.executable, "-m", "pip", "install", "--quiet", "--no-index", "--disable-pip-version-check"]
         shutil.copytree(f"{ROOT}/python", self.file("alone"))

@@ -91,7 +91,7 @@ def write_wheel(path, files, programs=()):
 
 def _carry_release(folder):
     """Writes the wheel with the program in release/ of the repository and returns its name, or None and says why not."""
-    sys.path += [REPOSITORY, f"{REPOSITORY}/tools"]
+    sys.path[:0] = [REPOSITORY, f"{REPOSITORY}/tools"]
     import release
     from packing import contents, wheel
     try:

@@ -10,6 +10,7 @@ says how it ends. The status is 1 if the program is not taken; if release/ is da
 program from the same sources; and if an earlier release of another program has the version.
 """
 import os
+import platform
 import subprocess
 import sys
 
@@ -47,9 +48,9 @@ def starts(path, version):
 
 def fitting(path):
     """Makes a file the program, if it fits the sources and the machine, and returns what is stated of it, and its bytes."""
-    system = os.uname()
-    if (system.sysname, system.machine) != SYSTEM:
-        raise Refused(f"it is for {' '.join(SYSTEM)}, and this is {system.sysname} {system.machine}")
+    system = platform.system(), platform.machine()
+    if system != SYSTEM:
+        raise Refused(f"it is for {' '.join(SYSTEM)}, and this is {' '.join(system)}")
     stated, program = released()
     if stated.sources != proved.sources():
         raise Refused("it was built from other sources than these")

@@ -1,6 +1,6 @@
 use crate::cycle::{Problem, v_cycle};
 use crate::hierarchy::{Hierarchy, Kind};
-use crate::tuning::{CYCLES_TO_HALVE, MOST_CYCLES, TOLERANCE};
+use crate::tuning::{CYCLES_TO_HALVE, TOLERANCE};
 use chip_graph::Game;
 use std::alloc::{AllocError, Global};
 use std::mem;
@@ -62,9 +62,9 @@ pub(crate) struct Solver<'a> {
     problems: Vec<Problem<'a>>,
     /// The residual that may be left.
     tolerance: f64,
-    /// How many cycles were made.
+    /// How many cycles were made since the residual was last compared.
     cycles: u64,
-    /// The residual when it was last compared.
+    /// The greatest residual that was left before one of these.
     norm: f64,
 }
 
@@ -76,7 +76,7 @@ impl<'a> Solver<'a> {
             problems: Vec::new(alloc),
             tolerance: 0.0,
             cycles: 0,
-            norm: f64::INFINITY,
+            norm: 0.0,
         }
     }
 
@@ -92,7 +92,7 @@ impl<'a> Solver<'a> {
         let mut finest = Problem::new(alloc, &hierarchy.finest, counts)?;
         self.tolerance = TOLERANCE * ask(&mut finest, target, heights);
         self.cycles = 0;
-        self.norm = f64::INFINITY;
+        self.norm = 0.0;
         self.problems.push(finest)?;
         for level in &hierarchy.coarser {
             let counts = vec![in alloc; 0.0; level.rows.len()]?;
@@ -101,20 +101,23 @@ impl<'a> Solver<'a> {
         Ok(())
     }
 
-    /// Makes a cycle where more than little is left. It diverges where some do not halve that, or many do not do.
+    /// Makes a cycle where more than little is left. It diverges where some do not halve the greatest residual that was
+    /// left before one of them: the first ones may spread a heap too far.
     pub(crate) fn step(&mut self) -> Progress {
         let norm = self.norm();
         if norm <= self.tolerance {
             return Progress::Converged;
         }
-        if self.cycles % CYCLES_TO_HALVE == 0 {
+        if self.cycles == CYCLES_TO_HALVE {
             let is_halved = norm <= self.norm / 2.0;
-            if !is_halved || self.cycles >= MOST_CYCLES {
+            if !is_halved {
                 return Progress::Diverged;
             }
-            self.norm = norm;
+            self.cycles = 0;
+            self.norm = 0.0;
         }
-        self.cycles = self.cycles.saturating_add(1);
+        self.cycles = self.cycles.wrapping_add(1);
+        self.norm = self.norm.max(norm);
         v_cycle(&mut self.problems, self.hierarchy.kind);
         if self.hierarchy.kind != Kind::Symmetric {
             if let Some(finest) = self.problems.first_mut() {

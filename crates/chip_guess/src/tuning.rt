@@ -27,9 +27,6 @@ pub const FREE_WEIGHT: i64 = 4;
 /// After how many cycles the residual is compared, which has to be halved then: games with limits.
 pub const CYCLES_TO_HALVE: u64 = 8;
 
-/// How many cycles there are at most.
-pub const MOST_CYCLES: u64 = 64;
-
 /// Which part of all degrees the residuals may come to in the end.
 pub const TOLERANCE: f64 = 0.0009765625;
 

@@ -247,7 +247,7 @@ impl<'a> Burning<'a> {
         for vertex in self.first..self.end {
             let degree = self.hierarchy.finest.degree(vertex);
             let own = self.at(vertex);
-            let (fires, lacks) = (own.fires, degree.wrapping_sub(1).wrapping_sub(own.slack));
+            let (fires, lacks) = (own.fires, self.needed(vertex).wrapping_sub(own.slack));
             if fires > 0 && lacks > 0 && degree > 0 {
                 let firings = ((lacks - 1) / degree).wrapping_add(1);
                 self.fire(vertex, firings.min(fires).wrapping_neg());
@@ -268,15 +268,25 @@ impl<'a> Burning<'a> {
         self.begin_steps();
     }
 
-    /// The chips of the firings that unburnt vertices lose next, up to 2^64 - 1.
-    pub(crate) fn unburnt_chips(&self) -> u64 {
+    /// The chips that vertices that fire lack to pass the test, up to 2^64 - 1; before the first step those that they
+    /// lack to have none below 0.
+    pub(crate) fn lacking_chips(&self) -> u64 {
         let mut chips = 0u64;
         for (vertex, own) in self.vertices.iter().enumerate() {
-            if own.is_unburnt() {
-                chips = chips.saturating_add(self.hierarchy.finest.degree(vertex).unsigned_abs());
+            if own.fires > 0 {
+                let lacks = self.needed(vertex).saturating_sub(own.slack).max(0);
+                chips = chips.saturating_add(lacks.cast_unsigned());
             }
         }
         chips
+    }
+
+    /// The slack with which a vertex passes the test.
+    fn needed(&self, vertex: usize) -> i64 {
+        match self.hierarchy.kind {
+            Kind::General => self.hierarchy.finest.degree(vertex).wrapping_sub(1),
+            Kind::Symmetric | Kind::Balanced => 0,
+        }
     }
 
     /// Whether a vertex is legal, where a test is passed.

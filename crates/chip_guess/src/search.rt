@@ -142,14 +142,16 @@ impl<'a> Search<'a> {
         self.steps
     }
 
-    /// About how many chips have still to move until the counts are those sought, up to 2^64 - 1: those above or below
-    /// the target heights, or those of the firings that are taken back next. It looks at the whole graph.
+    /// About how many chips have still to move until the counts are those sought: from 1 to the chips of the game, and 0
+    /// once the search is over. Where counts are solved for, those above or below the target heights; where they are
+    /// burnt, those that vertices lack to pass the test. It looks at the whole graph.
     pub fn chips_to_move(&self) -> u64 {
-        match self.stage {
+        let chips = match self.stage {
             Stage::Solving => saturating_f64_to_u64(self.solver.norm()),
-            Stage::Fitting | Stage::Burning => self.burning.unburnt_chips(),
-            Stage::Found | Stage::GivenUp => 0,
-        }
+            Stage::Fitting | Stage::Burning => self.burning.lacking_chips(),
+            Stage::Found | Stage::GivenUp => return 0,
+        };
+        chips.min(self.target.game.total()).max(1)
     }
 
     /// What a step looks at at most: a cycle goes over each level five times, over its vertices thrice more, where all

@@ -4,8 +4,11 @@ use crate::burning::Burning;
 use crate::given::floats_of;
 use crate::hierarchy::{Hierarchy, Kind, spend};
 use crate::solver::{Progress, Solver, Target};
-use crate::tuning::{FIRST_RAISE, GREAT, STEPS_BEFORE_FIT, STEPS_OF_FIT, WALL_OFFSETS};
-use chip_graph::Game;
+use crate::tuning::{
+    FIRST_RAISE, GREAT, STEPS_BEFORE_FIT, STEPS_BEFORE_LATE_FIT, STEPS_OF_FIT, WALL_OFFSETS,
+    WALL_SPACING,
+};
+use chip_graph::{Game, Graph};
 use std::alloc::{AllocError, Global};
 use std::mem;
 use std::num::saturating_f64_to_u64;
@@ -78,7 +81,7 @@ impl<'a> Search<'a> {
             burning: Box::new(alloc, Burning::new(alloc, hierarchy))?,
             tried: 0,
             fits: 0,
-            may_fit: hierarchy.kind == Kind::Symmetric && fired.len() >= GREAT,
+            may_fit: hierarchy.kind == Kind::Symmetric && has_walls(game.graph()),
             passed: 0,
             raise: FIRST_RAISE,
             steps: 0,
@@ -225,6 +228,11 @@ impl<'a> Search<'a> {
 
     /// Burns the counts once.
     fn burn(&mut self, alloc: Global) -> Result<Stage, AllocError> {
+        let steps_before_fit = if self.is_great() {
+            STEPS_BEFORE_FIT
+        } else {
+            STEPS_BEFORE_LATE_FIT
+        };
         match self.burning.step() {
             Progress::Converged => return Ok(self.pass()),
             // Counts that are greater than some that passed come back to these.
@@ -234,7 +242,7 @@ impl<'a> Search<'a> {
                 self.tried = self.tried.saturating_add(1);
                 return self.try_heights(alloc);
             }
-            Progress::Going if self.may_fit && self.burning.steps >= STEPS_BEFORE_FIT => {
+            Progress::Going if self.may_fit && self.burning.steps >= steps_before_fit => {
                 match WALL_OFFSETS.get(self.fits) {
                     Some(offset) if self.burning.unburnt > self.burning.unfired / 4 => {
                         let stage = self.begin_to_burn(alloc, Stage::Fitting)?;
@@ -249,13 +257,18 @@ impl<'a> Search<'a> {
         Ok(Stage::Burning)
     }
 
+    /// Whether it pays to fit heights soon, and to go on from counts that passed.
+    fn is_great(&self) -> bool {
+        self.counts.len() >= GREAT
+    }
+
     /// Keeps the counts that passed, and goes on from greater ones where they may be too low.
     fn pass(&mut self) -> Stage {
         self.phases = self.phases.wrapping_add(1);
         let passed = self.burning.firings();
         let is_same = passed == self.passed;
         self.may_fit = false;
-        let may_rise = self.counts.len() >= GREAT && self.hierarchy.kind != Kind::General;
+        let may_rise = self.fits > 0 || (self.is_great() && self.hierarchy.kind != Kind::General);
         if !may_rise || is_same || !self.burning.leaves_some_legal() {
             return Stage::Found;
         }
@@ -264,4 +277,14 @@ impl<'a> Search<'a> {
         self.raise = self.raise.saturating_mul(2);
         Stage::Burning
     }
+}
+
+/// Whether a vertex is as far from the sink as walls are from each other.
+fn has_walls(graph: &Graph) -> bool {
+    for vertex in 0..graph.vertices() {
+        if graph.distance(vertex) >= WALL_SPACING {
+            return true;
+        }
+    }
+    false
 }

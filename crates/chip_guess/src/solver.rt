@@ -9,7 +9,7 @@ use std::num::{nearest_i64_to_f64, nearest_u64_to_f64};
 /// How many chips each vertex is to keep, from few to many.
 #[derive(Clone, Copy)]
 pub(crate) enum TargetHeight {
-    /// As many as lie on a vertex of a grid in the end in the mean, 17/8, and at other degrees as many in proportion.
+    /// As many as lie on a vertex of a grid in the end in the mean, 17/8: at all degrees an eighth of the range.
     Stationary,
     /// Half way from there to the next one.
     Middle,
@@ -22,15 +22,32 @@ pub(crate) enum TargetHeight {
 impl TargetHeight {
     /// What a vertex of this degree keeps.
     pub(crate) fn of(self, degree: i64) -> f64 {
-        let degree = nearest_i64_to_f64(degree);
-        let full = degree - 1.0;
-        let stationary = ((9.0 * degree - 2.0) / 16.0).min(full);
+        let HeightRange { least, full } = HeightRange::of(degree);
         match self {
-            TargetHeight::Stationary => stationary,
-            TargetHeight::Middle => (stationary + full) / 2.0,
+            TargetHeight::Stationary => least + (full - least) / 8.0,
+            TargetHeight::Middle => least + (full - least) * 9.0 / 16.0,
             TargetHeight::Full => full,
-            TargetHeight::Margin => full + degree / 2.0,
+            TargetHeight::Margin => full + nearest_i64_to_f64(degree) / 2.0,
         }
+    }
+}
+
+/// Between what heights a vertex ends, in the mean over a part of a graph.
+#[derive(Clone, Copy)]
+pub(crate) struct HeightRange {
+    /// Half its degree: a position that passes the burning test has a chip for each edge.
+    pub(crate) least: f64,
+    /// One less than its degree, as everywhere on a tree.
+    pub(crate) full: f64,
+}
+
+impl HeightRange {
+    /// That of a vertex of this degree.
+    pub(crate) fn of(degree: i64) -> HeightRange {
+        let degree = nearest_i64_to_f64(degree);
+        let full = (degree - 1.0).max(0.0);
+        let least = (degree / 2.0).min(full);
+        HeightRange { least, full }
     }
 }
 

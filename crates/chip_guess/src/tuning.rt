@@ -33,11 +33,14 @@ pub const TOLERANCE: f64 = 0.0009765625;
 /// In how many steps in a row no vertex may burn, which leaves nearly everything as it was: star.
 pub const STALLED_STEPS: u64 = 16;
 
-/// From how many vertices on it pays to fit heights, and to go on from counts that passed: grid-peak has fewer.
+/// From how many vertices on it pays to fit heights soon, and to go on from counts that passed: grid-peak has fewer.
 pub const GREAT: usize = 1 << 14;
 
-/// How many steps are made before it is asked whether to fit heights: peak-511.
+/// How many steps are made on so many before it is asked whether to fit heights: peak-511.
 pub const STEPS_BEFORE_FIT: u64 = 16;
+
+/// How many steps are made on fewer: grid-corner takes 284, and a grid of 3 by 1,000 some ten thousand without a fit.
+pub const STEPS_BEFORE_LATE_FIT: u64 = 384;
 
 /// How many steps are made between walls at most: four-511.
 pub const STEPS_OF_FIT: u64 = 32;

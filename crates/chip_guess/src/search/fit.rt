@@ -1,6 +1,7 @@
 use super::Search;
 use crate::hierarchy::Hierarchy;
 use crate::level::{Level, narrow};
+use crate::solver::HeightRange;
 use crate::tuning::{CLEAR_LOSS, PATCH};
 use std::alloc::{AllocError, Global};
 use std::num::{nearest_i64_to_f64, nearest_u64_to_f64};
@@ -8,8 +9,9 @@ use std::num::{nearest_i64_to_f64, nearest_u64_to_f64};
 /// What the vertices of a patch have that fire while counts are burnt.
 #[derive(Clone, Copy, Default)]
 struct Sum {
+    /// The chips above the least heights, and how many full heights are above these.
     chips: f64,
-    degrees: f64,
+    room: f64,
     /// How often more they fired before the counts were lowered.
     lost: f64,
     vertices: f64,
@@ -18,18 +20,18 @@ struct Sum {
 impl Sum {
     /// The height of a vertex of this degree, which stood at another one.
     fn height(&self, degree: i64, before: f64, is_first: bool) -> f64 {
-        let degree = nearest_i64_to_f64(degree);
-        let full = (degree - 1.0).max(0.0);
-        let mean = (self.chips * degree / self.degrees).max(0.0).min(full);
-        if self.vertices <= 0.0 {
+        let HeightRange { least, full } = HeightRange::of(degree);
+        let mean = least + (full - least) * (self.chips / self.room);
+        let height = if self.room <= 0.0 {
             before
         } else if is_first {
             mean
         } else if self.lost >= self.vertices * CLEAR_LOSS {
-            (2.0 * mean - before).max(0.0).min(full)
+            2.0 * mean - before
         } else {
             before
-        }
+        };
+        height.max(0.0).min(full)
     }
 }
 
@@ -60,9 +62,10 @@ impl<'a> Search<'a> {
             if own.fires > 0 && vertex < counts.len() && vertex < fired.len() {
                 if let Some(sum) = sums.get_mut(*patch as usize) {
                     let degree = self.hierarchy.finest.degree(vertex);
+                    let HeightRange { least, full } = HeightRange::of(degree);
                     let fires = nearest_i64_to_f64(own.fires);
-                    sum.chips += nearest_i64_to_f64(own.chips(degree));
-                    sum.degrees += nearest_i64_to_f64(degree);
+                    sum.chips += nearest_i64_to_f64(own.chips(degree)) - least;
+                    sum.room += full - least;
                     sum.lost += counts[vertex] - nearest_u64_to_f64(fired[vertex]) - fires;
                     sum.vertices += 1.0;
                 }

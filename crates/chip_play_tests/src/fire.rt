@@ -6,7 +6,7 @@ ghost use Rattle.chip_rounds.specs.WorkList.{AreListed};
 ghost use Rattle.chip_sequence.specs.Sittings.{IsResumed};
 
 use crate::games::{Rows, TRIANGLE, game_of, graph_of, triangle};
-use chip_fire::{ResumeFault, Watch, plain, plain_watched, resume};
+use chip_fire::{ResumeFault, Search, Watch, plain, plain_watched, resume};
 use chip_graph::{Game, Graph};
 use chip_rounds::{is_legal, work_off};
 use chip_sequence::{Outcome, Resumed};
@@ -252,14 +252,19 @@ fn long_path(rt: &(impl AllocGlobal + Abort)) -> Box<Graph> {
     graph_of(rt, END + 1, END, &rows)
 }
 
-/// 2^20 chips in the middle of the path: firing alone would take minutes.
-pub(crate) fn long_game(rt: &(impl AllocGlobal + Abort), limit: u64) -> Box<Game> {
+/// So many chips in the middle of the path.
+pub(crate) fn heap(rt: &(impl AllocGlobal + Abort), more: u64, limit: u64) -> Box<Game> {
     let mut start = vec![in rt.alloc(); 0; 4_096].expect(rt, "memory");
     if let Some(chips) = start.get_mut(2_047) {
-        *chips = 1 << 20;
+        *chips = more;
     }
     let game = Game::new(Box::into_inner(long_path(rt)), start, limit).expect(rt, "a game");
     Box::new(rt.alloc(), game).expect(rt, "memory")
+}
+
+/// 2^20 chips in the middle of the path: firing alone would take minutes.
+pub(crate) fn long_game(rt: &(impl AllocGlobal + Abort), limit: u64) -> Box<Game> {
+    heap(rt, 1 << 20, limit)
 }
 
 /// The chips in the middle, at the first vertex and on the sink, once nothing may fire.
@@ -398,33 +403,49 @@ fn a_long_path_in_two_sittings(rt: HostRuntime) {
 /// How often it was told something, of how many rounds in all, how many firings there were after the last of them, and of
 /// how many searches.
 #[derive(Drop)]
-struct Told {
+pub(crate) struct Told {
     times: u64,
-    rounds: u64,
+    pub(crate) rounds: u64,
     firings: u64,
-    searches: u64,
+    pub(crate) searches: u64,
+    /// How many looks at each vertex and edge the search made and the play beside it.
+    pub(crate) looks: u64,
+    /// The least and the greatest number of chips that were still to move while a search went on.
+    pub(crate) least_to_move: u64,
+    pub(crate) most_to_move: u64,
 }
 
 impl Told {
-    fn nothing() -> Told {
+    pub(crate) fn nothing() -> Told {
         Told {
             times: 0,
             rounds: 0,
             firings: 0,
             searches: 0,
+            looks: 0,
+            least_to_move: u64::MAX,
+            most_to_move: 0,
         }
     }
 }
 
 impl Watch for Told {
+    fn searches(&mut self, search: &Search<'_>) {
+        let chips = search.chips_to_move();
+        self.least_to_move = self.least_to_move.min(chips);
+        self.most_to_move = self.most_to_move.max(chips);
+    }
+
     fn rounds(&mut self, more: u64, _game: &Game, _chips: &[u64], fired: &[u64]) {
         self.times = self.times.saturating_add(1);
         self.rounds = self.rounds.saturating_add(more);
         self.firings = all_firings(fired);
     }
 
-    fn searched(&mut self, _game: &Game, _played: u64, _searched: u64) {
+    fn searched(&mut self, game: &Game, played: u64, searched: u64) {
+        let all = game.graph().vertices() + game.graph().edges().len() as u64;
         self.searches = self.searches.saturating_add(1);
+        self.looks = played.saturating_add(searched) / all.max(1);
     }
 }
 
@@ -461,6 +482,7 @@ fn expect_rounds(rt: &(impl AllocGlobal + Abort), game: &Game, rounds: u64, firi
         "{} firings, not {firings}",
         told.firings
     );
+    assert!(rt; told.least_to_move > 0 && told.most_to_move <= game.total());
 }
 
 /// The chips on vertex 0, how many rounds they take, and how many firings.

@@ -13,4 +13,6 @@ mod graph;
 #[cfg(test)]
 mod rounds;
 #[cfg(test)]
+mod search;
+#[cfg(test)]
 mod sequence;

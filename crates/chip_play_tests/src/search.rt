@@ -1,0 +1,94 @@
+//! Plays that are long without a search of counts: by their looks and rounds, which do not depend on the machine.
+
+use crate::fire::{END, Told, heap};
+use crate::games::graph_of;
+use chip_fire::plain_watched;
+use chip_graph::Game;
+use chip_sequence::Outcome;
+use std::process::Abort;
+
+/// Plays a game in which counts are searched. While the search goes on, it says that some chips are still to move, and no
+/// more than there are.
+fn play(rt: &(impl AllocGlobal + Abort), game: &Game) -> Box<(Told, Outcome)> {
+    let mut told = Told::nothing();
+    let outcome = plain_watched(rt.alloc(), game, &mut told).expect(rt, "memory");
+    assert!(rt; told.searches == 1);
+    assert!(rt; told.least_to_move > 0 && told.most_to_move > 0);
+    assert!(rt; told.most_to_move <= game.total());
+    Box::new(rt.alloc(), (told, outcome)).expect(rt, "memory")
+}
+
+/// How often a vertex fires at this distance from the middle of the long path, where twice so many chips lie. In the end
+/// there is no chip in the middle, and one on each other vertex to which the chips come: up to the distance `half`, or on
+/// all, whose ends are 2,047 edges away. So the counts' second differences are 1, and the two sides are the same.
+fn firings(half: u64, distance: u64) -> u64 {
+    let reach = half.min(2_048);
+    let left = reach.saturating_sub(distance);
+    let rises = left.wrapping_mul(left.wrapping_add(1)) / 2;
+    rises.wrapping_add(left.wrapping_mul(half.saturating_sub(reach)))
+}
+
+/// Rounds alone take up to some millions.
+#[test]
+fn heaps_on_a_long_path(rt: HostRuntime) {
+    for chips in [2_000, 3_000, 3_600, 4_000, 4_500, 5_000, 6_000, 7_000] {
+        let game = heap(&rt, chips, 1 << 40);
+        let (told, outcome) = Box::into_inner(play(&rt, &game));
+        assert!(rt; told.looks < 1_000 && told.rounds < END);
+        for vertex in 0..END {
+            let expected = firings(chips / 2, vertex.abs_diff(2_047));
+            assert!(rt; outcome.fired.get(vertex as usize).copied() == Some(expected));
+        }
+    }
+}
+
+/// How many columns a strip has.
+const COLUMNS: u64 = 1_000;
+
+/// Twice as many chips as vertices, in the middle of a strip of columns that has edges both ways and loses chips at its
+/// first and last column.
+fn strip(rt: &(impl AllocGlobal + Abort), width: u64, is_grid: bool) -> Box<Game> {
+    let sink = COLUMNS.saturating_mul(width);
+    let mut rows = Vec::new(rt.alloc());
+    for vertex in 0..sink {
+        let row = vertex % width.max(1);
+        let mut beside = Vec::new(rt.alloc());
+        if is_grid || row == 0 {
+            beside
+                .push(vertex.checked_sub(width).unwrap_or(sink))
+                .expect(rt, "memory");
+            beside
+                .push(vertex.saturating_add(width).min(sink))
+                .expect(rt, "memory");
+        }
+        if row > 0 {
+            beside.push(vertex.saturating_sub(1)).expect(rt, "memory");
+        }
+        if row < width.saturating_sub(1) {
+            beside.push(vertex.saturating_add(1)).expect(rt, "memory");
+        }
+        for head in &beside {
+            rows.push((vertex, *head, 1)).expect(rt, "memory");
+        }
+    }
+    let mut start = vec![in rt.alloc(); 0; sink.saturating_add(1) as usize].expect(rt, "memory");
+    let middle = COLUMNS / 2 * width;
+    if let Some(chips) = start.get_mut(middle as usize) {
+        *chips = sink.saturating_mul(2);
+    }
+    let graph = graph_of(rt, sink.saturating_add(1), sink, &rows);
+    let game = Game::new(Box::into_inner(graph), start, 1 << 40).expect(rt, "a game");
+    Box::new(rt.alloc(), game).expect(rt, "memory")
+}
+
+/// Grids of 2 and 3 rows, a path with a leaf at each vertex, and one with a path of three. Rounds alone take hundreds of
+/// thousands.
+#[test]
+fn heaps_on_strips(rt: HostRuntime) {
+    for (width, is_grid) in [(2, true), (3, true), (2, false), (4, false)] {
+        let game = strip(&rt, width, is_grid);
+        let (told, outcome) = Box::into_inner(play(&rt, &game));
+        assert!(rt; told.looks < 15_000, "{} looks", told.looks);
+        assert!(rt; outcome.over.is_empty());
+    }
+}

@@ -88,6 +88,26 @@ def path_4095(_):
     return path_of(4095, 2**20)
 
 
+STRIP = 1000
+
+
+def strip(_):
+    """A grid of three rows that loses chips at its ends: far too long for the height at which a square grid ends."""
+    sink = 3 * STRIP
+    edges = [(v, v + step, 1) for v in range(sink) for step in (-3, 3) if 0 <= v + step < sink]
+    edges += [(v, v + step, 1) for v in range(sink) for step in (-1, 1) if 0 <= v % 3 + step < 3]
+    edges += [(v, sink, 1) for v in range(sink) if v < 3 or v >= sink - 3]
+    return sink + 1, sink, edges, {sink // 2: 2 * sink}
+
+
+def caterpillar(_):
+    """A path of which each vertex has a leaf, and whose ends lose chips to the sink."""
+    sink = 2 * STRIP
+    _, end, path, chips = path_of(STRIP, sink)
+    leaves = [(v, STRIP + v, 1) for v in range(STRIP)] + [(STRIP + v, v, 1) for v in range(STRIP)]
+    return sink + 1, sink, [(v, sink if head == end else head, 1) for v, head, _ in path] + leaves, chips
+
+
 def star(_):
     """A middle that sends a chip to each of 4,094 leaves, which send it back, and one to the sink."""
     leaves, sink = range(1, VERTICES - 1), VERTICES - 1
@@ -162,6 +182,8 @@ GAMES = [
     path,
     path_511,
     path_4095,
+    strip,
+    caterpillar,
     star,
     random_graph,
     chain,

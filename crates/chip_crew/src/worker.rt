@@ -82,14 +82,25 @@ fn next_actor<B: Crew>(queue: &Queue<B>, pass: &mut QueuePass, kept: Option<Acto
     }
 }
 
+/// Counts a turn in vain. The worker yields after more of them in a row than there are actors.
+fn count_in_vain(in_vain: &mut usize, actors: usize) {
+    if *in_vain < actors {
+        *in_vain += 1;
+    } else {
+        thread::yield_now();
+        *in_vain = 0;
+    }
+}
+
 /// Takes an actor, gives it a turn and puts it back. An actor that was kept has its turn in place of one from the
-/// queue, and one that can't be put back is kept.
+/// queue, and one that can't be put back is kept. The turns in vain before it in a row are counted on.
 #[inline(never)]
 fn turn_by_queue<B: Crew>(
     net: &Net,
     queue: &Queue<B>,
     pass: &mut QueuePass,
     kept: Option<Actor>,
+    in_vain: &mut usize,
 ) -> Option<Actor>
     requires net { net.now ≡ B.asked.crew.net }
     requires pass { IsPassOf queue.now pass.old }
@@ -100,13 +111,15 @@ fn turn_by_queue<B: Crew>(
     ensures turn { MakesOneTurn (view pass.old) (view pass.new) kept result }
 {
     let Some(mut actor) = next_actor(queue, pass, kept) else {
-        thread::yield_now();
+        count_in_vain(in_vain, queue.capacity());
         return None;
     };
     let turn = actor.turn(net);
     let back = queue.try_push_as::<Pushed<B>>(pass, actor);
     if matches!(turn, Turn::Waiting | Turn::Idle) {
-        thread::yield_now();
+        count_in_vain(in_vain, queue.capacity());
+    } else {
+        *in_vain = 0;
     }
     back.err()
 }
@@ -173,7 +186,7 @@ impl<'a, B: Crew, G: Gate> Shared<'a, B, G> {
     }
 
     /// The turns of a round of a worker, of which the first has this number: at most so many, and fewer where the gate
-    /// answers no. It tells how many were made.
+    /// answers no. It tells how many were made. With a queue the turns in vain before them in a row are counted on.
     #[inline(always)]
     fn round<D: Duties>(
         &self,
@@ -182,6 +195,7 @@ impl<'a, B: Crew, G: Gate> Shared<'a, B, G> {
         most: u64,
         share: &mut Share<'a, B>,
         duties: &mut D,
+        in_vain: &mut usize,
     ) -> u64
         requires most { (0 < most) × (most ≤ round_of share.old) × (first + most ≤ B.asked.plan.turns) }
         requires first { first % round_of share.old ≡ 0 }
@@ -200,7 +214,7 @@ impl<'a, B: Crew, G: Gate> Shared<'a, B, G> {
                 if !self.begin(worker, first, duties) {
                     return 0;
                 }
-                *kept = turn_by_queue::<B>(self.net, queue, pass, kept.take());
+                *kept = turn_by_queue::<B>(self.net, queue, pass, kept.take(), in_vain);
                 1
             }
             Share::Dealt(actors) => self.turn_each(worker, first, most, actors, duties),
@@ -224,11 +238,12 @@ impl<'a, B: Crew, G: Gate, D: Duties> Worker<'a, B, G, D> {
         } = self;
         let round = share.round();
         let mut turns = 0;
+        let mut in_vain = 0;
         let mut passed = true;
         // Whoever told it to stop hands back why.
         while turns < shared.plan.turns && !shared.stop.load(SeqCst) {
             let most = round.min(shared.plan.turns - turns);
-            let made = shared.round(number, turns, most, &mut share, &mut duties);
+            let made = shared.round(number, turns, most, &mut share, &mut duties, &mut in_vain);
             turns += made;
             if made < round {
                 // The gate answered no, or the plan gives no more turns.

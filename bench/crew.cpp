@@ -4,7 +4,8 @@
 //     crew GRAPH CHIPS RING WORKERS
 //
 // The actors are those of actors.hpp and wait in one bounded queue. A worker takes one, gives it a turn, and puts it
-// back; worker 0 polls the root after each of its turns.
+// back, and yields after more turns in vain in a row than there are actors; worker 0 polls the root after each of its
+// turns.
 
 #include <atomic>
 #include <cstdint>
@@ -36,6 +37,8 @@ public:
         return true;
     }
 
+    std::uint64_t capacity() const { return capacity_; }
+
     // The actor that has waited for longest, or nothing.
     Actor* try_pop() {
         std::uint64_t place = head_.load();
@@ -65,34 +68,36 @@ private:
     alignas(128) std::atomic<std::uint64_t> head_{0};
 };
 
-// What the workers share.
-struct Floor {
+// A worker.
+struct Worker {
     Words& words;
     Queue& queue;
     std::atomic<bool>& stop;
+    Actor* kept = nullptr;
+    std::uint64_t in_vain = 0;
 
-    // A turn of the actor that was kept, else of one from the queue. It comes back where it could not be put back.
-    Actor* one_turn(Actor* kept) const {
-        Actor* actor = kept ? kept : queue.try_pop();
-        if (!actor) {
-            std::this_thread::yield();
-            return nullptr;
-        }
-        const std::uint64_t work = actor->turn(words);
-        const bool is_back = queue.try_push(actor);
-        if (work == 0) std::this_thread::yield();
-        return is_back ? nullptr : actor;
+    void work() {
+        while (!stop.load()) one_turn();
     }
 
-    void work() const {
-        for (Actor* kept = nullptr; !stop.load();) kept = one_turn(kept);
-    }
-
-    void lead(Root& root) const {
-        Actor* kept = nullptr;
-        do kept = one_turn(kept);
+    void lead(Root& root) {
+        do one_turn();
         while (!root.poll(words));
         stop.store(true);
+    }
+
+    // A turn of the actor that was kept, else of one from the queue. It is kept where it cannot be put back.
+    void one_turn() {
+        Actor* const actor = kept ? kept : queue.try_pop();
+        kept = nullptr;
+        const std::uint64_t work = actor ? actor->turn(words) : 0;
+        if (actor && !queue.try_push(actor)) kept = actor;
+        if (work != 0) {
+            in_vain = 0;
+        } else if (in_vain++ == queue.capacity()) {
+            std::this_thread::yield();
+            in_vain = 0;
+        }
     }
 };
 
@@ -113,10 +118,13 @@ int main(int count, char** words_given) {
     Root root(graph, start);
     std::atomic<bool> has_to_stop{false};
 
-    const Floor floor{words, queue, has_to_stop};
     std::vector<std::thread> threads;
-    threads.emplace_back([&] { floor.lead(root); });
-    for (std::size_t i = 1; i < workers; ++i) threads.emplace_back([&] { floor.work(); });
+    for (std::size_t i = 0; i < workers; ++i) {
+        threads.emplace_back([&, i] {
+            Worker worker{words, queue, has_to_stop};
+            i == 0 ? worker.lead(root) : worker.work();
+        });
+    }
     for (std::thread& thread : threads) thread.join();
 
     return write_end(graph, start, root.finish(words));

@@ -79,9 +79,9 @@ pub(crate) struct Solver<'a> {
     problems: Vec<Problem<'a>>,
     /// The residual that may be left.
     tolerance: f64,
-    /// How many cycles were made since the residual was last compared.
+    /// How many cycles were made.
     cycles: u64,
-    /// The greatest residual that was left before one of these.
+    /// The residual when it was last compared.
     norm: f64,
 }
 
@@ -93,7 +93,7 @@ impl<'a> Solver<'a> {
             problems: Vec::new(alloc),
             tolerance: 0.0,
             cycles: 0,
-            norm: 0.0,
+            norm: f64::INFINITY,
         }
     }
 
@@ -109,7 +109,7 @@ impl<'a> Solver<'a> {
         let mut finest = Problem::new(alloc, &hierarchy.finest, counts)?;
         self.tolerance = TOLERANCE * ask(&mut finest, target, heights);
         self.cycles = 0;
-        self.norm = 0.0;
+        self.norm = f64::INFINITY;
         self.problems.push(finest)?;
         for level in &hierarchy.coarser {
             let counts = vec![in alloc; 0.0; level.rows.len()]?;
@@ -118,23 +118,22 @@ impl<'a> Solver<'a> {
         Ok(())
     }
 
-    /// Makes a cycle where more than little is left. It diverges where some do not halve the greatest residual that was
-    /// left before one of them: the first ones may spread a heap too far.
+    /// Makes a cycle where more than little is left. It diverges where some do not halve that. On graphs whose links go
+    /// both ways that is what the first cycle left, which may spread a heap too far.
     pub(crate) fn step(&mut self) -> Progress {
         let norm = self.norm();
         if norm <= self.tolerance {
             return Progress::Converged;
         }
-        if self.cycles == CYCLES_TO_HALVE {
+        let first = u64::from(self.hierarchy.kind == Kind::Symmetric);
+        if self.cycles % CYCLES_TO_HALVE == first {
             let is_halved = norm <= self.norm / 2.0;
             if !is_halved {
                 return Progress::Diverged;
             }
-            self.cycles = 0;
-            self.norm = 0.0;
+            self.norm = norm;
         }
-        self.cycles = self.cycles.wrapping_add(1);
-        self.norm = self.norm.max(norm);
+        self.cycles = self.cycles.saturating_add(1);
         v_cycle(&mut self.problems, self.hierarchy.kind);
         if self.hierarchy.kind != Kind::Symmetric {
             if let Some(finest) = self.problems.first_mut() {

@@ -88,7 +88,7 @@ fn heaps_on_strips(rt: HostRuntime) {
     for (width, is_grid) in [(2, true), (3, true), (2, false), (4, false)] {
         let game = strip(&rt, width, is_grid);
         let (told, outcome) = Box::into_inner(play(&rt, &game));
-        assert!(rt; told.looks < 15_000, "{} looks", told.looks);
+        assert!(rt; told.looks < 8_000, "{} looks", told.looks);
         assert!(rt; outcome.over.is_empty());
     }
 }

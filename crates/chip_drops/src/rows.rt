@@ -13,6 +13,9 @@ use chip_report::{WriteFault, write_all_of};
 use std::alloc::{AllocError, Global};
 use std::io::Write;
 
+/// The first line.
+pub const HEADER: &str = "vertex,chips,size,extent,lost\n";
+
 /// How many bytes are put together before they are written.
 const STRETCH: usize = 1 << 16;
 
@@ -131,7 +134,7 @@ pub fn write_rows<W: Write>(
     ensures { WritesRows pile drops.now (W.contents output.old) (W.contents output.new) result }
 {
     let mut text = String::with_capacity(alloc, STRETCH + ROW)?;
-    text.push_str("vertex,chips,size,extent,lost\n")?;
+    text.push_str(HEADER)?;
     let mut rows = Rows { text, written: 0 };
     let mut all = true;
     'drops: for &(vertex, count) in drops {

@@ -9,7 +9,7 @@ ghost use Rattle.chip_engine.specs.AvalanchesCommand.{AvalanchesAnswers, PlaysDr
 ghost use Rattle.chip_engine.specs.AvalanchesCommand.{fault_of_rows, reading_drops};
 
 use chip_command::{Ended, Fault, PlayOptions, conclude, read_game, status_of};
-use chip_drops::{Pile, RowsFault, write_rows};
+use chip_drops::{HEADER, Pile, RowsFault, write_rows};
 use chip_file::{drops_of_text, read_whole_within};
 use chip_fire::{Unwatched, Watch, plain_watched};
 use chip_graph::game::MAX_TOTAL;
@@ -18,9 +18,6 @@ use chip_report::{is_closed, report, write_all_of};
 use chip_sequence::Outcome;
 use std::alloc::Global;
 use std::io::{Read, Write};
-
-/// The first line of the rows.
-const HEADER: &[u8] = b"vertex,chips,size,extent,lost\n";
 
 /// Plays the game of a graph file, a chips file and a firing limit to its end, within the standard limits, and then drops
 /// the chips of a third file on it, one row after another, each played to its end. The rows of the avalanches go out as
@@ -125,7 +122,7 @@ fn play_drops<W: Write>(
     ensures { PlaysDrops game drops.now (W.contents output.old) (W.contents output.new) result }
 {
     if !is_closed(&rest) {
-        write_all_of(output, HEADER)?;
+        write_all_of(output, HEADER.as_bytes())?;
         return Ok(rest);
     }
     let pile = Pile::new(alloc, game, rest)?;

@@ -20,9 +20,14 @@ FIRST, PAUSE = 7, 1.3
 READ = b"chipfire: progress: reading, %d bytes\n"
 ROUNDS = re.compile(rb"chipfire: progress: ([0-9]+) rounds, ([0-9]+) firings\n")
 TURNS = re.compile(rb"chipfire: progress: ([0-9]+) turns of worker 0, the root's deficit is ([0-9]+)\n")
-LINES = {"plain": ROUNDS, "resume": ROUNDS, "run": TURNS}
-# What a command plays beside the graph.
-STARTS = {"plain": "chips.csv", "resume": "report.json", "run": "chips.csv"}
+LINES = {"plain": ROUNDS, "resume": ROUNDS, "run": TURNS, "avalanches": ROUNDS}
+# What a command plays beside the graph: `avalanches` drops a chip on the sink, and then the chips of the others.
+STARTS = {
+    "plain": ["chips.csv"],
+    "resume": ["report.json"],
+    "run": ["chips.csv"],
+    "avalanches": ["none.csv", "drops.csv"],
+}
 # What a command is at where it makes no rounds or turns.
 ON_ONE_THREAD = re.compile(
     rb"chipfire: progress: (reading, [0-9]+ bytes|read [0-9]+ vertices, [0-9]+ edges"
@@ -31,17 +36,19 @@ ON_ONE_THREAD = re.compile(
 OTHERWISE = {
     "plain": ON_ONE_THREAD,
     "resume": ON_ONE_THREAD,
+    "avalanches": ON_ONE_THREAD,
     "run": re.compile(rb"chipfire: progress: reading, [0-9]+ bytes\n"),
 }
 
 
 def write_uphill(folder, length):
-    """Writes the game of a chain with so many vertices before its sink, 64 chips on the first, and a report of no play."""
+    """Writes the game of a chain with so many vertices before its sink, its chips, and a report of no play."""
     edges = [[v, v + 1, 1] for v in range(length)] + [[v, v - 1, 2] for v in range(1, length)]
     with open(f"{folder}/graph.json", "w", encoding="utf-8") as file:
         json.dump({"edges": edges, "sink": length, "version": 1, "vertices": length + 1}, file)
-    with open(f"{folder}/chips.csv", "w", encoding="utf-8") as file:
-        file.write("vertex,chips\n0,64\n")
+    for name, rows in [("chips", "0,64\n"), ("none", ""), ("drops", f"{length},1\n0,64\n")]:
+        with open(f"{folder}/{name}.csv", "w", encoding="utf-8") as file:
+            file.write(f"vertex,chips\n{rows}")
     with open(f"{folder}/report.json", "w", encoding="utf-8") as file:
         chips, none = [64] + [0] * length, [0] * (length + 1)
         said = {"chips": chips, "closed": True, "fired": none, "over": [], "sealed": [], "version": 1}
@@ -50,7 +57,7 @@ def write_uphill(folder, length):
 
 def words_of(program, command, *options):
     """The words that play such a game."""
-    return [program, command, "graph.json", STARTS[command], *options]
+    return [program, command, "graph.json", *STARTS[command], *options]
 
 
 def line_of(process, until):
@@ -76,8 +83,8 @@ def wrong_lines(command, lines, seconds):
     return [] if done == sorted(set(done)) and all(done) else [f"what is done does not grow: {lines}"]
 
 
-def told(program, *words):
-    """What is wrong with the first two lines of a play without an end. Its output is empty till then."""
+def told(program, *words, output=b""):
+    """What is wrong with the first two lines of a play without an end. Its output is this till then."""
     with tempfile.TemporaryDirectory(prefix="chipfire-progress-") as room, tempfile.TemporaryFile() as out:
         write_uphill(room, ENDLESS)
         begun = time.monotonic()
@@ -89,7 +96,7 @@ def told(program, *words):
             process.kill()
         out.seek(0)
         written = out.read()
-    return wrong_lines(words[1], lines, seconds) + ([f"it wrote {written!r}"] if written else [])
+    return wrong_lines(words[1], lines, seconds) + ([f"it wrote {written!r}"] if written != output else [])
 
 
 def same(program, *words):
@@ -146,8 +153,11 @@ def play_long(program):
     yield "progress.py", "run tells how it goes on", told(program, "run")
     yield "progress.py", "run tells how it goes on, one worker", told(program, "run", "--workers", "1")
     yield "progress.py", "run tells how it goes on, dealt out", told(program, "run", "--dealt")
+    rows = b"vertex,chips,size,extent,lost\n%d,1,0,0,0\n" % ENDLESS
+    yield "progress.py", "avalanches tells how a drop goes on, after its rows", told(program, "avalanches", output=rows)
     yield "progress.py", "a long play answers the same", same(program, "plain")
     yield "progress.py", "a long sitting answers the same", same(program, "resume")
+    yield "progress.py", "a long drop answers the same", same(program, "avalanches")
     yield "progress.py", "a play stopped by its limit answers the same", same(program, "plain", "--limit", "200000000")
     turns = ["--workers", "1", "--turns", "3000000"]
     yield "progress.py", "a fault stands behind what was told", same(program, "run", *turns)

@@ -36,9 +36,10 @@ use Rattle.chip_sequence.proofs.AfterLemmas.{sum_small}
 use Rattle.chip_rounds.specs.Rounds.{IsBegun, IsAtRest}
 use Rattle.chip_rounds.specs.WorkList.{AreListed, HasSupport}
 use Rattle.chip_drops.specs.declared.avalanche.Avalanche.{Avalanche}
+use Rattle.chip_drops.specs.declared.pile.BegunDrop.{BegunDrop}
 use Rattle.chip_drops.specs.declared.pile.Pile.{Pile}
 use Rattle.chip_drops.specs.Avalanches.{dropped, IsAvalanche, DropsAddUp, AreAvalanches}
-use Rattle.chip_drops.specs.Pile.{IsPile, IsStable, sum_between}
+use Rattle.chip_drops.specs.Pile.{IsPile, IsStable, IsBegunDrop, sum_between}
 use Rattle.chip_drops.specs.declared.rows.RowsFault.{RowsFault}
 use Rattle.chip_drops.specs.Rows.{row_text, rows_text, IsOut, LeavesRows}
 
@@ -212,39 +213,50 @@ module _ (p : Pile) (pile : IsPile p) (g' : ChipGame) (v c added : ℕ) (more : 
       grind (arith, nat_tests, more.start u, get_or_past g'.start u 0, get_or_past p.game.start u 0)
 
   -- the counts lead to them
-  led_drop : LeadsTo p.game.graph (slice_index g'.start) (slice_index p.fired.items) (slice_index now)
-  led_drop = leads_more _ _ _ _ (λ u. cond (eqb v u) c 0) _ _ (rest_leads _ _ _ pile.begun pile.at_rest) start_more here
+  pub led_drop : LeadsTo g'.graph (slice_index g'.start) (slice_index p.fired.items)
+      (dropped (slice_index p.chips.items) v c)
+  led_drop = rw more.same_graph (leads_more _ _ _ _ (λ u. cond (eqb v u) c 0) _ _
+      (rest_leads _ _ _ pile.begun pile.at_rest) start_more (λ u. refl))
+
+  -- the sink has so many
+  pub arrived_drop : (sink arrived : ℕ) → sink ≡ g'.graph.sink → arrived ≡ get_or now sink arrived
+      → arrived ≡ dropped (slice_index p.chips.items) v c g'.graph.sink
+  arrived_drop sink arrived is_sink is =
+      let fits = pile.game.graph_fits.sink_is_vertex in
+      let each = length-set p.chips.items v (added + c) ∙ pile.begun.in_range.chips_each in
+      let same = ap (λ (G : Multigraph). G.sink) more.same_graph in
+      let inside : sink < length now = omega arith in
+      rw (← is_sink) (get_or_read now sink arrived inside is 0 ∙ here sink)
 
   -- so the play goes on
-  pub begun_drop : IsBegun g' (set p.chips.items v (added + c)) p.fired.items
+  pub begun_drop : IsBegun g' now p.fired.items
   begun_drop =
       let in_range = pile.begun.in_range in
       let each = length-set p.chips.items v (added + c) ∙ in_range.chips_each in
+      let there : slice_index now ≡ dropped (slice_index p.chips.items) v c = (λ i u. here u i) in
+      let led : LeadsTo p.game.graph (slice_index g'.start) (slice_index p.fired.items) (slice_index now) =
+      rw (there, ← more.same_graph) led_drop in
       let kept : sum now ≡ sum g'.start =
-      led_kept _ in_range.graph_fits _ _ _ (more.start_each ∙ pile.game.start_fits) each led_drop in
+      led_kept _ in_range.graph_fits _ _ _ (more.start_each ∙ pile.game.start_fits) each led in
       let total = more.total in
       rw (more.same_graph, more.same_limit)
-      (record { in_range = grind arith; on_the_way = led_way _ _ _ _ _ led_drop in_range.low_counts })
+      (record { in_range = grind arith; on_the_way = led_way _ _ _ _ _ led in_range.low_counts })
 
-  -- if no vertex is legal where the play ends that goes on from there, this is the avalanche
-  pub drop_told : (chips' fired' : List ℕ) → IsBegun g' chips' fired' → IsStable g'.graph (slice_index chips')
-      → (a : Avalanche) → a.size ≡ sum_between (λ k. k) (length fired') p.fired.items fired'
-      → a.extent ≡ sum_between (λ k. min k 1) (length fired') p.fired.items fired'
-      → (left arrived : ℕ) → left ≡ get_or chips' p.game.graph.sink left
-      → arrived ≡ get_or now p.game.graph.sink arrived → a.lost ≡ left - arrived
-      → IsAvalanche p.game.graph (dropped (slice_index p.chips.items) v c) a (slice_index chips')
-  drop_told chips' fired' begun stable a size extent left arrived is_left is_arrived lost =
-      let two = rest_leads g' chips' fired' begun (λ u can. absurd (stable u can)) in
-      let each : length fired' ≡ p.game.graph.vertices = grind arith in
-      subst (λ (x : ℕ → ℕ). IsAvalanche p.game.graph x a (slice_index chips')) (λ i u. here u i)
-      (drop_tells _ pile.game.graph_fits _ _ _ _ _ led_drop (rw more.same_graph at two) (rw more.same_graph at stable) a
-      (rw each at size) (rw each at extent)
-      (grind (
-        arith,
-        length-set p.chips.items v (added + c),
-        get_or_read chips' p.game.graph.sink left,
-        get_or_read now p.game.graph.sink arrived,
-      )))
+-- if no vertex is legal where the play of a drop ends, this is its avalanche
+pub drop_told : (g : ChipGame) (ds : List (ℕ × ℕ)) (x : ℕ → ℕ) (d : BegunDrop) → IsBegunDrop g ds x d
+    → (chips' fired' : List ℕ) → IsBegun d.pile.game chips' fired' → IsStable d.pile.game.graph (slice_index chips')
+    → (a : Avalanche) → a.size ≡ sum_between (λ k. k) (length fired') d.pile.room.before.items fired'
+    → a.extent ≡ sum_between (λ k. min k 1) (length fired') d.pile.room.before.items fired'
+    → (left : ℕ) → left ≡ get_or chips' d.pile.game.graph.sink left → a.lost ≡ left - d.arrived
+    → IsStable g.graph (slice_index chips') × IsAvalanche g.graph x a (slice_index chips')
+drop_told g ds x d is chips' fired' begun stable a size extent left is_left lost =
+    let two = rest_leads d.pile.game chips' fired' begun (λ u can. absurd (stable u can)) in
+    let each : length fired' ≡ d.pile.game.graph.vertices = grind arith in
+    rw (← is.adds.same_graph) (
+      stable,
+      drop_tells _ is.game.graph_fits _ _ _ _ _ is.led two stable a (rw each at size) (rw each at extent)
+          (grind (arith, get_or_read chips' d.pile.game.graph.sink left, is.arrived)),
+    )
 
 -- the outcome of a game is where its play may begin
 module _ (g : ChipGame) (ok : IsGame g) (o : Outcome) (played : IsPlayed g o) where
@@ -315,7 +327,7 @@ module _ (p : Pile) (ds : List (ℕ × ℕ)) (i : ℕ) (p' : Pile) (text : List 
   }
 
   pub next_rows : (p'' : Pile) (a : Avalanche) → IsPile p'' → HasMore p'.game (get_or ds i (0, 0) ∷ []) p''.game
-      → IsStable p''.game.graph (slice_index p''.chips.items)
+      → IsStable p'.game.graph (slice_index p''.chips.items)
       × IsAvalanche p'.game.graph (dropped (slice_index p'.chips.items) (get_or ds i (0, 0)).0 (get_or ds i (0, 0)).1) a
       (slice_index p''.chips.items)
       → LeavesRows p (take (i + 1) ds) p'' (text ++ row_text (get_or ds i (0, 0), a))
@@ -323,7 +335,7 @@ module _ (p : Pile) (ds : List (ℕ × ℕ)) (i : ℕ) (p' : Pile) (text : List 
       let (told, drops, avalanches, text_is) = so_far.rows in
       record {
         pile = is;
-        stable = told_by.0;
+        stable = rw more.same_graph told_by.0;
         game = next_game _ more;
         rows = (
           told ++ (get_or ds i (0, 0), a) ∷ [],

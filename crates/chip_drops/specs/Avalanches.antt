@@ -1,11 +1,13 @@
 -- Avalanches: what drops of chips set off, each a vertex and a count, and what they add up to.
 use Rattle.std.specs.Prelude.{◌≡◌, ℕ, ◌+◌, ◌==◌, if◌then◌else◌, List, [], ◌∷◌, length, map, min, sum_by}
+use Rattle.std.specs.Prelude.{slice_index, Option, MatchOption}
 use Rattle.chip_graph.specs.Sums.{sum_below}
 use Rattle.chip_graph.specs.Multigraph.{Multigraph, IsGraph}
 use Rattle.chip_graph.specs.More.{brought_to}
 use Rattle.chip_sequence.specs.Sequence.{position_after, IsFiringSequence, counts, HasEnded}
 use Rattle.chip_sequence.specs.Sittings.{LeadsTo}
 use Rattle.chip_drops.specs.declared.avalanche.Avalanche.{Avalanche}
+use Rattle.chip_drops.specs.declared.pile.Pile.{Pile}
 use Rattle.chip_drops.specs.Pile.{IsStable}
 
 -- the position x with so many chips more on v
@@ -27,6 +29,12 @@ pub record IsAvalanche (G : Multigraph) (x : ℕ → ℕ) (a : Avalanche) (y : �
   pub ends : (vs : List ℕ) × IsFiringSequence G x vs × HasEnded G x vs
   pub tells : (vs : List ℕ) → IsFiringSequence G x vs → HasEnded G x vs → Tells G x a vs
   pub leaves : (vs : List ℕ) → IsFiringSequence G x vs → HasEnded G x vs → (v : ℕ) → y v ≡ position_after G x vs v
+
+-- the play from x has left the pile p with no vertex legal, and this is its avalanche; or the limit has stopped it
+abbrev pub TellsAvalanche : Multigraph → (ℕ → ℕ) → Pile → Option Avalanche → Type 0
+TellsAvalanche G x p told = MatchOption told
+    (IsStable G (slice_index p.chips.items) → ⊥)
+    (λ a. IsStable G (slice_index p.chips.items) × IsAvalanche G x a (slice_index p.chips.items))
 
 -- drops with their avalanches: the first on x, each other one on what the one before it left; and the last leaves y
 abbrev pub AreAvalanches : Multigraph → (ℕ → ℕ) → List ((ℕ × ℕ) × Avalanche) → (ℕ → ℕ) → Type 0

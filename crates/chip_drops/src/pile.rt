@@ -1,16 +1,17 @@
 //! A pile: a game that has come to rest, on which chips are dropped.
 
-ghost use Rattle.std.specs.Prelude.{◌≡◌, ℕ, ◌+◌, ◌^◌, ◌<◌, ◌≤◌, [], ◌∷◌, sum, slice_index, IfOk, MatchOption};
+ghost use Rattle.std.specs.Prelude.{◌≡◌, ℕ, ◌+◌, ◌<◌, ◌≤◌, List, [], ◌∷◌, sum, slice_index, IfOk};
 ghost use Rattle.chip_graph.specs.Limits.{max_total};
-ghost use Rattle.chip_graph.specs.ChipGame.{IsGame};
+ghost use Rattle.chip_graph.specs.ChipGame.{ChipGame, IsGame};
 ghost use Rattle.chip_graph.specs.More.{HasMore};
 ghost use Rattle.chip_sequence.specs.Play.{IsPlayed};
 ghost use Rattle.chip_rounds.specs.Player.{PlaysOut};
-ghost use Rattle.chip_drops.specs.Avalanches.{IsAvalanche, dropped};
-ghost use Rattle.chip_drops.specs.Pile.{IsPile, IsStable};
+ghost use Rattle.chip_drops.specs.Avalanches.{dropped, TellsAvalanche};
+ghost use Rattle.chip_drops.specs.Pile.{IsPile, IsStable, IsBegunDrop};
 
 use crate::avalanche::Avalanche;
-use crate::play::{Room, play_out, tally};
+use crate::play::{Room, play_out, tally, work_from};
+use chip_fire::{Unwatched, Watch};
 use chip_graph::Game;
 use chip_rounds::outcome_at_rest;
 use chip_sequence::Outcome;
@@ -57,35 +58,40 @@ impl Pile {
         requires few_chips { sum self.game.start + count ≤ max_total }
         ensures pile { IsPile result.0 }
         ensures game { HasMore self.game ((vertex, count) ∷ []) result.0.game }
-        ensures avalanche { MatchOption result.1
-            (IsStable result.0.game.graph (slice_index result.0.chips.items) → ⊥)
-            (λ avalanche. IsStable result.0.game.graph (slice_index result.0.chips.items)
-            × IsAvalanche self.game.graph (dropped (slice_index self.chips.items) vertex count) avalanche
-            (slice_index result.0.chips.items)) }
+        ensures avalanche { TellsAvalanche self.game.graph (dropped (slice_index self.chips.items) vertex count)
+            result.0 result.1 }
+    {
+        self.begin_drop(vertex, count).finish(alloc, &mut Unwatched)
+    }
+
+    /// Drops so many chips on a vertex, and plays on by a work list.
+    pub(crate) fn begin_drop(self, vertex: u64, count: u64) -> BegunDrop
+        requires pile { IsPile self }
+        requires stable { IsStable self.game.graph (slice_index self.chips.items) }
+        requires is_vertex { vertex < self.game.graph.vertices }
+        requires few_chips { sum self.game.start + count ≤ max_total }
+        ensures { IsBegunDrop self.game ((vertex, count) ∷ []) (dropped (slice_index self.chips.items) vertex count)
+            result }
     {
         let Pile {
             game,
             mut chips,
-            fired,
+            mut fired,
             mut room,
         } = self;
-        let sink = game.graph().sink() as usize;
         let game = with_drop(game, vertex, count);
         chips[vertex as usize] += count;
-        let arrived = chips[sink];
-        let (chips, fired, found, stable) = play_out(alloc, &game, vertex, chips, fired, &mut room);
-        let (size, extent) = tally(&room.support[..found], &fired, &mut room.before);
-        let lost = chips[sink].saturating_sub(arrived);
-        let pile = Pile {
-            game,
-            chips,
-            fired,
-            room,
-        };
-        if stable {
-            (pile, Some(Avalanche { size, extent, lost }))
-        } else {
-            (pile, None)
+        let arrived = chips[game.graph().sink() as usize];
+        let worked = work_from(&game, vertex, &mut chips, &mut fired, &mut room);
+        BegunDrop {
+            pile: Pile {
+                game,
+                chips,
+                fired,
+                room,
+            },
+            arrived,
+            worked,
         }
     }
 
@@ -101,6 +107,59 @@ impl Pile {
             ..
         } = self;
         outcome_at_rest(alloc, &game, chips, fired)
+    }
+}
+
+/// A drop whose play has come so far.
+#[derive(Drop)]
+pub(crate) struct BegunDrop {
+    /// With the counts from before the drop in its room.
+    pile: Pile,
+    /// How many chips the sink had with the drop.
+    arrived: u64,
+    /// How many at the front of the support are all vertices that fired, if the work list came to the end.
+    worked: Option<usize>,
+}
+
+impl BegunDrop {
+    /// Whether the work list gave up, and the play goes on by rounds and a search.
+    pub(crate) fn is_slow(&self) -> bool {
+        self.worked.is_none()
+    }
+
+    /// Plays to the end: the avalanche, or `None` where the limit has stopped it.
+    pub(crate) fn finish<P: Watch>(self, alloc: Global, watch: &mut P) -> (Pile, Option<Avalanche>)
+        requires { (g : ChipGame) × (ds : List (ℕ × ℕ)) × (x : ℕ → ℕ) × IsBegunDrop g ds x self }
+        ensures pile { IsPile result.0 }
+        ensures avalanche { (g : ChipGame) (ds : List (ℕ × ℕ)) (x : ℕ → ℕ) → IsBegunDrop g ds x self
+            → HasMore g ds result.0.game × TellsAvalanche g.graph x result.0 result.1 }
+    {
+        let BegunDrop {
+            pile: Pile {
+                game,
+                chips,
+                fired,
+                mut room,
+            },
+            arrived,
+            worked,
+        } = self;
+        let (chips, fired, found, stable) = play_out(
+            alloc, &game, chips, fired, worked, &mut room, watch,
+        );
+        let (size, extent) = tally(&room.support[..found], &fired, &mut room.before);
+        let lost = chips[game.graph().sink() as usize].saturating_sub(arrived);
+        let pile = Pile {
+            game,
+            chips,
+            fired,
+            room,
+        };
+        if stable {
+            (pile, Some(Avalanche { size, extent, lost }))
+        } else {
+            (pile, None)
+        }
     }
 }
 

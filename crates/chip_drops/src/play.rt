@@ -4,10 +4,10 @@ ghost use Rattle.std.specs.Prelude.{◌≡◌, ◌↔◌, ℕ, ◌<◌, ◌≤�
 ghost use Rattle.chip_graph.specs.Limits.{max_limit, max_vertices};
 ghost use Rattle.chip_sequence.specs.Firing.{IsLegal};
 ghost use Rattle.chip_rounds.specs.Rounds.{IsBegun, IsAtRest};
-ghost use Rattle.chip_drops.specs.Pile.{IsRoom, IsStable, sum_between};
+ghost use Rattle.chip_drops.specs.Pile.{IsRoom, IsStable, IsWorkedOff, sum_between};
 ghost use Rattle.chip_rounds.specs.WorkList.{HasSupport};
 
-use chip_fire::{Unwatched, play_on};
+use chip_fire::{Watch, play_on};
 use chip_graph::{Game, Graph};
 use chip_rounds::{is_legal, work_off};
 use std::alloc::{AllocError, Global};
@@ -41,27 +41,22 @@ impl Room {
     }
 }
 
-/// Plays on from these chips and counts to the end within the limit: the chips and counts there, how many at the front of
-/// the support are all vertices that fired, and whether no vertex is legal. No vertex but this one is legal before.
-pub(crate) fn play_out(
-    alloc: Global,
+/// Plays on by a work list from these chips and counts. If it comes to the end, so many at the front of the support are
+/// all vertices that fired. No vertex but this one is legal before.
+pub(crate) fn work_from(
     game: &Game,
     vertex: u64,
-    mut chips: Vec<u64>,
-    mut fired: Vec<u64>,
+    chips: &mut [u64],
+    fired: &mut [u64],
     room: &mut Room,
-) -> (Vec<u64>, Vec<u64>, usize, bool)
-    requires begun { IsBegun game.now chips.items fired.items }
+) -> Option<usize>
+    requires begun { IsBegun game.now chips.old fired.old }
     requires is_vertex { vertex < game.now.graph.vertices }
-    requires legal { (v : ℕ) → IsLegal game.now.graph (slice_index chips.items) v → v ≡ vertex }
-    requires room { IsRoom game.now.graph.vertices fired.items room.old }
-    ensures begun { IsBegun game.now result.0.items result.1.items }
-    ensures at_rest { IsAtRest game.now.graph game.now.limit result.0.items result.1.items }
-    ensures room { IsRoom game.now.graph.vertices fired.items room.new }
-    ensures found { result.2 ≤ length room.new.support.items }
-    ensures support { HasSupport game.now.graph.vertices fired.items result.1.items
-        (take result.2 room.new.support.items) }
-    ensures stable { (result.3 ≡ true) ↔ IsStable game.now.graph (slice_index result.0.items) }
+    requires legal { (v : ℕ) → IsLegal game.now.graph (slice_index chips.old) v → v ≡ vertex }
+    requires room { IsRoom game.now.graph.vertices fired.old room.old }
+    ensures begun { IsBegun game.now chips.new fired.new }
+    ensures room { IsRoom game.now.graph.vertices fired.old room.new }
+    ensures worked { IsWorkedOff game.now.graph chips.new fired.new room.new result }
 {
     let Room {
         before,
@@ -69,15 +64,40 @@ pub(crate) fn play_out(
         list,
     } = room;
     list[0] = vertex;
-    let listed = usize::from(is_legal(game.graph(), &chips, vertex));
-    let worked = work_off(game, listed, before, support, list, &mut chips, &mut fired);
+    let listed = usize::from(is_legal(game.graph(), chips, vertex));
+    work_off(game, listed, before, support, list, chips, fired)
+}
+
+/// Plays on to the end within the limit, if a work list did not: the chips and counts there, how many at the front of the
+/// support are all vertices that fired, and whether no vertex is legal.
+pub(crate) fn play_out<P: Watch>(
+    alloc: Global,
+    game: &Game,
+    chips: Vec<u64>,
+    fired: Vec<u64>,
+    worked: Option<usize>,
+    room: &mut Room,
+    watch: &mut P,
+) -> (Vec<u64>, Vec<u64>, usize, bool)
+    requires begun { IsBegun game.now chips.items fired.items }
+    requires before_each { length room.old.before.items ≡ game.now.graph.vertices }
+    requires room { IsRoom game.now.graph.vertices room.old.before.items room.old }
+    requires worked { IsWorkedOff game.now.graph chips.items fired.items room.old worked }
+    ensures begun { IsBegun game.now result.0.items result.1.items }
+    ensures at_rest { IsAtRest game.now.graph game.now.limit result.0.items result.1.items }
+    ensures room { IsRoom game.now.graph.vertices room.old.before.items room.new }
+    ensures found { result.2 ≤ length room.new.support.items }
+    ensures support { HasSupport game.now.graph.vertices room.old.before.items result.1.items
+        (take result.2 room.new.support.items) }
+    ensures stable { (result.3 ≡ true) ↔ IsStable game.now.graph (slice_index result.0.items) }
+{
     if let Some(found) = worked {
         return (chips, fired, found, true);
     }
-    let (chips, fired) = play_on(alloc, game, chips, fired, &mut Unwatched);
-    list_all(support);
+    let (chips, fired) = play_on(alloc, game, chips, fired, watch);
+    list_all(&mut room.support);
     let stable = is_stable(game.graph(), &chips);
-    (chips, fired, support.len(), stable)
+    (chips, fired, room.support.len(), stable)
 }
 
 /// Lists all vertices.

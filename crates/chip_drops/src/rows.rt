@@ -9,6 +9,7 @@ ghost use Rattle.chip_drops.specs.Rows.{WritesRows, IsOut, FailsOut, row_text};
 
 use crate::avalanche::Avalanche;
 use crate::pile::Pile;
+use chip_fire::Watch;
 use chip_report::{WriteFault, write_all_of};
 use std::alloc::{AllocError, Global};
 use std::io::Write;
@@ -83,6 +84,17 @@ impl Rows {
         }
     }
 
+    /// Writes what was put together, if it is time.
+    fn write_if<W: Write>(&mut self, is_time: bool, output: &mut W) -> Result<(), RowsFault>
+        ensures { (old : Option (List ℕ)) (all : List ℕ)
+            → IsOut old (W.contents output.old) (string_bytes self.old.text) self.old.written all
+            → MatchResult result
+            (λ _. IsOut old (W.contents output.new) (string_bytes self.new.text) self.new.written all)
+            (FailsOut old (W.contents output.new) all) }
+    {
+        if is_time { self.write(output) } else { Ok(()) }
+    }
+
     /// Puts a row to them, and writes them where there are enough.
     fn push<W: Write>(
         &mut self,
@@ -98,10 +110,8 @@ impl Rows {
             (FailsOut old (W.contents output.new) more) }
     {
         push_row(&mut self.text, vertex, count, avalanche)?;
-        if self.text.len() < STRETCH {
-            return Ok(());
-        }
-        self.write(output)
+        let is_time = self.text.len() >= STRETCH;
+        self.write_if(is_time, output)
     }
 }
 
@@ -121,10 +131,13 @@ fn push_row(
 
 /// Drops chips one after another on a pile, each a vertex and a count, and writes a row for each when its play has ended;
 /// the pile that they leave. Nothing is dropped after one whose play the limit has stopped, and it has no row.
-pub fn write_rows<W: Write>(
+///
+/// Before a play that no work list comes to the end of, the rows that are there go out, and it is told how it goes on.
+pub fn write_rows<P: Watch, W: Write>(
     alloc: Global,
     mut pile: Pile,
     drops: &[(u64, u64)],
+    watch: &mut P,
     output: &mut W,
 ) -> Result<Dropped, RowsFault>
     requires pile { IsPile pile }
@@ -138,7 +151,9 @@ pub fn write_rows<W: Write>(
     let mut rows = Rows { text, written: 0 };
     let mut all = true;
     'drops: for &(vertex, count) in drops {
-        let (next, avalanche) = pile.drop_chips(alloc, vertex, count);
+        let begun = pile.begin_drop(vertex, count);
+        rows.write_if(begun.is_slow(), output)?;
+        let (next, avalanche) = begun.finish(alloc, watch);
         pile = next;
         let Some(avalanche) = avalanche else {
             all = false;

@@ -20,8 +20,8 @@ use std::alloc::Global;
 use std::io::{Read, Write};
 
 /// Plays the game of a graph file, a chips file and a firing limit to its end, within the standard limits, and then drops
-/// the chips of a third file on it, one row after another, each played to its end. The rows of the avalanches go out as
-/// they come, and then, where one is asked for, the report of the game that has all these chips at the start.
+/// the chips of a third file on it, one row after another, each played to its end. The rows of the avalanches go out, and
+/// then, where one is asked for, the report of the game that has all these chips at the start.
 ///
 /// All files are read before the first byte is written. The limit counts all firings of a vertex. A drop whose play it
 /// stops has no row, and nothing is dropped after it.
@@ -51,7 +51,7 @@ pub fn avalanches_engine<G: Read, C: Read, D: Read, W: Write, T: Write>(
 }
 
 /// Does what `avalanches_engine` does, by these options, and tells now and then how far the play before the drops has
-/// come. Its answer and its bytes are the same, whoever is told.
+/// come, and a slow one after a drop. Its answer and its bytes are the same, whoever is told.
 pub fn avalanches_engine_with<G: Read, C: Read, D: Read, P: Watch, W: Write, T: Write>(
     alloc: Global,
     graph: &mut G,
@@ -70,7 +70,7 @@ pub fn avalanches_engine_with<G: Read, C: Read, D: Read, P: Watch, W: Write, T: 
     let drops = read_drops(alloc, options.limits, drops, &game)?;
     watch.plays(&game);
     let rest = plain_watched(alloc, &game, watch)?;
-    let outcome = play_drops(alloc, game, rest, &drops, output)?;
+    let outcome = play_drops(alloc, game, rest, &drops, watch, output)?;
     write_report(alloc, &outcome, report)
 }
 
@@ -108,11 +108,12 @@ fn have_room(total: u64, drops: &[(u64, u64)]) -> bool
 }
 
 /// Plays drop after drop on a game that has come to this; the outcome of the game with the chips that were dropped.
-fn play_drops<W: Write>(
+fn play_drops<P: Watch, W: Write>(
     alloc: Global,
     game: Game,
     rest: Outcome,
     drops: &[(u64, u64)],
+    watch: &mut P,
     output: &mut W,
 ) -> Result<Outcome, Fault>
     requires game { IsGame game }
@@ -126,7 +127,7 @@ fn play_drops<W: Write>(
         return Ok(rest);
     }
     let pile = Pile::new(alloc, game, rest)?;
-    match write_rows(alloc, pile, drops, output) {
+    match write_rows(alloc, pile, drops, watch, output) {
         Ok(end) => Ok(end.pile.outcome(alloc)?),
         Err(fault) => Err(fault_of_rows(fault)),
     }

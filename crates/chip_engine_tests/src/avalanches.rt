@@ -3,13 +3,16 @@
 ghost use Rattle.std.specs.Prelude.{◌≡◌, sum, slice_index};
 ghost use Rattle.chip_drops.specs.Pile.{IsPile, IsStable};
 
-use crate::engines::{NO_LIMIT, TRIANGLE, closed};
-use chip_command::read_game;
+use crate::engines::{Heard, NO_LIMIT, TRIANGLE, closed};
+use chip_command::{Ended, Fault, read_game};
 use chip_drops::{Avalanche, Pile, write_rows};
 use chip_engine::{PlayOptions, avalanches_engine, avalanches_engine_with};
 use chip_fire::{Unwatched, plain};
 use chip_graph::Limits;
-use chip_report::is_closed;
+use chip_report::{WriteFault, is_closed};
+use std::alloc::Global;
+use std::io;
+use std::io::Write;
 use std::process::Abort;
 
 /// The play leaves 1 and 0, and 3 on the sink.
@@ -70,7 +73,8 @@ fn tells_an_avalanche(rt: HostRuntime) {
 fn writes_a_row_for_each_drop(rt: HostRuntime) {
     let mut rows = Vec::new(rt.alloc());
     let drops = [(0, 1), (2, 7), (0, 5)];
-    let end = write_rows(rt.alloc(), Box::into_inner(rested(&rt)), &drops, &mut rows);
+    let (pile, watch) = (Box::into_inner(rested(&rt)), &mut Unwatched);
+    let end = write_rows(rt.alloc(), pile, &drops, watch, &mut rows);
     assert!(rt; end.is_ok_and(|end| end.all));
     assert!(rt; rows.as_slice() == ROWS.as_bytes());
 }
@@ -118,4 +122,82 @@ fn a_stopped_drop_has_no_row(rt: HostRuntime) {
         rows.as_slice() == "vertex,chips,size,extent,lost\n0,1,1,1,1\n2,7,0,0,0\n".as_bytes()
     );
     assert!(rt; report.is_some_and(|report| report.as_slice() == STOPPED.as_bytes()));
+}
+
+/// Vertices 0 and 1 send each other a thousand chips, and 0 one to the sink: they take turns until that has many.
+const SLOW: &str =
+    "{\"edges\":[[0,1,1000],[0,2,1],[1,0,1000]],\"sink\":2,\"version\":1,\"vertices\":3}";
+
+/// At 0 and 1 together 1000 chips come to rest. So of the second drop 1005 go to the sink, one at each firing of 0, and 1
+/// fires as often.
+const SLOW_DROPS: &str = "vertex,chips\n0,5\n0,2000\n1,3\n";
+
+const BEFORE: &str = "vertex,chips,size,extent,lost\n0,5,0,0,0\n";
+
+const AFTER: &str = "0,2000,2010,2,1005\n1,3,0,0,0\n";
+
+/// Takes no more than so many bytes, and keeps how many it had after each write.
+#[derive(Drop)]
+struct Blocks {
+    room: usize,
+    taken: Vec<u8>,
+    ends: Vec<usize>,
+}
+
+impl Write for Blocks {
+    fn write(&mut self, bytes: &[u8]) -> io::Result<usize> {
+        if self.taken.len() >= self.room {
+            return Err(io::Error::from(io::ErrorKind::Other));
+        }
+        let count = bytes.len().min(self.room - self.taken.len());
+        self.taken.extend_from_slice(&bytes[..count])?;
+        self.ends.push(self.taken.len())?;
+        Ok(count)
+    }
+
+    fn flush(&mut self) -> io::Result<()> {
+        Ok(())
+    }
+}
+
+/// What comes of the slow drops where the output has room for so many bytes: the answer, the output, and who was told.
+fn slow_drops(alloc: Global, room: usize) -> (Result<Ended, Fault>, Blocks, Heard) {
+    let (graph, chips) = (&mut SLOW.as_bytes(), &mut "vertex,chips\n".as_bytes());
+    let (drops, options) = (&mut SLOW_DROPS.as_bytes(), PlayOptions::standard(NO_LIMIT));
+    let (mut heard, mut no_report) = (Heard { fired: [0; 3] }, None::<Vec<u8>>);
+    let mut rows = Blocks {
+        room,
+        taken: Vec::new(alloc),
+        ends: Vec::new(alloc),
+    };
+    let ended = avalanches_engine_with(
+        alloc,
+        graph,
+        chips,
+        drops,
+        options,
+        &mut heard,
+        &mut rows,
+        &mut no_report,
+    );
+    (ended, rows, heard)
+}
+
+#[test]
+fn a_slow_drop_is_told_of_after_the_rows_before_it(rt: HostRuntime) {
+    let (ended, rows, heard) = slow_drops(rt.alloc(), 1000);
+    assert!(rt; ended == closed(0));
+    assert!(rt; heard.fired == [1005, 1005, 0]);
+    let (before, all) = (BEFORE.len(), BEFORE.len() + AFTER.len());
+    assert!(rt; rows.ends.as_slice() == [before, all].as_slice());
+    assert!(rt; rows.taken.get(..before) == Some(BEFORE.as_bytes()));
+    assert!(rt; rows.taken.get(before..) == Some(AFTER.as_bytes()));
+}
+
+#[test]
+fn a_slow_drop_is_not_played_if_the_rows_before_it_fail(rt: HostRuntime) {
+    let (ended, rows, heard) = slow_drops(rt.alloc(), 10);
+    assert!(rt; ended == Err(Fault::Write(WriteFault { written: 10 })));
+    assert!(rt; Some(rows.taken.as_slice()) == BEFORE.as_bytes().get(..10));
+    assert!(rt; heard.fired == [0, 0, 0]);
 }

@@ -118,8 +118,8 @@ fn refuses_what_is_no_guess(rt: HostRuntime) {
 
 /// How often the vertices had fired when it was last told of a play.
 #[derive(Drop)]
-struct Heard {
-    fired: [u64; 3],
+pub(crate) struct Heard {
+    pub(crate) fired: [u64; 3],
 }
 
 impl Watch for Heard {

@@ -10,4 +10,4 @@ returns-in_err-push_row g c old all is =
 pub returns : goal.returns
 returns g c old all is =
     let put = out_put old _ _ _ all is (row_text ((c.args.vertex, c.args.count), c.args.avalanche)) in
-    c.write.ensures.bytes old _ (rw c.in_ok-push_row.ensures put)
+    c.write_if.ensures old _ (rw c.in_ok-push_row.ensures put)

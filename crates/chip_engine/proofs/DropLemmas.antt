@@ -1,7 +1,7 @@
 -- Serves AvalanchesCommand.antt.
 -- Drops that a file names, and what playing them comes to.
 use Rattle.std.proofs.Common.{◌≡◌, ℕ, ◌<◌, Bool, true, false, List, [], ◌∷◌, length, map, take, slice_index, None, Some}
-use Rattle.std.proofs.Common.{All, refl, sym, ◌∙◌, subst, arith, inl, inr}
+use Rattle.std.proofs.Common.{All, sym, ◌∙◌, subst, arith, inl, inr}
 use Rattle.std.proofs.lemmas.Bool.{false_from_ne_true}
 use Rattle.std.proofs.lemmas.Bool.Decides.{nat_tests}
 use Rattle.std.proofs.lemmas.Grind.{common_steps}
@@ -16,7 +16,7 @@ use Rattle.chip_sequence.proofs.CertificateLemmas.{end_of_the_way}
 use Rattle.chip_engine.proofs.SittingLemmas.{none_legal}
 use Rattle.chip_drops.specs.declared.pile.Pile.{Pile}
 use Rattle.chip_drops.specs.Pile.{IsPile, IsStable}
-use Rattle.chip_drops.specs.Rows.{rows_text, LeavesRows, EndsAt}
+use Rattle.chip_drops.specs.Rows.{LeavesRows, EndsAt}
 use Rattle.chip_report.specs.ReportText.{is_closed}
 use Rattle.chip_command.proofs.InputLemmas.{none_parts}
 use Rattle.chip_command.proofs.RoundTripLemmas.{given}
@@ -40,25 +40,36 @@ drops_vertices n text ds is =
     let both = given (drops_text_fault n text) _ ds is in
     subst (All (λ (d : ℕ × ℕ). d.0 < n)) both.1 (rows_vertices n [] _ (none_parts _ _ both.0).1)
 
--- no rows
-pub tells_none : (g : ChipGame) (o : Outcome) → IsPlayed g o → TellsDrops g [] (rows_text [])
-tells_none g o played = (o, played, slice_index o.chips.items, ([], refl, (λ v. refl), refl))
+-- a play of the game of a pile ends at its chips
+same_chips : (p : Pile) → IsPile p → (o : Outcome) → IsPlayed p.game o
+    → slice_index o.chips.items ≡ slice_index p.chips.items
+same_chips p pile o played =
+    let (vs, whole) = played.ends in
+    let end = end_of_the_way _ _ _ _ _ pile.begun.on_the_way pile.at_rest vs whole in
+    (λ i v. (played.position vs whole v ∙ sym (end.1 v)) i)
 
 -- the play of a pile on which a vertex is legal was stopped
 stopped_open : (p : Pile) → IsPile p → (IsStable p.game.graph (slice_index p.chips.items) → ⊥) → (o : Outcome)
     → IsPlayed p.game o → is_closed o ≡ false
 stopped_open p pile legal o played =
-    let (vs, whole) = played.ends in
-    let end = end_of_the_way _ _ _ _ _ pile.begun.on_the_way pile.at_rest vs whole in
-    let same : slice_index o.chips.items ≡ slice_index p.chips.items =
-    (λ i v. (played.position vs whole v ∙ sym (end.1 v)) i) in
-    false_from_ne_true _ (λ closed. legal (subst (IsStable p.game.graph) same (none_legal p.game o played closed)))
+    false_from_ne_true _ (λ closed. legal (subst (IsStable p.game.graph) (same_chips p pile o played)
+    (none_legal p.game o played closed)))
 
 -- the rows of drops on a pile that is the game at rest
 module _ (g : ChipGame) (o : Outcome) (played : IsPlayed g o) (p : Pile) (game : p.game ≡ g)
     (chips : p.chips.items ≡ o.chips.items) where
   pub tells : (ds : List (ℕ × ℕ)) (p' : Pile) (text : List ℕ) → LeavesRows p ds p' text → TellsDrops g ds text
-  tells ds p' text leaves = (o, played, _, rw (game, chips) at leaves.rows)
+  tells ds p' text leaves = (
+    (
+      p'.game,
+      rw game at leaves.game,
+      λ end is. subst (IsStable p'.game.graph) (sym (same_chips p' leaves.pile end is)) leaves.stable,
+    ),
+    o,
+    played,
+    _,
+    rw (game, chips) at leaves.rows,
+  )
 
   pub comes_to : (ds : List (ℕ × ℕ)) (n : ℕ) (text : List ℕ) (left p' : Pile) (all : Bool)
       → LeavesRows p (take n ds) left text → EndsAt p ds n left p' all

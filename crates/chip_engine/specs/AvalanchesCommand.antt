@@ -10,10 +10,13 @@ use Rattle.chip_graph.specs.declared.fault.GameFault.TheVariants.{Total}
 use Rattle.chip_file.specs.DropsText.{drops_of_text, drops_text_fault}
 use Rattle.chip_sequence.specs.Play.{IsPlayed}
 use Rattle.chip_sequence.specs.declared.outcome.Outcome.{Outcome}
-use Rattle.chip_drops.specs.Rows.{TellsRows, FailsOut}
+use Rattle.chip_drops.specs.Pile.{IsStable}
+use Rattle.chip_drops.specs.Rows.{TellsRows, FailsOut, rows_text}
 use Rattle.chip_drops.specs.declared.rows.RowsFault.{RowsFault}
 use Rattle.chip_drops.specs.declared.rows.RowsFault.TheVariants as rows_fault
 use Rattle.chip_report.specs.ReportText.{is_closed, report_text}
+use Rattle.chip_report.specs.Written.{WritesAll}
+use Rattle.chip_report.specs.declared.write.WriteFault.{WriteFault}
 use Rattle.chip_command.specs.CommandAnswers.{Spec, bind}
 use Rattle.chip_command.specs.Inputs.{GaveGame, reading, reading_game}
 use Rattle.chip_command.specs.Reports.{plain_status, Delivers}
@@ -36,19 +39,26 @@ abbrev pub fault_of_rows : RowsFault → Fault
 fault_of_rows (rows_fault.Write w) = Write w
 fault_of_rows rows_fault.NoMemory = NoMemory
 
--- a text has the rows of these drops on the game, each the avalanche on what the drop before it left
+-- the limit does not stop the play of the game with these drops: it ends with no vertex legal
+abbrev pub Closes : ChipGame → List (ℕ × ℕ) → Type 0
+Closes g ds = (g' : ChipGame) × HasMore g ds g'
+    × ((outcome : Outcome) → IsPlayed g' outcome → IsStable g'.graph (slice_index outcome.chips.items))
+
+-- a text has the rows of these drops on the game, each the avalanche on what the drop before it left, and the limit
+-- stops none of their plays
 abbrev pub TellsDrops : ChipGame → List (ℕ × ℕ) → List ℕ → Type 0
-TellsDrops g ds text = (outcome : Outcome) × IsPlayed g outcome
+TellsDrops g ds text = Closes g ds × (outcome : Outcome) × IsPlayed g outcome
     × (left : ℕ → ℕ) × TellsRows g.graph (slice_index outcome.chips.items) ds text left
 
 -- what the drops come to: a text with a row for each, and the game with all their chips; or the limit stopped the play of
--- the drop at i, the text has the rows before it, and the game the chips up to it; or the limit stopped the game itself
+-- the drop at i, the text has the rows before it, and the game the chips up to it; or the limit stopped the game itself,
+-- and the text is the first line
 abbrev pub ComesTo : ChipGame → List (ℕ × ℕ) → List ℕ → ChipGame → Outcome → Type 0
 ComesTo g ds text g' outcome =
     (TellsDrops g ds text × HasMore g ds g')
     ⊎ ((i : ℕ) × (i < length ds) × TellsDrops g (take i ds) text × HasMore g (take (i + 1) ds) g'
     × (is_closed outcome ≡ false))
-    ⊎ (TellsDrops g [] text × (g' ≡ g) × (is_closed outcome ≡ false))
+    ⊎ ((text ≡ rows_text []) × (g' ≡ g) × (is_closed outcome ≡ false))
 
 -- what two outputs hold: that of the rows, and that of the report where there is one
 pub record Outputs : Type 0 where
@@ -56,12 +66,13 @@ pub record Outputs : Type 0 where
   pub report : Option (Option (List ℕ))
 
 -- what playing the game and then the drops answers: the outcome of the game with the chips that were dropped; or there
--- was no memory for the play, or a fault came after a front of the rows of some drops
+-- was no memory for the play, or a fault came after a front of the first line, or of the rows of some drops
 abbrev pub PlaysDrops : ChipGame → List (ℕ × ℕ) → Option (List ℕ) → Option (List ℕ) → Result Outcome Fault → Type 0
 PlaysDrops g ds old new (Ok outcome) = (text : List ℕ) × (g' : ChipGame) × ComesTo g ds text g' outcome
     × IsPlayed g' outcome × Appends old new text
 PlaysDrops g ds old new (Err fault) =
     ((fault ≡ NoMemory) × Keeps old new)
+    ⊎ ((w : WriteFault) × (fault ≡ Write w) × WritesAll old new (rows_text []) (Err w))
     ⊎ ((n : ℕ) × (text : List ℕ) × TellsDrops g (take n ds) text
     × (f : RowsFault) × (fault ≡ fault_of_rows f) × FailsOut old new text f)
 

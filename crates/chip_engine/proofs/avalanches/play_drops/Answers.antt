@@ -1,22 +1,22 @@
-use Rattle.std.proofs.Common.{◌≡◌, [], true, length, refl, sym, ◌∙◌, arith, inr}
+use Rattle.std.proofs.Common.{◌≡◌, [], true, length, refl, sym, ◌∙◌, arith, inl, inr}
 use Rattle.std.proofs.lemmas.List.{take_all}
 use Rattle.chip_command.proofs.CommandLemmas.{handed_on}
 use Rattle.chip_drops.specs.Rows.{rows_text}
-use Rattle.chip_drops.specs.declared.rows.RowsFault.TheVariants.{Write, NoMemory}
+use Rattle.chip_drops.specs.declared.rows.RowsFault.TheVariants.{NoMemory}
 use Rattle.chip_report.specs.ReportText.{is_closed}
-use Rattle.chip_engine.proofs.DropLemmas.{tells_none, tells, comes_to}
+use Rattle.chip_engine.proofs.DropLemmas.{tells, comes_to}
 use Rattle.chip_engine.proofs.SittingLemmas.{none_legal}
 use Rattle.chip_engine.proofs.avalanches.play_drops.Goals as goal
 
 pub returns-in_err-write_all_of : goal.returns-in_err-write_all_of
 returns-in_err-write_all_of g c = rw (handed_on _ c.from_residual.ensures.1)
-    (inr (0, _, tells_none _ _ c.requires.played, Write _, refl, c.in_err-write_all_of.ensures))
+    (inr (inl (_, refl, rw c.as_bytes.ensures.value at c.in_err-write_all_of.ensures)))
 
 pub returns-then-not-is_closed : goal.returns-then-not-is_closed
 returns-then-not-is_closed g c =
     let halted = sym c.is_closed.ensures ∙ c.if-not-is_closed.true in
-    let comes = inr (inr (tells_none _ _ c.requires.played, refl, halted)) in
-    (rows_text [], c.args.game, comes, c.requires.played, c.in_ok-write_all_of.ensures)
+    let went = rw c.as_bytes.ensures.value at c.in_ok-write_all_of.ensures in
+    (rows_text [], c.args.game, inr (inr (refl, refl, halted)), c.requires.played, went)
 
 pub write_rows-requires-clause-stable : goal.write_rows-requires-clause-stable
 write_rows-requires-clause-stable g c =
@@ -28,7 +28,7 @@ returns-in_err-outcome-in-Ok g c =
     let (n, text, left, leaves, ends, went) = c.in-Ok.ensures in
     let told = tells _ _ c.requires.played _ c.in_ok-pile.ensures.game c.in_ok-pile.ensures.chips _ left text leaves in
     rw (handed_on _ c.from_residual-in_err-outcome-in-Ok.ensures.1)
-    (inr (n, text, told, NoMemory, refl, (length text, rw (take_all (length text) text (omega arith)) went)))
+    (inr (inr (n, text, told, NoMemory, refl, (length text, rw (take_all (length text) text (omega arith)) went))))
 
 pub returns-in_ok-outcome-in-Ok : goal.returns-in_ok-outcome-in-Ok
 returns-in_ok-outcome-in-Ok g c =
@@ -42,4 +42,4 @@ pub returns-in-Err : goal.returns-in-Err
 returns-in-Err g c =
     let (n, text, left, leaves, fails) = c.in-Err.ensures in
     let told = tells _ _ c.requires.played _ c.in_ok-pile.ensures.game c.in_ok-pile.ensures.chips _ left text leaves in
-    inr (n, text, told, c.in-Err.fault, c.fault_of_rows.ensures, fails)
+    inr (inr (n, text, told, c.in-Err.fault, c.fault_of_rows.ensures, fails))

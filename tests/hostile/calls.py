@@ -2,7 +2,7 @@
 import errno
 
 from machine import LAST
-from worked import TRACE, differences
+from worked import FILE, differences
 
 OPEN_ERRORS = ["ENOENT", "EACCES", "EMFILE", "ENOMEM"]
 READ_ERRORS = ["EIO", "EINTR", "EAGAIN", "EISDIR", "ENOMEM"]
@@ -114,20 +114,21 @@ def failing_faults(machine, worked):
     yield f"{worked.name}: its line by one byte", whole
 
 
-def failing_traces(machine, worked):
-    """A write of the file of traces that fails is told, there is none behind it, and the output stays empty."""
+def failing_files(machine, worked):
+    """A write of the file that fails is told, and there is none behind it; a report comes after the output, and traces
+    before it."""
     slow = ("file", 1, LAST, ONE_BYTE)
     whole = lambda: worked.differences(machine.run_refusing(worked.words, slow)[0])
-    yield f"{worked.name}: its traces by one byte", whole
-    for written in range(len(machine.run_refusing(worked.words)[0].trace or b"")):
+    yield f"{worked.name}: its file by one byte", whole
+    for written in range(len(machine.run_refusing(worked.words)[0].file or b"")):
         for how in (errno.EINTR, NOTHING):
 
             def faults(written=written, how=how):
                 ran, tally = machine.run_refusing(worked.words, ("file", written + 1, written + 1, how), slow)
-                found = worked.faulted(ran, "93 Write")
+                found = worked.faulted(ran, "93 Write", worked.out if worked.report else b"")
                 return found + ([] if tally["file"][0] == written + 1 else ["it wrote once more"])
 
-            yield f"{worked.name}: its traces {'fail' if how else 'go nowhere'} after {written} bytes", faults
+            yield f"{worked.name}: its file {'fails' if how else 'takes nothing'} after {written} bytes", faults
 
 
 def failing_threads(machine, worked):
@@ -149,6 +150,6 @@ def tests(machine, reference, runs):
         if worked.files():
             yield from slow_reads(machine, reference, worked)
         yield from failing_faults(machine, worked) if worked.fault else failing_writes(machine, worked)
-        if TRACE in worked.words:
-            yield from failing_traces(machine, worked)
+        if FILE in worked.words:
+            yield from failing_files(machine, worked)
         yield from failing_threads(machine, worked)

@@ -10,12 +10,12 @@ SECONDS = 60
 @dataclasses.dataclass
 class Ran:
     """A finished run. `status` is the exit status, or below 0 the signal that ended it, or `None` where it went on too
-    long; `trace` is what stands in the file of traces that it was to write, if there is one."""
+    long; `file` is what stands in the file that it was to write, if there is one."""
 
     out: bytes
     err: bytes
     status: object
-    trace: object = None
+    file: object = None
 
 
 def taken(file):
@@ -41,24 +41,24 @@ def end_of(process):
 class Begun:
     """A run that has begun; `process` is its number."""
 
-    def __init__(self, process, out, err, trace):
-        self.process, self.out, self.err, self.trace = process, out, err, trace
+    def __init__(self, process, out, err, path):
+        self.process, self.out, self.err, self.path = process, out, err, path
 
     def end(self):
         """The run, once it has ended."""
         ran = Ran(b"", b"", end_of(self.process))
         ran.out, ran.err = taken(self.out), taken(self.err)
-        if self.trace and os.path.exists(self.trace):
-            with open(self.trace, "rb") as file:
-                ran.trace = file.read()
-            os.remove(self.trace)
+        if self.path and os.path.exists(self.path):
+            with open(self.path, "rb") as file:
+                ran.file = file.read()
+            os.remove(self.path)
         return ran
 
 
-def start(words, environment=None, actions=(), trace=None):
+def start(words, environment=None, actions=(), path=None):
     """Starts a program with nothing on standard input and files in memory for what it writes.
 
-    `actions` are further file actions of the start, made after these; `trace` is the file of traces, if there is one.
+    `actions` are further file actions of the start, made after these; `path` is the file that it writes, if there is one.
     """
     out, err = os.memfd_create("out"), os.memfd_create("err")
     files = [
@@ -70,4 +70,4 @@ def start(words, environment=None, actions=(), trace=None):
     environment = os.environ if environment is None else {**os.environ, **environment}
     # (Python itself ignores these two, and a program inherits that)
     signals = [signal.SIGPIPE, signal.SIGXFSZ]
-    return Begun(os.posix_spawn(words[0], words, environment, file_actions=files, setsigdef=signals), out, err, trace)
+    return Begun(os.posix_spawn(words[0], words, environment, file_actions=files, setsigdef=signals), out, err, path)

@@ -6,7 +6,7 @@ import subprocess
 import sys
 
 import launch
-from worked import TRACE
+from worked import FILE
 
 HERE = os.path.dirname(os.path.realpath(__file__))
 KINDS = ["alloc", "read", "out", "err", "file", "open", "thread"]
@@ -14,7 +14,7 @@ LAST = 10**9
 
 
 class Machine:
-    """Starts the program, as it is or with calls that fail. The word `TRACE` stands for a new file."""
+    """Starts the program, as it is or with calls that fail. The word `FILE` stands for a new one."""
 
     def __init__(self, program, room):
         self.program, self.room = program, room
@@ -26,9 +26,9 @@ class Machine:
     def start(self, words, environment=None, actions=(), limits=None):
         """Starts the program, under limits of the system as limited.py takes them."""
         before = [sys.executable, f"{HERE}/limited.py", limits] if limits else []
-        trace = f"{self.room}/{next(self.numbers)}.csv" if TRACE in words else None
-        words = [trace if word == TRACE else word for word in words]
-        return launch.start([*before, self.program, *words], environment, actions, trace)
+        path = f"{self.room}/{next(self.numbers)}" if FILE in words else None
+        words = [path if word == FILE else word for word in words]
+        return launch.start([*before, self.program, *words], environment, actions, path)
 
     def run(self, words, actions=()):
         return self.start(words, actions=actions).end()

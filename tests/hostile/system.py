@@ -15,7 +15,7 @@ import threading
 import time
 
 import launch
-from worked import NO_MEMORY, TRACE, differences, fault_differences
+from worked import FILE, NO_MEMORY, differences, fault_differences
 
 KIB, MIB = 1 << 10, 1 << 20
 # Sizes of all memory and of the stack, in KiB: too little for the loader, just about enough, plenty.
@@ -152,23 +152,23 @@ def odd_files(machine, worked, room):
         yield f"{worked.name}: {number} files may be open beside the standard streams", faults
 
 
-def traces_over_inputs(machine, worked):
-    """A trace that is an input under another name is refused, and the input stays as it was."""
+def files_over_inputs(machine, worked):
+    """A file to write that is an input under another name is refused, and the input stays as it was."""
     for place, path in worked.files():
         for how, link in (("a hard link", os.link), ("a symbolic link", os.symlink)):
 
             def faults(place=place, path=path, link=link):
                 with tempfile.TemporaryDirectory(prefix="chipfire-hostile-") as room:
-                    text, name = shutil.copy(path, f"{room}/input"), f"{room}/trace"
+                    text, name = shutil.copy(path, f"{room}/input"), f"{room}/output"
                     link(text, name)
-                    words = [name if word == TRACE else word for word in worked.words]
+                    words = [name if word == FILE else word for word in worked.words]
                     words[place] = text
                     ran = machine.run(words)
                     is_kept = filecmp.cmp(path, text, shallow=False)
-                found = fault_differences(ran, f"92 Open {worked.words.index(TRACE)}")
+                found = fault_differences(ran, f"92 Open {worked.words.index(FILE)}")
                 return found if is_kept else [*found, "the input was changed"]
 
-            yield f"{worked.name}: its trace is {how} of {os.path.basename(path)}", faults
+            yield f"{worked.name}: its file is {how} of {os.path.basename(path)}", faults
 
 
 def is_unstarted(ran):
@@ -309,7 +309,7 @@ def killed(machine, worked, seed):
         # (the signal may also come between the last byte and the end of the program)
         is_ended = ran.status == -signal.SIGTERM
         if is_ended and not ran.out:
-            return differences(ran, b"", b"", -signal.SIGTERM) + worked.trace_faults(ran)
+            return differences(ran, b"", b"", -signal.SIGTERM) + worked.file_faults(ran)
         return worked.differences(dataclasses.replace(ran, status=worked.status) if is_ended else ran)
 
     yield f"{worked.name}: ended at moment {seed}", faults
@@ -381,7 +381,7 @@ def tests(machine, reference, runs, kills):
         yield from useless_streams(machine, worked)
         yield from size_limits(machine, worked) if not worked.fault else ()
         yield from odd_files(machine, worked, machine.room)
-        yield from traces_over_inputs(machine, worked) if TRACE in worked.words else ()
+        yield from files_over_inputs(machine, worked) if FILE in worked.words else ()
         yield from small_spaces(machine, worked)
         yield from several_at_once(machine, worked)
         yield from slow_pipes(machine, worked)

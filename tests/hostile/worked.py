@@ -1,7 +1,7 @@
 """Runs with answers from outside: those that lie under examples/, which tests/cli/run compares with the scripts there.
 
-A command is one more line of `worked_runs`. Words that end as files do are taken from examples/; the word `TRACE` is a
-file of traces that the run writes.
+A command is one more line of `worked_runs`. Words that end as files do are taken from examples/; the word `FILE` is a
+file that the run writes: its traces, or a report after its output.
 """
 import dataclasses
 
@@ -9,11 +9,12 @@ import model
 
 NO_MEMORY = "90 NoMemory"
 FILE_ENDS = (".json", ".csv")
-TRACE = "{trace}"
+FILE = "{file}"
 TRACE_HEADER = b"vertex,kind,edge,count\n"
 CHIPS_HEADER = b"vertex,chips\n"
 # Five more chips on vertex 0 of the triangle, after four: 6,0,3 fires three times at 0 and once at 1.
 DROPPED = b"vertex,chips,size,extent,lost\n0,5,4,2,4\n"
+TOGETHER = b'{"chips":[1,1,7],"closed":true,"fired":[5,2,0],"over":[],"sealed":[],"version":1}\n'
 
 
 @dataclasses.dataclass
@@ -32,6 +33,8 @@ class Worked:
     # Where the play searches counts: a limit in place of its last word that is never reached, and yet so near that none
     # are searched.
     near_limit: str = ""
+    # The report that it writes to `FILE`, if it does, after all of `out`.
+    report: bytes = b""
 
     def unsearched(self):
         """The same run without its search of counts."""
@@ -43,8 +46,8 @@ class Worked:
         return sorted(found, key=lambda file: self.words[file[0] - 1] == "--feed")
 
     def opens(self):
-        """The numbers of the arguments that are opened, in their order: the file of traces is the last one."""
-        return [at for at, _ in self.files()] + [at for at, word in enumerate(self.words) if word == TRACE]
+        """The numbers of the arguments that are opened, in their order: the file that is written is the last one."""
+        return [at for at, _ in self.files()] + [at for at, word in enumerate(self.words) if word == FILE]
 
     def bytes_of_files(self):
         found = []
@@ -65,32 +68,36 @@ class Worked:
     def differences(self, ran):
         """What of a finished run is not its answer."""
         found = differences(ran, self.out, self.line(), self.status)
-        return found or self.trace_faults(ran, is_whole=not self.fault)
+        return found or self.file_faults(ran, is_whole=not self.fault)
 
     def faulted(self, ran, fault, out=b""):
         """What of a finished run is not this fault, with these bytes on its output."""
-        return differences(ran, out, line_of(fault), 1) or self.trace_faults(ran)
+        return differences(ran, out, line_of(fault), 1) or self.file_faults(ran)
 
     def differences_or_fault(self, ran):
         """The same, where one of the other faults may come instead."""
-        if any(not self.faulted(ran, fault) for fault in self.also):
+        outs = (b"", self.out) if self.report else (b"",)
+        if any(not self.faulted(ran, fault, out) for fault in self.also for out in outs):
             return []
         return self.differences(ran)
 
     def unwritten(self, ran, has_errors=True):
         """What of a finished run is wrong where its output could not be written, nor its errors if so said."""
         line = self.line() or line_of("93 Write 0")
-        return differences(ran, b"", line if has_errors else b"", 1) or self.trace_faults(ran)
+        return differences(ran, b"", line if has_errors else b"", 1) or self.file_faults(ran)
 
     def unsaid(self, ran):
         """What of a finished run is wrong where nothing could be written to its errors."""
-        return differences(ran, self.out, b"", self.status) or self.trace_faults(ran, is_whole=not self.fault)
+        return differences(ran, self.out, b"", self.status) or self.file_faults(ran, is_whole=not self.fault)
 
-    def trace_faults(self, ran, is_whole=False):
-        """What of the traces that a run left is no beginning of true ones, or not the whole of them if so said."""
-        if TRACE not in self.words or not (ran.trace or is_whole):
+    def file_faults(self, ran, is_whole=False):
+        """What of the file that a run left is no beginning of the right one, or not the whole of it if so said."""
+        if FILE not in self.words or not (ran.file or is_whole):
             return []
-        text = ran.trace or b""
+        text = ran.file or b""
+        if self.report:
+            is_well = text == self.report if is_whole else self.report.startswith(text)
+            return [] if is_well else [f"this is not the report: {text!r}"]
         lines = text[: text.rfind(b"\n") + 1]
         if not (lines.startswith(TRACE_HEADER) or TRACE_HEADER.startswith(text)) or (is_whole and text != lines):
             return [f"these are no traces: {text!r}"]
@@ -148,6 +155,12 @@ def worked_runs(examples):
         run("small triangle, large", f"plain {triangle} --large", "triangle/report.json"),
         run("no words", "", "triangle/report.json"),
         run("dropped", f"avalanches {triangle} sittings/chips.csv", out=DROPPED),
+        run(
+            "dropped, with a report",
+            f"avalanches {triangle} sittings/chips.csv --report {FILE}",
+            out=DROPPED,
+            report=TOGETHER,
+        ),
         run("drops that are a graph", f"avalanches {triangle} triangle/graph.json", fault="23 Header", status=1),
         run("graph of the chain", "check chain/graph.json", "chain/check.txt"),
         run("graph of the chain, large", "check --large chain/graph.json", "chain/check.txt"),
@@ -167,7 +180,7 @@ def worked_runs(examples):
         run("replayed run", f"replay {triangle} triangle/trace.csv", out=b"fire 0 2\nfire 1 1\n"),
         run(
             "on two threads",
-            f"run {triangle} --trace {TRACE}",
+            f"run {triangle} --trace {FILE}",
             "triangle/report.json",
             also=(NO_MEMORY, "65 Spawn"),
             is_steady=False,
@@ -175,7 +188,7 @@ def worked_runs(examples):
         ),
         run(
             "fed on two threads",
-            f"run triangle/graph.json triangle/no-chips.csv --feed triangle/chips.csv --trace {TRACE}",
+            f"run triangle/graph.json triangle/no-chips.csv --feed triangle/chips.csv --trace {FILE}",
             "triangle/report.json",
             also=(NO_MEMORY, "65 Spawn"),
             is_steady=False,
@@ -183,7 +196,7 @@ def worked_runs(examples):
         ),
         run(
             "dealt out to two threads and fed",
-            f"run --dealt triangle/graph.json triangle/no-chips.csv --feed triangle/chips.csv --trace {TRACE}",
+            f"run --dealt triangle/graph.json triangle/no-chips.csv --feed triangle/chips.csv --trace {FILE}",
             "triangle/report.json",
             also=(NO_MEMORY, "65 Spawn"),
             is_steady=False,

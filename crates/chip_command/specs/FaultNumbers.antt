@@ -77,7 +77,7 @@ print_fault fault.NoMemory = (90, Nowhere)
 print_fault fault.Usage = (91, Nowhere)
 print_fault (fault.Open argument) = (92, At argument)
 print_fault (fault.Write f) = (93, At f.written)
-print_fault fault.WriteTrace = (93, Nowhere)
+print_fault fault.WriteFile = (93, Nowhere)
 
 -- the number of a fault of a command
 abbrev pub number_of : Fault → ℕ

@@ -10,7 +10,7 @@ use Rattle.chip_trace.specs.declared.fault.ReplayFault.TheVariants as replay
 use Rattle.chip_trace.specs.declared.fault.TraceFault.{TraceFault}
 use Rattle.chip_trace.specs.declared.fault.TraceFault.TheVariants as trace
 use Rattle.chip_command.specs.declared.fault.Fault.{Fault}
-use Rattle.chip_command.specs.declared.fault.Fault.TheVariants.{File, Stuck, WriteTrace, NotReport, Resume, NoMemory}
+use Rattle.chip_command.specs.declared.fault.Fault.TheVariants.{File, Stuck, WriteFile, NotReport, Resume, NoMemory}
 
 -- want of memory is one fault, whoever met it
 abbrev pub fault_of_file : FileFault → Fault
@@ -24,7 +24,7 @@ fault_of_replay replay.NoMemory = NoMemory
 
 -- the fault of recorded runs that were not written
 abbrev pub fault_of_trace : TraceFault → Fault
-fault_of_trace trace.Write = WriteTrace
+fault_of_trace trace.Write = WriteFile
 fault_of_trace trace.NoMemory = NoMemory
 
 -- the fault of bytes that are no report

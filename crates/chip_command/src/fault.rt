@@ -41,8 +41,8 @@ pub enum Fault {
     Spawn,
     /// The recorded runs of a trace do not fit together, and this row of this vertex is to blame.
     Stuck { vertex: u64, row: u64 },
-    /// The file of a trace could not be written to its end.
-    WriteTrace,
+    /// The file of `--trace` or `--report` could not be written to its end.
+    WriteFile,
     /// The output could not be written to its end.
     Write(WriteFault),
     /// The arguments are no command.
@@ -128,7 +128,7 @@ impl From<TraceFault> for Fault {
 
     fn from(fault: TraceFault) -> Fault {
         match fault {
-            TraceFault::Write => Fault::WriteTrace,
+            TraceFault::Write => Fault::WriteFile,
             TraceFault::NoMemory => Fault::NoMemory,
         }
     }
@@ -327,7 +327,7 @@ impl Fault {
             Fault::Usage => (91, Location::Nowhere),
             Fault::Open(argument) => (92, Location::At(*argument)),
             Fault::Write(fault) => (93, Location::At(fault.written)),
-            Fault::WriteTrace => (93, Location::Nowhere),
+            Fault::WriteFile => (93, Location::Nowhere),
         }
     }
 }

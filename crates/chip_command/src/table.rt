@@ -348,7 +348,7 @@ which it would empty. Only one input may be -, which is standard input.
 static WRITE: Explanation = row!(93 Write BYTES: "the output could not be written to its end", "\
 The disk is full, or the reader ended first, as `head` does. What was written is no whole
 answer, so do not use it. Without a number it is the file of `--trace`, and nothing of the
-report was written.
+report was written, or the file of `--report`, and all rows were.
 ");
 
 /// All faults, by their numbers.

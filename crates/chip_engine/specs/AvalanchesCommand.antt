@@ -19,10 +19,10 @@ use Rattle.chip_report.specs.Written.{WritesAll}
 use Rattle.chip_report.specs.declared.write.WriteFault.{WriteFault}
 use Rattle.chip_command.specs.CommandAnswers.{Spec, bind}
 use Rattle.chip_command.specs.Inputs.{GaveGame, reading, reading_game}
-use Rattle.chip_command.specs.Reports.{plain_status, Delivers}
+use Rattle.chip_command.specs.Reports.{plain_status}
 use Rattle.chip_command.specs.declared.ended.Ended.{Ended}
 use Rattle.chip_command.specs.declared.fault.Fault.{Fault}
-use Rattle.chip_command.specs.declared.fault.Fault.TheVariants.{Game, Write, NoMemory}
+use Rattle.chip_command.specs.declared.fault.Fault.TheVariants.{Game, Write, WriteFile, NoMemory}
 
 -- what reading the drops for a game may give: they have a fault, or there are too many chips with them
 abbrev pub reading_drops : SizeLimits → Option (List ℕ) → ChipGame → Spec (List (ℕ × ℕ))
@@ -80,11 +80,13 @@ PlaysDrops g ds old new (Err fault) =
 abbrev pub ended_of : Outcome → Ended
 ended_of outcome = record { status = plain_status outcome; cut = false }
 
--- what writing the report answers, where one is asked for: it goes out, or there is no memory
+-- what writing the report answers, where one is asked for: it goes out; or just a front of it does, or there is no memory
 abbrev pub WritesReport : Option (Option (List ℕ)) → Option (Option (List ℕ)) → Outcome → Result Ended Fault → Type 0
 WritesReport None None outcome result = result ≡ Ok (ended_of outcome)
-WritesReport (Some old) (Some new) outcome result =
-    Delivers old new (report_text outcome) (ended_of outcome) result ⊎ ((result ≡ Err NoMemory) × Keeps old new)
+WritesReport (Some old) (Some new) outcome (Ok ended) = (ended ≡ ended_of outcome) × Appends old new (report_text outcome)
+WritesReport (Some old) (Some new) outcome (Err WriteFile) =
+    (w : WriteFault) × WritesAll old new (report_text outcome) (Err w)
+WritesReport (Some old) (Some new) outcome (Err NoMemory) = Keeps old new
 WritesReport _ _ outcome result = ⊥
 
 -- what dropping chips on a game answers: the rows went out, and then the report is written; or the rows failed

@@ -8,7 +8,7 @@ ghost use Rattle.chip_sequence.specs.Play.{IsPlayed};
 ghost use Rattle.chip_engine.specs.AvalanchesCommand.{AvalanchesAnswers, PlaysDrops, WritesReport};
 ghost use Rattle.chip_engine.specs.AvalanchesCommand.{fault_of_rows, reading_drops};
 
-use chip_command::{Ended, Fault, PlayOptions, conclude, read_game, status_of};
+use chip_command::{Ended, Fault, PlayOptions, read_game, status_of};
 use chip_drops::{HEADER, Pile, RowsFault, write_rows};
 use chip_file::{drops_of_text, read_whole_within};
 use chip_fire::{Unwatched, Watch, plain_watched};
@@ -155,5 +155,9 @@ fn write_report<T: Write>(
     let Some(writer) = output else {
         return Ok(ended);
     };
-    conclude(writer, &report(alloc, outcome)?, ended)
+    let text = report(alloc, outcome)?;
+    match write_all_of(writer, &text) {
+        Ok(()) => Ok(ended),
+        Err(_) => Err(Fault::WriteFile),
+    }
 }

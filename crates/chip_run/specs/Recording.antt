@@ -39,6 +39,6 @@ RecordsIfAsked actors (Some old) (Some new) cut = Records actors old new cut
 abbrev pub FailsToRecord : List ActorKnown → Option (Option (List ℕ)) → Option (Option (List ℕ)) → Fault → Type 0
 FailsToRecord actors (Some old) (Some new) fault.NoMemory =
     WritesText old new (trace_text (map rows_kept actors)) (Err trace.NoMemory)
-FailsToRecord actors (Some old) (Some new) fault.WriteTrace =
+FailsToRecord actors (Some old) (Some new) fault.WriteFile =
     WritesText old new (trace_text (map rows_kept actors)) (Err trace.Write)
 FailsToRecord actors old new f = ⊥

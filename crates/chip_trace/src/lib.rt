@@ -8,7 +8,7 @@
 pub use fault::{ReplayFault, TraceFault};
 pub use remaining::Left;
 pub use replaying::{Replayed, replay};
-pub use writing::write_trace;
+pub use writing::{write_trace, write_trace_to};
 
 mod agenda;
 mod fault;

@@ -58,7 +58,7 @@ class Begun:
 def start(words, environment=None, actions=(), path=None):
     """Starts a program with nothing on standard input and files in memory for what it writes.
 
-    `actions` are further file actions of the start, made after these; `path` is the file that it writes, if there is one.
+    `actions` are further file actions of the start, made after these; `path` is the file that it writes, if any.
     """
     out, err = os.memfd_create("out"), os.memfd_create("err")
     files = [

@@ -1,5 +1,9 @@
 //! The arguments of the program, and what they ask for.
 
+ghost use Rattle.std.specs.Prelude.{◌≡◌, false, map, string_bytes};
+ghost use Rattle.chip_arguments.specs.Places.{HasPlace, places, places_of};
+ghost use Rattle.chip_arguments.specs.Progress.{asks_progress};
+
 use crate::commands::{
     Argument, ArgumentRow, BOOKS, CHIPS, COMPLETE, CommandRow, DEALT, DROPS, FAULT_NUMBER, FED,
     FEED, GRAPH, GUESS, LARGE, LIMIT, PROGRESS, REPORT, RING, ROUNDS, RULE_NUMBER, SCHEDULE, TRACE,
@@ -133,7 +137,9 @@ pub enum Request<'a> {
 
 impl Request<'_> {
     /// Whether it asks for lines of progress.
-    pub fn has_progress(&self) -> bool {
+    pub fn has_progress(&self) -> bool
+        ensures { result ≡ asks_progress self.now }
+    {
         match self {
             Request::Plain(asked) => asked.game.progress,
             Request::Avalanches(asked) => asked.game.progress,
@@ -299,7 +305,7 @@ impl<'m, 'a> Found<'m, 'a> {
         let place = self.matches.index_of(row.name).unwrap_or(0);
         FileArgument {
             path: self.matches.get_str(row.name).unwrap_or(""),
-            number: number_at(self.arguments, place),
+            number: number_at(self.arguments.get(2..).unwrap_or(&[]), place),
         }
     }
 
@@ -318,29 +324,45 @@ impl<'m, 'a> Found<'m, 'a> {
     }
 }
 
-/// The number of the argument that has this place, or 0.
+/// The number of the argument after the command that has this place, from 1; 0 if none has it.
 ///
 /// The command-line library counts places from 1. An argument takes one, but an option with its value after `=` takes
 /// two, and the first `--` takes none: only operands follow it.
-fn number_at(arguments: &[String], place: usize) -> u64 {
+fn number_at(arguments: &[String], place: usize) -> u64
+    ensures { HasPlace (places false (map string_bytes arguments.now)) place result }
+{
+    if place == 0 {
+        return 0;
+    }
     let mut left = place;
     let mut only_operands = false;
-    for (index, argument) in arguments.iter().enumerate().skip(2) {
+    for (index, argument) in arguments.iter().enumerate() {
         let argument = argument.as_str();
-        if !only_operands && argument == "--" {
-            only_operands = true;
-            continue;
-        }
-        let has_value = !only_operands
-            && argument.starts_with("--")
-            && argument.as_bytes().contains(&b'=');
-        let taken = if has_value { 2 } else { 1 };
+        let taken = places_of(only_operands, argument);
         if left <= taken {
-            return index as u64 - 1;
+            return index as u64 + 1;
         }
         left -= taken;
+        let ends_options = argument == "--";
+        only_operands = only_operands | ends_options;
     }
     0
+}
+
+/// How many places an argument takes.
+fn places_of(only_operands: bool, argument: &str) -> usize
+    ensures { result ≡ places_of only_operands argument.now }
+{
+    let bytes = argument.as_bytes();
+    if only_operands {
+        1
+    } else if argument == "--" {
+        0
+    } else if bytes.starts_with(b"--") && bytes.contains(&b'=') {
+        2
+    } else {
+        1
+    }
 }
 
 /// The program as the command-line library knows it.

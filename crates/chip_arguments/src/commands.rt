@@ -105,7 +105,7 @@ pub const GUESS: &ArgumentRow = &ArgumentRow {
 
 pub const WRITTEN_REPORT: &ArgumentRow = &ArgumentRow {
     name: "report",
-    help: "Writes the report of the start and all drops together into this file",
+    help: "Writes the report of the start and the drops, up to one that was stopped, into this file",
     is: Argument::FileOption,
 };
 

@@ -1,6 +1,6 @@
 //! The arguments of the program: what they ask for, and the help.
 //!
-//! The crate waits for no engine, and promises nothing: what it reads is tested on the program.
+//! The crate waits for no engine. What it reads is tested on the program.
 #![tactic(auto)]
 
 pub use arguments::{

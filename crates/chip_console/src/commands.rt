@@ -1,5 +1,8 @@
 //! The commands of one thread: each opens the files that its arguments name and calls its engine.
 
+ghost use Rattle.std.specs.Prelude.{◌≡◌};
+ghost use Rattle.chip_console.specs.Options.{limits_of, play_options, simulate_options};
+
 use crate::console::{Console, Reader};
 use crate::progress::RoundProgress;
 use chip_arguments::{
@@ -66,8 +69,8 @@ impl<R: Files<File = File> + Input + Clock + Eprint + AllocGlobal> Console<'_, R
         output: &mut W,
     ) -> Result<Ended, Fault> {
         let (mut graph, mut chips, mut drops) = self.open_game_and(&asked.game, &asked.drops)?;
-        let mut report = self.create(&asked.report, &graph, &chips, Some(&drops))?;
-        avalanches_engine_with(
+        let mut report = self.create_report(&asked.report, &[&graph, &chips, &drops])?;
+        let ended = avalanches_engine_with(
             self.rt.alloc(),
             &mut graph,
             &mut chips,
@@ -75,8 +78,9 @@ impl<R: Files<File = File> + Input + Clock + Eprint + AllocGlobal> Console<'_, R
             play_options(&asked.game),
             &mut RoundProgress::start(self),
             output,
-            &mut report,
-        )
+            &mut report.file,
+        );
+        report.put(self.rt, ended)
     }
 
     /// Runs a schedule.
@@ -177,7 +181,9 @@ impl<R: Files<File = File> + Input + Clock + Eprint + AllocGlobal> Console<'_, R
 }
 
 /// What a simulation does, if its ring can be.
-fn simulate_options(asked: &SimulationArguments<'_>) -> Option<SimulateOptions> {
+fn simulate_options(asked: &SimulationArguments<'_>) -> Option<SimulateOptions>
+    ensures { result ≡ simulate_options asked.now }
+{
     Some(SimulateOptions {
         play: play_options(&asked.game),
         ring: Ring::new(asked.ring)?,
@@ -188,7 +194,9 @@ fn simulate_options(asked: &SimulationArguments<'_>) -> Option<SimulateOptions> 
 }
 
 /// How large a game may be, and how often a vertex may fire.
-fn play_options(game: &GameArguments<'_>) -> PlayOptions {
+fn play_options(game: &GameArguments<'_>) -> PlayOptions
+    ensures { result ≡ play_options game.now }
+{
     PlayOptions {
         limits: limits_of(game.large),
         limit: game.limit,
@@ -196,8 +204,10 @@ fn play_options(game: &GameArguments<'_>) -> PlayOptions {
 }
 
 /// How large a graph and the files of its game may be.
-pub fn limits_of(large: bool) -> Limits {
-    if large {
+pub fn limits_of(is_large: bool) -> Limits
+    ensures { result ≡ limits_of is_large }
+{
+    if is_large {
         Limits::large()
     } else {
         Limits::standard()

@@ -98,7 +98,7 @@ impl<R: Files<File = File> + Input + Clock + Eprint> Console<'_, R> {
     /// Opens the file that an argument names, or takes standard input, which can be taken once. This allocates nothing, so
     /// if the system is out of memory the fault is `Open`.
     pub fn open(&self, file: &FileArgument<'_>) -> Result<Reader<'_, R>, Fault> {
-        self.last.store(file.number, SeqCst);
+        self.note(file);
         let source = if file.path != STANDARD_INPUT {
             let opened = fs::open(self.rt, file.path).and_then(above_streams);
             Source::File(opened.map_err(|_| Fault::Open(file.number))?)
@@ -115,38 +115,15 @@ impl<R: Files<File = File> + Input + Clock + Eprint> Console<'_, R> {
         })
     }
 
-    /// Creates the file of an option, if there is one, or empties it, unless it is one of these inputs.
-    pub fn create(
-        &self,
-        file: &Option<FileArgument<'_>>,
-        graph: &Reader<'_, R>,
-        chips: &Reader<'_, R>,
-        more: Option<&Reader<'_, R>>,
-    ) -> Result<Option<File>, Fault> {
-        let Some(file) = file else {
-            return Ok(None);
-        };
+    /// Notes that this file is opened or read now.
+    pub(crate) fn note(&self, file: &FileArgument<'_>) {
         self.last.store(file.number, SeqCst);
-        let fault = Fault::Open(file.number);
-        if let Ok(old) = fs::metadata(self.rt, file.path) {
-            let is_more = match more {
-                Some(more) => more.is_file(&old),
-                None => false,
-            };
-            if is_more || graph.is_file(&old) || chips.is_file(&old) {
-                return Err(fault);
-            }
-        }
-        match fs::create(self.rt, file.path).and_then(above_streams) {
-            Ok(created) => Ok(Some(created)),
-            Err(_) => Err(fault),
-        }
     }
 }
 
 /// A file may get the number of a closed standard stream. Then it would be read in its place, or get a fault's line. So a
 /// copy gets another number.
-fn above_streams(file: File) -> io::Result<File> {
+pub(crate) fn above_streams(file: File) -> io::Result<File> {
     if file.as_raw_fd() > 2 {
         return Ok(file);
     }
@@ -173,15 +150,20 @@ pub struct Reader<'a, R: Input + Clock + Eprint> {
 
 impl<R: Files<File = File> + Input + Clock + Eprint> Reader<'_, R> {
     /// Whether it is the file with this metadata.
-    fn is_file(&self, found: &Metadata) -> bool {
+    pub(crate) fn is_file(&self, found: &Metadata) -> bool {
         let now = match &self.source {
             Source::File(file) => file.metadata(),
             Source::Standard => fs::metadata(self.console.rt, "/dev/stdin"),
         };
-        match now {
-            Ok(now) => now.dev() == found.dev() && now.ino() == found.ino(),
-            Err(_) => false,
-        }
+        is_same(&now, found)
+    }
+}
+
+/// Whether metadata were found, of the same file.
+pub(crate) fn is_same(now: &io::Result<Metadata>, found: &Metadata) -> bool {
+    match now {
+        Ok(now) => now.dev() == found.dev() && now.ino() == found.ino(),
+        Err(_) => false,
     }
 }
 

@@ -1,7 +1,7 @@
 //! What the program does on one thread, and what people see of it: it opens files, calls the commands but `run`, and writes
 //! progress and what a fault means to standard error.
 //!
-//! The crate waits for no threads, and promises nothing: it is tested on the program.
+//! The crate waits for no threads. Most of it is tested on the program.
 #![tactic(auto)]
 
 pub use commands::limits_of;
@@ -12,3 +12,4 @@ mod commands;
 mod console;
 mod progress;
 mod terminal;
+mod written;

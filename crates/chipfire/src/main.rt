@@ -4,7 +4,11 @@
 //! bytes that it writes. The program reads the arguments, opens the files that they name and calls the engine.
 #![tactic(auto)]
 
-ghost use Rattle.std.specs.Prelude.{◌≡◌, None};
+ghost use Rattle.std.specs.Prelude.{◌≡◌, if◌then◌else◌, None};
+ghost use Rattle.std.specs.Process.{exit_status};
+ghost use Rattle.chip_console.specs.Options.{limits_of};
+ghost use Rattle.chip_crew.specs.declared.plan.Sharing.TheVariants.{Dealt, Queue};
+ghost use Rattle.chipfire.specs.ExitStatus.{status_of};
 
 use chip_arguments::{ArgumentsFault, Request, RunArguments, limits, parse};
 use chip_command::{Ended, Fault, Status, conclude, explanations, rules};
@@ -45,21 +49,30 @@ const FOUR_CHIPS: &str = "vertex,chips\n0,4\n";
 fn main(rt: HostRuntime) -> ExitCode {
     // What the command-line library says of the arguments, or the name of the file that was opened or read last.
     let mut about = String::new(rt.alloc());
-    match run(&rt, &mut about) {
-        Ok(ended) => {
-            if ended.cut {
-                let _ = eprintln!(&rt; "chipfire: trace cut");
-            }
-            ExitCode::from(ended.status)
+    let ended = run(&rt, &mut about);
+    // If even this cannot be written, the status still says it.
+    match &ended {
+        Ok(ended) if ended.cut => {
+            let _ = eprintln!(&rt; "chipfire: trace cut");
         }
+        Ok(_) => {}
         Err(fault) => {
-            // If even this cannot be written, the status still says it.
             let _ = eprintln!(&rt; "chipfire: {fault}");
             if rt.stderr().is_terminal() {
-                let _ = tell_more(&rt, &fault, &about);
+                let _ = tell_more(&rt, fault, &about);
             }
-            ExitCode::from(fault.status().number())
         }
+    }
+    exit_code(&ended)
+}
+
+/// The exit status after a command.
+fn exit_code(ended: &Result<Ended, Fault>) -> ExitCode
+    ensures { exit_status result ≡ status_of ended.now }
+{
+    match ended {
+        Ok(ended) => ExitCode::from(ended.status),
+        Err(fault) => ExitCode::from(fault.status().number()),
     }
 }
 
@@ -141,7 +154,10 @@ fn play_on_threads<
         Some(file) => Some(console.open(file)?),
         None => None,
     };
-    let mut trace = console.create(&asked.trace, &graph, &chips, feed.as_ref())?;
+    let mut trace = match &feed {
+        Some(feed) => console.create(&asked.trace, &[&graph, &chips, feed])?,
+        None => console.create(&asked.trace, &[&graph, &chips])?,
+    };
     run_engine_with(
         console.rt,
         console.rt.alloc(),
@@ -157,7 +173,18 @@ fn play_on_threads<
 
 /// How the threads play.
 fn options_of(asked: &RunArguments<'_>) -> RunOptions
-    ensures { result.plan.seal ≡ None }
+    ensures { result ≡ record {
+      limits = limits_of asked.now.game.large;
+      limit = asked.now.game.limit;
+      plan = record {
+        workers = asked.now.workers;
+        ring = asked.now.ring;
+        turns = asked.now.turns;
+        trace_rows = asked.now.trace_rows;
+        seal = None;
+      };
+      sharing = if asked.now.dealt then Dealt else Queue;
+    } }
 {
     RunOptions {
         limits: limits_of(asked.game.large),

@@ -1,0 +1,26 @@
+-- What the arguments of a command ask of its engine.
+use Rattle.std.specs.Prelude.{Bool, if◌then◌else◌, Option, option_map}
+use Rattle.chip_graph.specs.Limits.{SizeLimits, standard, large}
+use Rattle.chip_link.specs.Rings.{ring_of}
+use Rattle.chip_arguments.specs.declared.arguments.GameArguments.{GameArguments}
+use Rattle.chip_arguments.specs.declared.arguments.SimulationArguments.{SimulationArguments}
+use Rattle.chip_command.specs.declared.options.PlayOptions.{PlayOptions}
+use Rattle.chip_simulate.specs.declared.simulate.SimulateOptions.{SimulateOptions}
+
+-- how large a graph and the files of its game may be
+abbrev pub limits_of : Bool → SizeLimits
+limits_of is_large = if is_large then large else standard
+
+-- how a game is played
+abbrev pub play_options : GameArguments → PlayOptions
+play_options asked = record { limits = limits_of asked.large; limit = asked.limit }
+
+-- how a schedule is run, if there is a ring with so many cells
+abbrev pub simulate_options : SimulationArguments → Option SimulateOptions
+simulate_options asked = option_map (λ ring. record {
+  play = play_options asked.game;
+  ring = ring;
+  rounds = asked.rounds;
+  books = asked.books;
+  fed = asked.fed;
+}) (ring_of asked.ring)

@@ -25,8 +25,11 @@ def seen_calls(machine, worked):
 
 
 def failing_opens(machine, worked):
-    """An open that fails names the argument; one that is interrupted is made again."""
-    for number, place in enumerate(worked.opens(), 1):
+    """An open that fails names the argument; one that is interrupted is made again. A report is opened beside its place,
+    and in it where that fails."""
+    opens = worked.opens()
+    for number, place in enumerate(opens, 1):
+        last = LAST if worked.report and number == len(opens) else number
 
         def again(number=number):
             ran, _ = machine.run_refusing(worked.words, ("open", number, number, errno.EINTR))
@@ -35,11 +38,18 @@ def failing_opens(machine, worked):
         yield f"{worked.name}: open {number} is interrupted", again
         for name in OPEN_ERRORS:
 
-            def faults(number=number, place=place, error=getattr(errno, name)):
-                ran, _ = machine.run_refusing(worked.words, ("open", number, number, error))
+            def faults(number=number, last=last, place=place, error=getattr(errno, name)):
+                ran, _ = machine.run_refusing(worked.words, ("open", number, last, error))
                 return worked.faulted(ran, f"92 Open {place}")
 
             yield f"{worked.name}: open {number} fails by {name}", faults
+    if worked.report:
+
+        def in_place():
+            ran, tally = machine.run_refusing(worked.words, ("open", len(opens), len(opens), errno.EACCES))
+            return worked.differences(ran) + ([] if tally["open"] == (len(opens) + 1, 1) else [f"opens: {tally}"])
+
+        yield f"{worked.name}: no file can be made beside its report", in_place
 
 
 def failing_reads(machine, worked):

@@ -7,6 +7,7 @@ pub mod Worked
 pub mod PackedLists
 pub mod Ends
 pub mod Faults
+pub mod FaultNumbers
 pub mod Distances
 pub mod Found
 pub mod Index

@@ -3,7 +3,7 @@ use Rattle.std.specs.Prelude.{ℕ, ◌^◌, ◌≤◌, nat_le, ◌&&◌, if◌th
 
 -- the most vertices of any graph
 abbrev pub max_vertices : ℕ
-max_vertices = 2 ^ 20
+max_vertices = 2 ^ 21
 
 -- the most edges of any graph
 abbrev pub max_edges : ℕ

@@ -33,6 +33,42 @@ pub enum GraphFault {
     NoMemory,
 }
 
+impl GraphFault {
+    ghost use Rattle.std.specs.Prelude.{◌≡◌};
+    ghost use Rattle.chip_graph.specs.FaultNumbers.{graph_fault_number, graph_fault_place};
+
+    /// The number of this fault in the table of faults.
+    pub fn number(&self) -> u64
+        ensures { result ≡ graph_fault_number self.now }
+    {
+        match self {
+            GraphFault::Vertices => 1,
+            GraphFault::Sink => 2,
+            GraphFault::EdgeCount => 3,
+            GraphFault::Endpoint(_) => 4,
+            GraphFault::Mult(_) => 5,
+            GraphFault::Loop(_) => 6,
+            GraphFault::FromSink(_) => 7,
+            GraphFault::Unreached(_) => 8,
+            GraphFault::NoMemory => 90,
+        }
+    }
+
+    /// The edge or the vertex that it names, if it names one.
+    pub fn place(&self) -> Option<u64>
+        ensures { result ≡ graph_fault_place self.now }
+    {
+        match self {
+            GraphFault::Endpoint(edge)
+            | GraphFault::Mult(edge)
+            | GraphFault::Loop(edge)
+            | GraphFault::FromSink(edge) => Some(*edge),
+            GraphFault::Unreached(vertex) => Some(*vertex),
+            _ => None,
+        }
+    }
+}
+
 impl<T: Drop> From<AllocFailed<T>> for GraphFault {
     ghost use Rattle.std.specs.Prelude.{◌≡◌};
     ghost use Rattle.chip_graph.specs.declared.fault.GraphFault.TheVariants.{NoMemory};
@@ -67,4 +103,20 @@ pub enum GameFault {
     /// The firing limit is above 1,099,511,627,776.
     #[error("the firing limit is above 1099511627776")]
     Limit,
+}
+
+impl GameFault {
+    ghost use Rattle.std.specs.Prelude.{◌≡◌};
+    ghost use Rattle.chip_graph.specs.FaultNumbers.{game_fault_number};
+
+    /// The number of this fault in the table of faults.
+    pub fn number(&self) -> u64
+        ensures { result ≡ game_fault_number self.now }
+    {
+        match self {
+            GameFault::StartLength => 9,
+            GameFault::Total => 10,
+            GameFault::Limit => 11,
+        }
+    }
 }

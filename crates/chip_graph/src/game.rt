@@ -36,10 +36,10 @@ impl Model for Game {
 }
 
 impl Game {
-    ghost use Rattle.std.specs.Prelude.{◌≡◌, sum};
+    ghost use Rattle.std.specs.Prelude.{◌≡◌, ◌↔◌, IsTrue, sum};
     ghost use Rattle.chip_graph.specs.ChipGame.{IsGame};
     ghost use Rattle.chip_graph.specs.Faults.{MakesGame};
-    ghost use Rattle.chip_graph.specs.More.{AreOfVertices, AddsChips};
+    ghost use Rattle.chip_graph.specs.More.{AreOfVertices, HasRoom, AddsChips};
 
     /// A game, or the first reason why it is none. `start` has the chips of each vertex.
     pub fn new(graph: Graph, start: Vec<u64>, limit: u64) -> Result<Game, GameFault>
@@ -98,12 +98,28 @@ impl Game {
         })
     }
 
+    /// Whether so many chips more would be at most `MAX_TOTAL` with those of the start. Each pair is of a vertex and of
+    /// how many chips it would get.
+    pub fn has_room(&self, more: &[(u64, u64)]) -> bool
+        ensures { IsTrue result ↔ HasRoom self.now more.now }
+    {
+        total_with(self.total, more).is_some()
+    }
+
     /// The graph that is played on.
     pub fn graph(&self) -> &Graph
         ensures value { result.now ≡ self.now.graph }
         ensures game { IsGame self.now }
     {
         &self.graph
+    }
+
+    /// The graph that was played on, for another game.
+    pub fn into_graph(self) -> Graph
+        ensures value { result ≡ self.graph }
+        ensures game { IsGame self }
+    {
+        self.graph
     }
 
     /// The chips at the start, one number for each vertex.

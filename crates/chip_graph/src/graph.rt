@@ -132,7 +132,7 @@ impl Graph {
         }
     }
 
-    /// How many vertices there are, 1 to 2^20.
+    /// How many vertices there are, 1 to 2^21.
     pub fn vertices(&self) -> u64
         ensures value { result ≡ self.now.vertices }
         ensures graph { IsGraph self.now }

@@ -4,8 +4,8 @@ ghost use Rattle.std.specs.Prelude.{◌≡◌};
 
 use std::marker::Model;
 
-/// The most vertices of any graph: 2^20.
-pub const MAX_VERTICES: u64 = 1 << 20;
+/// The most vertices of any graph: 2^21.
+pub const MAX_VERTICES: u64 = 1 << 21;
 /// The most edges of any graph: 2^23.
 pub const MAX_EDGES: u64 = 1 << 23;
 /// The most bytes of any text of a game: 2^28.
@@ -59,7 +59,7 @@ impl Limits {
         }
     }
 
-    /// The greatest limits: 2^20 vertices, 2^23 edges and 2^28 bytes.
+    /// The greatest limits: 2^21 vertices, 2^23 edges and 2^28 bytes.
     pub fn large() -> Limits
         ensures { result ≡ large }
     {

@@ -207,7 +207,7 @@ def reaches_the_sink(vertices, sink, edges):
 
 
 def write(folder, name, vertices, sink, edges, chips):
-    assert vertices <= 2**20 and len(edges) <= 2**23 and sum(chips.values()) <= 2**40, name
+    assert vertices <= 2**21 and len(edges) <= 2**23 and sum(chips.values()) <= 2**40, name
     assert all(tail not in (head, sink) and 1 <= mult <= MULT for tail, head, mult in edges), name
     assert reaches_the_sink(vertices, sink, edges), name
     with open(f"{folder}/{name}.json", "w", encoding="ascii") as file:

@@ -38,7 +38,7 @@ one watches a run of the distributed machine, event by event, and `wrong_page` o
 A graph, chips, a schedule, a trace or a report may be the name of its file. `Graph.chips` tells in which forms chips
 come, and `Report.picture` what can be drawn. A vertex has a number from 0 on, and may have a name. Sequences and arrays
 go by numbers, dicts and Series of pandas by names. Numbers of chips and firings go up to 2^40. A graph has up to
-1,048,576 vertices and 8,388,608 edges.
+2,097,152 vertices and 8,388,608 edges.
 """
 
 from chipfire import machine

@@ -14,7 +14,7 @@ from typing import Any, Union
 
 #: The most of a graph, and of a large one.
 MAX_VERTICES, MAX_EDGES = 4096, 65_536
-MAX_LARGE_VERTICES, MAX_LARGE_EDGES = 2**20, 2**23
+MAX_LARGE_VERTICES, MAX_LARGE_EDGES = 2**21, 2**23
 MAX_MULT = 2**20
 #: The most chips of a game, the most firings of a vertex, and the greatest limit.
 MAX_CHIPS = MAX_LIMIT = 2**40

@@ -1,6 +1,6 @@
 #!/usr/bin/env python3
 """Large games, which are played by `--large`: random ones of 10,000 to 200,000 vertices, a heap on a grid of 255 by 255
-squares, and the largest that there are, of 1,048,576 vertices and 8,388,608 edges.
+squares, and the largest that there are, of 2,097,152 vertices and 8,388,608 edges.
 
     tests/cli/large.py [--program FILE] [--games N] [--anew]
 
@@ -33,7 +33,7 @@ FEW_GAMES, MANY_GAMES = 12, 200
 LEAST, MOST = 10_000, 200_000
 KINDS = ["chain", "star", "scattered", "one_way"]
 MOST_BYTES = 16_777_216
-VERTICES, EDGES = 2**20, 2**23
+VERTICES, EDGES = 2**21, 2**23
 PASSED_ON = 30
 SIDE, HEAP = 255, 2**17
 # The SHA-256 of the report of HEAP chips in the middle of a grid of SIDE by SIDE squares, as player.c writes it.

@@ -29,7 +29,7 @@ class Limits:
 
 
 STANDARD = Limits(4_096, 65_536, 16_777_216)
-LARGE = Limits(1_048_576, 8_388_608, 268_435_456)
+LARGE = Limits(2_097_152, 8_388_608, 268_435_456)
 
 
 class Fault(Exception):

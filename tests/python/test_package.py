@@ -531,17 +531,17 @@ class Mistakes(WithFolder):
 
     def test_no_option_of_a_shell_is_spoken_of(self):
         report = self.file("report.json", "[]")
-        large = chipfire.Graph(2**20 + 1, 0, [])
+        large = chipfire.Graph(2**21 + 1, 0, [])
         for call, arguments in [(chipfire.check, (large,)), (chipfire.plain, (TRIANGLE, {0: 2**41})),
                                 (chipfire.resume, (TRIANGLE, report)), (chipfire.check, (self.file("none"),))]:
             with self.assertRaises(chipfire.Fault) as caught:
                 call(*arguments)
             self.assertNotIn("--", str(caught.exception))
-        self.assertIn("1048577 vertices, and 1048576 at most", str(self.fault(chipfire.check, large)))
+        self.assertIn("2097153 vertices, and 2097152 at most", str(self.fault(chipfire.check, large)))
         few = self.file("few.json", '{"edges":[],"sink":0,"version":1,"vertices":0}')
-        self.assertIn("check takes 1 to 1048576 vertices", str(self.fault(chipfire.check, few)))
+        self.assertIn("check takes 1 to 2097152 vertices", str(self.fault(chipfire.check, few)))
         no_chips = self.file("chips.csv", "vertex,chips\n")
-        self.assertIn("run takes 1 to 1048576 vertices", str(self.fault(chipfire.run, few, no_chips)))
+        self.assertIn("run takes 1 to 2097152 vertices", str(self.fault(chipfire.run, few, no_chips)))
 
     def fault(self, call, *arguments, **options):
         with self.assertRaises(chipfire.Fault) as caught:

@@ -93,7 +93,7 @@ pub const LIMIT: &ArgumentRow = &ArgumentRow {
 
 pub const LARGE: &ArgumentRow = &ArgumentRow {
     name: "large",
-    help: "Allows 2^20 vertices, 2^23 edges, 2^28 bytes a file [default: 4096, 65536, 16777216]",
+    help: "Allows 2^21 vertices, 2^23 edges, 2^28 bytes a file [default: 4096, 65536, 16777216]",
     is: Argument::Flag,
 };
 

@@ -106,7 +106,7 @@ pub(crate) use row;
 static VERTICES: Explanation = row!(1 Vertices NOWHERE:
     "the graph has no vertices, or more than 4096", "\
 \"vertices\" of the graph file is their number, 1 to 4096. With `--large` each command takes
-up to 1048576.
+up to 2097152.
 ");
 
 static SINK: Explanation = row!(2 Sink NOWHERE: "the sink is no vertex", "\
@@ -263,7 +263,7 @@ Only callers of the library chip_net meet this. Try again after the vertex made 
 static NOT_REPORT: Explanation = row!(50 NotReport NOWHERE: "the file is no report", "\
 A report is read only as chipfire wrote it, to the byte and with its newline. Keep what the
 command wrote in a file, and name that file. Of what `simulate` wrote only the last line is
-the report. With `--large` a report may have up to 1048576 vertices, not 4096.
+the report. With `--large` a report may have up to 2097152 vertices, not 4096.
 ");
 
 static PRIOR: Explanation = row!(51 Prior VERTEX:

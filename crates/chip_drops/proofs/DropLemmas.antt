@@ -69,7 +69,7 @@ all_supported n fired fired' vs m each all are = rw (take_all m vs all) (record 
 
 -- few firings of few vertices
 pub few_between : (n : ℕ) (before fired : List ℕ) → n ≤ max_vertices → ((v : ℕ) → slice_index fired v ≤ max_limit)
-    → (sum_between (λ k. k) n before fired ≤ 2 ^ 60) × (sum_between (λ k. min k 1) n before fired ≤ n)
+    → (sum_between (λ k. k) n before fired ≤ 2 ^ 61) × (sum_between (λ k. min k 1) n before fired ≤ n)
 few_between n before fired few low =
     let a = sum_small n max_limit (λ v. true) (λ v. slice_index fired v - slice_index before v)
     (λ v l. let b = low v in omega arith) in

@@ -79,7 +79,7 @@ impl Setting {
         self.fed
     }
 
-    /// How many vertices there are, 1 to 2^20.
+    /// How many vertices there are, 1 to 2^21.
     pub fn vertices(&self) -> u64
         ensures value { result ≡ self.now.game.graph.vertices }
         ensures few { result ≤ max_vertices }

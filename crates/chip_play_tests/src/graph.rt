@@ -278,12 +278,12 @@ fn takes_a_large_graph(rt: HostRuntime) {
     let large = Limits::large();
     assert!(rt; fault_of_row(&rt, large, 4_096, 65_537) == None);
     assert!(rt; fault_of_row(&rt, large, 4_097, 65_536) == Some(GraphFault::Unreached(4_096)));
-    assert!(rt; fault_of_row(&rt, large, (1 << 20) + 1, 65_536) == Some(GraphFault::Vertices));
+    assert!(rt; fault_of_row(&rt, large, (1 << 21) + 1, 65_536) == Some(GraphFault::Vertices));
 }
 
 #[test]
 fn limits_of_its_own(rt: HostRuntime) {
-    assert!(rt; Limits::new((1 << 20) + 1, 0, 0).is_none());
+    assert!(rt; Limits::new((1 << 21) + 1, 0, 0).is_none());
     assert!(rt; Limits::new(0, (1 << 23) + 1, 0).is_none());
     assert!(rt; Limits::new(0, 0, (1 << 28) + 1).is_none());
     let limits = Limits::new(4_096, 20, 30).expect(&rt, "limits");

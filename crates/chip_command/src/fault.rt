@@ -1,12 +1,9 @@
 //! What can go wrong with a command, and the line under which it is printed.
 
-ghost use Rattle.std.specs.Prelude.{◌≡◌};
-ghost use Rattle.chip_command.specs.FaultNumbers.{print_graph_fault, print_game_fault, print_file_fault, print_resume_fault};
-
 use crate::status::Status;
 use crate::table::name_of;
 use chip_file::FileFault;
-use chip_graph::{GameFault, GraphFault};
+use chip_graph::GameFault;
 use chip_report::{ReportFault, WriteFault};
 use chip_sequence::ResumeFault;
 use chip_trace::{ReplayFault, TraceFault};
@@ -176,6 +173,18 @@ pub enum Location {
     AtRow { vertex: u64, row: u64 },
 }
 
+impl Location {
+    ghost use Rattle.std.specs.Prelude.{◌≡◌};
+    ghost use Rattle.chip_command.specs.FaultNumbers.{location_at};
+
+    /// That of a fault of a library that names this place.
+    fn of(place: Option<u64>) -> Location
+        ensures { result ≡ location_at place }
+    {
+        place.map_or(Location::Nowhere, Location::At)
+    }
+}
+
 impl fmt::Display for Location {
     ghost use Rattle.std.specs.Prelude.{Some};
     ghost use Rattle.chip_command.specs.FaultNumbers.{location_text};
@@ -214,69 +223,6 @@ impl fmt::Debug for Fault {
 
 impl Error for Fault {}
 
-/// The number of a fault of a graph, and where it is.
-fn print_graph(fault: &GraphFault) -> (u64, Location)
-    ensures { result ≡ print_graph_fault fault.now }
-{
-    match fault {
-        GraphFault::Vertices => (1, Location::Nowhere),
-        GraphFault::Sink => (2, Location::Nowhere),
-        GraphFault::EdgeCount => (3, Location::Nowhere),
-        GraphFault::Endpoint(edge) => (4, Location::At(*edge)),
-        GraphFault::Mult(edge) => (5, Location::At(*edge)),
-        GraphFault::Loop(edge) => (6, Location::At(*edge)),
-        GraphFault::FromSink(edge) => (7, Location::At(*edge)),
-        GraphFault::Unreached(vertex) => (8, Location::At(*vertex)),
-        GraphFault::NoMemory => (90, Location::Nowhere),
-    }
-}
-
-/// The number of a fault of a game.
-fn print_game(fault: &GameFault) -> (u64, Location)
-    ensures { result ≡ print_game_fault fault.now }
-{
-    match fault {
-        GameFault::StartLength => (9, Location::Nowhere),
-        GameFault::Total => (10, Location::Nowhere),
-        GameFault::Limit => (11, Location::Nowhere),
-    }
-}
-
-/// The number of a fault of a file, and where it is.
-fn print_file(fault: &FileFault) -> (u64, Location)
-    ensures { result ≡ print_file_fault fault.now }
-{
-    match fault {
-        FileFault::Graph(fault) => print_graph(fault),
-        FileFault::Total => (10, Location::Nowhere),
-        FileFault::NotJson => (20, Location::Nowhere),
-        FileFault::Shape => (21, Location::Nowhere),
-        FileFault::Version => (22, Location::Nowhere),
-        FileFault::Header => (23, Location::Nowhere),
-        FileFault::Row(row) => (24, Location::At(*row)),
-        FileFault::Number(row) => (25, Location::At(*row)),
-        FileFault::Vertex(row) => (26, Location::At(*row)),
-        FileFault::Repeated(row) => (27, Location::At(*row)),
-        FileFault::Kind(row) => (28, Location::At(*row)),
-        FileFault::Read => (29, Location::Nowhere),
-        FileFault::TooLong => (30, Location::Nowhere),
-        FileFault::NoMemory => (90, Location::Nowhere),
-    }
-}
-
-/// The number of a fault of resuming, and where it is.
-fn print_resume(fault: &ResumeFault) -> (u64, Location)
-    ensures { result ≡ print_resume_fault fault.now }
-{
-    match fault {
-        ResumeFault::Total => (10, Location::Nowhere),
-        ResumeFault::Limit => (11, Location::Nowhere),
-        ResumeFault::Prior(vertex) => (51, Location::At(*vertex)),
-        ResumeFault::Mismatch => (52, Location::Nowhere),
-        ResumeFault::NoMemory => (90, Location::Nowhere),
-    }
-}
-
 impl Fault {
     ghost use Rattle.std.specs.Prelude.{◌≡◌};
     ghost use Rattle.chip_command.specs.FaultNumbers.{print_fault, number_of, location_of, status_of_fault};
@@ -308,10 +254,10 @@ impl Fault {
         ensures { result ≡ print_fault self.now }
     {
         match self {
-            Fault::File(fault) => print_file(fault),
-            Fault::Game(fault) => print_game(fault),
-            Fault::NotReport => (50, Location::Nowhere),
-            Fault::Resume(fault) => print_resume(fault),
+            Fault::File(fault) => (fault.number(), Location::of(fault.place())),
+            Fault::Game(fault) => (fault.number(), Location::Nowhere),
+            Fault::NotReport => (ReportFault::NotReport.number(), Location::Nowhere),
+            Fault::Resume(fault) => (fault.number(), Location::of(fault.place())),
             Fault::Differs(vertex) => (53, Location::At(*vertex)),
             Fault::Plan => (60, Location::Nowhere),
             Fault::Unfinished(deficit) => (61, Location::At(*deficit)),
@@ -321,13 +267,14 @@ impl Fault {
             Fault::Spawn => (65, Location::Nowhere),
             Fault::Stuck { vertex, row } => {
                 let (vertex, row) = (*vertex, *row);
-                (70, Location::AtRow { vertex, row })
+                let number = ReplayFault::Stuck { vertex, row }.number();
+                (number, Location::AtRow { vertex, row })
             }
             Fault::NoMemory => (90, Location::Nowhere),
             Fault::Usage => (91, Location::Nowhere),
             Fault::Open(argument) => (92, Location::At(*argument)),
-            Fault::Write(fault) => (93, Location::At(fault.written)),
-            Fault::WriteFile => (93, Location::Nowhere),
+            Fault::Write(fault) => (fault.number(), Location::At(fault.written)),
+            Fault::WriteFile => (TraceFault::Write.number(), Location::Nowhere),
         }
     }
 }

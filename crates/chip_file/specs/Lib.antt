@@ -3,6 +3,7 @@ pub use Rattle.chip_graph.specs.Faults
 pub use Rattle.chip_json.specs.GraphFile
 pub mod Answer
 pub mod GraphFaults
+pub mod FaultNumbers
 pub mod GraphText
 pub mod Numbers
 pub mod Rows

@@ -1,5 +1,4 @@
-ghost use Rattle.std.specs.Prelude.{◌≡◌, nat_le, Some, sum};
-ghost use Rattle.chip_graph.specs.Limits.{max_total};
+ghost use Rattle.std.specs.Prelude.{◌≡◌, Some};
 ghost use Rattle.chip_file.specs.Answer.{Gives, ReadsText};
 ghost use Rattle.chip_file.specs.ChipsText.{chips_of_text, chips_text_fault};
 ghost use Rattle.chip_file.specs.Source.{IsFresh, ReadsSource};
@@ -8,7 +7,7 @@ use crate::fault::FileFault;
 use crate::source::Source;
 use crate::vertex_rows::numbers_of_text;
 use crate::whole::read_source;
-use chip_graph::{Limits, MAX_TOTAL};
+use chip_graph::{Limits, total_of};
 use std::alloc::Global;
 use std::io::Read;
 
@@ -52,23 +51,8 @@ pub fn chips_of_text(alloc: Global, text: &[u8], vertices: u64) -> Result<Vec<u6
         (λ f. chips_text_fault vertices text.now ≡ Some f) result }
 {
     let chips = numbers_of_text(alloc, text, &HEADER, vertices)?;
-    if fits_total(&chips) {
-        Ok(chips)
-    } else {
-        Err(FileFault::Total)
+    match total_of(&chips) {
+        Some(_) => Ok(chips),
+        None => Err(FileFault::Total),
     }
-}
-
-/// Whether there are no more chips in all than a game holds.
-fn fits_total(chips: &[u64]) -> bool
-    ensures { result ≡ nat_le (sum chips.now) max_total }
-{
-    let mut room = MAX_TOTAL;
-    for count in chips {
-        if *count > room {
-            return false;
-        }
-        room -= *count;
-    }
-    true
 }

@@ -1,4 +1,4 @@
-use chip_graph::GraphFault;
+use chip_graph::{GameFault, GraphFault};
 use chip_json::JsonFault;
 use std::alloc::{AllocError, AllocFailed};
 use thiserror::Error;
@@ -38,6 +38,48 @@ pub enum FileFault {
     TooLong,
     #[error("out of memory")]
     NoMemory,
+}
+
+impl FileFault {
+    ghost use Rattle.std.specs.Prelude.{◌≡◌};
+    ghost use Rattle.chip_file.specs.FaultNumbers.{file_fault_number, file_fault_place};
+
+    /// The number of this fault in the table of faults.
+    pub fn number(&self) -> u64
+        ensures { result ≡ file_fault_number self.now }
+    {
+        match self {
+            FileFault::Graph(fault) => fault.number(),
+            FileFault::Total => GameFault::Total.number(),
+            FileFault::NotJson => JsonFault::NotJson.number(),
+            FileFault::Shape => JsonFault::Shape.number(),
+            FileFault::Version => 22,
+            FileFault::Header => 23,
+            FileFault::Row(_) => 24,
+            FileFault::Number(_) => 25,
+            FileFault::Vertex(_) => 26,
+            FileFault::Repeated(_) => 27,
+            FileFault::Kind(_) => 28,
+            FileFault::Read => 29,
+            FileFault::TooLong => 30,
+            FileFault::NoMemory => 90,
+        }
+    }
+
+    /// The row, or the edge or the vertex, that it names, if it names one.
+    pub fn place(&self) -> Option<u64>
+        ensures { result ≡ file_fault_place self.now }
+    {
+        match self {
+            FileFault::Graph(fault) => fault.place(),
+            FileFault::Row(row)
+            | FileFault::Number(row)
+            | FileFault::Vertex(row)
+            | FileFault::Repeated(row)
+            | FileFault::Kind(row) => Some(*row),
+            _ => None,
+        }
+    }
 }
 
 impl From<AllocError> for FileFault {

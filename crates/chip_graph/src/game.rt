@@ -147,8 +147,8 @@ impl Game {
     }
 }
 
-/// The sum, or `None` if it is above `MAX_TOTAL`.
-fn total_of(chips: &[u64]) -> Option<u64>
+/// The sum of chips, or `None` if it is above `MAX_TOTAL`.
+pub fn total_of(chips: &[u64]) -> Option<u64>
     ensures some { IfSome result (λ total. (total ≡ sum chips.now) × (total ≤ max_total)) }
     ensures none { IfNone result (max_total < sum chips.now) }
 {

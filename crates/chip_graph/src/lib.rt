@@ -7,7 +7,7 @@
 
 pub use edge::{AnyEdge, Edge, Link};
 pub use fault::{GameFault, GraphFault};
-pub use game::{Game, MAX_LIMIT, MAX_TOTAL};
+pub use game::{Game, MAX_LIMIT, MAX_TOTAL, total_of};
 pub use graph::{Graph, MAX_MULT};
 pub use limits::{Limits, MAX_EDGES, MAX_TEXT, MAX_VERTICES};
 

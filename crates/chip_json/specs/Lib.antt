@@ -4,3 +4,4 @@ pub mod Values
 pub mod Rows
 pub mod Parts
 pub mod Plain
+pub mod FaultNumbers

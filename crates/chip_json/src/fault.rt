@@ -18,6 +18,22 @@ pub enum JsonFault {
     NoMemory,
 }
 
+impl JsonFault {
+    ghost use Rattle.std.specs.Prelude.{◌≡◌};
+    ghost use Rattle.chip_json.specs.FaultNumbers.{json_fault_number};
+
+    /// The number of this fault in the table of faults.
+    pub fn number(&self) -> u64
+        ensures { result ≡ json_fault_number self.now }
+    {
+        match self {
+            JsonFault::NotJson => 20,
+            JsonFault::Shape => 21,
+            JsonFault::NoMemory => 90,
+        }
+    }
+}
+
 impl From<NotJson> for JsonFault {
     ghost use Rattle.std.specs.Prelude.{◌≡◌};
     ghost use Rattle.chip_json.specs.declared.fault.JsonFault.TheVariants.{NotJson as not_json};

@@ -7,3 +7,4 @@ pub mod Written
 pub mod ReportTwo
 pub mod Versions
 pub mod Sink
+pub mod FaultNumbers

@@ -11,6 +11,21 @@ pub enum ReportFault {
     NoMemory,
 }
 
+impl ReportFault {
+    ghost use Rattle.std.specs.Prelude.{◌≡◌};
+    ghost use Rattle.chip_report.specs.FaultNumbers.{report_fault_number};
+
+    /// The number of this fault in the table of faults.
+    pub fn number(&self) -> u64
+        ensures { result ≡ report_fault_number self.now }
+    {
+        match self {
+            ReportFault::NotReport => 50,
+            ReportFault::NoMemory => 90,
+        }
+    }
+}
+
 impl From<AllocError> for ReportFault {
     ghost use Rattle.std.specs.Prelude.{◌≡◌};
     ghost use Rattle.chip_report.specs.declared.fault.ReportFault.TheVariants.{NoMemory};

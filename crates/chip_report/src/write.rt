@@ -16,6 +16,18 @@ pub struct WriteFault {
     pub written: u64,
 }
 
+impl WriteFault {
+    ghost use Rattle.std.specs.Prelude.{◌≡◌};
+    ghost use Rattle.chip_report.specs.FaultNumbers.{write_fault_number};
+
+    /// The number of this fault in the table of faults.
+    pub fn number(&self) -> u64
+        ensures { result ≡ write_fault_number }
+    {
+        93
+    }
+}
+
 /// Writes all the bytes, by as many writes as the writer needs. The sink counts them.
 ///
 /// A write that fails for whatever reason, also an interruption, is a fault, and so is one that takes no byte. No write

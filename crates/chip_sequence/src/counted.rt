@@ -21,11 +21,11 @@ pub enum AfterFault {
 }
 
 impl AfterFault {
-    ghost use Rattle.chip_sequence.specs.Faults.{number_of_after_fault};
+    ghost use Rattle.chip_sequence.specs.Faults.{after_fault_number};
 
     /// The number of this fault in the table of faults.
     pub fn number(&self) -> u64
-        ensures { result ≡ number_of_after_fault self.now }
+        ensures { result ≡ after_fault_number self.now }
     {
         match self {
             AfterFault::Negative(_) => 41,

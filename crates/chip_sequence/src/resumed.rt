@@ -52,6 +52,34 @@ pub enum ResumeFault {
     NoMemory,
 }
 
+impl ResumeFault {
+    ghost use Rattle.std.specs.Prelude.{◌≡◌};
+    ghost use Rattle.chip_sequence.specs.Faults.{resume_fault_number, resume_fault_place};
+
+    /// The number of this fault in the table of faults.
+    pub fn number(&self) -> u64
+        ensures { result ≡ resume_fault_number self.now }
+    {
+        match self {
+            ResumeFault::Mismatch => 52,
+            ResumeFault::Total => GameFault::Total.number(),
+            ResumeFault::Limit => GameFault::Limit.number(),
+            ResumeFault::Prior(_) => 51,
+            ResumeFault::NoMemory => 90,
+        }
+    }
+
+    /// The vertex that it names, if it names one.
+    pub fn place(&self) -> Option<u64>
+        ensures { result ≡ resume_fault_place self.now }
+    {
+        match self {
+            ResumeFault::Prior(vertex) => Some(*vertex),
+            _ => None,
+        }
+    }
+}
+
 impl From<AllocError> for ResumeFault {
     ghost use Rattle.std.specs.Prelude.{◌≡◌};
     ghost use Rattle.chip_sequence.specs.declared.resumed.ResumeFault.TheVariants.{NoMemory};

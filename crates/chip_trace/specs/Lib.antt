@@ -6,3 +6,4 @@ pub mod Agenda
 pub mod Kept
 pub mod Replay
 pub mod TraceText
+pub mod FaultNumbers

@@ -15,6 +15,21 @@ pub enum ReplayFault {
     NoMemory,
 }
 
+impl ReplayFault {
+    ghost use Rattle.std.specs.Prelude.{◌≡◌};
+    ghost use Rattle.chip_trace.specs.FaultNumbers.{replay_fault_number};
+
+    /// The number of this fault in the table of faults.
+    pub fn number(&self) -> u64
+        ensures { result ≡ replay_fault_number self.now }
+    {
+        match self {
+            ReplayFault::Stuck { .. } => 70,
+            ReplayFault::NoMemory => 90,
+        }
+    }
+}
+
 impl From<AllocError> for ReplayFault {
     ghost use Rattle.std.specs.Prelude.{◌≡◌};
     ghost use Rattle.chip_trace.specs.declared.fault.ReplayFault.TheVariants.{NoMemory};
@@ -45,6 +60,21 @@ pub enum TraceFault {
     Write,
     #[error("out of memory")]
     NoMemory,
+}
+
+impl TraceFault {
+    ghost use Rattle.std.specs.Prelude.{◌≡◌};
+    ghost use Rattle.chip_trace.specs.FaultNumbers.{trace_fault_number};
+
+    /// The number of this fault in the table of faults.
+    pub fn number(&self) -> u64
+        ensures { result ≡ trace_fault_number self.now }
+    {
+        match self {
+            TraceFault::Write => 93,
+            TraceFault::NoMemory => 90,
+        }
+    }
 }
 
 impl From<AllocError> for TraceFault {

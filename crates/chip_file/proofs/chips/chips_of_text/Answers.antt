@@ -1,4 +1,5 @@
-use Rattle.std.proofs.Common.{Some, ap, inr}
+use Rattle.std.proofs.Common.{arith, ◌≡◌, ◌<◌, ◌≤◌, Some, ap, sym, inr, true, false, sum, nat_le, le-leb}
+use Rattle.chip_graph.specs.Limits.{max_total}
 use Rattle.chip_file.specs.ChipsText.{chips_header, chips_of_rows}
 use Rattle.chip_file.specs.VertexRows.{numbers_text_fault}
 use Rattle.chip_file.proofs.ChipsLemmas.{rows_fail, total_decides}
@@ -9,15 +10,18 @@ pub returns-in_err-chips : goal.returns-in_err-chips
 returns-in_err-chips c =
     refused _ _ _ _ c.from_residual.ensures.1 (rows_fail c.args.vertices c.args.text.now _ c.in_err-chips.ensures)
 
-pub returns-then-fits_total : goal.returns-then-fits_total
-returns-then-fits_total c =
+pub returns-in-Some : goal.returns-in-Some
+returns-in-Some c =
+    let few : sum c.in_ok-chips.chips.items ≤ max_total =
+    rw (c.in-Some.ensures.some.0, c.deref.ensures.value) at c.in-Some.ensures.some.1 in
+    let fits : true ≡ nat_le (sum c.in_ok-chips.chips.items) max_total = sym (le-leb _ _ few) in
     let decides = total_decides (numbers_text_fault chips_header c.args.vertices c.args.text.now)
-    (chips_of_rows c.args.vertices c.args.text.now) _ _ c.in_ok-chips.ensures
-    (rw c.deref.ensures.value at c.if-fits_total.ensures) in
+    (chips_of_rows c.args.vertices c.args.text.now) _ _ c.in_ok-chips.ensures fits in
     rw decides.0 (ap Some decides.1)
 
-pub returns-else-fits_total : goal.returns-else-fits_total
-returns-else-fits_total c =
+pub returns-in-None : goal.returns-in-None
+returns-in-None c =
+    let many : max_total < sum c.in_ok-chips.chips.items = rw c.deref.ensures.value at c.in-None.ensures.none in
+    let fails : false ≡ nat_le (sum c.in_ok-chips.chips.items) max_total = grind (arith, many) in
     inr (total_decides (numbers_text_fault chips_header c.args.vertices c.args.text.now)
-    (chips_of_rows c.args.vertices c.args.text.now) _ _ c.in_ok-chips.ensures
-    (rw c.deref.ensures.value at c.if-fits_total.ensures)).0
+    (chips_of_rows c.args.vertices c.args.text.now) _ _ c.in_ok-chips.ensures fails).0

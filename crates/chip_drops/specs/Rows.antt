@@ -6,6 +6,7 @@ use Rattle.std.specs.Fmt.{decimal}
 use Rattle.std.specs.Io.KnownBytes.{Appends}
 use Rattle.chip_graph.specs.Multigraph.{Multigraph}
 use Rattle.chip_graph.specs.More.{HasMore}
+use Rattle.chip_report.specs.FaultNumbers.{write_fault_number}
 use Rattle.chip_report.specs.Written.{WritesAll}
 use Rattle.chip_drops.specs.declared.avalanche.Avalanche.{Avalanche}
 use Rattle.chip_drops.specs.declared.pile.Pile.{Pile}
@@ -40,6 +41,11 @@ pub record IsOut (old now : Option (List ℕ)) (pending : List ℕ) (written : �
 abbrev pub FailsOut : Option (List ℕ) → Option (List ℕ) → List ℕ → RowsFault → Type 0
 FailsOut old now all (Write w) = WritesAll old now all (Err w)
 FailsOut old now all NoMemory = (k : ℕ) × Appends old now (take k all)
+
+-- the number of a fault of writing rows in the table of faults
+abbrev pub rows_fault_number : RowsFault → ℕ
+rows_fault_number (Write w) = write_fault_number
+rows_fault_number NoMemory = 90
 
 -- the drops were made on the pile p one by one, each until no vertex was legal, and left p'; the text has their rows
 pub record LeavesRows (p : Pile) (ds : List (ℕ × ℕ)) (p' : Pile) (text : List ℕ) : Type 0 where

@@ -40,6 +40,21 @@ pub enum RowsFault {
     NoMemory,
 }
 
+impl RowsFault {
+    ghost use Rattle.std.specs.Prelude.{◌≡◌};
+    ghost use Rattle.chip_drops.specs.Rows.{rows_fault_number};
+
+    /// The number of this fault in the table of faults.
+    pub fn number(&self) -> u64
+        ensures { result ≡ rows_fault_number self.now }
+    {
+        match self {
+            RowsFault::Write(fault) => fault.number(),
+            RowsFault::NoMemory => 90,
+        }
+    }
+}
+
 impl From<AllocError> for RowsFault {
     ghost use Rattle.std.specs.Prelude.{◌≡◌};
     ghost use Rattle.chip_drops.specs.declared.rows.RowsFault.TheVariants.{NoMemory};

@@ -1,9 +1,9 @@
 //! `avalanches`: chips dropped one after another, and the avalanche that each sets off.
 
-ghost use Rattle.std.specs.Prelude.{◌≡◌, ◌↔◌, ◌+◌, ◌≤◌, true, MatchResult, option_map, sum};
-ghost use Rattle.chip_graph.specs.Limits.{standard, max_total};
+ghost use Rattle.std.specs.Prelude.{◌≡◌, MatchResult, option_map};
+ghost use Rattle.chip_graph.specs.Limits.{standard};
 ghost use Rattle.chip_graph.specs.ChipGame.{IsGame};
-ghost use Rattle.chip_graph.specs.More.{AreOfVertices, all_brought};
+ghost use Rattle.chip_graph.specs.More.{AreOfVertices, HasRoom};
 ghost use Rattle.chip_sequence.specs.Play.{IsPlayed};
 ghost use Rattle.chip_engine.specs.AvalanchesCommand.{AvalanchesAnswers, PlaysDrops, WritesReport};
 ghost use Rattle.chip_engine.specs.AvalanchesCommand.{fault_of_rows, reading_drops};
@@ -12,7 +12,6 @@ use chip_command::{Ended, Fault, PlayOptions, read_game, status_of};
 use chip_drops::{HEADER, Pile, RowsFault, write_rows};
 use chip_file::{drops_of_text, read_whole_within};
 use chip_fire::{Unwatched, Watch, plain_watched};
-use chip_graph::game::MAX_TOTAL;
 use chip_graph::{Game, GameFault, Limits};
 use chip_report::{is_closed, report, write_all_of};
 use chip_sequence::Outcome;
@@ -86,25 +85,10 @@ fn read_drops<D: Read>(
 {
     let text = read_whole_within(alloc, limits, drops)?;
     let drops = drops_of_text(alloc, &text, game.graph().vertices())?;
-    if !have_room(game.total(), &drops) {
+    if !game.has_room(&drops) {
         return Err(Fault::Game(GameFault::Total));
     }
     Ok(drops)
-}
-
-/// Whether so many chips and those of these drops are no more than a game holds.
-fn have_room(total: u64, drops: &[(u64, u64)]) -> bool
-    requires { total ≤ max_total }
-    ensures { (result ≡ true) ↔ (total + all_brought drops.now ≤ max_total) }
-{
-    let mut room = MAX_TOTAL - total;
-    for &(_, count) in drops {
-        if count > room {
-            return false;
-        }
-        room -= count;
-    }
-    true
 }
 
 /// Plays drop after drop on a game that has come to this; the outcome of the game with the chips that were dropped.
@@ -119,7 +103,7 @@ fn play_drops<P: Watch, W: Write>(
     requires game { IsGame game }
     requires played { IsPlayed game rest }
     requires vertices { AreOfVertices game drops.now }
-    requires few { sum game.start + all_brought drops.now ≤ max_total }
+    requires few { HasRoom game drops.now }
     ensures { PlaysDrops game drops.now (W.contents output.old) (W.contents output.new) result }
 {
     if !is_closed(&rest) {

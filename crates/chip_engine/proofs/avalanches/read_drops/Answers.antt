@@ -8,5 +8,5 @@ returns g c =
     rw (c.vertices.ensures.value, c.graph.ensures.value, c.deref.ensures.value) at c.in_ok-drops.ensures in (
       (λ text text_is. let read = at_some _ _ text text_is c.in_ok-text.ensures.known in (read.0, rw read.1 at named)),
       drops_vertices c.args.game.now.graph.vertices c.in_ok-text.text.items c.in_ok-drops.drops.items named,
-      rw (c.total.ensures.value, c.deref-2.ensures.value) at (c.have_room.ensures.0 c.if-not-have_room.false),
+      rw c.deref-2.ensures.value at (c.has_room.ensures.0 c.if-not-has_room.false),
     )

@@ -157,7 +157,7 @@ module _ (g : Setting) (game : IsGame g.game) (some_ring : 0 < g.ring) where
 
     -- ---- no later event changes a part, but the stopper's
 
-    at_rest : AtRest g log
+    pub at_rest : AtRest g log
     at_rest = record {
       passive = λ v l. (resting v l).passive;
       taken = λ e l. (let c = all_counts g game some_ring log legal closed.1 e l in let c2 = c.2 in let c3 = c.3 in omega arith);

@@ -4,7 +4,7 @@
 use Rattle.std.proofs.Common.{◌≡◌, ◌≢◌, ◌⊎◌, ℕ, ◌+◌, ◌<◌, ◌≤◌, true, false, not, ◌&&◌, ◌||◌, eqb, List, [], ◌∷◌, length}
 use Rattle.std.proofs.Common.{Option, Some, None, option_to_list, Contains, refl, sym, ap, ◌∙◌, subst, arith, inl, inr}
 use Rattle.std.proofs.Common.{⊎_elim, eqb-true, eq-eqb, zero, suc, Bool, cond, ltb, is_some, ne_eqb, ltb-true, lt-ltb}
-use Rattle.std.proofs.Common.{leb-true, true≢false, ◌++◌, get_or}
+use Rattle.std.proofs.Common.{leb-true, true≢false, ◌++◌, get_or, append-nil, append_assoc}
 use Rattle.std.proofs.lemmas.Bool.{and_from, ltb-false, eqb-false, not-true, and_parts, not_from_false}
 use Rattle.chip_graph.specs.ChipGame.{IsGame}
 use Rattle.chip_graph.proofs.SumLemmas.{tested_none, cond_yes, cond_no, cond_true, cond_false, by_test, tested_term}
@@ -21,7 +21,7 @@ use Rattle.chip_core.specs.Core.{tail_of, head_of, root, all_edges, graph_edges,
 use Rattle.chip_core.specs.Core.{Claim, Put, Halt, Settle, unmet_rule, fired_by, sees, Rule, Feed, answer, step}
 use Rattle.chip_core.specs.Core.{log_after}
 use Rattle.chip_core.specs.Detection.{IsTree, IsDetectionOrder}
-use Rattle.chip_core.specs.Closing.{HasEnd, is_new_look, Advances, AsksForEverything}
+use Rattle.chip_core.specs.Closing.{HasEnd, is_new_look, Advances, AsksFor, AsksForEverything}
 use Rattle.chip_core.proofs.LogLemmas.{part_kept, head_inside, edge_counts, tail_inside, link_step}
 use Rattle.chip_core.proofs.OrderLemmas.{detection_order, contains_later, contains_nothing, contained, none_some}
 use Rattle.chip_part.proofs.PickedLemmas.{contains_cases}
@@ -161,12 +161,24 @@ find (suc n) test = ⊎_elim (λ some. let l = some.1 in inl (some.0, omega arit
     (λ off. inr (λ k l. dite (ℕ_discrete k n) (λ same. ap test same ∙ off) (λ other. none k (omega arith)))))
     (find n test)
 
+-- an element of a list stands between others
+parted : {X : Type 0} (xs : List X) (x : X) → Contains xs x
+    → (front : List X) × (back : List X) × (xs ≡ front ++ x ∷ back)
+parted [] x has = let a = has.1 in absurd (omega arith)
+parted {X = X} (y ∷ ys) x has = ⊎_elim (λ is. ([], ys, ap (λ (z : X). z ∷ ys) (sym is)))
+    (λ later. let at = parted ys x later in (y ∷ at.0, at.1, ap (λ (l : List X). y ∷ l) at.2)) (contains_cases y ys x has)
+
 module _ (g : Setting) where
   abbrev pub reply_counts : Log → Event → Bool
   reply_counts log x = counts_as_work g (acting_part g log x) (saw x (sees g log x))
 
   abbrev pub is_refused : Log → Event → Bool
   is_refused log x = is_refusal g (acting_part g log x) (saw x (sees g log x))
+
+  -- the rules of an event are met, and something is told of it
+  abbrev Tells : Log → Event → Type 0
+  Tells log x = (unmet_rule g x (acting_part g log x) ≡ None)
+      × ((reply_counts log x ≡ true) ⊎ (is_refused log x ≡ true))
 
   -- the rules of an event are met, and it counts
   abbrev pub Works : Log → Event → Type 0
@@ -250,8 +262,7 @@ module _ (g : Setting) where
     -- a claim is taken or refused
     pub claim_tells : (e : ℕ) → e < graph_edges g → (part_in g log (tail_of g e)).halt ≡ None
         → (out_in g log e).link.clear ≡ true
-        → (unmet_rule g (Claim e) (acting_part g log (Claim e)) ≡ None)
-        × ((reply_counts log (Claim e) ≡ true) ⊎ (is_refused log (Claim e) ≡ true))
+        → Tells log (Claim e)
     claim_tells e l runs clear =
         let o = out_in g log e in
         let seen : ℕ = sees g log (Claim e) in
@@ -482,55 +493,57 @@ module _ (g : Setting) where
         then_still (log_after g (step g log x).0 xs) (step g log x).0 log
         (run_still xs (step g log x).0 (step_legal g log x legal) (omega arith)) (step_still log legal x here)
 
-    -- the moment at which an event of an idle run was asked for
-    record Moment (after : Log) (x : Event) (log : Log) : Type 0 where
-      legal : IsLegalLog g log
-      idle : Idle log x
-      still : Still log after
+    room_still : (a b : Log) → Still a b → (e : ℕ) → HasRoom b e → HasRoom a e
+    room_still a b ab e room full =
+        let claims = ap (λ (s : Part). claims_of (s.out e).link) (ab.parts (tail_of g e)) in
+        let got = ap (λ (s : Part). length (s.into e).got) (ab.parts (head_of g e)) in
+        room (sym claims ∙ full ∙ ap (λ (n : ℕ). n + g.ring) got)
 
-    moment : (xs : List Event) (log : Log) → IsLegalLog g log → tells_in (log_after g log xs) ≡ tells_in log → (x : Event)
-        → Contains xs x → (m : Log) × Moment (log_after g log xs) x m
-    moment [] log legal idle x has = let a = has.1 in absurd (omega arith)
-    moment (y ∷ ys) log legal idle x has =
+    -- the note that a cell with room is clear stays
+    clear_stays : (e : ℕ) → e < graph_edges g → (xs : List Event) (log : Log) → IsLegalLog g log
+        → tells_in (log_after g log xs) ≡ tells_in log → HasRoom log e → (out_in g log e).link.clear ≡ true
+        → (out_in g (log_after g log xs) e).link.clear ≡ true
+    clear_stays e l [] log legal idle room clear = clear
+    clear_stays e l (y ∷ ys) log legal idle room clear =
         let a = step_grows log y in let b = run_grows (step g log y).0 ys in
         let here : Idle log y = omega arith in
-        ⊎_elim
-        (λ is. (
-          log,
-          record {
-            legal = legal;
-            idle = subst (Idle log) (sym is) here;
-            still = back_still (log_after g log (y ∷ ys)) log (run_still (y ∷ ys) log legal idle);
-          },
-        ))
-        (λ later. moment ys (step g log y).0 (step_legal g log y legal) (omega arith) x later)
-        (contains_cases y ys x has)
+        clear_stays e l ys (step g log y).0 (step_legal g log y legal) (omega arith)
+        (room_still (step g log y).0 log (step_still log legal y here) e room)
+        ((notes_after log legal y here e l).1 room clear)
 
-    -- a claim after a look at a cell with room is told
-    no_claim : (e : ℕ) → e < graph_edges g → (xs : List Event) (log : Log) → IsLegalLog g log
-        → tells_in (log_after g log xs) ≡ tells_in log → (part_in g log (tail_of g e)).halt ≡ None → HasRoom log e
-        → (out_in g log e).link.clear ≡ true → Contains xs (Claim e) → ⊥
-    no_claim e l [] log legal idle runs room clear has = let a = has.1 in absurd (omega arith)
-    no_claim e l (y ∷ ys) log legal idle runs room clear has =
-        let a = step_grows log y in let b = run_grows (step g log y).0 ys in
-        let here : Idle log y = omega arith in
-        ⊎_elim
-        (λ is.
-        let claim = claim_tells g game some_ring log legal e l runs clear in
-        let idle_claim : Idle log (Claim e) = subst (Idle log) (sym is) here in
-        ⊎_elim (λ counts. no_work log (Claim e) idle_claim (claim.0, counts))
-        (λ refused. no_refusal log (Claim e) idle_claim claim.0 refused) claim.1)
-        (λ later.
-        let same = step_still log legal y here in
-        let claims = ap (λ (s : Part). claims_of (s.out e).link) (same.parts (tail_of g e)) in
-        let got = ap (λ (s : Part). length (s.into e).got) (same.parts (head_of g e)) in
-        no_claim e l ys (step g log y).0 (step_legal g log y legal) (omega arith)
-        (ap (λ (s : Part). s.halt) (same.parts (tail_of g e)) ∙ runs)
-        (λ full. room (sym claims ∙ full ∙ ap (λ (n : ℕ). n + g.ring) got))
-        ((notes_after log legal y here e l).1 room clear) later)
-        (contains_cases y ys (Claim e) has)
+    -- a run of which nothing is told
+    module _ (log : Log) (legal : IsLegalLog g log) (xs : List Event) (idle : tells_in (log_after g log xs) ≡ tells_in log) where
+      -- a moment of it
+      module _ (front back : List Event) (is : xs ≡ front ++ back) where
+        abbrev here : Log
+        here = log_after g log front
 
-    module _ (log : Log) (legal : IsLegalLog g log) (xs : List Event) (asks : AsksForEverything g xs)
+        tells_here : (tells_in here ≡ tells_in log) × (tells_in (log_after g here back) ≡ tells_in here)
+        tells_here =
+            let a = run_grows log front in let b = run_grows here back in
+            let c : tells_in (log_after g log xs) ≡ tells_in (log_after g here back) = ap (λ (l : List Event). tells_in (log_after g log l)) is
+            ∙ ap tells_in (log_after-append g log front back) in
+            (omega arith, omega arith)
+
+        still_here : Still here (log_after g log xs)
+        still_here = then_still here log (log_after g log xs) (run_still front log legal tells_here.0)
+            (back_still (log_after g log xs) log (run_still xs log legal idle))
+
+      -- of what was asked for, or may not be made now, nothing would be told at some moment
+      asked_at : (x : Event) → AsksFor g log xs x
+          → ((front back : List Event) → xs ≡ front ++ back → Tells g (log_after g log front) x) → ⊥
+      asked_at x has tells = ⊎_elim
+          (λ among.
+          let at = parted xs x among in
+          let m : Log = log_after g log at.0 in
+          let a = (tells_here at.0 (x ∷ at.1) at.2).1 in
+          let b = step_grows m x in let c = run_grows (step g m x).0 at.1 in
+          let told = tells at.0 (x ∷ at.1) at.2 in
+          ⊎_elim (λ counts. no_work m x (omega arith) (told.0, counts))
+          (λ refused. no_refusal m x (omega arith) told.0 refused) told.1)
+          (λ unmet. unmet (tells xs [] (sym (append-nil xs))).0) has
+
+    module _ (log : Log) (legal : IsLegalLog g log) (xs : List Event) (asks : AsksForEverything g log xs)
         (idle : tells_in (log_after g log xs) ≡ tells_in log) where
       abbrev after : Log
       after = log_after g log xs
@@ -539,9 +552,10 @@ module _ (g : Setting) where
       after_legal = run_legal g log xs legal
 
       -- what every part has in the end, it had at each moment
-      asked : (x : Event) → Contains xs x → ((m : Log) → IsLegalLog g m → Still m after → Works g m x) → ⊥
-      asked x has works = let m = moment xs log legal idle x has in
-          no_work m.0 x m.1.idle (works m.0 m.1.legal m.1.still)
+      asked : (x : Event) → AsksFor g log xs x → ((m : Log) → IsLegalLog g m → Still m after → Works g m x) → ⊥
+      asked x has works = asked_at log legal xs idle x has (λ front back is.
+          let work = works (log_after g log front) (run_legal g log front legal) (still_here log legal xs idle front back is) in
+          (work.0, inl work.1))
 
       all_put : (e : ℕ) → e < all_edges g → (out_in g after e).link.held ≡ None
       all_put e l = by_test (is_some (out_in g after e).link.held)
@@ -554,66 +568,57 @@ module _ (g : Setting) where
       module _ (e : ℕ) (l : e < graph_edges g) (runs : (part_in g after (tail_of g e)).halt ≡ None)
           (room : HasRoom after e) (pends : 0 < (out_in g after e).pending)
           (off : (out_in g after e).link.refused ≡ false) where
-        abbrev front : List Event
-        front = (asks.looks e l).0
-
-        abbrev back : List Event
-        back = (asks.looks e l).1
-
-        abbrev before : Log
-        before = log_after g log front
-
-        abbrev next : Log
-        next = (step g before (Clear e)).0
-
-        ends : after ≡ log_after g next back
-        ends = ap (log_after g log) (asks.looks e l).2 ∙ log_after-append g log front (Clear e ∷ back)
-
-        before_legal : IsLegalLog g before
-        before_legal = run_legal g log front legal
-
-        next_legal : IsLegalLog g next
-        next_legal = step_legal g before (Clear e) before_legal
-
-        same_all : (tells_in before ≡ tells_in log) × Idle before (Clear e) × (tells_in (log_after g next back) ≡ tells_in next)
-        same_all =
-            let a = run_grows log front in let b = step_grows before (Clear e) in let c = run_grows next back in
-            let d : tells_in after ≡ tells_in (log_after g next back) = ap tells_in ends in
-            (omega arith, omega arith, omega arith)
-
-        before_still : Still before after
-        before_still = then_still before log after (run_still front log legal same_all.0)
-            (back_still after log (run_still xs log legal idle))
-
-        next_still : Still next after
-        next_still = then_still next before after (step_still before before_legal (Clear e) same_all.1) before_still
-
-        has_room : (m : Log) → Still m after → HasRoom m e
-        has_room m still full =
-            let claims = ap (λ (s : Part). claims_of (s.out e).link) (still.parts (tail_of g e)) in
-            let got = ap (λ (s : Part). length (s.into e).got) (still.parts (head_of g e)) in
-            room (sym claims ∙ full ∙ ap (λ (n : ℕ). n + g.ring) got)
-
         has_run : (m : Log) → Still m after → (part_in g m (tail_of g e)).halt ≡ None
         has_run m still = ap (λ (s : Part). s.halt) (still.parts (tail_of g e)) ∙ runs
 
-        may_look : unmet_rule g (Clear e) (acting_part g before (Clear e)) ≡ None
-        may_look =
-            let pending = ap (λ (s : Part). (s.out e).pending) (before_still.parts (tail_of g e)) in
-            met_rules g (Clear e) (part_in g before (tail_of g e))
-            (inl (l, has_run before before_still, before_still.refused e l ∙ off, omega arith))
+        may_look : (m : Log) → Still m after → unmet_rule g (Clear e) (acting_part g m (Clear e)) ≡ None
+        may_look m still =
+            let pending = ap (λ (s : Part). (s.out e).pending) (still.parts (tail_of g e)) in
+            met_rules g (Clear e) (part_in g m (tail_of g e))
+            (inl (l, has_run m still, still.refused e l ∙ off, omega arith))
 
-        is_clear : (out_in g next e).link.clear ≡ true
-        is_clear =
-            let o : Out = out_in g before e in
-            ap (λ (m : Log). (out_in g m e).link.clear) (made before (Clear e) may_look)
-            ∙ ap (λ (t : Tail). t.clear) (link_step g (saw (Clear e) (sees g before (Clear e))) before e
-            ∙ cond_yes e e (after_clear (sees g before (Clear e)) o.link) o.link refl)
-            ∙ eq-eqb _ 0 (look_finds g game some_ring before before_legal e (has_room before before_still))
+        is_clear : (m : Log) → IsLegalLog g m → Still m after → (out_in g (step g m (Clear e)).0 e).link.clear ≡ true
+        is_clear m ok still =
+            let o : Out = out_in g m e in
+            ap (λ (n : Log). (out_in g n e).link.clear) (made m (Clear e) (may_look m still))
+            ∙ ap (λ (t : Tail). t.clear) (link_step g (saw (Clear e) (sees g m (Clear e))) m e
+            ∙ cond_yes e e (after_clear (sees g m (Clear e)) o.link) o.link refl)
+            ∙ eq-eqb _ 0 (look_finds g game some_ring m ok e (room_still m after still e room))
+
+        -- the look that was asked for was made, and noted
+        noted : (front back : List Event) → xs ≡ front ++ back → AsksFor g log front (Clear e)
+            → (out_in g (log_after g log front) e).link.clear ≡ true
+        noted front back is = ⊎_elim
+            (λ among.
+            let at = parted front (Clear e) among in
+            let m : Log = log_after g log at.0 in let next : Log = (step g m (Clear e)).0 in
+            let m_legal = run_legal g log at.0 legal in
+            let all : xs ≡ at.0 ++ Clear e ∷ (at.1 ++ back) = is ∙ ap (λ (l : List Event). l ++ back) at.2
+            ∙ append_assoc at.0 (Clear e ∷ at.1) back in
+            let m_still = still_here log legal xs idle at.0 (Clear e ∷ (at.1 ++ back)) all in
+            let whole = (tells_here log legal xs idle front back is).0 in
+            let tells = (tells_here log legal front whole at.0 (Clear e ∷ at.1) at.2).1 in
+            let a = step_grows m (Clear e) in let b = run_grows next at.1 in
+            let next_still = then_still next m after (step_still m m_legal (Clear e) (omega arith)) m_still in
+            subst (λ (n : Log). (out_in g n e).link.clear ≡ true)
+            (sym (ap (log_after g log) at.2 ∙ log_after-append g log at.0 (Clear e ∷ at.1)))
+            (clear_stays e l at.1 next (step_legal g m (Clear e) m_legal) (omega arith)
+            (room_still next after next_still e room) (is_clear m m_legal m_still)))
+            (λ unmet. absurd (unmet (may_look (log_after g log front) (still_here log legal xs idle front back is))))
 
         none_left : ⊥
-        none_left = no_claim e l back next next_legal same_all.2 (has_run next next_still) (has_room next next_still)
-            is_clear (asks.looks e l).3
+        none_left =
+            let sends = asks.sends e l in
+            let m : Log = log_after g log sends.0 in
+            let tells = tells_here log legal xs idle sends.0 sends.1 sends.2 in
+            let m_legal = run_legal g log sends.0 legal in
+            let m_still = still_here log legal xs idle sends.0 sends.1 sends.2 in
+            asked_at m m_legal sends.1 tells.1 (Claim e) sends.4 (λ front back is.
+            let first = (tells_here m m_legal sends.1 tells.1 front back is).0 in
+            let still = then_still (log_after g m front) m after (run_still front m m_legal first) m_still in
+            claim_tells g game some_ring (log_after g m front) (run_legal g m front m_legal) e l
+            (has_run (log_after g m front) still)
+            (clear_stays e l front m m_legal first (room_still m after m_still e room) (noted sends.0 sends.1 sends.2 sends.3)))
 
       -- nobody has anything to do
       quiet : Quiet g after

@@ -1,7 +1,7 @@
 -- Serves Core.antt.
 -- Every run leaves a legal log, every legal log is that of a run, and a part is what its own events make of it.
 use Rattle.std.proofs.Common.{◌≡◌, ℕ, List, [], ◌∷◌, ◌++◌, Option, Some, None, refl, sym, ap, ◌∙◌, append-nil, Bool}
-use Rattle.std.proofs.Common.{true, false, cond, eqb}
+use Rattle.std.proofs.Common.{true, false, cond, eqb, subst}
 use Rattle.chip_part.specs.Setting.{Setting}
 use Rattle.chip_part.specs.Steps.{saw}
 use Rattle.chip_core.specs.Core.{Log, Step, Event, Rule, Part, opening_part, unmet_rule, part_of, does, part_in}
@@ -48,16 +48,20 @@ module _ (g : Setting) where
   run_push log [] x = refl
   run_push log (y ∷ ys) x = run_push (step g log y).0 ys x
 
-  -- a legal log is what the run of its events leaves
-  pub run_of : (log : Log) → IsLegalLog g log → log_after g [] (events_in log) ≡ log
-  run_of [] legal = refl
-  run_of (x ∷ log) legal = run_push [] (events_in log) x.event
-      ∙ ap (λ (l : Log). (step g l x.event).0) (run_of log legal.0)
-      ∙ ap (λ (o : Option Rule). (answer g log x.event o).0) legal.1.0
-      ∙ (λ j. saw x.event (sym legal.1.1 j) ∷ log)
+  -- a legal log is what the run of its latest events leaves
+  pub run_from : (xs log : Log) → IsLegalLog g (xs ++ log) → log_after g log (events_in xs) ≡ xs ++ log
+  run_from [] log legal = refl
+  run_from (x ∷ xs) log legal = run_push log (events_in xs) x.event
+      ∙ ap (λ (l : Log). (step g l x.event).0) (run_from xs log legal.0)
+      ∙ ap (λ (o : Option Rule). (answer g (xs ++ log) x.event o).0) legal.1.0
+      ∙ (λ j. saw x.event (sym legal.1.1 j) ∷ xs ++ log)
 
 pub parts_by_their_own_events : PartsByTheirOwnEvents
 parts_by_their_own_events = by_history
 
 pub legal_logs_are_runs : LegalLogsAreRuns
-legal_logs_are_runs g = ((λ log legal xs. run_legal g log xs legal), run_of g)
+legal_logs_are_runs g = (
+  (λ log legal xs. run_legal g log xs legal),
+  λ log legal. run_from g log []
+      (subst (IsLegalLog g) (sym (append-nil log)) legal) ∙ append-nil log,
+)

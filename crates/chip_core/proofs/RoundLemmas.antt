@@ -417,7 +417,13 @@ module _ (g : Setting) where
         ∙ (rest v vertex).puts e (among_new_outs g v vertex e refl)))
         (λ past. put e (omega arith) l)
 
-    settle_made : (e : ℕ) → e < all_edges g → (seen : ℕ) × Contains xs (saw (Settle e) seen)
+    pub take_made : (e : ℕ) → e < all_edges g → (seen : ℕ) × Contains xs (saw (Take e) seen)
+    take_made e l =
+        let v : ℕ = head_of g e in let vertex = head_inside g game e l in
+        let found = (rest v vertex).takes e (among_new_ins g v vertex e refl) in
+        (found.0, its_step v vertex (saw (Take e) found.0) found.1)
+
+    pub settle_made : (e : ℕ) → e < all_edges g → (seen : ℕ) × Contains xs (saw (Settle e) seen)
     settle_made e l = dite (dec_lt e (graph_edges g))
         (λ own. let v : ℕ = tail_of g e in let vertex = tail_inside g game e own in
         let found = (rest v vertex).settles e (among_new_outs g v vertex e refl) in
@@ -427,10 +433,9 @@ module _ (g : Setting) where
 
     quiet : Quiet g after
     quiet = record {
-      taken = λ e l. (let v : ℕ = head_of g e in let vertex = head_inside g game e l in
-          let found = (rest v vertex).takes e (among_new_ins g v vertex e refl) in
+      taken = λ e l. (let found = take_made e l in
           dite (dec_lt (length (into_in g after e).got) (length (out_in g after e).link.put))
-          (λ more. absurd (not_made (Take e) found.0 (its_step v vertex (saw (Take e) found.0) found.1) (λ m ok alike.
+          (λ more. absurd (not_made (Take e) found.0 found.1 (λ m ok alike.
           let a = ap (λ (p : Part). length (p.into e).got) (alike (head_of g e)) in
           let b = ap (λ (p : Part). length (p.out e).link.put) (alike (tail_of g e)) in
           take_works g game some_ring m ok e l (omega arith))))

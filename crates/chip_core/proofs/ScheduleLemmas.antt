@@ -3,20 +3,24 @@
 -- stay as they are.
 use Rattle.std.proofs.Common.{◌≡◌, ◌≢◌, ℕ, ◌+◌, ◌<◌, ◌≤◌, cond, List, [], ◌∷◌, ◌++◌, length, Option, sym, ap, ◌∙◌}
 use Rattle.std.proofs.Common.{subst, arith, ⊎_elim, refl, ◌⊎◌, zero, suc, None, inl, inr, true≢false, append-nil}
-use Rattle.std.proofs.Common.{is_some}
+use Rattle.std.proofs.Common.{is_some, Contains, append_assoc}
+use Rattle.std.proofs.lemmas.List.Elements.{Contains-append_left, Contains-append_right}
 use Rattle.chip_graph.specs.ChipGame.{IsGame}
 use Rattle.chip_graph.proofs.SumLemmas.{cond_no, sum_below_ext}
 use Rattle.chip_link.specs.Link.{Tail, claims_of, Shows, after_clear, after_claim, after_put}
 use Rattle.chip_part.specs.Setting.{Setting}
 use Rattle.chip_core.specs.Core.{Log, Step, Part, part_of, part_in, word_of_part, IsLegalLog, IsClosed, tail_of}
 use Rattle.chip_core.specs.Core.{head_of, stopper, all_edges, Event, Clear, Claim, Put, Feed, out_in, sees, step}
-use Rattle.chip_core.specs.Core.{log_after, graph_edges}
+use Rattle.chip_core.specs.Core.{log_after, graph_edges, unmet_rule, Take, Ack, Fire, Halt, Settle}
+use Rattle.chip_core.specs.Words.{acting_part}
+use Rattle.chip_core.specs.Positions.{events_in}
 use Rattle.chip_core.specs.Words.{of_edge, of_cell}
 use Rattle.chip_core.specs.Work.{work_in, refusals_in, is_refusal, steps_at_most, fed_so_far, AreFiringBounds}
-use Rattle.chip_core.specs.Closing.{StirsNothing, HasEnd, HasStretches, RootHasPut, HasRounds}
+use Rattle.chip_core.specs.Closing.{StirsNothing, HasEnd, AsksForEverything, NothingIsTold, IsStretch, HasStretches}
+use Rattle.chip_core.specs.Closing.{RootHasPut, HasRound, HasRounds}
 use Rattle.chip_core.proofs.LogLemmas.{link_step, head_inside, tail_cases, legal_before, in_pieces, end_stays}
 use Rattle.chip_core.proofs.OrderLemmas.{all_counts}
-use Rattle.chip_core.proofs.ClosingLemmas.{still, still_closed, still_run}
+use Rattle.chip_core.proofs.ClosingLemmas.{still, still_closed, still_run, Rests, rested, at_rest}
 use Rattle.chip_core.proofs.IdleLemmas.{counts_here, work_grows}
 use Rattle.chip_core.proofs.WorkLemmas.{edge_work, vertex_work, refused_on, work_step, refusal_step, few_steps}
 use Rattle.chip_core.proofs.WorkLemmas.{few_refusals}
@@ -30,10 +34,12 @@ use Rattle.chip_part.proofs.EdgeLemmas.{tail_root}
 use Rattle.chip_part.proofs.PartLemmas.{at_edge}
 use Rattle.chip_core.specs.Positions.{chips_given, fed_of}
 use Rattle.chip_core.proofs.GivenLemmas.{recorded_step, started_step}
-use Rattle.chip_core.proofs.ReachingLemmas.{step_legal, run_legal}
+use Rattle.chip_core.proofs.ReachingLemmas.{step_legal, run_legal, run_from}
 use Rattle.chip_core.proofs.ReplyLemmas.{log_after-append}
 use Rattle.chip_core.proofs.DueLemmas.{tells_in, run_grows, by_rule, made, asked_closes}
-use Rattle.chip_core.proofs.RoundLemmas.{round_closes}
+use Rattle.chip_core.proofs.RoundLemmas.{round_closes, take_made, settle_made}
+use Rattle.chip_part.proofs.PickedLemmas.{contains_cases}
+use Rattle.chip_part.proofs.RuleLemmas.{rules_met}
 use Rattle.chip_core.proofs.LogLemmas.{met_here}
 
 module _ (g : Setting) (game : IsGame g.game) (some_ring : 0 < g.ring) where
@@ -182,20 +188,24 @@ module _ (g : Setting) (game : IsGame g.game) (some_ring : 0 < g.ring) where
 
   -- ---- the bound holds on
 
+  pub bounds_stay : (log after : Log) → Ends log after → (fired : ℕ → ℕ) → AreFiringBounds g log fired
+      → AreFiringBounds g after fired
+  bounds_stay log after ends fired bounds = record {
+    firings = bounds.firings;
+    whole = subst (λ (x : ℕ → ℕ). IsWholePlay g.game.graph x g.game.limit bounds.firings) (sym ends.given) bounds.whole;
+    enough = bounds.enough;
+  }
+
   pub few_after : (log after : Log) → Ends log after → IsLegalLog g after → (fired : ℕ → ℕ) → AreFiringBounds g log fired
       → work_in g after ≤ steps_at_most g.game (length (fed_so_far g log)) fired
   few_after log after ends legal fired bounds =
       let same = ap (λ (l : List (ℕ × ℕ)). steps_at_most g.game (length l) fired) ends.fed in
-      let few = few_steps g game some_ring after legal fired record {
-        firings = bounds.firings;
-        whole = subst (λ (x : ℕ → ℕ). IsWholePlay g.game.graph x g.game.limit bounds.firings) (sym ends.given) bounds.whole;
-        enough = bounds.enough;
-      } in
+      let few = few_steps g game some_ring after legal fired (bounds_stay log after ends fired bounds) in
       omega arith
 
   -- ---- stretches that ask for everything
 
-  stretches_tell : (n : ℕ) (xs : List Event) (log : Log) → IsLegalLog g log → HasEnd g log → HasStretches g n xs
+  stretches_tell : (n : ℕ) (xs : List Event) (log : Log) → IsLegalLog g log → HasEnd g log → HasStretches g n log xs
       → IsClosed g (log_after g log xs) ⊎ (n + tells_in g log ≤ tells_in g (log_after g log xs))
   stretches_tell zero xs log legal end has = inr (let a = run_grows g log xs in omega arith)
   stretches_tell (suc n) xs log legal end (front, stretch, rest, is, asks, more) =
@@ -213,12 +223,12 @@ module _ (g : Setting) (game : IsGame g.game) (some_ring : 0 < g.ring) where
       (λ closed. inl (subst (IsClosed g) (sym same) closed))
       (λ tells. dite (ℕ_discrete (tells_in g two) (tells_in g one))
       (λ idle. inl (subst (IsClosed g) (sym same) (still_run g game some_ring two two_legal
-      (asked_closes g game some_ring one one_legal stretch asks idle two_ends.end) rest).0))
+      (asked_closes g game some_ring one one_legal stretch (asks idle) idle two_ends.end) rest).0))
       (λ worked. inr (omega arith)))
       (stretches_tell n rest two two_legal two_ends.end more)
 
   pub fair_schedules_close : (log : Log) → IsLegalLog g log → HasEnd g log → (fired : ℕ → ℕ) → AreFiringBounds g log fired → (n : ℕ)
-      → steps_at_most g.game (length (fed_so_far g log)) fired + graph_edges g < n → (xs : List Event) → HasStretches g n xs
+      → steps_at_most g.game (length (fed_so_far g log)) fired + graph_edges g < n → (xs : List Event) → HasStretches g n log xs
       → IsClosed g (log_after g log xs)
   fair_schedules_close log legal end fired all n more xs has = ⊎_elim (λ closed. closed)
       (λ tells.
@@ -257,6 +267,98 @@ module _ (g : Setting) (game : IsGame g.game) (some_ring : 0 < g.ring) where
       (round_closes g game some_ring one round has two_legal idle two_put two_ends.end))))
       (λ some. inr (omega arith)))
       (rounds_tell n rest two all_legal two_ends.end two_put more)
+
+  -- ---- as stretches of events
+
+  events-append : (xs ys : Log) → events_in (xs ++ ys) ≡ events_in ys ++ events_in xs
+  events-append [] ys = sym (append-nil (events_in ys))
+  events-append (x ∷ xs) ys = ap (λ (l : List Event). l ++ x.event ∷ []) (events-append xs ys)
+      ∙ append_assoc (events_in ys) (events_in xs) (x.event ∷ [])
+
+  events_have : (xs : Log) (x : Step) → Contains xs x → Contains (events_in xs) x.event
+  events_have [] x has = let l = has.1 in absurd (omega arith)
+  events_have (y ∷ ys) x has = ⊎_elim
+      (λ is. Contains-append_right (events_in ys) (y.event ∷ []) x.event (0, omega arith, ap (λ (z : Step). z.event) (sym is)))
+      (λ later. Contains-append_left (events_in ys) (y.event ∷ []) x.event (events_have ys x later)) (contains_cases y ys x has)
+
+  refusals_grow : (xs log : Log) → refusals_in g log ≤ refusals_in g (xs ++ log)
+  refusals_grow [] log = omega arith
+  refusals_grow (x ∷ xs) log = let a = refusals_grow xs log in omega arith
+
+  -- a round in which nothing counts closes the root, and then none of these may be made but takes and settles
+  module _ (before xs : Log) (round : HasRound g before xs) (legal : IsLegalLog g (xs ++ before)) (end : HasEnd g (xs ++ before))
+      (put : RootHasPut g (xs ++ before)) (told : NothingIsTold g before (log_after g before (events_in xs))) where
+    abbrev now : Log
+    now = xs ++ before
+
+    is_now : log_after g before (events_in xs) ≡ now
+    is_now = run_from g xs before legal
+
+    none : work_in g now ≡ work_in g before
+    none = let a = work_grows g xs before in let b = refusals_grow xs before in
+        let c = ap (work_in g) is_now in let d = ap (refusals_in g) is_now in omega arith
+
+    closed : IsClosed g now
+    closed = round_closes g game some_ring before xs round legal none put end
+
+    unmet : (x : Event) → (unmet_rule g x (acting_part g now x) ≡ None → ⊥)
+        → unmet_rule g x (acting_part g (log_after g before (events_in xs)) x) ≢ None
+    unmet x not_met = subst (λ (l : Log). unmet_rule g x (acting_part g l x) ≢ None) (sym is_now) not_met
+
+    may_not : (x : Event) → (unmet_rule g x (acting_part g now x) ≡ None) → Rests g x (sees g now x) (part_in g now (part_of g x))
+    may_not x may = rested g game some_ring now legal (at_rest g game some_ring now legal closed) x (sees g now x)
+        (legal, (may, refl))
+
+    all_asked : AsksForEverything g before (events_in xs)
+    all_asked = record {
+      takes = λ e l. inl (let made = take_made g game some_ring before xs round legal none put e l in
+          events_have xs (saw (Take e) made.0) made.1);
+      acks = λ e l. inr (unmet (Ack e) (λ may. (let c = (all_counts g game some_ring now legal closed.1 e l).1 in
+          let some = (rules_met g (Ack e) (part_in g now (head_of g e)) may).1 in absurd (omega arith))));
+      settles = λ e l. inl (let made = settle_made g game some_ring before xs round legal none put e l in
+          events_have xs (saw (Settle e) made.0) made.1);
+      puts = λ e l. inr (unmet (Put e) (may_not (Put e)));
+      fires = λ v l. inr (unmet (Fire v 1) (may_not (Fire v 1)));
+      halts = λ v l. inr (unmet (Halt v) (may_not (Halt v)));
+      sends = λ e l. (
+        events_in xs,
+        [],
+        sym (append-nil (events_in xs)),
+        inr (unmet (Clear e) (may_not (Clear e))),
+        inr (unmet (Claim e) (may_not (Claim e))),
+      );
+    }
+
+  all_stretches : (n : ℕ) (xs before : Log) → IsLegalLog g (xs ++ before) → HasEnd g before → RootHasPut g before
+      → HasRounds g n before xs → HasStretches g n before (events_in xs)
+  all_stretches zero xs before legal end put has = tt
+  all_stretches (suc n) xs before legal end put (front, round, rest, is, has, more) =
+      let one : Log = front ++ before in
+      let two : Log = round ++ one in
+      let all_legal : IsLegalLog g (rest ++ two) = subst (IsLegalLog g) (in_pieces front round rest xs before is) legal in
+      let two_legal = legal_before g rest two all_legal in
+      let one_legal = legal_before g round one two_legal in
+      let one_ends = ends_longer front before one_legal end in
+      let two_ends = ends_longer round one two_legal one_ends.end in
+      let two_put = two_ends.put (one_ends.put put) in
+      let at_one = run_from g front before one_legal in (
+        events_in front,
+        events_in round,
+        events_in rest,
+        ap events_in is ∙ events-append rest (round ++ front) ∙ ap (λ (l : List Event). l ++ events_in rest)
+            (events-append round front) ∙ append_assoc (events_in front) (events_in round) (events_in rest),
+        subst (λ (l : Log). IsStretch g l (events_in round)) (sym at_one)
+            (all_asked one round has two_legal two_ends.end two_put),
+        subst (λ (l : Log). HasStretches g n l (events_in rest))
+            (sym (ap (λ (l : Log). log_after g l (events_in round)) at_one ∙ run_from g round one two_legal))
+            (all_stretches n rest two all_legal two_ends.end two_put more),
+      )
+
+  pub rounds_are_stretches : (before : Log) → IsLegalLog g before → HasEnd g before → RootHasPut g before → (n : ℕ) (xs : Log)
+      → IsLegalLog g (xs ++ before) → HasRounds g n before xs
+      → (log_after g before (events_in xs) ≡ xs ++ before) × HasStretches g n before (events_in xs)
+  rounds_are_stretches before earlier end put n xs legal has =
+      (run_from g xs before legal, all_stretches n xs before legal end put has)
 
   pub fair_rounds_close : (before : Log) → IsLegalLog g before → HasEnd g before → RootHasPut g before → (fired : ℕ → ℕ)
       → AreFiringBounds g before fired → (n : ℕ) → steps_at_most g.game (length (fed_so_far g before)) fired < n → (xs : Log)

@@ -2,15 +2,16 @@
 -- The worked runs: a detection order member by member, a game within the limits, the sink asked backwards, and the
 -- triangle at rest.
 use Rattle.std.proofs.Common.{◌≡◌, ℕ, zero, suc, ◌<◌, [], ◌∷◌, get_or, Contains, refl, arith, inl, inr, ◌++◌, ◌≤◌, true}
-use Rattle.std.proofs.Common.{Some, subst, ◌≢◌, List, ◌^◌, length, sum}
+use Rattle.std.proofs.Common.{Some, subst, ◌≢◌, List, ◌^◌, length, sum, ⊎_elim}
 use Rattle.chip_core.specs.Worked.{TwoEngaged, whole_schedule, WholeSchedule, limit_of_two, stopped_by_limit}
 use Rattle.chip_core.specs.Worked.{StoppedByLimit, played_on, StoppedBySeal, fed_triangle, fed_schedule, ClosedByTheEnd}
 use Rattle.chip_graph.specs.Multigraph.{edge_at, IsEdge, IsGraph, ReachesSink}
 use Rattle.chip_part.specs.Setting.{Setting}
-use Rattle.chip_core.specs.Core.{End, log_after, IsClosed, Log, part_in, tail_of}
+use Rattle.chip_core.specs.Core.{End, Fire, log_after, IsClosed, Log, part_in, tail_of}
 use Rattle.chip_core.proofs.ReadLemmas.{settled_is, closed_is}
 use Rattle.chip_core.specs.WorkedSoon.{four_chips, sent_back, PairCloses}
-use Rattle.chip_core.specs.WorkedClosing.{sink_alone, backwards, ThreeStretches}
+use Rattle.chip_core.specs.WorkedClosing.{sink_alone, backwards, ThreeStretches, FiveStretches, BatchesAsk}
+use Rattle.chip_core.specs.Closing.{AsksForEverything}
 use Rattle.chip_part.specs.Part.{is_passive}
 use Rattle.chip_core.specs.Messages.{in_flight}
 use Rattle.chip_part.proofs.RestingLemmas.{same_edge}
@@ -157,17 +158,20 @@ only : (P : ℕ → Type 0) → P 0 → (e : ℕ) → e < 1 → P e
 only P here zero l = here
 only P here (suc e) l = absurd (omega arith)
 
+asks_backwards : (log : Log) → AsksForEverything sink_alone log backwards
+asks_backwards log = record {
+  takes = only _ (inl (2, omega arith, refl));
+  acks = only _ (inl (1, omega arith, refl));
+  settles = only _ (inl (0, omega arith, refl));
+  puts = only _ (inl (3, omega arith, refl));
+  fires = only _ (inl (4, omega arith, refl));
+  halts = only _ (inl (5, omega arith, refl));
+  sends = λ e l. absurd (omega arith);
+}
+
 pub three_stretches : ThreeStretches
 three_stretches = (
-  record {
-    takes = only _ (2, omega arith, refl);
-    acks = only _ (1, omega arith, refl);
-    settles = only _ (0, omega arith, refl);
-    puts = only _ (3, omega arith, refl);
-    fires = only _ (4, omega arith, refl);
-    halts = only _ (5, omega arith, refl);
-    looks = λ e l. absurd (omega arith);
-  },
+  asks_backwards,
   λ closed. (let some : 1 ≡ 0 = closed.1 0 (omega arith) refl in absurd (omega arith)),
   (
     refl,
@@ -175,6 +179,53 @@ three_stretches = (
         (log_after sink_alone [] (backwards ++ (backwards ++ backwards))) i) ≡ 0) refl e l,
   ),
 )
+
+pub five_stretches : FiveStretches
+five_stretches = (
+  refl,
+  record {
+    firings = [];
+    whole = record {
+      sequence = tt;
+      within = λ v. omega arith;
+      ended = λ v can. absurd (can.not_sink (let l = can.is_vertex in omega arith));
+    };
+    enough = λ v l. omega arith;
+  },
+  refl,
+  (
+    [],
+    backwards,
+    _,
+    refl,
+    (λ told. asks_backwards _),
+    (
+      [],
+      backwards,
+      _,
+      refl,
+      (λ told. asks_backwards _),
+      (
+        [],
+        backwards,
+        _,
+        refl,
+        (λ told. asks_backwards _),
+        ([], backwards, _, refl, (λ told. asks_backwards _), ([], backwards, _, refl, (λ told. asks_backwards _), tt)),
+      ),
+    ),
+  ),
+)
+
+pub batches_ask : BatchesAsk
+batches_ask = (
+  λ told. (let more : ◌≡◌ {A = ℕ} 2 1 = told in absurd (omega arith)),
+  λ asks. ⊎_elim (λ among. not_among among.0 among.1 among.2) (λ unmet. unmet refl) ((asks refl).fires 0 (omega arith)),
+)
+  where
+    not_among : (k : ℕ) → k < 1 → get_or (Fire 0 3 ∷ []) k (Fire 0 1) ≡ Fire 0 1 → ⊥
+    not_among zero few is = (let same : ◌≡◌ {A = ℕ} 3 1 = cc in absurd (omega arith))
+    not_among (suc k) few is = absurd (omega arith)
 
 abbrev at_end : Log
 at_end = log_after four_chips [] sent_back

@@ -1,7 +1,7 @@
 -- It closes: there is always something to do until the root is closed, and a schedule that asks for everything, often
 -- enough, closes it.
-use Rattle.std.specs.Prelude.{◌≡◌, ◌≤◌, ℕ, zero, suc, ◌+◌, ◌<◌, ◌==◌, ◌&&◌, ◌||◌, Bool, true, false, not, List, ◌∷◌}
-use Rattle.std.specs.Prelude.{◌++◌, length, Contains, None}
+use Rattle.std.specs.Prelude.{◌≡◌, ◌≤◌, ℕ, zero, suc, ◌+◌, ◌<◌, ◌==◌, ◌&&◌, ◌||◌, Bool, true, false, not, List}
+use Rattle.std.specs.Prelude.{◌++◌, length, Contains, None, ◌⊎◌, ◌≢◌}
 use Rattle.chip_link.specs.Link.{claims_of}
 use Rattle.chip_part.specs.Setting.{Setting}
 use Rattle.chip_part.specs.Steps.{saw}
@@ -10,6 +10,7 @@ use Rattle.chip_core.specs.Core.{Log, Step, Event, Part, Take, Ack, Fire, Clear,
 use Rattle.chip_core.specs.Core.{part_in, out_in, into_in, stop_in, sees, IsLegalLog, log_after, IsClosed, root}
 use Rattle.chip_core.specs.Core.{all_edges, graph_edges}
 use Rattle.chip_core.specs.Histories.{done_by}
+use Rattle.chip_core.specs.Positions.{events_in}
 use Rattle.chip_core.specs.Laws.{ForEveryLog}
 use Rattle.chip_core.specs.Words.{Word, IsShown, acting_part}
 use Rattle.chip_core.specs.Work.{counts_as_work, is_refusal, work_in, refusals_in, steps_at_most, fed_so_far}
@@ -40,23 +41,30 @@ NeverStuck = ForEveryLog (λ g log. HasEnd g log → (IsClosed g log → ⊥) �
 
 -- ---- schedules that ask for everything
 
--- these events ask for everything, in any order: of each edge a take, an acknowledgement, a settle and a put; of each
--- vertex a firing of one and a halt; of each graph edge a look and, later, a claim
-pub record AsksForEverything (g : Setting) (xs : List Event) : Type 0 where
-  pub takes : (e : ℕ) → e < all_edges g → Contains xs (Take e)
-  pub acks : (e : ℕ) → e < all_edges g → Contains xs (Ack e)
-  pub settles : (e : ℕ) → e < all_edges g → Contains xs (Settle e)
-  pub puts : (e : ℕ) → e < all_edges g → Contains xs (Put e)
-  pub fires : (v : ℕ) → v < g.game.graph.vertices → Contains xs (Fire v 1)
-  pub halts : (v : ℕ) → v < g.game.graph.vertices → Contains xs (Halt v)
-  pub looks : (e : ℕ) → e < graph_edges g → (front : List Event) × (back : List Event) × (xs ≡ front ++ Clear e ∷ back)
-      × Contains back (Claim e)
+-- this event is asked for among these, or may not be made after them
+abbrev pub AsksFor : Setting → Log → List Event → Event → Type 0
+AsksFor g log xs x = Contains xs x ⊎ (unmet_rule g x (acting_part g (log_after g log xs) x) ≢ None)
+
+-- these events, asked for after the log in any order, ask for everything that may be made: of each edge a take, an
+-- acknowledgement, a settle and a put; of each vertex a firing and a halt; of each graph edge a look and, later, a claim
+pub record AsksForEverything (g : Setting) (log : Log) (xs : List Event) : Type 0 where
+  pub takes : (e : ℕ) → e < all_edges g → AsksFor g log xs (Take e)
+  pub acks : (e : ℕ) → e < all_edges g → AsksFor g log xs (Ack e)
+  pub settles : (e : ℕ) → e < all_edges g → AsksFor g log xs (Settle e)
+  pub puts : (e : ℕ) → e < all_edges g → AsksFor g log xs (Put e)
+  pub fires : (v : ℕ) → v < g.game.graph.vertices → AsksFor g log xs (Fire v 1)
+  pub halts : (v : ℕ) → v < g.game.graph.vertices → AsksFor g log xs (Halt v)
+  pub sends : (e : ℕ) → e < graph_edges g → (front : List Event) × (back : List Event) × (xs ≡ front ++ back)
+      × AsksFor g log front (Clear e) × AsksFor g (log_after g log front) back (Claim e)
+
+-- nothing counts and no claim is refused between these logs
+abbrev pub NothingIsTold : Setting → Log → Log → Type 0
+NothingIsTold g log after = work_in g after + refusals_in g after ≡ work_in g log + refusals_in g log
 
 -- where such a list is asked for, something counts or a claim is refused, or the root is closed after it
 abbrev pub AskedInVain : Type 0
-AskedInVain = ForEveryLog (λ g log. (xs : List Event) → AsksForEverything g xs → HasEnd g (log_after g log xs)
-    → work_in g (log_after g log xs) + refusals_in g (log_after g log xs) ≡ work_in g log + refusals_in g log
-    → IsClosed g (log_after g log xs))
+AskedInVain = ForEveryLog (λ g log. (xs : List Event) → AsksForEverything g log xs → HasEnd g (log_after g log xs)
+    → NothingIsTold g log (log_after g log xs) → IsClosed g (log_after g log xs))
 
 -- ---- rounds of whole turns
 
@@ -86,16 +94,21 @@ IdleRoundsClose = ForEveryLog (λ g before. (xs : Log) → HasRound g before xs 
 
 -- ---- schedules that go on often enough
 
--- so many stretches that ask for everything, one after another, with any events before, between and after them
-abbrev pub HasStretches : Setting → ℕ → List Event → Type 0
-HasStretches g zero xs = Unit {0}
-HasStretches g (suc n) xs = (front : List Event) × (stretch : List Event) × (rest : List Event)
-    × (xs ≡ front ++ (stretch ++ rest)) × AsksForEverything g stretch × HasStretches g n rest
+-- in these events a step counts, a claim is refused, or everything that may be made is asked for
+abbrev pub IsStretch : Setting → Log → List Event → Type 0
+IsStretch g log xs = NothingIsTold g log (log_after g log xs) → AsksForEverything g log xs
 
--- a list of events that asks for everything more often than steps can count and claims can be refused closes the root
+-- so many stretches, one after another, with any events before, between and after them
+abbrev pub HasStretches : Setting → ℕ → Log → List Event → Type 0
+HasStretches g zero log xs = Unit {0}
+HasStretches g (suc n) log xs = (front : List Event) × (stretch : List Event) × (rest : List Event)
+    × (xs ≡ front ++ (stretch ++ rest)) × IsStretch g (log_after g log front) stretch
+    × HasStretches g n (log_after g (log_after g log front) stretch) rest
+
+-- a list of events with more stretches than steps can count and claims can be refused closes the root
 abbrev pub FairSchedulesClose : Type 0
 FairSchedulesClose = ForEveryLog (λ g log. HasEnd g log → (fired : ℕ → ℕ) → AreFiringBounds g log fired → (n : ℕ)
-    → steps_at_most g.game (length (fed_so_far g log)) fired + graph_edges g < n → (xs : List Event) → HasStretches g n xs
+    → steps_at_most g.game (length (fed_so_far g log)) fired + graph_edges g < n → (xs : List Event) → HasStretches g n log xs
     → IsClosed g (log_after g log xs))
 
 -- so many rounds of whole turns among these steps, one after another
@@ -104,7 +117,13 @@ HasRounds g zero before xs = Unit {0}
 HasRounds g (suc n) before xs = (front : Log) × (round : Log) × (rest : Log) × (xs ≡ rest ++ (round ++ front))
     × HasRound g (front ++ before) round × HasRounds g n (round ++ (front ++ before)) rest
 
--- and so do more rounds than steps can count
+-- the events of a legal log leave it, and its rounds of whole turns are stretches
+abbrev pub RoundsAreStretches : Type 0
+RoundsAreStretches = ForEveryLog (λ g before. HasEnd g before → RootHasPut g before → (n : ℕ) (xs : Log)
+    → IsLegalLog g (xs ++ before) → HasRounds g n before xs
+    → (log_after g before (events_in xs) ≡ xs ++ before) × HasStretches g n before (events_in xs))
+
+-- and more rounds than steps can count close the root
 abbrev pub FairRoundsClose : Type 0
 FairRoundsClose = ForEveryLog (λ g before. HasEnd g before → RootHasPut g before → (fired : ℕ → ℕ)
     → AreFiringBounds g before fired → (n : ℕ) → steps_at_most g.game (length (fed_so_far g before)) fired < n → (xs : Log)

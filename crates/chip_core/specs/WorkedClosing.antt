@@ -1,12 +1,12 @@
 -- Worked bounds, and a schedule that asks in the wrong order, as the definitions compute them.
-use Rattle.std.specs.Prelude.{◌≡◌, ◌^◌, List, [], ◌∷◌, ◌++◌, slice_index}
+use Rattle.std.specs.Prelude.{◌≡◌, ◌^◌, ◌+◌, List, [], ◌∷◌, ◌++◌, slice_index, length}
 use Rattle.chip_part.specs.Setting.{Setting, setting_of}
 use Rattle.chip_part.specs.Worked.{small_triangle}
 use Rattle.chip_sequence.specs.Sequence.{counts}
-use Rattle.chip_core.specs.Core.{Event, Take, Ack, Fire, Put, Halt, Settle, log_after, IsClosed}
-use Rattle.chip_core.specs.Work.{work_in, refusals_in, steps_at_most, fires_at_most}
+use Rattle.chip_core.specs.Core.{Log, Event, Take, Ack, Fire, Put, Halt, Settle, log_after, IsClosed, graph_edges}
+use Rattle.chip_core.specs.Work.{work_in, refusals_in, steps_at_most, fires_at_most, fed_so_far, AreFiringBounds}
 use Rattle.chip_core.specs.Worked.{whole_schedule, sealed_half_way}
-use Rattle.chip_core.specs.Closing.{AsksForEverything}
+use Rattle.chip_core.specs.Closing.{HasEnd, AsksForEverything, IsStretch, HasStretches}
 
 -- the triangle with four chips on vertex 0, which is played by 0, 0, 1: three firings; six messages on its edges, each
 -- with five steps; one first message, with three; and three halts at most. The distances from the sink are 1, 1 and 0,
@@ -38,6 +38,23 @@ backwards = Settle 0 ∷ Ack 0 ∷ Take 0 ∷ Put 0 ∷ Fire 0 1 ∷ Halt 0 ∷ 
 -- so the first two of such stretches leave the root open, and the third closes it
 abbrev pub ThreeStretches : Type 0
 ThreeStretches =
-    AsksForEverything sink_alone backwards
+    ((log : Log) → AsksForEverything sink_alone log backwards)
     × (IsClosed sink_alone (log_after sink_alone [] (backwards ++ backwards)) → ⊥)
     × IsClosed sink_alone (log_after sink_alone [] (backwards ++ (backwards ++ backwards)))
+
+-- but four steps may count there: three of the first message, and a halt. So it takes five stretches for the premise of
+-- FairSchedulesClose
+abbrev pub FiveStretches : Type 0
+FiveStretches =
+    HasEnd sink_alone []
+    × AreFiringBounds sink_alone [] (counts [])
+    × (steps_at_most sink_alone.game (length (fed_so_far sink_alone [])) (counts []) + graph_edges sink_alone ≡ 4)
+    × HasStretches sink_alone 5 [] (backwards ++ (backwards ++ (backwards ++ (backwards ++ (backwards ++ [])))))
+
+-- the triangle's vertex 0 takes its four chips, which are two firings. A batch of two counts, so it is a stretch; a batch of
+-- three may not be made, and isn't asked for in place of one firing
+abbrev pub BatchesAsk : Type 0
+BatchesAsk =
+    let g : Setting = small_triangle (4 ∷ 0 ∷ 0 ∷ []) in
+    let log : Log = log_after g [] (Take 4 ∷ []) in
+    IsStretch g log (Fire 0 2 ∷ []) × (IsStretch g log (Fire 0 3 ∷ []) → ⊥)

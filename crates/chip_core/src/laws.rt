@@ -19,9 +19,10 @@ ghost use Rattle.chip_core.specs.Reached.{ReachedByLegalLogs};
 ghost use Rattle.chip_core.specs.Headline.{CoreTheorem};
 ghost use Rattle.chip_core.specs.Work.{FewSteps, DistancesBound, FewRefusals};
 ghost use Rattle.chip_core.specs.Closing.{NeverStuck, AskedInVain, IdleRoundsClose};
-ghost use Rattle.chip_core.specs.Closing.{FairSchedulesClose, FairRoundsClose, NothingStirs};
+ghost use Rattle.chip_core.specs.Closing.{FairSchedulesClose, RoundsAreStretches, FairRoundsClose, NothingStirs};
 ghost use Rattle.chip_core.specs.Soon.{DepthCloses, DepthClosesLater, DepthIsCounted};
 ghost use Rattle.chip_core.specs.WorkedClosing.{TriangleBounds, OneRefused, ThreeStretches};
+ghost use Rattle.chip_core.specs.WorkedClosing.{FiveStretches, BatchesAsk};
 ghost use Rattle.chip_core.specs.WorkedSoon.{ChainCloses, StarCloses, PairCloses};
 
 /// Small runs, as the definitions compute them.
@@ -126,11 +127,14 @@ pub fn outcomes()
     ensures { OutcomesTell }
 {}
 
-/// How many steps a small game may have and has, and a schedule that has to ask three times.
+/// How many steps a small game may have and has, a schedule that has to ask three times and one that asks often enough,
+/// and batches.
 pub fn worked_closing()
     ensures bounds { TriangleBounds }
     ensures refused { OneRefused }
     ensures stretches { ThreeStretches }
+    ensures premise { FiveStretches }
+    ensures batches { BatchesAsk }
 {}
 
 /// The last rounds of small games, whose trees are three and two deep.
@@ -157,6 +161,7 @@ pub fn never_stuck()
 /// However steps are ordered: where everything is asked for often enough after the end of feeding, the root is closed.
 pub fn fair_schedules()
     ensures stretches { FairSchedulesClose }
+    ensures turns { RoundsAreStretches }
     ensures rounds { FairRoundsClose }
 {}
 

@@ -19,3 +19,5 @@ pub mod RoundLemmas
 pub mod ScheduleLemmas
 pub mod SoonLemmas
 pub mod WorkedLemmas
+pub mod PlayingLemmas
+pub mod WastingLemmas

@@ -15,3 +15,5 @@ pub mod Closing
 pub mod WorkedClosing
 pub mod Soon
 pub mod WorkedSoon
+pub mod Playing
+pub mod Wasting

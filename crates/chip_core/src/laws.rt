@@ -20,6 +20,8 @@ ghost use Rattle.chip_core.specs.Headline.{CoreTheorem};
 ghost use Rattle.chip_core.specs.Work.{FewSteps, DistancesBound, FewRefusals};
 ghost use Rattle.chip_core.specs.Closing.{NeverStuck, AskedInVain, IdleRoundsClose};
 ghost use Rattle.chip_core.specs.Closing.{FairSchedulesClose, RoundsAreStretches, FairRoundsClose, NothingStirs};
+ghost use Rattle.chip_core.specs.Wasting.{NoWasteCloses};
+ghost use Rattle.chip_core.specs.Playing.{UnsealedHaltsNone, FairSchedulesPlay, FairRoundsPlay};
 ghost use Rattle.chip_core.specs.Soon.{DepthCloses, DepthClosesLater, DepthIsCounted};
 ghost use Rattle.chip_core.specs.WorkedClosing.{TriangleBounds, OneRefused, ThreeStretches};
 ghost use Rattle.chip_core.specs.WorkedClosing.{FiveStretches, BatchesAsk};
@@ -163,6 +165,18 @@ pub fn fair_schedules()
     ensures stretches { FairSchedulesClose }
     ensures turns { RoundsAreStretches }
     ensures rounds { FairRoundsClose }
+{}
+
+/// Where no step is wasted few are made, and once none is due the root is closed.
+pub fn no_waste()
+    ensures { NoWasteCloses }
+{}
+
+/// Where nothing is sealed, a schedule that asks for everything often enough plays the game.
+pub fn fair_schedules_play()
+    ensures unsealed { UnsealedHaltsNone }
+    ensures stretches { FairSchedulesPlay }
+    ensures rounds { FairRoundsPlay }
 {}
 
 /// Where nothing is left but to acknowledge, as many rounds close the root as the tree of engaged vertices is deep, and

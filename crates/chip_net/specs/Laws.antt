@@ -10,6 +10,8 @@ use Rattle.chip_core.specs.Words.{of_edge, of_acks, of_cell, of_vertex}
 use Rattle.chip_core.specs.Reached.{parts_by, IsReached}
 use Rattle.chip_net.specs.Layout.{value_in}
 use Rattle.chip_net.specs.Views.{View, find_in}
+use Rattle.chip_core.specs.Core.{Event, IsClosed}
+use Rattle.chip_core.specs.Closing.{HasEnd, Advances}
 use Rattle.chip_net.specs.Rule.{Kept}
 
 -- the words of an edge are what the parts have made of them, and what was sent on it arrives in order
@@ -47,3 +49,9 @@ pub record IsReachedTable (g : Setting) (s : State (Unit {0}) View) : Type 0 whe
 -- so it is at every moment of a net
 abbrev pub EveryMomentIsReached : Type 0
 EveryMomentIsReached = (g : Setting) (s : State (Unit {0}) View) → Kept g s → IsReachedTable g s
+
+-- in every state that the rule of the table allows, once the end of feeding is noted and until the root is closed, some part
+-- has an event that advances
+abbrev pub AlwaysDue : Type 0
+AlwaysDue = (g : Setting) (s : State (Unit {0}) View) → (kept : Kept g s) → HasEnd g kept.log
+    → (IsClosed g kept.log → ⊥) → (x : Event) × Advances g kept.log x

@@ -2,7 +2,7 @@
 
 ghost use Rattle.chip_net.specs.Worked.{TriangleWords, TriangleOpens, PartTakenOut, RowsOfATurn, RootOfTheTriangle};
 ghost use Rattle.chip_net.specs.Worked.{FeedOfTheTriangle};
-ghost use Rattle.chip_net.specs.Laws.{EveryMomentIsReached};
+ghost use Rattle.chip_net.specs.Laws.{EveryMomentIsReached, AlwaysDue};
 ghost use Rattle.chip_net.specs.Meeting.{OneRun, SealsTellAll};
 
 /// The small triangle as a net, as the definitions compute it.
@@ -21,6 +21,11 @@ pub fn worked_nets()
 #[tactic(auto, using(crate::proofs::ReachingLemmas::every_moment))]
 pub fn every_moment()
     ensures { EveryMomentIsReached }
+{}
+
+/// Once the end of feeding is noted and until the root is closed, some part has an event that advances.
+pub fn always_due()
+    ensures { AlwaysDue }
 {}
 
 /// What the root, the stopper and all actors did stands in one legal log, which is closed. The outcome that the root read

@@ -71,7 +71,7 @@ pub unsealed_halts_none : UnsealedHaltsNone
 unsealed_halts_none g game some_ring log legal open_all v l is = true≢false (sym (ap is_by_seal is)
     ∙ (unsealed g log legal (λ e. is_none_of (stop_in g log e) (sym (seals_stand g log e) ∙ open_all e))).1 v)
 
-plays_out : (g : Setting) → IsGame g.game → 0 < g.ring → (log : Log) → IsLegalLog g log → SealsNone log → IsClosed g log
+pub plays_out : (g : Setting) → IsGame g.game → 0 < g.ring → (log : Log) → IsLegalLog g log → SealsNone log → IsClosed g log
     → PlaysOut g log
 plays_out g game some_ring log legal open_all closed = (
   closed,

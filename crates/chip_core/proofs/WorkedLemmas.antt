@@ -2,14 +2,17 @@
 -- The worked runs: a detection order member by member, a game within the limits, the sink asked backwards, and the
 -- triangle at rest.
 use Rattle.std.proofs.Common.{◌≡◌, ℕ, zero, suc, ◌<◌, [], ◌∷◌, get_or, Contains, refl, arith, inl, inr, ◌++◌, ◌≤◌, true}
-use Rattle.std.proofs.Common.{Some, subst, ◌≢◌, List, ◌^◌, length, sum, ⊎_elim}
+use Rattle.std.proofs.Common.{Some, subst, true≢false, sym, ◌≢◌, List, ◌^◌, length, sum, ⊎_elim}
 use Rattle.chip_core.specs.Worked.{TwoEngaged, whole_schedule, WholeSchedule, limit_of_two, stopped_by_limit}
 use Rattle.chip_core.specs.Worked.{StoppedByLimit, played_on, StoppedBySeal, fed_triangle, fed_schedule, ClosedByTheEnd}
 use Rattle.chip_graph.specs.Multigraph.{edge_at, IsEdge, IsGraph, ReachesSink}
 use Rattle.chip_part.specs.Setting.{Setting}
-use Rattle.chip_core.specs.Core.{End, Fire, log_after, IsClosed, Log, part_in, tail_of}
+use Rattle.chip_core.specs.Core.{End, Take, Ack, Settle, Fire, log_after, IsClosed, Log, part_in, tail_of}
 use Rattle.chip_core.proofs.ReadLemmas.{settled_is, closed_is}
 use Rattle.chip_core.specs.WorkedSoon.{four_chips, sent_back, PairCloses}
+use Rattle.chip_core.proofs.PlayingLemmas.{plays_out}
+use Rattle.chip_core.proofs.ReachingLemmas.{run_legal}
+use Rattle.chip_core.specs.WorkedClosing.{ThreeSteps, TrianglePlays}
 use Rattle.chip_core.specs.WorkedClosing.{sink_alone, backwards, ThreeStretches, FiveStretches, BatchesAsk}
 use Rattle.chip_core.specs.Closing.{AsksForEverything}
 use Rattle.chip_part.specs.Part.{is_passive}
@@ -226,6 +229,26 @@ batches_ask = (
     not_among : (k : ℕ) → k < 1 → get_or (Fire 0 3 ∷ []) k (Fire 0 1) ≡ Fire 0 1 → ⊥
     not_among zero few is = (let same : ◌≡◌ {A = ℕ} 3 1 = cc in absurd (omega arith))
     not_among (suc k) few is = absurd (omega arith)
+
+pub three_steps : ThreeSteps
+three_steps = (
+  (((tt, record { may = refl; tells = refl }), record { may = refl; tells = refl }), record { may = refl; tells = refl }),
+  (
+    refl,
+    λ e l at. only (λ i. Rattle.chip_core.specs.Core.outstanding (Rattle.chip_core.specs.Core.out_in sink_alone
+        (log_after sink_alone [] (Take 0 ∷ Ack 0 ∷ Settle 0 ∷ [])) i) ≡ 0) refl e l,
+  ),
+  λ all. true≢false (sym all.1.tells),
+  λ none. none (Take 0) record { may = refl; tells = refl },
+)
+
+pub triangle_plays : TrianglePlays
+triangle_plays = (
+  λ e. refl,
+  plays_out four_chips none_halted.0 (omega arith) (log_after four_chips [] whole_schedule)
+      (run_legal four_chips [] whole_schedule tt) (λ e. refl) none_halted.1,
+  λ none. true≢false (none 1),
+)
 
 abbrev at_end : Log
 at_end = log_after four_chips [] sent_back

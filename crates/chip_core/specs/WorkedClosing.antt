@@ -7,6 +7,8 @@ use Rattle.chip_core.specs.Core.{Log, Event, Take, Ack, Fire, Put, Halt, Settle,
 use Rattle.chip_core.specs.Work.{work_in, refusals_in, steps_at_most, fires_at_most, fed_so_far, AreFiringBounds}
 use Rattle.chip_core.specs.Worked.{whole_schedule, sealed_half_way}
 use Rattle.chip_core.specs.Closing.{HasEnd, AsksForEverything, IsStretch, HasStretches}
+use Rattle.chip_core.specs.Wasting.{AllAdvance, NoneIsDue}
+use Rattle.chip_core.specs.Playing.{SealsNone, PlaysOut}
 
 -- the triangle with four chips on vertex 0, which is played by 0, 0, 1: three firings; six messages on its edges, each
 -- with five steps; one first message, with three; and three halts at most. The distances from the sink are 1, 1 and 0,
@@ -58,3 +60,20 @@ BatchesAsk =
     let g : Setting = small_triangle (4 ∷ 0 ∷ 0 ∷ []) in
     let log : Log = log_after g [] (Take 4 ∷ []) in
     IsStretch g log (Fire 0 2 ∷ []) × (IsStretch g log (Fire 0 3 ∷ []) → ⊥)
+
+-- the sink alone without waste: three steps close it. A settle that finds nothing is waste, and at the opening a take is due
+abbrev pub ThreeSteps : Type 0
+ThreeSteps =
+    let log : Log = log_after sink_alone [] (Take 0 ∷ Ack 0 ∷ Settle 0 ∷ []) in
+    AllAdvance sink_alone [] log
+    × IsClosed sink_alone log
+    × (AllAdvance sink_alone [] (log_after sink_alone [] (Settle 0 ∷ [])) → ⊥)
+    × (NoneIsDue sink_alone [] → ⊥)
+
+-- the whole schedule of the triangle seals nothing, and plays the game out; the one that is sealed half way seals
+abbrev pub TrianglePlays : Type 0
+TrianglePlays =
+    let g : Setting = small_triangle (4 ∷ 0 ∷ 0 ∷ []) in
+    SealsNone (log_after g [] whole_schedule)
+    × PlaysOut g (log_after g [] whole_schedule)
+    × (SealsNone (log_after g [] sealed_half_way) → ⊥)

@@ -24,7 +24,7 @@ ghost use Rattle.chip_core.specs.Wasting.{NoWasteCloses};
 ghost use Rattle.chip_core.specs.Playing.{UnsealedHaltsNone, FairSchedulesPlay, FairRoundsPlay};
 ghost use Rattle.chip_core.specs.Soon.{DepthCloses, DepthClosesLater, DepthIsCounted};
 ghost use Rattle.chip_core.specs.WorkedClosing.{TriangleBounds, OneRefused, ThreeStretches};
-ghost use Rattle.chip_core.specs.WorkedClosing.{FiveStretches, BatchesAsk};
+ghost use Rattle.chip_core.specs.WorkedClosing.{FiveStretches, BatchesAsk, ThreeSteps, TrianglePlays};
 ghost use Rattle.chip_core.specs.WorkedSoon.{ChainCloses, StarCloses, PairCloses};
 
 /// Small runs, as the definitions compute them.
@@ -130,13 +130,15 @@ pub fn outcomes()
 {}
 
 /// How many steps a small game may have and has, a schedule that has to ask three times and one that asks often enough,
-/// and batches.
+/// batches, steps without waste, and a schedule that plays the game.
 pub fn worked_closing()
     ensures bounds { TriangleBounds }
     ensures refused { OneRefused }
     ensures stretches { ThreeStretches }
     ensures premise { FiveStretches }
     ensures batches { BatchesAsk }
+    ensures no_waste { ThreeSteps }
+    ensures plays { TrianglePlays }
 {}
 
 /// The last rounds of small games, whose trees are three and two deep.
@@ -161,6 +163,7 @@ pub fn never_stuck()
 {}
 
 /// However steps are ordered: where everything is asked for often enough after the end of feeding, the root is closed.
+/// Rounds of whole turns ask so.
 pub fn fair_schedules()
     ensures stretches { FairSchedulesClose }
     ensures turns { RoundsAreStretches }

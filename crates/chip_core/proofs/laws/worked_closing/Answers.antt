@@ -1,5 +1,5 @@
 use Rattle.std.proofs.Common.{refl}
-use Rattle.chip_core.proofs.WorkedLemmas.{three_stretches, five_stretches, batches_ask}
+use Rattle.chip_core.proofs.WorkedLemmas.{three_stretches, five_stretches, batches_ask, three_steps, triangle_plays}
 use Rattle.chip_core.proofs.laws.worked_closing.Goals as goal
 
 pub returns : goal.returns
@@ -9,4 +9,6 @@ returns c = record {
   stretches = three_stretches;
   premise = five_stretches;
   batches = batches_ask;
+  no_waste = three_steps;
+  plays = triangle_plays;
 }

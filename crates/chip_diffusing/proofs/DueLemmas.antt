@@ -1,0 +1,176 @@
+-- Serves Ending.antt, Laws.antt.
+-- Where it is over, an acknowledgement or a settle is due until the root is closed, and few of them are left.
+use Rattle.std.proofs.Common.{◌≡◌, ◌⊎◌, ℕ, zero, suc, ◌+◌, ◌-◌, ◌<◌, ◌≤◌, Bool, true, false, [], ◌∷◌, ◌++◌}
+use Rattle.std.proofs.Common.{refl, ap, ◌∙◌, subst, arith, inl, inr, ⊎_elim, length, cond}
+use Rattle.std.proofs.lemmas.Bool.Decides.{nat_tests}
+use mathlib.Core.Logic.{dite}
+use native.Mathlib.Decide.{ℕ_discrete}
+use Rattle.chip_detect.specs.Books.{owed, all_owed, deficit}
+use Rattle.chip_detect.specs.Acknowledging.{may_ack}
+use Rattle.chip_detect.proofs.AllowedLemmas.{within_owed}
+use Rattle.chip_diffusing.specs.Network.{Network, IsNetwork}
+use Rattle.chip_diffusing.specs.Computation.{World, Event, Send, Get, Ack, Settle, Work, Log, May, Happens, Leads}
+use Rattle.chip_diffusing.specs.Computation.{IsLegalLog, IsSilent, IsClosed, sent_on, got_on, acked_on, settled_on}
+use Rattle.chip_diffusing.specs.Ending.{HasRounds, IsDue, sum_below, left, LeadsDue}
+use Rattle.chip_diffusing.specs.Laws.{NeverStuck}
+use Rattle.chip_diffusing.proofs.KeptLemmas.{IsKept, acked_most, legal_kept}
+use Rattle.chip_diffusing.proofs.OrderLemmas.{detection_order}
+use Rattle.chip_diffusing.proofs.DepthLemmas.{depth_closes, depth_is_counted}
+use Rattle.chip_diffusing.proofs.SilentLemmas.{IsLater, one_later, later, go_on}
+
+-- ---- nobody has to acknowledge or to hear
+
+module _ (net : Network) (is : IsNetwork net) where
+  pub record Quiet (w : World) : Type 0 where
+    pub heard : (e : ℕ) → e < net.edges → acked_on net w e ≤ settled_on net w e
+    pub given : (e : ℕ) → e < net.edges → may_ack (w (net.head e)).books e (w (net.head e)).passive ≡ 0
+
+  -- each part has its turns where it stands, and so the root is closed
+  module _ (w : World) (quiet : Quiet w) where
+    stays : (n : ℕ) → HasRounds net n w w
+    stays zero = refl
+    stays (suc n) = (
+      w,
+      stays n,
+      record {
+        goes = ([], refl);
+        turns = λ p l other. record {
+          moment = w;
+          before = ([], refl);
+          after = ([], refl);
+          heard = λ e i. quiet.heard e i.0;
+          given = λ e i. subst (λ (q : ℕ). may_ack (w q).books e (w q).passive ≡ 0) i.1 (quiet.given e i.0);
+        };
+      },
+    )
+
+    pub quiet_closes : (log : Log) → IsLegalLog net log w → IsSilent net w → IsClosed net w
+    quiet_closes log legal silent =
+        let o = detection_order net is log w legal in
+        let deep = depth_is_counted net is log w legal o.0 o.1 in
+        depth_closes net is log w legal silent (length o.0) deep w w (stays (suc (length o.0))) ([], refl)
+        (λ e i. quiet.heard e i.0)
+
+  -- the first number that is above 0, or none is
+  find : (n : ℕ) (f : ℕ → ℕ) → ((k : ℕ) × (k < n) × (0 < f k)) ⊎ ((k : ℕ) → k < n → f k ≡ 0)
+  find zero f = inr (λ k l. absurd (omega arith))
+  find (suc n) f = ⊎_elim (λ some. let l = some.1 in inl (some.0, omega arith, some.2))
+      (λ none. dite (ℕ_discrete (f n) 0)
+      (λ off. inr (λ k l. dite (ℕ_discrete k n) (λ same. ap f same ∙ off) (λ other. none k (omega arith))))
+      (λ on. inl (n, omega arith, omega arith)))
+      (find n f)
+
+  pub due_or_closed : (log : Log) (w : World) → IsLegalLog net log w → IsSilent net w
+      → ((x : Event) × IsDue net w x) ⊎ IsClosed net w
+  due_or_closed log w legal silent = let kept = legal_kept net is log w legal in ⊎_elim
+      (λ t. let more = t.2 in let least = kept.heard t.0 t.1 in
+      inl (Settle t.0 (acked_on net w t.0), ((t.1, least, omega arith), omega arith)))
+      (λ no_settle. ⊎_elim
+      (λ t. inl (Ack t.0 (may_ack (w (net.head t.0)).books t.0 (w (net.head t.0)).passive), ((t.1, omega arith), t.2)))
+      (λ no_ack. inr (quiet_closes w
+      record { heard = λ e l. (let a = no_settle e l in omega arith); given = no_ack } log legal silent))
+      (find net.edges (λ e. may_ack (w (net.head e)).books e (w (net.head e)).passive)))
+      (find net.edges (λ e. acked_on net w e - settled_on net w e))
+
+  pub not_over_yet : (log : Log) (w : World) → IsLegalLog net log w → (IsClosed net w → ⊥)
+      → ((p : ℕ) × (p < net.parts) × ((w p).passive ≡ false)) ⊎ ((e : ℕ) × May net w (Get e)) ⊎ ((x : Event) × IsDue net w x)
+  not_over_yet log w legal not_closed = ⊎_elim
+      (λ t. inl (t.0, t.1, at_work (w t.0).passive t.2))
+      (λ all_passive. ⊎_elim
+      (λ t. let some = t.2 in inr (inl (t.0, (t.1, omega arith))))
+      (λ all_got. ⊎_elim (λ due. inr (inr due)) (λ closed. absurd (not_closed closed))
+      (due_or_closed log w legal record { delivered = all_got; passive = λ p l. at_rest (w p).passive (all_passive p l) }))
+      (find net.edges (λ e. sent_on net w e - got_on net w e)))
+      (find net.parts (λ p. cond (w p).passive 0 1))
+    where
+      at_work : (b : Bool) → 0 < cond b 0 1 → b ≡ false
+      at_work true l = absurd (omega arith)
+      at_work false l = refl
+
+      at_rest : (b : Bool) → ◌≡◌ {A = ℕ} (cond b 0 1) 0 → b ≡ true
+      at_rest true z = refl
+      at_rest false z = absurd (omega arith)
+
+  -- ---- few are left
+
+  less_at : (n : ℕ) (f g : ℕ → ℕ) → ((i : ℕ) → i < n → g i ≤ f i) → sum_below n g ≤ sum_below n f
+  less_at zero f g less = omega arith
+  less_at (suc n) f g less = let a = less n (omega arith) in let b = less_at n f g (λ i l. less i (omega arith)) in omega arith
+
+  less_sum : (n : ℕ) (f g : ℕ → ℕ) → ((i : ℕ) → i < n → g i ≤ f i) → (e : ℕ) → e < n → g e < f e
+      → sum_below n g < sum_below n f
+  less_sum zero f g less e l lower = absurd (omega arith)
+  less_sum (suc n) f g less e l lower = dite (ℕ_discrete e n)
+      (λ z. let a = less_at n f g (λ i l. less i (omega arith)) in
+      let b : g n < f n = subst (λ (i : ℕ). g i < f i) z lower in omega arith)
+      (λ other. let a = less n (omega arith) in
+      let b = less_sum n f g (λ i l. less i (omega arith)) e (omega arith) lower in omega arith)
+
+  module _ (old : World) (kept : IsKept net old) (silent : IsSilent net old) (new : World) where
+    abbrev at_edge : World → ℕ → ℕ
+    at_edge w e = (sent_on net w e - acked_on net w e) + (sent_on net w e - settled_on net w e)
+
+    falls : IsLater net is old new → (e : ℕ) → e < net.edges → at_edge new e < at_edge old e → left net new < left net old
+    falls after e l lower = less_sum net.edges (at_edge old) (at_edge new)
+        (λ i m. (let a = after.sent (net.tail i) i in let b = after.acked (net.head i) i in
+        let c = after.settled (net.tail i) i in omega arith)) e l lower
+
+    due_falls : (x : Event) → IsDue net old x → Happens net old x new → left net new < left net old
+    due_falls (Ack e n) due step =
+        let after = one_later net is old kept silent new (Ack e n) step in
+        let l = step.may.0 in
+        let b = (old (net.head e)).books in
+        let more = step.notes.ins.answered e in
+        let now : acked_on net new e ≡ acked_on net old e + n = grind (arith, nat_tests) in
+        let most = within_owed e b.parent (owed b e) (all_owed b) (deficit b) (old (net.head e)).passive in
+        let allowed = step.may.1 in
+        let s = after.sent (net.tail e) e in
+        let t = after.settled (net.tail e) e in
+        let g = kept.got e l in
+        let some : 0 < n = due.1 in
+        falls after e l (omega arith)
+    due_falls (Settle e word) due step =
+        let after = one_later net is old kept silent new (Settle e word) step in
+        let l = step.may.0 in
+        let least = step.may.1 in
+        let more = step.notes.outs.answered e in
+        let now : settled_on net new e ≡ word = grind (arith, nat_tests) in
+        let s = after.sent (net.tail e) e in
+        let t = after.acked (net.head e) e in
+        let g = kept.got e l in
+        let h = acked_most net is old kept e l in
+        let most = step.may.2 in
+        let some : settled_on net old e < word = due.1 in
+        falls after e l (omega arith)
+    due_falls (Send e) due step = absurd due.1
+    due_falls (Get e) due step = absurd due.1
+    due_falls (Work p) due step = absurd due.1
+
+  leads_due : (w : World) (xs : Log) (new : World) → LeadsDue net w xs new → Leads net w xs new
+  leads_due w [] new same = same
+  leads_due w (x ∷ xs) new (v, way, due, step) = (v, leads_due w xs v way, step)
+
+  few_left : (w : World) → IsKept net w → IsSilent net w → (xs : Log) (new : World) → LeadsDue net w xs new
+      → length xs + left net new ≤ left net w
+  few_left w kept silent [] new same = let a = ap (left net) same in omega arith
+  few_left w kept silent (x ∷ xs) new (v, way, due, step) =
+      let a = later net is w kept silent xs v (leads_due w xs v way) in
+      let b = few_left w kept silent xs v way in
+      let c = due_falls v a.kept a.silent new x due step in
+      omega arith
+
+  pub few_are_left : (log : Log) (w : World) → IsLegalLog net log w → IsSilent net w → (xs : Log) (new : World)
+      → LeadsDue net w xs new → (length xs ≤ left net w) × (((x : Event) → IsDue net new x → ⊥) → IsClosed net new)
+  few_are_left log w legal silent xs new way =
+      let kept = legal_kept net is log w legal in
+      let plain = leads_due w xs new way in
+      let a = few_left w kept silent xs new way in
+      let b = later net is w kept silent xs new plain in (
+        omega arith,
+        λ none. ⊎_elim (λ due. absurd (none due.0 due.1)) (λ closed. closed)
+            (due_or_closed (xs ++ log) new (go_on net is log w legal xs new plain) b.silent),
+      )
+
+pub never_stuck : NeverStuck
+never_stuck net is log w legal silent not_closed = ⊎_elim (λ due. due) (λ closed. absurd (not_closed closed))
+    (due_or_closed net is log w legal silent)

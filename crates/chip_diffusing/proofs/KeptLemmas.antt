@@ -1,0 +1,327 @@
+-- Serves Computation.antt, Laws.antt.
+-- What every legal log keeps of the books, and that its events may be noted in them.
+use Rattle.std.proofs.Common.{◌≡◌, ◌⊎◌, ℕ, ◌-◌, ◌<◌, ◌≤◌, Bool, true, false, List, [], ◌∷◌, is_some}
+use Rattle.std.proofs.Common.{Option, Some, None, refl, sym, ap, ◌∙◌, subst, inl, inr, arith, ⊎_elim, true≢false, rules}
+use Rattle.std.specs.List.{Contains, sum_by}
+use Rattle.std.specs.Option.{IfSome}
+use Rattle.std.proofs.lemmas.List.Sums.{sum_by-cons}
+use Rattle.std.proofs.lemmas.Bool.Decides.{nat_tests}
+use Rattle.std.proofs.lemmas.List.Elements.{Contains-append_right}
+use mathlib.Core.Logic.{dite}
+use native.Mathlib.Decide.{ℕ_discrete}
+use Rattle.chip_detect.specs.Tally.{edges_of, all_open, message_limit, messages_on, answered_on}
+use Rattle.chip_detect.specs.Books.{Books, IsSound, in_edges, out_edges, got_of, acked_of, sent_of, settled_of, owed}
+use Rattle.chip_detect.specs.Books.{all_owed, deficit}
+use Rattle.chip_detect.specs.Acknowledging.{or_else, parent_while_owed, acknowledgeable_count}
+use Rattle.chip_detect.specs.Steps.{Step, Got, Acked, Sent, Settled, MayBeMade, Makes}
+use Rattle.chip_detect.specs.Laws.{IsLastAcknowledgement}
+use Rattle.chip_detect.proofs.ChangesLemmas.{answers_total}
+use Rattle.chip_detect.proofs.SoundnessLemmas.{steps_keep_soundness, neutral_only_when_done}
+use Rattle.chip_diffusing.specs.Network.{Network, IsNetwork, AreAll, IsInto, IsOutOf}
+use Rattle.chip_diffusing.specs.Computation.{Part, World, Event, Send, Get, Ack, Settle, Work, Log, May, Notes, Happens}
+use Rattle.chip_diffusing.specs.Computation.{part_of, call_of, OpensPart, Leads, IsLegalLog, sent_on, got_on, acked_on}
+use Rattle.chip_diffusing.specs.Computation.{settled_on}
+use Rattle.chip_diffusing.specs.Laws.{CallsMayBeMade}
+
+pub cases_parent : (o : Option ℕ) → (o ≡ None) ⊎ ((q : ℕ) × (o ≡ Some q))
+cases_parent None = inl refl
+cases_parent (Some q) = inr (q, refl)
+
+pub none_some : (q : ℕ) (o : Option ℕ) → o ≡ None → o ≡ Some q → ⊥
+none_some q o a b = absurd (cc)
+
+got_some : (o : Option ℕ) (e : ℕ) → or_else o e ≡ None → ⊥
+got_some None e is = absurd (cc)
+got_some (Some q) e is = absurd (cc)
+
+-- a passive part may acknowledge no less than an active one
+pub more_when_passive : (e : ℕ) (parent : Option ℕ) (here all waiting : ℕ) (passive : Bool)
+    → acknowledgeable_count e parent here all waiting passive ≤ acknowledgeable_count e parent here all waiting true
+more_when_passive e None here all waiting passive = omega arith
+more_when_passive e (Some q) here all waiting true = omega arith
+more_when_passive e (Some q) here all waiting false = grind (arith, nat_tests)
+
+-- a parent that is there still was there
+still : (o : Option ℕ) (owes : ℕ → ℕ) (q : ℕ) → parent_while_owed o owes ≡ Some q → o ≡ Some q
+still None owes q at = at
+still (Some p) owes q at = grind (arith, nat_tests)
+
+-- a sum of nothing
+pub sum_none : (f : ℕ → ℕ) (xs : List ℕ) → ((e : ℕ) → Contains xs e → f e ≡ 0) → sum_by f xs ≡ 0
+sum_none f [] none = refl
+sum_none f (x ∷ xs) none =
+    let here = none x (0, omega arith, refl) in
+    let rest = sum_none f xs (λ e m. none e (Contains-append_right (x ∷ []) xs e m)) in
+    omega (arith, sum_by-cons f x xs)
+
+-- counts only grow
+pub record Grows (a b : Books) : Type 0 where
+  pub sent : (e : ℕ) → sent_of a e ≤ sent_of b e
+  pub got : (e : ℕ) → got_of a e ≤ got_of b e
+  pub acked : (e : ℕ) → acked_of a e ≤ acked_of b e
+  pub settled : (e : ℕ) → settled_of a e ≤ settled_of b e
+
+books_grow : (a b : Books) (x : Event) → Notes a x b → Grows a b
+books_grow a b (Send i) n = search (rules, arith, nat_tests)
+books_grow a b (Get i) n = search (rules, arith, nat_tests)
+books_grow a b (Ack i k) n = search (rules, arith, nat_tests)
+books_grow a b (Settle i word) n = search (rules, arith, nat_tests)
+books_grow a b (Work p) n = search (rules, arith, nat_tests)
+
+module _ (net : Network) where
+  pub record IsKept (w : World) : Type 0 where
+    pub sound : (p : ℕ) → p < net.parts → IsSound (w p).books
+    pub ins : (p : ℕ) → p < net.parts → AreAll (in_edges (w p).books) (IsInto net p)
+    pub outs : (p : ℕ) → p < net.parts → AreAll (out_edges (w p).books) (IsOutOf net p)
+    pub heard : (e : ℕ) → e < net.edges → settled_on net w e ≤ acked_on net w e
+    pub got : (e : ℕ) → e < net.edges → got_on net w e ≤ sent_on net w e
+    -- a part without a parent is done
+    pub neutral : (p : ℕ) → p < net.parts → (p ≡ net.root → ⊥) → (w p).books.parent ≡ None
+        → ((w p).passive ≡ true) × (deficit (w p).books ≡ 0)
+    -- and the root has none
+    pub free : (w net.root).books.parent ≡ None
+
+  module _ (is : IsNetwork net) where
+    pub who_inside : (w : World) (x : Event) → May net w x → part_of net x < net.parts
+    who_inside w (Send e) may = is.tails e may.0
+    who_inside w (Get e) may = is.heads e may.0
+    who_inside w (Ack e n) may = is.heads e may.0
+    who_inside w (Settle e word) may = is.tails e may.0
+    who_inside w (Work p) may = may
+
+    -- the call of `Detect` may be made
+    module _ (w : World) (kept : IsKept w) where
+      sent_most : (e : ℕ) → e < net.edges → sent_on net w e ≤ message_limit
+      sent_most e l = (kept.sound (net.tail e) (is.tails e l)).outs.within e
+
+      pub acked_most : (e : ℕ) → e < net.edges → acked_on net w e ≤ got_on net w e
+      acked_most e l = (kept.sound (net.head e) (is.heads e l)).ins.answered e
+
+      pub may_call : (x : Event) → May net w x → IfSome (call_of x) (MayBeMade (w (part_of net x)).books)
+      may_call (Send e) may = ((kept.outs (net.tail e) (is.tails e may.0)).all e (may.0, refl), may.2)
+      may_call (Get e) may = (
+        (kept.ins (net.head e) (is.heads e may.0)).all e (may.0, refl),
+        (let a = may.1 in let b = sent_most e may.0 in omega arith),
+      )
+      may_call (Ack e n) may = let b = (w (net.head e)).books in (
+        (kept.ins (net.head e) (is.heads e may.0)).all e (may.0, refl),
+        (let a = may.1 in
+            let c = more_when_passive e b.parent (owed b e) (all_owed b) (deficit b) (w (net.head e)).passive in omega arith),
+      )
+      may_call (Settle e word) may = (
+        (kept.outs (net.tail e) (is.tails e may.0)).all e (may.0, refl),
+        may.1,
+        (let a = may.2 in let b = acked_most e may.0 in let c = kept.got e may.0 in omega arith),
+      )
+      may_call (Work p) may = tt
+
+    -- ---- one event
+
+    module _ (old : World) (kept : IsKept old) (new : World) where
+      abbrev mine : World → Event → Books
+      mine w x = (w (part_of net x)).books
+
+      -- what holds of the part that acts, and of a part that stays as it was, holds of each part
+      pub each : (P : Part → Part → Type 0) (x : Event) → Happens net old x new → ((s : Part) → P s s)
+          → P (old (part_of net x)) (new (part_of net x)) → (p : ℕ) → P (old p) (new p)
+      each P x step same here p = dite (ℕ_discrete p (part_of net x))
+          (λ z. subst (λ (q : ℕ). P (old q) (new q)) (sym z) here)
+          (λ n. subst (P (old p)) (sym (step.others p n)) (same (old p)))
+
+      -- what the part that acts has as before, all parts have as before
+      pub stays : {A : Type 0} (x : Event) → Happens net old x new → (f : Part → A)
+          → f (new (part_of net x)) ≡ f (old (part_of net x)) → (p : ℕ) → f (new p) ≡ f (old p)
+      stays x step f same = each (λ s t. f t ≡ f s) x step (λ s. refl) same
+
+      pub grows : (x : Event) → Happens net old x new → (p : ℕ) → Grows (old p).books (new p).books
+      grows x step = each (λ s t. Grows s.books t.books) x step (λ s. record { sent = λ e. omega arith; got = λ e. omega arith; acked = λ e. omega arith; settled = λ e. omega arith })
+          (books_grow (mine old x) (mine new x) x step.notes)
+
+      -- but for a message that is got, nothing engages a part
+      pub was_parent : (x : Event) → Happens net old x new → ((e : ℕ) → x ≡ Get e → ⊥) → (p q : ℕ)
+          → (new p).books.parent ≡ Some q → (old p).books.parent ≡ Some q
+      was_parent x step other = each (λ s t. (q : ℕ) → t.books.parent ≡ Some q → s.books.parent ≡ Some q) x step
+          (λ s q at. at) (was x step.notes other)
+        where
+          was : (x : Event) → Notes (mine old x) x (mine new x) → ((e : ℕ) → x ≡ Get e → ⊥) → (q : ℕ)
+              → (mine new x).parent ≡ Some q → (mine old x).parent ≡ Some q
+          was (Send e) n other q at = cc
+          was (Get e) n other q at = absurd (other e refl)
+          was (Ack e k) n other q at = still (mine old (Ack e k)).parent (owed (mine new (Ack e k))) q (sym n.parent ∙ at)
+          was (Settle e word) n other q at = cc
+          was (Work p) n other q at = cc
+
+      -- what a part keeps by its books alone
+      pub record Own (p : ℕ) (b : Books) : Type 0 where
+        pub sound : IsSound b
+        pub ins : AreAll (in_edges b) (IsInto net p)
+        pub outs : AreAll (out_edges b) (IsOutOf net p)
+
+      own : (p : ℕ) → p < net.parts → Own p (old p).books
+      own p l = record { sound = kept.sound p l; ins = kept.ins p l; outs = kept.outs p l }
+
+      own_by : (x : Event) (s : Step) → Happens net old x new → MayBeMade (mine old x) s → Makes (mine old x) s (mine new x)
+          → in_edges (mine new x) ≡ in_edges (mine old x) → out_edges (mine new x) ≡ out_edges (mine old x)
+          → Own (part_of net x) (mine new x)
+      own_by x s step may makes ins outs = let l = who_inside old x step.may in record {
+        sound = steps_keep_soundness (mine old x) (mine new x) s (kept.sound (part_of net x) l) may makes;
+        ins = subst (λ (es : List ℕ). AreAll es (IsInto net (part_of net x))) (sym ins) (kept.ins (part_of net x) l);
+        outs = subst (λ (es : List ℕ). AreAll es (IsOutOf net (part_of net x))) (sym outs) (kept.outs (part_of net x) l);
+      }
+
+      own_after : (x : Event) → Happens net old x new → Own (part_of net x) (mine new x)
+      own_after (Send e) step = own_by (Send e) (Sent e) step (may_call old kept (Send e) step.may) step.notes
+          (ap edges_of step.notes.ins) step.notes.outs.edges
+      own_after (Get e) step = own_by (Get e) (Got e) step (may_call old kept (Get e) step.may) step.notes
+          step.notes.ins.edges (ap edges_of step.notes.outs)
+      own_after (Ack e n) step = own_by (Ack e n) (Acked e n) step (may_call old kept (Ack e n) step.may) step.notes
+          step.notes.ins.edges (ap edges_of step.notes.outs)
+      own_after (Settle e word) step = own_by (Settle e word) (Settled e word) step
+          (may_call old kept (Settle e word) step.may) step.notes (ap edges_of step.notes.ins) step.notes.outs.edges
+      own_after (Work p) step = subst (Own p) (sym step.notes) (own p step.may)
+
+      owns : (x : Event) → Happens net old x new → (p : ℕ) → p < net.parts → Own p (new p).books
+      owns x step p l = dite (ℕ_discrete p (part_of net x))
+          (λ z. subst (λ (q : ℕ). Own q (new q).books) (sym z) (own_after x step))
+          (λ n. subst (λ (s : Part). Own p s.books) (sym (step.others p n)) (own p l))
+
+      -- ---- counts of an edge
+
+      -- no settle goes beyond what was acknowledged before
+      settled_mine : (x : Event) → Happens net old x new → (e : ℕ) → settled_of (mine old x) e ≤ acked_on net old e
+          → settled_of (mine new x) e ≤ acked_on net old e
+      settled_mine (Send i) step e was = grind arith
+      settled_mine (Get i) step e was = grind arith
+      settled_mine (Ack i n) step e was = grind arith
+      settled_mine (Settle i word) step e was = let least = step.may.1 in let most = step.may.2 in grind (arith, nat_tests)
+      settled_mine (Work p) step e was = grind arith
+
+      heard_after : (x : Event) → Happens net old x new → (e : ℕ) → e < net.edges
+          → settled_on net new e ≤ acked_on net new e
+      heard_after x step e l =
+          let a = each (λ s t. settled_of s.books e ≤ acked_on net old e → settled_of t.books e ≤ acked_on net old e) x step
+          (λ s z. z) (settled_mine x step e) (net.tail e) (kept.heard e l) in
+          let b = (grows x step (net.head e)).acked e in omega arith
+
+      -- and nothing is got that was not sent before
+      got_mine : (x : Event) → Happens net old x new → (e : ℕ) → got_of (mine old x) e ≤ sent_on net old e
+          → got_of (mine new x) e ≤ sent_on net old e
+      got_mine (Send i) step e was = grind arith
+      got_mine (Get i) step e was = let some = step.may.1 in grind (arith, nat_tests)
+      got_mine (Ack i n) step e was = grind arith
+      got_mine (Settle i word) step e was = grind arith
+      got_mine (Work p) step e was = grind arith
+
+      got_after : (x : Event) → Happens net old x new → (e : ℕ) → e < net.edges → got_on net new e ≤ sent_on net new e
+      got_after x step e l =
+          let a = each (λ s t. got_of s.books e ≤ sent_on net old e → got_of t.books e ≤ sent_on net old e) x step
+          (λ s z. z) (got_mine x step e) (net.head e) (kept.got e l) in
+          let b = (grows x step (net.tail e)).sent e in omega arith
+
+      -- ---- neutral parts
+
+      abbrev Rests : Part → Type 0
+      Rests s = (s.passive ≡ true) × (deficit s.books ≡ 0)
+
+      -- an engaged part that is none after the event made its last acknowledgement
+      last_ack : (e n : ℕ) → Happens net old (Ack e n) new → (q : ℕ) → (mine old (Ack e n)).parent ≡ Some q
+          → (mine new (Ack e n)).parent ≡ None → Rests (new (net.head e))
+      last_ack e n step q was gone =
+          let last = neutral_only_when_done (mine old (Ack e n)) (mine new (Ack e n)) (Acked e n)
+          (kept.sound (net.head e) (is.heads e step.may.0)) (may_call old kept (Ack e n) step.may)
+          step.notes (ap (λ (o : Option ℕ). is_some o) was) (ap (λ (o : Option ℕ). is_some o) gone) in
+          (step.wakes (was_passive (old (net.head e)).passive refl last), last.no_deficit)
+        where
+          was_passive : (b : Bool) → (old (net.head e)).passive ≡ b
+              → IsLastAcknowledgement (mine old (Ack e n)) (mine new (Ack e n)) (Acked e n)
+              → (old (net.head e)).passive ≡ true
+          was_passive true was last = was
+          was_passive false was last =
+              let same = last.step in let one : last.edge ≡ e = cc in let two : last.count ≡ n = cc in
+              let more = last.refused_active in let few = step.may.1 in absurd (grind arith)
+
+      mine_rests : (x : Event) → Happens net old x new
+          → ((mine old x).parent ≡ None → Rests (old (part_of net x)))
+          → (mine new x).parent ≡ None → Rests (new (part_of net x))
+      mine_rests (Send e) step rest none =
+          absurd (true≢false (sym (rest (sym step.notes.parent ∙ none)).0 ∙ step.may.1))
+      mine_rests (Get e) step rest none = absurd (got_some (mine old (Get e)).parent e (sym step.notes.parent ∙ none))
+      mine_rests (Ack e n) step rest none = ⊎_elim
+          (λ before. (step.wakes (rest before).0, ap all_open step.notes.outs ∙ (rest before).1))
+          (λ some. last_ack e n step some.0 some.1 none)
+          (cases_parent (mine old (Ack e n)).parent)
+      mine_rests (Settle e word) step rest none =
+          let was = rest (sym step.notes.parent ∙ none) in
+          let b : Books = mine old (Settle e word) in
+          let may = may_call old kept (Settle e word) step.may in
+          let least = may.1 in
+          let most = may.2 in
+          let less = answers_total b.outs (mine new (Settle e word)).outs e (word - settled_of b e)
+          (kept.sound (net.tail e) (is.tails e step.may.0)).outs step.notes.outs (omega arith) may.0 in
+          (step.wakes was.0, (let d = was.1 in omega arith))
+      mine_rests (Work p) step rest none =
+          let was = rest (ap (λ (b : Books). b.parent) (sym step.notes) ∙ none) in
+          (step.wakes was.0, ap deficit step.notes ∙ was.1)
+
+      rests_after : (x : Event) → Happens net old x new → (p : ℕ) → p < net.parts → (p ≡ net.root → ⊥)
+          → (new p).books.parent ≡ None → Rests (new p)
+      rests_after x step p l other = each (λ s t. (s.books.parent ≡ None → Rests s) → t.books.parent ≡ None → Rests t)
+          x step (λ s z. z) (mine_rests x step) p (kept.neutral p l other)
+
+      -- ---- the root
+
+      free_after : (x : Event) → Happens net old x new → (new net.root).books.parent ≡ None
+      free_after (Send e) step = stays (Send e) step (λ s. s.books.parent) step.notes.parent net.root ∙ kept.free
+      free_after (Get e) step = ap (λ (s : Part). s.books.parent)
+          (step.others net.root (λ z. is.none_to_root e step.may.0 (sym z))) ∙ kept.free
+      free_after (Ack e n) step = ap (λ (s : Part). s.books.parent)
+          (step.others net.root (λ z. is.none_to_root e step.may.0 (sym z))) ∙ kept.free
+      free_after (Settle e word) step = stays (Settle e word) step (λ s. s.books.parent) step.notes.parent net.root ∙ kept.free
+      free_after (Work p) step = stays (Work p) step (λ s. s.books.parent) (ap (λ (b : Books). b.parent) step.notes) net.root
+          ∙ kept.free
+
+      pub kept_after : (x : Event) → Happens net old x new → IsKept new
+      kept_after x step = record {
+        sound = λ p l. (owns x step p l).sound;
+        ins = λ p l. (owns x step p l).ins;
+        outs = λ p l. (owns x step p l).outs;
+        heard = heard_after x step;
+        got = got_after x step;
+        neutral = rests_after x step;
+        free = free_after x step;
+      }
+
+    -- ---- all events
+    pub opens_kept : (w : World) → ((p : ℕ) → p < net.parts → OpensPart net p (w p)) → IsKept w
+    opens_kept w opens = record {
+      sound = λ p l. (opens p l).sound;
+      ins = λ p l. let o = opens p l in all_of (in_edges (w p).books) o.ins (IsInto net p) o.all_ins o.fresh.ins.these;
+      outs = λ p l. let o = opens p l in all_of (out_edges (w p).books) o.outs (IsOutOf net p) o.all_outs o.fresh.outs.these;
+      heard = λ e l. let a = (opens (net.tail e) (is.tails e l)).fresh.outs.answered e in omega arith;
+      got = λ e l. let a = (opens (net.head e) (is.heads e l)).fresh.ins.messages e in omega arith;
+      neutral = λ p l other none. let o = opens p l in (o.passive other, no_deficit (w p).books o.fresh.outs.messages);
+      free = (opens net.root is.root).fresh.parent;
+    }
+      where
+        all_of : (es given : List ℕ) (Is : ℕ → Type 0) → AreAll given Is
+            → Rattle.chip_detect.specs.Tally.AreEdgesOf given es → AreAll es Is
+        all_of es given Is all these = record {
+          all = λ e i. these.all e (all.all e i);
+          none_else = λ e m. all.none_else e (these.none_else e m);
+        }
+
+        no_deficit : (b : Books) → ((e : ℕ) → sent_of b e ≡ 0) → deficit b ≡ 0
+        no_deficit b none = sum_none (λ e. sent_of b e - settled_of b e) (out_edges b)
+            (λ e m. let a = none e in omega arith)
+
+    pub kept_on : (old : World) → IsKept old → (log : Log) (new : World) → Leads net old log new → IsKept new
+    kept_on old kept [] new same = subst IsKept same kept
+    kept_on old kept (x ∷ log) new (w, way, step) = kept_after w (kept_on old kept log w way) new x step
+
+    pub legal_kept : (log : Log) (w : World) → IsLegalLog net log w → IsKept w
+    legal_kept log w legal = kept_on legal.first (opens_kept legal.first legal.opens) log w legal.leads
+
+pub calls_may_be_made : CallsMayBeMade
+calls_may_be_made net is log w legal x may =
+    let kept = legal_kept net is log w legal in
+    (kept.sound (part_of net x) (who_inside net is w x may), may_call net is w kept x may)

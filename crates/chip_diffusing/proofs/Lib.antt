@@ -1,0 +1,6 @@
+pub mod KeptLemmas
+pub mod OrderLemmas
+pub mod SilentLemmas
+pub mod DepthLemmas
+pub mod DueLemmas
+pub mod CountedLemmas

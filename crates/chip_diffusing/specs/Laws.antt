@@ -1,0 +1,59 @@
+-- The theorem of Dijkstra and Scholten, of every diffusing computation.
+use Rattle.std.specs.Prelude.{◌≡◌, ◌⊎◌, ℕ, Bool, false, suc, ◌<◌, ◌≤◌, List, length}
+use Rattle.chip_detect.specs.Books.{Books, IsSound}
+use Rattle.std.specs.Option.{IfSome}
+use Rattle.chip_detect.specs.Steps.{MayBeMade}
+use Rattle.chip_diffusing.specs.Network.{Network, IsNetwork, IsOutOf}
+use Rattle.chip_diffusing.specs.Computation.{World, Event, Get, Log, May, part_of, call_of}
+use Rattle.chip_diffusing.specs.Computation.{Leads, IsLegalLog, IsSilent, IsClosed, acked_on, settled_on}
+use Rattle.chip_diffusing.specs.Ending.{IsDetectionOrder, IsDue, left, LeadsDue, Goes, HasRounds, IsAtMostDeep}
+
+-- what holds of every network, every legal log and the world that it leaves
+abbrev pub ForEveryLog : (Network → World → Type 0) → Type 0
+ForEveryLog P = (net : Network) → IsNetwork net → (log : Log) (w : World) → IsLegalLog net log w → P net w
+
+-- where the root is closed, the computation is over
+abbrev pub ClosedIsSilent : Type 0
+ClosedIsSilent = ForEveryLog (λ net w. IsClosed net w → IsSilent net w)
+
+-- and so it stays, whatever is done
+abbrev pub ClosedForGood : Type 0
+ClosedForGood = ForEveryLog (λ net w. IsClosed net w → (xs : Log) (later : World) → Leads net w xs later
+    → IsClosed net later × IsSilent net later)
+
+-- what the root's books tell: whatever network they are of and whatever was done there, it is over
+abbrev pub IsOver : Books → Bool → Type 0
+IsOver books ended = ForEveryLog (λ net w. (w net.root).books ≡ books → (w net.root).passive ≡ ended → IsSilent net w)
+
+-- a detection order exists at every moment
+abbrev pub EngagedIsATree : Type 0
+EngagedIsATree = ForEveryLog (λ net w. (ps : List ℕ) × IsDetectionOrder net w ps)
+
+-- where it is over and the root isn't closed, an acknowledgement or a settle is due
+abbrev pub NeverStuck : Type 0
+NeverStuck = ForEveryLog (λ net w. IsSilent net w → (IsClosed net w → ⊥) → (x : Event) × IsDue net w x)
+
+-- before, the computation itself has something to do: a part is at work, or a message is on its way
+abbrev pub NotOverYet : Type 0
+NotOverYet = ForEveryLog (λ net w. (IsClosed net w → ⊥)
+    → ((p : ℕ) × (p < net.parts) × ((w p).passive ≡ false)) ⊎ ((e : ℕ) × May net w (Get e)) ⊎ ((x : Event) × IsDue net w x))
+
+-- where it is over, few events that are due can be done, and where none is left the root is closed
+abbrev pub FewAreLeft : Type 0
+FewAreLeft = ForEveryLog (λ net w. IsSilent net w → (xs : Log) (later : World) → LeadsDue net w xs later
+    → (length xs ≤ left net w) × (((x : Event) → IsDue net later x → ⊥) → IsClosed net later))
+
+-- one round more than the tree is deep closes the root, once it has heard what was acknowledged until then
+abbrev pub DepthCloses : Type 0
+DepthCloses = ForEveryLog (λ net w. IsSilent net w → (depth : ℕ) → IsAtMostDeep net w depth
+    → (later end : World) → HasRounds net (suc depth) w later → Goes net later end
+    → ((e : ℕ) → IsOutOf net net.root e → acked_on net later e ≤ settled_on net end e) → IsClosed net end)
+
+-- no tree is deeper than it has parts
+abbrev pub DepthIsCounted : Type 0
+DepthIsCounted = ForEveryLog (λ net w. (ps : List ℕ) → IsDetectionOrder net w ps → IsAtMostDeep net w (length ps))
+
+-- whoever does an event that may be done has sound books, and may make the call of `Detect` that notes it
+abbrev pub CallsMayBeMade : Type 0
+CallsMayBeMade = ForEveryLog (λ net w. (x : Event) → May net w x → IsSound (w (part_of net x)).books
+    × IfSome (call_of x) (MayBeMade (w (part_of net x)).books))

@@ -1,0 +1,5 @@
+pub mod Network
+pub mod Computation
+pub mod Ending
+pub mod Laws
+pub mod Worked

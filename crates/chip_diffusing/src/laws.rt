@@ -1,0 +1,43 @@
+//! What holds of every diffusing computation, as the contracts of functions that do nothing.
+
+ghost use Rattle.chip_diffusing.specs.Worked.{AtWork, ToTheEnd, InTwoRounds};
+
+/// A small run, as the definitions compute it.
+pub fn worked()
+    ensures at_work { AtWork }
+    ensures to_the_end { ToTheEnd }
+    ensures in_two_rounds { InTwoRounds }
+{}
+
+ghost use Rattle.chip_diffusing.specs.Laws.{DepthCloses, DepthIsCounted};
+ghost use Rattle.chip_diffusing.specs.Laws.{CallsMayBeMade, ClosedIsSilent, ClosedForGood, EngagedIsATree, NeverStuck, NotOverYet, FewAreLeft};
+
+/// Whoever does an event may make the call of `Detect` that notes it.
+pub fn calls()
+    ensures { CallsMayBeMade }
+{}
+
+/// The theorem of Dijkstra and Scholten: where the root is closed, nothing is on its way and every part is passive,
+/// now and ever after.
+pub fn closed_roots()
+    ensures silent { ClosedIsSilent }
+    ensures for_good { ClosedForGood }
+{}
+
+/// The engaged parts form a tree below the root, and all other parts are neutral.
+pub fn trees()
+    ensures { EngagedIsATree }
+{}
+
+/// Where it is over and the root is not closed something is due, and not much is left.
+pub fn endings()
+    ensures never_stuck { NeverStuck }
+    ensures not_over_yet { NotOverYet }
+    ensures few_are_left { FewAreLeft }
+{}
+
+/// Where it is over, as many rounds as the tree is deep and one more close the root.
+pub fn soon_after_the_end()
+    ensures depth { DepthCloses }
+    ensures counted { DepthIsCounted }
+{}

@@ -1,0 +1,682 @@
+-- Serves Instance.antt.
+-- The events of the core as events of a diffusing computation.
+use Rattle.std.proofs.Common.{◌≡◌, ◌≢◌, ◌⊎◌, ℕ, zero, suc, ◌+◌, ◌-◌, ◌<◌, ◌≤◌, eqb, ltb, Bool, true, false, List, [], ◌∷◌}
+use Rattle.std.proofs.Common.{Option, Some, None, Contains, refl, sym, ap, ◌∙◌, subst, arith, inl, ⊎_elim, length, cond}
+use Rattle.std.proofs.Common.{length-append, ne_eqb, eqb-true, eq-eqb, true≢false, ◌++◌, ◌&&◌}
+use Rattle.std.proofs.lemmas.List.{get_or_past}
+use Rattle.std.proofs.lemmas.Bool.Decides.{nat_tests}
+use mathlib.Core.Logic.{dite}
+use native.Mathlib.Decide.{ℕ_discrete, dec_lt}
+use Rattle.chip_graph.specs.ChipGame.{IsGame}
+use Rattle.chip_graph.specs.Sums.{filter_below}
+use Rattle.chip_graph.proofs.PickLemmas.{All-picked}
+use Rattle.chip_graph.proofs.SumLemmas.{cond_yes, cond_no, by_test, picked_sum, tested_none}
+use Rattle.chip_link.proofs.SoundsLemmas.{none_held, length-sent_counts}
+use Rattle.chip_link.specs.Link.{Tail, claims_of, after_claim}
+use Rattle.chip_detect.specs.Books.{Books, owed, all_owed, deficit}
+use Rattle.chip_detect.specs.Acknowledging.{is_parent, or_else, parent_while_owed, acknowledgeable_count}
+use Rattle.chip_detect.specs.Acknowledging as detect
+use Rattle.chip_part.specs.Setting.{Setting}
+use Rattle.chip_part.specs.Part as part
+use Rattle.chip_part.specs.Part.{Part, opening_part, first_put, is_passive}
+use Rattle.chip_part.specs.Edges.{tail_of, head_of, all_edges, graph_edges, root, root_edge, stopper}
+use Rattle.chip_part.specs.Steps.{part_of, does, saw, got_after, acked_after}
+use Rattle.chip_part.specs.Kept.{KeepsPart, IsNeutral}
+use Rattle.chip_part.proofs.OpeningLemmas.{first_few}
+use Rattle.chip_detect.specs.Tally.{edge_limit}
+use Rattle.chip_diffusing.proofs.KeptLemmas.{none_some}
+use Rattle.chip_part.proofs.EdgeLemmas.{tail_root, head_root}
+use Rattle.chip_part.proofs.PickedLemmas.{picked_has, picked_passes, picked_rises, length-picked}
+use Rattle.chip_part.proofs.PartLemmas.{idle_take, took_some, no_fire, no_pending, no_put, no_halt, may_le}
+use Rattle.chip_part.proofs.RuleLemmas.{rules_met}
+use Rattle.chip_core.specs.Core.{Log, Step, Event, Take, Ack, Fire, Clear, Claim, Put, Halt, Settle, Seal, Read, Feed, End}
+use Rattle.chip_core.specs.Core.{part_in, out_in, into_in, IsLegalLog}
+use Rattle.chip_core.proofs.LogLemmas.{part_here, part_else, part_kept, head_inside, tail_inside, tail_cases, edge_counts, edge_sound}
+use Rattle.chip_core.proofs.GivenLemmas.{feed_sees}
+use Rattle.chip_detect.specs.Change.{AddsAnswers}
+use Rattle.chip_core.proofs.NumberLemmas.{claims_most}
+use Rattle.chip_core.proofs.ClosingLemmas.{settled_up}
+use Rattle.chip_diffusing.specs.Network.{Network, IsNetwork}
+use Rattle.chip_diffusing.specs.Computation as diffusing
+use Rattle.chip_diffusing.specs.Computation.{Happens, Leads, May, Notes, Wakes, Get, Send, Work, OpensPart, World}
+use Rattle.chip_diffusing.proofs.CountedLemmas.{books_by, side, side_same, side_message, side_answers, side_open}
+use Rattle.chip_diffusing.proofs.CountedLemmas.{side_all_open, side_fresh, counts_in}
+use Rattle.chip_diffusing.proofs.SilentLemmas.{leads_on}
+use Rattle.chip_core_diffuses.specs.Instance.{network_of, passive_of, Shows, CoreDiffuses}
+
+module _ (g : Setting) where
+  abbrev pub net : Network
+  net = network_of g
+
+  abbrev pub ins : ℕ → List ℕ
+  ins p = filter_below (λ e. eqb (head_of g e) p) (all_edges g)
+
+  abbrev outs : ℕ → List ℕ
+  outs p = filter_below (λ e. eqb (tail_of g e) p) (all_edges g)
+
+  abbrev books_of : ℕ → Part → Books
+  books_of p s = books_by (ins p) (outs p) (λ e. length (s.into e).got) (λ e. (s.into e).acked)
+      (λ e. claims_of (s.out e).link) (λ e. (s.out e).settled) s.parent
+
+  abbrev show : ℕ → Part → diffusing.Part
+  show p s = record { books = books_of p s; passive = passive_of g p s }
+
+  -- the world of these parts
+  abbrev world : (ℕ → Part) → World
+  world parts p = show p (parts p)
+
+  pub in_ins : (e p : ℕ) → e < all_edges g → head_of g e ≡ p → Contains (ins p) e
+  in_ins e p l at = picked_has (λ i. eqb (head_of g i) p) (all_edges g) e l (eq-eqb _ _ at)
+
+  in_outs : (e p : ℕ) → e < all_edges g → tail_of g e ≡ p → Contains (outs p) e
+  in_outs e p l at = picked_has (λ i. eqb (tail_of g i) p) (all_edges g) e l (eq-eqb _ _ at)
+
+  -- one part acts, in a way that its own books tell
+  acts : (old new : ℕ → Part) (x : diffusing.Event)
+      → ((p : ℕ) → p ≢ diffusing.part_of net x → new p ≡ old p) → May net (world old) x
+      → Notes (books_of (diffusing.part_of net x) (old (diffusing.part_of net x))) x
+      (books_of (diffusing.part_of net x) (new (diffusing.part_of net x)))
+      → Wakes (passive_of g (diffusing.part_of net x) (old (diffusing.part_of net x))) x
+      (passive_of g (diffusing.part_of net x) (new (diffusing.part_of net x)))
+      → Happens net (world old) x (world new)
+  acts old new x others may notes wakes = record {
+    may = may;
+    notes = notes;
+    wakes = wakes;
+    others = λ p n. ap (show p) (others p n);
+  }
+
+  -- what is owed in all and waited for in all
+  pub owed_same : (p : ℕ) (s : Part) → all_owed (books_of p s) ≡ part.all_owed g p s
+  owed_same p s = side_all_open (ins p) (λ e. length (s.into e).got) (λ e. (s.into e).acked)
+      ∙ picked_sum (λ e. part.owed (s.into e)) (λ e. eqb (head_of g e) p) (all_edges g)
+
+  pub deficit_same : (p : ℕ) (s : Part) → deficit (books_of p s) ≡ part.deficit g p s
+  deficit_same p s = side_all_open (outs p) (λ e. claims_of (s.out e).link) (λ e. (s.out e).settled)
+      ∙ picked_sum (λ e. part.outstanding (s.out e)) (λ e. eqb (tail_of g e) p) (all_edges g)
+
+  pub at_vertex : (p : ℕ) (s : Part) → p < root g → passive_of g p s ≡ is_passive g p s
+  at_vertex p s l = grind (arith, nat_tests)
+
+  pub at_root : (p : ℕ) (s : Part) → p ≡ root g → passive_of g p s ≡ s.ended
+  at_root p s at = grind (arith, nat_tests)
+
+  may_same : (e p : ℕ) (s : Part) → e < all_edges g → head_of g e ≡ p → p < root g
+      → detect.may_ack (books_of p s) e (passive_of g p s) ≡ part.may_ack g p s e
+  may_same e p s l at vertex =
+      let here = side_open (ins p) (λ i. length (s.into i).got) (λ i. (s.into i).acked) e (in_ins e p l at) in
+      let all = owed_same p s in let waits = deficit_same p s in let rests = at_vertex p s vertex in cc
+
+  below_all : (test : ℕ → Bool) (e : ℕ) → Contains (filter_below test (all_edges g)) e → e < all_edges g
+  below_all test e m = let l = m.1 in
+      subst (λ (n : ℕ). n < all_edges g) m.2 (All-picked test (all_edges g) (all_edges g) (omega arith) m.0 e l)
+
+  passes_all : (test : ℕ → Bool) (e : ℕ) → Contains (filter_below test (all_edges g)) e → test e ≡ true
+  passes_all test e m = subst (λ (n : ℕ). test n ≡ true) m.2 (picked_passes test (all_edges g) m.0 e m.1)
+
+  -- the same books
+  books_same : (p : ℕ) (s t : Part) → ((e : ℕ) → length (t.into e).got ≡ length (s.into e).got)
+      → ((e : ℕ) → (t.into e).acked ≡ (s.into e).acked) → ((e : ℕ) → e < all_edges g → claims_of (t.out e).link ≡ claims_of (s.out e).link)
+      → ((e : ℕ) → (t.out e).settled ≡ (s.out e).settled) → t.parent ≡ s.parent → books_of p t ≡ books_of p s
+  books_same p s t got acked claims settled parent = λ j. record {
+    ins = side_same (ins p) (λ e. length (s.into e).got) (λ e. (s.into e).acked) (λ e. length (t.into e).got)
+        (λ e. (t.into e).acked) (λ e m. got e) (λ e m. acked e) j;
+    outs = side_same (outs p) (λ e. claims_of (s.out e).link) (λ e. (s.out e).settled) (λ e. claims_of (t.out e).link)
+        (λ e. (t.out e).settled) (λ e m. claims e (below_all (λ i. eqb (tail_of g i) p) e m)) (λ e m. settled e) j;
+    parent = parent j;
+  }
+
+  -- a passive vertex makes no event that would end its rest
+  neutral_up : (v : ℕ) (s : Part) → is_passive g v s ≡ true → IsNeutral g v (settled_up s)
+  neutral_up v s passive = record {
+    no_parent = refl;
+    passive = passive;
+    nothing_owed = tested_none (all_edges g) (λ e. eqb (head_of g e) v) (λ e. part.owed ((settled_up s).into e))
+        (λ e l on. omega arith);
+    no_deficit = tested_none (all_edges g) (λ e. eqb (tail_of g e) v) (λ e. part.outstanding ((settled_up s).out e))
+        (λ e l on. omega arith);
+  }
+
+  -- the parent goes where all that is owed on its edge is acknowledged
+  parent_goes : (o : Option ℕ) (e n : ℕ) (owes owes' : ℕ → ℕ) → n ≤ owes e
+      → ((q : ℕ) → o ≡ Some q → (0 < owes q) × (e ≡ q → owes' q ≡ owes q - n) × (e ≢ q → owes' q ≡ owes q))
+      → cond (is_parent e o && eqb n (owes e)) None o ≡ parent_while_owed o owes'
+  parent_goes None e n owes owes' le h = grind (arith, nat_tests)
+  parent_goes (Some q) e n owes owes' le h = let a = h q refl in grind (arith, nat_tests)
+
+  module _ (game : IsGame g.game) (some_ring : 0 < g.ring) where
+    abbrev pub was : Log → World
+    was log = world (part_in g log)
+
+    -- one event of a part, by what it does to the part
+    by_event : (x : Step) (log : Log) (y : diffusing.Event) → part_of g x.event ≡ diffusing.part_of net y
+        → May net (was log) y
+        → Notes (books_of (diffusing.part_of net y) (part_in g log (diffusing.part_of net y))) y
+        (books_of (diffusing.part_of net y) (does g x (part_in g log (diffusing.part_of net y))))
+        → Wakes (passive_of g (diffusing.part_of net y) (part_in g log (diffusing.part_of net y))) y
+        (passive_of g (diffusing.part_of net y) (does g x (part_in g log (diffusing.part_of net y))))
+        → (xs : diffusing.Log) × Leads net (was log) xs (was (x ∷ log))
+    by_event x log y at may notes wakes =
+        let q : ℕ = diffusing.part_of net y in
+        let here = part_here g x log q at in (
+          y ∷ [],
+          (
+            was log,
+            refl,
+            acts (part_in g log) (part_in g (x ∷ log)) y (λ p n. part_else g x log p (λ z. n (sym z ∙ at))) may
+                (subst (λ (t : Part). Notes (books_of q (part_in g log q)) y (books_of q t)) (sym here) notes)
+                (subst (λ (t : Part). Wakes (passive_of g q (part_in g log q)) y (passive_of g q t)) (sym here) wakes),
+          ),
+        )
+
+    works : (x : Step) (log : Log) (q : ℕ) → part_of g x.event ≡ q → q < stopper g + 1
+        → books_of q (does g x (part_in g log q)) ≡ books_of q (part_in g log q)
+        → (passive_of g q (part_in g log q) ≡ true → passive_of g q (does g x (part_in g log q)) ≡ true)
+        → (xs : diffusing.Log) × Leads net (was log) xs (was (x ∷ log))
+    works x log q at l books wakes = by_event x log (Work q) at l books wakes
+
+    tail_part : (e : ℕ) → tail_of g e < stopper g + 1
+    tail_part e = ⊎_elim (λ z. omega arith) (λ l. omega arith) (tail_cases g game e)
+
+    -- an edge of the graph with something pending doesn't leave a passive vertex
+    module _ (log : Log) (legal : IsLegalLog g log) where
+      kept : (p : ℕ) → KeepsPart g p (part_in g log p)
+      kept p = part_kept g game log legal p
+
+      busy : (e : ℕ) → e < graph_edges g → (part_in g log (tail_of g e)).halt ≡ None → 0 < (out_in g log e).pending
+          → passive_of g (tail_of g e) (part_in g log (tail_of g e)) ≡ true → ⊥
+      busy e l runs pends on =
+          let t = tail_inside g game e l in
+          let s = part_in g log (tail_of g e) in
+          no_pending g (tail_of g e) (settled_up s) (kept (tail_of g e)).outs
+          (neutral_up (tail_of g e) s (sym (at_vertex (tail_of g e) s t) ∙ on)) e refl (omega arith) runs pends
+
+      active : (e : ℕ) → (passive_of g (tail_of g e) (part_in g log (tail_of g e)) ≡ true → ⊥)
+          → (was log (tail_of g e)).passive ≡ false
+      active e never = by_test (passive_of g (tail_of g e) (part_in g log (tail_of g e))) (λ on. absurd (never on)) (λ off. off)
+
+      counts_out : (e : ℕ) → e < all_edges g → (diffusing.sent_on net (was log) e ≡ claims_of (out_in g log e).link)
+          × (diffusing.settled_on net (was log) e ≡ (out_in g log e).settled)
+      counts_out e l = let s = part_in g log (tail_of g e) in counts_in (outs (tail_of g e)) (λ i. claims_of (s.out i).link)
+          (λ i. (s.out i).settled) e (in_outs e (tail_of g e) l refl)
+
+      counts_into : (e : ℕ) → e < all_edges g → (diffusing.got_on net (was log) e ≡ length (into_in g log e).got)
+          × (diffusing.acked_on net (was log) e ≡ (into_in g log e).acked)
+      counts_into e l = let s = part_in g log (head_of g e) in counts_in (ins (head_of g e)) (λ i. length (s.into i).got)
+          (λ i. (s.into i).acked) e (in_ins e (head_of g e) l refl)
+
+      pub shows : Shows g (part_in g log) (was log)
+      shows = record {
+        sent = λ e l. (counts_out e l).0;
+        settled = λ e l. (counts_out e l).1;
+        got = λ e l. (counts_into e l).0;
+        acked = λ e l. (counts_into e l).1;
+        parent = λ p. refl;
+        passive = λ p. refl;
+      }
+
+    -- a claim that is taken, or a feed, sends
+    sends : (log : Log) (x : Step) (e : ℕ) → IsLegalLog g (x ∷ log) → part_of g x.event ≡ tail_of g e → e < all_edges g
+        → (passive_of g (tail_of g e) (part_in g log (tail_of g e)) ≡ true → ⊥)
+        → (books_of (tail_of g e) (does g x (part_in g log (tail_of g e)))).ins
+        ≡ (books_of (tail_of g e) (part_in g log (tail_of g e))).ins
+        → ((i : ℕ) → claims_of ((does g x (part_in g log (tail_of g e))).out i).link
+        ≡ cond (eqb e i) (claims_of ((part_in g log (tail_of g e)).out i).link + 1)
+        (claims_of ((part_in g log (tail_of g e)).out i).link))
+        → ((i : ℕ) → ((does g x (part_in g log (tail_of g e))).out i).settled ≡ ((part_in g log (tail_of g e)).out i).settled)
+        → (does g x (part_in g log (tail_of g e))).parent ≡ (part_in g log (tail_of g e)).parent
+        → (passive_of g (tail_of g e) (part_in g log (tail_of g e)) ≡ true
+        → passive_of g (tail_of g e) (does g x (part_in g log (tail_of g e))) ≡ true)
+        → (xs : diffusing.Log) × Leads net (was log) xs (was (x ∷ log))
+    sends log x e legal at l never same more settled parent wakes =
+        let q : ℕ = tail_of g e in
+        let s : Part = part_in g log q in
+        let t : Part = does g x s in
+        let most = claims_most g game some_ring (x ∷ log) legal e in
+        let now : claims_of (out_in g (x ∷ log) e).link ≡ claims_of (t.out e).link =
+        ap (λ (u : Part). claims_of (u.out e).link) (part_here g x log q at) in
+        let one : claims_of (t.out e).link ≡ claims_of (s.out e).link + 1 = more e ∙ cond_yes e e _ _ refl in
+        let old = (shows log legal.0).sent e l in
+        by_event x log (Send e) at (l, active log legal.0 e never, omega arith)
+        (record {
+          ins = same;
+          outs = side_message (outs q) (λ i. claims_of (s.out i).link) (λ i. (s.out i).settled)
+              (λ i. claims_of (t.out i).link) (λ i. (t.out i).settled) e (in_outs e q l refl) (λ i m. more i)
+              (λ i m. settled i);
+          parent = parent;
+        })
+        wakes
+
+    -- a claim of this count, where the edge is not sealed
+    claims_more : (e seen : ℕ) (count : ℕ → ℕ) (links : ℕ → Tail) → (links e).held ≡ None → seen ≡ claims_of (links e)
+        → (i : ℕ) → claims_of (cond (eqb e i) (after_claim (count i) seen (links i)) (links i))
+        ≡ cond (eqb e i) (claims_of (links i) + 1) (claims_of (links i))
+    claims_more e seen count links empty hit i =
+        let none = none_held (links e) empty in grind (arith, nat_tests)
+
+    refused_same : (e seen : ℕ) (count : ℕ → ℕ) (links : ℕ → Tail) → seen ≢ claims_of (links e)
+        → (i : ℕ) → claims_of (cond (eqb e i) (after_claim (count i) seen (links i)) (links i)) ≡ claims_of (links i)
+    refused_same e seen count links miss i = grind (arith, nat_tests)
+
+    root_wakes : (x : Step) (log : Log) (q : ℕ) → q ≡ root g → (does g x (part_in g log q)).ended ≡ (part_in g log q).ended
+        → passive_of g q (part_in g log q) ≡ true → passive_of g q (does g x (part_in g log q)) ≡ true
+    root_wakes x log q at same on = at_root q (does g x (part_in g log q)) at ∙ same ∙ sym (at_root q (part_in g log q) at) ∙ on
+
+    -- what the tail settles
+    settles : (e seen : ℕ) (q : ℕ) (s : Part) → e < all_edges g → tail_of g e ≡ q → AddsAnswers (books_of q s).outs
+        (side (outs q) (λ i. claims_of (s.out i).link)
+        (λ i. cond (eqb e i) ((s.out i).settled + (seen - (s.out i).settled)) (s.out i).settled)).ins e
+        (seen - Rattle.chip_detect.specs.Books.settled_of (books_of q s) e)
+    settles e seen q s l at =
+        let had : Rattle.chip_detect.specs.Books.settled_of (books_of q s) e ≡ (s.out e).settled =
+        (counts_in (outs q) (λ i. claims_of (s.out i).link) (λ i. (s.out i).settled) e (in_outs e q l at)).1 in
+        side_answers (outs q) (λ i. claims_of (s.out i).link) (λ i. (s.out i).settled) (λ i. claims_of (s.out i).link)
+        (λ i. cond (eqb e i) ((s.out i).settled + (seen - (s.out i).settled)) (s.out i).settled) e
+        (seen - Rattle.chip_detect.specs.Books.settled_of (books_of q s) e) (in_outs e q l at) (λ i m. refl)
+        (λ i m. grind (arith, nat_tests))
+
+    is_network : IsNetwork net
+    is_network = record {
+      root = omega arith;
+      tails = λ e l. tail_part e;
+      heads = λ e l. let a = head_inside g game e l in omega arith;
+      none_to_root = λ e l z. let a = head_inside g game e l in absurd (omega arith);
+    }
+
+    -- the end of feeding: the root settles its first edge, and then sends no more
+    end_event : (seen : ℕ) (log : Log) → IsLegalLog g (saw End seen ∷ log)
+        → (xs : diffusing.Log) × Leads net (was log) xs (was (saw End seen ∷ log))
+    end_event seen log legal =
+        let r : ℕ = root g in
+        let e : ℕ = root_edge g 0 in
+        let s : Part = part_in g log r in
+        let some = game.graph_fits.some_vertex in
+        let l : e < all_edges g = omega arith in
+        let at : tail_of g e ≡ r = tail_root g e (omega arith) in
+        let t : Part = record (does g (saw End seen) s) { ended = s.ended } in
+        let mid : ℕ → Part = (λ p. cond (eqb r p) t (part_in g log p)) in
+        let c = edge_counts g game some_ring log legal.0 e in let c0 = c.0 in
+        let a = (shows log legal.0).settled e l in
+        let b = (shows log legal.0).acked e l in
+        let is : seen ≡ (into_in g log e).acked = legal.1.1 in
+        let mid_is : mid r ≡ t = cond_yes r r t s refl in
+        let y : diffusing.Event = diffusing.Settle e seen in
+        let first : Happens net (was log) y (world mid) = acts (part_in g log) mid y
+        (λ p n. cond_no r p t (part_in g log p) (λ z. n (sym z ∙ sym at))) (l, omega arith, omega arith)
+        (subst (λ (q : ℕ). Notes (books_of q (part_in g log q)) y (books_of q (mid q))) (sym at)
+        (subst (λ (u : Part). Notes (books_of r s) y (books_of r u)) (sym mid_is)
+        (record { ins = refl; outs = settles e seen r s l at; parent = refl })))
+        (subst (λ (q : ℕ). passive_of g q (part_in g log q) ≡ true → passive_of g q (mid q) ≡ true) (sym at)
+        (subst (λ (u : Part). passive_of g r s ≡ true → passive_of g r u ≡ true) (sym mid_is)
+        (λ on. at_root r t refl ∙ sym (at_root r s refl) ∙ on))) in
+        let new : ℕ → Part = part_in g (saw End seen ∷ log) in
+        let new_is : new r ≡ does g (saw End seen) s = part_here g (saw End seen) log r refl in
+        let second : Happens net (world mid) (Work r) (world new) = acts mid new (Work r)
+        (λ p n. part_else g (saw End seen) log p (λ z. n (sym z)) ∙ sym (cond_no r p t (part_in g log p) (λ z. n (sym z))))
+        (omega arith)
+        (ap (books_of r) new_is ∙ sym (ap (books_of r) mid_is))
+        (λ on. ap (passive_of g r) new_is ∙ at_root r (does g (saw End seen) s) refl) in
+        (Work r ∷ y ∷ [], (world mid, (was log, refl, first), second))
+
+    one_event : (ev : Event) (seen : ℕ) (log : Log) → IsLegalLog g (saw ev seen ∷ log)
+        → (xs : diffusing.Log) × Leads net (was log) xs (was (saw ev seen ∷ log))
+    one_event (Take e) seen log legal =
+        let h : ℕ = head_of g e in
+        let s : Part = part_in g log h in
+        let l : e < all_edges g = rules_met g (Take e) s legal.1.0 in
+        let inside = head_inside g game e l in
+        dite (ℕ_discrete seen 0)
+        (λ none. works (saw (Take e) seen) log h refl (omega arith) (ap (books_of h) (idle_take g e seen s none))
+        (λ on. ap (passive_of g h) (idle_take g e seen s none) ∙ on))
+        (λ some.
+        let c = edge_counts g game some_ring log legal.0 e in
+        by_event (saw (Take e) seen) log (Get e) refl (
+          l,
+          (let a = (shows log legal.0).sent e l in let b = (shows log legal.0).got e l in
+              let flies : length (s.into e).got < length (out_in g log e).link.put =
+              dite (dec_lt (length (s.into e).got) (length (out_in g log e).link.put)) (λ z. z)
+              (λ past. absurd (some (legal.1.1 ∙ get_or_past (out_in g log e).link.put (length (s.into e).got) 0 (omega arith)))) in
+              let c3 = c.3 in omega arith),
+        )
+        (record {
+          ins = side_message (ins h) (λ i. length (s.into i).got) (λ i. (s.into i).acked)
+              (λ i. length (got_after (Take e) seen i (s.into i))) (λ i. (s.into i).acked) e (in_ins e h l refl)
+              (λ i m. (let one = took_some g seen (s.into i).got some in grind (arith, nat_tests)))
+              (λ i m. refl);
+          outs = refl;
+          parent = cond_no seen 0 s.parent (or_else s.parent e) some;
+        })
+        tt)
+    one_event (Ack e) seen log legal =
+        let h : ℕ = head_of g e in
+        let s : Part = part_in g log h in
+        let may = rules_met g (Ack e) s legal.1.0 in
+        let l = may.0 in
+        let n : ℕ = part.may_ack g h s e in
+        let t : Part = does g (saw (Ack e) seen) s in
+        let same = may_same e h s l refl (head_inside g game e l) in
+        by_event (saw (Ack e) seen) log (diffusing.Ack e n) refl (l, omega arith)
+        (record {
+          ins = side_answers (ins h) (λ i. length (s.into i).got) (λ i. (s.into i).acked) (λ i. length (s.into i).got)
+              (λ i. acked_after g (Ack e) s i (s.into i)) e n (in_ins e h l refl) (λ i m. refl) (λ i m. refl);
+          outs = refl;
+          parent = parent_goes s.parent e n (λ i. part.owed (s.into i)) (owed (books_of h t)) (may_le g h e s)
+              (λ q is.
+              let k = (kept log legal.0 h).parents q is in
+              let shown = side_open (ins h) (λ i. length (s.into i).got) (λ i. acked_after g (Ack e) s i (s.into i)) q
+              (in_ins q h k.0 k.1) in (
+                k.2,
+                (λ z. let a = cond_yes e q ((s.into q).acked + n) (s.into q).acked z in omega arith),
+                (λ z. let a = cond_no e q ((s.into q).acked + n) (s.into q).acked z in omega arith),
+              ));
+        })
+        (λ z. z)
+    one_event (Fire v k) seen log legal =
+        let s = part_in g log v in
+        let may = rules_met g (Fire v k) s legal.1.0 in
+        let l = may.0 in
+        works (saw (Fire v k) seen) log v refl (omega arith) refl
+        (λ on. absurd (no_fire g v (settled_up s) (kept log legal.0 v).outs
+        (neutral_up v s (sym (at_vertex v s l) ∙ on)) v k refl may))
+    one_event (Clear e) seen log legal =
+        let q : ℕ = tail_of g e in
+        let s = part_in g log q in
+        works (saw (Clear e) seen) log q refl (tail_part e)
+        (books_same q s (does g (saw (Clear e) seen) s) (λ i. refl) (λ i. refl)
+        (λ i m. grind (arith, nat_tests)) (λ i. refl) refl)
+        (⊎_elim (λ graph on. absurd (busy log legal.0 e graph.0 graph.1 graph.3 on))
+        (λ rooted. root_wakes (saw (Clear e) seen) log q (tail_root g e rooted.0) refl)
+        (rules_met g (Clear e) s legal.1.0))
+    one_event (Claim e) seen log legal =
+        let q : ℕ = tail_of g e in
+        let s = part_in g log q in
+        let may = rules_met g (Claim e) s legal.1.0 in
+        let l = may.0 in
+        let pends = ((kept log legal.0 q).outs e refl).clear_pends l may.2 in
+        let empty = (edge_sound g game some_ring log legal.0 e).quiet may.2 in
+        dite (ℕ_discrete seen (claims_of (s.out e).link))
+        (λ hit. sends log (saw (Claim e) seen) e legal refl (omega arith) (busy log legal.0 e l may.1 pends) refl
+        (claims_more e seen (λ i. (s.out i).pending) (λ i. (s.out i).link) empty hit) (λ i. refl) refl
+        (λ on. absurd (busy log legal.0 e l may.1 pends on)))
+        (λ miss. works (saw (Claim e) seen) log q refl (tail_part e)
+        (books_same q s (does g (saw (Claim e) seen) s) (λ i. refl) (λ i. refl)
+        (λ i m. refused_same e seen (λ j. (s.out j).pending) (λ j. (s.out j).link) miss i) (λ i. refl) refl)
+        (λ on. absurd (busy log legal.0 e l may.1 pends on)))
+    one_event (Put e) seen log legal =
+        let q : ℕ = tail_of g e in
+        let s = part_in g log q in
+        let may = rules_met g (Put e) s legal.1.0 in
+        works (saw (Put e) seen) log q refl (tail_part e)
+        (books_same q s (does g (saw (Put e) seen) s) (λ i. refl) (λ i. refl)
+        (λ i m. (let a = length-sent_counts (s.out e).link in grind (arith, nat_tests))) (λ i. refl) refl)
+        (⊎_elim (λ at. root_wakes (saw (Put e) seen) log q at refl)
+        (λ vertex on. absurd (no_put g q (settled_up s) (kept log legal.0 q).outs
+        (neutral_up q s (sym (at_vertex q s vertex) ∙ on)) e refl may.0 may.1.0 may.1.1))
+        (tail_cases g game e))
+    one_event (Halt v) seen log legal =
+        let s = part_in g log v in
+        let may = rules_met g (Halt v) s legal.1.0 in
+        let l = may.0 in
+        works (saw (Halt v) seen) log v refl (omega arith) refl
+        (λ on. absurd (no_halt g v (settled_up s) (kept log legal.0 v).outs
+        (neutral_up v s (sym (at_vertex v s l) ∙ on)) v refl may))
+    one_event (Settle e) seen log legal =
+        let q : ℕ = tail_of g e in
+        let s = part_in g log q in
+        let l = rules_met g (Settle e) s legal.1.0 in
+        let c = edge_counts g game some_ring log legal.0 e in let c0 = c.0 in
+        let a = (shows log legal.0).settled e l in
+        let b = (shows log legal.0).acked e l in
+        let is : seen ≡ (into_in g log e).acked = legal.1.1 in
+        by_event (saw (Settle e) seen) log (diffusing.Settle e seen) refl (l, omega arith, omega arith)
+        (record { ins = refl; outs = settles e seen q s l refl; parent = refl }) (λ z. z)
+    one_event (Seal e) seen log legal = works (saw (Seal e) seen) log (stopper g) refl (omega arith) refl (λ on. on)
+    one_event (Read v) seen log legal = works (saw (Read v) seen) log (root g) refl (omega arith) refl (λ on. on)
+    one_event (Feed e k) seen log legal =
+        let q : ℕ = tail_of g e in
+        let s = part_in g log q in
+        let may = rules_met g (Feed e k) s legal.1.0 in
+        let at = tail_root g e may.0 in
+        let empty = (edge_sound g game some_ring log legal.0 e).quiet may.5 in
+        let never : passive_of g q s ≡ true → ⊥ = (λ on. true≢false (sym on ∙ at_root q s at ∙ may.2)) in
+        sends log (saw (Feed e k) seen) e legal refl may.1 never refl
+        (claims_more e seen (λ i. k) (λ i. (s.out i).link) empty (legal.1.1 ∙ feed_sees g log legal.0 e k may.0)) (λ i. refl)
+        refl (λ on. absurd (never on))
+    one_event End seen log legal = end_event seen log legal
+
+    -- ---- the opening: the root sends what the vertices have at the start
+
+    put_cases : (e : ℕ) → (length (first_put g e) ≡ 0) ⊎ ((graph_edges g ≤ e) × (length (first_put g e) ≡ 1))
+    put_cases e = dite (dec_lt e (graph_edges g)) (λ l. inl (first_few g e l)) (λ n. grind (arith, nat_tests))
+
+    -- the root that has sent on the edges below k
+    abbrev rooted : ℕ → Part
+    rooted k = record (opening_part g) {
+      out = λ e. record {
+        link = record { put = cond (ltb e k) (first_put g e) []; held = None; clear = false; refused = false };
+        pending = 0;
+        settled = 0;
+      };
+      ended = false;
+    }
+
+    abbrev starting : ℕ → ℕ → Part
+    starting k p = cond (eqb p (root g)) (rooted k) (opening_part g)
+
+    at_start : (k : ℕ) → starting k (root g) ≡ rooted k
+    at_start k = grind (arith, nat_tests)
+
+    elsewhere : (k : ℕ) (p : ℕ) → p ≢ root g → starting k p ≡ opening_part g
+    elsewhere k p n = grind (arith, nat_tests)
+
+    claims_start : (k e : ℕ) → claims_of ((rooted (suc k)).out e).link
+        ≡ cond (eqb k e) (claims_of ((rooted k).out e).link + length (first_put g k)) (claims_of ((rooted k).out e).link)
+    claims_start k e = grind (arith, nat_tests)
+
+    not_passive : (k : ℕ) → passive_of g (root g) (starting k (root g)) ≡ true → ⊥
+    not_passive k on = true≢false (sym on ∙ ap (passive_of g (root g)) (at_start k) ∙ at_root (root g) (rooted k) refl)
+
+    abbrev r : ℕ
+    r = root g
+
+    start_step : (k : ℕ) → k < all_edges g
+        → (xs : diffusing.Log) × Leads net (world (starting k)) xs (world (starting (suc k)))
+    start_step k l = ⊎_elim
+        (λ none. (
+          Work r ∷ [],
+          (
+            world (starting k),
+            refl,
+            acts (starting k) (starting (suc k)) (Work r) (λ p n. elsewhere (suc k) p n ∙ sym (elsewhere k p n)) (omega arith)
+                (ap (books_of r) (at_start (suc k)) ∙ books_same r (rooted k) (rooted (suc k)) (λ e. refl) (λ e. refl)
+                (λ e m. (let a = claims_start k e in grind (arith, nat_tests)))
+                (λ e. refl) refl ∙ sym (ap (books_of r) (at_start k)))
+                (λ on. absurd (not_passive k on)),
+          ),
+        ))
+        (λ some.
+        let at : tail_of g k ≡ r = tail_root g k some.0 in
+        let one = some.1 in
+        let q : ℕ = tail_of g k in
+        let here : starting k q ≡ rooted k = ap (starting k) at ∙ at_start k in
+        let there : starting (suc k) q ≡ rooted (suc k) = ap (starting (suc k)) at ∙ at_start (suc k) in
+        let zero_sent : claims_of ((rooted k).out k).link ≡ 0 = grind (arith, nat_tests) in
+        let sent_now : diffusing.sent_on net (world (starting k)) k ≡ claims_of ((starting k q).out k).link =
+        (counts_in (outs q) (λ i. claims_of ((starting k q).out i).link) (λ i. ((starting k q).out i).settled) k
+        (in_outs k q l refl)).0 in
+        let sent_there = ap (λ (s : Part). claims_of (s.out k).link) here in
+        let y : diffusing.Event = Send k in (
+          y ∷ [],
+          (
+            world (starting k),
+            refl,
+            acts (starting k) (starting (suc k)) y
+                (λ p n. elsewhere (suc k) p (λ z. n (z ∙ sym at)) ∙ sym (elsewhere k p (λ z. n (z ∙ sym at)))) (
+                  l,
+                  by_test (passive_of g q (starting k q)) (λ on. absurd (not_passive k
+                      (ap (λ (u : ℕ). passive_of g u (starting k u)) (sym at) ∙ on))) (λ off. off),
+                  omega arith,
+                )
+                (subst (λ (s : Part). Notes (books_of q s) y (books_of q (starting (suc k) q))) (sym here)
+                (subst (λ (s : Part). Notes (books_of q (rooted k)) y (books_of q s)) (sym there)
+                (record {
+                  ins = refl;
+                  outs = side_message (outs q) (λ i. claims_of ((rooted k).out i).link) (λ i. 0)
+                      (λ i. claims_of ((rooted (suc k)).out i).link) (λ i. 0) k (in_outs k q l refl)
+                      (λ i m. claims_start k i ∙ ap (λ (n : ℕ). cond (eqb k i) (claims_of ((rooted k).out i).link + n)
+                      (claims_of ((rooted k).out i).link)) one) (λ i m. refl);
+                  parent = refl;
+                })))
+                (λ on. absurd (not_passive k (ap (λ (u : ℕ). passive_of g u (starting k u)) (sym at) ∙ on))),
+          ),
+        ))
+        (put_cases k)
+
+    start_leads : (k : ℕ) → k ≤ all_edges g → (xs : diffusing.Log) × Leads net (world (starting 0)) xs (world (starting k))
+    start_leads zero le = ([], refl)
+    start_leads (suc k) le =
+        let before = start_leads k (omega arith) in
+        let now = start_step k (omega arith) in (
+          now.0 ++ before.0,
+          leads_on net is_network (world (starting 0)) (world (starting k)) (world (starting (suc k))) before.0 now.0
+              before.1 now.1,
+        )
+
+    -- the root sends no more, unless it is fed
+    opened : Happens net (world (starting (all_edges g))) (Work (root g)) (was [])
+    opened = acts (starting (all_edges g)) (λ p. opening_part g) (Work (root g))
+        (λ p n. sym (elsewhere (all_edges g) p n)) (omega arith)
+        (books_same (root g) (rooted (all_edges g)) (opening_part g) (λ e. refl) (λ e. refl)
+        (λ e m. grind (arith, nat_tests)) (λ e. refl) refl
+        ∙ sym (ap (books_of (root g)) (at_start (all_edges g))))
+        (λ on. absurd (not_passive (all_edges g) on))
+
+    -- ---- how many edges a part has
+
+    one_longer : (test : ℕ → Bool) (n : ℕ) → length (filter_below test (suc n)) ≤ length (filter_below test n) + 1
+    one_longer test n = let a = length-append (filter_below test n) (n ∷ []) in
+        let b = length-append (filter_below test n) [] in by_test (test n) (λ is. grind arith) (λ is. grind arith)
+
+    no_longer : (test : ℕ → Bool) (n : ℕ) → test n ≡ false → length (filter_below test (suc n)) ≡ length (filter_below test n)
+    no_longer test n is = let b = length-append (filter_below test n) [] in grind arith
+
+    past_none : (test : ℕ → Bool) (m n : ℕ) → ((a : ℕ) → m ≤ a → a < n → test a ≡ false) → length (filter_below test n) ≤ m
+    past_none test m zero none = omega arith
+    past_none test m (suc n) none = dite (dec_lt n m)
+        (λ l. let a = length-picked test (suc n) in omega arith)
+        (λ le. let a = past_none test m n (λ a x y. none a x (omega arith)) in
+        let b = no_longer test n (none n (omega arith) (omega arith)) in omega arith)
+
+    past_one : (test : ℕ → Bool) (m n w : ℕ) → ((a : ℕ) → m ≤ a → a < n → test a ≡ true → a ≡ w)
+        → length (filter_below test n) ≤ m + 1
+    past_one test m zero w one = omega arith
+    past_one test m (suc n) w one = dite (dec_lt n m)
+        (λ l. let a = length-picked test (suc n) in omega arith)
+        (λ le. by_test (test n)
+        (λ on.
+        let here = one n (omega arith) (omega arith) on in
+        let a = past_none test m n (λ a x y. by_test (test a)
+        (λ also. (let z = one a x (omega arith) also in absurd (omega arith))) (λ off. off)) in
+        let b = one_longer test n in omega arith)
+        (λ off. let a = past_one test m n w (λ a x y. one a x (omega arith)) in let b = no_longer test n off in omega arith))
+
+    below_none : (test : ℕ → Bool) (m n : ℕ) → ((a : ℕ) → a < m → test a ≡ false) → length (filter_below test n) ≤ n - m
+    below_none test m zero none = omega arith
+    below_none test m (suc n) none = let a = below_none test m n none in dite (dec_lt n m)
+        (λ l. let b = no_longer test n (none n l) in omega arith)
+        (λ le. let b = one_longer test n in omega arith)
+
+    few_ins : (p : ℕ) → length (ins p) ≤ edge_limit
+    few_ins p =
+        let a = past_one (λ e. eqb (head_of g e) p) (graph_edges g) (all_edges g) (graph_edges g + p)
+        (λ e le l on. (let h = head_root g e le in let z = eqb-true _ _ on in omega arith)) in
+        let m = game.graph_fits.few_edges in omega arith
+
+    few_outs : (p : ℕ) → length (outs p) ≤ edge_limit
+    few_outs p = dite (ℕ_discrete p (root g))
+        (λ at.
+        let a = below_none (λ e. eqb (tail_of g e) p) (graph_edges g) (all_edges g)
+        (λ e l. ne_eqb _ _ (λ z. (let t = tail_inside g game e l in absurd (omega arith)))) in
+        let m = game.graph_fits.few_vertices in omega arith)
+        (λ other.
+        let a = past_none (λ e. eqb (tail_of g e) p) (graph_edges g) (all_edges g)
+        (λ e le l. ne_eqb _ _ (λ z. other (sym z ∙ tail_root g e le))) in
+        let m = game.graph_fits.few_edges in omega arith)
+
+    opens_part : (p : ℕ) (s : Part) → ((e : ℕ) → length (s.into e).got ≡ 0) → ((e : ℕ) → (s.into e).acked ≡ 0)
+        → ((e : ℕ) → Contains (outs p) e → claims_of (s.out e).link ≡ 0) → ((e : ℕ) → (s.out e).settled ≡ 0)
+        → s.parent ≡ None → (p ≢ root g → passive_of g p s ≡ true) → OpensPart net p (show p s)
+    opens_part p s got acked claims settled none passive =
+        let a = side_fresh (ins p) (λ e. length (s.into e).got) (λ e. (s.into e).acked)
+        (picked_rises (λ e. eqb (head_of g e) p) (all_edges g)) (few_ins p) (λ e m. got e) (λ e m. acked e) in
+        let b = side_fresh (outs p) (λ e. claims_of (s.out e).link) (λ e. (s.out e).settled)
+        (picked_rises (λ e. eqb (tail_of g e) p) (all_edges g)) (few_outs p) claims (λ e m. settled e) in
+        record {
+          ins = ins p;
+          outs = outs p;
+          all_ins = record {
+            all = λ e i. in_ins e p i.0 i.1;
+            none_else = λ e m. (below_all (λ i. eqb (head_of g i) p) e m, eqb-true _ _ (passes_all (λ i. eqb (head_of g i) p) e m));
+          };
+          all_outs = record {
+            all = λ e i. in_outs e p i.0 i.1;
+            none_else = λ e m. (below_all (λ i. eqb (tail_of g i) p) e m, eqb-true _ _ (passes_all (λ i. eqb (tail_of g i) p) e m));
+          };
+          fresh = record { ins = a.1; outs = b.1; parent = none };
+          sound = record {
+            ins = a.0;
+            outs = b.0;
+            engaged = λ q z. absurd (none_some q s.parent none z);
+            neutral = λ z. owed_same p s ∙ tested_none (all_edges g) (λ e. eqb (head_of g e) p) (λ e. part.owed (s.into e))
+                (λ e l on. (let x = got e in omega arith));
+          };
+          passive = passive;
+        }
+
+    open_parts : (p : ℕ) → p < stopper g + 1 → OpensPart net p (world (starting 0) p)
+    open_parts p l = dite (ℕ_discrete p (root g))
+        (λ at. subst (λ (q : ℕ). OpensPart net q (world (starting 0) q)) (sym at)
+        (subst (λ (s : Part). OpensPart net (root g) (show (root g) s)) (sym (at_start 0))
+        (opens_part (root g) (rooted 0) (λ e. refl) (λ e. refl)
+        (λ e m. grind (arith, nat_tests)) (λ e. refl) refl (λ z. absurd (z refl)))))
+        (λ other. subst (λ (s : Part). OpensPart net p (show p s)) (sym (elsewhere 0 p other))
+        (opens_part p (opening_part g) (λ e. refl) (λ e. refl)
+        (λ e m.
+        let tail = eqb-true _ _ (passes_all (λ i. eqb (tail_of g i) p) e m) in
+        dite (dec_lt e (graph_edges g)) (λ graph. (let a = first_few g e graph in omega arith))
+        (λ past. absurd (other (sym tail ∙ tail_root g e (omega arith)))))
+        (λ e. refl) refl
+        (λ z. dite (dec_lt p (root g))
+        (λ vertex. at_vertex p (opening_part g) vertex ∙ ((part_kept g game [] tt p).neutral vertex refl).passive)
+        (λ past. grind (arith, nat_tests)))))
+
+    opening : (first : World) × (xs : diffusing.Log) × ((p : ℕ) → p < stopper g + 1 → OpensPart net p (first p))
+        × Leads net first xs (was [])
+    opening = let way = start_leads (all_edges g) (omega arith) in
+        (world (starting 0), Work (root g) ∷ way.0, open_parts, (world (starting (all_edges g)), way.1, opened))
+
+    -- all events
+    from_log : (log : Log) → IsLegalLog g log → (first : World) → (xs : diffusing.Log) → Leads net first xs (was [])
+        → (ys : diffusing.Log) × Leads net first ys (was log)
+    from_log [] legal first xs way = (xs, way)
+    from_log (x ∷ log) legal first xs way =
+        let before = from_log log legal.0 first xs way in
+        let now = one_event x.event x.seen log legal in
+        (now.0 ++ before.0, leads_on net is_network first (was log) (was (x ∷ log)) before.0 now.0 before.1 now.1)
+
+    -- the log that is legal there
+    pub diffusing_log : (log : Log) → IsLegalLog g log → IsNetwork net × ((events : diffusing.Log) × diffusing.IsLegalLog net events (was log))
+    diffusing_log log legal = let all = from_log log legal opening.0 opening.1 opening.3 in
+        (is_network, (all.0, record { first = opening.0; opens = opening.2; leads = all.1 }))
+
+pub core_diffuses : CoreDiffuses
+core_diffuses g game some_ring log legal =
+    let d = diffusing_log g game some_ring log legal in (
+      d.0,
+      (
+        d.1.0,
+        was g game some_ring log,
+        d.1.1,
+        shows g game some_ring log legal,
+      ),
+    )

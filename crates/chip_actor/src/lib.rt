@@ -10,5 +10,5 @@ mod ends;
 mod medium;
 
 pub use actor::ActorState;
-pub use chip_part::{Act, Cursor, Observed, Reply, Rule};
+pub use chip_part::{Act, Cause, Cursor, Observed, Reply, Rule};
 pub use medium::Medium;

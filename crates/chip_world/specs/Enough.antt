@@ -2,6 +2,9 @@
 use Rattle.std.specs.Prelude.{◌≡◌, ℕ, ◌+◌, ◌*◌, ◌≤◌, length, sum, min}
 use Rattle.chip_graph.specs.ChipGame.{ChipGame}
 use Rattle.chip_sequence.specs.Bound.{greatest_degree, firing_bound, IsGreatestDistance}
+use Rattle.chip_part.specs.Setting.{Setting}
+use Rattle.chip_part.specs.declared.reply.Reply.TheVariants.{Done}
+use Rattle.chip_core.specs.Core.{Log, End, step}
 use Rattle.chip_core.specs.Positions.{played_game}
 use Rattle.chip_core.specs.Closing.{HasEnd, RootHasPut}
 use Rattle.chip_world.specs.World.{WorldState, WhateverLog}
@@ -23,3 +26,7 @@ abbrev pub ClosesIn : WorldState → ℕ → Drive → Type 0
 ClosesIn old rounds result = WhateverLog old (λ g before. HasEnd g before → RootHasPut g before → (distance : ℕ)
     → IsGreatestDistance g.game.graph distance → rounds_to_close (played_game g before) distance ≤ rounds
     → result ≡ Closed)
+
+-- the end can be noted after any log: `End` is never refused, and after it the end is noted
+abbrev pub EndIsNoted : Type 0
+EndIsNoted = (g : Setting) (log : Log) → HasEnd g (step g log End).0 × (count : ℕ) × ((step g log End).1 ≡ Done count)

@@ -8,12 +8,10 @@
 mod fault;
 mod lanes;
 pub mod laws;
-mod rounds;
 mod turn_words;
 mod words;
 mod world;
 
 pub use chip_part::Cause;
 pub use fault::WorldFault;
-pub use rounds::closing_rounds;
 pub use world::{Drive, Record, World};

@@ -58,7 +58,7 @@ impl World {
 
     /// Makes rounds until the root is closed, but no more than `rounds`; in each round every vertex makes one whole
     /// turn, and then the root settles each of its edges. Once the end is noted and the root has put what it claimed,
-    /// more rounds than steps can count close it.
+    /// as many rounds as `rounds_to_close` close it (`specs/Enough.antt`), or more than steps can count.
     pub fn drive(&mut self, rounds: u64) -> Drive
         ensures drives { Leads self.old self.new (λ g before after. IsDrive g rounds before after result) }
         ensures no_other { NoOtherDrive self.old self.new rounds result }

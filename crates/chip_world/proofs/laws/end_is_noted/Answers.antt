@@ -1,0 +1,14 @@
+use Rattle.std.proofs.Common.{ap, refl}
+use Rattle.chip_graph.proofs.SumLemmas.{cond_yes}
+use Rattle.chip_part.specs.Part.{Part}
+use Rattle.chip_part.specs.Steps.{saw, does}
+use Rattle.chip_core.specs.Core.{End, part_in, sees, root}
+use Rattle.chip_world.proofs.laws.end_is_noted.Goals as goal
+
+pub returns : goal.returns
+returns c = λ g log. (
+  ap (λ (s : Part). s.ended) (cond_yes (root g) (root g) (does g (saw End (sees g log End)) (part_in g log (root g)))
+      (part_in g log (root g)) refl),
+  _,
+  refl,
+)

@@ -9,7 +9,7 @@ use crate::lines::{end_by_number, push_number};
 use chip_command::{Answer, Ended, Fault, PlayOptions, Status, deliver, read_game};
 use chip_file::read_trace_within;
 use chip_graph::Game;
-use chip_trace::{Left, Replayed, replay};
+use chip_trace::{Left, Replayed, replay_complete};
 use std::alloc::{AllocError, Global};
 use std::io::{Read, Write};
 
@@ -72,7 +72,7 @@ fn replay_traces<T: Read>(
     ensures { Gives (replaying_from options (T.remaining trace.old) game.now) result }
 {
     let traces = read_trace_within(alloc, options.play.limits, trace, game.graph())?;
-    let replayed = replay(alloc, game, &traces)?;
+    let replayed = replay_complete(alloc, game, &traces)?;
     // They take more than the firings, and the lines need room.
     drop(traces);
     Ok(tell(alloc, &replayed, options.complete)?)

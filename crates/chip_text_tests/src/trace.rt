@@ -5,7 +5,7 @@ ghost use Rattle.std.specs.Prelude.{◌<◌};
 use crate::writers::Faulty;
 use chip_graph::{Edge, Game, Graph};
 use chip_link::TraceRow;
-use chip_trace::{Left, ReplayFault, Replayed, TraceFault, replay, write_trace};
+use chip_trace::{Left, ReplayFault, Replayed, TraceFault, replay, replay_complete, write_trace};
 use std::io::Write;
 use std::process::Abort;
 
@@ -54,7 +54,7 @@ fn replayed(
     let start = [4, 0, 0].to_vec(rt.alloc()).expect(rt, "memory");
     let game = game_of(rt, &[(0, 1), (0, 2), (1, 0), (1, 2)], 2, start, limit);
     assert!(rt; copies.len() as u64 == game.graph().vertices());
-    replay(rt.alloc(), &game, &copies)
+    replay_complete(rt.alloc(), &game, &copies)
 }
 
 /// The runs of the three vertices.
@@ -214,9 +214,7 @@ fn replays_ones(
     firings: usize,
 ) -> Vec<(u64, u64)> {
     assert!(rt; traces.len() as u64 == game.graph().vertices());
-    let fired = replay(rt.alloc(), game, traces)
-        .expect(rt, "a replay")
-        .firings;
+    let fired = replay(rt.alloc(), game, traces).expect(rt, "a replay");
     assert!(rt; fired.len() == firings);
     assert!(rt; fired.iter().all(|firing| firing.1 == 1));
     fired

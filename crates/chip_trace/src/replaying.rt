@@ -2,7 +2,7 @@
 
 ghost use Rattle.std.specs.Prelude.{◌≡◌, ◌+◌, ◌^◌, ◌<◌, ℕ, length, map, IfOk, MatchOption, MatchResult};
 ghost use Rattle.chip_trace.specs.Kept.{runner_at, IsKept, UsesRow, FitsRow, MayUse, IsSettled, GoesOn};
-ghost use Rattle.chip_trace.specs.Replay.{IsReplayed, IsReplayFault};
+ghost use Rattle.chip_trace.specs.Replay.{AreFirings, IsReplayed, IsReplayFault};
 
 use crate::agenda::Agenda;
 use crate::fault::ReplayFault;
@@ -138,10 +138,28 @@ fn settle(
     }
 }
 
-/// The firings of one interleaving of recorded runs, and what is left after it; in time linear in rows and edges.
+/// The firings of one interleaving of recorded runs, each with its vertex, in its order; in time linear in rows and
+/// edges.
 ///
 /// `traces` has the rows of each vertex.
-pub fn replay(alloc: Global, game: &Game, traces: &[Vec<TraceRow>]) -> Result<Replayed, ReplayFault>
+pub fn replay(
+    alloc: Global,
+    game: &Game,
+    traces: &[Vec<TraceRow>],
+) -> Result<Vec<(u64, u64)>, ReplayFault>
+    requires { length traces.now ≡ game.now.graph.vertices }
+    ensures { MatchResult result (λ fired. AreFirings game.now (map (λ t. t.items) traces.now) fired.items)
+        (IsReplayFault game.now (map (λ t. t.items) traces.now)) }
+{
+    Ok(replay_complete(alloc, game, traces)?.firings)
+}
+
+/// What `replay` answers, and what is left of the game then.
+pub fn replay_complete(
+    alloc: Global,
+    game: &Game,
+    traces: &[Vec<TraceRow>],
+) -> Result<Replayed, ReplayFault>
     requires { length traces.now ≡ game.now.graph.vertices }
     ensures { MatchResult result (IsReplayed game.now (map (λ t. t.items) traces.now))
         (IsReplayFault game.now (map (λ t. t.items) traces.now)) }

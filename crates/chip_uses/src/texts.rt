@@ -44,7 +44,7 @@ pub fn count_firings(
 ) -> Result<usize, ReplayFault>
     requires { length traces.now ≡ game.now.graph.vertices }
 {
-    Ok(replay(alloc, game, traces)?.firings.len())
+    Ok(replay(alloc, game, traces)?.len())
 }
 
 /// The reports of both versions of the outcome whose report these bytes are.

@@ -17,8 +17,8 @@ not_replayed : (complete : Bool) (g : ChipGame) (traces : List (List TraceRow)) 
 not_replayed complete g traces (replay_fault.Stuck vertex row) stuck = inl (vertex, row, refl, stuck)
 not_replayed complete g traces replay_fault.NoMemory stuck = inr refl
 
-pub replay-requires : goal.replay-requires
-replay-requires g c = rw (c.deref.ensures.value, ← c.graph.ensures.value) c.in_ok-traces.ensures.each
+pub replay_complete-requires : goal.replay_complete-requires
+replay_complete-requires g c = rw (c.deref.ensures.value, ← c.graph.ensures.value) c.in_ok-traces.ensures.each
 
 pub returns-in_err-traces : goal.returns-in_err-traces
 returns-in_err-traces g c = rw (handed_on _ c.from_residual.ensures.1) (inl (λ text text_is.

@@ -5,7 +5,7 @@ use Rattle.chip_trace.specs.Progress.{IsStuck}
 use Rattle.chip_trace.specs.Kept.{runner_at}
 use Rattle.chip_trace.proofs.KeptLemmas.{kept_start}
 use Rattle.chip_trace.proofs.StuckLemmas.{whole, stuck}
-use Rattle.chip_trace.proofs.replaying.replay.Goals as goal
+use Rattle.chip_trace.proofs.replaying.replay_complete.Goals as goal
 
 pub settle-requires-clause-kept : goal.settle-requires-clause-kept
 settle-requires-clause-kept c =

@@ -1,9 +1,11 @@
--- Serves OneReport.antt: all that is reported of a game is read off the game, and texts mean one game.
+-- Serves OneReport.antt, PlainCommand.antt: all that is reported of a game is read off the game, and texts mean one game.
 use Rattle.std.proofs.Common.{◌≡◌, ◌<◌, ℕ, List, length, Option, refl, sym, ap, subst, ◌∙◌, slice_index, unwrap_or}
+use Rattle.std.proofs.Common.{Result, Ok, Err}
 use Rattle.std.proofs.lemmas.List.{same_lists, get_or_default}
 use Rattle.chip_graph.specs.Limits.{SizeLimits}
 use Rattle.chip_graph.specs.Multigraph.{Multigraph}
 use Rattle.chip_graph.specs.ChipGame.{ChipGame}
+use Rattle.chip_graph.specs.More.{HasMore}
 use Rattle.chip_file.specs.ChipsText.{chips_of_text}
 use Rattle.chip_sequence.specs.Firing.{legal_vertices}
 use Rattle.chip_sequence.specs.Play.{IsPlayed}
@@ -11,6 +13,9 @@ use Rattle.chip_sequence.specs.declared.outcome.Outcome.{Outcome}
 use Rattle.chip_report.specs.ReportText.{report_text}
 use Rattle.chip_command.specs.Inputs.{MeansGame}
 use Rattle.chip_command.specs.OneReport.{OneReport, PlainWrote}
+use Rattle.chip_command.specs.PlainCommand.{PlainAnswers, PlainReports}
+use Rattle.chip_command.specs.declared.ended.Ended.{Ended}
+use Rattle.chip_command.specs.declared.fault.Fault.{Fault}
 use Rattle.chip_command.specs.Reports.{Reports, plain_status}
 
 -- numbers that are the same at each place
@@ -63,13 +68,28 @@ one_game limits others graph_text chips_text limit a b p q =
     (sym x.start.1 ∙ ap (λ (G : Multigraph). chips_of_text G.vertices chips_text) graph ∙ y.start.1) in
     same_games a b graph start (x.limited ∙ sym y.limited)
 
+-- a game has one game with so many more chips at the start
+pub one_more : (g : ChipGame) (more : List (ℕ × ℕ)) (a b : ChipGame) → HasMore g more a → HasMore g more b → a ≡ b
+one_more g more a b p q = same_games a b (p.same_graph ∙ sym q.same_graph)
+    (same_numbers a.start b.start (p.start_each ∙ sym q.start_each)
+    (λ v below. let inside = subst (λ n. v < n) p.start_each below in p.start v inside ∙ sym (q.start v inside)))
+    (p.same_limit ∙ sym q.same_limit)
+
+-- what `plain` writes is the report of the game that its texts mean
+pub plain_writes : (limits : SizeLimits) (graph chips : Option (List ℕ)) (limit : ℕ) (old new : Option (List ℕ))
+    (result : Result Ended Fault) → PlainAnswers limits graph chips limit old new result
+    → PlainReports limits graph chips limit old new result
+plain_writes limits graph chips limit old new (Err fault) answers = λ graph_text graph_is chips_text chips_is. tt
+plain_writes limits graph chips limit old new (Ok ended) answers = λ graph_text graph_is chips_text chips_is.
+    let (text, (g, gave, reports), out, cut) = answers.answer in
+    (g, gave.means graph_text graph_is chips_text chips_is, text, reports, out)
+
 -- what `plain` wrote is the report of the game that the texts mean
 pub plain_reports : (limits : SizeLimits) (graph_text chips_text : List ℕ) (limit : ℕ) (report : List ℕ) (status : ℕ)
     (g : ChipGame) → MeansGame limits graph_text chips_text limit g
     → PlainWrote graph_text chips_text limit report status → Reports g report status
 plain_reports limits graph_text chips_text limit report status g means
-    (others, ended, (text, (h, gave, reports), out, cut), status_is) =
-    let same : h ≡ g =
-    one_game others limits graph_text chips_text limit h g (gave.means graph_text refl chips_text refl) means in
+    (others, ended, (h, h_means, text, reports, out), status_is) =
+    let same : h ≡ g = one_game others limits graph_text chips_text limit h g h_means means in
     let wrote : report ≡ text = out in
     rw (wrote, status_is) (subst (λ (k : ChipGame). Reports k text ended.status) same reports)

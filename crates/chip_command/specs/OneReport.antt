@@ -1,9 +1,8 @@
 -- A game has one report, whoever writes it.
-use Rattle.std.specs.Prelude.{◌≡◌, ℕ, List, [], Some, Ok}
+use Rattle.std.specs.Prelude.{◌≡◌, ℕ, List, [], Some}
 use Rattle.chip_graph.specs.Limits.{SizeLimits}
 use Rattle.chip_graph.specs.ChipGame.{ChipGame}
-use Rattle.chip_command.specs.CommandAnswers.{AnswersBy}
-use Rattle.chip_command.specs.PlainCommand.{plain_spec}
+use Rattle.chip_command.specs.PlainCommand.{PlainWrites}
 use Rattle.chip_command.specs.Reports.{Reports}
 use Rattle.chip_command.specs.declared.ended.Ended.{Ended}
 
@@ -15,5 +14,4 @@ OneReport = (g : ChipGame) (one other : List ℕ) (s t : ℕ) → Reports g one 
 abbrev pub PlainWrote : (graph_text chips_text : List ℕ) → ℕ → List ℕ → ℕ → Type 0
 PlainWrote graph_text chips_text limit report status =
     (limits : SizeLimits) × (ended : Ended)
-    × AnswersBy (plain_spec limits (Some graph_text) (Some chips_text) limit) (Some []) (Some report) (Ok ended)
-    × (status ≡ ended.status)
+    × PlainWrites limits graph_text chips_text limit (Some []) (Some report) ended × (status ≡ ended.status)

@@ -1,9 +1,11 @@
 -- From the bytes of a graph file and a chips file to those of a report.
-use Rattle.std.specs.Prelude.{◌≡◌, ℕ, List, Option, Result}
+use Rattle.std.specs.Prelude.{◌≡◌, ℕ, List, Option, Result, IfOk}
+use Rattle.std.specs.Option.{ForSome}
+use Rattle.std.specs.Io.KnownBytes.{Appends}
 use Rattle.chip_graph.specs.Limits.{SizeLimits}
 use Rattle.chip_graph.specs.ChipGame.{ChipGame}
 use Rattle.chip_command.specs.CommandAnswers.{Spec, bind, CommandAnswers}
-use Rattle.chip_command.specs.Inputs.{reading_game}
+use Rattle.chip_command.specs.Inputs.{MeansGame, reading_game}
 use Rattle.chip_command.specs.Reports.{Reports}
 use Rattle.chip_command.specs.declared.ended.Ended.{Ended}
 use Rattle.chip_command.specs.declared.fault.Fault.{Fault}
@@ -22,3 +24,15 @@ abbrev pub PlainAnswers : SizeLimits → Option (List ℕ) → Option (List ℕ)
     → Result Ended Fault → Type 0
 PlainAnswers limits graph chips limit old new result =
     CommandAnswers (plain_spec limits graph chips limit) old new result
+
+-- what `plain` wrote that ended well: the report of the game of these texts, and its status
+abbrev pub PlainWrites : SizeLimits → List ℕ → List ℕ → ℕ → Option (List ℕ) → Option (List ℕ) → Ended → Type 0
+PlainWrites limits graph_text chips_text limit old new ended =
+    (g : ChipGame) × MeansGame limits graph_text chips_text limit g
+    × (text : List ℕ) × Reports g text ended.status × Appends old new text
+
+-- the same where its readers may know their texts
+abbrev pub PlainReports : SizeLimits → Option (List ℕ) → Option (List ℕ) → ℕ → Option (List ℕ) → Option (List ℕ)
+    → Result Ended Fault → Type 0
+PlainReports limits graph chips limit old new result = ForSome graph (λ graph_text. ForSome chips (λ chips_text.
+    IfOk result (PlainWrites limits graph_text chips_text limit old new)))

@@ -1,3 +1,4 @@
 pub mod Board
 pub mod ReplayCommand
 pub mod SimulateCommand
+pub mod SimulateReport

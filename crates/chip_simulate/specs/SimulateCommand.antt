@@ -1,6 +1,6 @@
 -- From the bytes of a graph file, a chips file and a schedule to the replies of the core, and to the report where the
 -- root closes.
-use Rattle.std.specs.Prelude.{◌≡◌, ℕ, List, [], ◌∷◌, ◌++◌, codes, Bool, if◌then◌else◌, Option, Some, Result}
+use Rattle.std.specs.Prelude.{◌≡◌, ◌≤◌, ℕ, List, [], ◌∷◌, ◌++◌, codes, Bool, if◌then◌else◌, Option, Some, Result}
 use Rattle.std.specs.Fmt.{decimal}
 use Rattle.chip_graph.specs.ChipGame.{ChipGame}
 use Rattle.chip_link.specs.declared.event.Event.{Event}
@@ -10,16 +10,19 @@ use Rattle.chip_part.specs.declared.reply.Reply.TheVariants.{Done, Got, Sent, Em
 use Rattle.chip_part.specs.Setting.{Setting, IsSetting, setting_with}
 use Rattle.chip_part.specs.Numbers.{number_of}
 use Rattle.chip_core.specs.Core.{Log, IsLegalLog, step, log_after}
+use Rattle.chip_core.specs.Closing.{HasEnd, RootHasPut}
 use Rattle.chip_core.specs.Headline.{NoneHaltedBySeal}
 use Rattle.chip_world.specs.declared.world.driving.Drive.{Drive}
 use Rattle.chip_world.specs.declared.world.driving.Drive.TheVariants.{Closed, Unfinished}
 use Rattle.chip_world.specs.Rounds.{IsDrive}
+use Rattle.chip_world.specs.Enough.{rounds_to_close}
 use Rattle.chip_world.specs.World.{WorldState, StandsForLog}
 use Rattle.chip_core.specs.Outcomes.{IsOutcomeOf, ComesTo}
 use Rattle.chip_core.specs.Positions.{firings, chips_given, played_game}
 use Rattle.chip_file.specs.ScheduleText.{schedule_of_text, schedule_text_fault}
 use Rattle.chip_sequence.specs.declared.outcome.Outcome.{Outcome}
 use Rattle.chip_sequence.specs.Outcomes.{IsOutcome}
+use Rattle.chip_sequence.specs.Bound.{IsGreatestDistance}
 use Rattle.chip_report.specs.ReportText.{report_text}
 use Rattle.chip_command.specs.CommandAnswers.{Spec, bind, CommandAnswers}
 use Rattle.chip_command.specs.Inputs.{reading, reading_game}
@@ -77,8 +80,17 @@ abbrev pub EndsBy : Setting → Log → Drive → List ℕ → ℕ → Type 0
 EndsBy g log Closed end status = EndsClosed g log end status
 EndsBy g log (Unfinished rounds) end status = (end ≡ codes "root open\n") × (status ≡ 3)
 
+-- so many rounds surely close the game after this schedule: it noted the end of feeding, no message of the root is claimed
+-- and not put, and they are as many as the game with all chips that were given needs
+pub record HasEnoughRounds (g : Setting) (rounds : ℕ) (events : List Event) : Type 0 where
+  pub end : HasEnd g (log_after g [] events)
+  pub put : RootHasPut g (log_after g [] events)
+  pub distance : ℕ
+  pub is_distance : IsGreatestDistance g.game.graph distance
+  pub enough : rounds_to_close (played_game g (log_after g [] events)) distance ≤ rounds
+
 -- the text and the status of a simulation: the replies to the events from the opening on, with the books or without, at
--- most so many rounds, and the end
+-- most so many rounds, and the end; enough rounds close it
 pub record Simulates (g : Setting) (rounds : ℕ) (books : Bool) (events : List Event) (text : List ℕ)
     (status : ℕ) : Type 0 where
   pub after : Log
@@ -87,6 +99,7 @@ pub record Simulates (g : Setting) (rounds : ℕ) (books : Bool) (events : List 
   pub end : List ℕ
   pub lines : text ≡ answers_text books g [] events ++ end
   pub ends : EndsBy g after drive end status
+  pub closes : HasEnoughRounds g rounds events → drive ≡ Closed
 
 -- simulating a game by the options gives the text of the simulation, and its status; or there is no memory
 abbrev pub simulating : SimulateOptions → ChipGame → List Event → Spec (List ℕ × ℕ)

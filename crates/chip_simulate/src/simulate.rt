@@ -8,6 +8,7 @@ ghost use Rattle.chip_core.specs.Core.{Log, IsClosed};
 ghost use Rattle.chip_world.specs.World.{StandsForLog, WhateverLog};
 ghost use Rattle.chip_world.specs.declared.world.driving.Drive.TheVariants.{Closed};
 ghost use Rattle.chip_command.specs.Statuses.{number_of_status};
+ghost use Rattle.chip_simulate.specs.SimulateReport.{SimulateReports};
 ghost use Rattle.chip_simulate.specs.SimulateCommand.{SimulateAnswers, Simulates, EndsClosed, EndsBy, IsRunThrough};
 ghost use Rattle.chip_simulate.specs.SimulateCommand.{message_text, reply_text, answers_text};
 
@@ -42,7 +43,7 @@ pub struct SimulateOptions {
 /// Runs a schedule on the game of a graph file, a chips file and a firing limit, within the standard limits, with rings of
 /// so many cells, and then so many rounds of turns at most; writes a line for each reply of the schedule, and the report
 /// where the root closes. A game that is `fed` gets chips by its schedule too, and closes only after that has noted the
-/// end.
+/// end. As many rounds as `rounds_to_close` of `chip_world` then close it, if the root has put what it claimed.
 pub fn simulate_engine<G: Read, C: Read, S: Read, W: Write>(
     alloc: Global,
     graph: &mut G,
@@ -55,7 +56,10 @@ pub fn simulate_engine<G: Read, C: Read, S: Read, W: Write>(
     output: &mut W,
 ) -> Result<Ended, Fault>
     requires { IsRing ring }
-    ensures { SimulateAnswers (G.remaining graph.old) (C.remaining chips.old) (S.remaining schedule.old)
+    ensures known { SimulateAnswers (G.remaining graph.old) (C.remaining chips.old) (S.remaining schedule.old)
+        (record { play = record { limits = standard; limit = limit }; ring = ring; rounds = rounds; books = false; fed = fed })
+        (W.contents output.old) (W.contents output.new) result }
+    ensures report { SimulateReports (G.remaining graph.old) (C.remaining chips.old) (S.remaining schedule.old)
         (record { play = record { limits = standard; limit = limit }; ring = ring; rounds = rounds; books = false; fed = fed })
         (W.contents output.old) (W.contents output.new) result }
 {
@@ -79,7 +83,9 @@ pub fn simulate_engine_with<G: Read, C: Read, S: Read, W: Write>(
     options: SimulateOptions,
     output: &mut W,
 ) -> Result<Ended, Fault>
-    ensures { SimulateAnswers (G.remaining graph.old) (C.remaining chips.old) (S.remaining schedule.old) options
+    ensures known { SimulateAnswers (G.remaining graph.old) (C.remaining chips.old) (S.remaining schedule.old) options
+        (W.contents output.old) (W.contents output.new) result }
+    ensures report { SimulateReports (G.remaining graph.old) (C.remaining chips.old) (S.remaining schedule.old) options
         (W.contents output.old) (W.contents output.new) result }
 {
     let PlayOptions { limits, limit } = options.play;

@@ -13,3 +13,4 @@ pub mod WorkedDrives
 pub mod OwnTurnLemmas
 pub mod ClosesLemmas
 pub mod EnoughLemmas
+pub mod FedLemmas

@@ -17,4 +17,6 @@ returns c =
       lines = rw (c.deref.ensures.value, c.into_bytes-text.ensures.value, c.in_ok-run_schedule.ensures.lines)
           at c.in_ok-extend_from_slice.ensures.items;
       ends = c.in_ok-end.ensures g driven.0 driven.1;
+      closes = λ has. c.drive-drive.ensures.closes_in g _ c.in_ok-run_schedule.ensures.world has.end has.put has.distance
+          has.is_distance has.enough;
     }

@@ -1,0 +1,87 @@
+-- Serves Rounds.antt.
+-- Turns and rounds feed nothing.
+use Rattle.std.proofs.Common.{◌≡◌, ◌≢◌, ℕ, zero, suc, ◌<◌, ◌≤◌, List, [], ◌∷◌, ◌++◌, reverse, Option, Some, None}
+use Rattle.std.proofs.Common.{refl, sym, ap, ◌∙◌, subst, arith, append_assoc, append-nil}
+use Rattle.std.proofs.lemmas.List.{reverse-append}
+use Rattle.chip_graph.specs.ChipGame.{IsGame}
+use Rattle.chip_graph.proofs.SumLemmas.{cond_no}
+use Rattle.chip_part.specs.Setting.{Setting}
+use Rattle.chip_part.specs.Edges.{root_edge}
+use Rattle.chip_part.specs.Steps.{saw}
+use Rattle.chip_actor.specs.Medium.{AreOf}
+use Rattle.chip_core.specs.Core.{Log, Step, Settle, Rule, IsLegalLog, part_of, part_in, sees, root, tail_of}
+use Rattle.chip_core.specs.Core.{unmet_rule, answer, log_after}
+use Rattle.chip_core.specs.Histories.{done_by}
+use Rattle.chip_core.specs.Positions.{fed_in}
+use Rattle.chip_core.specs.Work.{fed_so_far}
+use Rattle.chip_core.proofs.GivenLemmas.{recorded_step}
+use Rattle.chip_core.proofs.LogLemmas.{part_kept}
+use Rattle.chip_core.proofs.ReachingLemmas.{run_legal}
+use Rattle.chip_core.proofs.ReplyLemmas.{log_after-append}
+use Rattle.chip_world.specs.Rounds.{AreTurns, root_settles, AreRounds}
+use Rattle.chip_world.proofs.OwnTurnLemmas.{turn_is_own}
+
+module _ (g : Setting) where
+  -- what one part made, another didn't do
+  not_done : (v u : ℕ) → v ≢ u → (ds : List Step) → AreOf g v ds → (log : Log)
+      → done_by g u (reverse ds ++ log) ≡ done_by g u log
+  not_done v u other [] mine log = refl
+  not_done v u other (x ∷ xs) mine log =
+      ap (done_by g u) (ap (λ (l : Log). l ++ log) (reverse-append (x ∷ []) xs)
+      ∙ append_assoc (reverse xs) (x ∷ []) log)
+      ∙ not_done v u other xs mine.1 (x ∷ log)
+      ∙ cond_no (part_of g x.event) u (done_by g u log ++ x ∷ []) (done_by g u log) (λ z. other (sym mine.0 ∙ z))
+
+  module _ (game : IsGame g.game) (some_ring : 0 < g.ring) where
+    -- a longer log, in which no more was fed
+    pub record FeedsNone (before after : Log) : Type 0 where
+      pub legal : IsLegalLog g after
+      pub same : fed_so_far g after ≡ fed_so_far g before
+
+    none_made : (before after : Log) → IsLegalLog g before → after ≡ before → FeedsNone before after
+    none_made before after legal same =
+        record { legal = subst (IsLegalLog g) (sym same) legal; same = ap (fed_so_far g) same }
+
+    turns_feed_none : (n : ℕ) (before after : Log) → n ≤ g.game.graph.vertices → IsLegalLog g before
+        → AreTurns g n before after → FeedsNone before after
+    turns_feed_none zero before after few legal same = none_made before after legal same
+    turns_feed_none (suc n) before after few legal (between, turns, last) =
+        let old = turns_feed_none n before between (omega arith) legal turns in
+        let mine = turn_is_own g n (part_in g between n) last.operations last.are_turn.0
+        (λ e is. ((part_kept g game between old.legal n).parents e is).1) last.are_turn.1 in
+        record {
+          legal = last.all_fit;
+          same = ap (fed_so_far g) last.all_made
+              ∙ ap (fed_in g) (not_done n (root g) (λ z. (let at : n ≡ root g = z in absurd (omega arith)))
+              last.operations mine between)
+              ∙ old.same;
+        }
+
+    settle_feeds_none : (e : ℕ) (log : Log) → IsLegalLog g log → (o : Option Rule)
+        → unmet_rule g (Settle e) (part_in g log (tail_of g e)) ≡ o
+        → fed_so_far g (answer g log (Settle e) o).0 ≡ fed_so_far g log
+    settle_feeds_none e log legal (Some r) is = refl
+    settle_feeds_none e log legal None is =
+        recorded_step g game some_ring (saw (Settle e) (sees g log (Settle e))) log (legal, (is, refl))
+        ∙ append-nil (fed_so_far g log)
+
+    settles_feed_none : (n : ℕ) (log : Log) → IsLegalLog g log
+        → fed_so_far g (log_after g log (root_settles g n)) ≡ fed_so_far g log
+    settles_feed_none zero log legal = refl
+    settles_feed_none (suc n) log legal =
+        let now : Log = log_after g log (root_settles g n) in
+        ap (fed_so_far g) (log_after-append g log (root_settles g n) (Settle (root_edge g n) ∷ []))
+        ∙ settle_feeds_none (root_edge g n) now (run_legal g log (root_settles g n) legal) _ refl
+        ∙ settles_feed_none n log legal
+
+    pub rounds_feed_none : (n : ℕ) (before after : Log) → IsLegalLog g before → AreRounds g n before after
+        → FeedsNone before after
+    rounds_feed_none zero before after legal same = none_made before after legal same
+    rounds_feed_none (suc n) before after legal (between, rounds, not_closed, (middle, turns, settles)) =
+        let old = rounds_feed_none n before between legal rounds in
+        let vertices : ℕ = g.game.graph.vertices in
+        let turned = turns_feed_none vertices between middle (omega arith) old.legal turns in
+        record {
+          legal = subst (IsLegalLog g) (sym settles) (run_legal g middle (root_settles g vertices) turned.legal);
+          same = ap (fed_so_far g) settles ∙ settles_feed_none vertices middle turned.legal ∙ turned.same ∙ old.same;
+        }

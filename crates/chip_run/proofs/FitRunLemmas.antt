@@ -40,7 +40,8 @@ use Rattle.chip_run.specs.RunCommand.{Outputs, RunAnswersFor}
 use Rattle.chip_run.specs.Replaying.{rows_in, traces_in, all_rows, AreGivenOnce, FitTogether, WritesOneRun}
 use Rattle.chip_run.specs.Laws.{RowsFit, UncutTracesFit, FedRowsFit}
 use Rattle.chip_run.proofs.FitLemmas.{interleaves, times_fired, given_once}
-use Rattle.chip_run.proofs.RunLemmas.{has_more, one_more, one_whole}
+use Rattle.chip_command.proofs.OneReportLemmas.{one_more}
+use Rattle.chip_run.proofs.RunLemmas.{has_more, one_whole}
 
 -- the actors of a crew, in the game that has all chips at the start, where no vertex is given chips more than once
 module _ (shared : Sharing) (g : ChipGame) (feeds : Left) (plan : Plan) (f : Finished) (game : IsGame g)
@@ -99,7 +100,7 @@ writes_by : (shared : Sharing) (g : ChipGame) (feeds : Left) (plan : Plan) (old 
 writes_by shared g feeds plan old new ended unsealed game chips feeds_are (actors, text, plays, records, out) once =
     let o : Outcome = plays.crew.outcome in
     let is = plays.finished in
-    let reports = rw (one_whole g feeds plays.reports.0 is.whole plays.reports.1 is.whole_is) at plays.reports.2 in
+    let reports = rw (one_whole g feeds plays.reports.0 is.whole plays.reports.1 is.whole_is) at plays.reports.3 in
     let same = one_report is.whole text (report_text o) ended.status (plain_status o) reports
     (o, is.played unsealed, refl, refl) in (
       is.whole,

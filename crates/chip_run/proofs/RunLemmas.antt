@@ -1,7 +1,7 @@
 -- Serves RunCommand.antt, Feeding.antt, Recording.antt, Laws.antt.
 -- From the parts of the engine to its whole, and that what `run` wrote is what `plain` wrote.
 use Rattle.std.proofs.Common.{◌≡◌, ℕ, Bool, false, refl, subst, List, map, Option, Some, None, Result, Ok, Err, IfOk}
-use Rattle.std.proofs.Common.{inl, inr, ◌<◌, [], sym, ap, ◌∙◌, unwrap_or, arith}
+use Rattle.std.proofs.Common.{inl, inr, [], sym, ap, ◌∙◌, unwrap_or, arith}
 use Rattle.chip_graph.specs.Limits.{SizeLimits}
 use Rattle.chip_graph.specs.ChipGame.{ChipGame, IsGame}
 use Rattle.chip_crew.specs.declared.plan.Plan.{Plan}
@@ -24,10 +24,11 @@ use Rattle.chip_crew.specs.declared.fault.CrewFault.TheVariants as crew
 use Rattle.chip_run.specs.Feeding.{ForText, MeansFed, MeansFedGame, feeds_of}
 use Rattle.chip_run.specs.Recording.{rows_kept, RecordsIfAsked, FailsToRecord}
 use Rattle.chip_run.specs.RunCommand.{RunAnswers, RunAnswersFor, Outputs, KeepsBoth, IsNotPlayed, Plays, WritesReport}
+use Rattle.chip_run.specs.RunCommand.{RunReads, RunReports, ReportsFed}
 use Rattle.chip_run.specs.RunCommand.{fault_of_crew, ReportsSome, ReportsSomeRun}
 use Rattle.chip_graph.specs.Multigraph.{Multigraph, IsGraph}
 use Rattle.chip_graph.specs.More.{HasMore}
-use Rattle.chip_command.proofs.OneReportLemmas.{one_report, one_game, same_games, same_numbers}
+use Rattle.chip_command.proofs.OneReportLemmas.{one_report, one_game, one_more, plain_reports}
 use Rattle.chip_command.proofs.SittingLemmas.{report_tells}
 use Rattle.chip_run.specs.Laws.{SameBytes, SameBytesFed, RunWrote, RunTellsPlay}
 
@@ -48,17 +49,25 @@ pub keeps_both : (o : Outputs) → KeepsBoth o o
 keeps_both o = record { report = Keeps-same o.report; trace = refl }
 
 -- what `run` wrote that ended well is the plain player's report
-pub writes_report : (limits : SizeLimits) (shared : Sharing) (graph_text chips_text : List ℕ)
-    (feed_text : Option (List ℕ)) (limit : ℕ) (plan : Plan) (old new : Option (List ℕ))
-    (old_trace new_trace : Option (Option (List ℕ))) (result : Result Ended Fault)
-    → RunAnswers limits shared graph_text chips_text feed_text limit plan
-    (record { report = old; trace = old_trace }) (record { report = new; trace = new_trace }) result
-    → IfOk result (WritesReport limits graph_text chips_text feed_text limit old new)
-writes_report limits shared graph_text chips_text feed_text limit plan old new old_trace new_trace (Err f) answers = tt
-writes_report limits shared graph_text chips_text feed_text limit plan old new old_trace new_trace (Ok ended)
-    (inl refused) = absurd refused
-writes_report limits shared graph_text chips_text feed_text limit plan old new old_trace new_trace (Ok ended)
+writes_report : (limits : SizeLimits) (shared : Sharing) (graph_text chips_text : List ℕ)
+    (feed_text : Option (List ℕ)) (limit : ℕ) (plan : Plan) (old new : Outputs) (result : Result Ended Fault)
+    → RunAnswers limits shared graph_text chips_text feed_text limit plan old new result
+    → IfOk result (WritesReport limits graph_text chips_text feed_text limit old.report new.report)
+writes_report limits shared graph_text chips_text feed_text limit plan old new (Err f) answers = tt
+writes_report limits shared graph_text chips_text feed_text limit plan old new (Ok ended) (inl refused) =
+    absurd refused
+writes_report limits shared graph_text chips_text feed_text limit plan old new (Ok ended)
     (inr (g, feeds, means, (actors, text, plays, records, out))) = (g, feeds, means, text, plays.reports, out)
+
+pub run_reports : (limits : SizeLimits) (shared : Sharing) (graph chips : Option (List ℕ))
+    (feed : Option (Option (List ℕ))) (limit : ℕ) (plan : Plan) (old new : Option (List ℕ))
+    (old_trace new_trace : Option (Option (List ℕ))) (result : Result Ended Fault)
+    → RunReads limits shared graph chips feed limit plan (record { report = old; trace = old_trace })
+    (record { report = new; trace = new_trace }) result → RunReports limits graph chips feed limit old new result
+run_reports limits shared graph chips feed limit plan old new old_trace new_trace result answers =
+    λ graph_text graph_is chips_text chips_is. for_text feed _ _ (λ feed_text. writes_report limits shared graph_text
+    chips_text feed_text limit plan (record { report = old; trace = old_trace })
+    (record { report = new; trace = new_trace }) result) (answers graph_text graph_is chips_text chips_is)
 
 -- a game and the feeds that a text has for the vertices of its graph
 pub means_fed : (limits : SizeLimits) (graph_text chips_text : List ℕ) (feed_text : Option (List ℕ)) (limit : ℕ)
@@ -118,17 +127,11 @@ has_more g None whole is = subst (HasMore g []) (sym is) (record {
   total = omega arith;
 })
 
-pub one_more : (g : ChipGame) (feeds : List (ℕ × ℕ)) (a b : ChipGame) → HasMore g feeds a → HasMore g feeds b → a ≡ b
-one_more g feeds a b p q = same_games a b (p.same_graph ∙ sym q.same_graph)
-    (same_numbers a.start b.start (p.start_each ∙ sym q.start_each)
-    (λ v below. let inside = subst (λ n. v < n) p.start_each below in p.start v inside ∙ sym (q.start v inside)))
-    (p.same_limit ∙ sym q.same_limit)
-
 pub one_whole : (g : ChipGame) (feeds : Left) (a b : ChipGame) → IsWhole g feeds a → IsWhole g feeds b → a ≡ b
 one_whole g feeds a b p q = one_more g (pairs feeds) a b (has_more g feeds a p) (has_more g feeds b q)
 
 -- with all chips at the start a game is within the limits where what is fed stays within the total
-whole_fits : (g : ChipGame) → IsGame g → (feeds : Left) → StaysWithin g feeds → (whole : ChipGame)
+pub whole_fits : (g : ChipGame) → IsGame g → (feeds : Left) → StaysWithin g feeds → (whole : ChipGame)
     → IsWhole g feeds whole → IsGame whole
 whole_fits g fits None within whole is = subst IsGame (sym is) fits
 whole_fits g fits (Some feeds) within whole is =
@@ -141,9 +144,9 @@ whole_fits g fits (Some feeds) within whole is =
 
 -- what a crew plays is the report of some game
 pub plays_some : (shared : Sharing) (g : ChipGame) (feeds : Left) (plan : Plan) (actors : List ActorKnown)
-    (text : List ℕ) (status : ℕ) → IsGame g → Plays shared g feeds plan actors text status → ReportsSome text status
-plays_some shared g feeds plan actors text status game plays = let whole = plays.reports in
-    (whole.0, whole_fits g game feeds plays.finished.opened.can.total whole.0 whole.1, whole.2)
+    (text : List ℕ) (status : ℕ) → Plays shared g feeds plan actors text status → ReportsSome text status
+plays_some shared g feeds plan actors text status plays = let whole = plays.reports in
+    (whole.0, whole.2, whole.3)
 
 pub delivered_some : (old new : Option (List ℕ)) (text : List ℕ) (status : ℕ) (cut : Bool) → ReportsSome text status
     → (result : Result Ended Fault) → Delivers old new text (record { status = status; cut = cut }) result
@@ -154,44 +157,34 @@ delivered_some old new text status cut some (Err f) failed = inr (text, status, 
 -- ---- one report for the texts
 
 -- what `run` wrote is the report of the game that has all chips at the start, which is within the limits
-run_reports : (graph_text chips_text : List ℕ) (feed_text : Option (List ℕ)) (limit : ℕ) (report : List ℕ)
+run_wrote : (graph_text chips_text : List ℕ) (feed_text : Option (List ℕ)) (limit : ℕ) (report : List ℕ)
     (status : ℕ) → RunWrote graph_text chips_text feed_text limit report status → (limits : SizeLimits) (g : ChipGame)
     (feeds : Left) → MeansFedGame limits graph_text chips_text feed_text limit g feeds → (whole : ChipGame)
-    → IsWhole g feeds whole → Reports whole report status × IsGame whole
-run_reports graph_text chips_text feed_text limit report status (mine, shared, plan, old, new, ended, inl refused, s_is)
-    limits g feeds means whole is = absurd refused
-run_reports graph_text chips_text feed_text limit report status
-    (mine, shared, plan, old, new, ended, inr (g', feeds', means', (actors, told, played, records, out)), s_is)
-    limits g feeds means whole is =
+    → IsWhole g feeds whole → IsGame whole × Reports whole report status
+run_wrote graph_text chips_text feed_text limit report status
+    (mine, ended, (g', feeds', means', told, all, out), s_is) limits g feeds means whole is =
     let game : g' ≡ g = one_game mine limits graph_text chips_text limit g' g means'.game means.game in
     let fed = one_feed mine limits feed_text g.graph.vertices feeds' feeds
     (subst (λ (k : ChipGame). MeansFed mine feed_text k.graph.vertices feeds') game means'.fed) means.fed in
-    let plays : Plays shared g feeds plan actors told ended.status = rw (game, fed) at played in
-    let all = plays.reports in (
-      subst (λ (z : ChipGame × List ℕ × ℕ). Reports z.0 z.1 z.2)
-          (λ i. (one_whole g feeds all.0 whole all.1 is i, sym out i, sym s_is i)) all.2,
-      whole_fits g means.game.game feeds plays.finished.opened.can.total whole is,
-    )
+    let reports : ReportsFed g feeds told ended.status = rw (game, fed) at all in
+    subst (λ (z : ChipGame × List ℕ × ℕ). IsGame z.0 × Reports z.0 z.1 z.2)
+    (λ i. (one_whole g feeds reports.0 whole reports.1 is i, sym out i, sym s_is i)) (reports.2, reports.3)
 
 pub same_bytes_fed : SameBytesFed
 same_bytes_fed graph_text chips_text feed_text limit whole_graph whole_chips
-    (g, feeds, fed_by, means, whole, mine, whole_means, is_whole) one other s t ran
-    (limits, done, (text, (h, h_means, reports), out, cut), t_is) =
-    let game = one_game limits mine whole_graph whole_chips limit h whole
-    (h_means.means whole_graph refl whole_chips refl) whole_means in
-    let same = one_report whole one text s done.status
-    (run_reports graph_text chips_text feed_text limit one s ran fed_by g feeds means whole is_whole).0
-    (rw game at reports) in (same.0 ∙ sym out, same.1 ∙ sym t_is)
+    (g, feeds, fed_by, means, whole, mine, whole_means, is_whole) one other s t ran wrote =
+    one_report whole one other s t
+    (run_wrote graph_text chips_text feed_text limit one s ran fed_by g feeds means whole is_whole).1
+    (plain_reports mine whole_graph whole_chips limit other t whole whole_means wrote)
 
 pub run_tells_play : RunTellsPlay
 run_tells_play graph_text chips_text feed_text limit report status ran limits g feeds means whole is_whole =
-    let of_it = run_reports graph_text chips_text feed_text limit report status ran limits g feeds means whole
-    is_whole in report_tells whole of_it.1 report status of_it.0
+    let (game, reports) = run_wrote graph_text chips_text feed_text limit report status ran limits g feeds means whole
+    is_whole in report_tells whole game report status reports
 
 -- where nothing is fed, the whole game is the game
 pub same_bytes : SameBytes
-same_bytes graph_text chips_text limit one other s t ran (limits, done, (text, (h, h_means, reports), out, cut), t_is) =
-    let means = h_means.means graph_text refl chips_text refl in
+same_bytes graph_text chips_text limit one other s t ran (limits, done, (h, means, text, reports, out), t_is) =
     same_bytes_fed graph_text chips_text None limit graph_text chips_text
     (h, None, limits, record { game = means; fed = tt }, h, limits, means, refl) one other s t ran
-    (limits, done, (text, (h, h_means, reports), out, cut), t_is)
+    (limits, done, (h, means, text, reports, out), t_is)

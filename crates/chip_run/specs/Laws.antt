@@ -16,16 +16,14 @@ use Rattle.chip_crew.specs.declared.plan.Plan.{Plan}
 use Rattle.chip_crew.specs.declared.plan.Sharing.{Sharing}
 use Rattle.chip_run.specs.Feeding.{MeansFedGame}
 use Rattle.chip_run.specs.Replaying.{rows_in, traces_in, times_of, HasOneEach, AreGivenOnce, WritesOneRun, WritesFitting}
-use Rattle.chip_run.specs.RunCommand.{Outputs, RunAnswers}
+use Rattle.chip_run.specs.RunCommand.{Outputs, RunAnswers, WritesReport}
 
--- `run` wrote this report of the game that the texts mean, by whatever limits of its size, by some plan, however its
--- workers shared the actors and whatever went into a trace, and answered this status
+-- `run` wrote this report of the game that the texts mean, by whatever limits of its size, and answered this status,
+-- whatever its crew did
 abbrev pub RunWrote : (graph_text chips_text : List ℕ) → Option (List ℕ) → ℕ → List ℕ → ℕ → Type 0
 RunWrote graph_text chips_text feed_text limit report status =
-    (limits : SizeLimits) × (shared : Sharing) × (plan : Plan) × (old new : Option (Option (List ℕ))) × (ended : Ended)
-    × RunAnswers limits shared graph_text chips_text feed_text limit plan (record { report = Some []; trace = old })
-    (record { report = Some report; trace = new }) (Ok ended)
-    × (status ≡ ended.status)
+    (limits : SizeLimits) × (ended : Ended)
+    × WritesReport limits graph_text chips_text feed_text limit (Some []) (Some report) ended × (status ≡ ended.status)
 
 -- two texts mean the game that has all chips at the start which the others give it at the start or feed it
 abbrev pub MeanTheWhole : (graph_text chips_text : List ℕ) → Option (List ℕ) → ℕ → (whole_graph whole_chips : List ℕ) → Type 0

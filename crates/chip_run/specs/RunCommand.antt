@@ -1,5 +1,5 @@
 -- From the bytes of a graph file, a chips file and a file of feeds to those of the report of a game that threads play.
-use Rattle.std.specs.Prelude.{◌≡◌, ◌⊎◌, ℕ, Bool, true, List, Option, None, Result, Ok, Err}
+use Rattle.std.specs.Prelude.{◌≡◌, ◌⊎◌, ℕ, Bool, true, List, Option, None, Result, Ok, Err, IfOk}
 use Rattle.std.specs.Option.{ForSome}
 use Rattle.std.specs.Io.KnownBytes.{Appends, Keeps}
 use Rattle.chip_graph.specs.Limits.{SizeLimits}
@@ -48,9 +48,10 @@ abbrev pub IsNotPlayed : Sharing → ChipGame → Left → Plan → Fault → Ty
 IsNotPlayed shared g feeds plan f =
     ((e : CrewFault) × IsFaultOf shared g feeds plan never_shut e × (f ≡ fault_of_crew e)) ⊎ (f ≡ fault.NoMemory)
 
--- a text and a status are the plain player's report of a game with these feeds, and its status
+-- a text and a status are the plain player's report of a game with these feeds, within the limits, and its status
 abbrev pub ReportsFed : ChipGame → Left → List ℕ → ℕ → Type 0
-ReportsFed g feeds text status = (whole : ChipGame) × IsWhole g feeds whole × Reports whole text status
+ReportsFed g feeds text status =
+    (whole : ChipGame) × IsWhole g feeds whole × IsGame whole × Reports whole text status
 
 -- a crew finished the game with these actors, and text and status are its report and its status
 pub record Plays (shared : Sharing) (g : ChipGame) (feeds : Left) (plan : Plan)
@@ -114,6 +115,13 @@ abbrev pub WritesReport : SizeLimits → List ℕ → List ℕ → Option (List 
 WritesReport limits graph_text chips_text feed_text limit old new ended =
     (g : ChipGame) × (feeds : Left) × MeansFedGame limits graph_text chips_text feed_text limit g feeds
     × (text : List ℕ) × ReportsFed g feeds text ended.status × Appends old new text
+
+-- the same where what the readers have left may be known
+abbrev pub RunReports : SizeLimits → Option (List ℕ) → Option (List ℕ) → Option (Option (List ℕ)) → ℕ
+    → Option (List ℕ) → Option (List ℕ) → Result Ended Fault → Type 0
+RunReports limits graph chips feed limit old new result =
+    ForSome graph (λ graph_text. ForSome chips (λ chips_text. ForText feed
+    (λ feed_text. IfOk result (WritesReport limits graph_text chips_text feed_text limit old new))))
 
 -- a text and a status are the report of some game, and its status
 abbrev pub ReportsSome : List ℕ → ℕ → Type 0

@@ -1,12 +1,11 @@
 //! The engine.
 
 ghost use Rattle.std.specs.Prelude.{◌≡◌, ℕ, false, None, option_map, IfOk, IfErr};
-ghost use Rattle.std.specs.Option.{ForSome};
 ghost use Rattle.chip_graph.specs.Limits.{standard};
+ghost use Rattle.chip_graph.specs.ChipGame.{IsGame};
 ghost use Rattle.chip_command.specs.Statuses.{number_of_status};
 ghost use Rattle.chip_crew.specs.declared.plan.Sharing.TheVariants.{Queue};
-ghost use Rattle.chip_run.specs.Feeding.{ForText};
-ghost use Rattle.chip_run.specs.RunCommand.{RunReads, ReportsSomeRun, WritesReport, Plays, IsNotPlayed, plan_of};
+ghost use Rattle.chip_run.specs.RunCommand.{RunReads, RunReports, ReportsSomeRun, Plays, IsNotPlayed, plan_of};
 
 use crate::feeding::read_fed;
 use crate::recording::record_if_asked;
@@ -70,11 +69,9 @@ pub fn run_engine<R: Threads + Wait + Sync, G: Read, C: Read, F: Read, T: Write,
         (option_map (λ reader. F.remaining reader.now) feed.entry) limit (plan_of ring workers turns trace_rows)
         (record { report = W.contents output.old; trace = option_map T.contents trace.old })
         (record { report = W.contents output.new; trace = option_map T.contents trace.new }) result }
-    ensures report { ForSome (G.remaining graph.old)
-        (λ graph_text. ForSome (C.remaining chips.old)
-        (λ chips_text. ForText (option_map (λ reader. F.remaining reader.now) feed.entry)
-        (λ feed_text. IfOk result (WritesReport standard graph_text chips_text feed_text limit
-        (W.contents output.old) (W.contents output.new))))) }
+    ensures report { RunReports standard (G.remaining graph.old) (C.remaining chips.old)
+        (option_map (λ reader. F.remaining reader.now) feed.entry) limit
+        (W.contents output.old) (W.contents output.new) result }
     ensures any { ReportsSomeRun (W.contents output.old) (W.contents output.new) result }
 {
     let plan = Plan {
@@ -122,6 +119,9 @@ pub fn run_engine_with<
         (option_map (λ reader. F.remaining reader.now) feed.entry) options.limit options.plan
         (record { report = W.contents output.old; trace = option_map T.contents trace.old })
         (record { report = W.contents output.new; trace = option_map T.contents trace.new }) result }
+    ensures report { RunReports options.limits (G.remaining graph.old) (C.remaining chips.old)
+        (option_map (λ reader. F.remaining reader.now) feed.entry) options.limit
+        (W.contents output.old) (W.contents output.new) result }
     ensures any { ReportsSomeRun (W.contents output.old) (W.contents output.new) result }
 {
     // (the game is not held while the texts go out)
@@ -152,6 +152,7 @@ fn play<R: Threads + Wait + Sync, K: Gate + Sync>(
 ) -> Result<(Answer, Vec<Actor>), Fault>
     requires seal { options.plan.seal ≡ None }
     requires gate { (worker turn : ℕ) → K.may_answer gate.now worker turn false → ⊥ }
+    requires game { IsGame game }
     ensures played { IfOk result (λ p. Plays options.sharing game (option_map (λ fed. fed.items) feeds) options.plan
         p.1.items p.0.text.items (number_of_status p.0.status)) }
     ensures fault { IfErr result

@@ -1,6 +1,6 @@
 use Rattle.std.proofs.Common.{ap, option_map, refl}
 use Rattle.chip_command.specs.Statuses.{number_of_status}
-use Rattle.chip_run.proofs.RunLemmas.{not_played}
+use Rattle.chip_run.proofs.RunLemmas.{not_played, whole_fits}
 use Rattle.chip_run.proofs.running.play.Goals as goal
 
 pub returns-in-Ok-clause-played : goal.returns-in-Ok-clause-played
@@ -14,6 +14,8 @@ returns-in-Ok-clause-played g c =
       reports = (
         finished.whole,
         finished.whole_is,
+        whole_fits c.args.game c.requires.game (option_map (λ fed. fed.items) c.args.feeds)
+            finished.opened.can.total finished.whole finished.whole_is,
         (c.in-Ok.finished.outcome, finished.played c.requires.seal, answer.text, ap number_of_status answer.status),
       );
     }

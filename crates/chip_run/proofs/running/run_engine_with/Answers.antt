@@ -4,7 +4,7 @@ use Rattle.chip_graph.specs.Multigraph.{Multigraph}
 use Rattle.chip_command.proofs.InputLemmas.{Keeps-same}
 use Rattle.chip_run.specs.Feeding.{RefusesFed}
 use Rattle.chip_run.proofs.RunLemmas.{for_text, for_each_text, keeps_both, means_fed, delivered_run}
-use Rattle.chip_run.proofs.RunLemmas.{plays_some, delivered_some}
+use Rattle.chip_run.proofs.RunLemmas.{plays_some, delivered_some, run_reports}
 use Rattle.chip_run.proofs.running.run_engine_with.Goals as goal
 
 pub returns-in_err-game-clause-known : goal.returns-in_err-game-clause-known
@@ -52,6 +52,22 @@ returns-clause-known g c = λ graph_text graph_is chips_text chips_is. for_text 
     let run = delivered_run _ _ _ _ _ _ _ _ _ _ _ _ plays records c.conclude.result went in
     inr (_, _, means_fed _ _ _ _ _ _ _ _ v game fed, run)) c.in_ok-feeds.ensures
 
+-- and the report in each case
+pub returns-in_err-game-clause-report : goal.returns-in_err-game-clause-report
+returns-in_err-game-clause-report g c = run_reports _ _ _ _ _ _ _ _ _ _ _ _ (returns-in_err-game-clause-known g c)
+
+pub returns-in_err-feeds-clause-report : goal.returns-in_err-feeds-clause-report
+returns-in_err-feeds-clause-report g c = run_reports _ _ _ _ _ _ _ _ _ _ _ _ (returns-in_err-feeds-clause-known g c)
+
+pub returns-in_err-answer-clause-report : goal.returns-in_err-answer-clause-report
+returns-in_err-answer-clause-report g c = run_reports _ _ _ _ _ _ _ _ _ _ _ _ (returns-in_err-answer-clause-known g c)
+
+pub returns-in_err-cut-clause-report : goal.returns-in_err-cut-clause-report
+returns-in_err-cut-clause-report g c = run_reports _ _ _ _ _ _ _ _ _ _ _ _ (returns-in_err-cut-clause-known g c)
+
+pub returns-clause-report : goal.returns-clause-report
+returns-clause-report g c = run_reports _ _ _ _ _ _ _ _ _ _ _ _ (returns-clause-known g c)
+
 pub returns-in_err-game-clause-any : goal.returns-in_err-game-clause-any
 returns-in_err-game-clause-any g c =
     let p = err_from_is_err_and c.from_residual.result c.from_residual.ensures.1 in rw p.1 (inl (Keeps-same _))
@@ -73,5 +89,8 @@ returns-in_err-cut-clause-any g c =
 
 pub returns-clause-any : goal.returns-clause-any
 returns-clause-any g c = delivered_some _ _ _ _ _
-    (plays_some _ _ _ _ _ _ _ c.in_ok-game.ensures.game c.in_ok-answer.ensures.played) c.conclude.result
+    (plays_some _ _ _ _ _ _ _ c.in_ok-answer.ensures.played) c.conclude.result
     (rw (c.deref-2.ensures.value, c.number.ensures) at c.conclude.ensures)
+
+pub play-requires-clause-game : goal.play-requires-clause-game
+play-requires-clause-game g c = λ κs lives. c.in_ok-game.ensures.game

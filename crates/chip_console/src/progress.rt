@@ -4,7 +4,7 @@
 //! out.
 
 use crate::console::Console;
-use chip_fire::{GivenUse, Search, Watch};
+use chip_fire::{GivenUse, Play, Search, Watch};
 use chip_graph::Game;
 use std::rt::Clock;
 
@@ -33,14 +33,7 @@ impl<R: Clock + Eprint> Watch for RoundProgress<'_, R> {
         }
     }
 
-    fn used(
-        &mut self,
-        _game: &Game,
-        _given: &[u64],
-        _chips: &[u64],
-        _fired: &[u64],
-        given_use: GivenUse,
-    ) {
+    fn used(&mut self, _play: &Play<'_>, _given: &[u64], given_use: GivenUse) {
         if self.console.has_progress() {
             let done = match given_use {
                 GivenUse::Certified => "certified",
@@ -62,13 +55,13 @@ impl<R: Clock + Eprint> Watch for RoundProgress<'_, R> {
         }
     }
 
-    fn rounds(&mut self, more: u64, _game: &Game, _chips: &[u64], fired: &[u64]) {
+    fn rounds(&mut self, more: u64, play: &Play<'_>) {
         self.rounds = self.rounds.saturating_add(more);
         if self.console.is_due() {
             let rounds = self.rounds;
             // At most 2^64 - 1. The firings of a game are fewer.
             let mut firings = 0u64;
-            for count in fired {
+            for count in &play.fired {
                 firings = firings.saturating_add(*count);
             }
             let _ = eprintln!(self.console.rt;

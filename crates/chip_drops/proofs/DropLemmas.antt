@@ -33,8 +33,8 @@ use Rattle.chip_sequence.proofs.BoundLemmas.{chips_are_kept, ends}
 use Rattle.chip_sequence.proofs.CertificateLemmas.{end_of_the_way, same_way, playing_on, start_on_the_way}
 use Rattle.chip_sequence.proofs.SittingLemmas.{leads_both, ends_alike, played_is_sitting}
 use Rattle.chip_sequence.proofs.AfterLemmas.{sum_small}
-use Rattle.chip_rounds.specs.Rounds.{IsBegun, IsAtRest}
-use Rattle.chip_rounds.specs.WorkList.{AreListed, HasSupport}
+use Rattle.chip_fire.specs.Rounds.{IsBegun, IsAtRest}
+use Rattle.chip_fire.specs.WorkList.{AreListed, HasSupport}
 use Rattle.chip_drops.specs.declared.avalanche.Avalanche.{Avalanche}
 use Rattle.chip_drops.specs.declared.pile.BegunDrop.{BegunDrop}
 use Rattle.chip_drops.specs.declared.pile.Pile.{Pile}
@@ -130,7 +130,7 @@ length_counts G (v ∷ vs) x ok =
     let c = counts_here v v vs refl in omega arith
 
 -- a play at rest was led there
-rest_leads : (g : ChipGame) (chips fired : List ℕ) → IsBegun g chips fired → IsAtRest g.graph g.limit chips fired
+rest_leads : (g : ChipGame) (chips fired : List ℕ) → IsBegun g chips fired → IsAtRest g chips fired
     → LeadsTo g.graph (slice_index g.start) (slice_index fired) (slice_index chips)
 rest_leads g chips fired begun rests =
     let (vs, whole) = continued g.graph (slice_index g.start) g.limit [] tt (λ v. omega arith) in
@@ -265,7 +265,7 @@ module _ (g : ChipGame) (ok : IsGame g) (o : Outcome) (played : IsPlayed g o) wh
       let way = led_way _ _ _ _ _ (played_is_sitting g o played) played.low_counts in
       record { in_range = grind arith; on_the_way = way }
 
-  pub played_rests : IsAtRest g.graph g.limit o.chips.items o.fired.items
+  pub played_rests : IsAtRest g o.chips.items o.fired.items
   played_rests v can =
       let (vs, play) = played.ends in
       let there : slice_index o.chips.items ≡ position_after g.graph (slice_index g.start) vs =

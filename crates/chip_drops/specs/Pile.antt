@@ -6,8 +6,8 @@ use Rattle.chip_graph.specs.ChipGame.{ChipGame, IsGame}
 use Rattle.chip_graph.specs.More.{HasMore}
 use Rattle.chip_sequence.specs.Firing.{IsLegal}
 use Rattle.chip_sequence.specs.Sittings.{LeadsTo}
-use Rattle.chip_rounds.specs.Rounds.{IsBegun, IsAtRest}
-use Rattle.chip_rounds.specs.WorkList.{HasSupport}
+use Rattle.chip_fire.specs.Rounds.{IsBegun, IsAtRest}
+use Rattle.chip_fire.specs.WorkList.{HasSupport}
 use Rattle.chip_drops.specs.declared.pile.BegunDrop.{BegunDrop}
 use Rattle.chip_drops.specs.declared.pile.Pile.{Pile}
 use Rattle.chip_drops.specs.declared.play.Room.{Room}
@@ -35,7 +35,7 @@ IsWorkedOff G chips fired r worked = IfSome worked (λ n. (n ≤ length r.suppor
 pub record IsPile (p : Pile) : Type 0 where
   pub game : IsGame p.game
   pub begun : IsBegun p.game p.chips.items p.fired.items
-  pub at_rest : IsAtRest p.game.graph p.game.limit p.chips.items p.fired.items
+  pub at_rest : IsAtRest p.game p.chips.items p.fired.items
   pub room : IsRoom p.game.graph.vertices p.fired.items p.room
 
 -- the play of these drops on the game, which begins at x and the counts of the room, has come to these chips and counts

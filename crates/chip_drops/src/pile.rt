@@ -5,15 +5,14 @@ ghost use Rattle.chip_graph.specs.Limits.{max_total};
 ghost use Rattle.chip_graph.specs.ChipGame.{ChipGame, IsGame};
 ghost use Rattle.chip_graph.specs.More.{HasMore};
 ghost use Rattle.chip_sequence.specs.Play.{IsPlayed};
-ghost use Rattle.chip_rounds.specs.Player.{PlaysOut};
+ghost use Rattle.chip_fire.specs.Player.{PlaysOut};
 ghost use Rattle.chip_drops.specs.Avalanches.{dropped, TellsAvalanche};
 ghost use Rattle.chip_drops.specs.Pile.{IsPile, IsStable, IsBegunDrop};
 
 use crate::avalanche::Avalanche;
 use crate::play::{Room, play_out, tally, work_from};
-use chip_fire::{Unwatched, Watch};
+use chip_fire::{Play, Unwatched, Watch};
 use chip_graph::Game;
-use chip_rounds::outcome_at_rest;
 use chip_sequence::Outcome;
 use std::alloc::{AllocError, Global};
 
@@ -106,7 +105,12 @@ impl Pile {
             fired,
             ..
         } = self;
-        outcome_at_rest(alloc, &game, chips, fired)
+        let play = Play {
+            game: &game,
+            chips,
+            fired,
+        };
+        play.outcome(alloc)
     }
 }
 
@@ -144,9 +148,13 @@ impl BegunDrop {
             arrived,
             worked,
         } = self;
-        let (chips, fired, found, stable) = play_out(
-            alloc, &game, chips, fired, worked, &mut room, watch,
-        );
+        let mut play = Play {
+            game: &game,
+            chips,
+            fired,
+        };
+        let (found, stable) = play_out(alloc, &mut play, worked, &mut room, watch);
+        let Play { chips, fired, .. } = play;
         let (size, extent) = tally(&room.support[..found], &fired, &mut room.before);
         let lost = chips[game.graph().sink() as usize].saturating_sub(arrived);
         let pile = Pile {

@@ -3,13 +3,12 @@
 ghost use Rattle.std.specs.Prelude.{◌≡◌, ◌↔◌, ℕ, ◌<◌, ◌≤◌, true, length, min, take, slice_index, IfOk};
 ghost use Rattle.chip_graph.specs.Limits.{max_limit, max_vertices};
 ghost use Rattle.chip_sequence.specs.Firing.{IsLegal};
-ghost use Rattle.chip_rounds.specs.Rounds.{IsBegun, IsAtRest};
+ghost use Rattle.chip_fire.specs.Rounds.{IsBegun, IsAtRest};
 ghost use Rattle.chip_drops.specs.Pile.{IsRoom, IsStable, IsWorkedOff, sum_between};
-ghost use Rattle.chip_rounds.specs.WorkList.{HasSupport};
+ghost use Rattle.chip_fire.specs.WorkList.{HasSupport};
 
-use chip_fire::{Watch, play_on};
+use chip_fire::{Play, Watch, is_legal, work_off};
 use chip_graph::{Game, Graph};
-use chip_rounds::{is_legal, work_off};
 use std::alloc::{AllocError, Global};
 
 /// Room for plays.
@@ -68,36 +67,35 @@ pub(crate) fn work_from(
     work_off(game, listed, before, support, list, chips, fired)
 }
 
-/// Plays on to the end within the limit, if a work list did not: the chips and counts there, how many at the front of the
-/// support are all vertices that fired, and whether no vertex is legal.
+/// Plays on to the end within the limit, if a work list did not: how many at the front of the support are all vertices
+/// that fired, and whether no vertex is legal.
 pub(crate) fn play_out<P: Watch>(
     alloc: Global,
-    game: &Game,
-    chips: Vec<u64>,
-    fired: Vec<u64>,
+    play: &mut Play<'_>,
     worked: Option<usize>,
     room: &mut Room,
     watch: &mut P,
-) -> (Vec<u64>, Vec<u64>, usize, bool)
-    requires begun { IsBegun game.now chips.items fired.items }
-    requires before_each { length room.old.before.items ≡ game.now.graph.vertices }
-    requires room { IsRoom game.now.graph.vertices room.old.before.items room.old }
-    requires worked { IsWorkedOff game.now.graph chips.items fired.items room.old worked }
-    ensures begun { IsBegun game.now result.0.items result.1.items }
-    ensures at_rest { IsAtRest game.now.graph game.now.limit result.0.items result.1.items }
-    ensures room { IsRoom game.now.graph.vertices room.old.before.items room.new }
-    ensures found { result.2 ≤ length room.new.support.items }
-    ensures support { HasSupport game.now.graph.vertices room.old.before.items result.1.items
-        (take result.2 room.new.support.items) }
-    ensures stable { (result.3 ≡ true) ↔ IsStable game.now.graph (slice_index result.0.items) }
+) -> (usize, bool)
+    requires before_each { length room.old.before.items ≡ play.old.game.graph.vertices }
+    requires room { IsRoom play.old.game.graph.vertices room.old.before.items room.old }
+    requires worked { IsWorkedOff play.old.game.graph play.old.chips play.old.fired room.old worked }
+    ensures same { play.new.game ≡ play.old.game }
+    ensures at_rest { IsAtRest play.new.game play.new.chips play.new.fired }
+    ensures room { IsRoom play.old.game.graph.vertices room.old.before.items room.new }
+    ensures found { result.0 ≤ length room.new.support.items }
+    ensures support { HasSupport play.old.game.graph.vertices room.old.before.items play.new.fired
+        (take result.0 room.new.support.items) }
+    ensures stable { (result.1 ≡ true) ↔ IsStable play.old.game.graph (slice_index play.new.chips) }
 {
     if let Some(found) = worked {
-        return (chips, fired, found, true);
+        return (found, true);
     }
-    let (chips, fired) = play_on(alloc, game, chips, fired, watch);
+    play.play_on(alloc, watch);
     list_all(&mut room.support);
-    let stable = is_stable(game.graph(), &chips);
-    (chips, fired, room.support.len(), stable)
+    (
+        room.support.len(),
+        is_stable(play.game.graph(), &play.chips),
+    )
 }
 
 /// Lists all vertices.

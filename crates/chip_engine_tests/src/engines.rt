@@ -7,8 +7,8 @@ use chip_engine::{
     simulate_engine, verify_engine,
 };
 use chip_file::{FileFault, read_graph, read_trace};
-use chip_fire::{ResumeFault, Unwatched, Watch};
-use chip_graph::{Game, GameFault, GraphFault, Limits};
+use chip_fire::{Play, ResumeFault, Unwatched, Watch};
+use chip_graph::{GameFault, GraphFault, Limits};
 use chip_link::{Ring, TraceRow};
 use chip_report::WriteFault;
 use chip_trace::write_trace;
@@ -123,9 +123,9 @@ pub(crate) struct Heard {
 }
 
 impl Watch for Heard {
-    fn rounds(&mut self, _more: u64, _game: &Game, _chips: &[u64], fired: &[u64]) {
+    fn rounds(&mut self, _more: u64, play: &Play<'_>) {
         for (vertex, times) in self.fired.iter_mut().enumerate() {
-            *times = fired.get(vertex).copied().unwrap_or(0);
+            *times = play.fired.get(vertex).copied().unwrap_or(0);
         }
     }
 }

@@ -1,1 +1,3 @@
+pub mod PlayLemmas
+pub mod WorkLemmas
 pub mod ResumeLemmas

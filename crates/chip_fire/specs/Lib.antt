@@ -5,5 +5,8 @@ pub use Rattle.chip_graph.specs.ChipGame
 pub use Rattle.chip_sequence.specs.Play
 pub use Rattle.chip_sequence.specs.Outcomes
 pub use Rattle.chip_sequence.specs.Sittings
+pub mod Rounds
+pub mod WorkList
+pub mod Player
 pub mod Given
 pub mod Search

@@ -1,35 +1,54 @@
-ghost use Rattle.std.specs.Prelude.{◌≡◌, ℕ, ◌≤◌, IfSome, length, slice_index};
-ghost use Rattle.chip_sequence.specs.Certificate.{AreForced};
-ghost use Rattle.chip_rounds.specs.Rounds.{IsBegun};
+//! The test of counts that every whole play must reach.
 
-use chip_graph::Game;
+ghost use Rattle.std.specs.Prelude.{◌≡◌, ◌≢◌, ℕ, ◌+◌, ◌<◌, ◌≤◌, ◌↔◌, nat_le, if◌then◌else◌, length, slice_index};
+ghost use Rattle.std.specs.Prelude.{IsTrue};
+ghost use Rattle.chip_graph.specs.Multigraph.{degree};
+ghost use Rattle.chip_graph.specs.ChipGame.{IsGame};
+ghost use Rattle.chip_sequence.specs.Counted.{IsAfter};
+ghost use Rattle.chip_sequence.specs.Certificate.{AreForced, IsCertified, AreBurnt, in_degree, late_in_degree};
+ghost use Rattle.chip_fire.specs.Rounds.{IsBegun};
+
+use crate::play::Play;
+use chip_graph::{Game, Graph};
 use chip_guess::burning_order;
-use chip_rounds::are_certified;
 use chip_sequence::after;
 use std::alloc::Global;
 
-/// A guess, or the counts to which a play has come if these are more, and their position, if a test shows that every
-/// play within the limit that has ended fires each vertex at least so often: a play may begin there. `None` also where
-/// memory runs out.
-pub(crate) fn certify(
-    alloc: Global,
-    game: &Game,
-    guess: &[u64],
-    fired: &[u64],
-) -> Option<(Vec<u64>, Vec<u64>)>
-    requires fired_each { length fired.now ≡ game.now.graph.vertices }
-    requires within { (v : ℕ) → slice_index fired.now v ≤ game.now.limit }
-    requires forced { AreForced game.now.graph (slice_index game.now.start) game.now.limit (slice_index fired.now) }
-    ensures { IfSome result (λ begun. IsBegun game.now begun.0.items begun.1.items) }
-{
-    let mut counts = Vec::from_slice(alloc, fired).ok()?;
-    raise(&mut counts, guess);
-    let chips = after(alloc, game, &counts).ok()?;
-    let order = burning_order(alloc, game.graph(), fired, &counts, &chips).ok()?;
-    if are_certified(game, fired, &counts, &order, &chips) {
-        Some((chips, counts))
-    } else {
-        None
+impl Play<'_> {
+    /// Goes on at a guess, or at the counts so far where these are more, if a test shows that every play within the limit
+    /// that has ended fires each vertex at least so often. `None` if it does not, or if memory runs out: the play is as
+    /// it was.
+    pub(crate) fn raise_to(&mut self, alloc: Global, guess: &[u64]) -> Option<()>
+        ensures { self.new.game ≡ self.old.game }
+    {
+        let mut counts = Vec::from_slice(alloc, &self.fired).ok()?;
+        raise(&mut counts, guess);
+        let chips = after(alloc, self.game, &counts).ok()?;
+        let graph = self.game.graph();
+        let order = burning_order(alloc, graph, &self.fired, &counts, &chips).ok()?;
+        if !self.are_certified(&counts, &order, &chips) {
+            return None;
+        }
+        self.chips = chips;
+        self.fired = counts;
+        Some(())
+    }
+
+    /// Whether counts pass a test, by the chips that they leave. One is passed where each vertex that fires more often
+    /// by them than it has fired lacks at most one chip then to fire once more; the other is the burning test, by these
+    /// ranks, and finds more where no vertex has a greater in-degree than out-degree.
+    fn are_certified(&self, counts: &[u64], order: &[u64], chips: &[u64]) -> bool
+        requires counts_each { length counts.now ≡ self.now.game.graph.vertices }
+        requires order_each { length order.now ≡ self.now.game.graph.vertices }
+        requires after { IsAfter self.now.game counts.now chips.now }
+        ensures begun { IsTrue result → IsBegun self.now.game chips.now counts.now }
+        ensures earned { IsCertified self.now.game.graph (slice_index self.now.game.start) self.now.game.limit
+            (slice_index self.now.fired) (slice_index counts.now) → IsTrue result }
+        ensures burnt { AreBurnt self.now.game.graph (slice_index self.now.game.start) self.now.game.limit
+            (slice_index self.now.fired) (slice_index counts.now) (slice_index order.now) → IsTrue result }
+    {
+        are_earned(self.game, &self.fired, counts, chips)
+            || are_burnt(self.game, &self.fired, counts, order, chips)
     }
 }
 
@@ -38,4 +57,102 @@ fn raise(numbers: &mut [u64], others: &[u64]) {
     for (number, other) in numbers.iter_mut().zip(others) {
         *number = (*number).max(*other);
     }
+}
+
+/// Whether each vertex that fires more often by the counts than it has fired lacks at most one chip
+/// then, by the chips that the counts leave.
+fn are_earned(game: &Game, fired: &[u64], counts: &[u64], chips: &[u64]) -> bool
+    requires fired_each { length fired.now ≡ game.now.graph.vertices }
+    requires counts_each { length counts.now ≡ game.now.graph.vertices }
+    requires after { IsAfter game.now counts.now chips.now }
+    ensures game { IsGame game.now }
+    ensures earned { IsTrue result
+        ↔ IsCertified game.now.graph (slice_index game.now.start) game.now.limit (slice_index fired.now)
+        (slice_index counts.now) }
+{
+    for vertex in 0..game.graph().vertices() {
+        let v = vertex as usize;
+        if counts[v] > fired[v] && !is_earned(game, vertex, counts[v], chips[v]) {
+            return false;
+        }
+    }
+    true
+}
+
+/// Whether this vertex may have fired so often, where it has these chips left.
+fn is_earned(game: &Game, vertex: u64, times: u64, left: u64) -> bool
+    requires { vertex < game.now.graph.vertices }
+    ensures game { IsGame game.now }
+    ensures earned { IsTrue result
+        ↔ ((vertex ≢ game.now.graph.sink) × (times ≤ game.now.limit) × (degree game.now.graph vertex ≤ left + 1)) }
+{
+    let graph = game.graph();
+    let missing = graph.out_degree(vertex).saturating_sub(left);
+    vertex != graph.sink() && times <= game.limit() && missing <= 1
+}
+
+/// Whether each vertex that fires more often by the counts than it has fired burns in the order of these
+/// ranks, by the chips that the counts leave.
+fn are_burnt(game: &Game, fired: &[u64], counts: &[u64], order: &[u64], chips: &[u64]) -> bool
+    requires fired_each { length fired.now ≡ game.now.graph.vertices }
+    requires counts_each { length counts.now ≡ game.now.graph.vertices }
+    requires order_each { length order.now ≡ game.now.graph.vertices }
+    requires after { IsAfter game.now counts.now chips.now }
+    ensures game { IsGame game.now }
+    ensures burnt { IsTrue result
+        ↔ AreBurnt game.now.graph (slice_index game.now.start) game.now.limit (slice_index fired.now)
+        (slice_index counts.now) (slice_index order.now) }
+{
+    for vertex in 0..game.graph().vertices() {
+        let v = vertex as usize;
+        if counts[v] > fired[v] && !is_burnt(game, order, vertex, counts[v], chips[v]) {
+            return false;
+        }
+    }
+    true
+}
+
+/// Whether this vertex may have fired so often and burns, where it has these chips left.
+fn is_burnt(game: &Game, order: &[u64], vertex: u64, times: u64, left: u64) -> bool
+    requires is_vertex { vertex < game.now.graph.vertices }
+    requires order_each { length order.now ≡ game.now.graph.vertices }
+    ensures game { IsGame game.now }
+    ensures burnt { IsTrue result
+        ↔ ((vertex ≢ game.now.graph.sink) × (times ≤ game.now.limit)
+        × (in_degree game.now.graph vertex ≤ degree game.now.graph vertex)
+        × (late_in_degree game.now.graph (slice_index order.now) vertex ≤ left)) }
+{
+    let graph = game.graph();
+    let (all, late) = in_degrees(graph, order, vertex);
+    vertex != graph.sink()
+        && times <= game.limit()
+        && all <= graph.out_degree(vertex)
+        && late <= left
+}
+
+/// What comes into a vertex where each tail fires once: in all, and from the tails that burn no sooner.
+fn in_degrees(graph: &Graph, order: &[u64], vertex: u64) -> (u64, u64)
+    requires is_vertex { vertex < graph.now.vertices }
+    requires order_each { length order.now ≡ graph.now.vertices }
+    ensures all { result.0 ≡ in_degree graph.now vertex }
+    ensures late { result.1 ≡ late_in_degree graph.now (slice_index order.now) vertex }
+{
+    let edges = graph.edges();
+    let own = order[vertex as usize];
+    let mut all = 0u64;
+    let mut late = 0u64;
+    for e in graph.ins(vertex) {
+        let edge = edges[*e as usize];
+        all += edge.mult;
+        late += if_late(own, order[edge.tail as usize], edge.mult);
+    }
+    (all, late)
+}
+
+/// What an edge brings, if its tail burns no sooner.
+#[inline]
+fn if_late(own: u64, tail: u64, mult: u64) -> u64
+    ensures { result ≡ (if nat_le own tail then mult else 0) }
+{
+    if own <= tail { mult } else { 0 }
 }

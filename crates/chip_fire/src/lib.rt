@@ -1,19 +1,24 @@
-//! The plain player of chip-firing games, and going on with a play that was stopped.
+//! The plain player of chip-firing games, its steps, and going on with a play that was stopped.
 #![tactic(auto)]
 
 pub use chip_guess::Search;
 pub use chip_sequence::{
     AfterFault, NotLegal, Outcome, ResumeFault, Resumed, after, after_into, enough, fire,
 };
-pub use player::{plain, plain_given, plain_watched, play_on};
+pub use play::Play;
+pub use player::{plain, plain_given, plain_watched};
+pub use rounds::make_rounds;
 pub use sitting::{resume, resume_watched};
 pub use watch::{GivenUse, Unwatched, Watch};
+pub use work_list::{is_legal, work_off};
 
+mod advance;
 mod certificate;
 mod given;
+mod play;
 pub mod player;
 mod rounds;
 pub mod sitting;
 mod soon;
-mod start;
 pub mod watch;
+mod work_list;

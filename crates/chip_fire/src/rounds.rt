@@ -1,62 +1,182 @@
-//! Rounds, of which a watcher is told.
+//! Rounds, in which each vertex has its turn, and of which a watcher is told.
 
-ghost use Rattle.std.specs.Prelude.{◌≤◌};
-ghost use Rattle.chip_rounds.specs.Rounds.{IsBegun, GoesRound};
+ghost use Rattle.std.specs.Prelude.{◌≡◌, ◌+◌, ◌*◌, ◌/◌, ◌<◌, ◌≤◌, slice_index};
+ghost use Rattle.std.specs.Bool.{OnTrue, OnFalse};
+ghost use Rattle.chip_sequence.specs.Firing.{IsLegal};
+ghost use Rattle.chip_fire.specs.Rounds.{IsBegun, IsInRange, IsAtRest, StaysOnTheWay, GoesRound, firings_left, IsSwept};
 
+use crate::play::Play;
 use crate::watch::Watch;
-use chip_graph::Game;
+use chip_graph::{Game, Graph};
 use chip_guess::tuning::STRETCH;
-use chip_rounds::make_rounds;
+use chip_sequence::fire_batch;
 
-/// Makes rounds until none fires a vertex or so many looks are made; whether none fires one. The looks are added to
-/// `looks`, up to 2^64 - 1.
-pub(crate) fn ends_within<W: Watch>(
-    game: &Game,
-    most: u64,
-    looks: &mut u64,
-    chips: &mut [u64],
-    fired: &mut [u64],
-    watch: &mut W,
-) -> bool
-    requires { IsBegun game.now chips.old fired.old }
-    ensures begun { IsBegun game.now chips.new fired.new }
-    ensures more { looks.old ≤ looks.new }
-{
-    let end = looks.saturating_add(most);
-    'stretches: while *looks < end {
-        let part = (end - *looks).min(STRETCH);
-        if !rounds(game, part, looks, chips, fired, watch) {
-            return true;
+impl Play<'_> {
+    /// Makes rounds until none fires a vertex or so many looks are made; whether none fires one. The looks are added to
+    /// `looks`, up to 2^64 - 1.
+    pub(crate) fn ends_within<W: Watch>(
+        &mut self,
+        most: u64,
+        looks: &mut u64,
+        watch: &mut W,
+    ) -> bool
+        ensures same { self.new.game ≡ self.old.game }
+        ensures more { looks.old ≤ looks.new }
+    {
+        let end = looks.saturating_add(most);
+        'stretches: while *looks < end {
+            let part = (end - *looks).min(STRETCH);
+            if !self.rounds(part, looks, watch) {
+                return true;
+            }
         }
+        false
     }
-    false
+
+    /// Makes rounds until none fires a vertex or so many looks are made, one round at least, and tells how far the play
+    /// has come; whether each fired a vertex. The looks are added to `looks`, up to 2^64 - 1: one at each vertex in each
+    /// round, and for each vertex that fires as many as vertices have edges out in the mean.
+    #[inline(always)]
+    pub(crate) fn rounds<W: Watch>(&mut self, most: u64, looks: &mut u64, watch: &mut W) -> bool
+        ensures same { self.new.game ≡ self.old.game }
+        ensures round { GoesRound self.old.game self.old.fired self.new.chips self.new.fired result }
+        ensures more { looks.old ≤ looks.new }
+    {
+        let graph = self.game.graph();
+        let vertices = graph.vertices().max(1);
+        let edges = graph.edges().len() as u64;
+        let most = (most / (vertices + edges)).saturating_add(1);
+        let mut turns = 0u64;
+        let made = make_rounds(
+            self.game,
+            most,
+            &mut self.chips,
+            &mut self.fired,
+            &mut turns,
+        );
+        watch.rounds(made, self);
+        let at_vertices = made.saturating_add(1).min(most).saturating_mul(vertices);
+        let at_edges = turns.saturating_mul(edges) / vertices;
+        *looks = looks.saturating_add(at_vertices).saturating_add(at_edges);
+        made == most
+    }
 }
 
-/// Makes rounds until none fires a vertex or so many looks are made, one round at least, and tells how far the play has
-/// come; whether each fired a vertex. The looks are added to `looks`, up to 2^64 - 1: one at each vertex in each round,
-/// and for each vertex that fires as many as vertices have edges out in the mean.
+/// Makes so many rounds, or until none fires a vertex; in how many one did. How many did in all is added to `turns`, up
+/// to 2^64 - 1.
+// A round is so short that a play takes a seventh longer where this is a call.
 #[inline(always)]
-pub(crate) fn rounds<W: Watch>(
+pub fn make_rounds(
     game: &Game,
     most: u64,
-    looks: &mut u64,
     chips: &mut [u64],
     fired: &mut [u64],
-    watch: &mut W,
-) -> bool
+    turns: &mut u64,
+) -> u64
+    requires begun { IsBegun game.now chips.old fired.old }
+    requires some { 0 < most }
+    ensures begun { IsBegun game.now chips.new fired.new }
+    ensures at_most { result ≤ most }
+    ensures some_fired { result ≡ most
+        → firings_left game.now.graph game.now.limit fired.new < firings_left game.now.graph game.now.limit fired.old }
+    ensures none_fired { result < most → IsAtRest game.now chips.new fired.new }
+{
+    for made in 0..most {
+        if !round(game, chips, fired, turns) {
+            return made;
+        }
+    }
+    most
+}
+
+/// Lets each vertex fire as often as it may, first those with even numbers and then those with odd
+/// ones; whether any did. How many did is added to `turns`, up to 2^64 - 1.
+///
+/// Neighbours on paths and grids differ by an odd number, so a sweep over every second vertex seldom
+/// reads what it has just written: in ascending order a path takes nearly twice as long.
+fn round(game: &Game, chips: &mut [u64], fired: &mut [u64], turns: &mut u64) -> bool
     requires { IsBegun game.now chips.old fired.old }
-    ensures round { GoesRound game.now fired.old chips.new fired.new result }
-    ensures more { looks.old ≤ looks.new }
+    ensures { GoesRound game.now fired.old chips.new fired.new result }
 {
     let graph = game.graph();
-    let vertices = graph.vertices().max(1);
-    let edges = graph.edges().len() as u64;
-    let most = (most / (vertices + edges)).saturating_add(1);
-    let mut turns = 0u64;
-    let made = make_rounds(game, most, chips, fired, &mut turns);
-    watch.rounds(made, game, chips, fired);
-    let at_vertices = made.saturating_add(1).min(most).saturating_mul(vertices);
-    let at_edges = turns.saturating_mul(edges) / vertices;
-    *looks = looks.saturating_add(at_vertices).saturating_add(at_edges);
-    made == most
+    let limit = game.limit();
+    let even = sweep(graph, limit, 0, chips, fired, turns);
+    let odd = sweep(graph, limit, 1, chips, fired, turns);
+    even || odd
+}
+
+/// Lets every second vertex from the first one on fire as often as it may; whether any did.
+fn sweep(
+    graph: &Graph,
+    limit: u64,
+    first: u64,
+    chips: &mut [u64],
+    fired: &mut [u64],
+    turns: &mut u64,
+) -> bool
+    requires in_range { IsInRange graph.now limit chips.old fired.old }
+    requires first_or_second { first ≤ 1 }
+    ensures { IsSwept graph.now limit first chips.old fired.old chips.new fired.new result graph.now.vertices }
+{
+    let sink = graph.sink();
+    let mut any = false;
+    let mut count = 0u64;
+    for step in 0..(graph.vertices() + 1 - first) / 2 {
+        let vertex = first + 2 * step;
+        if vertex != sink && turn(graph, limit, vertex, chips, fired) {
+            any = true;
+            count = count.wrapping_add(1);
+        }
+    }
+    *turns = turns.saturating_add(count);
+    any
+}
+
+/// Lets a vertex fire as often in a row as its chips and the limit allow; whether it did.
+#[inline]
+fn turn(graph: &Graph, limit: u64, vertex: u64, chips: &mut [u64], fired: &mut [u64]) -> bool
+    requires is_vertex { vertex < graph.now.vertices }
+    requires not_sink { vertex ≡ graph.now.sink → ⊥ }
+    requires in_range { IsInRange graph.now limit chips.old fired.old }
+    ensures in_range { IsInRange graph.now limit chips.new fired.new }
+    ensures stays { StaysOnTheWay graph.now limit chips.old fired.old chips.new fired.new }
+    ensures fires { OnTrue result (firings_left graph.now limit fired.new < firings_left graph.now limit fired.old) }
+    ensures rests { OnFalse result ((chips.new ≡ chips.old) × (fired.new ≡ fired.old)
+        × (IsLegal graph.now (slice_index chips.old) vertex → slice_index fired.old vertex ≡ limit)) }
+{
+    let v = vertex as usize;
+    let degree = graph.out_degree(vertex);
+    let has = chips[v];
+    // (most vertices are left here: their counts are not read)
+    if has < degree {
+        return false;
+    }
+    let left = limit - fired[v];
+    if left == 0 {
+        return false;
+    }
+    let k = times_in(has, degree).min(left);
+    fired[v] += k;
+    fire_batch(chips, graph, vertex, k);
+    true
+}
+
+/// The quotient of numbers of which the first is not the smaller one, without the slow division
+/// where it can be: mostly the quotient is 1, and nearly always both numbers fit 32 bits.
+#[tactic(auto, using(crate::proofs::PlayLemmas::within_quotient, chip_sequence::proofs::BatchLemmas::above_quotient))]
+#[inline]
+pub(crate) fn times_in(chips: u64, degree: u64) -> u64
+    requires some { 0 < degree }
+    requires enough { degree ≤ chips }
+    ensures value { result ≡ chips / degree }
+    ensures enough { result * degree ≤ chips }
+    ensures no_more { chips < (result + 1) * degree }
+{
+    if chips - degree < degree {
+        1
+    } else if chips <= u64::from(u32::MAX) {
+        u64::from(chips as u32 / degree as u32)
+    } else {
+        chips / degree
+    }
 }

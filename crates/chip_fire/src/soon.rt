@@ -1,11 +1,11 @@
-ghost use Rattle.std.specs.Prelude.{◌≡◌, ◌+◌, ◌≤◌, length, slice_index};
-ghost use Rattle.chip_rounds.specs.Rounds.{IsBegun, IsInRange};
+//! The way to an end that may be near.
 
-use crate::rounds::ends_within;
+ghost use Rattle.std.specs.Prelude.{◌≡◌, ◌+◌, ◌≤◌, length};
+
+use crate::play::Play;
 use crate::watch::Watch;
-use chip_graph::{Game, Graph};
+use chip_graph::Graph;
 use chip_guess::tuning::{FEW_LOOKS, FIRST_LOOKS};
-use chip_rounds::work_off_all;
 use std::alloc::Global;
 
 /// For how many vertices one chip waits where few do.
@@ -15,64 +15,63 @@ const VERTICES_PER_CHIP: u64 = 64;
 /// such plays (full-1000, and some hundreds of chips on a full grid of 300 by 300).
 const LOOKS_OF_FEW: u64 = 1024;
 
-/// Goes on by a work list where few chips wait to move, and by rounds where these have set off many: the chips and counts
-/// to which it comes.
-pub(crate) fn play_few<W: Watch>(
-    alloc: Global,
-    game: &Game,
-    mut chips: Vec<u64>,
-    mut fired: Vec<u64>,
-    watch: &mut W,
-) -> (Vec<u64>, Vec<u64>)
-    requires { IsBegun game.now chips.items fired.items }
-    ensures { IsBegun game.now result.0.items result.1.items }
-{
-    let (graph, limit) = (game.graph(), game.limit());
-    let few = graph.vertices() / VERTICES_PER_CHIP;
-    let waits = waiting_chips(graph, limit, &chips, &fired);
-    if waits == 0 || waits > few {
-        return (chips, fired);
+impl Play<'_> {
+    /// Goes on by a work list where few chips wait to move, and by rounds where these have set off many.
+    pub(crate) fn play_few<W: Watch>(&mut self, alloc: Global, watch: &mut W)
+        ensures { self.new.game ≡ self.old.game }
+    {
+        let few = self.game.graph().vertices() / VERTICES_PER_CHIP;
+        let waits = self.waiting_chips();
+        if waits == 0 || waits > few {
+            return;
+        }
+        let _ = self.work_off_all(alloc);
+        let most = if self.waiting_chips() > few {
+            looks_at_all(self.game.graph()).saturating_mul(LOOKS_OF_FEW)
+        } else {
+            0
+        };
+        self.ends_within(most, &mut 0, watch);
     }
-    let _ = work_off_all(alloc, game, &mut chips, &mut fired);
-    let most = if waiting_chips(graph, limit, &chips, &fired) > few {
-        looks_at_all(graph).saturating_mul(LOOKS_OF_FEW)
-    } else {
-        0
-    };
-    ends_within(game, most, &mut 0, &mut chips, &mut fired, watch);
-    (chips, fired)
-}
 
-/// Plays for as long as this takes it soon to an end: each time with twice the work, while that halves
-/// the chips that wait to move or the limit leaves little to do. Whether the play has ended. The looks are added to
-/// `looks`, which are none before.
-pub(crate) fn ends_soon<W: Watch>(
-    game: &Game,
-    looks: &mut u64,
-    chips: &mut [u64],
-    fired: &mut [u64],
-    watch: &mut W,
-) -> bool
-    requires { IsBegun game.now chips.old fired.old }
-    ensures { IsBegun game.now chips.new fired.new }
-{
-    let graph = game.graph();
-    let limit = game.limit();
-    let few = looks_at_all(graph).saturating_mul(FEW_LOOKS);
-    let mut work = looks_at_all(graph).saturating_mul(FIRST_LOOKS);
-    let mut waited = u64::MAX;
-    'doublings: for _ in 0..u64::MAX {
-        let waits = waiting_chips(graph, limit, chips, fired);
-        if waits > waited / 2 && !leaves_little(limit, fired, *looks, few) {
-            return false;
+    /// Plays for as long as this takes it soon to an end: each time with twice the work, while that halves the chips that
+    /// wait to move or the limit leaves little to do. Whether the play has ended. The looks are added to `looks`, which
+    /// are none before.
+    pub(crate) fn ends_soon<W: Watch>(&mut self, looks: &mut u64, watch: &mut W) -> bool
+        ensures { self.new.game ≡ self.old.game }
+    {
+        let all = looks_at_all(self.game.graph());
+        let few = all.saturating_mul(FEW_LOOKS);
+        let mut work = all.saturating_mul(FIRST_LOOKS);
+        let mut waited = u64::MAX;
+        'doublings: for _ in 0..u64::MAX {
+            let waits = self.waiting_chips();
+            if waits > waited / 2 && !leaves_little(self.game.limit(), &self.fired, *looks, few) {
+                return false;
+            }
+            waited = waits;
+            if self.ends_within(work, looks, watch) {
+                return true;
+            }
+            work = work.saturating_mul(2);
         }
-        waited = waits;
-        if ends_within(game, work, looks, chips, fired, watch) {
-            return true;
-        }
-        work = work.saturating_mul(2);
+        false
     }
-    false
+
+    /// The chips that legal vertices have above what they may keep, up to 2^64 - 1.
+    fn waiting_chips(&self) -> u64 {
+        let (graph, limit) = (self.game.graph(), self.game.limit());
+        let mut waits = 0u64;
+        for vertex in 0..graph.vertices() {
+            let v = vertex as usize;
+            let degree = graph.out_degree(vertex);
+            let has = self.chips[v];
+            if vertex != graph.sink() && has >= degree && self.fired[v] < limit {
+                waits = waits.saturating_add(has.saturating_sub(degree).saturating_add(1));
+            }
+        }
+        waits
+    }
 }
 
 /// The work of looking at each vertex and each edge out once.
@@ -92,19 +91,4 @@ fn leaves_little(limit: u64, fired: &[u64], done: u64, few: u64) -> bool {
     let mean = firings / (fired.len() as u64).max(1);
     let product = |a: u64, b: u64| u128::from(a).wrapping_mul(u128::from(b));
     product(done, limit) <= product(few, mean)
-}
-
-/// The chips that legal vertices have above what they may keep, up to 2^64 - 1.
-pub(crate) fn waiting_chips(graph: &Graph, limit: u64, chips: &[u64], fired: &[u64]) -> u64
-    requires { IsInRange graph.now limit chips.now fired.now }
-{
-    let mut waits = 0u64;
-    for vertex in 0..graph.vertices() {
-        let v = vertex as usize;
-        let degree = graph.out_degree(vertex);
-        if vertex != graph.sink() && chips[v] >= degree && fired[v] < limit {
-            waits = waits.saturating_add(chips[v].saturating_sub(degree).saturating_add(1));
-        }
-    }
-    waits
 }

@@ -2,8 +2,8 @@
 
 ghost use Rattle.chip_fire.specs.Given.{IsUse};
 ghost use Rattle.chip_fire.specs.Search.{IsShort};
-ghost use Rattle.chip_rounds.specs.Rounds.{IsBegun};
 
+use crate::play::Play;
 use chip_graph::Game;
 use chip_guess::Search;
 
@@ -25,10 +25,9 @@ pub trait Watch {
     /// Told once the game is read, before it is played.
     fn plays(&mut self, _game: &Game) {}
 
-    /// Told once what became of counts that were given, with the chips and counts at which the play begins.
-    fn used(&mut self, _game: &Game, _given: &[u64], _chips: &[u64], _fired: &[u64], _use: GivenUse)
-        requires begun { IsBegun _game.now _chips.now _fired.now }
-        requires used { IsUse _game.now _given.now _chips.now _fired.now _use }
+    /// Told once what became of counts that were given, with the play as it begins.
+    fn used(&mut self, _play: &Play<'_>, _given: &[u64], _use: GivenUse)
+        requires { IsUse _play.now.game _given.now _play.now.chips _play.now.fired _use }
     {}
 
     /// Told of a search for counts, in which no vertex fires, while it goes on.
@@ -40,13 +39,11 @@ pub trait Watch {
         requires { IsShort _game.now _played _searched }
     {}
 
-    /// Told after so many more rounds, in each of which some vertex fired, the chips that each vertex has then and how
-    /// often it has fired.
+    /// Told after so many more rounds, in each of which some vertex fired, what the play has come to.
     ///
     /// Where counts were found and certified, the play went on from these, and they are among the firings. In any
     /// case every whole play of the game fires each vertex at least so often.
-    fn rounds(&mut self, more: u64, game: &Game, chips: &[u64], fired: &[u64])
-        requires { IsBegun game.now chips.now fired.now };
+    fn rounds(&mut self, more: u64, play: &Play<'_>);
 
     /// Told that a report of so many bytes is written next.
     fn writes(&mut self, _bytes: u64) {}
@@ -57,5 +54,5 @@ pub trait Watch {
 pub struct Unwatched;
 
 impl Watch for Unwatched {
-    fn rounds(&mut self, _more: u64, _game: &Game, _chips: &[u64], _fired: &[u64]) {}
+    fn rounds(&mut self, _more: u64, _play: &Play<'_>) {}
 }

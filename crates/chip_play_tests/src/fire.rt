@@ -1,14 +1,14 @@
 //! Games worked out by hand, and each call once. What holds for all inputs stands in the contracts.
 
-ghost use Rattle.std.specs.Prelude.{◌≡◌, ◌≤◌, IfOk, length, take};
-ghost use Rattle.chip_rounds.specs.Rounds.{IsBegun};
-ghost use Rattle.chip_rounds.specs.WorkList.{AreListed};
+ghost use Rattle.std.specs.Prelude.{◌≡◌, ◌≤◌, length, take};
+ghost use Rattle.chip_fire.specs.WorkList.{AreListed};
 ghost use Rattle.chip_sequence.specs.Sittings.{IsResumed};
 
 use crate::games::{Rows, TRIANGLE, game_of, graph_of, triangle};
-use chip_fire::{ResumeFault, Search, Watch, plain, plain_watched, resume};
+use chip_fire::{
+    Play, ResumeFault, Search, Watch, is_legal, plain, plain_watched, resume, work_off,
+};
 use chip_graph::{Game, Graph};
-use chip_rounds::{is_legal, work_off};
 use chip_sequence::{Outcome, Resumed};
 use std::alloc::{AllocError, Global};
 use std::process::Abort;
@@ -56,15 +56,6 @@ fn list_legal(graph: &Graph, chips: &[u64], list: &mut [u64]) -> usize
     listed
 }
 
-/// The chips and counts with which a play begins.
-pub(crate) fn start(alloc: Global, game: &Game) -> Result<(Vec<u64>, Vec<u64>), AllocError>
-    ensures { IfOk result (λ begun. IsBegun game.now begun.0.items begun.1.items) }
-{
-    let chips = Vec::from_slice(alloc, game.start())?;
-    let fired = vec![in alloc; 0; game.graph().vertices() as usize]?;
-    Ok((chips, fired))
-}
-
 /// Plays a game by a work list with room for all: the counts, the chips and the vertices that fired, if it does not give
 /// up.
 fn play_all(
@@ -72,25 +63,26 @@ fn play_all(
     game: &Game,
 ) -> Result<Option<(Vec<u64>, Vec<u64>, Vec<u64>)>, AllocError> {
     let vertices = game.graph().vertices() as usize;
-    let (mut chips, mut fired) = start(alloc, game)?;
-    let before = Vec::from_slice(alloc, &fired)?;
+    let mut play = Play::new(alloc, game)?;
+    let before = Vec::from_slice(alloc, &play.fired)?;
     let mut support = vec![in alloc; 0; vertices]?;
     let mut list = vec![in alloc; 0; 2 * vertices]?;
-    let listed = list_legal(game.graph(), &chips, &mut list);
+    let listed = list_legal(play.game.graph(), &play.chips, &mut list);
     let found = work_off(
-        game,
+        play.game,
         listed,
         &before,
         &mut support,
         &mut list,
-        &mut chips,
-        &mut fired,
+        &mut play.chips,
+        &mut play.fired,
     );
     let Some(found) = found else {
         return Ok(None);
     };
     support.truncate(found);
     support.sort_unstable();
+    let Play { chips, fired, .. } = play;
     Ok(Some((fired, chips, support)))
 }
 
@@ -436,10 +428,10 @@ impl Watch for Told {
         self.most_to_move = self.most_to_move.max(chips);
     }
 
-    fn rounds(&mut self, more: u64, _game: &Game, _chips: &[u64], fired: &[u64]) {
+    fn rounds(&mut self, more: u64, play: &Play<'_>) {
         self.times = self.times.saturating_add(1);
         self.rounds = self.rounds.saturating_add(more);
-        self.firings = all_firings(fired);
+        self.firings = all_firings(&play.fired);
     }
 
     fn searched(&mut self, game: &Game, played: u64, searched: u64) {

@@ -2,7 +2,7 @@
 
 use crate::fire::{is_same, long_game, long_path_ends};
 use crate::games::{Rows, TRIANGLE, game_of};
-use chip_fire::{GivenUse, Watch, plain, plain_given};
+use chip_fire::{GivenUse, Play, Watch, plain, plain_given};
 use chip_graph::Game;
 use chip_sequence::Outcome;
 use std::process::Abort;
@@ -14,18 +14,11 @@ struct Used {
 }
 
 impl Watch for Used {
-    fn used(
-        &mut self,
-        _game: &Game,
-        _given: &[u64],
-        _chips: &[u64],
-        _fired: &[u64],
-        given_use: GivenUse,
-    ) {
+    fn used(&mut self, _play: &Play<'_>, _given: &[u64], given_use: GivenUse) {
         self.last = Some(given_use);
     }
 
-    fn rounds(&mut self, _more: u64, _game: &Game, _chips: &[u64], _fired: &[u64]) {}
+    fn rounds(&mut self, _more: u64, _play: &Play<'_>) {}
 }
 
 /// Plays a game from given counts, and compares the outcome with that of `plain`, and what became of the counts.

@@ -1,5 +1,4 @@
-//! Games, sequences and plays worked out by hand: what no contract says of `chip_graph`, `chip_sequence`, `chip_rounds`
-//! and `chip_fire`.
+//! Games, sequences and plays worked out by hand: what no contract says of `chip_graph`, `chip_sequence` and `chip_fire`.
 #![tactic(auto)]
 
 #[cfg(test)]

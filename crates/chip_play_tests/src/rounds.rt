@@ -1,19 +1,20 @@
-//! The steps of a play, each by itself: what no contract says of `chip_rounds`.
+//! The steps of a play, each by itself: what no contract says of `chip_fire`.
 
-use crate::fire::{END, one_more, start};
+use crate::fire::{END, one_more};
 use crate::games::{TRIANGLE, game_of};
-use chip_rounds::{make_rounds, outcome_at_rest, work_off_all};
+use chip_fire::{Play, make_rounds};
 
 /// Of 5 chips vertex 0 of the triangle fires twice in the first round, and vertex 1 what it got of them.
 #[test]
 fn one_round(rt: HostRuntime) {
     let game = game_of(&rt, TRIANGLE, &[5, 0, 0], 1 << 40);
-    let (mut chips, mut fired) = start(rt.alloc(), &game).expect(&rt, "memory");
+    let mut play = Play::new(rt.alloc(), &game).expect(&rt, "memory");
     let mut turns = 0;
-    let made = make_rounds(&game, 1, &mut chips, &mut fired, &mut turns);
+    let made = make_rounds(play.game, 1, &mut play.chips, &mut play.fired, &mut turns);
     assert!(rt; made == 1 && turns == 2);
     assert!(rt;
-        chips.as_slice() == [2, 0, 3].as_slice() && fired.as_slice() == [2, 1, 0].as_slice()
+        play.chips.as_slice() == [2, 0, 3].as_slice()
+            && play.fired.as_slice() == [2, 1, 0].as_slice()
     );
 }
 
@@ -21,12 +22,12 @@ fn one_round(rt: HostRuntime) {
 #[test]
 fn rounds_until_none_fires(rt: HostRuntime) {
     let game = game_of(&rt, TRIANGLE, &[5, 0, 0], 1 << 40);
-    let (mut chips, mut fired) = start(rt.alloc(), &game).expect(&rt, "memory");
+    let mut play = Play::new(rt.alloc(), &game).expect(&rt, "memory");
     let mut turns = 0;
-    let made = make_rounds(&game, 8, &mut chips, &mut fired, &mut turns);
+    let made = make_rounds(play.game, 8, &mut play.chips, &mut play.fired, &mut turns);
     assert!(rt; made == 2 && turns == 3);
     if made < 8 {
-        let outcome = outcome_at_rest(rt.alloc(), &game, chips, fired).expect(&rt, "memory");
+        let outcome = play.outcome(rt.alloc()).expect(&rt, "memory");
         assert!(rt;
             outcome.chips.as_slice() == [0, 1, 4].as_slice()
                 && outcome.fired.as_slice() == [3, 1, 0].as_slice()
@@ -39,12 +40,12 @@ fn rounds_until_none_fires(rt: HostRuntime) {
 #[test]
 fn rounds_up_to_the_limit(rt: HostRuntime) {
     let game = game_of(&rt, TRIANGLE, &[5, 0, 0], 2);
-    let (mut chips, mut fired) = start(rt.alloc(), &game).expect(&rt, "memory");
+    let mut play = Play::new(rt.alloc(), &game).expect(&rt, "memory");
     let mut turns = u64::MAX - 1;
-    let made = make_rounds(&game, 2, &mut chips, &mut fired, &mut turns);
+    let made = make_rounds(play.game, 2, &mut play.chips, &mut play.fired, &mut turns);
     assert!(rt; made == 1 && turns == u64::MAX);
     if made < 2 {
-        let outcome = outcome_at_rest(rt.alloc(), &game, chips, fired).expect(&rt, "memory");
+        let outcome = play.outcome(rt.alloc()).expect(&rt, "memory");
         assert!(rt;
             outcome.over.as_slice() == [0].as_slice()
                 && outcome.fired.as_slice() == [2, 1, 0].as_slice()
@@ -57,13 +58,19 @@ fn rounds_up_to_the_limit(rt: HostRuntime) {
 #[test]
 fn work_lists(rt: HostRuntime) {
     let game = one_more(&rt, 1);
-    let (mut chips, mut fired) = start(rt.alloc(), &game).expect(&rt, "memory");
-    work_off_all(rt.alloc(), &game, &mut chips, &mut fired).expect(&rt, "memory");
-    assert!(rt; fired.iter().take(END as usize).all(|times| *times == 1));
-    let game = game_of(&rt, TRIANGLE, &[4, 0, 0], 1 << 40);
-    let (mut chips, mut fired) = start(rt.alloc(), &game).expect(&rt, "memory");
-    work_off_all(rt.alloc(), &game, &mut chips, &mut fired).expect(&rt, "memory");
+    let mut play = Play::new(rt.alloc(), &game).expect(&rt, "memory");
+    play.work_off_all(rt.alloc()).expect(&rt, "memory");
     assert!(rt;
-        chips.as_slice() == [4, 0, 0].as_slice() && fired.as_slice() == [0, 0, 0].as_slice()
+        play.fired
+            .iter()
+            .take(END as usize)
+            .all(|times| *times == 1)
+    );
+    let game = game_of(&rt, TRIANGLE, &[4, 0, 0], 1 << 40);
+    let mut play = Play::new(rt.alloc(), &game).expect(&rt, "memory");
+    play.work_off_all(rt.alloc()).expect(&rt, "memory");
+    assert!(rt;
+        play.chips.as_slice() == [4, 0, 0].as_slice()
+            && play.fired.as_slice() == [0, 0, 0].as_slice()
     );
 }

@@ -1,5 +1,5 @@
 use Rattle.std.proofs.Common.{◌≡◌, ◌+◌, length, min, drop}
-use Rattle.chip_rounds.specs.WorkList.{HasSupport}
+use Rattle.chip_fire.specs.WorkList.{HasSupport}
 use Rattle.chip_drops.specs.Pile.{sum_between}
 use Rattle.chip_drops.proofs.play.tally.Given as goal
 

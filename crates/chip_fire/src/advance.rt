@@ -1,0 +1,72 @@
+//! The way to an end that is far: some rounds, and a search.
+
+ghost use Rattle.std.specs.Prelude.{◌≡◌, length};
+ghost use Rattle.chip_fire.specs.Search.{IsShort};
+
+use crate::play::Play;
+use crate::soon::looks_at_all;
+use crate::watch::Watch;
+use chip_guess::tuning::{AHEAD, STRETCH, TURN};
+use chip_guess::{Hierarchy, Search};
+use std::alloc::Global;
+
+impl Play<'_> {
+    /// Goes on by some rounds, and where these have not ended the play, at counts that are searched and certified, if there
+    /// are some. Where there is no memory, no counts are searched.
+    pub(crate) fn advance<W: Watch>(&mut self, alloc: Global, watch: &mut W)
+        ensures { self.new.game ≡ self.old.game }
+    {
+        let mut played = 0u64;
+        if self.ends_soon(&mut played, watch) {
+            return;
+        }
+        let Ok(before) = Vec::from_slice(alloc, &self.fired) else {
+            return;
+        };
+        let mut searched = 0u64;
+        let guess = self.search_counts(alloc, &before, &mut played, &mut searched, watch);
+        watch.searched(self.game, played, searched);
+        if let Some(guess) = guess {
+            let _ = self.raise_to(alloc, &guess);
+        }
+    }
+
+    /// Searches counts for the play from those of `before` on, while the play goes on: each has its turns, and the search
+    /// makes twice as many looks. `None` where the play has ended first, or where memory ran out, which ends the search
+    /// alone.
+    fn search_counts<W: Watch>(
+        &mut self,
+        alloc: Global,
+        before: &[u64],
+        played: &mut u64,
+        searched: &mut u64,
+        watch: &mut W,
+    ) -> Option<Vec<u64>>
+        requires before_each { length before.now ≡ self.old.game.graph.vertices }
+        requires unsearched { searched.old ≡ 0 }
+        ensures same { self.new.game ≡ self.old.game }
+        ensures short { IsShort self.old.game played.new searched.new }
+    {
+        let game = self.game;
+        let graph = game.graph();
+        let all = looks_at_all(graph);
+        let ahead = all.saturating_mul(AHEAD);
+        let hierarchy = Hierarchy::new(alloc, graph, searched, ahead)?;
+        let mut search = Search::new(alloc, &hierarchy, game, before).ok()?;
+        let mut part = *searched;
+        'turns: for _ in 0..u64::MAX {
+            let due = ahead
+                .saturating_add(played.saturating_mul(2))
+                .max(*searched);
+            part = part.saturating_add(STRETCH).min(due);
+            if search.go_on(alloc, searched, part).ok()? {
+                break;
+            }
+            watch.searches(&search);
+            if part == due && self.ends_within(all.saturating_mul(TURN), played, watch) {
+                return None;
+            }
+        }
+        search.found(alloc, before, game.limit())
+    }
+}

@@ -1,0 +1,90 @@
+//! A play of a game: what it has come to, and its outcome once it rests.
+
+ghost use Rattle.std.specs.Prelude.{◌≡◌, ◌↔◌, IfOk, IsTrue, length, slice_index};
+ghost use Rattle.chip_sequence.specs.Firing.{legal_vertices};
+ghost use Rattle.chip_fire.specs.Rounds.{IsAtRest};
+ghost use Rattle.chip_fire.specs.Player.{PlaysOut};
+
+use chip_graph::{Game, Graph};
+use chip_sequence::Outcome;
+use std::alloc::{AllocError, Global};
+use std::marker::Model;
+
+/// A play of a game on one thread. Whatever is done with it, it stays on the way to the one end (`specs/Rounds.antt`).
+#[derive(Drop)]
+pub struct Play<'a> {
+    pub game: &'a Game,
+    /// The chips of each vertex.
+    pub chips: Vec<u64>,
+    /// How often each vertex has fired.
+    pub fired: Vec<u64>,
+}
+
+impl<'a> Model for Play<'a> {
+    ghost use Rattle.chip_fire.specs.Rounds.{PlayState, IsBegun};
+
+    ghost Value = { PlayState };
+
+    ghost view = { λ a. record { game = a.game.now; chips = a.chips.items; fired = a.fired.items } };
+
+    ghost invariant = { λ a. IsBegun a.game.now a.chips.items a.fired.items };
+}
+
+impl<'a> Play<'a> {
+    /// The start, where no vertex has fired. The memory of these two lists is all that a play needs.
+    pub fn new(alloc: Global, game: &'a Game) -> Result<Play<'a>, AllocError>
+        ensures { IfOk result (λ play. play.game ≡ game.now) }
+    {
+        let chips = Vec::from_slice(alloc, game.start())?;
+        let fired = vec![in alloc; 0; game.graph().vertices() as usize]?;
+        Ok(Play { game, chips, fired })
+    }
+
+    /// Whether no vertex may fire within the limit.
+    pub fn is_at_rest(&self) -> bool
+        ensures { IsTrue result ↔ IsAtRest self.now.game self.now.chips self.now.fired }
+    {
+        let graph = self.game.graph();
+        for vertex in 0..graph.vertices() {
+            let v = vertex as usize;
+            let is_legal = vertex != graph.sink() && graph.out_degree(vertex) <= self.chips[v];
+            if is_legal && self.fired[v] != self.game.limit() {
+                return false;
+            }
+        }
+        true
+    }
+
+    /// The outcome, where no vertex may fire within the limit.
+    pub fn outcome(self, alloc: Global) -> Result<Outcome, AllocError>
+        requires { IsAtRest self.game self.chips self.fired }
+        ensures { IfOk result (PlaysOut self.entry.game) }
+    {
+        let Play { game, chips, fired } = self;
+        let over = legal_vertices(alloc, game.graph(), &chips)?;
+        Ok(Outcome {
+            fired,
+            chips,
+            over,
+            sealed: Vec::new(alloc),
+        })
+    }
+}
+
+/// The vertices that are legal, ascending.
+pub(crate) fn legal_vertices(
+    alloc: Global,
+    graph: &Graph,
+    chips: &[u64],
+) -> Result<Vec<u64>, AllocError>
+    requires { length chips.now ≡ graph.now.vertices }
+    ensures { IfOk result (λ legal. legal.items ≡ legal_vertices graph.now (slice_index chips.now)) }
+{
+    let mut legal = Vec::new(alloc);
+    for vertex in 0..graph.vertices() {
+        if vertex != graph.sink() && graph.out_degree(vertex) <= chips[vertex as usize] {
+            legal.push(vertex)?;
+        }
+    }
+    Ok(legal)
+}

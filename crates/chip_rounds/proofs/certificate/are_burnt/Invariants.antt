@@ -1,7 +1,0 @@
-use Rattle.std.proofs.Common.{ℕ, ◌<◌, slice_index}
-use Rattle.chip_sequence.specs.Certificate.{IsBurnt}
-use Rattle.chip_rounds.proofs.certificate.are_burnt.Given as goal
-
-abbrev pub invariant-loop-vertex : goal.invariant-loop-vertex
-invariant-loop-vertex l = (v : ℕ) → v < l.vertex → slice_index l.fired v < slice_index l.counts v
-    → IsBurnt l.game.graph (slice_index l.game.start) l.game.limit (slice_index l.counts) (slice_index l.order) v

@@ -1,9 +1,0 @@
-use Rattle.std.proofs.Common.{◌≡◌, ◌==◌, nat_le, not, ◌&&◌, slice_index}
-use Rattle.chip_graph.specs.Sums.{filter_below}
-use Rattle.chip_graph.specs.Multigraph.{degree}
-use Rattle.chip_rounds.proofs.rest.legal_vertices.Given as goal
-
-abbrev pub invariant-loop-vertex : goal.invariant-loop-vertex
-invariant-loop-vertex l =
-    l.legal.items
-    ≡ filter_below (λ v. not (v == l.graph.sink) && nat_le (degree l.graph v) (slice_index l.chips v)) l.vertex

@@ -1,7 +1,0 @@
-use Rattle.std.proofs.Common.{◌+◌, ◌*◌}
-use Rattle.chip_rounds.specs.Rounds.{IsSwept}
-use Rattle.chip_rounds.proofs.rounds.sweep.Given as goal
-
-abbrev pub invariant-loop-step : goal.invariant-loop-step
-invariant-loop-step l =
-    IsSwept l.graph l.limit l.first l.fn.chips l.fn.fired l.chips l.fired l.any (l.first + 2 * l.step)

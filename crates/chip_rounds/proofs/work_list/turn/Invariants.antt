@@ -1,9 +1,0 @@
-use Rattle.std.proofs.Common.{◌+◌, ◌≤◌, take}
-use Rattle.chip_rounds.specs.WorkList.{IsSent}
-use Rattle.chip_rounds.proofs.work_list.turn.Given as goal
-
-abbrev pub invariant-loop-link : goal.invariant-loop-link
-invariant-loop-link l = record {
-  sent : IsSent l.graph l.k l.links l.initial.chips l.link-index l.chips (take l.listed l.list);
-  room : l.listed ≤ l.fn.listed + l.link-index;
-}

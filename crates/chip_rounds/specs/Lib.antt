@@ -1,9 +1,0 @@
-pub use Rattle.chip_graph.specs.Limits
-pub use Rattle.chip_graph.specs.Sums
-pub use Rattle.chip_graph.specs.Multigraph
-pub use Rattle.chip_graph.specs.ChipGame
-pub use Rattle.chip_sequence.specs.Play
-pub use Rattle.chip_sequence.specs.Outcomes
-pub mod Rounds
-pub mod WorkList
-pub mod Player

@@ -1,7 +1,7 @@
 //! The test of counts that every whole play must reach.
 
 ghost use Rattle.std.specs.Prelude.{◌≡◌, ◌≢◌, ℕ, ◌+◌, ◌<◌, ◌≤◌, ◌↔◌, nat_le, if◌then◌else◌, length, slice_index};
-ghost use Rattle.std.specs.Prelude.{IsTrue};
+ghost use Rattle.std.specs.Prelude.{IfNone, IsTrue};
 ghost use Rattle.chip_graph.specs.Multigraph.{degree};
 ghost use Rattle.chip_graph.specs.ChipGame.{IsGame};
 ghost use Rattle.chip_sequence.specs.Counted.{IsAfter};
@@ -19,7 +19,8 @@ impl Play<'_> {
     /// that has ended fires each vertex at least so often. `None` if it does not, or if memory runs out: the play is as
     /// it was.
     pub(crate) fn raise_to(&mut self, alloc: Global, guess: &[u64]) -> Option<()>
-        ensures { self.new.game ≡ self.old.game }
+        ensures same { self.new.game ≡ self.old.game }
+        ensures kept { IfNone result (self.new ≡ self.old) }
     {
         let mut counts = Vec::from_slice(alloc, &self.fired).ok()?;
         raise(&mut counts, guess);

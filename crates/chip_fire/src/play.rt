@@ -5,6 +5,7 @@ ghost use Rattle.chip_sequence.specs.Firing.{legal_vertices};
 ghost use Rattle.chip_fire.specs.Rounds.{IsAtRest};
 ghost use Rattle.chip_fire.specs.Player.{PlaysOut};
 
+use crate::work_list::is_legal;
 use chip_graph::{Game, Graph};
 use chip_sequence::Outcome;
 use std::alloc::{AllocError, Global};
@@ -44,11 +45,9 @@ impl<'a> Play<'a> {
     pub fn is_at_rest(&self) -> bool
         ensures { IsTrue result ↔ IsAtRest self.now.game self.now.chips self.now.fired }
     {
-        let graph = self.game.graph();
+        let (graph, limit) = (self.game.graph(), self.game.limit());
         for vertex in 0..graph.vertices() {
-            let v = vertex as usize;
-            let is_legal = vertex != graph.sink() && graph.out_degree(vertex) <= self.chips[v];
-            if is_legal && self.fired[v] != self.game.limit() {
+            if is_legal(graph, &self.chips, vertex) && self.fired[vertex as usize] != limit {
                 return false;
             }
         }

@@ -1,0 +1,107 @@
+/* libchipfire: chip-firing games (abelian sandpiles), played by proved functions.
+ *
+ * A graph is its number of vertices, its sink, and three slices with one number for each edge, as a sparse matrix in
+ * coordinates has them: the tail, the head, and how many chips one firing of the tail sends to the head. A slice is a
+ * pointer and behind it a length, in numbers. All numbers are uint64_t.
+ *
+ *     vertices     1 to 2^21, numbered from 0
+ *     sink         a vertex: it has no edge out, and never fires
+ *     tails, heads up to 2^23 edges. No edge is a loop, and from each vertex some way leads to the sink
+ *     mults        1 to 2^20 each
+ *     chips        one number for each vertex, the sink too: up to 2^40 in all
+ *     limit        how often each vertex may fire, 0 to 2^40
+ *
+ * Each call answers a status: 0 for success, else the number of the first fault, which `chipfire explain NUMBER` tells.
+ * On a fault *place says where it is, or 0 if it is nowhere, and all slices stay as they were. Lengths come first,
+ * then the graph, then the chips.
+ *
+ *     1 vertices, 2 sink, 3 number of edges                              no place
+ *     4 end of an edge, 5 mult, 6 loop, 7 edge out of the sink           the edge, from 0
+ *     8 no way leads to the sink                                         the least such vertex
+ *     9 chips are not one number for each vertex                         no place
+ *     10 more than 2^40 chips, 11 limit                                  the game or the drop, from 0
+ *     12 slices that belong together have other lengths                  no place
+ *     13 the limit stopped the play of a drop                            the drop; 0 also for the play before all
+ *     26 a drop on no vertex                                             the drop
+ *     53 what was claimed is not how the game ends                       the least vertex that differs
+ *     90 memory ran out                                                  no place
+ *
+ * The caller sees to this, which no call can check:
+ *
+ *   - No pointer is null, also at length 0. Each slice has its length, and what is written overlaps nothing else.
+ *   - One call at a time writes to one memory. Apart from that calls may run on any threads at once: nothing is kept
+ *     from one to the next.
+ *   - No call from a signal handler, nor in the forked child of a process that has threads. */
+#ifndef CHIPFIRE_H
+#define CHIPFIRE_H
+
+#include <stddef.h>
+#include <stdint.h>
+
+#ifdef __cplusplus
+extern "C" {
+#endif
+
+/* The version: 1000000 * major + 1000 * minor + patch. */
+uint64_t chipfire_version(void);
+
+/* Plays many games on one graph, each to its end, or until its limit lets no vertex fire that could.
+ *
+ * chips    of one game behind those of another: at the start, and then at the end
+ * guesses  none; or as many as chips: counts at which the play of each game may begin, whatever they are. The answer
+ *          is the same, and sooner there if they are near
+ * fired    as many as chips: gets how often each vertex fired
+ * stopped  one for each game: gets how many vertices could fire at the end, and had fired as often as the limit allows */
+uint64_t chipfire_stabilize_all(uint64_t vertices, uint64_t sink,
+                                const uint64_t *tails, size_t tails_len,
+                                const uint64_t *heads, size_t heads_len,
+                                const uint64_t *mults, size_t mults_len,
+                                uint64_t limit,
+                                const uint64_t *guesses, size_t guesses_len,
+                                uint64_t *chips, size_t chips_len,
+                                uint64_t *fired, size_t fired_len,
+                                uint64_t *stopped, size_t stopped_len,
+                                uint64_t *place);
+
+/* Plays a game to its end, and then drops amounts[i] chips on vertex at[i], one i after another, each played to its end.
+ *
+ * chips    one number for each vertex: at the start, and then at the end
+ * sizes    one number for each drop, as the other two: gets how often vertices fired
+ * extents  gets how many different vertices fired
+ * losts    gets how many chips they brought to the sink; a chip that is dropped on the sink is not among them
+ *
+ * The limit is for all plays together. Where it stops one there is no answer: that is fault 13. */
+uint64_t chipfire_avalanches(uint64_t vertices, uint64_t sink,
+                             const uint64_t *tails, size_t tails_len,
+                             const uint64_t *heads, size_t heads_len,
+                             const uint64_t *mults, size_t mults_len,
+                             uint64_t limit,
+                             const uint64_t *at, size_t at_len,
+                             const uint64_t *amounts, size_t amounts_len,
+                             uint64_t *chips, size_t chips_len,
+                             uint64_t *sizes, size_t sizes_len,
+                             uint64_t *extents, size_t extents_len,
+                             uint64_t *losts, size_t losts_len,
+                             uint64_t *place);
+
+/* Says whether counts and chips are those at the end of a game: 0 if chipfire_stabilize_all answers them too. If they are
+ * right, that is no long play.
+ *
+ * chips    at the start
+ * fired    how often each vertex is claimed to fire
+ * ends     the chips that are claimed at the end */
+uint64_t chipfire_verify(uint64_t vertices, uint64_t sink,
+                         const uint64_t *tails, size_t tails_len,
+                         const uint64_t *heads, size_t heads_len,
+                         const uint64_t *mults, size_t mults_len,
+                         uint64_t limit,
+                         const uint64_t *chips, size_t chips_len,
+                         const uint64_t *fired, size_t fired_len,
+                         const uint64_t *ends, size_t ends_len,
+                         uint64_t *place);
+
+#ifdef __cplusplus
+}
+#endif
+
+#endif

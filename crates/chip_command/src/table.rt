@@ -41,6 +41,14 @@ count.
 ",
     };
 
+    /// A drop, from 0.
+    pub const DROP: Place = Place {
+        letters: " i",
+        reading: "\
+i is a drop, from 0 on.
+",
+    };
+
     /// A vertex, and a row among its own in a trace, from 0.
     pub const TRACE_ROW: Place = Place {
         letters: " v i",
@@ -147,7 +155,7 @@ vertex out.
 
 static START_LENGTH: Explanation = row!(9 StartLength NOWHERE:
     "the chips are not one number for each vertex", "\
-Only callers of the library chip_graph meet this.
+Only callers of the libraries meet this.
 ");
 
 static TOTAL: Explanation = row!(10 Total NOWHERE:
@@ -158,6 +166,17 @@ all drops.
 
 static LIMIT: Explanation = row!(11 Limit NOWHERE: "the firing limit is above 1099511627776", "\
 That is 2^40. Only callers of the libraries meet this. On the command line it is fault 91.
+");
+
+static LENGTHS: Explanation = row!(12 Lengths NOWHERE:
+    "slices that belong together have other lengths", "\
+Only callers of libchipfire meet this. chipfire.h says how long each slice is.
+");
+
+static STOPPED: Explanation = row!(13 Stopped DROP: "the limit stopped the play of drop i", "\
+Only callers of libchipfire meet this. `chipfire avalanches` writes the rows of the drops
+before instead. Allow more firings, or leave out this drop and all that follow. If the play
+before the first drop was stopped, i is 0 too.
 ");
 
 static NOT_JSON: Explanation = row!(20 NotJson NOWHERE: "the graph file is no JSON", "\
@@ -352,7 +371,7 @@ report was written, or the file of `--report`, and all rows were.
 ");
 
 /// All faults, by their numbers.
-pub fn explanations() -> [&'static Explanation; 43] {
+pub fn explanations() -> [&'static Explanation; 45] {
     [
         &VERTICES,
         &SINK,
@@ -365,6 +384,8 @@ pub fn explanations() -> [&'static Explanation; 43] {
         &START_LENGTH,
         &TOTAL,
         &LIMIT,
+        &LENGTHS,
+        &STOPPED,
         &NOT_JSON,
         &SHAPE,
         &VERSION,

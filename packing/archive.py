@@ -4,9 +4,12 @@ import lzma
 import tarfile
 
 from packing import changes, contents
-from packing.contents import File
+from packing.contents import LINK, File
 from packing.proved import version
 from packing.repository import Refused
+
+#: The folder of the libraries.
+LIBRARIES = "lib"
 
 
 def top(of=None):
@@ -26,12 +29,12 @@ def name(build):
 
 def files(build):
     """Returns the archive's files by their names."""
-    return {f"{top()}/{place}": file for place, file in contents.files(build).items()}
+    return {f"{top()}/{place}": file for place, file in contents.files(build, LIBRARIES).items()}
 
 
 def places(of=None):
-    """Returns the names of the program and of PROVED in the archive of a version: of this one if none is said."""
-    return f"{top(of)}/{contents.PROGRAM}", f"{top(of)}/{contents.PROVED}"
+    """Returns where all is that PROVED is about, and PROVED, in the archive of a version: of this one if none is said."""
+    return {word: f"{top(of)}/{place}" for word, place in contents.places(LIBRARIES).items()}
 
 
 def documents(found):
@@ -44,8 +47,10 @@ def write(path, build):
     with tarfile.open(path, "w:xz", format=tarfile.GNU_FORMAT) as archive:
         for name, file in sorted(files(build).items()):
             entry = tarfile.TarInfo(name)
-            entry.size, entry.mode, entry.mtime = len(file.data), file.mode, changes.seconds()
+            entry.size, entry.mode, entry.mtime = len(file.data), file.mode & 0o7777, changes.seconds()
             entry.uname = entry.gname = "root"
+            if file.mode == LINK:
+                entry.type, entry.linkname, entry.size = tarfile.SYMTYPE, file.data.decode(), 0
             archive.addfile(entry, io.BytesIO(file.data))
 
 
@@ -57,9 +62,12 @@ def members(data):
             name = entry.name.removeprefix("./")
             if entry.isdir():
                 continue
-            if not entry.isreg() or name in found:
+            if not (entry.isreg() or entry.issym()) or name in found:
                 raise Refused(f"{name} in it is no file, or is there twice")
-            found[name] = File(archive.extractfile(entry).read(), entry.mode)
+            if entry.issym():
+                found[name] = File(entry.linkname.encode(), LINK)
+            else:
+                found[name] = File(archive.extractfile(entry).read(), entry.mode)
     return found
 
 

@@ -1,11 +1,11 @@
-"""What is handed on: the program, PROVED, the manual page, the completions and the examples."""
+"""What is handed on: the program, the libraries with what C needs, PROVED, the manual page, completions and examples."""
 from __future__ import annotations
 
 import os
 from dataclasses import dataclass
 
 from packing import changes, completions, manual, usage
-from packing.proved import Proved, version
+from packing.proved import BUILT, Proved, version
 from packing.repository import ROOT, Refused, below, content
 
 MANUAL = "share/man/man1/chipfire.1"
@@ -15,8 +15,24 @@ COMPLETIONS = {
     "share/zsh/vendor-completions/_chipfire": completions.zsh,
     "share/fish/vendor_completions.d/chipfire.fish": completions.fish,
 }
-PROGRAM = "bin/chipfire"
 PROVED = "share/doc/chipfire/PROVED"
+HEADER = "include/chipfire.h"
+#: What is built, as files in one folder; and the name under which what was linked with the library asks for it.
+PROGRAM, SHARED, STATIC = FILES = ("chipfire", "libchipfire.so", "libchipfire.a")
+SONAME = "libchipfire.so.0"
+#: The mode of a link, whose bytes are what it names.
+LINK = 0o120777
+PKG_CONFIG = """\
+prefix=${{pcfiledir}}/{up}
+libdir=${{prefix}}/{libraries}
+includedir=${{prefix}}/include
+
+Name: chipfire
+Description: chip-firing games (abelian sandpiles), by proved functions
+Version: {version}
+Libs: -L${{libdir}} -lchipfire
+Cflags: -I${{includedir}}
+"""
 
 
 @dataclass(frozen=True)
@@ -29,11 +45,31 @@ class File:
 
 @dataclass(frozen=True)
 class Build:
-    """A program that is packed, what is stated of it, and its documents by their places."""
+    """What was built, bytes by the words of PROVED, what is stated of it, and the program's documents by their places."""
 
-    program: bytes
+    built: dict[str, bytes]
     stated: Proved
     documents: dict[str, bytes]
+
+
+def built_in(folder):
+    """Returns what was built into a folder, bytes by the words of PROVED."""
+    return {word: content(f"{folder}/{name}") for word, name in zip(BUILT, FILES)}
+
+
+def link_soname(folder):
+    """Makes the link in a folder by which programs find the library there that they were linked with."""
+    if not os.path.lexists(f"{folder}/{SONAME}"):
+        os.symlink(SHARED, f"{folder}/{SONAME}")
+
+
+def lay_out(folder, built):
+    """Writes what was built into a folder."""
+    for word, name in zip(BUILT, FILES):
+        with open(f"{folder}/{name}", "wb") as file:
+            file.write(built[word])
+    os.chmod(f"{folder}/{PROGRAM}", 0o755)
+    link_soname(folder)
 
 
 def documents(program):
@@ -46,10 +82,27 @@ def documents(program):
     return {MANUAL: manual.page(whole, commands, version(), changes.entry()[0]).encode(), **made}
 
 
-def files(build):
-    """Returns the files of a build, by their places below a folder such as /usr."""
-    found = {PROGRAM: File(build.program, 0o755), PROVED: File(build.stated.text().encode())}
-    found |= {place: File(data) for place, data in build.documents.items()}
+def places(libraries):
+    """Returns where what was built stands below a folder such as /usr, by the words of PROVED, and where PROVED does."""
+    found = f"bin/{PROGRAM}", f"{libraries}/{SONAME}", f"{libraries}/{STATIC}"
+    return {**dict(zip(BUILT, found)), "PROVED": PROVED}
+
+
+def pkg_config(libraries):
+    """Returns what pkg-config reads, from the folder pkgconfig of that of the libraries."""
+    up = "/".join([".."] * (libraries.count("/") + 2))
+    return PKG_CONFIG.format(up=up, libraries=libraries, version=version())
+
+
+def files(build, libraries):
+    """Returns the files of a build, by their places below a folder such as /usr, with the libraries in a folder of it."""
+    found = {place: File(data) for place, data in build.documents.items()}
+    for word, place in places(libraries).items():
+        data = build.stated.text().encode() if word == "PROVED" else build.built[word]
+        found[place] = File(data, 0o755 if word == "program" else 0o644)
+    found[f"{libraries}/{SHARED}"] = File(SONAME.encode(), LINK)
+    found[f"{libraries}/pkgconfig/chipfire.pc"] = File(pkg_config(libraries).encode())
+    found[HEADER] = File(content(HEADER))
     for name in below("examples"):
         mode = 0o755 if os.access(f"{ROOT}/{name}", os.X_OK) else 0o644
         found[f"share/doc/chipfire/{name}"] = File(content(name), mode)

@@ -8,10 +8,12 @@ import tempfile
 import textwrap
 
 from packing import archive, changes, contents, needs
-from packing.contents import File
+from packing.contents import LINK, File
 from packing.proved import version
 
 DOCUMENTS = "usr/share/doc/chipfire"
+#: The folder of the libraries in /usr: that of this machine's kind.
+LIBRARIES = "lib/x86_64-linux-gnu"
 MAINTAINER = "The authors of chipfire <authors@chipfire.invalid>"
 COPYRIGHT = """\
 Format: https://www.debian.org/doc/packaging-manuals/copyright-format/1.0/
@@ -25,6 +27,9 @@ License: none-stated
 OVERRIDES = """\
 # The program is the one that was proved and built, byte for byte: it keeps its symbols.
 chipfire: unstripped-binary-or-object [usr/bin/chipfire]
+# One package has the program, the library, and what is linked with it: none is there without the others.
+chipfire: package-name-doesnt-match-sonames libchipfire0
+chipfire: link-to-shared-library-in-wrong-package usr/lib/x86_64-linux-gnu/libchipfire.so.0 *
 """
 CONTROL = """\
 Package: chipfire
@@ -39,6 +44,7 @@ Description: distributed chip-firing machine that is proved right
  It plays a chip-firing game on a directed multigraph with a sink, on any
  number of threads, and writes how often each vertex fired and the chips
  at the end. The counts are the same for every schedule, by proof.
+ Programs in C and C++ play such games by its library.
 """
 
 
@@ -61,27 +67,29 @@ def changelog():
 
 def control(build, size):
     """Returns what dpkg reads of a build whose files have so many bytes."""
-    libc = "{}.{}".format(*needs.c_library(build.program))
+    libc = "{}.{}".format(*needs.c_library(build.built["program"]))
     return CONTROL.format(version=version(), maintainer=MAINTAINER, size=(size + 1023) // 1024, libc=libc)
 
 
 def files(build):
     """Returns the package's files by their names in the root, with those that dpkg reads below DEBIAN."""
-    found = {f"usr/{place}": file for place, file in contents.files(build).items()}
+    found = {f"usr/{place}": file for place, file in contents.files(build, LIBRARIES).items()}
     found[f"usr/{contents.MANUAL}.gz"] = packed(found.pop(f"usr/{contents.MANUAL}").data)
     found[f"{DOCUMENTS}/changelog.gz"] = packed(changelog().encode())
     found[f"{DOCUMENTS}/copyright"] = File(COPYRIGHT.encode())
     found["usr/share/lintian/overrides/chipfire"] = File(OVERRIDES.encode())
-    sums = [f"{hashlib.md5(file.data).hexdigest()}  {name}\n" for name, file in sorted(found.items())]
+    sums = [f"{hashlib.md5(file.data).hexdigest()}  {name}\n" for name, file in sorted(found.items()) if file.mode != LINK]
     size = sum(len(file.data) for file in found.values())
     found["DEBIAN/md5sums"] = File("".join(sums).encode())
+    found["DEBIAN/shlibs"] = File(f"libchipfire 0 chipfire (>= {version()})\n".encode())
+    found["DEBIAN/triggers"] = File(b"activate-noawait ldconfig\n")
     found["DEBIAN/control"] = File(control(build, size).encode())
     return found
 
 
 def places():
-    """Returns the names of the program and of PROVED in it."""
-    return f"usr/{contents.PROGRAM}", f"usr/{contents.PROVED}"
+    """Returns where all is in it that PROVED is about, and PROVED."""
+    return {word: f"usr/{place}" for word, place in contents.places(LIBRARIES).items()}
 
 
 def documents(found):
@@ -94,6 +102,9 @@ def lay_out(room, inside):
     """Writes files by their names below a folder, with their modes."""
     for name, file in inside.items():
         os.makedirs(os.path.dirname(f"{room}/{name}"), exist_ok=True)
+        if file.mode == LINK:
+            os.symlink(file.data, f"{room}/{name}".encode())
+            continue
         with open(f"{room}/{name}", "wb") as opened:
             opened.write(file.data)
         os.chmod(f"{room}/{name}", file.mode)

@@ -1,4 +1,4 @@
-"""Whether a program, an archive, a Debian package or a wheel is the one of the sources that are checked out."""
+"""Whether what was built, or an archive, a Debian package or a wheel of it, is the one of the sources checked out."""
 import lzma
 import os
 import subprocess
@@ -12,8 +12,9 @@ from packing.contents import Build
 from packing.repository import ROOT, Refused, content, sha256
 
 #: How the files of each form begin.
-FORMS = {b"\xfd7zXZ\0": archive, b"!<arch>\n": debian, b"PK\3\4": wheel}
-ELF = b"\x7fELF"
+FORMS = {b"\xfd7zXZ\0": archive, b"!<arch>\ndebian-binary": debian, b"PK\3\4": wheel}
+#: How a program or a library begins, and one that programs are linked with.
+BUILT = (b"\x7fELF", b"!<arch>\n")
 #: What ./package made last, of these sources or of others.
 RECORD = f"{ROOT}/dist/PROVED"
 #: What comes of a file that was cut off or changed.
@@ -31,28 +32,30 @@ def packed_here():
     return stated if stated.sources == proved.sources() else None
 
 
-def judge_program(program, here):
-    """Returns what is stated of the bytes of a program, where it is the one that was packed here."""
+def judge_built(data, here):
+    """Returns what is stated of the bytes of a program or a library, where it is one that was packed here."""
     if here is None:
         raise Refused("no program was packed of these sources here, and a program alone does not state its own: "
                       "./package makes one to compare with")
-    if sha256(program) != here.program:
-        raise Refused("it is not the program that ./package packed of these sources here")
+    if sha256(data) not in here.sums.values():
+        raise Refused("it is not the program that ./package packed of these sources here, nor a library")
     return here
 
 
-def judge_stated(stated, program, here):
-    """Refuses what is stated of the bytes of a program where it is not so."""
+def judge_stated(stated, built, here):
+    """Refuses what is stated of what was built, bytes by the words of PROVED, where it is not so."""
     if stated.version != proved.version():
         raise Refused(f"its PROVED states version {stated.version}, and these sources have {proved.version()}")
     if stated.sources != proved.sources():
         raise Refused("its PROVED states other sources than these")
-    if stated.program != sha256(program):
-        raise Refused("its program is not the one that its PROVED states")
+    for word, found in proved.sums_of(built).items():
+        if stated.sums[word] != found:
+            raise Refused(f"its {word} is not the one that its PROVED states")
     if proved.has_other_sources(stated.commit):
         raise Refused("its PROVED states a commit that has other sources than these")
-    if here is not None and stated.program != here.program:
-        raise Refused("its program is not the one that ./package packed of these sources here")
+    for word in proved.BUILT:
+        if here is not None and stated.sums[word] != here.sums[word]:
+            raise Refused(f"its {word} is not the one that ./package packed of these sources here")
     if here is not None and stated.kit != here.kit:
         raise Refused(f"its PROVED states another kit than that of the program packed here: {stated.kit}")
 
@@ -83,15 +86,16 @@ def judge_package(form, path, here):
 
     Its program is started for its documents only where it is the one that was packed here."""
     found, documents = unpacked(form, path, form.documents)
-    of_program, of_proved = form.places()
-    for name in (of_program, of_proved):
+    places = form.places()
+    for name in places.values():
         if name not in found:
             raise Refused(f"there is no {name} in it")
-    program, stated = found[of_program].data, proved.read(found[of_proved].data)
-    judge_stated(stated, program, here)
+    stated = proved.read(found[places.pop("PROVED")].data)
+    built = {word: found[name].data for word, name in places.items()}
+    judge_stated(stated, built, here)
     if here is not None:
-        documents = documents_of(program)
-    wanted = form.files(Build(program, stated, documents))
+        documents = documents_of(built["program"])
+    wanted = form.files(Build(built, stated, documents))
     differ = sorted(name for name in {*found, *wanted} if found.get(name) != wanted.get(name))
     if differ:
         raise Refused(f"these files in it are not those of these sources: {' '.join(differ)}")
@@ -101,11 +105,11 @@ def judge_package(form, path, here):
 def ground(here):
     """Returns on what a judgement stands."""
     if here is None:
-        return ("Nothing was packed here to compare with: that its program is what the kit made of these sources, and "
-                "what its manual page and completions say, is taken from the file.")
+        return ("Nothing was packed here to compare with: that program and library are what the kit made of these "
+                "sources, and what manual page and completions say, is taken from the file.")
     if os.path.isfile(f"{ROOT}/release/PROVED") and content("release/PROVED") == here.text().encode():
-        return "Its program is the one in release/, and was not proved here: ./package --prove does that."
-    return "Its program is the one that was proved and built here."
+        return "It is the build in release/, which was not proved here: ./package --prove does that."
+    return "It is the build that was proved here."
 
 
 def judge(path):
@@ -113,9 +117,9 @@ def judge(path):
     with open(path, "rb") as file:
         data = file.read()
     here = packed_here()
-    if data.startswith(ELF):
-        return judge_program(data, here), ground(here)
     form = next((form for begin, form in FORMS.items() if data.startswith(begin)), None)
+    if form is None and data.startswith(BUILT):
+        return judge_built(data, here), ground(here)
     if form is None:
         raise Refused("it is neither a program nor an archive, a Debian package or a wheel")
     return judge_package(form, path, here), ground(here)

@@ -1,30 +1,34 @@
-"""PROVED: which sources a program was proved and built from, by which kit, and which program it is."""
+"""PROVED: which sources program and libraries were proved and built from, by which kit, and which they are."""
 import re
 import sys
-from dataclasses import astuple, dataclass
+from dataclasses import dataclass
 
 from packing.repository import ROOT, Refused, below, content, git, sha256
 
 sys.path += [f"{ROOT}/tools", f"{ROOT}/python"]
 import build_wheel  # noqa: E402  (where the version stands)
-import prove  # noqa: E402  (which crates the program stands on)
+import prove  # noqa: E402  (which crates a crate stands on)
 
-FORM = "chipfire {}\nkit {}\ncommit {}\nsources sha256:{}\nprogram sha256:{}\n"
+#: What is built, by its words in PROVED, and the crates that it is built of.
+BUILT = ("program", "libchipfire.so", "libchipfire.a")
+CRATES = ("chipfire", "chip_exports")
+FORM = "chipfire {}\nkit {}\ncommit {}\nsources sha256:{}\n" + "".join(f"{it} sha256:{{}}\n" for it in BUILT)
 
 
 @dataclass(frozen=True)
 class Proved:
-    """What is stated of a program. The commit has `, changed` behind it where its sources were others."""
+    """What is stated of what was built. The commit has `, changed` behind it where its sources were others."""
 
     version: str
     kit: str
     commit: str
     sources: str
-    program: str
+    #: The checksum of each thing that is built, by its word.
+    sums: dict[str, str]
 
     def text(self):
         """Returns the file PROVED."""
-        return FORM.format(*astuple(self))
+        return FORM.format(self.version, self.kit, self.commit, self.sources, *self.sums.values())
 
 
 def read(data):
@@ -32,7 +36,13 @@ def read(data):
     fit = re.fullmatch(FORM.replace("{}", "(.+)"), data.decode(errors="replace"))
     if fit is None:
         raise Refused("its PROVED has not the lines that it should have")
-    return Proved(*fit.groups())
+    first, sums = fit.groups()[:4], fit.groups()[4:]
+    return Proved(*first, dict(zip(BUILT, sums)))
+
+
+def sums_of(built):
+    """Returns the checksum of each thing that is built, bytes by their words."""
+    return {word: sha256(data) for word, data in built.items()}
 
 
 def version():
@@ -41,9 +51,10 @@ def version():
 
 
 def source_folders():
-    """Returns the folders that the program is proved and built from: those of the crates that it stands on."""
-    names = [*prove.below("chipfire", prove.libraries()), "chipfire"]
-    return [f"crates/{name}/{part}" for name in names for part in ("src", "specs", "proofs")]
+    """Returns the folders that all is proved and built from: those of its crates, and of all that these stand on."""
+    direct = prove.libraries()
+    names = {name for crate in CRATES for name in (*prove.below(crate, direct), crate)}
+    return [f"crates/{name}/{part}" for name in sorted(names) for part in ("src", "specs", "proofs")]
 
 
 def sources():

@@ -11,8 +11,8 @@ class Refused(Exception):
 
 
 def content(name):
-    """Returns the bytes of a file of the repository."""
-    with open(f"{ROOT}/{name}", "rb") as file:
+    """Returns the bytes of a file of the repository, or of one with a whole path."""
+    with open(os.path.join(ROOT, name), "rb") as file:
         return file.read()
 
 

@@ -1,18 +1,18 @@
-"""The Python wheel that carries the program, and installs it as the command chipfire."""
+"""The Python wheel that carries the program and the library, and installs the program as the command chipfire."""
 import zipfile
 
-from packing import needs
+from packing import contents, needs
 from packing.contents import File
 from packing.proved import build_wheel
 from packing.repository import Refused
 
-PROGRAM = "chipfire/program/chipfire"
-PROVED = "chipfire/program/PROVED"
+FOLDER = "chipfire/program"
+PROGRAM = f"{FOLDER}/chipfire"
 
 
 def tag(build):
     """Returns which machines the wheel is for."""
-    return "py3-none-manylinux_{}_{}_x86_64".format(*needs.c_library(build.program))
+    return "py3-none-manylinux_{}_{}_x86_64".format(*needs.c_library(build.built["program"]))
 
 
 def name(build):
@@ -22,7 +22,8 @@ def name(build):
 
 def bytes_of(build):
     """Returns the wheel's files, bytes by names."""
-    return build_wheel.wheel_files(tag(build), {PROGRAM: build.program, PROVED: build.stated.text().encode()})
+    carried = {**build.built, "PROVED": build.stated.text().encode()}
+    return build_wheel.wheel_files(tag(build), {place: carried[word] for word, place in places().items()})
 
 
 def files(build):
@@ -31,8 +32,8 @@ def files(build):
 
 
 def places():
-    """Returns the names of the program and of PROVED in it."""
-    return PROGRAM, PROVED
+    """Returns where all is in it that PROVED is about, and PROVED: it has no library to link with."""
+    return {"program": PROGRAM, **{word: f"{FOLDER}/{word}" for word in (contents.SHARED, "PROVED")}}
 
 
 def documents(found):

@@ -96,11 +96,11 @@ def _carry_release(folder):
     from packing import contents, wheel
     try:
         with tempfile.TemporaryDirectory(prefix="chipfire-wheel-") as room:
-            stated, program = release.fitting(f"{room}/chipfire")
+            stated, built = release.fitting(room)
     except (release.Refused, OSError) as why:
         print(f"chipfire: the package has no program, since the one in release/ is not taken: {why}", file=sys.stderr)
         return None
-    build = contents.Build(program, stated, {})
+    build = contents.Build(built, stated, {})
     wheel.write(os.path.join(folder, wheel.name(build)), build)
     return wheel.name(build)
 

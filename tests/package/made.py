@@ -1,4 +1,5 @@
-"""The packages that all tests here try: made once, by ./package in a checkout of its own that has the built program.
+"""The packages that all tests here try: made once, by ./package in a checkout of its own that has the built program, and
+the libraries beside it.
 
 No command that is run here finds a proof kit.
 """
@@ -16,6 +17,8 @@ import unittest
 
 ROOT = os.path.dirname(os.path.dirname(os.path.dirname(os.path.realpath(__file__))))
 PROGRAM = os.environ["CHIPFIRE_PACKED"]
+#: The library that programs load, and the one that they are linked with.
+SHARED, STATIC = LIBRARIES = ("libchipfire.so", "libchipfire.a")
 #: Where Debian's own programs lie, and no proof kit.
 PATH = "/usr/sbin:/usr/bin:/sbin:/bin"
 #: What stands for the kit that proved the program: the checkout's stamp says so.
@@ -92,10 +95,17 @@ def checkout():
     return top
 
 
+def library(name):
+    """Returns the path of a library that was built."""
+    return f"{os.path.dirname(PROGRAM)}/{name}"
+
+
 def build(top, program=PROGRAM):
-    """Puts a program into a checkout, as ./chipfire leaves it when all is proved."""
+    """Puts a program and the libraries into a checkout, as ./chipfire leaves them when all is proved."""
     os.makedirs(f"{top}/target", exist_ok=True)
     shutil.copy(program, f"{top}/target/chipfire")
+    for name in LIBRARIES:
+        shutil.copy(library(name), f"{top}/target/{name}")
     write(f"{top}/target/chipfire.stamp", f"{KIT}\n".encode())
 
 

@@ -67,7 +67,28 @@ class Answers(unittest.TestCase):
         self.assertEqual((refused.returncode, refused.stdout, refused.stderr), (1, "", "chipfire: fault 20 NotJson\n"))
 
 
-class Archive(Answers):
+class Linked(Answers):
+    """What a program in C finds by pkg-config."""
+
+    def is_linked(self, libraries, version):
+        """Builds the example with a library that is shared and with one that is not, and starts both."""
+        made.need("gcc", "pkg-config")
+        example, room = f"{made.ROOT}/examples/c/grid.c", made.room()
+        where = {"PKG_CONFIG_LIBDIR": f"{libraries}/pkgconfig", "LD_LIBRARY_PATH": libraries}
+        self.assertEqual(made.run("pkg-config", "--modversion", "chipfire", **where).stdout, f"{version}\n")
+        flags, words = (made.run("pkg-config", it, "chipfire", check=True, **where).stdout.split() for it in ("--cflags", "--libs"))
+        made.run("gcc", *flags, example, *words, "-o", f"{room}/shared", check=True)
+        made.run("gcc", *flags, example, f"{libraries}/libchipfire.a", "-o", f"{room}/static", check=True)
+        shown, other = (made.run(f"{room}/{it}", check=True, **where).stdout for it in ("shared", "static"))
+        self.assertTrue(shown.startswith("0320230\n"), shown)
+        self.assertEqual(shown, other)
+        self.assertIn("libchipfire.so.0 => ", made.run("ldd", f"{room}/shared", **where).stdout)
+
+
+class Archive(Linked):
+    def test_a_program_in_c_is_linked_with_it(self):
+        self.is_linked(f"{made.unpacked()}/lib", made.version())
+
     def test_it_is_one_folder_and_answers(self):
         self.assertEqual(os.path.basename(made.unpacked()), f"chipfire-{made.version()}")
         self.answers(f"{made.unpacked()}/bin/chipfire")
@@ -78,7 +99,7 @@ class Archive(Answers):
         self.assertEqual(played.stdout, BUILT_IN)
 
 
-class DebianPackage(Answers):
+class DebianPackage(Linked):
     @staticmethod
     @functools.cache
     def root():
@@ -104,6 +125,9 @@ class DebianPackage(Answers):
         root = made.room()
         made.run("dpkg-deb", "-x", made.path_of(".deb"), root, check=True)
         self.answers(f"{root}/usr/bin/chipfire")
+
+    def test_a_program_in_c_is_linked_with_it(self):
+        self.is_linked(f"{self.root()}/usr/lib/x86_64-linux-gnu", made.version())
 
     def test_dpkg_finds_each_file_as_it_was(self):
         told = made.run("dpkg", f"--root={self.root()}", "--verify", "chipfire")
@@ -152,7 +176,8 @@ class Wheel(Answers):
         self.assertEqual(made.run(f"{self.room()}/bin/pip", "check").returncode, 0)
         shown = made.run(f"{self.room()}/bin/pip", "show", "--files", "chipfire").stdout
         self.assertIn(f"Version: {made.version()}\n", shown)
-        self.assertIn("chipfire/program/PROVED\n", shown)
+        for name in ("PROVED", made.SHARED):
+            self.assertIn(f"chipfire/program/{name}\n", shown)
 
     def test_without_a_program_inside_it_finds_one_on_the_path(self):
         room, path = made.room(), made.room()

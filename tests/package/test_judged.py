@@ -21,20 +21,24 @@ def changed(data, place=None):
 
 
 def repacked_archive(edit):
-    """Returns the path of the archive after an edit of its files, bytes by names; a name with no bytes is a link."""
+    """Returns the path of the archive after an edit of its files, bytes by names; a text is what a link names, and None is
+    a pipe."""
     path = f"{made.room()}/archive.tar.xz"
     with tarfile.open(made.path_of(".tar.xz")) as old:
         modes = {entry.name: entry.mode for entry in old}
-        files = {name: old.extractfile(name).read() for name in modes}
+        files = {entry.name: entry.linkname if entry.issym() else old.extractfile(entry).read() for entry in old}
     edit(files)
     with tarfile.open(path, "w:xz") as new:
         for name, data in files.items():
             entry = tarfile.TarInfo(name)
             entry.mode = modes.get(name, 0o644)
             if data is None:
-                entry.type, entry.linkname = tarfile.SYMTYPE, "/etc/passwd"
-            entry.size = len(data or b"")
-            new.addfile(entry, io.BytesIO(data or b""))
+                entry.type = tarfile.FIFOTYPE
+            elif isinstance(data, str):
+                entry.type, entry.linkname = tarfile.SYMTYPE, data
+            else:
+                entry.size = len(data)
+            new.addfile(entry, io.BytesIO(data) if entry.size else None)
     return path
 
 
@@ -111,12 +115,12 @@ class Checked(unittest.TestCase):
 
 
 class Taken(Checked):
-    def test_each_package_and_the_program(self):
-        for path in (*map(made.path_of, PACKAGES), made.PROGRAM):
+    def test_each_package_and_all_that_was_built(self):
+        for path in (*map(made.path_of, PACKAGES), made.PROGRAM, *map(made.library, made.LIBRARIES)):
             said = self.takes(path)
             self.assertIn(made.read(f"{made.home()}/dist/PROVED").decode(), said)
             self.assertIn(f"\nkit {made.KIT}\n", said)
-            self.assertIn("the one that was proved and built here", said)
+            self.assertIn("It is the build that was proved here.", said)
 
     def test_each_package_where_nothing_was_built(self):
         for path in map(made.path_of, PACKAGES):
@@ -124,8 +128,9 @@ class Taken(Checked):
             self.assertIn(made.read(f"{made.home()}/dist/PROVED").decode(), said)
             self.assertIn("Nothing was packed here", said)
 
-    def test_not_a_program_alone_where_nothing_was_built(self):
-        self.refuses(made.PROGRAM, "no program was packed of these sources here", bare())
+    def test_not_a_program_or_library_alone_where_nothing_was_built(self):
+        for path in (made.PROGRAM, *map(made.library, made.LIBRARIES)):
+            self.refuses(path, "no program was packed of these sources here", bare())
 
     def test_a_package_of_an_earlier_commit_with_the_same_sources(self):
         top = made.room()
@@ -177,6 +182,37 @@ class ProgramChanged(Checked):
         self.assertEqual(made.package(top).returncode, 0)
         for path in (made.path_of(it, top) for it in PACKAGES):
             self.refuses(path, "not the one that ./package packed of these sources here")
+
+
+class LibraryChanged(Checked):
+    """A byte of a library is another."""
+
+    PLACES = {made.SHARED: "libchipfire.so.0", made.STATIC: "libchipfire.a"}
+
+    def each(self, path, word):
+        for top in (made.home(), bare()):
+            self.refuses(path, f"its {word} is not the one that its PROVED states", top)
+
+    def test_alone(self):
+        path = f"{made.room()}/library"
+        for name in made.LIBRARIES:
+            made.write(path, changed(made.read(made.library(name))))
+            self.refuses(path, "nor a library")
+
+    def test_in_an_archive(self):
+        for word, name in self.PLACES.items():
+            place = f"chipfire-{made.version()}/lib/{name}"
+            self.each(repacked_archive(lambda files: files.update({place: changed(files[place])})), word)
+
+    def test_in_a_wheel(self):
+        place = f"chipfire/program/{made.SHARED}"
+        self.each(repacked_wheel(lambda files: files.update({place: changed(files[place])})), made.SHARED)
+
+    def test_in_a_debian_package(self):
+        for word, name in self.PLACES.items():
+            place = f"usr/lib/x86_64-linux-gnu/{name}"
+            path = repacked_debian(lambda room: made.write(f"{room}/{place}", changed(made.read(f"{room}/{place}"))))
+            self.each(path, word)
 
 
 class SourcesChanged(Checked):
@@ -232,7 +268,9 @@ class StatementChanged(Checked):
     def test_each_line(self):
         version, kit = made.version().encode(), made.KIT.encode()
         self.refuses(self.replaced(b"chipfire " + version, b"chipfire 9" + version), "states version 9")
-        self.refuses(self.replaced(b"program sha256:", b"program sha256:0"), "not the one that its PROVED states")
+        for word in ("program", *made.LIBRARIES):
+            line = f"\n{word} sha256:".encode()
+            self.refuses(self.replaced(line, line + b"0"), f"its {word} is not the one that its PROVED states")
         self.refuses(self.replaced(kit, b"another kit"), "states another kit than that of the program packed here: another kit")
 
     def test_a_commit_with_other_sources(self):
@@ -303,8 +341,18 @@ class OthersChanged(Checked):
             for top in (made.home(), bare()):
                 self.refuses(path, f"there is no {name} in it", top)
 
+    def test_a_header_and_what_pkg_config_reads(self):
+        for name in ("include/chipfire.h", "lib/pkgconfig/chipfire.pc"):
+            name = f"chipfire-{made.version()}/{name}"
+            self.each(repacked_archive(lambda files: files.update({name: files[name] + b"\n"})), name)
+
     def test_a_link(self):
-        self.refuses(repacked_archive(lambda files: files.update({"link": None})), "link in it is no file")
+        self.each(repacked_archive(lambda files: files.update({"link": "/etc/passwd"})), "link")
+        name = f"chipfire-{made.version()}/lib/{made.SHARED}"
+        self.each(repacked_archive(lambda files: files.update({name: "/etc/passwd"})), name)
+
+    def test_what_is_no_file(self):
+        self.refuses(repacked_archive(lambda files: files.update({"pipe": None})), "pipe in it is no file")
 
 
 class NoPackage(Checked):

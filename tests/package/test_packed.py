@@ -17,17 +17,17 @@ def page():
     return made.read(f"{made.ROOT}/docs/PACKAGES.md").decode()
 
 
-def readelf(word):
-    """Returns what readelf shows of the program."""
+def readelf(word, path=made.PROGRAM):
+    """Returns what readelf shows of the program, or of another file."""
     made.need("readelf")
-    return made.run("readelf", "-W", word, made.PROGRAM, check=True).stdout
+    return made.run("readelf", "-W", word, path, check=True).stdout
 
 
 def proved_crates():
-    """Returns the crates that the program stands on, and its own, by the lines of crates.txt."""
+    """Returns the crates that program and libraries stand on, and their own, by the lines of crates.txt."""
     lines = made.read(f"{made.ROOT}/crates.txt").decode().splitlines()
     direct = {line.partition(":")[0].split()[0]: line.partition(":")[2].split() for line in lines if line[:1] not in ("", "#")}
-    found, open_ones = set(), ["chipfire"]
+    found, open_ones = set(), ["chipfire", "chip_exports"]
     while open_ones:
         name = open_ones.pop()
         if name in direct and name not in found:
@@ -53,11 +53,13 @@ class Made(unittest.TestCase):
             made.write(f"{top}/dist/left over", b"")
         self.assertTrue(found[0] == found[1])
 
-    def test_the_program_is_the_one_that_was_built(self):
-        program = made.read(made.PROGRAM)
-        self.assertTrue(made.read(f"{made.unpacked()}/bin/chipfire") == program)
+    def test_program_and_libraries_are_those_that_were_built(self):
+        built = {made.PROGRAM: "bin/chipfire", **{made.library(it): f"lib/{it}" for it in made.LIBRARIES}}
+        for path, place in built.items():
+            self.assertTrue(made.read(f"{made.unpacked()}/{place}") == made.read(path))
         with zipfile.ZipFile(made.path_of(".whl")) as wheel:
-            self.assertTrue(wheel.read("chipfire/program/chipfire") == program)
+            for path in (made.PROGRAM, made.library(made.SHARED)):
+                self.assertTrue(wheel.read(f"chipfire/program/{os.path.basename(path)}") == made.read(path))
 
     def test_all_is_of_root(self):
         with tarfile.open(made.path_of(".tar.xz")) as archive:
@@ -68,9 +70,10 @@ class Made(unittest.TestCase):
     def test_proved(self):
         top, text = made.home(), made.read(f"{made.home()}/dist/PROVED").decode()
         head = made.run("git", "rev-parse", "HEAD", cwd=top).stdout.strip()
-        program = hashlib.sha256(made.read(made.PROGRAM)).hexdigest()
+        built = {"program": made.PROGRAM, **{it: made.library(it) for it in made.LIBRARIES}}
+        sums = [f"{word} sha256:{hashlib.sha256(made.read(path)).hexdigest()}" for word, path in built.items()]
         self.assertEqual(text.splitlines()[:3], [f"chipfire {made.version()}", f"kit {made.KIT}", f"commit {head}"])
-        self.assertEqual(text.splitlines()[4], f"program sha256:{program}")
+        self.assertEqual(text.splitlines()[4:], sums)
 
     def test_the_checksum_of_the_sources_is_that_of_sha256sum(self):
         folders = [f"crates/{crate}/{part}" for crate in proved_crates() for part in ("src", "specs", "proofs")]
@@ -142,13 +145,16 @@ class OneVersion(unittest.TestCase):
 
 class Needs(unittest.TestCase):
     def test_libraries(self):
-        needed = re.findall(r"\(NEEDED\).*\[(.*)\]", readelf("--dynamic"))
-        self.assertEqual(needed, ["libc.so.6"])
+        for path in (made.PROGRAM, made.library(made.SHARED)):
+            needed = re.findall(r"\(NEEDED\).*\[(.*)\]", readelf("--dynamic", path))
+            self.assertEqual(needed, ["libc.so.6"])
         self.assertIn("one shared library, `libc.so.6`", page())
 
     def test_c_library(self):
-        asked = re.findall(r"GLIBC_(\d+)\.(\d+)", readelf("--version-info"))
-        newest = max((int(major), int(minor)) for major, minor in asked)
+        asked = {path: re.findall(r"GLIBC_(\d+)\.(\d+)", readelf("--version-info", path))
+                 for path in (made.PROGRAM, made.library(made.SHARED))}
+        newest, of_library = (max((int(major), int(minor)) for major, minor in its) for its in asked.values())
+        self.assertLessEqual(of_library, newest)
         self.assertLessEqual(newest, OLDEST)
         text = "{}.{}".format(*newest)
         self.assertIn(f"glibc {text} or newer", page())
@@ -161,7 +167,8 @@ class Needs(unittest.TestCase):
         room = made.room()
         os.mkdir(f"{room}/debian")
         made.write(f"{room}/debian/control", b"Source: chipfire\n\nPackage: chipfire\nArchitecture: amd64\n")
-        found = made.run("dpkg-shlibdeps", "-O", f"{made.unpacked()}/bin/chipfire", cwd=room, check=True).stdout
+        files = [f"{made.unpacked()}/{it}" for it in ("bin/chipfire", f"lib/{made.SHARED}")]
+        found = made.run("dpkg-shlibdeps", "-O", *files, cwd=room, check=True).stdout
         self.assertEqual(found.strip().removeprefix("shlibs:Depends="),
                          made.run("dpkg-deb", "-f", made.path_of(".deb"), "Depends").stdout.strip())
 
@@ -172,7 +179,8 @@ class Needs(unittest.TestCase):
     def test_processor(self):
         """No instruction is one that came after the level x86-64-v2: those begin with v, or are in this list."""
         made.need("objdump")
-        shown = made.run("objdump", "-d", "--no-show-raw-insn", "-w", made.PROGRAM, check=True).stdout
+        files = [made.PROGRAM, made.library(made.SHARED)]
+        shown = made.run("objdump", "-d", "--no-show-raw-insn", "-w", *files, check=True).stdout
         used = set(re.findall(r"^ +[0-9a-f]+:\t(?:(?:lock|rep|repz|repnz|data16|cs|notrack|bnd) )*(\w+)", shown, re.MULTILINE))
         self.assertIn("mov", used)
         later = {"andn", "bextr", "blsi", "blsmsk", "blsr", "bzhi", "mulx", "pdep", "pext", "rorx", "sarx", "shlx", "shrx",

@@ -75,6 +75,9 @@ class Carried(unittest.TestCase):
         self.assertEqual((asked.returncode, asked.stdout.splitlines()[0]), (0, "vertices 3"))
         self.assertRegex(asked.stderr, r"\Achipfire: the program comes from release/: .*\n\Z")
         self.assertTrue(made.read(f"{top}/target/chipfire") == made.read(made.PROGRAM))
+        for name in made.LIBRARIES:
+            self.assertTrue(made.read(f"{top}/target/{name}") == made.read(made.library(name)))
+        self.assertEqual(os.readlink(f"{top}/target/libchipfire.so.0"), made.SHARED)
         self.assertEqual(made.run(f"{top}/chipfire", "check", f"{triangle}/graph.json").stderr, "")
 
     def test_it_is_not_made_of_sources_that_are_not_committed(self):
@@ -129,7 +132,7 @@ class Packed(unittest.TestCase):
         self.assertEqual(made.read(made.path_of(".tar.xz", top)), made.read(archive_of(top)))
         with zipfile.ZipFile(made.path_of(".whl", top)) as wheel:
             self.assertTrue(wheel.read("chipfire/program/chipfire") == made.read(made.PROGRAM))
-        self.assertIn("is the one in release/, and was not proved here", made.package(top, "--check", archive_of(top)).stdout)
+        self.assertIn("the build in release/, which was not proved here", made.package(top, "--check", archive_of(top)).stdout)
 
     def test_package_proves_if_that_is_asked_or_the_sources_are_others(self):
         for words in (["--prove"], ["--release"], []):
@@ -190,9 +193,9 @@ class Installed(unittest.TestCase):
 
 
 class Compared(unittest.TestCase):
-    def compare(self, top, program=made.PROGRAM, kit=made.KIT):
-        """Compares a program that a kit built with the one that a checkout carries, as the gate does."""
-        return made.run(f"{top}/tools/release.py", "--compare", program, kit)
+    def compare(self, top, folder=os.path.dirname(made.PROGRAM), kit=made.KIT):
+        """Compares what a kit built in a folder with what a checkout carries, as the gate does."""
+        return made.run(f"{top}/tools/release.py", "--compare", folder, kit)
 
     def goes_on(self, answer, line):
         self.assertEqual((answer.returncode, answer.stderr), (0, ""))
@@ -202,26 +205,36 @@ class Compared(unittest.TestCase):
         self.assertEqual((answer.returncode, answer.stdout), (1, ""))
         self.assertRegex(answer.stderr, rf"\Achipfire: the program in release/ is refused: {line}\n\Z")
 
-    def another_program(self):
-        path = f"{made.room()}/chipfire"
-        made.write(path, made.read(made.PROGRAM) + b"\0")
-        return path
+    def another(self, name):
+        """Returns a folder with what was built, in which one file is another."""
+        room = made.room()
+        made.build(room)
+        with open(f"{room}/target/{name}", "ab") as file:
+            file.write(b"\0")
+        return f"{room}/target"
 
     def test_the_same(self):
-        self.goes_on(self.compare(released()), "The program in release/ is the one that was built here, byte for byte.")
+        self.goes_on(self.compare(released()), "Program and libraries in release/ are those that were built here, .*")
 
-    def test_another_program_of_the_same_kit(self):
-        self.fails(self.compare(released(), self.another_program()), "it is not the program that the same kit built .*")
+    def test_another_program_or_library_of_the_same_kit(self):
+        for name, word in (("chipfire", "program"), *((it, it) for it in made.LIBRARIES)):
+            self.fails(self.compare(released(), self.another(name)), f"the same kit built another {word} here .*")
 
     def test_another_kit(self):
-        for program, built in ((made.PROGRAM, "the same program"), (self.another_program(), "another program")):
-            answer = self.compare(released(), program, "another kit")
-            self.goes_on(answer, f"{made.KIT} built the program in release/, and another kit built {built} here.")
+        for folder, built in ((os.path.dirname(made.PROGRAM), "the same"), (self.another("chipfire"), "another program")):
+            answer = self.compare(released(), folder, "another kit")
+            self.goes_on(answer, f"{made.KIT} built what is in release/, and another kit built {built} here.")
+
+    def test_a_library_is_missing(self):
+        for name in made.LIBRARIES:
+            folder = self.another("chipfire")
+            os.remove(f"{folder}/{name}")
+            self.fails(self.compare(released(), folder), ".*No such file or directory.*")
 
     def test_other_sources(self):
         top = clone()
         change_sources(top)
-        answer = self.compare(top, self.another_program())
+        answer = self.compare(top, self.another("chipfire"))
         self.goes_on(answer, "release/ was built from other sources than these, at commit [0-9a-f]{12}.")
 
     def test_a_byte_changed(self):
@@ -247,7 +260,7 @@ class Compared(unittest.TestCase):
     def test_a_version_that_another_program_had(self):
         top = clone()
         now = {name: made.read(f"{top}/release/{name}") for name in os.listdir(f"{top}/release")}
-        made.write(f"{top}/release/PROVED", now["PROVED"].replace(b"program sha256:", b"program sha256:0"))
+        made.write(f"{top}/release/PROVED", now["PROVED"].replace(b"libchipfire.so sha256:", b"libchipfire.so sha256:0"))
         made.commit(top)
         made.write(f"{top}/release/PROVED", now["PROVED"])
         made.commit(top)

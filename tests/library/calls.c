@@ -1,0 +1,190 @@
+/* Calls each function once with success and once for each fault, on the triangle: 0 and 1 beside the sink 2. All numbers
+ * are worked out by hand. It writes what is wrong, and ends with status 0 if nothing is. */
+#include <chipfire.h>
+#include <inttypes.h>
+#include <stdio.h>
+#include <string.h>
+
+enum { N = 3, EDGES = 4, GAMES = 2, DROPS = 3, GUARD = 77 };
+
+/* The triangle, and what calls are given and write. */
+struct call {
+    uint64_t vertices, sink, tails[EDGES], heads[EDGES], mults[EDGES], limit;
+    size_t edges, heads_len;
+    uint64_t guesses[GAMES * N], chips[GAMES * N], fired[GAMES * N], stopped[GAMES];
+    size_t guesses_len, chips_len, fired_len, games;
+    uint64_t at[DROPS], amounts[DROPS], sizes[DROPS], extents[DROPS], losts[DROPS];
+    size_t amounts_len, sizes_len, drops;
+    uint64_t place;
+};
+
+static int wrong = 0;
+
+/* Two games, and three drops on the first: 4 chips on 0 fire 0, 0, 1 and leave 1, 0, 3. */
+static struct call begin(void)
+{
+    struct call c = {
+        .vertices = N, .sink = 2, .tails = {0, 0, 1, 1}, .heads = {1, 2, 0, 2}, .mults = {1, 1, 1, 1},
+        .limit = UINT64_C(1) << 40, .edges = EDGES, .heads_len = EDGES,
+        .chips = {4, 0, 0, 1, 1, 5}, .fired = {GUARD, GUARD, GUARD, GUARD, GUARD, GUARD}, .stopped = {GUARD, GUARD},
+        .chips_len = GAMES * N, .fired_len = GAMES * N, .games = GAMES,
+        .at = {2, 0, 1}, .amounts = {1, 1, 2}, .sizes = {GUARD, GUARD, GUARD}, .extents = {GUARD, GUARD, GUARD},
+        .losts = {GUARD, GUARD, GUARD}, .amounts_len = DROPS, .sizes_len = DROPS, .drops = DROPS, .place = GUARD,
+    };
+    return c;
+}
+
+static uint64_t stabilize_all(struct call *c)
+{
+    return chipfire_stabilize_all(c->vertices, c->sink, c->tails, c->edges, c->heads, c->heads_len, c->mults, c->edges,
+                                  c->limit, c->guesses, c->guesses_len, c->chips, c->chips_len, c->fired, c->fired_len,
+                                  c->stopped, c->games, &c->place);
+}
+
+static uint64_t avalanches(struct call *c)
+{
+    return chipfire_avalanches(c->vertices, c->sink, c->tails, c->edges, c->heads, c->heads_len, c->mults, c->edges, c->limit,
+                               c->at, c->drops, c->amounts, c->amounts_len, c->chips, c->chips_len, c->sizes, c->sizes_len,
+                               c->extents, c->drops, c->losts, c->drops, &c->place);
+}
+
+static uint64_t verify(struct call *c)
+{
+    static const uint64_t chips[N] = {4, 0, 0};
+    return chipfire_verify(c->vertices, c->sink, c->tails, c->edges, c->heads, c->heads_len, c->mults, c->edges, c->limit,
+                           chips, N, c->fired, c->fired_len, c->chips, c->chips_len, &c->place);
+}
+
+/* Tells the line where something is not so. */
+static void expect(int is_so, int line)
+{
+    if (!is_so) {
+        printf("calls.c:%d: it is not so\n", line);
+        wrong = 1;
+    }
+}
+
+/* Looks that a call has a fault at a place, and has written nothing else. */
+static void expect_fault(uint64_t (*call)(struct call *), struct call c, uint64_t fault, uint64_t place, int line)
+{
+    struct call before = c;
+    uint64_t status = call(&c);
+    if (status != fault || c.place != place) {
+        printf("calls.c:%d: status %" PRIu64 " at %" PRIu64 ", and not %" PRIu64 " at %" PRIu64 "\n", line, status, c.place,
+               fault, place);
+        wrong = 1;
+    }
+    before.place = c.place;
+    expect(memcmp(&before, &c, sizeof c) == 0, line);
+}
+
+static int are(const uint64_t *found, size_t length, const uint64_t *wanted)
+{
+    return memcmp(found, wanted, length * sizeof *found) == 0;
+}
+
+#define NUMBERS(...) ((const uint64_t[]){__VA_ARGS__})
+#define EXPECT(is_so) expect(is_so, __LINE__)
+/* Looks for a fault of what `start` becomes by an edit. */
+#define FAULT(function, edit, fault, place) \
+    do { struct call c = start; edit; expect_fault(function, c, fault, place, __LINE__); } while (0)
+
+/* The faults of lengths and of graphs, which all calls have. */
+static void try_graphs(uint64_t (*function)(struct call *), struct call start)
+{
+    FAULT(function, c.heads_len = 3, 12, 0);
+    FAULT(function, (c.sink = 3), 2, 0);
+    FAULT(function, (c.heads[1] = 3), 4, 1);
+    FAULT(function, (c.tails[3] = UINT64_MAX), 4, 3);
+    FAULT(function, (c.mults[2] = 0), 5, 2);
+    FAULT(function, (c.mults[2] = (1 << 20) + 1), 5, 2);
+    FAULT(function, (c.heads[0] = 0), 6, 0);
+    FAULT(function, (c.tails[1] = 2, c.heads[1] = 0), 7, 1);
+    FAULT(function, (c.heads[1] = 1, c.heads[3] = 0), 8, 0);
+}
+
+static void try_games(void)
+{
+    const struct call start = begin();
+    struct call c = start;
+    EXPECT(stabilize_all(&c) == 0 && c.place == 0);
+    EXPECT(are(c.chips, 6, NUMBERS(1, 0, 3, 1, 1, 5)) && are(c.fired, 6, NUMBERS(2, 1, 0, 0, 0, 0)));
+    EXPECT(are(c.stopped, 2, NUMBERS(0, 0)));
+    c = start, c.guesses_len = 6, c.guesses[0] = 9, c.guesses[4] = UINT64_MAX;
+    EXPECT(stabilize_all(&c) == 0 && are(c.fired, 6, NUMBERS(2, 1, 0, 0, 0, 0)));
+    c = start, c.limit = 1;
+    EXPECT(stabilize_all(&c) == 0 && are(c.chips, 6, NUMBERS(2, 1, 1, 1, 1, 5)) && are(c.stopped, 2, NUMBERS(1, 0)));
+    c = start, c.games = 0, c.chips_len = 0, c.fired_len = 0;
+    EXPECT(stabilize_all(&c) == 0 && c.place == 0);
+    c = start, c.vertices = 1, c.sink = 0, c.edges = 0, c.heads_len = 0, c.chips_len = 2, c.fired_len = 2;
+    EXPECT(stabilize_all(&c) == 0 && are(c.chips, 2, NUMBERS(4, 0)) && are(c.fired, 2, NUMBERS(0, 0)));
+    try_graphs(stabilize_all, start);
+    FAULT(stabilize_all, (c.vertices = 0, c.chips_len = 0, c.fired_len = 0), 1, 0);
+    FAULT(stabilize_all, c.chips_len = 5, 12, 0);
+    FAULT(stabilize_all, c.fired_len = 5, 12, 0);
+    FAULT(stabilize_all, c.guesses_len = 3, 12, 0);
+    FAULT(stabilize_all, c.games = 1, 12, 0);
+    FAULT(stabilize_all, (c.games = 1, c.sink = 9), 12, 0);
+    FAULT(stabilize_all, (c.chips[3] = UINT64_C(1) << 40), 10, 1);
+    FAULT(stabilize_all, (c.chips[1] = UINT64_MAX), 10, 0);
+    FAULT(stabilize_all, (c.limit = (UINT64_C(1) << 40) + 1), 11, 0);
+}
+
+/* After the play 1, 0, 3 lie there. A chip on the sink does nothing; one on 0 fires it once, which leaves 0, 1, 5; two on 1
+ * fire it, and then 0 has one chip. */
+static void try_drops(void)
+{
+    struct call start = begin(), c;
+    start.chips_len = N;
+    c = start;
+    EXPECT(avalanches(&c) == 0 && c.place == 0);
+    EXPECT(are(c.chips, 3, NUMBERS(1, 1, 6)) && are(c.sizes, 3, NUMBERS(0, 1, 1)));
+    EXPECT(are(c.extents, 3, NUMBERS(0, 1, 1)) && are(c.losts, 3, NUMBERS(0, 1, 1)));
+    c = start, c.drops = 0, c.amounts_len = 0, c.sizes_len = 0;
+    EXPECT(avalanches(&c) == 0 && are(c.chips, 3, NUMBERS(1, 0, 3)));
+    try_graphs(avalanches, start);
+    FAULT(avalanches, c.chips_len = 2, 9, 0);
+    FAULT(avalanches, (c.chips_len = 2, c.heads[1] = 3), 4, 1);
+    FAULT(avalanches, (c.amounts_len = 2), 12, 0);
+    FAULT(avalanches, (c.sizes_len = 2), 12, 0);
+    FAULT(avalanches, (c.chips[2] = UINT64_C(1) << 40), 10, 0);
+    FAULT(avalanches, (c.limit = (UINT64_C(1) << 40) + 1), 11, 0);
+    FAULT(avalanches, (c.limit = 1), 13, 0);
+    FAULT(avalanches, (c.limit = 2), 13, 1);
+    FAULT(avalanches, (c.at[2] = 3), 26, 2);
+    FAULT(avalanches, (c.amounts[1] = UINT64_C(1) << 40), 10, 1);
+    FAULT(avalanches, (c.at[1] = 3, c.amounts[0] = UINT64_MAX), 10, 0);
+}
+
+/* The end of the first game, as a claim. */
+static struct call claim(void)
+{
+    struct call c = begin();
+    memcpy(c.chips, NUMBERS(1, 0, 3), sizeof(uint64_t[3]));
+    memcpy(c.fired, NUMBERS(2, 1, 0), sizeof(uint64_t[3]));
+    c.chips_len = c.fired_len = N;
+    return c;
+}
+
+static void try_claims(void)
+{
+    const struct call start = claim();
+    struct call c = start;
+    EXPECT(verify(&c) == 0 && c.place == 0);
+    try_graphs(verify, start);
+    FAULT(verify, c.fired_len = 2, 12, 0);
+    FAULT(verify, c.chips_len = 2, 12, 0);
+    FAULT(verify, c.limit = (UINT64_C(1) << 40) + 1, 11, 0);
+    FAULT(verify, c.fired[1] = 0, 53, 1);
+    FAULT(verify, c.chips[2] = 2, 53, 2);
+    FAULT(verify, c.limit = 1, 53, 0);
+}
+
+int main(void)
+{
+    EXPECT(chipfire_version() > 0);
+    try_games();
+    try_drops();
+    try_claims();
+    return wrong;
+}

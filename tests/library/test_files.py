@@ -1,0 +1,89 @@
+"""What the library is: its names, what it is linked of, its header, and programs in C that are built with it."""
+import os
+import re
+import shutil
+import sys
+
+import library
+from library import BUILT, HEADER, INCLUDE, ROOT, SHARED, STATIC, Room, declared, need
+
+STRICT = ["-Wall", "-Wextra", "-Werror", "-pedantic", f"-I{INCLUDE}"]
+#: What the library asks of the C library.
+ASKED = {"malloc", "realloc", "free", "memcpy", "memmove", "memset"}
+PAGE = f"{ROOT}/docs/tasks/from-c.md"
+EXAMPLE = f"{ROOT}/examples/c/grid.c"
+
+
+class Names(Room):
+    def names(self, path, *words):
+        """Returns the names in a file that nm shows with these words."""
+        need("nm")
+        shown = self.runs("nm", "--format=posix", *words, path)
+        return {line.split("@")[0].split()[0] for line in shown.splitlines() if len(line.split()) > 1}
+
+    def test_the_shared_library_exports_what_the_header_declares(self):
+        self.assertEqual(self.names(SHARED, "-D", "--defined-only"), set(declared()))
+
+    def test_the_static_library_has_these_and_those_of_the_heap(self):
+        names = self.names(STATIC, "--extern-only", "--defined-only")
+        self.assertEqual({it for it in names if not it.startswith("rattle_")}, set(declared()))
+
+    def test_they_ask_for_memory_alone(self):
+        self.assertLessEqual(self.names(SHARED, "-D", "--undefined-only"), ASKED)
+        asked = self.names(STATIC, "--undefined-only") - self.names(STATIC, "--extern-only", "--defined-only")
+        self.assertLessEqual(asked, ASKED)
+
+
+class Linked(Room):
+    def test_its_name_and_its_protection(self):
+        need("readelf")
+        shown = self.runs("readelf", "--wide", "--dynamic", "--program-headers", "--sections", SHARED)
+        self.assertIn("Library soname: [libchipfire.so.0]", shown)
+        for word in ("BIND_NOW", "GNU_RELRO"):
+            self.assertIn(word, shown)
+        self.assertRegex(shown, r"GNU_STACK .* RW ")
+        self.assertNotRegex(shown, r"\.symtab|\.debug|TEXTREL|RUNPATH|RPATH|INIT|FINI|\.tdata|\.tbss")
+
+    def test_the_same_bytes_in_two_folders(self):
+        need("rt")
+        proved = f"{ROOT}/crates/chip_exports/out/libchip_exports.a"
+        if not os.path.isfile(proved):
+            self.skipTest("nothing was built of chip_exports here")
+        for name in ("one", "other"):
+            os.mkdir(f"{self.room}/{name}")
+            shutil.copy(proved, f"{self.room}/{name}/proved.a")
+            self.runs(sys.executable, f"{ROOT}/tools/library.py", f"{name}/proved.a", name, cwd=self.room)
+        for name in ("libchipfire.so", "libchipfire.a"):
+            first, second = (open(f"{self.room}/{it}/{name}", "rb").read() for it in ("one", "other"))
+            self.assertTrue(first == second, name)
+
+    def test_the_version_is_that_of_the_program(self):
+        version = library.LIBRARY.chipfire_version()
+        told = "{}.{}.{}".format(version // 10**6, version // 1000 % 1000, version % 1000)
+        self.assertEqual(self.runs(library.PROGRAM, "--version"), f"chipfire {told}\n")
+
+
+class Built(Room):
+    def test_the_header_is_C_and_C_plus_plus(self):
+        need("gcc", "g++")
+        for compiler, form in (("gcc", "c11"), ("g++", "c++11"), ("g++", "c++20")):
+            language = "c++" if compiler == "g++" else "c"
+            self.runs(compiler, f"-std={form}", *STRICT, "-fsyntax-only", "-x", language, HEADER)
+
+    def programs(self, source):
+        """Returns the program of a source, linked with each of the libraries."""
+        need("gcc")
+        with_shared = [f"-L{BUILT}", "-lchipfire", f"-Wl,-rpath,{BUILT}"]
+        for name, libraries in (("shared", with_shared), ("static", [STATIC])):
+            self.runs("gcc", "-std=c11", *STRICT, source, *libraries, "-o", f"{self.room}/{name}")
+            yield f"{self.room}/{name}"
+
+    def test_each_call_and_each_fault_from_C(self):
+        for program in self.programs(f"{ROOT}/tests/library/calls.c"):
+            self.assertEqual(self.runs(program), "")
+
+    def test_the_example_answers_what_the_page_shows(self):
+        with open(PAGE, encoding="utf-8") as file:
+            shown = re.search(r"^\$ \./grid\n(.*?)^(?:\$|```)", file.read(), re.DOTALL | re.MULTILINE)[1]
+        for program in self.programs(EXAMPLE):
+            self.assertEqual(self.runs(program), shown)

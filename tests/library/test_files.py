@@ -63,6 +63,16 @@ class Linked(Room):
         self.assertEqual(self.runs(library.PROGRAM, "--version"), f"chipfire {told}\n")
 
 
+class Explained(Room):
+    def test_each_fault_of_the_header(self):
+        with open(HEADER, encoding="ascii") as file:
+            table = file.read().partition("then the chips.")[2].partition("The caller sees")[0]
+        numbers = re.findall(r"(?<![\^\d])([1-9]\d*) [a-z]", table)
+        self.assertEqual(numbers, [*map(str, range(1, 14)), "26", "53", "90"])
+        for number in numbers:
+            self.assertRegex(self.runs(library.PROGRAM, "explain", number), rf"^fault {number} ")
+
+
 class Built(Room):
     def test_the_header_is_C_and_C_plus_plus(self):
         need("gcc", "g++")

@@ -12,7 +12,7 @@ from typing import Any
 from chipfire.chips import CHIPS_HEADER, Configuration
 from chipfire.graphs import Graph
 from chipfire.reports import Report
-from chipfire.values import counted, library
+from chipfire.values import counted, imported
 
 ROWS_HEADER = "vertex,chips,size,extent,lost\n"
 #: How many drops become text at a time, and how many bytes of rows become numbers.
@@ -66,7 +66,7 @@ def parts_of(graph: Graph, vertices: Iterable[Hashable]) -> Iterator[bytes]:
 
 def columns_of(text: str) -> list[Any]:
     """The sizes, extents and numbers of lost chips in the rows that the program writes."""
-    numpy, columns = library("numpy"), [array("q") for _ in range(3)]
+    numpy, columns = imported("numpy"), [array("q") for _ in range(3)]
     at = len(ROWS_HEADER)
     while at < len(text):
         end = text.rindex("\n", at, at + _BYTES)

@@ -15,7 +15,7 @@ from typing import Any, NamedTuple
 
 from chipfire.chips import Chips, Configuration
 from chipfire.process import Kept
-from chipfire.values import MAX_LARGE_EDGES, MAX_LARGE_VERTICES, MAX_MULT, FileName, library, whole, wholes
+from chipfire.values import MAX_LARGE_EDGES, MAX_LARGE_VERTICES, MAX_MULT, FileName, imported, whole, wholes
 
 #: Which squares lie beside one of a lattice, as (rows down, columns to the right) by the parity of its row and column.
 _BESIDE: dict[str, Sequence[Sequence[tuple[int, int]]]] = {
@@ -184,7 +184,7 @@ class Graph:
     def _parts(self) -> Iterator[bytes]:
         """The text of the graph file in parts."""
         yield b'{"edges":['
-        numpy = library("numpy")
+        numpy = imported("numpy")
         for start in range(0, len(self.columns.tails), _PART):
             part = [column[start : start + _PART] for column in self.columns]
             if numpy:

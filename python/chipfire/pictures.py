@@ -17,7 +17,7 @@ from dataclasses import dataclass
 from typing import TYPE_CHECKING, Any, Union
 
 from chipfire import rasters
-from chipfire.values import FileName, library, whole, write
+from chipfire.values import FileName, imported, whole, write
 
 if TYPE_CHECKING:
     from chipfire.graphs import Graph
@@ -261,7 +261,7 @@ class Drawn:
         values = list(self._values(of))
         if self.graph is not None:
             values[self.graph.sink] = 0
-        numpy = library("numpy", "an array is one of NumPy")
+        numpy = imported("numpy", "an array is one of NumPy")
         return numpy.array(in_rows(self.graph, values, columns, 0), dtype=numpy.int64)
 
     def __array__(self, dtype: Any = None, copy: bool | None = None) -> Any:
@@ -273,7 +273,7 @@ class Drawn:
     ) -> Any:
         """Draws the picture by Matplotlib into axes, or into new ones, which it returns. A colour `bar` stands beside
         it if that is wanted; all else is as in `picture`."""
-        colors, pyplot = (library(f"matplotlib.{it}", "a plot is one of Matplotlib") for it in ("colors", "pyplot"))
+        colors, pyplot = (imported(f"matplotlib.{it}", "a plot is one of Matplotlib") for it in ("colors", "pyplot"))
         picture = self.picture(columns, palette, of=of, scale=scale, positions=positions)
         axes = pyplot.subplots()[1] if axes is None else axes
         cmap = colors.ListedColormap(picture.palette)

@@ -11,14 +11,14 @@ import zlib
 from collections.abc import Sequence
 from typing import Any
 
-from chipfire.values import FileName, library
+from chipfire.values import FileName, imported
 
 Rows = Sequence[bytes]
 
 
 def pillow() -> Any:
     """The module that Pillow makes pictures with, or None if it is not installed."""
-    return library("PIL.Image")
+    return imported("PIL.Image")
 
 
 def write(file: FileName, frames: Sequence[Rows], colours: bytes, milliseconds: int = 0) -> None:

@@ -19,7 +19,7 @@ from chipfire.chips import Chips, Configuration, burning, identity, played
 from chipfire.dropped import PART
 from chipfire.graphs import Graph
 from chipfire.program import AnyGraph, AnyProgram, drops, known_chips, known_graph
-from chipfire.values import library, whole
+from chipfire.values import imported, whole
 
 
 def _held(graph: AnyGraph, chips: Chips, program: AnyProgram) -> Configuration:
@@ -175,7 +175,7 @@ def _matrix(rows: list[smith.Row], sparse: bool) -> Any:
         return [[row.get(column, 0) for column in range(size)] for row in rows]
     entries = [(x, at, to) for at, row in enumerate(rows) for to, x in row.items()]
     values, at, to = zip(*entries) if entries else ((), (), ())
-    made = library("scipy.sparse", "a sparse matrix is one of SciPy").csr_matrix
+    made = imported("scipy.sparse", "a sparse matrix is one of SciPy").csr_matrix
     return made((values, (at, to)), shape=(size, size), dtype="int64")
 
 

@@ -54,7 +54,7 @@ def wholes(
     return [whole(value, what(place), least, most) for place, value in enumerate(values)]
 
 
-def library(name: str, wanted: str = "") -> Any:
+def imported(name: str, wanted: str = "") -> Any:
     """A module of a library. If it is not installed, None, or an ImportError that says what was `wanted` of it."""
     try:
         return importlib.import_module(name)

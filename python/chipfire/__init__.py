@@ -10,7 +10,8 @@ The answers are the program's, whose contracts are proved; nothing of the packag
 alone: `pip install ./python` installs it, and a copy of its folder works too. The program is found in this order: the
 `program` that a call or a `Program` names, the environment variable CHIPFIRE, the program that an installed package
 carries, `target/chipfire` of the repository that the package lies in or was installed from, the program in the
-`release` there, if `./chipfire` would take it, and `chipfire` on the PATH.
+`release` there, if `./chipfire` would take it, and `chipfire` on the PATH. Where its library lies too, which has the
+same bodies and proofs, short plays start no program: `chipfire.library` has the calls, and `find_library()` its file.
 
 The usual words of sandpiles are found under these names:
 
@@ -24,6 +25,7 @@ The usual words of sandpiles are found under these names:
     recurrent identity         identity(graph)
     stable sum                 add(graph, first, second)
     recurrent, superstable     is_recurrent(graph, chips), is_superstable(graph, chips); all of them: recurrents(graph)
+    many configurations        stabilize_many(graph, rows), are_recurrent(graph, rows)
     equivalent, q-reduced      recurrent_representative(graph, chips), superstable_representative(graph, chips)
     sandpile group             order(graph), invariant_factors(graph), Configuration.order()
     Laplacian                  laplacian(graph), reduced_laplacian(graph)
@@ -41,11 +43,12 @@ go by numbers, dicts and Series of pandas by names. Numbers of chips and firings
 2,097,152 vertices and 8,388,608 edges.
 """
 
-from chipfire import machine
+from chipfire import library as library, machine
 from chipfire.animation import Frames, frames, frames_by_chips
 from chipfire.chips import CHIPS_HEADER as CHIPS_HEADER, Chips, Configuration
 from chipfire.dropped import Drops
 from chipfire.graphs import Graph, aztec, complete, cycle, from_networkx, from_sage, grid, path, region, torus, wheel
+from chipfire.library import find_library as find_library
 from chipfire.machine import (
     RULES as RULES, SCHEDULE_HEADER as SCHEDULE_HEADER, TRACE_HEADER as TRACE_HEADER, Board as Board, Books as Books,
     Event as Event, Firing as Firing, Reply as Reply, Schedule as Schedule, Setting as Setting,
@@ -63,9 +66,9 @@ from chipfire.program import (
 )
 from chipfire.reports import Report
 from chipfire.sandpiles import (
-    Avalanche, add, avalanche, avalanches, burning_configuration, burning_script, invariant_factors, is_recurrent,
-    is_stable, is_superstable, laplacian, order, random_drops, recurrent_representative, recurrents, reduced_laplacian,
-    stabilize, superstable_representative, superstables,
+    Avalanche, add, are_recurrent, avalanche, avalanches, burning_configuration, burning_script, invariant_factors,
+    is_recurrent, is_stable, is_superstable, laplacian, order, random_drops, recurrent_representative, recurrents,
+    reduced_laplacian, stabilize, stabilize_many, superstable_representative, superstables,
 )
 from chipfire.schedules import explore, judge, random_schedule, shiviz, shrink
 from chipfire.values import (
@@ -80,11 +83,12 @@ __version__ = version()
 #: What is handed on besides is reachable too, and told of by `chipfire.machine`.
 __all__ = [
     "Avalanche", "Check", "Chips", "Configuration", "Drops", "Fault", "Frames", "Graph", "PALETTES", "Picture",
-    "Program", "ProgramNotFound", "Report", "TraceCut", "add", "avalanche", "avalanches", "aztec",
+    "Program", "ProgramNotFound", "Report", "TraceCut", "add", "are_recurrent", "avalanche", "avalanches", "aztec",
     "burning_configuration", "burning_script", "check", "complete", "cycle", "drops", "explain", "explore", "frames",
     "frames_by_chips", "from_networkx", "from_sage", "grid", "identity", "invariant_factors", "is_recurrent",
     "is_stable", "is_superstable", "judge", "laplacian", "machine", "order", "page", "path", "plain",
     "random_drops", "random_schedule", "read_chips", "recorded", "recurrent_representative", "recurrents",
     "reduced_laplacian", "region", "replay", "resume", "run", "shiviz", "shrink", "simulate", "stabilize",
-    "superstable_representative", "superstables", "torus", "verify", "wheel", "write_chips", "wrong_page",
+    "stabilize_many", "superstable_representative", "superstables", "torus", "verify", "wheel", "write_chips",
+    "wrong_page",
 ]

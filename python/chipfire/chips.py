@@ -8,7 +8,7 @@ import operator
 from collections.abc import Callable, Hashable, Iterator, Mapping, Sequence
 from typing import TYPE_CHECKING, Any, TypeVar, Union
 
-from chipfire import smith
+from chipfire import library, smith
 from chipfire.pictures import Drawn
 from chipfire.process import Kept, ask
 from chipfire.values import MAX_CHIPS, FileName, counted, whole
@@ -25,11 +25,14 @@ GUESS_HEADER = ("vertex", "fired")
 Chips = Union[int, Sequence[Any], Mapping[Any, int], Any]
 
 
+def capped(counts: Sequence[int]) -> Sequence[int]:
+    """Counts of chips or firings, of which what is too much anyway is a number of 64 bits."""
+    return counts if max(counts, default=0) <= MAX_CHIPS else [min(count, MAX_CHIPS + 1) for count in counts]
+
+
 def chips_text(chips: Sequence[int], header: Sequence[str] = CHIPS_HEADER) -> str:
-    """The text of a chips file, or of a guess. (What is too much anyway becomes a number that the program reads.)"""
-    if max(chips, default=0) > MAX_CHIPS:
-        chips = [min(count, MAX_CHIPS + 1) for count in chips]
-    return "".join([",".join(header), "\n", *(f"{at},{count}\n" for at, count in enumerate(chips) if count)])
+    """The text of a chips file, or of a guess."""
+    return "".join([",".join(header), "\n", *(f"{at},{count}\n" for at, count in enumerate(capped(chips)) if count)])
 
 
 class Configuration(Drawn, Mapping[Hashable, int]):
@@ -109,7 +112,7 @@ class Configuration(Drawn, Mapping[Hashable, int]):
 
     def is_recurrent(self, *, program: FileName | None = None) -> bool:
         """Whether it is recurrent: `chipfire.is_recurrent`."""
-        more: Configuration = self + burning(self.graph, program)[1]
+        more = Configuration(self.graph, [*map(operator.add, self.numbers, burning(self.graph, program)[1])])
         return min(self.numbers) >= 0 and more.stabilize(program=program) == self
 
     def is_superstable(self, *, program: FileName | None = None) -> bool:
@@ -129,17 +132,20 @@ class Configuration(Drawn, Mapping[Hashable, int]):
         return counted(self.degree, "chip")
 
 
-def played(chips: Configuration, program: FileName | None = None) -> tuple[list[int], list[int]]:
-    """What lies there when no vertex can fire any more, and how often each fired, by numbers. The program plays."""
+def played(chips: Configuration, program: FileName | None = None) -> tuple[Sequence[int], Sequence[int]]:
+    """What lies there when no vertex can fire any more, and how often each fired, by numbers."""
     if min(chips.numbers) < 0:
         name = next(name for name, count in chips.items() if count < 0)
         others = "recurrent_representative and superstable_representative take such chips"
         raise ValueError(f"the chips of vertex {name!r} are below 0, so nothing is played; {others}")
-    files = [("graph", chips.graph.kept), ("chips", Kept([chips_text(chips.numbers).encode()]))]
-    told = json.loads(ask(program, "plain", files, graph=chips.graph))
-    if told["over"]:
+    found = library.play(chips.graph, chips.numbers, program)
+    if found is None:
+        files = [("graph", chips.graph.kept), ("chips", Kept([chips_text(chips.numbers).encode()]))]
+        told = json.loads(ask(program, "plain", files, graph=chips.graph))
+        found = told["chips"], told["fired"], len(told["over"])
+    if found[2]:
         raise ValueError("a vertex fired 2^40 times, and the chips are not stable then")
-    return told["chips"], told["fired"]
+    return found[:2]
 
 
 def once(question: Callable[[Graph, FileName | None], T]) -> Callable[[Graph, FileName | None], T]:

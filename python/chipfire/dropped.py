@@ -2,21 +2,24 @@
 
 from __future__ import annotations
 
-import itertools
 from array import array
 from collections import Counter
-from collections.abc import Hashable, Iterable, Iterator
+from collections.abc import Iterator, Sequence
 from dataclasses import dataclass
 from typing import Any
 
-from chipfire.chips import CHIPS_HEADER, Configuration
+from chipfire import library
+from chipfire.chips import CHIPS_HEADER, Configuration, capped
 from chipfire.graphs import Graph
+from chipfire.process import Fault
 from chipfire.reports import Report
-from chipfire.values import counted, imported
+from chipfire.values import MAX_LIMIT, FileName, counted, imported, wholes
 
 ROWS_HEADER = "vertex,chips,size,extent,lost\n"
 #: How many drops become text at a time, and how many bytes of rows become numbers.
 PART = 2**16
+#: How many drops are one call of the library, so that an interrupt is soon seen.
+_AT_ONCE = 2**12
 _BYTES = 2**20
 
 
@@ -56,17 +59,47 @@ class Drops:
         return dict(sorted(Counter(getattr(self, of).tolist()).items()))
 
 
-def parts_of(graph: Graph, vertices: Iterable[Hashable]) -> Iterator[bytes]:
-    """The text of a file of drops, a chip for each of these names, in parts."""
+def dropped_on(graph: Graph, vertices: Any, amounts: Any) -> tuple[array[int], array[int]]:
+    """The numbers of the vertices, and how many chips fall on each: one, if there are no amounts."""
+    vertices, amounts = (it.tolist() if hasattr(it, "tolist") else it for it in (vertices, amounts))
+    at = array("Q", map(graph.number, vertices))
+    many = [1] * len(at) if amounts is None else wholes([*amounts], lambda drop: f"the number of chips of drop {drop}")
+    if len(many) != len(at):
+        raise ValueError(f"there are {counted(len(at), 'drop')}, and {counted(len(many), 'amount')}")
+    return at, array("Q", capped(many))
+
+
+def played_drops(
+    graph: Graph, chips: Sequence[int], at: array[int], amounts: array[int], program: FileName | None
+) -> list[Any] | None:
+    """The sizes, extents and numbers of lost chips by the library; None if the program is to be asked."""
+    found = library.play(graph, chips, program)
+    if not found or sum(chips) + max(amounts, default=0) > library.most(graph):
+        return None
+    left, columns = found[0], [array("Q", bytes(8 * len(at))) for _ in range(3)]
+    for start in range(0, len(at), _AT_ONCE):
+        where, many, *rows = (memoryview(it)[start : start + _AT_ONCE] for it in (at, amounts, *columns))
+        try:
+            library.avalanches(graph, where, many, left, rows[0], rows[1], rows[2], limit=library.most(graph))
+        except Fault as fault:
+            if fault.number == 13:
+                return None
+            raise
+    # (if there are more in all, the program may stop a vertex)
+    return None if sum(found[1]) + sum(columns[0]) > MAX_LIMIT else _shown(columns)
+
+
+def parts_of(at: array[int], amounts: array[int]) -> Iterator[bytes]:
+    """The text of a file of drops, in parts."""
     yield ",".join(CHIPS_HEADER).encode() + b"\n"
-    names = iter(vertices)
-    while part := list(itertools.islice(names, PART)):
-        yield "".join([f"{graph.number(name)},1\n" for name in part]).encode()
+    for start in range(0, len(at), PART):
+        rows = zip(at[start : start + PART], amounts[start : start + PART])
+        yield "".join([f"{vertex},{count}\n" for vertex, count in rows]).encode()
 
 
 def columns_of(text: str) -> list[Any]:
     """The sizes, extents and numbers of lost chips in the rows that the program writes."""
-    numpy, columns = imported("numpy"), [array("q") for _ in range(3)]
+    columns = [array("q") for _ in range(3)]
     at = len(ROWS_HEADER)
     while at < len(text):
         end = text.rindex("\n", at, at + _BYTES)
@@ -74,4 +107,10 @@ def columns_of(text: str) -> list[Any]:
         for place, column in enumerate(columns, 2):
             column.extend(numbers[place::5])
         at = end + 1
-    return [numpy.frombuffer(column, "q") for column in columns] if numpy else columns
+    return _shown(columns)
+
+
+def _shown(columns: list[array[int]]) -> list[Any]:
+    """Columns as whoever asked gets them."""
+    numpy = imported("numpy")
+    return [numpy.frombuffer(column, "q") if numpy else column for column in columns]

@@ -131,6 +131,11 @@ class Graph:
         return tuple(zip(*self.columns))
 
     @functools.cached_property
+    def long_columns(self) -> Columns:
+        """The edges by columns of 64-bit numbers, as the library takes them."""
+        return Columns(*(array("Q", column) for column in self.columns))
+
+    @functools.cached_property
     def shape(self) -> tuple[int, int] | None:
         """The shape of a grid that was not made as one; a single line of vertices is a row."""
         tails, heads, _ = self.columns
@@ -199,11 +204,12 @@ class Graph:
 
     def number(self, name: Hashable) -> int:
         """The number of the vertex with this name; a KeyError says that there is none."""
-        if isinstance(name, Hashable) and name in self._numbers:
+        try:
             return self._numbers[name]
-        is_square = isinstance(name, tuple) and isinstance(self.names, range) and isinstance(self.squares, range)
-        hint = f": that of a square is {self.shape[1]} * row + column" if is_square and self.shape else ""
-        raise KeyError(f"the graph has no vertex {name!r}{hint}")
+        except (KeyError, TypeError):
+            is_square = isinstance(name, tuple) and isinstance(self.names, range) and isinstance(self.squares, range)
+            hint = f": that of a square is {self.shape[1]} * row + column" if is_square and self.shape else ""
+            raise KeyError(f"the graph has no vertex {name!r}{hint}") from None
 
     @functools.cached_property
     def _numbers(self) -> dict[Hashable, int]:

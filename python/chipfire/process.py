@@ -147,15 +147,27 @@ def ask(
     status, output, errors = _started([path, *words], kept)
     if status in (1, 3) and errors and errors[-1].startswith("chipfire: fault "):
         number, name, *place = errors[-1].split()[2:]
-        told = _started([path, "explain", number])
-        explanation = told[1].strip() if told[0] == 0 else ""
         where = tuple(map(int, place))
-        raise Fault(int(number), name, where, explanation, status, _meant(int(number), where, words, inputs, graph))
+        told = _meant(int(number), where, words, inputs, graph)
+        raise Fault(int(number), name, where, _explained(path, number), status, told)
     if status not in (0, 2, 3) or not output.startswith(begins):
         raise RuntimeError(f"{path} {command} ended with status {status} and no answer of chipfire: {' '.join(errors)}")
     if "chipfire: trace cut" in errors:
         warnings.warn("a vertex took and fired more often than its trace has rows", TraceCut, stacklevel=3)
     return output
+
+
+def _explained(program: str, number: int | str) -> str:
+    status, told, _ = _started([program, "explain", str(number)])
+    return told.strip() if status == 0 else ""
+
+
+def refused(number: int, place: int, graph: Graph) -> Fault:
+    """The fault of this number in a call of the library, as the program would tell it."""
+    explanation = _explained(find_program(), number)
+    name, *letters = explanation.partition(":")[0].split()[2:] or [""]
+    where = (place,) * len(letters)
+    return Fault(number, name, where, explanation, 1, _meant(number, where, ["plain"], (), graph))
 
 
 def _meant(

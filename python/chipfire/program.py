@@ -9,16 +9,17 @@ from collections.abc import Callable, Hashable, Iterable, Sequence
 from dataclasses import replace
 from typing import TYPE_CHECKING, Any, NamedTuple, TypeVar, Union
 
-from chipfire.chips import CHIPS_HEADER, GUESS_HEADER, Chips, Configuration, chips_text
+from chipfire import library
+from chipfire.chips import CHIPS_HEADER, GUESS_HEADER, Chips, Configuration, capped, chips_text
 from chipfire.chips import identity as identity_numbers
-from chipfire.dropped import ROWS_HEADER, Drops, columns_of, parts_of
+from chipfire.dropped import ROWS_HEADER, Drops, columns_of, dropped_on, parts_of, played_drops
 from chipfire.graphs import Graph
 from chipfire.machine import (
     Firing, Schedule, Setting, Simulation, has_notes, read_schedule, schedule_text, trace_text,
 )
 from chipfire.process import Fault, Input, Kept, ask, find_program
 from chipfire.reports import Report
-from chipfire.values import FILE, MAX_CHIPS, MAX_LIMIT, FileName, whole, write
+from chipfire.values import FILE, MAX_LIMIT, FileName, whole, write
 
 if TYPE_CHECKING:
     from typing_extensions import Concatenate, ParamSpec
@@ -78,15 +79,18 @@ class _Question:
     def __init__(self, graph: AnyGraph, program: AnyProgram) -> None:
         self.program, self.given = program, graph
         self.own = None if isinstance(graph, FILE) else self.graph
-        self.file: Input = ("graph", graph if isinstance(graph, FILE) else self.graph.kept)
 
     @functools.cached_property
     def graph(self) -> Graph:
         return known_graph(self.given, self.program)
 
+    def numbers(self, given: Chips, of: str = "chips") -> Any:
+        """What is given by the numbers of the vertices, if it is not the name of a file."""
+        return given if isinstance(given, FILE) else self.graph.numbers(given, 0, of)
+
     def chips(self, chips: Chips, kind: str = "chips", header: Sequence[str] = CHIPS_HEADER) -> Input:
         of = "chips" if header is CHIPS_HEADER else "firings"
-        return _input(kind, chips, lambda given: chips_text(self.graph.numbers(given, 0, of), header))
+        return _input(kind, self.numbers(chips, of), lambda numbers: chips_text(numbers, header))
 
     def ask(self, command: str, inputs: Sequence[Input], *begins: str, **options: Any) -> str:
         for name, value in options.items():
@@ -95,7 +99,8 @@ class _Question:
             elif name in _FLAGS:
                 options[name] = bool(value)
         words = {name.replace("_", "-"): value for name, value in options.items()}
-        return ask(self.program, command, [self.file, *inputs], words, self.own, *begins)
+        file = self.given if isinstance(self.given, FILE) else self.graph.kept
+        return ask(self.program, command, [("graph", file), *inputs], words, self.own, *begins)
 
 
 def check(graph: AnyGraph, *, program: AnyProgram = None) -> Check:
@@ -116,9 +121,17 @@ def plain(
     changes no answer; one that is nearly true saves most of the play. With `progress`, `sys.stderr` gets a line about
     once a second that tells how the play goes on."""
     question = _Question(graph, program)
-    files = [question.chips(chips)]
+    start = question.numbers(chips)
+    counts = () if guess is None else question.numbers(guess.total if isinstance(guess, Report) else guess, "firings")
+    if question.own and not progress and not isinstance(start, FILE) and not isinstance(counts, FILE):
+        most = MAX_LIMIT if limit is None else whole(limit, "limit", *_RANGES["limit"])
+        found = library.play(question.own, start, program, most, capped(counts))
+        if found:
+            left, fired, stopped = found
+            over = (at for at, degree in enumerate(question.own.degrees()) if 0 < degree <= left[at]) if stopped else ()
+            return Report(tuple(left), tuple(fired), tuple(over), graph=question.own)
+    files = [question.chips(start)]
     if guess is not None:
-        counts = guess.total if isinstance(guess, Report) else guess
         files.append(question.chips(counts, "--guess", GUESS_HEADER))
     return Report.parse(question.ask("plain", files, limit=limit, progress=progress), question.graph)
 
@@ -129,39 +142,51 @@ def verify(
 ) -> bool:
     """Whether a report is what `plain` finds for this game and limit; or, in a form of chips, whether counts are those.
     A name is that of the file of a report. One that was stopped by a smaller limit may be honest, and is not verified.
-    Proved: the verdict on a report. Not proved: the chips that counts alone leave, which Python computes."""
+    Proved: the verdict on a file, and of what else is given the play. Not proved: that Python compares it."""
     question = _Question(graph, program)
-    if not isinstance(report, (Report, *FILE)):
-        known, counts = question.graph, question.graph.numbers(report, of="firings")
-        chips = known_chips(known, chips, program)
-        left = known.position_after(chips, counts)
-        over = [vertex for vertex, degree in enumerate(known.degrees()) if 0 < degree <= left[vertex]]
-        if min(*left, *counts) < 0 or max(*left, *counts) > MAX_CHIPS:
-            return False
-        report = Report(tuple(left), counts, tuple(over))
-    files = [question.chips(chips), _input("report", report, Report.text)]
-    try:
-        question.ask("verify", files, "verified\n", limit=limit, progress=progress)
-    except Fault as fault:
-        if fault.name == "Differs":
-            return False
-        raise
-    return True
+    if isinstance(report, FILE):
+        files = [question.chips(chips), ("report", report)]
+        try:
+            question.ask("verify", files, "verified\n", limit=limit, progress=progress)
+        except Fault as fault:
+            if fault.name == "Differs":
+                return False
+            raise
+        return True
+    told = report if isinstance(report, Report) else None
+    counts = told.total if told else question.graph.numbers(report, of="firings")
+    if min(counts) < 0:
+        return False
+    found = plain(graph, chips, limit=limit, guess=counts, progress=progress, program=program)
+    return found == replace(told, fired=counts, prior=None) if told else found.fired == counts
 
 
 def drops(
-    graph: AnyGraph, chips: Chips, vertices: Iterable[Hashable] | FileName, *, progress: bool = False,
-    program: AnyProgram = None,
+    graph: AnyGraph, chips: Chips, vertices: Iterable[Hashable] | FileName, *, amounts: Iterable[int] | None = None,
+    progress: bool = False, program: AnyProgram = None,
 ) -> Drops:
-    """Drops one chip after another, each on what the play of the one before it left, by one start of the program.
+    """Drops one chip after another, or several at a time, each on what the play of the one before it left.
 
     Before the first the chips are played to their end, if they are not stable. `vertices` are the names of the vertices
-    in the order of the drops, from anything that can be gone through once, as `random_drops`; or the name of a file of
-    rows `vertex,chips`, by which several chips may be dropped at once.
-    Proved: each row, and the report. Not proved: that Python reads them, and the histogram."""
+    in the order of the drops, from an array or anything that can be gone through once, as `random_drops`; `amounts` are
+    as many numbers of chips. Or a name is that of a file of rows `vertex,chips`.
+    Proved: each row, and the report. Not proved: that Python passes them on, and the histogram."""
     question, report = _Question(graph, program), Kept([])
-    file = vertices if isinstance(vertices, FILE) else Kept(parts_of(question.graph, vertices))
-    files: list[Input] = [question.chips(chips), ("drops", file), ("--report", report)]
+    start = question.numbers(chips)
+    rows: Any = vertices
+    if not isinstance(vertices, FILE):
+        at, many = dropped_on(question.graph, vertices, amounts)
+        if question.own and not progress and not isinstance(start, FILE):
+            columns = played_drops(question.own, start, at, many, program)
+            if columns:
+                together = list(start)
+                for vertex, count in zip(at, many):
+                    together[vertex] += count
+                return Drops(columns[0], columns[1], columns[2], plain(question.own, together))
+        rows = Kept(parts_of(at, many))
+    elif amounts is not None:
+        raise ValueError("a file of drops says itself how many chips each has")
+    files: list[Input] = [question.chips(start), ("drops", rows), ("--report", report)]
     size, extent, lost = columns_of(question.ask("avalanches", files, ROWS_HEADER, progress=progress))
     return Drops(size, extent, lost, Report.parse(report.text(), question.graph))
 

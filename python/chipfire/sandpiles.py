@@ -6,19 +6,18 @@ stabilized, the program is asked, whose answer is proved. What stands here, what
 
 from __future__ import annotations
 
-import functools
 import itertools
 import random
-from collections import Counter
+from array import array
 from collections.abc import Callable, Hashable, Iterable, Iterator, Sequence
 from dataclasses import dataclass, field
 from typing import Any
 
-from chipfire import smith
+from chipfire import library, smith
 from chipfire.chips import Chips, Configuration, burning, identity, played
 from chipfire.dropped import PART
 from chipfire.graphs import Graph
-from chipfire.program import AnyGraph, AnyProgram, drops, known_chips, known_graph
+from chipfire.program import AnyGraph, AnyProgram, known_chips, known_graph, plain
 from chipfire.values import imported, whole
 
 
@@ -71,6 +70,38 @@ def is_recurrent(graph: AnyGraph, chips: Chips, *, program: AnyProgram = None) -
     `burning_configuration` is added to it and the sum is stabilized.
     Proved: the stabilizations. Not proved: the comparison, and that the test is right."""
     return _held(graph, chips, program).is_recurrent(program=program)
+
+
+def stabilize_many(graph: AnyGraph, configurations: Iterable[Chips], *, program: AnyProgram = None) -> Any:
+    """What lies there when no vertex can fire any more, of many configurations: a row for each, with a column for each
+    vertex by numbers, where the sink has its chips too.
+
+    The configurations are rows of an array, or come in any form of chips. The answer is an array of NumPy if that is
+    installed, else a list of rows.
+    Proved: the chips. Not proved: that Python passes them on."""
+    known = known_graph(graph, program)
+    rows = [known.numbers(row, 0, f"chips in row {place}") for place, row in enumerate(configurations)]
+    found = library.play(known, [*itertools.chain.from_iterable(rows)], program)
+    reports = [] if found else [plain(known, row, program=program) for row in rows]
+    if not all(report.closed for report in reports):
+        raise ValueError("a vertex fired 2^40 times, and the chips are not stable then")
+    left = found[0] if found else array("Q", itertools.chain.from_iterable(report.chips for report in reports))
+    numpy, width = imported("numpy"), known.vertices
+    starts = range(0, len(left), width)
+    return numpy.frombuffer(left, "q").reshape(-1, width) if numpy else [tuple(left[it : it + width]) for it in starts]
+
+
+def are_recurrent(graph: AnyGraph, configurations: Iterable[Chips], *, program: AnyProgram = None) -> list[bool]:
+    """Of many configurations whether each is recurrent; they come as in `stabilize_many`.
+    Proved and not proved: as of `is_recurrent`."""
+    known = known_graph(graph, program)
+    fuel = burning(known, program)[1]
+    rows = (known.numbers(row, of=f"chips in row {place}") for place, row in enumerate(configurations))
+    held = [Configuration(known, row).numbers for row in rows]
+    # (no play comes back to what has less than no chip somewhere)
+    burnt = [[max(count, 0) + more for count, more in zip(row, fuel)] for row in held]
+    left = stabilize_many(known, burnt, program=program)
+    return [Configuration(known, after).numbers == row for after, row in zip(left, held)]
 
 
 def recurrent_representative(graph: AnyGraph, chips: Chips, *, program: AnyProgram = None) -> Configuration:
@@ -211,59 +242,41 @@ class Avalanche:
     size           how many firings it has
     extent         how many vertices fired
     lost           how many chips the firings brought to the sink
-    fired          how often each vertex fired, of those that did, by names; the program is asked when it is wanted
-    configuration  the chips that lie there after it, in the same way
+    fired          how often each vertex fired, of those that did, by names
+    configuration  the chips that lie there after it
     """
 
     vertex: Hashable
     size: int
     extent: int
     lost: int
-    #: A configuration before it, the drops on that, how many of them are before this one, and the program.
-    _known: tuple[Configuration, Sequence[Hashable], int, AnyProgram] = field(repr=False)
-
-    def _after(self, more: int) -> tuple[list[int], list[int]]:
-        """The chips after the drops before this one and so many more, and the firings of all of them together."""
-        held, names, count, program = self._known
-        return played(held + Counter(names[: count + more]), program)
-
-    @functools.cached_property
-    def configuration(self) -> Configuration:
-        return Configuration(self._known[0].graph, self._after(1)[0])
-
-    @functools.cached_property
-    def fired(self) -> dict[Hashable, int]:
-        names, counts = self._known[0].graph.names, zip(self._after(0)[1], self._after(1)[1])
-        return {name: after - before for name, (before, after) in zip(names, counts) if after > before}
+    fired: dict[Hashable, int] = field(repr=False)
+    configuration: Configuration = field(repr=False)
 
 
 def avalanche(graph: AnyGraph, chips: Chips, vertex: Hashable, *, program: AnyProgram = None) -> Avalanche:
     """What happens when one chip is dropped on a vertex of a stable configuration.
-    Proved: `size`, `extent`, `lost`, and the plays that `fired` and `configuration` come from. Not proved: the rest."""
+    Proved: the play that the chip causes. Not proved: the sums of its numbers."""
     return next(avalanches(graph, chips, [vertex], program=program))
 
 
 def avalanches(
     graph: AnyGraph, chips: Chips, vertices: Iterable[Hashable], *, program: AnyProgram = None
 ) -> Iterator[Avalanche]:
-    """The avalanches of one chip after another: each is dropped on a vertex of what the one before it left.
+    """The avalanches of chips that are dropped one after another, each on what the one before it left.
 
-    They come as they are found: the program finds one first, and each time twice as many as before, up to 1,024.
-    `drops` has the numbers of all of them in columns.
-    Proved: `size`, `extent`, `lost`, and the plays that `fired` and `configuration` come from. Not proved: the rest."""
+    They come one at a time, as they are wanted. `drops` has the numbers of all of them in columns, and much sooner.
+    Proved: the play that each chip causes. Not proved: the sums of its numbers."""
     start = _held(graph, chips, program)
     if not start.is_stable():
         raise ValueError("the chips are not stable: stabilize them first")
 
     def dropped() -> Iterator[Avalanche]:
-        held, names, some = start, iter(vertices), 1
-        while part := list(itertools.islice(names, some)):
-            found = drops(held.graph, held, part, program=program)
-            columns = (column.tolist() for column in (found.size, found.extent, found.lost))
-            for place, (name, size, extent, lost) in enumerate(zip(part, *columns)):
-                yield Avalanche(name, size, extent, lost, (held, part, place, program))
-            if not found.report.closed:
-                raise ValueError("a vertex fired 2^40 times, and the chips are not stable then")
-            held, some = found.configuration, min(2 * some, 1024)
+        held = start
+        for name in vertices:
+            left, counts = played(held + {name: 1}, program)
+            fired = {it: count for it, count in zip(held.graph.names, counts) if count}
+            lost, held = left[held.graph.sink], Configuration(held.graph, left)
+            yield Avalanche(name, sum(counts), len(fired), lost, fired, held)
 
     return dropped()

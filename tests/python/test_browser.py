@@ -69,7 +69,7 @@ def books_of(simulation):
         setting.graph.write(f"{folder}/graph.json")
         chipfire.write_chips(f"{folder}/chips.csv", setting.graph, setting.chips)
         chipfire.write_schedule(f"{folder}/schedule.csv", simulation.schedule)
-        words = [os.environ["CHIPFIRE"], "simulate", "graph.json", "chips.csv", "schedule.csv", "--books"]
+        words = [chipfire.find_program(), "simulate", "graph.json", "chips.csv", "schedule.csv", "--books"]
         words += [f"--limit={setting.limit}", f"--ring={setting.ring}", *(["--fed"] if setting.fed else [])]
         text = subprocess.run(words, cwd=folder, capture_output=True, encoding="utf-8").stdout
     books = []

@@ -67,10 +67,8 @@ class Verify(unittest.TestCase):
         self.assertFalse(chipfire.verify(TRIANGLE, [5, 0, 0], last.fired))
 
     def test_what_can_be_no_report_of_the_graph_is_refused(self):
-        with self.assertRaises(chipfire.Fault) as raised:
-            chipfire.verify(TRIANGLE, [5, 0, 0], chipfire.plain(chipfire.path(5), 1))
-        self.assertEqual((raised.exception.number, raised.exception.name), (52, "Mismatch"))
-        for told in ([1], [1, 2, 3, 4], [0.5, 0, 0], "no such file"):
+        other = chipfire.plain(chipfire.path(5), 1)
+        for told in (other, [1], [1, 2, 3, 4], [0.5, 0, 0], "no such file"):
             with self.assertRaises((ValueError, TypeError, OSError)):
                 chipfire.verify(TRIANGLE, [5, 0, 0], told)
 

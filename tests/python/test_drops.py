@@ -6,7 +6,6 @@ import unittest
 from unittest import mock
 
 import chipfire
-from chipfire import dropped
 from test_counts import GRAPHS, slow_report
 from test_package import CHIPS_FILE, TRIANGLE, TRIANGLE_FILE, WithFolder
 from test_sandpiles import has
@@ -73,10 +72,8 @@ class Rows(WithFolder):
 
     def test_many_rows_are_read_and_written_in_parts(self):
         with mock.patch("chipfire.dropped._BYTES", 20), mock.patch("chipfire.dropped.PART", 3):
-            self.assertEqual(rows_of(chipfire.drops(TRIANGLE, [4, 0, 0], [0, 1] * 20)), [(1, 1, 1)] * 40)
-        names = itertools.cycle([0, 1])
-        parts = dropped.parts_of(TRIANGLE, names)
-        self.assertEqual([next(parts), len(next(parts))], [b"vertex,chips\n", 4 * dropped.PART])
+            found = chipfire.drops(TRIANGLE, [4, 0, 0], [0, 1] * 20, program=chipfire.find_program())
+            self.assertEqual(rows_of(found), [(1, 1, 1)] * 40)
 
     def test_a_drop_that_a_limit_stops_has_no_row(self):
         # each firing of vertex 0 takes one chip off it that comes back, but for one in 2^20

@@ -34,7 +34,8 @@ class Own(chipfire.model.Core):
     def is_closed(self) -> bool:
         return super().is_closed()
 print(chipfire.random_schedule(setting, 1, Own).note("last"), chipfire.judge(setting, []).is_true, found)
-print(chipfire.drops(grid, chips, chipfire.random_drops(grid, 9, 1)).histogram()[0], setting)
+print(chipfire.drops(grid, chips, chipfire.random_drops(grid, 9, 1), amounts=[1] * 9).histogram()[0], setting)
+print(chipfire.stabilize_many(grid, [chips, 4])[0], chipfire.are_recurrent(grid, [chips])[0], chipfire.find_library())
 print(chipfire.Schedule().take(4), chipfire.MAX_CHIPS, chipfire.find_program(), chipfire.CHIPS_HEADER, chipfire.RULES)
 """
 

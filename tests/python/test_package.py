@@ -349,7 +349,7 @@ class Detector(WithFolder):
         self.assertEqual(early.why, "the message that engaged the vertex may not be acknowledged yet")
 
     def test_the_names_of_rules_are_those_of_the_program(self):
-        told = subprocess.run([os.environ["CHIPFIRE"], "explain", "rule"], capture_output=True, encoding="utf-8").stdout
+        told = subprocess.run([chipfire.find_program(), "explain", "rule"], capture_output=True, encoding="utf-8").stdout
         named = {int(number): (name, why) for number, name, why in re.findall(r"(?m)^rule (\d+) (\w+): (.*)$", told)}
         self.assertEqual(chipfire.machine.UNMET, named)
         self.assertEqual(chipfire.machine.UNMET.keys(), chipfire.RULES.keys())
@@ -694,15 +694,15 @@ class Killed(WithFolder):
         self.wait(lambda: not any(map(self.is_running, self.processes())))
 
     def test_a_graph_is_written_once_and_goes_with_the_object(self):
-        graph, count = chipfire.grid(4, 4), lambda: len(os.listdir("/dev/fd"))
-        chipfire.is_recurrent(chipfire.path(2), {})
+        graph, count, program = chipfire.grid(4, 4), lambda: len(os.listdir("/dev/fd")), chipfire.find_program()
+        chipfire.is_recurrent(chipfire.path(2), {}, program=program)
         gc.collect()
         before = count()
         for _ in range(9):
-            chipfire.is_recurrent(graph, graph.max_stable())
+            chipfire.is_recurrent(graph, graph.max_stable(), program=program)
         self.assertEqual(count(), before + 1)
         with mock.patch.object(chipfire.Graph, "_parts", side_effect=AssertionError):
-            chipfire.plain(graph, {0: 9})
+            chipfire.plain(graph, {0: 9}, program=program)
         kept = pickle.dumps(graph)
         del graph
         gc.collect()
@@ -714,7 +714,8 @@ class Killed(WithFolder):
         play = ("import chipfire, concurrent.futures, resource\n"
                 "resource.setrlimit(resource.RLIMIT_NOFILE, (128, 128))\n"
                 "paths = [chipfire.path(1 + n % 7) for n in range(200)]\n"
-                "play = lambda graph: chipfire.plain(graph, {0: 9}).chips[0]\n"
+                "program = chipfire.find_program()\n"
+                "play = lambda graph: chipfire.plain(graph, {0: 9}, program=program).chips[0]\n"
                 "one = [play(path) for path in paths + paths[:9]]\n"
                 "with concurrent.futures.ThreadPoolExecutor(4) as pool: several = list(pool.map(play, paths))\n"
                 "print(one[:200] == several, *one[200:])")
@@ -736,7 +737,7 @@ class Checks(unittest.TestCase):
 
 class Finding(WithFolder):
     def test_package_and_program_have_one_version(self):
-        ran = subprocess.run([os.environ["CHIPFIRE"], "--version"], capture_output=True, encoding="utf-8")
+        ran = subprocess.run([chipfire.find_program(), "--version"], capture_output=True, encoding="utf-8")
         self.assertEqual(ran.stdout.split()[-1], chipfire.__version__)
 
     def test_a_program_that_is_not_there(self):
@@ -744,7 +745,7 @@ class Finding(WithFolder):
             chipfire.check(TRIANGLE, program=self.file("nothing"))
 
     def test_the_program_is_named_found_or_missed(self):
-        program = os.environ["CHIPFIRE"]
+        program = chipfire.find_program()
         os.symlink(program, self.file("chipfire"))
         with mock.patch.dict(os.environ, {"CHIPFIRE": "/elsewhere"}):
             self.assertEqual(chipfire.Program().path, "/elsewhere")
@@ -767,7 +768,7 @@ class Finding(WithFolder):
         self.assertIn("chipfire is installed from a checkout of its repository", ran.stderr)
         subprocess.run([*words, "--target", self.folder, f"{clone}/python"], check=True, stderr=subprocess.DEVNULL)
         os.mkdir(f"{clone}/target")
-        os.symlink(os.environ["CHIPFIRE"], f"{clone}/target/chipfire")
+        os.symlink(chipfire.find_program(), f"{clone}/target/chipfire")
         ask = "import chipfire as it; print(it.__file__, it.__version__, it.plain(it.path(1), [3]).fired)"
         environment = {"PATH": "", "PYTHONPATH": self.folder, "PYTHONDONTWRITEBYTECODE": "1"}
         ran = subprocess.run([sys.executable, "-c", ask], env=environment, capture_output=True, encoding="utf-8")
@@ -783,7 +784,7 @@ class Running(WithFolder):
 
     def setUp(self):
         super().setUp()
-        if subprocess.run([os.environ["CHIPFIRE"], "run", "--help"], capture_output=True).returncode:
+        if subprocess.run([chipfire.find_program(), "run", "--help"], capture_output=True).returncode:
             self.skipTest("this program has no command run")
 
     def test_the_small_triangle_and_its_trace(self):

@@ -1,0 +1,145 @@
+"""libchipfire in this process: where it is, and its calls on arrays of whole numbers from 0 to 2^64 - 1.
+
+    chips, fired, stopped = (array("Q", bytes(8 * length)) for length in (5, 5, 1))
+    chips[0] = 9
+    chipfire.library.stabilize_all(chipfire.grid(2, 2), chips, fired, stopped)
+
+An array is an `array.array("Q")`, or one of NumPy of `uint64` in C's order that can be written. No two arrays of a call
+overlap. On a fault all stay as they were.
+
+`plain`, and what stands on it, goes this way if neither the call nor CHIPFIRE names a program, the library lies where
+the program does and has the package's version, and the play is short. Else the program answers, as a process. In a
+forked child of a process with threads set CHIPFIRE, since the library asks for memory.
+"""
+
+from __future__ import annotations
+
+import ctypes
+import functools
+import itertools
+import os
+import warnings
+from array import array
+from collections.abc import Sequence
+from typing import TYPE_CHECKING, Any
+
+from chipfire.process import ProgramNotFound, find_program, refused, version
+from chipfire.values import MAX_LIMIT, FileName, whole
+
+if TYPE_CHECKING:
+    from chipfire.graphs import Graph
+
+#: The most that a play in this process may take: vertices and edges, times chips, and times firings of each vertex.
+MOST_WORK = 2**28
+_NUMBER, _SLICE = ctypes.c_uint64, (ctypes.c_void_p, ctypes.c_size_t)
+#: No numbers; and what a slice of length 0 points to.
+_NONE, _SOMETHING = array("Q"), array("Q", [0])
+
+
+@functools.cache
+def _beside() -> ctypes.CDLL | None:
+    """The library of the program that is found, if it has the package's version."""
+    folder = os.path.dirname(os.path.realpath(find_program()))
+    installed = [os.path.join(os.path.dirname(folder), "lib", "libchipfire.so"), "libchipfire.so.0"]
+    for file in [os.path.join(folder, "libchipfire.so"), *installed * (os.path.basename(folder) == "bin")]:
+        try:
+            found = ctypes.CDLL(file)
+        except OSError:
+            continue
+        found.chipfire_version.restype = _NUMBER
+        number = found.chipfire_version()
+        own = f"{number // 10**6}.{number // 1000 % 1000}.{number % 1000}"
+        if own != version():
+            told = f"{file} has version {own}, and the package {version()}: each call starts the program, slower"
+            warnings.warn(told, stacklevel=2)
+            return None
+        for call, slices in (found.chipfire_stabilize_all, 4), (found.chipfire_avalanches, 6):
+            call.restype = _NUMBER
+            call.argtypes = [_NUMBER, _NUMBER, *3 * _SLICE, _NUMBER, *slices * _SLICE, ctypes.POINTER(_NUMBER)]
+        return found
+    return None
+
+
+def _loaded() -> ctypes.CDLL | None:
+    """The library, if CHIPFIRE does not name a program."""
+    return None if os.environ.get("CHIPFIRE") else _beside()
+
+
+def find_library() -> str | None:
+    """The library's file, or None if each call starts the program."""
+    found = _loaded()
+    return str(found._name) if found else None
+
+
+def most(graph: Graph) -> int:
+    """How many chips a game in this process may have, and how often each vertex may fire in it."""
+    return MOST_WORK // (graph.vertices + len(graph.columns.tails) or 1)
+
+
+def _slice(name: str, numbers: Any) -> tuple[int, int]:
+    """Where an array begins, and how many numbers it has."""
+    if isinstance(numbers, array) and numbers.typecode == "Q" and numbers:
+        return numbers.buffer_info()
+    try:
+        view = memoryview(numbers)
+        if view.format in ("Q", "L"):
+            return ctypes.addressof(ctypes.c_char.from_buffer(view if view.nbytes else _SOMETHING)), view.nbytes // 8
+    except TypeError:
+        pass
+    kind = "array of 64-bit numbers from 0 on, one behind another, that can be written"
+    raise TypeError(f"the {name} are no {kind}: {type(numbers).__name__}")
+
+
+def _call(call: str, graph: Graph, limit: int, **arrays: Any) -> None:
+    """Makes a call of the library. A fault is raised."""
+    found, place = _loaded(), _NUMBER()
+    if found is None:
+        raise ProgramNotFound(2, "there is no library of this version beside the program", "libchipfire.so")
+    edges = [_slice("edges", column) for column in graph.long_columns]
+    slices = [_slice(name, numbers) for name, numbers in arrays.items()]
+    ends = sorted([*edges, *slices])
+    if any(start + 8 * length > other for (start, length), (other, _) in zip(ends, ends[1:])):
+        raise ValueError(f"two of the {', '.join(arrays)} overlap")
+    of_graph = min(graph.vertices, 2**64 - 1), min(graph.sink, 2**64 - 1), *itertools.chain(*edges)
+    number = getattr(found, call)(*of_graph, whole(limit, "limit", 0, MAX_LIMIT), *itertools.chain(*slices), place)
+    if number:
+        raise refused(number, place.value, graph)
+
+
+def stabilize_all(
+    graph: Graph, chips: Any, fired: Any, stopped: Any, *, guesses: Any = _NONE, limit: int = MAX_LIMIT
+) -> None:
+    """Stabilizes many games on a graph. `chips` has those of one game after another, and gets those at the end.
+
+    `fired` is as long, and gets how often each vertex fired. `stopped` gets of each game how many vertices the limit
+    stopped. `guesses` is empty, or as long as `chips`: how often each vertex may have fired in the end."""
+    _call("chipfire_stabilize_all", graph, limit, guesses=guesses, chips=chips, fired=fired, stopped=stopped)
+
+
+def avalanches(
+    graph: Graph, at: Any, amounts: Any, chips: Any, sizes: Any, extents: Any, losts: Any, *, limit: int = MAX_LIMIT
+) -> None:
+    """Drops `amounts` of chips on the vertices `at`, one after another, on `chips`, which gets what lies there then.
+
+    `sizes`, `extents` and `losts` get the numbers of each drop, as `Drops` has them. The limit is that of all firings
+    of a vertex; if it stops the play of a drop, that is fault 13."""
+    rows = {"sizes": sizes, "extents": extents, "losts": losts}
+    _call("chipfire_avalanches", graph, limit, at=at, amounts=amounts, chips=chips, **rows)
+
+
+def play(
+    graph: Graph, chips: Sequence[int], program: FileName | None, limit: int = MAX_LIMIT, guess: Sequence[int] = ()
+) -> tuple[array[int], array[int], int] | None:
+    """The chips and the counts at the end of one game after another, and how many vertices the limit stopped; or None
+    if one of them is the program's."""
+    width, at_most = graph.vertices or 1, most(graph)
+    games = range(0, len(chips), width)
+    at_once = at_most // (1 + max((sum(chips[game : game + width]) for game in games), default=0))
+    if program is not None or not at_once or not _loaded():
+        return None
+    left, fired, stopped = array("Q", chips), array("Q", bytes(8 * len(chips))), array("Q", bytes(8 * len(games)))
+    for first in range(0, len(games) or 1, at_once):
+        part = slice(first * width, (first + at_once) * width)
+        here = memoryview(left)[part], memoryview(fired)[part], memoryview(stopped)[first : first + at_once]
+        stabilize_all(graph, *here, guesses=array("Q", guess[part]), limit=min(limit, at_most))
+    return None if at_most < limit and any(stopped) else (left, fired, sum(stopped))

@@ -1,0 +1,347 @@
+"""The library in this process: which calls go to it, its arrays, and many configurations and drops at once.
+
+All small cases are compared with the slow player of examples/play.py. With CHIPFIRE each call starts the program, and
+the tests of arrays are skipped.
+"""
+import itertools
+import os
+import random
+import shutil
+import subprocess
+import sys
+import tempfile
+import unittest
+import warnings
+from array import array
+from unittest import mock
+
+import chipfire
+from chipfire import library
+from test_counts import GRAPHS, slow_report
+from test_drops import rows_of, slow_rows
+from test_package import TRIANGLE, TRIANGLE_FILE, WithFolder
+from test_sandpile_words import DIRECTED, recurrent_ones
+from test_sandpiles import has
+
+SMALL = [*DIRECTED.values(), TRIANGLE, chipfire.path(3), chipfire.cycle(4), chipfire.Graph(1, 0, [])]
+IS_HERE = chipfire.find_library() is not None
+
+
+def configurations(graph, more):
+    """All chips below the degree of each vertex and so many more; the sink has two."""
+    degrees = graph.degrees()
+    ranges = [[2] if vertex == graph.sink else range(degree + more) for vertex, degree in enumerate(degrees)]
+    return [*itertools.product(*ranges)]
+
+
+def zeros(length):
+    return array("Q", bytes(8 * length))
+
+
+def kinds():
+    """What makes an array of numbers, of each kind that is here."""
+    yield lambda numbers: array("Q", numbers)
+    if has("numpy"):
+        import numpy
+        yield lambda numbers: numpy.array(numbers, "u8")
+
+
+class Many(unittest.TestCase):
+    def test_all_small_configurations_come_to_what_the_slow_player_finds(self):
+        for graph in SMALL:
+            rows = configurations(graph, 2)
+            with self.subTest(graph=graph):
+                wanted = [slow_report(graph, row).chips for row in rows]
+                self.assertEqual([tuple(row) for row in chipfire.stabilize_many(graph, rows)], wanted)
+        self.assertEqual(len(chipfire.stabilize_many(TRIANGLE, [])), 0)
+
+    def test_all_small_configurations_are_recurrent_that_more_chips_lead_to(self):
+        for graph in SMALL:
+            inner = [vertex for vertex in range(graph.vertices) if vertex != graph.sink]
+            wanted, rows = recurrent_ones(graph) if inner else {()}, configurations(graph, 1)
+            rows += [tuple(count - 3 for count in row) for row in rows]
+            with self.subTest(graph=graph):
+                found = chipfire.are_recurrent(graph, rows)
+                self.assertEqual(found, [tuple(row[vertex] for vertex in inner) in wanted for row in rows])
+                self.assertEqual(found, [chipfire.is_recurrent(graph, row) for row in rows])
+        self.assertEqual(chipfire.are_recurrent(TRIANGLE, iter([])), [])
+
+    def test_configurations_come_in_every_form(self):
+        wanted = [(1, 0, 3)] * 4 + [(1, 0, 0)]
+        rows = [[4, 0, 0], [4, 0], {0: 4}, array("q", [4, 0, 0]), chipfire.Configuration(TRIANGLE, [1, 0])]
+        for graph in (TRIANGLE, TRIANGLE_FILE):
+            self.assertEqual([tuple(row) for row in chipfire.stabilize_many(graph, iter(rows))], wanted)
+            self.assertEqual(chipfire.are_recurrent(graph, rows), [False] * 4 + [True])
+        grid = chipfire.grid(3, 2)
+        found = chipfire.stabilize_many(grid, [[[4, 0, 0], [0, 0, 0]]])
+        self.assertEqual(tuple(found[0]), slow_report(grid, [4, 0, 0, 0, 0, 0, 0]).chips)
+
+    @unittest.skipUnless(has("numpy"), "NumPy is not here")
+    def test_an_array_comes_of_an_array(self):
+        import numpy
+
+        rows = numpy.random.default_rng(1).integers(0, 9, (50, TRIANGLE.vertices))
+        for given in (rows, rows.astype("u1"), rows.astype(float), numpy.asfortranarray(rows)):
+            found = chipfire.stabilize_many(TRIANGLE, given)
+            self.assertEqual((found.shape, found.dtype), ((50, 3), "q"))
+            self.assertEqual(found.tolist(), [list(slow_report(TRIANGLE, row).chips) for row in rows.tolist()])
+        self.assertEqual(chipfire.stabilize_many(TRIANGLE, rows[:0]).shape, (0, 3))
+        with mock.patch("chipfire.sandpiles.imported", return_value=None):
+            self.assertEqual(chipfire.stabilize_many(TRIANGLE, rows), list(map(tuple, found.tolist())))
+
+    def test_what_is_no_configuration_is_told_with_its_row(self):
+        for row, refusal, said in [
+            ([0, -1, 0], ValueError, "chips in row 1 of vertex 1 is below 0: -1"), ([[]], ValueError, "row"),
+            ([0, 0.5, 0], TypeError, "chips in row 1 of vertex 1 is no whole number: 0.5"),
+            ({7: 1}, KeyError, "no vertex 7"), ([0] * 4, ValueError, "chips in row 1 for 4 vertices"),
+        ]:
+            with self.subTest(row=row), self.assertRaisesRegex(refusal, said):
+                chipfire.stabilize_many(TRIANGLE, [[0, 0, 0], row])
+        with self.assertRaisesRegex(TypeError, "row 0 .* no whole number: 0.5"):
+            chipfire.are_recurrent(TRIANGLE, [[0.5, 0, 0]])
+        with self.assertRaises(chipfire.Fault) as raised:
+            chipfire.stabilize_many(TRIANGLE, [[0, 0, 0], [0, 2**40, 1]])
+        self.assertEqual((raised.exception.number, raised.exception.name, raised.exception.place), (10, "Total", ()))
+
+    def test_plays_that_are_not_over(self):
+        graph = chipfire.Graph(3, 2, [(0, 1, 2**20), (0, 2), (1, 0)])
+        with self.assertRaisesRegex(ValueError, "fired 2.40 times"):
+            chipfire.stabilize_many(graph, [[1, 0, 0], [2**40, 0, 0]])
+
+
+class Amounts(unittest.TestCase):
+    def test_all_small_drops_are_those_of_the_slow_player(self):
+        for graph in (TRIANGLE, DIRECTED["a ring one way"]):
+            some = [*itertools.product(range(graph.vertices), (0, 1, 5))]
+            for first, second in itertools.product(some, some):
+                at, amounts = zip(first, second, first)
+                found = chipfire.drops(graph, 1, at, amounts=amounts)
+                chips = [int(vertex != graph.sink) for vertex in range(graph.vertices)]
+                with self.subTest(graph=graph, at=at, amounts=amounts):
+                    self.assertEqual(rows_of(found), list(slow_rows(graph, chips, zip(at, amounts))))
+                    for vertex, count in zip(at, amounts):
+                        chips[vertex] += count
+                    self.assertEqual(found.report, slow_report(graph, chips))
+
+    def test_many_drops_are_several_calls(self):
+        draw = random.Random(2)
+        for graph in GRAPHS[:4]:
+            drops = [(draw.randrange(graph.vertices), draw.randrange(4)) for _ in range(50)]
+            chips, (at, amounts) = [9] * graph.vertices, zip(*drops)
+            for at_once in (1, 7, 50):
+                with mock.patch("chipfire.dropped._AT_ONCE", at_once), mock.patch("chipfire.dropped.PART", at_once):
+                    found = chipfire.drops(graph, chips, at, amounts=amounts)
+                self.assertEqual(rows_of(found), list(slow_rows(graph, chips, drops)))
+
+    def test_amounts_come_in_every_form(self):
+        for amounts in ([4, 0], (4.0, 0), iter([4, 0]), array("B", [4, 0])):
+            self.assertEqual(rows_of(chipfire.drops(TRIANGLE, 0, [0, 1], amounts=amounts)), [(3, 2, 3), (0, 0, 0)])
+        if has("numpy"):
+            import numpy
+            found = chipfire.drops(TRIANGLE, 0, numpy.array([0, 1]), amounts=numpy.array([4, 0], "u1"))
+            self.assertEqual((rows_of(found), found.size.dtype), ([(3, 2, 3), (0, 0, 0)], "q"))
+
+    def test_what_is_refused(self):
+        for amounts, refusal, said in [
+            ([1], ValueError, "2 drops, and 1 amount"), ([1, -1], ValueError, "chips of drop 1 is below 0: -1"),
+            ([0.5, 1], TypeError, "chips of drop 0 is no whole number: 0.5"),
+        ]:
+            with self.assertRaisesRegex(refusal, said):
+                chipfire.drops(TRIANGLE, 0, [0, 1], amounts=amounts)
+        with self.assertRaisesRegex(ValueError, "says itself"):
+            chipfire.drops(TRIANGLE, 0, TRIANGLE_FILE, amounts=[1])
+        for amounts in ([2**40, 1], [2**90, 0]):
+            with self.assertRaises(chipfire.Fault) as raised:
+                chipfire.drops(TRIANGLE, 0, [0, 1], amounts=amounts)
+            self.assertEqual((raised.exception.number, raised.exception.place), (10, ()))
+
+
+class Ways(WithFolder):
+    """Which way a call goes."""
+
+    def counted(self):
+        """What counts how often the program is started."""
+        return mock.patch("chipfire.process._started", wraps=chipfire.process._started)
+
+    def test_short_plays_start_no_program(self):
+        grid = chipfire.grid(4, 4)
+        most = grid.max_stable()
+        with self.counted() as started:
+            report = chipfire.plain(grid, {5: 99}, limit=20, guess=3)
+            chipfire.verify(grid, {5: 99}, report, limit=20)
+            chipfire.verify(grid, {5: 99}, report.fired, limit=20)
+            chipfire.drops(grid, most, [1, 2, 3], amounts=[1, 2, 3])
+            (most + chipfire.identity(grid)).stabilize().is_recurrent()
+            chipfire.avalanche(grid, most, 5), chipfire.burning_script(grid), chipfire.add(grid, most, most)
+            chipfire.stabilize_many(grid, [9] * 3), chipfire.are_recurrent(grid, [3] * 3)
+        (self.assertEqual if IS_HERE else self.assertGreater)(started.call_count, 0)
+
+    def test_what_is_the_program_s_starts_it(self):
+        grid, file = chipfire.grid(4, 4), self.file("chips.csv", "vertex,chips\n5,9\n")
+        for call in (
+            lambda: chipfire.plain(grid, {5: 9}, program=chipfire.find_program()), lambda: chipfire.plain(grid, file),
+            lambda: chipfire.plain(grid, {5: 9}, progress=True), lambda: chipfire.plain(TRIANGLE_FILE, {0: 9}),
+            lambda: chipfire.Program().plain(grid, {5: 9}), lambda: chipfire.drops(grid, 0, [1], progress=True),
+        ):
+            with self.counted() as started:
+                call()
+            self.assertGreater(started.call_count, 0)
+        for name, call in [("most", lambda: chipfire.stabilize_many(grid, [{5: 9}] * 2)),
+                           ("avalanches", lambda: chipfire.drops(grid, 0, [5] * 9))]:
+            fault = chipfire.Fault(13, "Stopped", (0,), "", 1)
+            with mock.patch.object(library, name, side_effect=fault if name == "avalanches" else None, return_value=0):
+                with self.counted() as started:
+                    call()
+            self.assertGreater(started.call_count, 0)
+
+    def test_a_play_that_is_longer_than_was_thought_is_the_program_s(self):
+        chain = chipfire.Graph(3, 2, [(0, 1, 10), (1, 0), (0, 2)])
+        for chips, starts in ([30, 0, 0], 0), ([300, 0, 0], 1):
+            with mock.patch.object(library, "MOST_WORK", 6 * 320), self.counted() as started:
+                self.assertEqual(chipfire.plain(chain, chips), slow_report(chain, chips))
+            self.assertEqual(started.call_count > 0, bool(starts) or not IS_HERE)
+
+    @unittest.skipUnless(IS_HERE, "the library is not called")
+    def test_a_library_of_another_version_is_not_called(self):
+        self.addCleanup(library._beside.cache_clear)
+        library._beside.cache_clear()
+        with mock.patch.object(library, "version", return_value="0.0.1"), warnings.catch_warnings(record=True) as told:
+            warnings.simplefilter("always")
+            self.assertIsNone(chipfire.find_library())
+            self.assertEqual(chipfire.plain(TRIANGLE, [4, 0, 0]).fired, (2, 1, 0))
+        self.assertEqual(len(told), 1)
+        self.assertRegex(str(told[0].message), r"libchipfire.so has version [0-9.]+, and the package 0.0.1")
+
+    @unittest.skipUnless(IS_HERE, "the library is not called")
+    def test_it_lies_beside_the_program_or_where_one_installs_it(self):
+        file, program = os.path.realpath(chipfire.find_library()), os.path.realpath(chipfire.find_program())
+        ask = "import chipfire; print(chipfire.find_library())"
+        environment = {"PYTHONPATH": os.environ["PYTHONPATH"], "PYTHONDONTWRITEBYTECODE": "1"}
+        for place, beside, found in [("bin", "lib", True), ("apart", "lib", False), ("apart", "apart", True)]:
+            with self.subTest(place=place, beside=beside), tempfile.TemporaryDirectory() as folder:
+                for name, source in ((f"{place}/chipfire", program), (f"{beside}/libchipfire.so", file)):
+                    os.makedirs(f"{folder}/{os.path.dirname(name)}", exist_ok=True)
+                    shutil.copy(source, f"{folder}/{name}")
+                named = f"from chipfire import library; library.find_program = lambda: '{folder}/{place}/chipfire'"
+                words = [sys.executable, "-c", f"{named}; {ask}"]
+                ran = subprocess.run(words, env=environment, capture_output=True, encoding="utf-8")
+                self.assertEqual((ran.stdout.strip() != "None", ran.stderr), (found, ""))
+
+    def test_the_environment_names_the_program_alone(self):
+        with mock.patch.dict(os.environ, {"CHIPFIRE": chipfire.find_program()}):
+            self.assertIsNone(chipfire.find_library())
+            with self.assertRaises(chipfire.ProgramNotFound):
+                library.stabilize_all(TRIANGLE, zeros(3), zeros(3), zeros(1))
+
+    def test_threads_play_side_by_side(self):
+        from concurrent.futures import ThreadPoolExecutor
+
+        grid = chipfire.grid(5, 5)
+        wanted = [slow_report(grid, [count] * 25 + [0]) for count in range(4, 8)]
+        with ThreadPoolExecutor(4) as pool:
+            found = list(pool.map(lambda count: chipfire.plain(grid, count), [*range(4, 8)] * 25))
+        self.assertEqual(found, wanted * 25)
+
+
+@unittest.skipUnless(IS_HERE, "the library is not called")
+class Arrays(unittest.TestCase):
+    def test_games_one_after_another(self):
+        for make, graph in itertools.product(kinds(), SMALL):
+            rows = configurations(graph, 2)
+            for limit in (2**40, 1, 0):
+                wanted = [slow_report(graph, row, limit) for row in rows]
+                chips, fired = make([*itertools.chain(*rows)]), make([7] * len(rows) * graph.vertices)
+                stopped = make([7] * len(rows))
+                library.stabilize_all(graph, chips, fired, stopped, limit=limit)
+                self.assertEqual(chips.tolist(), [*itertools.chain(*(it.chips for it in wanted))])
+                self.assertEqual(fired.tolist(), [*itertools.chain(*(it.fired for it in wanted))])
+                self.assertEqual(stopped.tolist(), [len(it.over) for it in wanted])
+                again = make([*itertools.chain(*rows)])
+                library.stabilize_all(graph, again, make([7] * len(fired)), stopped, guesses=fired, limit=limit)
+                self.assertEqual(again.tolist(), chips.tolist())
+
+    def test_drops_one_after_another(self):
+        for make, graph in itertools.product(kinds(), SMALL):
+            draw = random.Random(3)
+            drops = [(draw.randrange(graph.vertices), draw.randrange(4)) for _ in range(40)]
+            at, amounts = map(make, zip(*drops))
+            chips, columns = make([3] * graph.vertices), [make([7] * 40) for _ in range(3)]
+            library.avalanches(graph, at, amounts, chips, *columns)
+            self.assertEqual([*zip(*(it.tolist() for it in columns))], [*slow_rows(graph, [3] * graph.vertices, drops)])
+            together = [3] * graph.vertices
+            for vertex, count in drops:
+                together[vertex] += count
+            self.assertEqual(chips.tolist(), [*slow_report(graph, together).chips])
+
+    def test_nothing_is_handed_over_as_something(self):
+        alone = chipfire.Graph(1, 0, [])
+        for make in kinds():
+            for graph in (alone, TRIANGLE):
+                library.stabilize_all(graph, make([]), make([]), make([]))
+                chips = make([2] * graph.vertices)
+                library.avalanches(graph, make([]), make([]), chips, make([]), make([]), make([]))
+                self.assertEqual(chips.tolist(), [*slow_report(graph, [2] * graph.vertices).chips])
+        self.assertEqual(chipfire.plain(alone, [3]).chips, (3,))
+        self.assertEqual(rows_of(chipfire.drops(alone, [3], [0], amounts=[2])), [(0, 0, 0)])
+
+    def test_a_fault_is_that_of_the_program_and_changes_nothing(self):
+        wrong = [chipfire.Graph(0, 0, []), chipfire.Graph(2, 2, []), chipfire.Graph(2, 1, [(0, 5)]),
+                 chipfire.Graph(2, 1, [(0, 1), (0, 1, 0)]), chipfire.Graph(3, 2, [(0, 2), (1, 1)]),
+                 chipfire.Graph(3, 2, [(0, 2), (2, 1)]), chipfire.Graph(4, 3, [(0, 3), (1, 2), (2, 1)]),
+                 chipfire.Graph(2**64 + 2, 1, [(0, 1)])]
+        for graph in wrong:
+            with self.subTest(graph=graph.columns), self.assertRaises(chipfire.Fault) as told:
+                library.stabilize_all(graph, zeros(min(graph.vertices, 9)), zeros(min(graph.vertices, 9)), zeros(1))
+            if graph.vertices < 9:
+                with self.assertRaises(chipfire.Fault) as asked:
+                    chipfire.check(graph)
+                self.assertEqual(told.exception.args, asked.exception.args)
+        arrays = [array("Q", it) for it in ([4, 0, 0, 2**40, 1, 0], [7] * 6, [7] * 2)]
+        before = [it[:] for it in arrays]
+        with self.assertRaises(chipfire.Fault) as told:
+            library.stabilize_all(TRIANGLE, *arrays)
+        with self.assertRaises(chipfire.Fault) as asked:
+            chipfire.plain(TRIANGLE, [2**40, 1, 0])
+        self.assertEqual((told.exception.args, arrays), (asked.exception.args, before))
+        for at, amounts, limit, number in [
+            ([0, 3], [1, 1], 9, 26), ([0, 1], [1, 2**40], 9, 10), ([0, 1], [4, 9], 2, 13), ([0], [1, 1], 9, 12),
+        ]:
+            arrays = [array("Q", it) for it in (at, amounts, [1, 0, 0], [7] * 2, [7] * 2, [7] * 2)]
+            before = [it[:] for it in arrays]
+            with self.subTest(number), self.assertRaises(chipfire.Fault) as told:
+                library.avalanches(TRIANGLE, *arrays, limit=limit)
+            self.assertEqual((told.exception.number, arrays), (number, before))
+
+    def test_what_is_no_such_array(self):
+        good = {"chips": zeros(3), "fired": zeros(3), "stopped": zeros(1)}
+        wrong = [[0, 0, 0], (0, 0, 0), 3, None, array("q", [0] * 3), array("d", [0] * 3), bytes(24), "abc"]
+        if has("numpy"):
+            import numpy
+            closed = numpy.zeros(3, "u8")
+            closed.flags.writeable = False
+            wrong += [closed, numpy.zeros(6, "u8")[::2], numpy.zeros(3), numpy.zeros(3, "q"), numpy.zeros(3, ">u8")]
+            wrong += [numpy.asfortranarray(numpy.zeros((3, 3), "u8"))[:, :2]]
+        for name, value in itertools.product(good, wrong):
+            said = f"^the {name} are no array of 64-bit"
+            with self.subTest(name, value=value), self.assertRaisesRegex(TypeError, said):
+                library.stabilize_all(TRIANGLE, **{**good, name: value})
+        for limit in (-1, 2**40 + 1):
+            with self.assertRaisesRegex(ValueError, "^limit is"):
+                library.stabilize_all(TRIANGLE, **good, limit=limit)
+
+    def test_arrays_do_not_overlap(self):
+        both = zeros(4)
+        parts = memoryview(both)
+        with self.assertRaisesRegex(ValueError, "two of the guesses, chips, fired, stopped overlap"):
+            library.stabilize_all(TRIANGLE, both[:3], parts[:3], parts[2:3])
+        library.stabilize_all(TRIANGLE, both[:3], parts[:3], parts[3:])
+        if has("numpy"):
+            import numpy
+            both = numpy.zeros(8, "u8")
+            with self.assertRaisesRegex(ValueError, "overlap"):
+                library.stabilize_all(TRIANGLE, both[:3], both[2:5], zeros(1))
+            library.stabilize_all(TRIANGLE, both[:3], both[3:6], both[6:7], guesses=zeros(3))
+
+
+if __name__ == "__main__":
+    unittest.main()

@@ -7,9 +7,11 @@ import itertools
 import os
 import random
 import shutil
+import signal
 import subprocess
 import sys
 import tempfile
+import time
 import unittest
 import warnings
 from array import array
@@ -232,6 +234,23 @@ class Ways(WithFolder):
             self.assertIsNone(chipfire.find_library())
             with self.assertRaises(chipfire.ProgramNotFound):
                 library.stabilize_all(TRIANGLE, zeros(3), zeros(3), zeros(1))
+
+    def test_an_interrupt_ends_what_is_long(self):
+        begins = ("import chipfire, signal\nsignal.signal(signal.SIGINT, signal.default_int_handler)\n"
+                  "grid = chipfire.grid(60, 60)\nprint('begun', flush=True)\n")
+        for call in (
+            "chipfire.stabilize_many(grid, (9 for _ in range(10**5)))", "chipfire.plain(chipfire.grid(511, 511), 4)",
+            "chipfire.drops(grid, grid.max_stable(), [1800] * 10**7)",
+        ):
+            with self.subTest(call):
+                words = [sys.executable, "-c", begins + call]
+                pipes = {"stdout": subprocess.PIPE, "stderr": subprocess.PIPE, "encoding": "utf-8"}
+                with subprocess.Popen(words, **pipes) as python:
+                    python.stdout.readline()
+                    time.sleep(1)
+                    python.send_signal(signal.SIGINT)
+                    _, errors = python.communicate(timeout=30)
+                self.assertRegex(errors, "KeyboardInterrupt")
 
     def test_threads_play_side_by_side(self):
         from concurrent.futures import ThreadPoolExecutor

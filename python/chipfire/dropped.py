@@ -18,9 +18,9 @@ from chipfire.values import MAX_LIMIT, FileName, counted, imported, wholes
 ROWS_HEADER = "vertex,chips,size,extent,lost\n"
 #: How many drops become text at a time, and how many bytes of rows become numbers.
 PART = 2**16
+_BYTES = 2**20
 #: How many drops are one call of the library, so that an interrupt is soon seen.
 _AT_ONCE = 2**12
-_BYTES = 2**20
 
 
 @dataclass(frozen=True, repr=False, eq=False)

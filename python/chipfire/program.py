@@ -7,7 +7,7 @@ import inspect
 import os
 from collections.abc import Callable, Hashable, Iterable, Sequence
 from dataclasses import replace
-from typing import TYPE_CHECKING, Any, NamedTuple, TypeVar, Union
+from typing import TYPE_CHECKING, Any, NamedTuple, TypeVar, Union, cast
 
 from chipfire import library
 from chipfire.chips import CHIPS_HEADER, GUESS_HEADER, Chips, Configuration, capped, chips_text
@@ -171,9 +171,8 @@ def drops(
     in the order of the drops, from an array or anything that can be gone through once, as `random_drops`; `amounts` are
     as many numbers of chips. Or a name is that of a file of rows `vertex,chips`.
     Proved: each row, and the report. Not proved: that Python passes them on, and the histogram."""
-    question, report = _Question(graph, program), Kept([])
+    question, rows = _Question(graph, program), cast(Any, vertices)
     start = question.numbers(chips)
-    rows: Any = vertices
     if not isinstance(vertices, FILE):
         at, many = dropped_on(question.graph, vertices, amounts)
         if question.own and not progress and not isinstance(start, FILE):
@@ -186,6 +185,7 @@ def drops(
         rows = Kept(parts_of(at, many))
     elif amounts is not None:
         raise ValueError("a file of drops says itself how many chips each has")
+    report = Kept([])
     files: list[Input] = [question.chips(start), ("drops", rows), ("--report", report)]
     size, extent, lost = columns_of(question.ask("avalanches", files, ROWS_HEADER, progress=progress))
     return Drops(size, extent, lost, Report.parse(report.text(), question.graph))
@@ -300,8 +300,8 @@ def _method(function: Callable[P, T]) -> Callable[Concatenate[Program, P], T]:
 
 
 class Program:
-    """The program chipfire of this name, or the one that is found, and its commands as methods. What it refuses is
-    raised as a `Fault`. An option that is None is left out, so the program's own value stands."""
+    """The program chipfire of this name, or the one that is found, and its commands as methods, each of which starts it.
+    What it refuses is raised as a `Fault`. An option that is None is left out, so the program's own value stands."""
 
     def __init__(self, program: AnyProgram = None) -> None:
         self.path = find_program() if program is None else os.fspath(program)

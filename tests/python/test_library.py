@@ -219,14 +219,18 @@ class Ways(WithFolder):
         file, program = os.path.realpath(chipfire.find_library()), os.path.realpath(chipfire.find_program())
         ask = "import chipfire; print(chipfire.find_library())"
         environment = {"PYTHONPATH": os.environ["PYTHONPATH"], "PYTHONDONTWRITEBYTECODE": "1"}
-        for place, beside, found in [("bin", "lib", True), ("apart", "lib", False), ("apart", "apart", True)]:
+        for place, beside, found in [
+            ("apart", "apart/libchipfire.so", True), ("apart", "lib/libchipfire.so", False),
+            ("bin", "lib/libchipfire.so", True), ("bin", "loaded/libchipfire.so.0", True),
+            ("apart", "loaded/libchipfire.so.0", False),
+        ]:
             with self.subTest(place=place, beside=beside), tempfile.TemporaryDirectory() as folder:
-                for name, source in ((f"{place}/chipfire", program), (f"{beside}/libchipfire.so", file)):
+                for name, source in ((f"{place}/chipfire", program), (beside, file)):
                     os.makedirs(f"{folder}/{os.path.dirname(name)}", exist_ok=True)
                     shutil.copy(source, f"{folder}/{name}")
                 named = f"from chipfire import library; library.find_program = lambda: '{folder}/{place}/chipfire'"
-                words = [sys.executable, "-c", f"{named}; {ask}"]
-                ran = subprocess.run(words, env=environment, capture_output=True, encoding="utf-8")
+                words, loads = [sys.executable, "-c", f"{named}; {ask}"], {"LD_LIBRARY_PATH": f"{folder}/loaded"}
+                ran = subprocess.run(words, env={**environment, **loads}, capture_output=True, encoding="utf-8")
                 self.assertEqual((ran.stdout.strip() != "None", ran.stderr), (found, ""))
 
     def test_the_environment_names_the_program_alone(self):

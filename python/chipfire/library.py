@@ -67,8 +67,7 @@ def _loaded() -> ctypes.CDLL | None:
 
 def find_library() -> str | None:
     """The library's file, or None if each call starts the program."""
-    found = _loaded()
-    return str(found._name) if found else None
+    return str(found._name) if (found := _loaded()) else None
 
 
 def most(graph: Graph) -> int:

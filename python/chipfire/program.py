@@ -125,8 +125,7 @@ def plain(
     counts = () if guess is None else question.numbers(guess.total if isinstance(guess, Report) else guess, "firings")
     if question.own and not progress and not isinstance(start, FILE) and not isinstance(counts, FILE):
         most = MAX_LIMIT if limit is None else whole(limit, "limit", *_RANGES["limit"])
-        found = library.play(question.own, start, program, most, capped(counts))
-        if found:
+        if found := library.play(question.own, start, program, most, capped(counts)):
             left, fired, stopped = found
             over = (at for at, degree in enumerate(question.own.degrees()) if 0 < degree <= left[at]) if stopped else ()
             return Report(tuple(left), tuple(fired), tuple(over), graph=question.own)
@@ -153,12 +152,11 @@ def verify(
                 return False
             raise
         return True
-    told = report if isinstance(report, Report) else None
-    counts = told.total if told else question.graph.numbers(report, of="firings")
+    counts = report.total if isinstance(report, Report) else question.graph.numbers(report, of="firings")
     if min(counts) < 0:
         return False
     found = plain(graph, chips, limit=limit, guess=counts, progress=progress, program=program)
-    return found == replace(told, fired=counts, prior=None) if told else found.fired == counts
+    return found == replace(report, fired=counts, prior=None) if isinstance(report, Report) else found.fired == counts
 
 
 def drops(
@@ -176,8 +174,7 @@ def drops(
     if not isinstance(vertices, FILE):
         at, many = dropped_on(question.graph, vertices, amounts)
         if question.own and not progress and not isinstance(start, FILE):
-            columns = played_drops(question.own, start, at, many, program)
-            if columns:
+            if columns := played_drops(question.own, start, at, many, program):
                 together = list(start)
                 for vertex, count in zip(at, many):
                     together[vertex] += count

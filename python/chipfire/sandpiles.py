@@ -11,14 +11,14 @@ import random
 from array import array
 from collections.abc import Callable, Hashable, Iterable, Iterator, Sequence
 from dataclasses import dataclass, field
-from typing import Any
+from typing import Any, cast
 
 from chipfire import library, smith
-from chipfire.chips import Chips, Configuration, burning, identity, played
+from chipfire.chips import Chips, Configuration, burning, capped, identity, played
 from chipfire.dropped import PART
 from chipfire.graphs import Graph
 from chipfire.program import AnyGraph, AnyProgram, known_chips, known_graph, plain
-from chipfire.values import imported, whole
+from chipfire.values import MAX_CHIPS, imported, whole
 
 
 def _held(graph: AnyGraph, chips: Chips, program: AnyProgram) -> Configuration:
@@ -79,15 +79,19 @@ def stabilize_many(graph: AnyGraph, configurations: Iterable[Chips], *, program:
     The configurations are rows of an array, or come in any form of chips. The answer is an array of NumPy if that is
     installed, else a list of rows.
     Proved: the chips. Not proved: that Python passes them on."""
-    known = known_graph(graph, program)
-    rows = [known.numbers(row, 0, f"chips in row {place}") for place, row in enumerate(configurations)]
-    found = library.play(known, [*itertools.chain.from_iterable(rows)], program)
-    reports = [] if found else [plain(known, row, program=program) for row in rows]
+    known, given = known_graph(graph, program), cast(Any, configurations)
+    width, numpy = known.vertices, imported("numpy")
+    is_array = hasattr(given, "__array_interface__") and given.shape[1:] == (width,) and given.dtype.kind in "iu"
+    if is_array and ((given >= 0) & (given <= MAX_CHIPS)).all():
+        start = array("Q", given.astype("u8").tobytes())
+    else:
+        rows = (known.numbers(row, 0, f"chips in row {place}") for place, row in enumerate(given))
+        start = array("Q", capped([*itertools.chain.from_iterable(rows)]))
+    found, starts = library.play(known, start, program), range(0, len(start), width or 1)
+    reports = [] if found else [plain(known, start[it : it + width], program=program) for it in starts]
     if not all(report.closed for report in reports):
         raise ValueError("a vertex fired 2^40 times, and the chips are not stable then")
     left = found[0] if found else array("Q", itertools.chain.from_iterable(report.chips for report in reports))
-    numpy, width = imported("numpy"), known.vertices
-    starts = range(0, len(left), width)
     return numpy.frombuffer(left, "q").reshape(-1, width) if numpy else [tuple(left[it : it + width]) for it in starts]
 
 

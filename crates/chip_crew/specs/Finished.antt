@@ -2,7 +2,7 @@
 use Rattle.std.specs.Prelude.{◌≡◌, ◌⊎◌, ℕ, ◌+◌, ◌<◌, ⊤, Bool, true, false, sum, Some, None, ◌*◌, ◌≤◌}
 use Rattle.std.specs.Prelude.{is_some}
 use Rattle.chip_graph.specs.Limits.{max_total}
-use Rattle.chip_graph.specs.More.{HasMore, all_brought}
+use Rattle.chip_graph.specs.More.{HasMore, HasRoom, all_brought}
 use Rattle.chip_graph.specs.ChipGame.{ChipGame}
 use Rattle.chip_sequence.specs.Play.{IsPlayed}
 use Rattle.chip_part.specs.Setting.{setting_with}
@@ -23,7 +23,7 @@ use Rattle.chip_crew.specs.declared.fault.CrewFault.TheVariants as fault
 -- with the chips of the start what is fed stays within the total
 abbrev pub StaysWithin : ChipGame → Left → Type 0
 StaysWithin game None = ⊤
-StaysWithin game (Some feeds) = sum game.start + all_brought feeds ≤ max_total
+StaysWithin game (Some feeds) = HasRoom game feeds
 
 -- it passes the total
 abbrev pub PassesTotal : ChipGame → Left → Type 0

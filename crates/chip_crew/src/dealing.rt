@@ -29,7 +29,7 @@ fn ends_at(graph: &Graph, vertex: u64) -> u64
 /// The ends of edges at all vertices.
 fn all_ends(graph: &Graph) -> u64
     ensures value { result ≡ ends_before graph.now graph.now.vertices }
-    ensures few { result ≤ 2 ^ 45 }
+    ensures few { result ≤ 2 ^ 46 }
 {
     let mut ends = 0;
     for vertex in 0..graph.vertices() {

@@ -1,11 +1,11 @@
-ghost use Rattle.std.specs.Prelude.{◌≡◌, ◌↔◌, ◌<◌, IsTrue, MatchResult};
+ghost use Rattle.std.specs.Prelude.{◌≡◌, ◌<◌, MatchResult};
 ghost use Rattle.std.specs.Option.{option_copied};
 ghost use Rattle.chip_crew.specs.Plans.{is_plan};
 ghost use Rattle.chip_crew.specs.Feeding.{pairs};
-ghost use Rattle.chip_crew.specs.Finished.{CanPlay, RefusesPlan, StaysWithin};
+ghost use Rattle.chip_crew.specs.Finished.{CanPlay, RefusesPlan};
 
 use crate::fault::CrewFault;
-use chip_graph::{Game, MAX_TOTAL};
+use chip_graph::Game;
 use chip_link::{MAX_RING, Ring};
 
 /// The most workers of a crew.
@@ -83,10 +83,10 @@ impl Plan {
             Some(ring) if self.is_within(game) && are_feeds(game, feeds) => ring,
             _ => return Err(CrewFault::Plan),
         };
-        if !are_within_total(game, feeds) {
-            return Err(CrewFault::Total);
+        match feeds {
+            Some(feeds) if !game.has_room(feeds) => Err(CrewFault::Total),
+            _ => Ok(ring),
         }
-        Ok(ring)
     }
 
     /// Whether the numbers are in their ranges for this game.
@@ -122,21 +122,4 @@ fn are_feeds(game: &Game, feeds: Option<&[(u64, u64)]>) -> bool
     feeds
         .iter()
         .all(|&(vertex, count)| vertex < vertices && 0 < count)
-}
-
-/// Whether the chips of the start and of all feeds are at most `MAX_TOTAL`.
-fn are_within_total(game: &Game, feeds: Option<&[(u64, u64)]>) -> bool
-    ensures { IsTrue result ↔ StaysWithin game.now (option_copied feeds.entry) }
-{
-    let Some(feeds) = feeds else {
-        return true;
-    };
-    let mut room = MAX_TOTAL - game.total();
-    for &(_, count) in feeds {
-        if count > room {
-            return false;
-        }
-        room -= count;
-    }
-    true
 }

@@ -31,9 +31,9 @@ same_graph : (limits others : SizeLimits) (graph_text : List ℕ) (G H : Multigr
 same_graph limits others graph_text G H one other = let a = one.meaning in let b = other.meaning in cc
 
 pub plain_tells_play : PlainTellsPlay
-plain_tells_play limits graph_text chips_text limit report ended plain g means =
-    report_tells g means.game report ended.status
-    (plain_reports limits graph_text chips_text limit report ended.status g means (limits, ended, plain.answer, refl))
+plain_tells_play limits graph_text chips_text limit report status wrote g means =
+    report_tells g means.game report status
+    (plain_reports limits graph_text chips_text limit report status g means wrote)
 
 pub simulate_tells_play : SimulateTellsPlay
 simulate_tells_play g log end report status ends is =

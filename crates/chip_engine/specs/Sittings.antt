@@ -10,7 +10,7 @@ use Rattle.chip_part.specs.Setting.{Setting}
 use Rattle.chip_core.specs.Core.{Log}
 use Rattle.chip_core.specs.Positions.{chips_given}
 use Rattle.chip_command.specs.Inputs.{Reads, MeansGame}
-use Rattle.chip_command.specs.PlainCommand.{PlainAnswers}
+use Rattle.chip_command.specs.OneReport.{PlainWrote}
 use Rattle.chip_command.specs.Sitting.{TellsPlayFrom}
 use Rattle.chip_engine.specs.ResumeCommand.{LeadsToTheEnd, ResumeAnswers}
 use Rattle.chip_simulate.specs.SimulateCommand.{EndsClosed}
@@ -31,9 +31,9 @@ AreResumed graph_text first (report ∷ reports) last =
 -- what `plain` writes tells a play from the start of its game
 abbrev pub PlainTellsPlay : Type 0
 PlainTellsPlay =
-    (limits : SizeLimits) (graph_text chips_text : List ℕ) (limit : ℕ) (report : List ℕ) (ended : Ended)
-    → PlainAnswers limits (Some graph_text) (Some chips_text) limit (Some []) (Some report) (Ok ended)
-    → (g : ChipGame) → MeansGame limits graph_text chips_text limit g → TellsPlayFrom g.graph (slice_index g.start) report
+    (limits : SizeLimits) (graph_text chips_text : List ℕ) (limit : ℕ) (report : List ℕ) (status : ℕ)
+    → PlainWrote graph_text chips_text limit report status → (g : ChipGame)
+    → MeansGame limits graph_text chips_text limit g → TellsPlayFrom g.graph (slice_index g.start) report
 
 -- and so does the report of a simulation that closed, from the chips that were given in it, whatever halted its vertices
 abbrev pub SimulateTellsPlay : Type 0

@@ -6,6 +6,12 @@ use Rattle.chip_graph.specs.Worked.{triangle}
 use Rattle.chip_graph.specs.ChipGame.{ChipGame}
 use Rattle.chip_link.specs.declared.trace.TraceRow.{TraceRow}
 use Rattle.chip_link.specs.declared.trace.TraceRow.TheVariants.{Take, Fire}
+use Rattle.chip_link.specs.declared.event.Event.{Event}
+use Rattle.chip_link.specs.declared.event.Event.TheVariants.{Clear, Feed}
+use Rattle.chip_part.specs.declared.reply.Reply.{Reply}
+use Rattle.chip_part.specs.declared.reply.Reply.TheVariants.{Done, Sent, NotNow}
+use Rattle.chip_part.specs.declared.rule.Rule.TheVariants.{NotCleared}
+use Rattle.chip_part.specs.Steps.{message_of}
 use Rattle.chip_sequence.specs.Worked.{chips_on, on_each}
 use Rattle.chip_sequence.specs.Sittings.{fired_in_all}
 use Rattle.chip_sequence.specs.declared.resumed.Resumed.{Resumed}
@@ -17,6 +23,7 @@ use Rattle.chip_command.specs.FaultNumbers.{number_of, location_of}
 use Rattle.chip_command.specs.Reports.{plain_status}
 use Rattle.chip_command.specs.Statuses.{number_of_status}
 use Rattle.chip_simulate.specs.ReplayCommand.{left_text, status_of_left, told_left}
+use Rattle.chip_simulate.specs.SimulateReport.{fed_by_replies, told_text}
 use Rattle.chip_engine.specs.ExplainCommand.{explanation}
 use Rattle.chip_command.specs.declared.fault.Fault.TheVariants.{NotReport}
 use Rattle.chip_command.specs.declared.fault.Location.TheVariants.{Nowhere, At}
@@ -94,3 +101,18 @@ pub record TriangleLeaves : Type 0 where
       ≡ codes "left: edge 1 has 1 messages\nleft: vertex 0 is at its limit\n"
   pub status : number_of_status (status_of_left (told_left true (triangle_within 1) begun)) ≡ 2
   pub unasked : told_left false (triangle_within 1) begun ≡ []
+
+-- a look at the first root edge of the triangle, a feed of three chips on it, and one on the next without a look
+abbrev pub two_feeds : List Event
+two_feeds = Clear 4 ∷ Feed 4 3 ∷ Feed 5 2 ∷ []
+
+-- the replies to them
+abbrev pub their_replies : List Reply
+their_replies = Done 0 ∷ Sent (message_of 4 0 3) ∷ NotNow NotCleared ∷ []
+
+-- only the first feed was sent; the lines of the replies tell it, with a board or without
+abbrev pub OneFeedIsSent : Type 0
+OneFeedIsSent =
+    (fed_by_replies (triangle_within 2) two_feeds their_replies ≡ (0, 3) ∷ [])
+    × (told_text their_replies [] ≡ codes "done 0\nsent 0 3\nnot-now 11\n")
+    × (told_text their_replies (codes "board\n" ∷ []) ≡ codes "done 0\nboard\nsent 0 3\nnot-now 11\n")

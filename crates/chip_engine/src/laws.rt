@@ -1,6 +1,6 @@
 //! Laws of the commands: functions that do nothing, whose contracts are the laws.
 
-ghost use Rattle.chip_engine.specs.Worked.{TriangleGoesOn, TriangleLeaves, RefusalsAreNumbered, LoopIsExplained};
+ghost use Rattle.chip_engine.specs.Worked.{TriangleGoesOn, TriangleLeaves, OneFeedIsSent, RefusalsAreNumbered, LoopIsExplained};
 ghost use Rattle.chip_engine.specs.SimulatedBytes.{SimulatedBytes};
 ghost use Rattle.chip_engine.specs.Sittings.{PlainTellsPlay, SimulateTellsPlay, ResumedPlaysAddUp};
 
@@ -20,6 +20,11 @@ pub fn worked_replay()
     ensures { TriangleLeaves }
 {}
 
+/// The lines of a simulation that was fed, as the definitions read them.
+pub fn worked_feeds()
+    ensures { OneFeedIsSent }
+{}
+
 /// The reports of a play in several sittings add up, however many there are and whatever stopped each: `plain` or
 /// `simulate` writes the first, and `resume` each other one, given the one before it.
 pub fn sittings()
@@ -28,8 +33,8 @@ pub fn sittings()
     ensures resume { ResumedPlaysAddUp }
 {}
 
-/// A simulation that closed wrote, behind its own lines, the report of the plain player, unless a vertex was sealed: of the
-/// same files, or, where chips were fed, of files that have all these chips at the start.
+/// A simulation that closed wrote, behind the lines of its replies, the report of the plain player, unless it names a
+/// sealed vertex: of the same files, or, where chips were fed, of files that have all these chips at the start.
 pub fn simulated_bytes()
     ensures { SimulatedBytes }
 {}

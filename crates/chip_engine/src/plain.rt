@@ -2,7 +2,7 @@
 
 ghost use Rattle.chip_graph.specs.Limits.{standard};
 ghost use Rattle.chip_command.specs.CommandAnswers.{Gives};
-ghost use Rattle.chip_command.specs.PlainCommand.{PlainAnswers, playing};
+ghost use Rattle.chip_command.specs.PlainCommand.{PlainAnswers, PlainReports, playing};
 ghost use Rattle.chip_engine.specs.GuessCommand.{GuessAnswers};
 
 use crate::guess::read_guess;
@@ -22,7 +22,9 @@ pub fn plain_engine<G: Read, C: Read, W: Write>(
     limit: u64,
     output: &mut W,
 ) -> Result<Ended, Fault>
-    ensures { PlainAnswers standard (G.remaining graph.old) (C.remaining chips.old) limit
+    ensures known { PlainAnswers standard (G.remaining graph.old) (C.remaining chips.old) limit
+        (W.contents output.old) (W.contents output.new) result }
+    ensures report { PlainReports standard (G.remaining graph.old) (C.remaining chips.old) limit
         (W.contents output.old) (W.contents output.new) result }
 {
     plain_engine_with(
@@ -45,7 +47,9 @@ pub fn plain_engine_with<G: Read, C: Read, P: Watch, W: Write>(
     watch: &mut P,
     output: &mut W,
 ) -> Result<Ended, Fault>
-    ensures { PlainAnswers options.limits (G.remaining graph.old) (C.remaining chips.old) options.limit
+    ensures known { PlainAnswers options.limits (G.remaining graph.old) (C.remaining chips.old) options.limit
+        (W.contents output.old) (W.contents output.new) result }
+    ensures report { PlainReports options.limits (G.remaining graph.old) (C.remaining chips.old) options.limit
         (W.contents output.old) (W.contents output.new) result }
 {
     let game = read_game(alloc, options.limits, graph, chips, options.limit)?;

@@ -10,7 +10,8 @@ use Rattle.chip_run.specs.RunCommand.{ReportsFed, WritesReport}
 
 reports_unfed : (g : ChipGame) (feeds : Option (List (ℕ × ℕ))) (text : List ℕ) (status : ℕ)
     → MeansFed standard None g.graph.vertices feeds → ReportsFed g feeds text status → Reports g text status
-reports_unfed g None text status fed (whole, is, reports) = subst (λ (k : ChipGame). Reports k text status) is reports
+reports_unfed g None text status fed (whole, is, fits, reports) =
+    subst (λ (k : ChipGame). Reports k text status) is reports
 reports_unfed g (Some feeds) text status fed reports = absurd fed
 
 -- a report was written behind nothing, of a game that is not fed

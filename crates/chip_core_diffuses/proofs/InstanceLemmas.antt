@@ -2,7 +2,7 @@
 -- The events of the core as events of a diffusing computation.
 use Rattle.std.proofs.Common.{◌≡◌, ◌≢◌, ◌⊎◌, ℕ, zero, suc, ◌+◌, ◌-◌, ◌<◌, ◌≤◌, eqb, ltb, Bool, true, false, List, [], ◌∷◌}
 use Rattle.std.proofs.Common.{Option, Some, None, Contains, refl, sym, ap, ◌∙◌, subst, arith, inl, ⊎_elim, length, cond}
-use Rattle.std.proofs.Common.{length-append, ne_eqb, eqb-true, eq-eqb, true≢false, ◌++◌, ◌&&◌}
+use Rattle.std.proofs.Common.{length-append, eqb-true, eq-eqb, true≢false, ◌++◌, ◌&&◌}
 use Rattle.std.proofs.lemmas.List.{get_or_past}
 use Rattle.std.proofs.lemmas.Bool.Decides.{nat_tests}
 use mathlib.Core.Logic.{dite}
@@ -26,7 +26,7 @@ use Rattle.chip_part.proofs.OpeningLemmas.{first_few}
 use Rattle.chip_detect.specs.Tally.{edge_limit}
 use Rattle.chip_diffusing.proofs.KeptLemmas.{none_some}
 use Rattle.chip_part.proofs.EdgeLemmas.{tail_root, head_root}
-use Rattle.chip_part.proofs.PickedLemmas.{picked_has, picked_passes, picked_rises, length-picked}
+use Rattle.chip_part.proofs.PickedLemmas.{picked_has, picked_passes, picked_rises}
 use Rattle.chip_part.proofs.PartLemmas.{idle_take, took_some, no_fire, no_pending, no_put, no_halt, may_le}
 use Rattle.chip_part.proofs.RuleLemmas.{rules_met}
 use Rattle.chip_core.specs.Core.{Log, Step, Event, Take, Ack, Fire, Clear, Claim, Put, Halt, Settle, Seal, Read, Feed, End}
@@ -553,55 +553,38 @@ module _ (g : Setting) where
 
     -- ---- how many edges a part has
 
-    one_longer : (test : ℕ → Bool) (n : ℕ) → length (filter_below test (suc n)) ≤ length (filter_below test n) + 1
-    one_longer test n = let a = length-append (filter_below test n) (n ∷ []) in
-        let b = length-append (filter_below test n) [] in by_test (test n) (λ is. grind arith) (λ is. grind arith)
+    -- no more than f of them pass the test, where f grows at each that does
+    few : (test : ℕ → Bool) (f : ℕ → ℕ) → ((a : ℕ) → f a ≤ f (suc a)) → ((a : ℕ) → test a ≡ true → f a < f (suc a))
+        → (n : ℕ) → length (filter_below test n) ≤ f n
+    few test f up on zero = omega arith
+    few test f up on (suc n) =
+        let rest = few test f up on n in let least = up n in let more = on n in
+        let a = length-append (filter_below test n) (n ∷ []) in let b = length-append (filter_below test n) [] in
+        by_test (test n) (λ is. grind arith) (λ is. grind arith)
 
-    no_longer : (test : ℕ → Bool) (n : ℕ) → test n ≡ false → length (filter_below test (suc n)) ≡ length (filter_below test n)
-    no_longer test n is = let b = length-append (filter_below test n) [] in grind arith
-
-    past_none : (test : ℕ → Bool) (m n : ℕ) → ((a : ℕ) → m ≤ a → a < n → test a ≡ false) → length (filter_below test n) ≤ m
-    past_none test m zero none = omega arith
-    past_none test m (suc n) none = dite (dec_lt n m)
-        (λ l. let a = length-picked test (suc n) in omega arith)
-        (λ le. let a = past_none test m n (λ a x y. none a x (omega arith)) in
-        let b = no_longer test n (none n (omega arith) (omega arith)) in omega arith)
-
-    past_one : (test : ℕ → Bool) (m n w : ℕ) → ((a : ℕ) → m ≤ a → a < n → test a ≡ true → a ≡ w)
-        → length (filter_below test n) ≤ m + 1
-    past_one test m zero w one = omega arith
-    past_one test m (suc n) w one = dite (dec_lt n m)
-        (λ l. let a = length-picked test (suc n) in omega arith)
-        (λ le. by_test (test n)
-        (λ on.
-        let here = one n (omega arith) (omega arith) on in
-        let a = past_none test m n (λ a x y. by_test (test a)
-        (λ also. (let z = one a x (omega arith) also in absurd (omega arith))) (λ off. off)) in
-        let b = one_longer test n in omega arith)
-        (λ off. let a = past_one test m n w (λ a x y. one a x (omega arith)) in let b = no_longer test n off in omega arith))
-
-    below_none : (test : ℕ → Bool) (m n : ℕ) → ((a : ℕ) → a < m → test a ≡ false) → length (filter_below test n) ≤ n - m
-    below_none test m zero none = omega arith
-    below_none test m (suc n) none = let a = below_none test m n none in dite (dec_lt n m)
-        (λ l. let b = no_longer test n (none n l) in omega arith)
-        (λ le. let b = one_longer test n in omega arith)
-
+    -- the edges of the graph, and one of the root's
     few_ins : (p : ℕ) → length (ins p) ≤ edge_limit
     few_ins p =
-        let a = past_one (λ e. eqb (head_of g e) p) (graph_edges g) (all_edges g) (graph_edges g + p)
-        (λ e le l on. (let h = head_root g e le in let z = eqb-true _ _ on in omega arith)) in
-        let m = game.graph_fits.few_edges in omega arith
+        let m : ℕ = graph_edges g in
+        let few_here = few (λ e. eqb (head_of g e) p) (λ a. cond (ltb a m) a m + cond (ltb (m + p) a) 1 0)
+        (λ a. grind (arith, nat_tests)) (λ a on. dite (dec_lt a m) (λ l. grind (arith, nat_tests))
+        (λ past. let h = head_root g a (omega arith) in let z = eqb-true _ _ on in grind (arith, nat_tests))) (all_edges g) in
+        let most = game.graph_fits.few_edges in grind (arith, nat_tests)
 
     few_outs : (p : ℕ) → length (outs p) ≤ edge_limit
-    few_outs p = dite (ℕ_discrete p (root g))
+    few_outs p =
+        let m : ℕ = graph_edges g in
+        dite (ℕ_discrete p (root g))
         (λ at.
-        let a = below_none (λ e. eqb (tail_of g e) p) (graph_edges g) (all_edges g)
-        (λ e l. ne_eqb _ _ (λ z. (let t = tail_inside g game e l in absurd (omega arith)))) in
-        let m = game.graph_fits.few_vertices in omega arith)
+        let few_here = few (λ e. eqb (tail_of g e) p) (λ a. a - m) (λ a. omega arith) (λ a on. dite (dec_lt a m)
+        (λ l. let t = tail_inside g game a l in let z = eqb-true _ _ on in absurd (omega arith)) (λ past. omega arith))
+        (all_edges g) in
+        let most = game.graph_fits.few_vertices in omega arith)
         (λ other.
-        let a = past_none (λ e. eqb (tail_of g e) p) (graph_edges g) (all_edges g)
-        (λ e le l. ne_eqb _ _ (λ z. other (sym z ∙ tail_root g e le))) in
-        let m = game.graph_fits.few_edges in omega arith)
+        let few_here = few (λ e. eqb (tail_of g e) p) (λ a. cond (ltb a m) a m) (λ a. grind (arith, nat_tests))
+        (λ a on. dite (dec_lt a m) (λ l. grind (arith, nat_tests))
+        (λ past. absurd (other (sym (eqb-true _ _ on) ∙ tail_root g a (omega arith))))) (all_edges g) in
+        let most = game.graph_fits.few_edges in grind (arith, nat_tests))
 
     opens_part : (p : ℕ) (s : Part) → ((e : ℕ) → length (s.into e).got ≡ 0) → ((e : ℕ) → (s.into e).acked ≡ 0)
         → ((e : ℕ) → Contains (outs p) e → claims_of (s.out e).link ≡ 0) → ((e : ℕ) → (s.out e).settled ≡ 0)

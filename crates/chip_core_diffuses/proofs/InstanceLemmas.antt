@@ -71,20 +71,22 @@ module _ (g : Setting) where
   in_outs : (e p : ℕ) → e < all_edges g → tail_of g e ≡ p → Contains (outs p) e
   in_outs e p l at = picked_has (λ i. eqb (tail_of g i) p) (all_edges g) e l (eq-eqb _ _ at)
 
-  -- one part acts, in a way that its own books tell
-  acts : (old new : ℕ → Part) (x : diffusing.Event)
-      → ((p : ℕ) → p ≢ diffusing.part_of net x → new p ≡ old p) → May net (world old) x
-      → Notes (books_of (diffusing.part_of net x) (old (diffusing.part_of net x))) x
-      (books_of (diffusing.part_of net x) (new (diffusing.part_of net x)))
-      → Wakes (passive_of g (diffusing.part_of net x) (old (diffusing.part_of net x))) x
-      (passive_of g (diffusing.part_of net x) (new (diffusing.part_of net x)))
-      → Happens net (world old) x (world new)
-  acts old new x others may notes wakes = record {
+  -- one part acts, from this state to that, as its own books tell
+  acts : (old new : ℕ → Part) (x : diffusing.Event) (q : ℕ) (s t : Part) → diffusing.part_of net x ≡ q → old q ≡ s
+      → new q ≡ t → ((p : ℕ) → p ≢ q → new p ≡ old p) → May net (world old) x → Notes (books_of q s) x (books_of q t)
+      → Wakes (passive_of g q s) x (passive_of g q t) → Happens net (world old) x (world new)
+  acts old new x q s t at was now others may notes wakes = record {
     may = may;
-    notes = notes;
-    wakes = wakes;
-    others = λ p n. ap (show p) (others p n);
+    notes = here (λ a b. Notes a.books x b.books) notes;
+    wakes = here (λ a b. Wakes a.passive x b.passive) wakes;
+    others = λ p n. ap (show p) (others p (λ z. n (z ∙ sym at)));
   }
+    where
+      here : (P : diffusing.Part → diffusing.Part → Type 0) → P (show q s) (show q t)
+          → P (world old (diffusing.part_of net x)) (world new (diffusing.part_of net x))
+      here P holds = subst (λ (p : ℕ). P (world old p) (world new p)) (sym at)
+          (subst (λ (u : Part). P (show q u) (world new q)) (sym was)
+          (subst (λ (u : Part). P (show q s) (show q u)) (sym now) holds))
 
   -- what is owed in all and waited for in all
   pub owed_same : (p : ℕ) (s : Part) → all_owed (books_of p s) ≡ part.all_owed g p s
@@ -158,14 +160,13 @@ module _ (g : Setting) where
         → (xs : diffusing.Log) × Leads net (was log) xs (was (x ∷ log))
     by_event x log y at may notes wakes =
         let q : ℕ = diffusing.part_of net y in
-        let here = part_here g x log q at in (
+        let s : Part = part_in g log q in (
           y ∷ [],
           (
             was log,
             refl,
-            acts (part_in g log) (part_in g (x ∷ log)) y (λ p n. part_else g x log p (λ z. n (sym z ∙ at))) may
-                (subst (λ (t : Part). Notes (books_of q (part_in g log q)) y (books_of q t)) (sym here) notes)
-                (subst (λ (t : Part). Wakes (passive_of g q (part_in g log q)) y (passive_of g q t)) (sym here) wakes),
+            acts (part_in g log) (part_in g (x ∷ log)) y q s (does g x s) refl refl (part_here g x log q at)
+                (λ p n. part_else g x log p (λ z. n (sym z ∙ at))) may notes wakes,
           ),
         )
 
@@ -301,21 +302,15 @@ module _ (g : Setting) where
         let is : seen ≡ (into_in g log e).acked = legal.1.1 in
         let mid_is : mid r ≡ t = cond_yes r r t s refl in
         let y : diffusing.Event = diffusing.Settle e seen in
-        let first : Happens net (was log) y (world mid) = acts (part_in g log) mid y
-        (λ p n. cond_no r p t (part_in g log p) (λ z. n (sym z ∙ sym at))) (l, omega arith, omega arith)
-        (subst (λ (q : ℕ). Notes (books_of q (part_in g log q)) y (books_of q (mid q))) (sym at)
-        (subst (λ (u : Part). Notes (books_of r s) y (books_of r u)) (sym mid_is)
-        (record { ins = refl; outs = settles e seen r s l at; parent = refl })))
-        (subst (λ (q : ℕ). passive_of g q (part_in g log q) ≡ true → passive_of g q (mid q) ≡ true) (sym at)
-        (subst (λ (u : Part). passive_of g r s ≡ true → passive_of g r u ≡ true) (sym mid_is)
-        (λ on. at_root r t refl ∙ sym (at_root r s refl) ∙ on))) in
-        let new : ℕ → Part = part_in g (saw End seen ∷ log) in
-        let new_is : new r ≡ does g (saw End seen) s = part_here g (saw End seen) log r refl in
-        let second : Happens net (world mid) (Work r) (world new) = acts mid new (Work r)
+        let first : Happens net (was log) y (world mid) = acts (part_in g log) mid y r s t at refl mid_is
+        (λ p n. cond_no r p t (part_in g log p) (λ z. n (sym z))) (l, omega arith, omega arith)
+        (record { ins = refl; outs = settles e seen r s l at; parent = refl })
+        (λ on. at_root r t refl ∙ sym (at_root r s refl) ∙ on) in
+        let second : Happens net (world mid) (Work r) (was (saw End seen ∷ log)) =
+        acts mid (part_in g (saw End seen ∷ log)) (Work r) r t (does g (saw End seen) s) refl mid_is
+        (part_here g (saw End seen) log r refl)
         (λ p n. part_else g (saw End seen) log p (λ z. n (sym z)) ∙ sym (cond_no r p t (part_in g log p) (λ z. n (sym z))))
-        (omega arith)
-        (ap (books_of r) new_is ∙ sym (ap (books_of r) mid_is))
-        (λ on. ap (passive_of g r) new_is ∙ at_root r (does g (saw End seen) s) refl) in
+        (omega arith) refl (λ on. at_root r (does g (saw End seen) s) refl) in
         (Work r ∷ y ∷ [], (world mid, (was log, refl, first), second))
 
     one_event : (ev : Event) (seen : ℕ) (log : Log) → IsLegalLog g (saw ev seen ∷ log)
@@ -473,64 +468,54 @@ module _ (g : Setting) where
         ≡ cond (eqb k e) (claims_of ((rooted k).out e).link + length (first_put g k)) (claims_of ((rooted k).out e).link)
     claims_start k e = grind (arith, nat_tests)
 
-    not_passive : (k : ℕ) → passive_of g (root g) (starting k (root g)) ≡ true → ⊥
-    not_passive k on = true≢false (sym on ∙ ap (passive_of g (root g)) (at_start k) ∙ at_root (root g) (rooted k) refl)
-
     abbrev r : ℕ
     r = root g
+
+    not_passive : (k : ℕ) → passive_of g r (rooted k) ≡ true → ⊥
+    not_passive k on = true≢false (sym on ∙ at_root r (rooted k) refl)
 
     start_step : (k : ℕ) → k < all_edges g
         → (xs : diffusing.Log) × Leads net (world (starting k)) xs (world (starting (suc k)))
     start_step k l = ⊎_elim
-        (λ none. (
-          Work r ∷ [],
-          (
-            world (starting k),
-            refl,
-            acts (starting k) (starting (suc k)) (Work r) (λ p n. elsewhere (suc k) p n ∙ sym (elsewhere k p n)) (omega arith)
-                (ap (books_of r) (at_start (suc k)) ∙ books_same r (rooted k) (rooted (suc k)) (λ e. refl) (λ e. refl)
-                (λ e m. (let a = claims_start k e in grind (arith, nat_tests)))
-                (λ e. refl) refl ∙ sym (ap (books_of r) (at_start k)))
-                (λ on. absurd (not_passive k on)),
-          ),
-        ))
+        (λ none. by (Work r) refl (omega arith)
+        (books_same r (rooted k) (rooted (suc k)) (λ e. refl) (λ e. refl)
+        (λ e m. (let a = claims_start k e in grind (arith, nat_tests))) (λ e. refl) refl)
+        (λ on. absurd (not_passive k on)))
         (λ some.
         let at : tail_of g k ≡ r = tail_root g k some.0 in
-        let one = some.1 in
-        let q : ℕ = tail_of g k in
-        let here : starting k q ≡ rooted k = ap (starting k) at ∙ at_start k in
-        let there : starting (suc k) q ≡ rooted (suc k) = ap (starting (suc k)) at ∙ at_start (suc k) in
+        let here : starting k (tail_of g k) ≡ rooted k = ap (starting k) at ∙ at_start k in
         let zero_sent : claims_of ((rooted k).out k).link ≡ 0 = grind (arith, nat_tests) in
-        let sent_now : diffusing.sent_on net (world (starting k)) k ≡ claims_of ((starting k q).out k).link =
-        (counts_in (outs q) (λ i. claims_of ((starting k q).out i).link) (λ i. ((starting k q).out i).settled) k
-        (in_outs k q l refl)).0 in
+        let sent_now : diffusing.sent_on net (world (starting k)) k ≡ claims_of ((starting k (tail_of g k)).out k).link =
+        (counts_in (outs (tail_of g k)) (λ i. claims_of ((starting k (tail_of g k)).out i).link)
+        (λ i. ((starting k (tail_of g k)).out i).settled) k (in_outs k (tail_of g k) l refl)).0 in
         let sent_there = ap (λ (s : Part). claims_of (s.out k).link) here in
-        let y : diffusing.Event = Send k in (
+        let active : passive_of g (tail_of g k) (starting k (tail_of g k)) ≡ false =
+        ap (passive_of g (tail_of g k)) here ∙ at_root (tail_of g k) (rooted k) at in
+        by (Send k) at (l, active, omega arith)
+        (record {
+          ins = refl;
+          outs = side_message (outs r) (λ i. claims_of ((rooted k).out i).link) (λ i. 0)
+              (λ i. claims_of ((rooted (suc k)).out i).link) (λ i. 0) k (in_outs k r l at)
+              (λ i m. claims_start k i ∙ ap (λ (n : ℕ). cond (eqb k i) (claims_of ((rooted k).out i).link + n)
+              (claims_of ((rooted k).out i).link)) some.1) (λ i m. refl);
+          parent = refl;
+        })
+        (λ on. absurd (not_passive k on)))
+        (put_cases k)
+      where
+        by : (y : diffusing.Event) → diffusing.part_of net y ≡ r → May net (world (starting k)) y
+            → Notes (books_of r (rooted k)) y (books_of r (rooted (suc k)))
+            → Wakes (passive_of g r (rooted k)) y (passive_of g r (rooted (suc k)))
+            → (xs : diffusing.Log) × Leads net (world (starting k)) xs (world (starting (suc k)))
+        by y at may notes wakes = (
           y ∷ [],
           (
             world (starting k),
             refl,
-            acts (starting k) (starting (suc k)) y
-                (λ p n. elsewhere (suc k) p (λ z. n (z ∙ sym at)) ∙ sym (elsewhere k p (λ z. n (z ∙ sym at)))) (
-                  l,
-                  by_test (passive_of g q (starting k q)) (λ on. absurd (not_passive k
-                      (ap (λ (u : ℕ). passive_of g u (starting k u)) (sym at) ∙ on))) (λ off. off),
-                  omega arith,
-                )
-                (subst (λ (s : Part). Notes (books_of q s) y (books_of q (starting (suc k) q))) (sym here)
-                (subst (λ (s : Part). Notes (books_of q (rooted k)) y (books_of q s)) (sym there)
-                (record {
-                  ins = refl;
-                  outs = side_message (outs q) (λ i. claims_of ((rooted k).out i).link) (λ i. 0)
-                      (λ i. claims_of ((rooted (suc k)).out i).link) (λ i. 0) k (in_outs k q l refl)
-                      (λ i m. claims_start k i ∙ ap (λ (n : ℕ). cond (eqb k i) (claims_of ((rooted k).out i).link + n)
-                      (claims_of ((rooted k).out i).link)) one) (λ i m. refl);
-                  parent = refl;
-                })))
-                (λ on. absurd (not_passive k (ap (λ (u : ℕ). passive_of g u (starting k u)) (sym at) ∙ on))),
+            acts (starting k) (starting (suc k)) y r (rooted k) (rooted (suc k)) at (at_start k) (at_start (suc k))
+                (λ p n. elsewhere (suc k) p n ∙ sym (elsewhere k p n)) may notes wakes,
           ),
-        ))
-        (put_cases k)
+        )
 
     start_leads : (k : ℕ) → k ≤ all_edges g → (xs : diffusing.Log) × Leads net (world (starting 0)) xs (world (starting k))
     start_leads zero le = ([], refl)
@@ -544,12 +529,10 @@ module _ (g : Setting) where
 
     -- the root sends no more, unless it is fed
     opened : Happens net (world (starting (all_edges g))) (Work (root g)) (was [])
-    opened = acts (starting (all_edges g)) (λ p. opening_part g) (Work (root g))
-        (λ p n. sym (elsewhere (all_edges g) p n)) (omega arith)
-        (books_same (root g) (rooted (all_edges g)) (opening_part g) (λ e. refl) (λ e. refl)
-        (λ e m. grind (arith, nat_tests)) (λ e. refl) refl
-        ∙ sym (ap (books_of (root g)) (at_start (all_edges g))))
-        (λ on. absurd (not_passive (all_edges g) on))
+    opened = acts (starting (all_edges g)) (λ p. opening_part g) (Work r) r (rooted (all_edges g)) (opening_part g) refl
+        (at_start (all_edges g)) refl (λ p n. sym (elsewhere (all_edges g) p n)) (omega arith)
+        (books_same r (rooted (all_edges g)) (opening_part g) (λ e. refl) (λ e. refl) (λ e m. grind (arith, nat_tests))
+        (λ e. refl) refl) (λ on. absurd (not_passive (all_edges g) on))
 
     -- ---- how many edges a part has
 

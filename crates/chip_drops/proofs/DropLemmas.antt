@@ -300,7 +300,7 @@ drops_add_up G good x f y one stable ((d, a) ∷ told) z (z', is, are) x' start 
 -- ---- rows, and the bytes that go out
 
 -- one more avalanche
-told_more : (G : Multigraph) (x : ℕ → ℕ) (told : List ((ℕ × ℕ) × Avalanche)) (y : ℕ → ℕ) (d : ℕ × ℕ) (a : Avalanche)
+pub told_more : (G : Multigraph) (x : ℕ → ℕ) (told : List ((ℕ × ℕ) × Avalanche)) (y : ℕ → ℕ) (d : ℕ × ℕ) (a : Avalanche)
     (z : ℕ → ℕ) → AreAvalanches G x told y → IsAvalanche G (dropped y d.0 d.1) a z
     → AreAvalanches G x (told ++ (d, a) ∷ []) z
 told_more G x [] y d a z are is =

@@ -1,0 +1,44 @@
+-- The numbers of faults of calls, where each is, and which is first.
+use Rattle.std.specs.Prelude.{◌≡◌, ◌⊎◌, ℕ, unwrap_or, Some}
+use Rattle.chip_graph.specs.declared.fault.GraphFault.TheVariants as graph_fault
+use Rattle.chip_graph.specs.FaultNumbers.{graph_fault_number, graph_fault_place, game_fault_number}
+use Rattle.chip_graph.specs.Limits.{large}
+use Rattle.chip_graph.specs.Multigraph.{Multigraph}
+use Rattle.chip_graph.specs.Faults.{IsGraphFault, fault_of_game}
+use Rattle.chip_graph.specs.ChipGame.{ChipGame}
+use Rattle.chip_library.specs.declared.fault.CallFault.{CallFault}
+use Rattle.chip_library.specs.declared.fault.CallFault.TheVariants.{Lengths, Graph, Game, Vertex, Total, Stopped, Differs, NoMemory}
+
+-- the number of a fault in the table of faults
+abbrev pub number_of : CallFault → ℕ
+number_of Lengths = 12
+number_of (Graph fault) = graph_fault_number fault
+number_of (Game fault game) = game_fault_number fault
+number_of (Vertex drop) = 26
+number_of (Total drop) = 10
+number_of (Stopped drop) = 13
+number_of (Differs vertex) = 53
+number_of NoMemory = 90
+
+-- the edge, vertex, game or drop that it names, or 0
+abbrev pub place_of : CallFault → ℕ
+place_of Lengths = 0
+place_of (Graph fault) = unwrap_or (graph_fault_place fault) 0
+place_of (Game fault game) = game
+place_of (Vertex drop) = drop
+place_of (Total drop) = drop
+place_of (Stopped drop) = drop
+place_of (Differs vertex) = vertex
+place_of NoMemory = 0
+
+-- the first fault of a graph, or want of memory
+abbrev pub IsFaultOfGraph : Multigraph → CallFault → Type 0
+IsFaultOfGraph G (Graph fault) = (fault ≡ graph_fault.NoMemory) ⊎ IsGraphFault large G fault
+IsFaultOfGraph G NoMemory = Unit {0}
+IsFaultOfGraph G _ = ⊥
+
+-- the first fault of a game, under its number, or want of memory
+abbrev pub IsFaultOfGame : ChipGame → ℕ → CallFault → Type 0
+IsFaultOfGame g number (Game fault game) = (game ≡ number) × (fault_of_game g ≡ Some fault)
+IsFaultOfGame g number NoMemory = Unit {0}
+IsFaultOfGame g number _ = ⊥

@@ -1,0 +1,6 @@
+pub mod EdgeLists
+pub mod CallFaults
+pub mod Batch
+pub mod Claims
+pub mod Drops
+pub mod Worked

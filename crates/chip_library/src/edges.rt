@@ -1,0 +1,57 @@
+//! A graph as lists with one number for each edge.
+
+use crate::fault::CallFault;
+use chip_graph::{Edge, Graph, Limits};
+use std::alloc::{AllocError, Global};
+
+/// A graph's numbers of vertices and sink, and for each edge its tail, its head and how many chips a firing of the tail
+/// sends along it: the lists of a sparse matrix.
+#[derive(Clone, Copy)]
+pub struct EdgeLists<'a> {
+    pub vertices: u64,
+    pub sink: u64,
+    pub tails: &'a [u64],
+    pub heads: &'a [u64],
+    pub mults: &'a [u64],
+}
+
+impl EdgeLists<'_> {
+    ghost use Rattle.std.specs.Prelude.{◌≡◌, ◌↔◌, IsTrue, IfOk, MatchResult};
+    ghost use Rattle.chip_library.specs.EdgeLists.{HasWholeRows, edges_of, graph_of};
+    ghost use Rattle.chip_library.specs.CallFaults.{IsFaultOfGraph};
+    ghost use Rattle.chip_graph.specs.Multigraph.{IsGraph};
+
+    /// Whether the lists have one number each for each edge.
+    pub(crate) fn has_whole_rows(&self) -> bool
+        ensures { IsTrue result ↔ HasWholeRows self.now }
+    {
+        self.heads.len() == self.tails.len() && self.mults.len() == self.tails.len()
+    }
+
+    /// The graph, or the first reason why it is none.
+    pub(crate) fn graph(&self, alloc: Global) -> Result<Graph, CallFault>
+        requires { HasWholeRows self.now }
+        ensures { MatchResult result (λ graph. (graph ≡ graph_of self.now) × IsGraph graph)
+            (IsFaultOfGraph (graph_of self.now)) }
+    {
+        let edges = self.edges(alloc)?;
+        let graph = Graph::within(alloc, Limits::large(), self.vertices, self.sink, edges)?;
+        Ok(graph)
+    }
+
+    /// The edges.
+    fn edges(&self, alloc: Global) -> Result<Vec<Edge>, AllocError>
+        requires { HasWholeRows self.now }
+        ensures { IfOk result (λ edges. edges.items ≡ edges_of self.now) }
+    {
+        let mut edges = Vec::with_capacity(alloc, self.tails.len())?;
+        for e in 0..self.tails.len() {
+            edges.push(Edge {
+                tail: self.tails[e],
+                head: self.heads[e],
+                mult: self.mults[e],
+            })?;
+        }
+        Ok(edges)
+    }
+}

@@ -1,0 +1,92 @@
+use chip_graph::{GameFault, GraphFault};
+use std::alloc::{AllocError, AllocFailed};
+
+/// Why a call is refused.
+#[derive(Clone, Copy, Debug, PartialEq, Eq)]
+pub enum CallFault {
+    /// Slices that belong together do not have as many numbers as they must.
+    Lengths,
+    /// The edges are those of no graph.
+    Graph(GraphFault),
+    /// The chips and the limit of this game are those of none.
+    Game(GameFault, u64),
+    /// This drop is on no vertex.
+    Vertex(u64),
+    /// With this drop there are too many chips.
+    Total(u64),
+    /// The limit has stopped the play of this drop; where it is 0, of this drop or of the game before it.
+    Stopped(u64),
+    /// This vertex is the least of which another outcome is claimed.
+    Differs(u64),
+    /// Memory ran out.
+    NoMemory,
+}
+
+impl CallFault {
+    ghost use Rattle.std.specs.Prelude.{◌≡◌};
+    ghost use Rattle.chip_library.specs.CallFaults.{number_of, place_of};
+
+    /// The number of this fault in the table of faults.
+    pub fn number(&self) -> u64
+        ensures { result ≡ number_of self.now }
+    {
+        match self {
+            CallFault::Lengths => 12,
+            CallFault::Graph(fault) => fault.number(),
+            CallFault::Game(fault, _) => fault.number(),
+            CallFault::Vertex(_) => 26,
+            CallFault::Total(_) => 10,
+            CallFault::Stopped(_) => 13,
+            CallFault::Differs(_) => 53,
+            CallFault::NoMemory => 90,
+        }
+    }
+
+    /// The edge, vertex, game or drop that it names, or 0.
+    pub fn place(&self) -> u64
+        ensures { result ≡ place_of self.now }
+    {
+        match self {
+            CallFault::Graph(fault) => fault.place().unwrap_or(0),
+            CallFault::Game(_, place)
+            | CallFault::Vertex(place)
+            | CallFault::Total(place)
+            | CallFault::Stopped(place)
+            | CallFault::Differs(place) => *place,
+            CallFault::Lengths | CallFault::NoMemory => 0,
+        }
+    }
+}
+
+impl From<GraphFault> for CallFault {
+    ghost use Rattle.std.specs.Prelude.{◌≡◌};
+    ghost use Rattle.chip_library.specs.declared.fault.CallFault.TheVariants.{Graph};
+
+    ghost from_gives = { λ fault call. call ≡ Graph fault };
+
+    fn from(fault: GraphFault) -> CallFault {
+        CallFault::Graph(fault)
+    }
+}
+
+impl From<AllocError> for CallFault {
+    ghost use Rattle.std.specs.Prelude.{◌≡◌};
+    ghost use Rattle.chip_library.specs.declared.fault.CallFault.TheVariants.{NoMemory};
+
+    ghost from_gives = { λ _ fault. fault ≡ NoMemory };
+
+    fn from(_error: AllocError) -> CallFault {
+        CallFault::NoMemory
+    }
+}
+
+impl<T: Drop> From<AllocFailed<T>> for CallFault {
+    ghost use Rattle.std.specs.Prelude.{◌≡◌};
+    ghost use Rattle.chip_library.specs.declared.fault.CallFault.TheVariants.{NoMemory};
+
+    ghost from_gives = { λ _ fault. fault ≡ NoMemory };
+
+    fn from(_error: AllocFailed<T>) -> CallFault {
+        CallFault::NoMemory
+    }
+}

@@ -1,0 +1,21 @@
+//! Chip-firing by one call, on slices of numbers: what programs in other languages call (`chip_exports`).
+//!
+//! A call answers that all is well and writes its slices, or tells the first fault and leaves them as they were.
+#![tactic(auto)]
+
+pub use claims::verify;
+pub use drops::avalanches;
+pub use edges::EdgeLists;
+pub use fault::CallFault;
+pub use stabilize::stabilize_all;
+
+mod claims;
+mod drops;
+pub mod edges;
+mod fault;
+mod game;
+pub mod laws;
+mod stabilize;
+
+/// The version of the library: 1,000,000 for each of the first number, 1,000 for each of the second, and the third.
+pub const VERSION: u64 = 3_000;

@@ -1,0 +1,130 @@
+//! Many games on one graph.
+
+ghost use Rattle.std.specs.Prelude.{◌≡◌, ◌↔◌, ℕ, ◌+◌, ◌*◌, ◌<◌, ◌++◌, ◌∷◌, [], length, IsTrue, OnOk, IfOk, MatchResult};
+ghost use Rattle.chip_graph.specs.Multigraph.{IsGraph};
+ghost use Rattle.chip_library.specs.Batch.{IsBatch, ArePlayed, IsFaultOfGames, StabilizesAll};
+
+use crate::edges::EdgeLists;
+use crate::fault::CallFault;
+use crate::game::game_of;
+use chip_fire::{Unwatched, plain_given};
+use chip_graph::Graph;
+use chip_sequence::Outcome;
+use std::alloc::{AllocError, Global};
+
+/// Plays games on one graph, each to its end within the firing limit, which is 2^40 at most.
+///
+/// `stopped` has a number for each game, `chips` one for each vertex of each game, those of a game after those of the
+/// one before it, and `fired` as many. Their sum is 2^40 at most in each game. `guesses` has as many too, or none: how
+/// often each vertex might fire, which only makes plays quicker.
+///
+/// Then `chips` are those at the end, `fired` tells how often each vertex fired, and `stopped` how many vertices of each
+/// game the limit stopped. On a fault all three stay as they were. The first one is told: of the lengths, of the graph,
+/// or else of the first game that is none.
+pub fn stabilize_all(
+    alloc: Global,
+    edges: EdgeLists<'_>,
+    limit: u64,
+    guesses: &[u64],
+    chips: &mut [u64],
+    fired: &mut [u64],
+    stopped: &mut [u64],
+) -> Result<(), CallFault>
+    ensures { StabilizesAll edges.entry limit guesses.now
+        (record { chips = chips.old; fired = fired.old; stopped = stopped.old })
+        (record { chips = chips.new; fired = fired.new; stopped = stopped.new }) result }
+{
+    if !is_batch(edges, guesses, chips, fired, stopped) {
+        return Err(CallFault::Lengths);
+    }
+    let graph = edges.graph(alloc)?;
+    let ends = play_each(alloc, graph, limit, guesses, chips, stopped.len())?;
+    chips.copy_from_slice(&ends.chips);
+    fired.copy_from_slice(&ends.fired);
+    stopped.copy_from_slice(&ends.stopped);
+    Ok(())
+}
+
+/// Whether slices have as many numbers as belong together.
+fn is_batch(
+    edges: EdgeLists<'_>,
+    guesses: &[u64],
+    chips: &[u64],
+    fired: &[u64],
+    stopped: &[u64],
+) -> bool
+    ensures { IsTrue result ↔ IsBatch edges.entry guesses.now
+        (record { chips = chips.now; fired = fired.now; stopped = stopped.now }) }
+{
+    let numbers = (stopped.len() as u64).checked_mul(edges.vertices);
+    edges.has_whole_rows()
+        && numbers == Some(chips.len() as u64)
+        && fired.len() == chips.len()
+        && (guesses.is_empty() || guesses.len() == chips.len())
+}
+
+/// How games ended, one after another.
+#[derive(Drop)]
+struct Ends {
+    chips: Vec<u64>,
+    fired: Vec<u64>,
+    /// For each game how many vertices the limit stopped.
+    stopped: Vec<u64>,
+}
+
+impl Ends {
+    /// None yet, with room for so many numbers of vertices and so many games.
+    fn with_room(alloc: Global, numbers: usize, games: usize) -> Result<Ends, AllocError>
+        ensures { IfOk result (λ ends. (ends.chips.items ≡ []) × (ends.fired.items ≡ []) × (ends.stopped.items ≡ [])) }
+    {
+        Ok(Ends {
+            chips: Vec::with_capacity(alloc, numbers)?,
+            fired: Vec::with_capacity(alloc, numbers)?,
+            stopped: Vec::with_capacity(alloc, games)?,
+        })
+    }
+
+    /// One more.
+    fn push(&mut self, outcome: &Outcome) -> Result<(), AllocError>
+        ensures chips { OnOk result (self.new.chips.items ≡ self.old.chips.items ++ outcome.now.chips.items) }
+        ensures fired { OnOk result (self.new.fired.items ≡ self.old.fired.items ++ outcome.now.fired.items) }
+        ensures stopped { OnOk result
+            (self.new.stopped.items ≡ self.old.stopped.items ++ length outcome.now.over.items ∷ []) }
+    {
+        self.chips.extend_from_slice(&outcome.chips)?;
+        self.fired.extend_from_slice(&outcome.fired)?;
+        self.stopped.push(outcome.over.len() as u64)?;
+        Ok(())
+    }
+}
+
+/// How so many games end that begin with these chips.
+fn play_each(
+    alloc: Global,
+    mut graph: Graph,
+    limit: u64,
+    guesses: &[u64],
+    chips: &[u64],
+    games: usize,
+) -> Result<Ends, CallFault>
+    requires graph { IsGraph graph }
+    requires chips_each { length chips.now ≡ games * graph.vertices }
+    ensures { MatchResult result
+        (λ ends. ArePlayed graph limit chips.now games
+        (record { chips = ends.chips.items; fired = ends.fired.items; stopped = ends.stopped.items }))
+        (IsFaultOfGames graph limit chips.now games) }
+{
+    let vertices = graph.vertices() as usize;
+    let mut ends = Ends::with_room(alloc, chips.len(), games)?;
+    let (mut rest, mut left) = (chips, guesses);
+    for number in 0..games {
+        let (start, later) = rest.split_at(vertices);
+        let (guess, later_guesses) = left.split_at(vertices.min(left.len()));
+        let game = game_of(alloc, graph, limit, start, number as u64)?;
+        let outcome = plain_given(alloc, &game, guess, &mut Unwatched)?;
+        ends.push(&outcome)?;
+        graph = game.into_graph();
+        (rest, left) = (later, later_guesses);
+    }
+    Ok(ends)
+}

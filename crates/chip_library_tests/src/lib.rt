@@ -1,0 +1,11 @@
+//! Calls of `chip_library` worked out by hand: one of each kind and at each edge of what they take, and each fault.
+#![tactic(auto)]
+
+#[cfg(test)]
+mod claims;
+#[cfg(test)]
+mod drops;
+#[cfg(test)]
+mod graphs;
+#[cfg(test)]
+mod stabilize;

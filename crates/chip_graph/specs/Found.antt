@@ -1,6 +1,6 @@
 -- What a search for distances has found on its way.
 use Rattle.std.specs.Prelude.{ℕ, if◌then◌else◌, Option, Some, None, is_some}
-use Rattle.std.specs.Prelude.{List, [], ◌∷◌, ◌++◌, fold, slice_index_or, slice_set}
+use Rattle.std.specs.Prelude.{List, [], ◌∷◌, ◌++◌, fold, map, slice_index_or, slice_set}
 use Rattle.chip_graph.specs.declared.edge.Edge.{Edge}
 use Rattle.chip_graph.specs.declared.distance.Reached.{Reached}
 use Rattle.chip_graph.specs.declared.distance.Search.{Search}
@@ -25,6 +25,10 @@ with_vertex v d f =
       reached = f.reached ++ record { vertex = v; distance = d } ∷ [];
     }
 
--- the tails of these edges are reached at this distance, unless they were reached before
+-- these vertices are reached at this distance, unless they were reached before
+abbrev pub with_all : ℕ → List ℕ → Found → Found
+with_all d vs f = fold (λ g v. with_vertex v d g) f vs
+
+-- the same of the tails of these edges
 abbrev pub with_tails : List Edge → ℕ → List ℕ → Found → Found
-with_tails edges d es f = fold (λ g e. with_vertex (edge_of edges e).tail d g) f es
+with_tails edges d es f = with_all d (map (λ e. (edge_of edges e).tail) es) f

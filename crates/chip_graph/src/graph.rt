@@ -47,7 +47,7 @@ struct Rows {
     /// The out-degrees, by vertex.
     degrees: Vec<u64>,
     /// How far each vertex is from the sink, by vertex: each reaches it.
-    distances: Vec<u64>,
+    distances: Vec<u32>,
     /// The edges out of each vertex, ascending.
     outs: PackedLists<u64>,
     /// The edges into each vertex, ascending.
@@ -103,9 +103,9 @@ impl Graph {
         let rows = edges.as_slice();
         check_rows(limits, vertices, sink, rows)?;
         let degrees = index::degrees(alloc, vertices, rows)?;
+        let (ins, distances) = ins_and_distances(alloc, vertices, sink, rows)?;
         let outs = index::edges_by(alloc, vertices, rows, End::Tail)?;
         let links = index::links_by(alloc, rows, outs.members())?;
-        let (ins, distances) = ins_and_distances(alloc, vertices, sink, rows)?;
         let indexed = Rows {
             vertices,
             sink,
@@ -238,7 +238,7 @@ impl Graph {
         ensures { IsDistance self.now vertex result }
     {
         let rows: &Rows = &self.rows;
-        rows.distances[vertex as usize]
+        u64::from(rows.distances[vertex as usize])
     }
 }
 
@@ -288,7 +288,7 @@ fn ins_and_distances(
     vertices: u64,
     sink: u64,
     edges: &[Edge],
-) -> Result<(PackedLists<u64>, Vec<u64>), GraphFault>
+) -> Result<(PackedLists<u64>, Vec<u32>), GraphFault>
     requires few_vertices { vertices ≤ max_vertices }
     requires few_edges { length edges.now ≤ max_edges }
     requires sink_is_vertex { sink < vertices }
@@ -307,7 +307,7 @@ fn ins_and_distances(
 }
 
 /// The distances that were found, if each vertex has one; if not, the least that has none is the fault.
-fn all_known(alloc: Global, found: &[Option<u64>]) -> Result<Vec<u64>, GraphFault>
+fn all_known(alloc: Global, found: &[Option<u32>]) -> Result<Vec<u32>, GraphFault>
     ensures all { IfOk result (λ distances. map (λ d. Some d) distances.items ≡ found.now) }
     ensures least { IfErr result (λ fault. (fault ≡ NoMemory) ⊎ ((v : ℕ) × (fault ≡ Unreached v)
         × (v < length found.now)

@@ -1,10 +1,16 @@
-use Rattle.std.proofs.Common.{◌≡◌, ◌+◌, ◌<◌, length, subst, sym, ◌∙◌, arith}
+use Rattle.std.proofs.Common.{◌≡◌, ◌+◌, ◌<◌, ℕ, List, All, vec_len, get_or, length, map, refl, ap, subst, sym, ◌∙◌, arith}
 use Rattle.chip_graph.specs.Multigraph.{Multigraph, edges_in}
-use Rattle.chip_graph.specs.Found.{Found, findings}
+use Rattle.chip_graph.specs.Found.{Found, findings, with_all}
+use Rattle.chip_graph.specs.Ends.{edge_of}
+use Rattle.chip_graph.specs.declared.edge.Edge.{Edge}
+use Rattle.chip_graph.specs.declared.edge.End.TheVariants.{Head}
+use Rattle.chip_graph.proofs.PickLemmas.{All-edges_by}
+use Rattle.std.proofs.lemmas.List.{length-map}
+use Rattle.std.proofs.lemmas.List.Elements.{All-map}
 use Rattle.chip_graph.proofs.SpreadingLemmas.{IsSpread, IsReached, begin_spread, turn_reached, turn_kept, edges_in_below}
 use Rattle.chip_graph.proofs.SpreadingLemmas.{few_reached, all_distances}
 use Rattle.chip_graph.proofs.distance.distances.Goals as goal
-use Rattle.chip_graph.proofs.distance.distances.Goals.{After-index, After-list}
+use Rattle.chip_graph.proofs.distance.distances.Goals.{After-index, After-beside}
 
 -- one of the reached is left
 some_left : (c : After-index) → c.loop-next.next < length c.loop-next.search.reached.items
@@ -17,15 +23,21 @@ turn : (c : After-index) → IsReached
 turn c = turn_reached _ (findings c.loop-next.search) c.loop-next.next c.loop-next.invariant c.index.result.now
     (some_left c) c.index.ensures
 
--- what is read are the edges into its vertex
-row_is : (c : After-list)
-    → c.list.result.now ≡ edges_in
+-- the tail of an edge
+abbrev tail_in : List Edge → ℕ → ℕ
+tail_in edges e = (edge_of edges e).tail
+
+-- what is read are the tails of the edges into its vertex
+row_is : (c : After-beside)
+    → c.beside.result.now ≡ map (tail_in c.args.edges.now) (edges_in
     (record { vertices = c.args.vertices; sink = c.args.sink; edges = c.args.edges.now })
-    c.index.result.now.vertex
+    c.index.result.now.vertex)
 row_is c =
     let at = turn_reached _ (findings c.loop-next.search) c.loop-next.next c.loop-next.invariant c.index.result.now
     (omega (arith, c.loop-next.search.reached.ok.0)) c.index.ensures in
-    c.list.ensures ∙ c.requires.ins.each c.index.result.now.vertex at.is_vertex
+    c.beside.ensures (tail_in c.args.edges.now) (c.deref.ensures.value ∙ c.in_ok-tails.ensures
+    ∙ ap (map (tail_in c.args.edges.now)) c.members.ensures)
+    ∙ ap (map (tail_in c.args.edges.now)) (c.requires.ins.each c.index.result.now.vertex at.is_vertex)
 
 pub loop-next-init : goal.loop-next-init
 loop-next-init c = subst (λ (f : Found). IsSpread
@@ -37,23 +49,42 @@ overflow_add-distance c = let at = turn (goal.at.overflow_add-distance c).After-
     let few = few_reached _ _ _ c.loop-next.invariant in let l = some_left (goal.at.overflow_add-distance c).After-index
     in omega (arith, at.early)
 
-pub list-requires : goal.list-requires
-list-requires c = let at = turn (goal.at.list-requires c).After-index in let each = c.requires.ins.one_each in
+pub beside-requires-clause-inside : goal.beside-requires-clause-inside
+beside-requires-clause-inside c =
+    let at = turn (goal.at.beside-requires-clause-inside c).After-index in
+    let each = c.requires.ins.one_each in
     omega (arith, at.is_vertex)
 
-pub reach_tails-requires-clause-edges : goal.reach_tails-requires-clause-edges
-reach_tails-requires-clause-edges c = edges_in_below
-    (record { vertices = c.args.vertices; sink = c.args.sink; edges = c.args.edges.now })
-    c.index.result.now.vertex c.list.result.now (row_is c)
+pub beside-requires-clause-one_each : goal.beside-requires-clause-one_each
+beside-requires-clause-one_each c =
+    ap length (c.deref.ensures.value ∙ c.in_ok-tails.ensures ∙ ap (map (tail_in c.args.edges.now)) c.members.ensures)
+    ∙ length-map _ (tail_in c.args.edges.now)
+
+pub tails_of-requires-clause-numbers : goal.tails_of-requires-clause-numbers
+tails_of-requires-clause-numbers c =
+    rw c.members.ensures (All-edges_by Head c.args.edges.now c.args.vertices c.args.ins.now c.requires.ins)
+
+pub reach_all-requires : goal.reach_all-requires
+reach_all-requires c =
+    let G : Multigraph = record { vertices = c.args.vertices; sink = c.args.sink; edges = c.args.edges.now } in
+    let es : List ℕ = edges_in G c.index.result.now.vertex in
+    let many = c.loop-next.invariant.one_each in
+    let counted = c.loop-next.search.distances.ok.0 in
+    subst (All (λ v. v < vec_len c.loop-next.search.distances)) (sym (row_is c))
+    (All-map (λ v. v < vec_len c.loop-next.search.distances) (tail_in c.args.edges.now) es (λ k d l.
+    let small = c.requires.tails_are_vertices (get_or es k d) (record { tail = 0; head = 0; mult = 0 })
+    (edges_in_below G c.index.result.now.vertex es refl k d l) in
+    omega arith))
 
 pub loop-next-preserved : goal.loop-next-preserved
 loop-next-preserved c =
     let G : Multigraph = record { vertices = c.args.vertices; sink = c.args.sink; edges = c.args.edges.now } in
-    subst (λ (f : Found). IsSpread G f (c.loop-next.next + 1)) (sym c.in_ok-reach_tails.ensures)
+    subst (λ (f : Found). IsSpread G f (c.loop-next.next + 1))
+    (sym (c.in_ok-reach_all.ensures ∙ ap (λ (vs : List ℕ). with_all (c.index.result.now.distance + 1) vs
+    (findings c.loop-next.search)) (row_is (goal.at.loop-next-preserved c).After-beside)))
     (turn_kept G (findings c.loop-next.search) c.loop-next.next c.loop-next.invariant c.index.result.now
     (omega (arith, c.loop-next.search.reached.ok.0)) c.index.ensures
-    (λ e l. c.requires.tails_are_vertices e _ l) c.list.result.now
-    (row_is (goal.at.loop-next-preserved c).After-list))
+    (λ e l. c.requires.tails_are_vertices e _ l) (edges_in G c.index.result.now.vertex) refl)
 
 pub returns : goal.returns
 returns c = all_distances _ (findings c.loop-next.search) c.loop-next.next c.loop-next.invariant

@@ -13,5 +13,6 @@ returns c =
     let inside : c.args.vertex < G.vertices = subst (λ (g : Multigraph). c.args.vertex < g.vertices) (sym same) c.requires in
     let read = c.index.ensures ∙ get_or_default c.rows.inside.distances.items c.args.vertex c.index.result.now 0
     (distance_within G _ known c.args.vertex inside) in
-    subst (λ (g : Multigraph). IsDistance g c.args.vertex c.index.result.now) same
-    (subst (λ (d : ℕ). IsDistance G c.args.vertex d) (sym read) (distance_is G _ known c.args.vertex inside))
+    subst (λ (d : ℕ). IsDistance c.args.self.now c.args.vertex d) (sym c.from.ensures)
+    (subst (λ (g : Multigraph). IsDistance g c.args.vertex c.index.result.now) same
+    (subst (λ (d : ℕ). IsDistance G c.args.vertex d) (sym read) (distance_is G _ known c.args.vertex inside)))

@@ -1,7 +1,7 @@
 -- Serves Batch.antt.
 -- The rows of games, one after another.
-use Rattle.std.proofs.Common.{◌≡◌, ℕ, ◌*◌, ◌+◌, ◌<◌, ◌≤◌, ◌-◌, List, [], ◌∷◌, ◌++◌, length, take, drop, refl, sym, ap, ◌∙◌, arith}
-use Rattle.std.proofs.Common.{slice_index, length-append, length-drop, mul-le-mul_right, zero-mul}
+use Rattle.std.proofs.Common.{◌≡◌, ℕ, ◌*◌, ◌+◌, ◌<◌, ◌≤◌, List, [], ◌∷◌, ◌++◌, length, take, drop, refl, sym, ap, ◌∙◌, arith}
+use Rattle.std.proofs.Common.{length-append, length-drop, mul-le-mul_right, zero-mul}
 use Rattle.std.proofs.lemmas.List.{take_all, take-append-le, drop-append-le, get_or_append_left, get_or_push, length_push}
 use borrow.Author.Count.{below_more}
 use Rattle.std.proofs.Math.Seq.{drop-append_seam}
@@ -9,7 +9,7 @@ use Rattle.chip_graph.specs.Multigraph.{Multigraph}
 use Rattle.chip_graph.specs.ChipGame.{IsGame}
 use Rattle.chip_sequence.specs.Play.{IsPlayed}
 use Rattle.chip_sequence.specs.declared.outcome.Outcome.{Outcome}
-use Rattle.chip_library.specs.Batch.{row, game_at, Games, IsPlayedAt, ArePlayed}
+use Rattle.chip_library.specs.Batch.{row, game_at, Games, ArePlayed}
 
 -- a row before the last of k lies within them
 pub room_for_row : (n i k : ℕ) → i < k → i * n + n ≤ k * n

@@ -1,23 +1,21 @@
 -- Serves Drops.antt.
 -- One more drop on a pile, with its avalanche, and what its play comes to.
-use Rattle.std.proofs.Common.{◌≡◌, ℕ, ◌+◌, ◌<◌, ◌≤◌, cond, eqb, List, [], ◌∷◌, ◌++◌, length, map, take, sum, get_or, slice_index}
-use Rattle.std.proofs.Common.{refl, sym, ap, ◌∙◌, subst, arith, rules, length-append, Contains}
-use Rattle.std.proofs.lemmas.List.{map-append, take_more, length-map}
+use Rattle.std.proofs.Common.{◌≡◌, ℕ, ◌<◌, cond, eqb, List, [], ◌∷◌, ◌++◌, length, take, get_or, slice_index}
+use Rattle.std.proofs.Common.{refl, sym, ◌∙◌, subst, arith, rules, Contains}
+use Rattle.std.proofs.lemmas.List.{map-append}
 use Rattle.std.proofs.lemmas.List.Sums.{sum_by-append}
 use Rattle.std.proofs.lemmas.List.Elements.{All-nil, All-push, Contains-get_or}
-use Rattle.chip_graph.specs.Multigraph.{Multigraph}
-use Rattle.chip_graph.specs.ChipGame.{ChipGame, IsGame}
+use Rattle.chip_graph.specs.ChipGame.{ChipGame}
 use Rattle.chip_graph.specs.More.{HasMore}
-use Rattle.chip_sequence.specs.Firing.{IsLegal, legal_vertices}
-use Rattle.chip_sequence.specs.Sequence.{position_after, IsWholePlay, HasEnded}
+use Rattle.chip_sequence.specs.Firing.{legal_vertices}
+use Rattle.chip_sequence.specs.Sequence.{position_after, IsWholePlay}
 use Rattle.chip_sequence.specs.Play.{IsPlayed}
 use Rattle.chip_sequence.specs.declared.outcome.Outcome.{Outcome}
 use Rattle.chip_sequence.proofs.LegalLemmas.{legal_vertices_law}
 use Rattle.chip_sequence.proofs.EndLemmas.{continued}
 use Rattle.chip_sequence.proofs.CertificateLemmas.{end_of_the_way}
-use Rattle.chip_drops.specs.declared.avalanche.Avalanche.{Avalanche}
 use Rattle.chip_drops.specs.declared.pile.Pile.{Pile}
-use Rattle.chip_drops.specs.Avalanches.{dropped, IsAvalanche, AreAvalanches}
+use Rattle.chip_drops.specs.Avalanches.{dropped, IsAvalanche}
 use Rattle.chip_drops.specs.Pile.{IsPile, IsStable}
 use Rattle.chip_drops.proofs.DropLemmas.{told_more}
 use Rattle.chip_library.specs.Drops.{Told, drops_of, ComesToRest, IsStopped, AreMade, Leaves, BeginsPile, AreOn}

@@ -2,7 +2,7 @@
 use Rattle.std.specs.Prelude.{◌≡◌, ◌⊎◌, ℕ, ◌+◌, ◌<◌, ◌≤◌, List, [], ◌∷◌, ◌++◌, length, map, take, sum, slice_index}
 use Rattle.std.specs.Prelude.{Result, Ok, Err}
 use Rattle.chip_graph.specs.Limits.{max_total}
-use Rattle.chip_graph.specs.Multigraph.{Multigraph, IsGraph}
+use Rattle.chip_graph.specs.Multigraph.{IsGraph}
 use Rattle.chip_graph.specs.ChipGame.{ChipGame, IsGame}
 use Rattle.chip_graph.specs.More.{AreOfVertices, HasMore, all_brought}
 use Rattle.chip_sequence.specs.Counted.{game_from}

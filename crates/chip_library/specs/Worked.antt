@@ -1,6 +1,5 @@
 -- Lists, rows and drops worked out by hand.
-use Rattle.std.specs.Prelude.{◌≡◌, ℕ, List, [], ◌∷◌}
-use Rattle.chip_graph.specs.Multigraph.{Multigraph}
+use Rattle.std.specs.Prelude.{◌≡◌, List, [], ◌∷◌}
 use Rattle.chip_graph.specs.Worked.{triangle}
 use Rattle.chip_library.specs.EdgeLists.{edges_below}
 use Rattle.chip_library.specs.Batch.{row}

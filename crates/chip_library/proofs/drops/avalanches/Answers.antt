@@ -1,10 +1,10 @@
-use Rattle.std.proofs.Common.{◌≡◌, ◌∙◌, List, ℕ, slice_index, refl, sym, subst, arith, rules, inl, inr}
+use Rattle.std.proofs.Common.{◌≡◌, ◌∙◌, List, ℕ, slice_index, refl, sym, subst, rules, inl, inr}
 use Rattle.std.proofs.lemmas.Result.{err_from_is_err_and}
 use Rattle.chip_graph.specs.Multigraph.{Multigraph}
 use Rattle.chip_graph.specs.ChipGame.{ChipGame}
 use Rattle.chip_sequence.specs.Counted.{game_from}
 use Rattle.chip_library.specs.EdgeLists.{graph_of}
-use Rattle.chip_library.specs.Drops.{AreDrops, AreMade, BeginsPile, IsFaultAfter}
+use Rattle.chip_library.specs.Drops.{AreDrops, AreMade, BeginsPile}
 use Rattle.chip_library.proofs.DropLemmas.{made_all, outcome_is}
 use Rattle.chip_library.proofs.drops.avalanches.Goals as goal
 

@@ -1,12 +1,11 @@
-use Rattle.std.proofs.Common.{◌≡◌, ◌∙◌, ℕ, ◌*◌, ◌+◌, ◌≤◌, ◌<◌, ◌++◌, ◌∷◌, [], List, length, take, drop, refl, sym, ap, subst, arith, rules}
+use Rattle.std.proofs.Common.{◌≡◌, ◌∙◌, ℕ, ◌*◌, ◌+◌, length, drop, refl, ap, subst, arith}
 use Rattle.std.proofs.Common.{length-drop, zero-mul, inr}
 use Rattle.std.proofs.lemmas.Result.{err_from_is_err_and}
 use Rattle.std.proofs.lemmas.List.{drop-drop}
 use Rattle.chip_graph.specs.Multigraph.{Multigraph}
 use Rattle.chip_graph.specs.ChipGame.{ChipGame, IsGame}
-use Rattle.chip_sequence.specs.Counted.{game_from}
 use Rattle.chip_sequence.specs.Play.{IsPlayed}
-use Rattle.chip_library.specs.Batch.{game_at, ArePlayed, row}
+use Rattle.chip_library.specs.Batch.{game_at, row}
 use Rattle.chip_library.proofs.BatchLemmas.{played_none, played_more, room_for_row}
 use Rattle.chip_library.proofs.stabilize.play_each.Goals as goal
 

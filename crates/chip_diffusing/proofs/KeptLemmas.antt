@@ -134,7 +134,7 @@ module _ (net : Network) where
       stays x step f same = each (λ s t. f t ≡ f s) x step (λ s. refl) same
 
       pub grows : (x : Event) → Happens net old x new → (p : ℕ) → Grows (old p).books (new p).books
-      grows x step = each (λ s t. Grows s.books t.books) x step (λ s. record { sent = λ e. omega arith; got = λ e. omega arith; acked = λ e. omega arith; settled = λ e. omega arith })
+      grows x step = each (λ s t. Grows s.books t.books) x step (λ s. search (rules, arith))
           (books_grow (mine old x) (mine new x) x step.notes)
 
       -- but for a message that is got, nothing engages a part

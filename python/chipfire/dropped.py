@@ -2,6 +2,7 @@
 
 from __future__ import annotations
 
+import time
 from array import array
 from collections import Counter
 from collections.abc import Iterator, Sequence
@@ -19,8 +20,8 @@ ROWS_HEADER = "vertex,chips,size,extent,lost\n"
 #: How many drops become text at a time, and how many bytes of rows become numbers.
 PART = 2**16
 _BYTES = 2**20
-#: How many drops are one call of the library, so that an interrupt is soon seen.
-_AT_ONCE = 2**12
+#: How many drops the first call of the library makes. The next make more, or fewer if one takes a tenth of a second.
+_FIRST = 2**6
 
 
 @dataclass(frozen=True, repr=False, eq=False)
@@ -72,20 +73,22 @@ def dropped_on(graph: Graph, vertices: Any, amounts: Any) -> tuple[array[int], a
 def played_drops(
     graph: Graph, chips: Sequence[int], at: array[int], amounts: array[int], program: FileName | None
 ) -> list[Any] | None:
-    """The sizes, extents and numbers of lost chips by the library; None if the program is to be asked."""
+    """The columns of the drops by the library; None if the program is to be asked, since a limit may stop a vertex."""
     found = library.play(graph, chips, program)
     if not found or sum(chips) + max(amounts, default=0) > library.most(graph):
         return None
     left, columns = found[0], [array("Q", bytes(8 * len(at))) for _ in range(3)]
-    for start in range(0, len(at), _AT_ONCE):
-        where, many, *rows = (memoryview(it)[start : start + _AT_ONCE] for it in (at, amounts, *columns))
+    start, some = 0, _FIRST
+    while start < len(at):
+        begun, part = time.monotonic(), slice(start, start + some)
+        where, many, *rows = (memoryview(it)[part] for it in (at, amounts, *columns))
         try:
             library.avalanches(graph, where, many, left, rows[0], rows[1], rows[2], limit=library.most(graph))
         except Fault as fault:
             if fault.number == 13:
                 return None
             raise
-    # (if there are more in all, the program may stop a vertex)
+        start, some = part.stop, 2 * some if time.monotonic() < begun + 0.1 else some // 2 or 1
     return None if sum(found[1]) + sum(columns[0]) > MAX_LIMIT else _shown(columns)
 
 

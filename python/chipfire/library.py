@@ -1,7 +1,6 @@
 """libchipfire in this process: where it is, and its calls on arrays of whole numbers from 0 to 2^64 - 1.
 
-    chips, fired, stopped = (array("Q", bytes(8 * length)) for length in (5, 5, 1))
-    chips[0] = 9
+    chips, fired, stopped = (array("Q", numbers) for numbers in ([9, 0, 0, 0, 0], [0] * 5, [0]))
     chipfire.library.stabilize_all(chipfire.grid(2, 2), chips, fired, stopped)
 
 An array is an `array.array("Q")`, or one of NumPy of `uint64` in C's order that can be written. No two arrays of a call

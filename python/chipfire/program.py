@@ -129,9 +129,7 @@ def plain(
             left, fired, stopped = found
             over = (at for at, degree in enumerate(question.own.degrees()) if 0 < degree <= left[at]) if stopped else ()
             return Report(tuple(left), tuple(fired), tuple(over), graph=question.own)
-    files = [question.chips(start)]
-    if guess is not None:
-        files.append(question.chips(counts, "--guess", GUESS_HEADER))
+    files = [question.chips(start), *([] if guess is None else [question.chips(counts, "--guess", GUESS_HEADER)])]
     return Report.parse(question.ask("plain", files, limit=limit, progress=progress), question.graph)
 
 
@@ -297,8 +295,8 @@ def _method(function: Callable[P, T]) -> Callable[Concatenate[Program, P], T]:
 
 
 class Program:
-    """The program chipfire of this name, or the one that is found, and its commands as methods, each of which starts it.
-    What it refuses is raised as a `Fault`. An option that is None is left out, so the program's own value stands."""
+    """The program chipfire of this name, or the one that is found, and its commands as methods, which start it. What it
+    refuses is raised as a `Fault`. An option that is None is left out, so the program's own value stands."""
 
     def __init__(self, program: AnyProgram = None) -> None:
         self.path = find_program() if program is None else os.fspath(program)

@@ -63,26 +63,29 @@ fn play_all(
     game: &Game,
 ) -> Result<Option<(Vec<u64>, Vec<u64>, Vec<u64>)>, AllocError> {
     let vertices = game.graph().vertices() as usize;
-    let mut play = Play::new(alloc, game)?;
-    let before = Vec::from_slice(alloc, &play.fired)?;
+    let Play {
+        game,
+        mut chips,
+        mut fired,
+    } = Play::new(alloc, game)?;
+    let before = Vec::from_slice(alloc, &fired)?;
     let mut support = vec![in alloc; 0; vertices]?;
     let mut list = vec![in alloc; 0; 2 * vertices]?;
-    let listed = list_legal(play.game.graph(), &play.chips, &mut list);
+    let listed = list_legal(game.graph(), &chips, &mut list);
     let found = work_off(
-        play.game,
+        game,
         listed,
         &before,
         &mut support,
         &mut list,
-        &mut play.chips,
-        &mut play.fired,
+        &mut chips,
+        &mut fired,
     );
     let Some(found) = found else {
         return Ok(None);
     };
     support.truncate(found);
     support.sort_unstable();
-    let Play { chips, fired, .. } = play;
     Ok(Some((fired, chips, support)))
 }
 

@@ -8,13 +8,17 @@ use chip_fire::{Play, make_rounds};
 #[test]
 fn one_round(rt: HostRuntime) {
     let game = game_of(&rt, TRIANGLE, &[5, 0, 0], 1 << 40);
-    let mut play = Play::new(rt.alloc(), &game).expect(&rt, "memory");
+    let play = Play::new(rt.alloc(), &game).expect(&rt, "memory");
+    let Play {
+        game,
+        mut chips,
+        mut fired,
+    } = play;
     let mut turns = 0;
-    let made = make_rounds(play.game, 1, &mut play.chips, &mut play.fired, &mut turns);
+    let made = make_rounds(game, 1, &mut chips, &mut fired, &mut turns);
     assert!(rt; made == 1 && turns == 2);
     assert!(rt;
-        play.chips.as_slice() == [2, 0, 3].as_slice()
-            && play.fired.as_slice() == [2, 1, 0].as_slice()
+        chips.as_slice() == [2, 0, 3].as_slice() && fired.as_slice() == [2, 1, 0].as_slice()
     );
 }
 
@@ -22,11 +26,17 @@ fn one_round(rt: HostRuntime) {
 #[test]
 fn rounds_until_none_fires(rt: HostRuntime) {
     let game = game_of(&rt, TRIANGLE, &[5, 0, 0], 1 << 40);
-    let mut play = Play::new(rt.alloc(), &game).expect(&rt, "memory");
+    let play = Play::new(rt.alloc(), &game).expect(&rt, "memory");
+    let Play {
+        game,
+        mut chips,
+        mut fired,
+    } = play;
     let mut turns = 0;
-    let made = make_rounds(play.game, 8, &mut play.chips, &mut play.fired, &mut turns);
+    let made = make_rounds(game, 8, &mut chips, &mut fired, &mut turns);
     assert!(rt; made == 2 && turns == 3);
     if made < 8 {
+        let play = Play { game, chips, fired };
         let outcome = play.outcome(rt.alloc()).expect(&rt, "memory");
         assert!(rt;
             outcome.chips.as_slice() == [0, 1, 4].as_slice()
@@ -40,11 +50,17 @@ fn rounds_until_none_fires(rt: HostRuntime) {
 #[test]
 fn rounds_up_to_the_limit(rt: HostRuntime) {
     let game = game_of(&rt, TRIANGLE, &[5, 0, 0], 2);
-    let mut play = Play::new(rt.alloc(), &game).expect(&rt, "memory");
+    let play = Play::new(rt.alloc(), &game).expect(&rt, "memory");
+    let Play {
+        game,
+        mut chips,
+        mut fired,
+    } = play;
     let mut turns = u64::MAX - 1;
-    let made = make_rounds(play.game, 2, &mut play.chips, &mut play.fired, &mut turns);
+    let made = make_rounds(game, 2, &mut chips, &mut fired, &mut turns);
     assert!(rt; made == 1 && turns == u64::MAX);
     if made < 2 {
+        let play = Play { game, chips, fired };
         let outcome = play.outcome(rt.alloc()).expect(&rt, "memory");
         assert!(rt;
             outcome.over.as_slice() == [0].as_slice()

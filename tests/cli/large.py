@@ -20,6 +20,7 @@ import random
 import subprocess
 import sys
 import tempfile
+from collections import Counter
 
 sys.dont_write_bytecode = True
 from largest import Fan, Room, report, rows_of
@@ -32,6 +33,8 @@ SECONDS = 900
 FEW_GAMES, MANY_GAMES = 12, 200
 LEAST, MOST = 10_000, 200_000
 KINDS = ["chain", "star", "scattered", "one_way"]
+# On these no vertex but the sink has a greater in-degree than out-degree.
+BOTH_WAYS = ["chain", "star"]
 MOST_BYTES = 16_777_216
 VERTICES, EDGES = 2**21, 2**23
 PASSED_ON = 30
@@ -196,17 +199,35 @@ def played(player, room, limit=NO_LIMIT):
     return subprocess.run([player, "graph.json", "chips.csv", str(limit)], **how).stdout
 
 
-def sittings(player, room, game, whole):
-    """A play in two sittings, the first of which has a limit: arguments and faults."""
+def sittings(player, room, game, kind, whole):
+    """A play in two sittings, the first of which has a limit, and the counts of both as guesses: arguments and faults."""
     limit = 1 + game.below(3)
     first = played(player, room, limit)
-    arguments = f"plain graph.json chips.csv --large --limit {limit}"
-    yield arguments, room.faults_of(arguments, first, status_of(first))
+    for command in ["plain graph.json chips.csv --large", THREADS]:
+        arguments = f"{command} --limit {limit}"
+        yield arguments, room.faults_of(arguments, first, status_of(first))
+    yield from guessed(room, kind, first, whole)
     room.write("report.json", first)
     before, end = json.loads(first)["fired"], json.loads(whole)
     fired = [one - other for one, other in zip(end["fired"], before)]
     arguments = "resume --large graph.json report.json"
     yield arguments, room.faults_of(arguments, report(end["chips"], fired, prior=before))
+
+
+def guessed(room, kind, first, whole):
+    """Counts of all kinds as a guess: arguments and faults. Where edges go both ways, what becomes of the counts of the
+    firings of a play is known: those of its end are certified, and from others it goes on."""
+    true, some = (json.loads(text)["fired"] for text in (whole, first))
+    uses = {"certified": true, "played on" if some != true else "certified": some}
+    other = [count // 2 if v % 2 else count + 1 for v, count in enumerate(true)]
+    for use, counts in [*uses.items(), (None, other)]:
+        room.write("guess.csv", rows_of(("vertex", "fired"), enumerate(counts)))
+        arguments = "plain graph.json chips.csv --large --guess guess.csv --progress"
+        written, lines, status = room.ran(arguments)
+        faults = [] if (written, status) == (whole, 0) else [f"status {status}, or another report"]
+        if use and kind in BOTH_WAYS and f"chipfire: progress: guess {use}\n" not in lines:
+            faults.append(f"the counts are not {use}: {lines!r}")
+        yield arguments, faults
 
 
 def traced(player, room, game):
@@ -217,14 +238,28 @@ def traced(player, room, game):
     whole = played(player, room)
     arguments = f"{THREADS} --trace trace.csv --trace-rows {ROWS}"
     yield arguments, room.faults_of(arguments, whole)
-    arguments = "replay graph.json chips.csv trace.csv --large"
-    written, errors, status = room.ran(arguments)
-    fired = [0] * len(json.loads(whole)["fired"])
-    for line in written.splitlines():
-        _, vertex, times = line.split(" ")
-        fired[int(vertex)] += int(times)
-    is_well = (errors, status, fired) == ("", 0, json.loads(whole)["fired"])
-    yield arguments, [] if is_well else [f"status {status}, standard error {errors!r}, or other firings"]
+    # (all messages are taken, and in the second trace all but those of vertices that do not fire)
+    header, *rows = (line.split(",") for line in room.read("trace.csv").splitlines())
+    sent = Counter(int(vertex) for vertex, kind, _, _ in rows if kind == "fire")
+    room.write("cut.csv", rows_of(header, (row for row in rows if int(row[0]) in sent)))
+    for trace, left in [("trace.csv", []), ("cut.csv", left_at_rest(game, sent, dict(chips)))]:
+        arguments = f"replay graph.json chips.csv {trace} --large --complete"
+        written, errors, status = room.ran(arguments)
+        lines, fired = written.splitlines(), [0] * game.vertices
+        at = len(lines) - len(left)
+        for line in lines[:at]:
+            _, vertex, times = line.split(" ")
+            fired[int(vertex)] += int(times)
+        is_well = (errors, status, fired) == ("", 2 if left else 0, json.loads(whole)["fired"]) and lines[at:] == left
+        yield arguments, [] if is_well else [f"status {status}, standard error {errors!r}, or other firings or rests"]
+
+
+def left_at_rest(game, sent, chips):
+    """What is left if vertices that do not fire take nothing: on each edge to such a vertex all messages of its tail, which
+    sends one on each of its edges for each row of firings."""
+    counts = [0 if head in sent else sent[tail] for tail, head, _ in game.edges]
+    counts += [int(v not in sent and chips.get(v, 0) > 0) for v in range(game.vertices)]
+    return [f"left: edge {edge} has {count} messages" for edge, count in enumerate(counts) if count]
 
 
 def looked_at(room, game):
@@ -251,7 +286,7 @@ def play_random(program, player, number):
             yield THREADS, room.faults_of(THREADS, whole)
         turn = number // len(KINDS) % 3
         if turn == 0:
-            yield from sittings(player, room, game, whole)
+            yield from sittings(player, room, game, kind, whole)
         elif turn == 1:
             yield from looked_at(room, game)
         else:

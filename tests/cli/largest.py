@@ -167,8 +167,14 @@ def play_fan(room, fan):
 
 
 def play_trace(room, fan):
-    """A run on threads whose trace has room for all rows but the sink's: its arguments and faults."""
-    arguments = f"run graph.json chips.csv --workers 4 --trace trace.csv --trace-rows {ROWS}"
+    """Runs on threads whose trace has room for all rows but the sink's: arguments and faults."""
+    for way in ("", " --dealt"):
+        arguments = f"run graph.json chips.csv --workers 4 --trace trace.csv --trace-rows {ROWS}{way}"
+        yield arguments, wrong_trace(room, fan, arguments)
+
+
+def wrong_trace(room, fan, arguments):
+    """What is wrong with such a run and its trace."""
     chips, fired, over = fan.stopped(fan.chips, 2**40)
     written, errors, ended = room.ran(arguments)
     faults = [] if written == report(chips, fired, over) else ["another report"]
@@ -183,7 +189,7 @@ def play_trace(room, fan):
     own = [f"{EDGES + LAST}", f"{fan.chips[LAST]}"]
     known = ([edge, f"{fired[fan.tail(int(edge))]}"] if edge != own[0] else own for _, _, edge, _ in taken)
     is_well = all(row == [f"{LAST}", "take", *edge] for row, edge in zip(taken, known))
-    yield arguments, faults if is_well else [*faults, "other rows of the sink"]
+    return faults if is_well else [*faults, "other rows of the sink"]
 
 
 def play_path(room, path):

@@ -1,8 +1,9 @@
 """Random games on threads: `run` by some number of workers, with some ring, and for some of them the trace. Each game
-is played twice: the workers share a queue, and then the vertices are dealt out to them.
+is played twice: the workers share a queue, and then the vertices are dealt out to them. A chain has long traces.
 
 What must come is known from examples/play.py, which shares nothing with the program: the report, to the byte, however
-the threads were scheduled. A trace that was not cut must replay, with as many firings of each vertex as the report has.
+the threads were scheduled. A trace that was not cut must replay, with as many firings of each vertex as the report has,
+and nothing is left but the vertices at their limit.
 
 A fed game has its chips in two files, those at the start and those that are fed; what must come is what play.py says of
 all of them together. Its trace replays on all chips where no vertex has some of both, since it then takes them at once.
@@ -15,8 +16,11 @@ import tempfile
 from collections import Counter
 
 import chains
+import progress
 
 SECONDS = 60
+# How many vertices the chain has before its sink.
+LENGTH = 9
 # By a queue, and dealt out.
 WAYS = [[], ["--dealt"]]
 
@@ -30,6 +34,8 @@ class Crew:
 
     # What the command has beside the options that are drawn, and the files for it.
     feed, feed_files = [], {}
+    # How many rows of each vertex are recorded.
+    trace_rows = "4096"
 
     def __init__(self, program, examples, draw):
         graph, chips = chains.random_game(draw)
@@ -42,11 +48,25 @@ class Crew:
     @classmethod
     def of_triangle(cls, program, examples):
         """The small triangle by three workers, with its trace."""
+        return cls.of_files(program, examples, f"{examples}/triangle", "3")
+
+    @classmethod
+    def of_chain(cls, program, examples):
+        """The chain of progress.py, on which vertices fire up to ten thousands of times."""
+        with tempfile.TemporaryDirectory(prefix="chipfire-crew-") as folder:
+            progress.write_uphill(folder, LENGTH)
+            crew = cls.of_files(program, examples, folder, "2")
+        crew.trace_rows = str(2**17)
+        return crew
+
+    @classmethod
+    def of_files(cls, program, examples, folder, workers):
+        """The game of a folder by so many workers, with its trace."""
         crew = cls(program, examples, random.Random("crew 0"))
-        crew.limit, crew.options, crew.has_trace = [], ["--workers", "3"], True
-        with open(f"{examples}/triangle/graph.json", encoding="utf-8") as file:
+        crew.limit, crew.options, crew.has_trace = [], ["--workers", workers], True
+        with open(f"{folder}/graph.json", encoding="utf-8") as file:
             crew.graph = file.read()
-        with open(f"{examples}/triangle/chips.csv", encoding="utf-8") as file:
+        with open(f"{folder}/chips.csv", encoding="utf-8") as file:
             crew.chips = file.read()
         return crew
 
@@ -65,7 +85,7 @@ class Crew:
 
     def faults_of(self, way, game, wanted, folder):
         """What is not as it must be where the workers share the vertices in this way."""
-        trace = ["--trace", "trace.csv", "--trace-rows", "4096"] if self.has_trace else []
+        trace = ["--trace", "trace.csv", "--trace-rows", self.trace_rows] if self.has_trace else []
         files = ["graph.json", "start.csv"] if self.feed else game[:2]
         words = [self.program, "run", *files, *self.limit, *self.options, *way, *self.feed, *trace]
         ran = self.call(words, folder)
@@ -84,14 +104,18 @@ class Crew:
 
     def replayed(self, game, wanted, folder):
         """What is not as it must be where the trace is replayed."""
-        ran = self.call([self.program, "replay", *game[:2], "trace.csv", *self.limit], folder)
-        fired = Counter()
+        ran = self.call([self.program, "replay", *game[:2], "trace.csv", *self.limit, "--complete"], folder)
+        fired, left, report = Counter(), [], json.loads(wanted)
         for line in ran.stdout.decode().splitlines():
-            _, vertex, count = line.split()
-            fired[int(vertex)] += int(count)
-        counts = json.loads(wanted)["fired"]
-        is_well = ran.returncode == 0 and [fired[v] for v in range(len(counts))] == counts
-        return [] if is_well else [f"its trace replays to {dict(fired)}, status {ran.returncode}, {ran.stderr!r}"]
+            word, vertex, count = line.split(" ", 2)
+            if word == "fire":
+                fired[int(vertex)] += int(count)
+            else:
+                left.append(line)
+        counts = [fired[v] for v in range(len(report["fired"]))]
+        at_limit = [f"left: vertex {v} is at its limit" for v in report["over"]]
+        is_well = (ran.returncode, counts, left) == (chains.status_of(wanted), report["fired"], at_limit)
+        return [] if is_well else [f"its trace replays to {counts}, {left}, status {ran.returncode}, {ran.stderr!r}"]
 
 
 class FedCrew(Crew):
@@ -115,7 +139,9 @@ def play_crews(program, examples, count, fed_count):
     crews = {f"game {number} on threads": (Crew, f"crew {number}") for number in range(count)}
     crews |= {f"fed game {number} on threads": (FedCrew, f"fed crew {number}") for number in range(fed_count)}
     games = [(name, kind(program, examples, random.Random(seed))) for name, (kind, seed) in crews.items()]
-    for name, crew in [*games, ("the triangle on three threads", Crew.of_triangle(program, examples))]:
+    games.append(("the triangle on three threads", Crew.of_triangle(program, examples)))
+    games.append(("long traces of a chain on two threads", Crew.of_chain(program, examples)))
+    for name, crew in games:
         try:
             faults = crew.faults()
         except subprocess.TimeoutExpired:

@@ -8,6 +8,7 @@ import json
 import math
 import os
 import random
+import resource
 import statistics
 import subprocess
 import sys
@@ -15,6 +16,7 @@ import tempfile
 
 import chains
 import large
+import paced
 from largest import Room, rows_of
 
 HERE = os.path.dirname(os.path.realpath(__file__))
@@ -134,6 +136,7 @@ def stopped(program):
             _, report = answer(player, room)
             room.write("chips.csv", rows_of(CHIPS, enumerate(chips)))
             room.write("drops.csv", rows_of(CHIPS, drops))
+            yield ASKED, room.faults_of(ASKED, rows_of(ROWS, rows), 2)
             yield ASKED, room.faults_of(f"{ASKED} --report report.json", rows_of(ROWS, rows), 2)
             written = room.read("report.json")
             yield "the report", [] if written == report else [f"expected {report}, got {written}"]
@@ -183,11 +186,26 @@ def million(program):
         yield "the mean size", wrong_mean(rows)
         for size in FILE_SIZES:
             yield f"{ASKED} into {size} bytes", cut(program, folder, rows, size)
+        yield f"{ASKED} into a pipe", held_back(program, folder, rows)
         answers = {(rows, "", 0), ("", "chipfire: fault 90 NoMemory\n", 1)}
         got = {size: room.ran(ASKED, [*LIMITED, f"AS={size << 20}"]) for size in MEMORIES}
         for size, one in got.items():
             yield f"{ASKED} in {size} MiB", [] if one in answers else [f"{one[1:]} and {len(one[0])} bytes"]
         yield "an answer of each kind", [] if answers == {*got.values()} else ["there is one kind"]
+
+
+def held_back(program, folder, rows):
+    """What is wrong with rows that nobody reads until the program waits for that: most drops are not played by then."""
+    before = sum(resource.getrusage(resource.RUSAGE_CHILDREN)[:2])
+    with subprocess.Popen([program, *ASKED.split(" ")], stdout=subprocess.PIPE, cwd=folder) as process:
+        paced.waits(process)
+        with open(f"/proc/{process.pid}/stat", encoding="ascii") as file:
+            user, system = file.read().rpartition(") ")[2].split()[11:13]
+        written = process.communicate(timeout=large.SECONDS)[0].decode("ascii")
+    then = (int(user) + int(system)) / os.sysconf("SC_CLK_TCK")
+    end = sum(resource.getrusage(resource.RUSAGE_CHILDREN)[:2]) - before
+    wrong = [] if (written, process.returncode) == (rows, 0) else [f"status {process.returncode} and {len(written)} bytes"]
+    return wrong + ([] if then < end / 2 else [f"the first rows came after {then} of {end} seconds of a processor"])
 
 
 def cut(program, folder, rows, size):

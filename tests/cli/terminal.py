@@ -14,6 +14,9 @@ FILES = {
     "chips.csv": "vertex,chips\n0,4\n",
     "none.csv": "vertex,chips\n",
     "words.csv": "vertex,chips\n0,4\n1,some\n",
+    "short.csv": "vertex,chips\n0\n",
+    "beyond.csv": "vertex,chips\n0,4\n1,2\n3,1\n",
+    "twice.csv": "vertex,fired\n0,2\n1,1\n0,2\n",
     "early.csv": "event,at,count\ntake,4,0\nwait,0,0\n",
     "trace.csv": "vertex,kind,edge,count\n0,fire,0,1\n",
     "report.json": '{"chips":[4],"closed":true,"fired":[0],"over":[],"sealed":[],"version":1}\n',
@@ -24,6 +27,13 @@ NUMBER = "fault 25 Number i: a field of row i is no number"
 TOLD = {
     "plain graph.json words.csv": ("25 Number 1", ["in words.csv: row 1, which is line 3 if no line is empty", NUMBER]),
     "plain words.csv chips.csv": ("20 NotJson", ["in words.csv", "fault 20 NotJson: the graph file is no JSON"]),
+    "avalanches graph.json chips.csv short.csv":
+        ("24 Row 0", ["in short.csv: row 0, which is line 2 if no line is empty", "fault 24 Row i: row i has not as many fields as the header"]),
+    "plain graph.json beyond.csv":
+        ("26 Vertex 2", ["in beyond.csv: row 2, which is line 4 if no line is empty", "fault 26 Vertex i: row i names a vertex or an edge that does not exist"]),
+    "plain graph.json chips.csv --guess twice.csv":
+        ("27 Repeated 2", ["in twice.csv: row 2, which is line 4 if no line is empty", "fault 27 Repeated i: row i names a vertex that an earlier row named"]),
+    "plain graph.json .": ("29 Read", ["in .", "fault 29 Read: a file could be opened, but not read"]),
     "check far.json": ("8 Unreached 0", ["in far.json", "fault 8 Unreached v: no walk leads from vertex v to the sink"]),
     "plain graph.json far.csv": ("92 Open 2", ["in far.csv", "fault 92 Open n: the file that argument n names could not be opened"]),
     "plain - chips.csv": ("20 NotJson", ["in -", "fault 20 NotJson: the graph file is no JSON"]),

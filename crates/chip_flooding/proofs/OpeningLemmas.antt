@@ -1,0 +1,68 @@
+-- Serves Running.antt.
+-- The parts before anything is sent.
+use Rattle.std.proofs.Common.{◌≡◌, ◌≢◌, ℕ, ◌+◌, ◌<◌, false, List, [], ◌∷◌, ◌++◌, get_or, sym, ap, ◌∙◌, subst, arith, ⊎_elim, length-append}
+use Rattle.std.specs.List.{Contains}
+use Rattle.std.proofs.Math.ListN.{get_or-append}
+use Rattle.std.proofs.Math.Seq.{get_or-append_seam}
+use Rattle.std.proofs.lemmas.List.Elements.{Contains-append_left, Contains-append_right, Contains-append_cases}
+use mathlib.Core.Logic.{dite}
+use native.Mathlib.Decide.{ℕ_discrete}
+use Rattle.chip_diffusing.specs.Network.{AreAll}
+use Rattle.chip_diffusing.specs.Computation.{OpensPart}
+use Rattle.chip_diffusing.proofs.OrderLemmas.{contains_cases, contains_first, contains_nothing}
+use Rattle.chip_flooding.specs.Running.{Topology, Process, network_of, shown, nobody, world_of, AreOpening}
+
+-- an edge below n of which the part is this end
+abbrev pub IsEnd : List ℕ → ℕ → ℕ → ℕ → Type 0
+IsEnd ends part n e = (e < n) × (get_or ends e 0 ≡ part)
+
+-- one more edge is looked at: it is listed
+pub listed : (ends es : List ℕ) (part n : ℕ) → AreAll es (IsEnd ends part n) → get_or ends n 0 ≡ part
+    → AreAll (es ++ n ∷ []) (IsEnd ends part (n + 1))
+listed ends es part n all here = record {
+  all = λ e is. dite (ℕ_discrete e n)
+      (λ z. Contains-append_right es (n ∷ []) e (subst (Contains (n ∷ [])) (sym z) (contains_first n [])))
+      (λ other. Contains-append_left es (n ∷ []) e (all.all e ((let l = is.0 in omega arith), is.1)));
+  none_else = λ e m. ⊎_elim
+      (λ old. let was = all.none_else e old in ((let l = was.0 in omega arith), was.1))
+      (λ last. ⊎_elim
+      (λ z. subst (IsEnd ends part (n + 1)) (sym z) (omega arith, here))
+      (λ none. absurd (contains_nothing e none)) (contains_cases n [] e last))
+      (Contains-append_cases es (n ∷ []) e m);
+}
+
+-- or it is not
+pub passed : (ends es : List ℕ) (part n : ℕ) → AreAll es (IsEnd ends part n) → get_or ends n 0 ≢ part
+    → AreAll es (IsEnd ends part (n + 1))
+passed ends es part n all here = record {
+  all = λ e is. all.all e (dite (ℕ_discrete e n)
+      (λ z. absurd (here (subst (λ (i : ℕ). get_or ends i 0 ≡ part) z is.1)))
+      (λ other. ((let l = is.0 in omega arith), is.1)));
+  none_else = λ e m. let was = all.none_else e m in ((let l = was.0 in omega arith), was.1);
+}
+
+-- one more part opens
+pub opened : (t : Topology) (n : ℕ) (processes : List Process) (s : Process) → AreOpening t n processes
+    → OpensPart (network_of t) n (shown s) → (n ≡ t.root → s.passive ≡ false)
+    → AreOpening t (n + 1) (processes ++ s ∷ [])
+opened t n processes s was opens root = record {
+  count_is = let long = length-append processes (s ∷ []) in let old = was.count_is in omega arith;
+  each = λ p l. dite (ℕ_discrete p n)
+      (λ z. subst (λ (q : ℕ). OpensPart (network_of t) q (world_of (processes ++ s ∷ []) q)) (sym z)
+      (subst (OpensPart (network_of t) n) (sym last) opens))
+      (λ other. subst (OpensPart (network_of t) p) (sym (earlier p (omega arith))) (was.each p (omega arith)));
+  at_work = λ l. dite (ℕ_discrete t.root n)
+      (λ z. subst (λ (q : ℕ). (world_of (processes ++ s ∷ []) q).passive ≡ false) (sym z)
+      (ap (λ (q : Process). q.passive) here ∙ root (sym z)))
+      (λ other. ap (λ (q : Process). q.passive)
+      (get_or-append processes (s ∷ []) nobody t.root (let old = was.count_is in omega arith)) ∙ was.at_work (omega arith));
+}
+  where
+    here : get_or (processes ++ s ∷ []) n nobody ≡ s
+    here = subst (λ (i : ℕ). get_or (processes ++ s ∷ []) i nobody ≡ s) was.count_is (get_or-append_seam processes s [] nobody)
+
+    last : world_of (processes ++ s ∷ []) n ≡ shown s
+    last = ap shown here
+
+    earlier : (p : ℕ) → p < n → world_of (processes ++ s ∷ []) p ≡ world_of processes p
+    earlier p l = ap shown (get_or-append processes (s ∷ []) nobody p (let old = was.count_is in omega arith))

@@ -1,0 +1,3 @@
+pub mod Running
+pub mod Flooding
+pub mod Worked

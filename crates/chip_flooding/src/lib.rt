@@ -1,0 +1,14 @@
+//! Flooding, as an example of a computation that has a detector: every part that can be reached from the root is marked,
+//! and the root sees from its own books when that is so.
+#![tactic(auto)]
+
+pub use flooding::flood;
+pub use run::Run;
+pub use topology::Topology;
+
+mod channel;
+mod flooding;
+pub mod laws;
+mod process;
+mod run;
+mod topology;

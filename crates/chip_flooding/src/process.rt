@@ -1,0 +1,55 @@
+ghost use Rattle.std.specs.Prelude.{◌≡◌, ◌<◌, ◌≤◌, false, length, slice_index, IfOk};
+ghost use Rattle.chip_diffusing.specs.Network.{AreAll};
+ghost use Rattle.chip_diffusing.specs.Computation.{OpensPart};
+ghost use Rattle.chip_flooding.specs.Running.{IsTopology, AreOpening, network_of, shown};
+
+use crate::topology::Topology;
+use chip_detect::Detect;
+use std::alloc::{AllocError, Global};
+
+/// A part: its books, and whether it has nothing to do until a message comes.
+#[derive(Drop)]
+pub struct Process {
+    pub books: Detect,
+    pub passive: bool,
+}
+
+/// All parts before anything is sent.
+pub fn opening_processes(alloc: Global, topology: &Topology) -> Result<Vec<Process>, AllocError>
+    requires { IsTopology topology.now }
+    ensures { IfOk result (λ processes. AreOpening topology.now topology.now.parts processes.items) }
+{
+    let mut processes = Vec::new(alloc);
+    for part in 0..topology.parts {
+        processes.push(opening_process(alloc, topology, part)?)?;
+    }
+    Ok(processes)
+}
+
+/// A part before anything is sent. Only the root is at work.
+fn opening_process(alloc: Global, topology: &Topology, part: usize) -> Result<Process, AllocError>
+    requires { IsTopology topology.now }
+    ensures opens { IfOk result (λ process. OpensPart (network_of topology.now) part (shown process)) }
+    ensures root { IfOk result (λ process. part ≡ topology.now.root → process.passive ≡ false) }
+{
+    let ins = edges_at(alloc, &topology.heads, part)?;
+    let outs = edges_at(alloc, &topology.tails, part)?;
+    Ok(Process {
+        books: Detect::new(alloc, &ins, &outs)?,
+        passive: part != topology.root,
+    })
+}
+
+/// The edges of which the part is this end.
+fn edges_at(alloc: Global, ends: &[usize], part: usize) -> Result<Vec<u64>, AllocError>
+    ensures all { IfOk result (λ edges. AreAll edges.items (λ e. (e < length ends.now) × (slice_index ends.now e ≡ part))) }
+    ensures no_more { IfOk result (λ edges. length edges.items ≤ length ends.now) }
+{
+    let mut edges = Vec::new(alloc);
+    for (edge, end) in ends.iter().enumerate() {
+        if *end == part {
+            edges.push(edge as u64)?;
+        }
+    }
+    Ok(edges)
+}

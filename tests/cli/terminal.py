@@ -51,7 +51,7 @@ TOLD = {
         ("52 Mismatch", ["in report.json", "fault 52 Mismatch: the report has another number of vertices than the graph"]),
     "verify graph.json chips.csv played.json":
         ("53 Differs 0", ["in played.json", "fault 53 Differs v: the report is not of this game, and v is the least vertex that differs"]),
-    "explain 12": ("91 Usage", ["fault 91 Usage: the arguments are no command"]),
+    "explain 14": ("91 Usage", ["fault 91 Usage: the arguments are no command"]),
 }
 # Commands that are none, and the words that have to stand below the fault.
 WRONG = {

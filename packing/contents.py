@@ -58,9 +58,11 @@ def built_in(folder):
 
 
 def link_soname(folder):
-    """Makes the link in a folder by which programs find the library there that they were linked with."""
-    if not os.path.lexists(f"{folder}/{SONAME}"):
-        os.symlink(SHARED, f"{folder}/{SONAME}")
+    """Gives the library in a folder the second name by which programs find it that were linked with it. (It is no
+    symbolic link, since the kit's gate takes none.)"""
+    if os.path.lexists(f"{folder}/{SONAME}"):
+        os.remove(f"{folder}/{SONAME}")
+    os.link(f"{folder}/{SHARED}", f"{folder}/{SONAME}")
 
 
 def lay_out(folder, built):

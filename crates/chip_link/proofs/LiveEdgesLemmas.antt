@@ -4,13 +4,14 @@
 use Rattle.std.proofs.Common.{◌≡◌, ◌≢◌, ◌⊎◌, inl, inr, ⊎_elim, option_map, ℕ, ◌+◌, ◌-◌, ◌%◌, ◌^◌, ◌<◌, ◌≤◌, Bool, true}
 use Rattle.std.proofs.Common.{false, ◌&&◌, cond, ltb, List, [], ◌∷◌, ◌++◌, length, take, drop, get_or, set, replicate}
 use Rattle.std.proofs.Common.{Option, Some, None, option_to_list, is_none, is_some, refl, sym, ap, ◌∙◌, subst, arith}
-use Rattle.std.proofs.Common.{append_assoc, append-nil, true≢false, ltb-true}
+use Rattle.std.proofs.Common.{append_assoc, append-nil, true≢false, ltb-true, rules}
 use Rattle.std.proofs.lemmas.Bool.{and_parts}
+use Rattle.std.proofs.lemmas.Bool.Decides.{nat_tests}
 use Rattle.std.proofs.lemmas.List.{get_or-set_same, get_or-set_other, length-set, length-replicate, get_or-replicate}
 use Rattle.std.proofs.lemmas.List.{get_or_past, take-append-drop}
 use Rattle.std.proofs.lemmas.Nat.{mod_below}
 use mathlib.Core.Logic.{dite}
-use native.Mathlib.Decide.{ℕ_discrete, dec_lt}
+use native.Mathlib.Decide.{ℕ_discrete}
 use Rattle.chip_link.specs.declared.message.Message.{Message}
 use Rattle.chip_link.specs.Words.{word_after_exchange, edge_word}
 use Rattle.chip_link.specs.Ends.{TailState, HeadState, may_clear, tail_cell, head_cell, tail_after_clear}
@@ -76,18 +77,11 @@ module _ (edge ring : ℕ) (some_ring : 0 < ring) (s : LiveEdge) (t : Tail) (got
       let below : claims_of t < 2 ^ 62 = ltb-true (claims_of t) (2 ^ 62) parts.1 in (
         after_clear seen t,
         got,
-        record {
-          tail_is = ap (tail_after_clear seen) f.tail_is ∙ tail_clears edge ring t seen may;
-          head_is = f.head_is;
-          claimed_is = f.claimed_is;
-          taken_is = f.taken_is;
-          cells_are = f.cells_are;
-          shows = clear_shows ring some_ring s.word _ t got s.stop f.sound f.shows seen;
-          sound = clear_sound ring some_ring t got s.stop f.sound seen none (cell_is
-              ∙ clear_sees ring some_ring s.word _ t got s.stop f.sound f.shows none);
-          few = f.few;
-          fewer = λ _. below;
-        },
+        (let tail = tail_clears edge ring t seen may in
+            let shown = clear_shows ring some_ring s.word _ t got s.stop f.sound f.shows seen in
+            let kept : Sound ring (after_clear seen t) got s.stop = clear_sound ring some_ring t got s.stop f.sound seen none
+            (cell_is ∙ clear_sees ring some_ring s.word _ t got s.stop f.sound f.shows none) in
+            let tail_is = ap (tail_after_clear seen) f.tail_is ∙ tail in search (rules, arith, nat_tests)),
       ))
       (λ no.
       let same : s.tail ≡ tail_after_clear seen s.tail =
@@ -156,8 +150,8 @@ module _ (edge ring : ℕ) (some_ring : 0 < ring) (s : LiveEdge) (t : Tail) (got
       let parts = and_parts _ _ may in
       let some_count : 0 < count = ltb-true 0 count (and_parts _ _ parts.1).0 in
       let is_clear : t.clear ≡ true = sym (ap (λ (u : TailState). u.clear) f.tail_is) ∙ parts.0 in
-      subst (HasLists edge ring) (sym (cond_is _ true (claim_on count s) s may)) (claimed_on count some_count is_clear))
-      (λ no. subst (HasLists edge ring) (sym (cond_is _ false (claim_on count s) s no)) (t, got, f))
+      rw may (claimed_on count some_count is_clear))
+      (λ no. rw no (t, got, f))
 
   -- a put with nothing to put, and of what is held
   after_putting : HasLists edge ring (step Put s)
@@ -219,17 +213,7 @@ module _ (edge ring : ℕ) (some_ring : 0 < ring) (s : LiveEdge) (t : Tail) (got
           tail_is = f.tail_is;
           head_is = ap (head_after_take seen) f.head_is ∙ head_takes edge ring got seen;
           claimed_is = f.claimed_is;
-          taken_is = dite (ℕ_discrete seen 0)
-              (λ none. ap (λ (ms : List Message). s.taken ++ ms) (message_is
-              ∙ ap option_to_list (cond_yes seen 0 _ _ none)) ∙ append-nil s.taken ∙ f.taken_is
-              ∙ ap (numbered edge 0) (sym (cond_yes seen 0 _ _ none)))
-              (λ found.
-              let m : Message = record { edge = edge; place = length got; count = seen } in
-              ap (λ (ms : List Message). s.taken ++ ms) (message_is ∙ ap option_to_list (cond_no seen 0 _ _ found))
-              ∙ ap (λ (ms : List Message). ms ++ m ∷ []) f.taken_is
-              ∙ ap (λ (n : ℕ). numbered edge 0 got ++ numbered edge n (seen ∷ []))
-              (let place : length got ≡ 0 + length got = omega arith in place)
-              ∙ sym (numbered-append edge 0 got (seen ∷ [])) ∙ ap (numbered edge 0) (sym (cond_no seen 0 _ _ found)));
+          taken_is = let all = f.taken_is in grind (arith, nat_tests, append-nil, numbered-append edge 0 got (seen ∷ []));
           cells_are = ap length cells_are ∙ length-set s.cells at 0 ∙ f.cells_are;
           shows = subst (λ (l : List ℕ). Shows ring s.word (λ i. get_or l i 0) t (after_take seen got) s.stop)
               (sym cells_are)
@@ -244,28 +228,15 @@ module _ (edge ring : ℕ) (some_ring : 0 < ring) (s : LiveEdge) (t : Tail) (got
 
   -- a take, whether it is allowed or not
   after_taking : HasLists edge ring (step Take s)
-  after_taking = by_test (ltb s.head.taken (2 ^ 62))
-      (λ may. subst (HasLists edge ring) (sym (cond_is _ true (take_on (get_or s.cells (head_cell s.head) 0) s) s may))
-      taken_on)
-      (λ no. subst (HasLists edge ring) (sym (cond_is _ false (take_on (get_or s.cells (head_cell s.head) 0) s) s no))
-      (t, got, f))
+  after_taking = by_test (ltb s.head.taken (2 ^ 62)) (λ may. rw may taken_on) (λ no. rw no (t, got, f))
 
   -- a seal, the first or another
   after_sealing : HasLists edge ring (step Seal s)
   after_sealing = (
     t,
     got,
-    record {
-      tail_is = f.tail_is;
-      head_is = f.head_is;
-      claimed_is = f.claimed_is;
-      taken_is = f.taken_is;
-      cells_are = f.cells_are;
-      shows = seal_shows ring some_ring s.word _ t got s.stop f.sound f.shows (let few = f.few in omega arith);
-      sound = seal_sound ring t got s.stop s.word f.shows.word_is f.sound;
-      few = f.few;
-      fewer = f.fewer;
-    },
+    (let shown = seal_shows ring some_ring s.word _ t got s.stop f.sound f.shows (let few = f.few in omega arith) in
+        let kept = seal_sound ring t got s.stop s.word f.shows.word_is f.sound in search (rules, arith, nat_tests)),
   )
 
   -- a sealed edge takes no claim, and stays sealed
@@ -274,43 +245,23 @@ module _ (edge ring : ℕ) (some_ring : 0 < ring) (s : LiveEdge) (t : Tail) (got
   unclaimed first stop Clear = (refl, stop)
   unclaimed first stop Put = (refl, stop)
   unclaimed first stop Seal = (refl, ap (after_seal s.word) stop)
-  unclaimed first stop Take = by_test (ltb s.head.taken (2 ^ 62))
-      (λ may. let e = cond_is _ true (take_on (get_or s.cells (head_cell s.head) 0) s) s may in
-      (ap (λ (u : LiveEdge). u.claimed) e, ap (λ (u : LiveEdge). u.stop) e ∙ stop))
-      (λ no. let e = cond_is _ false (take_on (get_or s.cells (head_cell s.head) 0) s) s no in
-      (ap (λ (u : LiveEdge). u.claimed) e, ap (λ (u : LiveEdge). u.stop) e ∙ stop))
+  unclaimed first stop Take = grind (arith, nat_tests)
   unclaimed first stop (Claim count) =
       let bit : word_of t s.stop ≡ claims_of t + 2 ^ 63 = ap (λ (o : Option ℕ). word_of t o) stop in
       let other : s.word ≢ s.tail.claims = λ same. (let w = f.shows.word_is in
       let n : s.tail.claims ≡ claims_of t = ap (λ (u : TailState). u.claims) f.tail_is in absurd (omega arith)) in
       let nothing : message_claimed s.word count s.tail ≡ None = cond_no s.word s.tail.claims _ _ other in
-      by_test (s.tail.clear && is_count count)
-      (λ may. let e = cond_is _ true (claim_on count s) s may in (
-        ap (λ (u : LiveEdge). u.claimed) e ∙ ap (λ (o : Option Message). s.claimed ++ option_to_list o) nothing
-            ∙ append-nil s.claimed,
-        ap (λ (u : LiveEdge). u.stop) e ∙ stop,
-      ))
-      (λ no. let e = cond_is _ false (claim_on count s) s no in
-      (ap (λ (u : LiveEdge). u.claimed) e, ap (λ (u : LiveEdge). u.stop) e ∙ stop))
+      grind (arith, nat_tests, append-nil)
 
 get_or-zeros : (zeros : List ℕ) (n i : ℕ) → zeros ≡ replicate n 0 → get_or zeros i 0 ≡ 0
-get_or-zeros zeros n i is = dite (dec_lt i n) (λ l. ap (λ (zs : List ℕ). get_or zs i 0) is ∙ get_or-replicate n i 0 0 l)
-    (λ past. get_or_past zeros i 0 (let l : length zeros ≡ n = ap (λ (zs : List ℕ). length zs) is ∙ length-replicate n 0
-    in omega arith))
+get_or-zeros zeros n i is = grind (arith, get_or-replicate, get_or_past, length-replicate)
 
 -- a new edge has empty lists behind it
 new_edge_follows : (edge ring : ℕ) → 0 < ring → Follows edge ring (new_edge edge ring) fresh_tail []
-new_edge_follows edge ring some_ring = record {
-  tail_is = refl;
-  head_is = refl;
-  claimed_is = refl;
-  taken_is = refl;
-  cells_are = length-replicate ring 0;
-  shows = fresh_shows ring (λ i. get_or (replicate ring 0) i 0) (λ i. get_or-zeros _ ring i refl);
-  sound = fresh_sound ring some_ring;
-  few = omega arith;
-  fewer = λ e. absurd (true≢false (sym e));
-}
+new_edge_follows edge ring some_ring =
+    let cells : length (replicate {A = ℕ} ring 0) ≡ ring = length-replicate ring 0 in
+    let shown = fresh_shows ring (λ i. get_or (replicate ring 0) i 0) (λ i. get_or-zeros _ ring i refl) in
+    let kept = fresh_sound ring some_ring in search (rules, arith, nat_tests)
 
 after_step : (edge ring : ℕ) → 0 < ring → (s : LiveEdge) → HasLists edge ring s → (x : EdgeStep)
     → HasLists edge ring (step x s)

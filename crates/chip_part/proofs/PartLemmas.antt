@@ -4,7 +4,8 @@ use Rattle.std.proofs.Common.{◌≡◌, ◌≢◌, ◌⊎◌, ℕ, zero, suc, �
 use Rattle.std.proofs.Common.{cond, eqb, ltb, leb, List, [], ◌∷◌, ◌++◌, length, sum, Option, Some, None, option_to_list}
 use Rattle.std.proofs.Common.{refl, sym, ap, ◌∙◌, subst, arith, inl, inr, ⊎_elim, eq-eqb, ne_eqb, eqb-true, ltb-true}
 use Rattle.std.proofs.Common.{leb-true, lt-ltb, le-ltb, le-leb, true≢false, length-append, append-nil, mul-add}
-use Rattle.std.proofs.Common.{mul_comm, mul-zero, add-mul}
+use Rattle.std.proofs.Common.{mul_comm, mul-zero, add-mul, rules}
+use Rattle.std.proofs.lemmas.Bool.Decides.{nat_tests}
 use Rattle.std.proofs.lemmas.Bool.{not-true, eqb-false, and_parts, or_cases, and_from, cases_Bool, not_from_true}
 use Rattle.std.proofs.lemmas.List.Sums.{sum_by-append, sum_by_push}
 use mathlib.Core.Logic.{dite}
@@ -17,9 +18,9 @@ use Rattle.chip_graph.proofs.SumLemmas.{cond_yes, cond_no, cond_true, cond_false
 use Rattle.chip_graph.proofs.SumLemmas.{tested_none, tested_move, sum_below_ext, sum_below_move}
 use Rattle.chip_link.specs.Link.{Tail, claims_of, sent_counts, after_clear, after_claim, after_put, after_take}
 use Rattle.chip_detect.specs.Acknowledging.{is_parent, or_else}
-use Rattle.chip_part.specs.declared.cause.Cause.TheVariants.{SealedEdge, FiringLimit}
+use Rattle.chip_part.specs.declared.cause.Cause.TheVariants.{FiringLimit}
 use Rattle.chip_part.specs.Edges.{graph_edges, all_edges, root_edge, tail_of, head_of, mult_of, over_outs, over_ins}
-use Rattle.chip_part.specs.Part.{Cause, Part, is_running, owed, outstanding, may_ack, all_owed, pending_of, unput_count}
+use Rattle.chip_part.specs.Part.{Cause, Part, owed, outstanding, may_ack, all_owed, pending_of, unput_count}
 use Rattle.chip_part.specs.Part.{refusals, cause, is_legal, is_passive, deficit, all_fed}
 use Rattle.chip_part.specs.Rules.{Event, Take, Ack, Fire, Clear, Claim, Put, Halt, Settle, Feed, End, unmet_rule}
 use Rattle.chip_part.specs.Steps.{part_of, settled_after, got_after, acked_after, halt_after, fired_after, saw}
@@ -72,17 +73,7 @@ module _ (g : Setting) where
   -- where chips are fed, a root edge keeps nothing but that nothing is pending on it
   root_kept : (e : ℕ) (t : Tail) (pending fired : ℕ) → graph_edges g ≤ e → g.fed ≡ true → pending ≡ 0
       → KeepsOut g e t pending fired
-  root_kept e t pending fired past on idle = record {
-    all_made = λ l. absurd (omega arith);
-    fewer = λ l. absurd (omega arith);
-    fewer_yet = λ l h. absurd (omega arith);
-    clear_pends = λ l z. absurd (omega arith);
-    refused_pends = λ l z. absurd (omega arith);
-    clear_open = λ l z. absurd (omega arith);
-    free_hand = λ l h. absurd (omega arith);
-    root_idle = λ l. idle;
-    root_unfed = λ l off. absurd (true≢false (sym on ∙ off));
-  }
+  root_kept e t pending fired past on idle = search (rules, arith, nat_tests)
 
   -- chips are fed where the end isn't noted
   fed_by : (s : Part) → (g.fed ≡ false → s.ended ≡ true) → s.ended ≡ false → g.fed ≡ true
@@ -98,29 +89,8 @@ module _ (g : Setting) where
       let hand = old.free_hand inside pends in
       let empty : length (option_to_list t.held) ≡ 0 = ap (λ (h : Option ℕ). length (option_to_list h)) hand in
       let nothing : sum (option_to_list t.held) ≡ 0 = ap (λ (h : Option ℕ). sum (option_to_list h)) hand in
-      let a = old.all_made inside in
-      record {
-        all_made = λ l. omega arith;
-        fewer = λ l. omega arith;
-        fewer_yet = λ l h. absurd (omega arith);
-        clear_pends = λ l z. absurd (true≢false (sym z));
-        refused_pends = λ l z. absurd (true≢false (sym z ∙ old.clear_open inside clear));
-        clear_open = λ l z. absurd (true≢false (sym z));
-        free_hand = λ l h. absurd (omega arith);
-        root_idle = λ l. refl;
-        root_unfed = λ l off. absurd (omega arith);
-      }
-  claim_keeps e t pending fired false old inside clear = record {
-    all_made = old.all_made;
-    fewer = old.fewer;
-    fewer_yet = old.fewer_yet;
-    clear_pends = λ l z. absurd (true≢false (sym z));
-    refused_pends = λ l z. old.clear_pends inside clear;
-    clear_open = λ l z. absurd (true≢false (sym z));
-    free_hand = old.free_hand;
-    root_idle = old.root_idle;
-    root_unfed = λ l off. absurd (omega arith);
-  }
+      let a = old.all_made inside in let b = old.clear_open inside clear in search (rules, arith, nat_tests)
+  claim_keeps e t pending fired false old inside clear = let a = old.clear_pends inside clear in search (rules, arith, nat_tests)
 
   outs_kept : (x : Event) (seen p : ℕ) (s : Part) → p ≡ part_of g x → Met g x s → (g.fed ≡ false → s.ended ≡ true)
       → Outs p s → Outs p (does g (saw x seen) s)
@@ -140,31 +110,12 @@ module _ (g : Setting) where
       let c = mul_comm (mult_of g i) k in
       let some_k = may.5 in
       subst (λ (n : ℕ). KeepsOut g i o.link n (s.fired + k))
-      (sym (cond_yes (tail_of g i) v (k * mult_of g i) o.pending mine)) record {
-        all_made = λ l. omega arith;
-        fewer = λ l. omega arith;
-        fewer_yet = λ l h. omega arith;
-        clear_pends = λ l e. (let z = old.clear_pends l e in absurd (omega arith));
-        refused_pends = λ l e. (let z = old.refused_pends l e in absurd (omega arith));
-        clear_open = old.clear_open;
-        free_hand = λ l h. no_held o.link.held idle;
-        root_idle = λ l. absurd (omega arith);
-        root_unfed = λ l off. absurd (omega arith);
-      }
+      (sym (cond_yes (tail_of g i) v (k * mult_of g i) o.pending mine))
+      (let held = no_held o.link.held idle in let x = old.clear_pends inside in let y = old.refused_pends inside in search (rules, arith, nat_tests))
   outs_kept (Clear e) seen p s by may unfed ok = at_edge (λ i (t : Tail). tail_of g i ≡ p
       → KeepsOut g i t (s.out i).pending s.fired) e (λ i. after_clear seen (s.out i).link) (λ i. (s.out i).link)
       (λ at. let old = ok e at in ⊎_elim
-      (λ v. record {
-        all_made = old.all_made;
-        fewer = old.fewer;
-        fewer_yet = old.fewer_yet;
-        clear_pends = λ l z. v.3;
-        refused_pends = old.refused_pends;
-        clear_open = λ l z. v.2;
-        free_hand = old.free_hand;
-        root_idle = old.root_idle;
-        root_unfed = λ l off. (let inside = v.0 in absurd (omega arith));
-      })
+      (λ v. search (rules, arith, nat_tests))
       (λ r. root_kept e _ _ _ r.0 (fed_by s unfed r.2) (old.root_idle r.0)) may) ok
   outs_kept (Put e) seen p s by may unfed ok = at_edge (λ i (t : Tail). tail_of g i ≡ p
       → KeepsOut g i t (s.out i).pending s.fired) e (λ i. after_put (s.out i).link) (λ i. (s.out i).link)
@@ -204,15 +155,13 @@ module _ (g : Setting) where
       let b = sum_by_push (λ (x : ℕ). x) got seen in omega arith)
 
   pub took_some : (seen : ℕ) (got : List ℕ) → seen ≢ 0 → length (after_take seen got) ≡ length got + 1
-  took_some seen got some = let a = ap length (cond_no seen 0 got (got ++ seen ∷ []) some) in
-      let b = length-append got (seen ∷ []) in omega arith
+  took_some seen got some = let b = length-append got (seen ∷ []) in grind (arith, nat_tests)
 
   pub took_none : (seen : ℕ) (got : List ℕ) → seen ≡ 0 → after_take seen got ≡ got
   took_none seen got none = cond_yes seen 0 got (got ++ seen ∷ []) none
 
   took_more : (seen : ℕ) (got : List ℕ) → length got ≤ length (after_take seen got)
-  took_more seen got = dite (ℕ_discrete seen 0) (λ none. let a = ap length (took_none seen got none) in omega arith)
-      (λ some. let a = took_some seen got some in omega arith)
+  took_more seen got = let b = length-append got (seen ∷ []) in grind (arith, nat_tests)
 
   pub may_le : (v e : ℕ) (s : Part) → may_ack g v s e ≤ owed (s.into e)
   may_le v e s = within_owed e s.parent (owed (s.into e)) (all_owed g v s) (deficit g v s) (is_passive g v s)
@@ -226,9 +175,7 @@ module _ (g : Setting) where
       let a = tested_move (all_edges g) (λ i. eqb (head_of g i) p) (λ i. sum (got_after (Take e) seen i (s.into i)))
       (λ i. sum (s.into i).got) e may (eq-eqb _ _ (sym by))
       (λ i l ne on. ap sum (cond_no e i (after_take seen (s.into i).got) (s.into i).got (λ z. ne (sym z)))) in
-      let b = ap sum (cond_yes e e (after_take seen (s.into e).got) (s.into e).got refl) in
-      let c = took_sum seen (s.into e).got in
-      omega arith
+      let c = took_sum seen (s.into e).got in grind (arith, nat_tests)
   chips_kept (Fire v k) seen p s by may ok =
       let a = mul-add (degree g.game.graph p) s.fired k in let b = mul_comm (degree g.game.graph p) k in
       let c = ap (λ (w : ℕ). k * degree g.game.graph w) by in let d = may.7 in omega arith
@@ -240,12 +187,8 @@ module _ (g : Setting) where
 
   acks_kept : (x : Event) (seen : ℕ) (s : Part) → ((e : ℕ) → (s.into e).acked ≤ length (s.into e).got) → (e : ℕ)
       → acked_after g x s e (s.into e) ≤ length (got_after x seen e (s.into e))
-  acks_kept (Take e) seen s ok = at_edge (λ i (l : List ℕ). (s.into i).acked ≤ length l) e
-      (λ i. after_take seen (s.into i).got) (λ i. (s.into i).got) (let a = ok e in let b = took_more seen (s.into e).got
-      in omega arith) ok
-  acks_kept (Ack e) seen s ok = at_edge (λ i (n : ℕ). n ≤ length (s.into i).got) e
-      (λ i. (s.into i).acked + may_ack g (head_of g e) s e) (λ i. (s.into i).acked) (let a = ok e in
-      let b = may_le (head_of g e) e s in omega arith) ok
+  acks_kept (Take e) seen s ok = λ i. (let a = ok i in let b = took_more seen (s.into i).got in grind (arith, nat_tests))
+  acks_kept (Ack e) seen s ok = λ i. (let a = ok i in let c = may_le (head_of g e) e s in grind (arith, nat_tests))
   acks_kept _ seen s ok = ok
 
   -- a take that found nothing
@@ -281,9 +224,7 @@ module _ (g : Setting) where
   -- more was got, or nothing
   owed_take : (e seen : ℕ) (s : Part) (i : ℕ)
       → owed (s.into i) ≤ length (got_after (Take e) seen i (s.into i)) - (s.into i).acked
-  owed_take e seen s = at_edge (λ i (l : List ℕ). owed (s.into i) ≤ length l - (s.into i).acked) e
-      (λ i. after_take seen (s.into i).got) (λ i. (s.into i).got) (let b = took_more seen (s.into e).got in omega arith)
-      (λ i. omega arith)
+  owed_take e seen s i = let b = took_more seen (s.into i).got in grind (arith, nat_tests)
 
   or_else_is : (o : Option ℕ) (e i : ℕ) → or_else o e ≡ Some i → (o ≡ Some i) ⊎ (e ≡ i)
   or_else_is None e i h = inr (let z : e ≡ i = cc in z)
@@ -296,16 +237,9 @@ module _ (g : Setting) where
   parents_kept : (x : Event) (seen p : ℕ) (s : Part) → p ≡ part_of g x → Met g x s
       → ((e : ℕ) → (s.into e).acked ≤ length (s.into e).got) → Parents p s
       → Parents p (does g (saw x seen) s)
-  parents_kept (Take e) seen p s by may acks ok = dite (ℕ_discrete seen 0)
-      (λ none. subst (λ (t : Part). (i : ℕ) → t.parent ≡ Some i → (i < all_edges g) × (head_of g i ≡ p)
-      × (0 < owed (t.into i))) (sym (idle_take e seen s none)) ok)
-      (λ some i h. ⊎_elim
-      (λ was. let a = ok i was in let b = a.2 in let c = owed_take e seen s i in (a.0, a.1, omega arith))
-      (λ new. subst (λ (k : ℕ). (k < all_edges g) × (head_of g k ≡ p)
-      × (0 < length (got_after (Take e) seen k (s.into k)) - (s.into k).acked)) new
-      (let a = ap length (cond_yes e e (after_take seen (s.into e).got) (s.into e).got refl) in
-      let b = took_some seen (s.into e).got some in let c = acks e in (may, sym by, omega arith)))
-      (or_else_is s.parent e i (sym (cond_no seen 0 s.parent (or_else s.parent e) some) ∙ h)))
+  parents_kept (Take e) seen p s by may acks ok = λ i h.
+      let c = owed_take e seen s i in let d = length-append (s.into i).got (seen ∷ []) in let a = ok i in let b = acks i in
+      let o = or_else_is s.parent e i in grind (arith, nat_tests)
   parents_kept (Ack e) seen p s by may acks ok = λ i h. by_test (is_parent e s.parent
       && eqb (may_ack g (head_of g e) s e) (owed (s.into e)))
       (λ y. absurd (none-some i (sym (cond_true _ None s.parent y) ∙ h)))
@@ -338,11 +272,7 @@ module _ (g : Setting) where
   -- a running vertex that is passive has nothing to do
   pub passive_parts : (v : ℕ) (s : Part) → is_passive g v s ≡ true → s.halt ≡ None
       → (unput_count g v s ≡ 0) × (pending_of g v s ≡ 0) × (is_legal g v s ≡ false)
-  passive_parts v s h none =
-      let a = and_parts _ _ h in
-      let run : is_running s.halt ≡ true = ap is_running none in
-      ⊎_elim (λ z. absurd (true≢false (sym z ∙ not_from_true _ run))) (λ z. let b = and_parts _ _ z in
-      (eqb-true _ _ a.0, eqb-true _ _ b.0, not-true _ b.1)) (or_cases _ _ a.1)
+  passive_parts v s h none = grind (arith, nat_tests)
 
   pub no_refusals : (p : ℕ) (s : Part) → p < g.game.graph.vertices → Outs p s → pending_of g p s ≡ 0 → refusals g p s ≡ 0
   no_refusals p s vertex outs none = tested_none (all_edges g) (λ e. eqb (tail_of g e) p)
@@ -355,33 +285,14 @@ module _ (g : Setting) where
 
   pub cause_limit : (v : ℕ) (s : Part) → cause g v s ≡ Some FiringLimit → (s.fired ≡ g.game.limit) × (pending_of g v s ≡ 0)
       × (is_legal g v s ≡ true)
-  cause_limit v s h = by_test (not (eqb (refusals g v s) 0))
-      (λ y. absurd (other_cause (sym (cond_true _ (Some SealedEdge) rest y) ∙ h)))
-      (λ n.
-      let h' : rest ≡ Some FiringLimit = sym (cond_false _ (Some SealedEdge) rest n) ∙ h in
-      by_test test
-      (λ y. let a = and_parts _ _ y in let b = and_parts _ _ a.0 in (eqb-true _ _ a.1, eqb-true _ _ b.0, b.1))
-      (λ n'. absurd (no_cause (sym (cond_false test (Some FiringLimit) None n') ∙ h'))))
-    where
-      test : Bool
-      test = eqb (pending_of g v s) 0 && is_legal g v s && eqb s.fired g.game.limit
-
-      rest : Option Cause
-      rest = cond test (Some FiringLimit) None
-
-      other_cause : ◌≡◌ {A = Option Cause} (Some SealedEdge) (Some FiringLimit) → ⊥
-      other_cause q = absurd (cc)
-
-      no_cause : ◌≡◌ {A = Option Cause} None (Some FiringLimit) → ⊥
-      no_cause q = absurd (cc)
+  cause_limit v s h = grind (arith, nat_tests)
 
   at_limit_kept : (x : Event) (seen p : ℕ) (s : Part) → p ≡ part_of g x → Met g x s
       → (s.halt ≡ Some FiringLimit → (s.fired ≡ g.game.limit) × (pending_of g p s ≡ 0) × (is_legal g p s ≡ true))
       → halt_after g x s ≡ Some FiringLimit → ((does g (saw x seen) s).fired ≡ g.game.limit)
       × (pending_of g p (does g (saw x seen) s) ≡ 0)
       × (is_legal g p (does g (saw x seen) s) ≡ true)
-  at_limit_kept (Take e) seen p s by may ok h = let a = ok h in let b = and_parts _ _ a.2 in let c = leb-true _ _ b.1 in
-      (a.0, a.1, and_from _ _ b.0 (le-leb (degree g.game.graph p) (s.chips + seen) (omega arith)))
+  at_limit_kept (Take e) seen p s by may ok h = let a = ok h in grind (arith, nat_tests)
   at_limit_kept (Fire v k) seen p s by may ok h = absurd (none_halt s.halt FiringLimit may.2 h)
   at_limit_kept (Claim e) seen p s by may ok h = absurd (none_halt s.halt FiringLimit may.1 h)
   at_limit_kept (Halt v) seen p s by may ok h = subst (λ (w : ℕ). (s.fired ≡ g.game.limit) × (pending_of g w s ≡ 0)
@@ -394,13 +305,9 @@ module _ (g : Setting) where
     pub no_fire : (v k : ℕ) → p ≡ v → Met g (Fire v k) s → ⊥
     no_fire v k by may =
         let idle = passive_parts p s rest.passive may.2 in
-        let some_k = may.5 in
-        let chips = may.7 in
+        let some_k = may.5 in let chips = may.7 in let other = may.1 in
         let enough : degree g.game.graph v ≤ k * degree g.game.graph v = one_of k (degree g.game.graph v) some_k in
-        let legal : is_legal g v s
-        ≡ true = and_from _ _ (Rattle.std.proofs.lemmas.Bool.not_from_false _ (ne_eqb _ _ may.1))
-        (le-leb (degree g.game.graph v) s.chips (omega arith)) in
-        true≢false (sym (subst (λ (w : ℕ). is_legal g w s ≡ true) (sym by) legal) ∙ idle.2)
+        let same = idle.2 in grind (arith, nat_tests)
       where
         one_of : (k d : ℕ) → 0 < k → d ≤ k * d
         one_of zero d l = absurd (omega arith)
@@ -419,14 +326,7 @@ module _ (g : Setting) where
     no_halt v by may =
         let idle = passive_parts p s rest.passive may.2 in
         let refused = no_refusals p s (subst (λ (n : ℕ). n < g.game.graph.vertices) (sym by) may.0) outs idle.1 in
-        let none : cause g p s ≡ None = cond_false _ (Some SealedEdge) _ (not_from_true _ (eq-eqb _ _ refused))
-        ∙ cond_false _ (Some FiringLimit) None
-        (illegal (eqb (pending_of g p s) 0) (is_legal g p s) (eqb s.fired g.game.limit) idle.2) in
-        none_halt (cause g p s) may.4.0 none (ap (λ (w : ℕ). cause g w s) by ∙ may.4.1)
-      where
-        illegal : (a b c : Bool) → b ≡ false → ((a && b) && c) ≡ false
-        illegal true b c q = ap (λ (t : Bool). t && c) q
-        illegal false b c q = refl
+        let off = idle.2 in let some = may.4.1 in grind (arith, nat_tests)
 
   -- a vertex isn't the tail of a root edge
   not_root : (p e : ℕ) → p < g.game.graph.vertices → p ≡ tail_of g e → graph_edges g ≤ e → ⊥
@@ -483,38 +383,18 @@ module _ (g : Setting) where
       (no_put p s ok.outs (ok.neutral l h) e by (may.0) may.1.0 may.1.1)
   neutral_kept (Halt v) seen p s by may ok l h = absurd (no_halt p s ok.outs (ok.neutral l h) v by may)
   neutral_kept (Settle e) seen p s by may ok l h =
-      let old = ok.neutral l h in record {
-        no_parent = old.no_parent;
-        passive = old.passive;
-        nothing_owed = old.nothing_owed;
-        no_deficit =
-            let a = tested_le (all_edges g) (λ i. eqb (tail_of g i) p)
-            (λ i. claims_of (s.out i).link - settled_after g (Settle e) seen i (s.out i)) (λ i. outstanding (s.out i))
-            (λ i m on.
-            at_edge (λ i (n : ℕ). claims_of (s.out i).link - n ≤ outstanding (s.out i)) e
-            (λ i. (s.out i).settled + (seen - (s.out i).settled)) (λ i. (s.out i).settled) (omega arith)
-            (λ i. omega arith) i) in
-            let b = old.no_deficit in omega arith;
-      }
-  neutral_kept _ seen p s by may ok l h = let old = ok.neutral l h in
-      record {
-        no_parent = old.no_parent;
-        passive = old.passive;
-        nothing_owed = old.nothing_owed;
-        no_deficit = old.no_deficit;
-      }
+      let old = ok.neutral l h in
+      let a = tested_le (all_edges g) (λ i. eqb (tail_of g i) p)
+      (λ i. claims_of (s.out i).link - settled_after g (Settle e) seen i (s.out i)) (λ i. outstanding (s.out i))
+      (λ i m on. grind (arith, nat_tests)) in search (rules, arith, nat_tests)
+  neutral_kept _ seen p s by may ok l h = let old = ok.neutral l h in search (rules, arith, nat_tests)
 
   -- ---- what was fed
 
   -- a claim for k chips sends at most these more
   claim_sends : (k seen : ℕ) (t : Tail) → sum (sent_counts (after_claim k seen t)) ≤ sum (sent_counts t) + k
-  claim_sends k seen t = by (eqb seen (claims_of t))
-    where
-      by : (b : Bool) → sum (sent_counts (cond b (record t { held = Some k; clear = false })
-          (record t { clear = false; refused = true }))) ≤ sum (sent_counts t) + k
-      by true = let was = sum_by-append (λ (x : ℕ). x) t.put (option_to_list t.held) in
-          let b = sum_by_push (λ (x : ℕ). x) t.put k in omega arith
-      by false = omega arith
+  claim_sends k seen t = let was = sum_by-append (λ (x : ℕ). x) t.put (option_to_list t.held) in
+      let b = sum_by_push (λ (x : ℕ). x) t.put k in grind (arith, nat_tests)
 
   -- a put sends nothing more
   put_sends : (t : Tail) → sent_counts (after_put t) ≡ sent_counts t
@@ -546,15 +426,11 @@ module _ (g : Setting) where
   fed_kept (Claim e) seen s may ok =
       let inside = may.0 in
       let same = sum_below_ext g.game.graph.vertices (λ v. sent_after (Claim e) seen s (root_edge g v))
-      (λ v. sum (sent_counts (s.out (root_edge g v)).link)) (λ v l. ap (λ (t : Tail). sum (sent_counts t))
-      (cond_no e (root_edge g v) (after_claim (s.out (root_edge g v)).pending seen (s.out (root_edge g v)).link)
-      (s.out (root_edge g v)).link (λ z. (let y : e ≡ root_edge g v = z in absurd (omega arith))))) in
+      (λ v. sum (sent_counts (s.out (root_edge g v)).link)) (λ v l. grind (arith, nat_tests)) in
       omega arith
   fed_kept (Clear e) seen s may ok =
       let same = sum_below_ext g.game.graph.vertices (λ v. sent_after (Clear e) seen s (root_edge g v))
-      (λ v. sum (sent_counts (s.out (root_edge g v)).link)) (λ v l.
-      at_edge (λ i (t : Tail). sum (sent_counts t) ≡ sum (sent_counts (s.out i).link)) e
-      (λ i. after_clear seen (s.out i).link) (λ i. (s.out i).link) refl (λ i. refl) (root_edge g v)) in
+      (λ v. sum (sent_counts (s.out (root_edge g v)).link)) (λ v l. grind (arith, nat_tests)) in
       omega arith
   fed_kept (Put e) seen s may ok =
       let same = sum_below_ext g.game.graph.vertices (λ v. sent_after (Put e) seen s (root_edge g v))

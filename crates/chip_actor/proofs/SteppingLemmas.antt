@@ -4,7 +4,8 @@
 use Rattle.std.proofs.Common.{◌≡◌, ◌≢◌, ℕ, zero, suc, ◌+◌, ◌-◌, ◌*◌, ◌<◌, ◌≤◌, ◌^◌, ◌%◌, Bool, true, false, not, ◌&&◌}
 use Rattle.std.proofs.Common.{cond, if◌then◌else◌, eqb, List, [], ◌∷◌, ◌++◌, length, sum, map, Option, Some, None}
 use Rattle.std.proofs.Common.{is_some, option_map, option_to_list, refl, sym, ap, ◌∙◌, subst, arith, eq-eqb, eqb-true}
-use Rattle.std.proofs.Common.{mul_comm, true≢false}
+use Rattle.std.proofs.Common.{mul_comm, true≢false, rules}
+use Rattle.std.proofs.lemmas.Bool.Decides.{nat_tests}
 use mathlib.Core.Logic.{dite}
 use native.Mathlib.Decide.{ℕ_discrete}
 use Rattle.chip_graph.specs.Multigraph.{degree}
@@ -103,92 +104,49 @@ module _ (g : Setting) (s : Part) (a : Actor) (stands : StandsFor g s a) where
       → (is : InEnds) → ChangesIn a.ins is e (head_after_take seen) → (b : Books) → Gets a.detect b e → IsSound b
       → StandsFor g (does g (saw (Take e) seen) s)
       (record a { chips = a.chips + seen; ins = is; detect = b })
-  takes e seen at may some few is change b gets sound = record {
-    knows = knows_still (a.chips + seen) a.fired a.halt a.outs is b a.pending a.unput a.refused refl change.edges
-        (ap edges_of gets.outs) gets.ins.edges;
-    kept = kept_still (Take e) seen at may;
-    few_chips = few;
-    few_pending = stands.few_pending;
-    chips = ap (λ (n : ℕ). n + seen) stands.chips;
-    fired = stands.fired;
-    halt = stands.halt;
-    outs = stands.outs;
-    ins = taken_end e seen is change;
-    books = record {
-      sound = sound;
-      parent = gets.parent ∙ ap (λ (p : Option ℕ). or_else p e) stands.books.parent
-          ∙ sym (cond_no seen 0 s.parent (or_else s.parent e) some);
-      got = λ i mine. gets.ins.messages i ∙ dite (ℕ_discrete e i)
-          (λ y. cond_yes e i _ _ y ∙ ap (λ (n : ℕ). n + 1) (stands.books.got i mine)
-          ∙ sym (took_some g seen (s.into i).got some)
-          ∙ ap length (sym (cond_yes e i (after_take seen (s.into i).got) (s.into i).got y)))
-          (λ n. cond_no e i _ _ n ∙ stands.books.got i mine
-          ∙ ap length (sym (cond_no e i (after_take seen (s.into i).got) (s.into i).got n)));
-      acked = λ i mine. gets.ins.answered i ∙ stands.books.acked i mine;
-      sent = λ i mine. (λ j. messages_on (gets.outs j) i) ∙ stands.books.sent i mine;
-      settled = λ i mine. (λ j. answered_on (gets.outs j) i) ∙ stands.books.settled i mine;
-    };
-    pending = stands.pending;
-    unput = stands.unput;
-    refused = stands.refused;
-  }
+  takes e seen at may some few is change b gets sound =
+      let knows = knows_still (a.chips + seen) a.fired a.halt a.outs is b a.pending a.unput a.refused refl change.edges
+      (ap edges_of gets.outs) gets.ins.edges in
+      let kept = kept_still (Take e) seen at may in let ins = taken_end e seen is change in
+      let books : KeepsBooks g (does g (saw (Take e) seen) s) a.vertex b = record {
+        sound = sound;
+        parent = gets.parent ∙ ap (λ (p : Option ℕ). or_else p e) stands.books.parent
+            ∙ sym (cond_no seen 0 s.parent (or_else s.parent e) some);
+        got = λ i mine. (let m = gets.ins.messages i in let was = stands.books.got i mine in
+            let one = took_some g seen (s.into i).got some in grind (arith, nat_tests));
+        acked = λ i mine. gets.ins.answered i ∙ stands.books.acked i mine;
+        sent = λ i mine. (λ j. messages_on (gets.outs j) i) ∙ stands.books.sent i mine;
+        settled = λ i mine. (λ j. answered_on (gets.outs j) i) ∙ stands.books.settled i mine;
+      } in search (rules, arith, nat_tests)
 
   -- an empty cell changes nothing
   pub takes_none : (e seen : ℕ) → seen ≡ 0 → (is : InEnds) → ChangesIn a.ins is e (head_after_take seen)
       → StandsFor g (does g (saw (Take e) seen) s) (record a { ins = is })
   takes_none e seen none is change = subst (λ (t : Part). StandsFor g t (record a { ins = is }))
-      (sym (idle_take g e seen s none)) record {
-        knows = knows_still a.chips a.fired a.halt a.outs is a.detect a.pending a.unput a.refused refl change.edges refl
-            refl;
-        kept = stands.kept;
-        few_chips = stands.few_chips;
-        few_pending = stands.few_pending;
-        chips = stands.chips;
-        fired = stands.fired;
-        halt = stands.halt;
-        outs = stands.outs;
-        ins = λ i at. change.each i ∙ dite (ℕ_discrete e i)
-            (λ y. cond_yes e i _ _ y ∙ cond_yes seen 0 (in_on a.ins i) _ none ∙ stands.ins i at)
-            (λ n. cond_no e i _ _ n ∙ stands.ins i at);
-        books = books_still _ refl (λ e. refl) (λ e mine. refl) (λ e. refl);
-        pending = stands.pending;
-        unput = stands.unput;
-        refused = stands.refused;
-      }
+      (sym (idle_take g e seen s none))
+      (let knows = knows_still a.chips a.fired a.halt a.outs is a.detect a.pending a.unput a.refused refl change.edges refl refl in
+      let ins : (i : ℕ) → head_of g i ≡ a.vertex → in_on is i ≡ head_state i g.ring (s.into i).got = λ i at. (
+      let c = change.each i in let was = stands.ins i at in grind (arith, nat_tests)) in
+      search (rules, arith, nat_tests))
 
   -- ---- a settle
 
   pub settles : (e seen : ℕ) → tail_of g e ≡ a.vertex → unmet_rule g (Settle e) s ≡ None → (b : Books)
       → Settles a.detect b e (seen - settled_of a.detect e) → IsSound b
       → StandsFor g (does g (saw (Settle e) seen) s) (record a { detect = b })
-  settles e seen at may b change sound = record {
-    knows = knows_still a.chips a.fired a.halt a.outs a.ins b a.pending a.unput a.refused refl refl change.outs.edges
-        (ap edges_of change.ins);
-    kept = kept_still (Settle e) seen at may;
-    few_chips = stands.few_chips;
-    few_pending = stands.few_pending;
-    chips = stands.chips;
-    fired = stands.fired;
-    halt = stands.halt;
-    outs = stands.outs;
-    ins = stands.ins;
-    books = record {
-      sound = sound;
-      parent = change.parent ∙ stands.books.parent;
-      got = λ i mine. (λ j. messages_on (change.ins j) i) ∙ stands.books.got i mine;
-      acked = λ i mine. (λ j. answered_on (change.ins j) i) ∙ stands.books.acked i mine;
-      sent = λ i mine. change.outs.messages i ∙ stands.books.sent i mine;
-      settled = λ i mine. change.outs.answered i ∙ dite (ℕ_discrete e i)
-          (λ y. cond_yes e i _ _ y ∙ (λ j. stands.books.settled i mine j
-          + (seen - (ap (settled_of a.detect) y ∙ stands.books.settled i mine) j))
-          ∙ sym (cond_yes e i ((s.out i).settled + (seen - (s.out i).settled)) (s.out i).settled y))
-          (λ n. cond_no e i _ _ n ∙ stands.books.settled i mine
-          ∙ sym (cond_no e i ((s.out i).settled + (seen - (s.out i).settled)) (s.out i).settled n));
-    };
-    pending = stands.pending;
-    unput = stands.unput;
-    refused = stands.refused;
-  }
+  settles e seen at may b change sound =
+      let knows = knows_still a.chips a.fired a.halt a.outs a.ins b a.pending a.unput a.refused refl refl change.outs.edges
+      (ap edges_of change.ins) in
+      let kept = kept_still (Settle e) seen at may in
+      let books : KeepsBooks g (does g (saw (Settle e) seen) s) a.vertex b = record {
+        sound = sound;
+        parent = change.parent ∙ stands.books.parent;
+        got = λ i mine. (λ j. messages_on (change.ins j) i) ∙ stands.books.got i mine;
+        acked = λ i mine. (λ j. answered_on (change.ins j) i) ∙ stands.books.acked i mine;
+        sent = λ i mine. change.outs.messages i ∙ stands.books.sent i mine;
+        settled = λ i mine. (let c = change.outs.answered i in let was = stands.books.settled i mine in
+            grind (arith, nat_tests));
+      } in search (rules, arith, nat_tests)
 
   -- ---- an acknowledgement
 
@@ -197,51 +155,30 @@ module _ (g : Setting) (s : Part) (a : Actor) (stands : StandsFor g s a) where
       → b.parent ≡ (if is_parent e a.detect.parent && eqb count (Rattle.chip_detect.specs.Books.owed a.detect e)
       then None else a.detect.parent) → (seen : ℕ)
       → StandsFor g (does g (saw (Ack e) seen) s) (record a { detect = b })
-  acknowledges e count at may all b change sound parent seen = record {
-    knows = knows_still a.chips a.fired a.halt a.outs a.ins b a.pending a.unput a.refused refl refl
-        (ap edges_of change.outs) change.ins.edges;
-    kept = kept_still (Ack e) seen at may;
-    few_chips = stands.few_chips;
-    few_pending = stands.few_pending;
-    chips = stands.chips;
-    fired = stands.fired;
-    halt = stands.halt;
-    outs = stands.outs;
-    ins = stands.ins;
-    books = record {
-      sound = sound;
-      parent = parent ∙ (λ j. cond (is_parent e (stands.books.parent j)
-          && eqb (all j) (Rattle.chip_actor.proofs.StandingLemmas.owed_is g s a stands e at j)) None (stands.books.parent j));
-      got = λ i mine. change.ins.messages i ∙ stands.books.got i mine;
-      acked = λ i mine. change.ins.answered i
-          ∙ (λ j. cond (eqb e i) (stands.books.acked i mine j + all j) (stands.books.acked i mine j));
-      sent = λ i mine. (λ j. messages_on (change.outs j) i) ∙ stands.books.sent i mine;
-      settled = λ i mine. (λ j. answered_on (change.outs j) i) ∙ stands.books.settled i mine;
-    };
-    pending = stands.pending;
-    unput = stands.unput;
-    refused = stands.refused;
-  }
+  acknowledges e count at may all b change sound parent seen =
+      let knows = knows_still a.chips a.fired a.halt a.outs a.ins b a.pending a.unput a.refused refl refl
+      (ap edges_of change.outs) change.ins.edges in
+      let kept = kept_still (Ack e) seen at may in
+      let books : KeepsBooks g (does g (saw (Ack e) seen) s) a.vertex b = record {
+        sound = sound;
+        parent = parent ∙ (λ j. cond (is_parent e (stands.books.parent j)
+            && eqb (all j) (Rattle.chip_actor.proofs.StandingLemmas.owed_is g s a stands e at j)) None (stands.books.parent j));
+        got = λ i mine. change.ins.messages i ∙ stands.books.got i mine;
+        acked = λ i mine. change.ins.answered i
+            ∙ (λ j. cond (eqb e i) (stands.books.acked i mine j + all j) (stands.books.acked i mine j));
+        sent = λ i mine. (λ j. messages_on (change.outs j) i) ∙ stands.books.sent i mine;
+        settled = λ i mine. (λ j. answered_on (change.outs j) i) ∙ stands.books.settled i mine;
+      } in search (rules, arith, nat_tests)
 
   -- ---- a halt
 
   pub halts : (v seen : ℕ) → v ≡ a.vertex → unmet_rule g (Halt v) s ≡ None → (halt : Option Cause) → halt ≡ cause g v s
       → StandsFor g (does g (saw (Halt v) seen) s) (record a { halt = halt })
-  halts v seen at may halt is = record {
-    knows = knows_still a.chips a.fired halt a.outs a.ins a.detect a.pending a.unput a.refused refl refl refl refl;
-    kept = kept_still (Halt v) seen at may;
-    few_chips = stands.few_chips;
-    few_pending = stands.few_pending;
-    chips = stands.chips;
-    fired = stands.fired;
-    halt = is;
-    outs = stands.outs;
-    ins = stands.ins;
-    books = books_still _ refl (λ e. refl) (λ e mine. refl) (λ e. refl);
-    pending = stands.pending;
-    unput = stands.unput;
-    refused = stands.refused;
-  }
+  halts v seen at may halt is =
+      let knows = knows_still a.chips a.fired halt a.outs a.ins a.detect a.pending a.unput a.refused refl refl refl refl in
+      let kept = kept_still (Halt v) seen at may in
+      let books = books_still (does g (saw (Halt v) seen) s) refl (λ e. refl) (λ e mine. refl) (λ e. refl) in
+      search (rules, arith, nat_tests)
 
   -- ---- a look at a cell, a claim, a put
 

@@ -1,7 +1,7 @@
 -- Tallies of edges: how many messages there were on each edge, and how many of them are answered.
 -- On an edge into a vertex a message is answered by the vertex's own acknowledgement, on an edge
 -- out of it by one that the vertex has settled. What isn't answered is open.
-use Rattle.std.specs.Prelude.{◌≡◌, ℕ, ◌+◌, ◌-◌, ◌^◌, ◌≤◌, ◌==◌, if◌then◌else◌, List, [], ◌∷◌, length, map, sum_by}
+use Rattle.std.specs.Prelude.{◌≡◌, ℕ, ◌+◌, ◌-◌, ◌^◌, ◌≤◌, ◌==◌, if◌then◌else◌, List, [], ◌∷◌, length, map, sum_by, get_or}
 use Rattle.std.specs.Prelude.{Contains}
 use Rattle.std.specs.List.Sorted.{IsStrictlyIncreasing}
 pub use Rattle.chip_detect.specs.declared.tallies.Tally.{Tally}
@@ -17,6 +17,10 @@ edge_limit = 2 ^ 23 + 1
 -- the edges that have a tally, in its order
 abbrev pub edges_of : List Tally → List ℕ
 edges_of ts = map (λ t. t.edge) ts
+
+-- the tally at an index
+abbrev pub tally_at : List Tally → ℕ → Tally
+tally_at ts i = get_or ts i (record { edge = 0; messages = 0; answered = 0 })
 
 -- what f reads off the tally of the edge e; 0 where e has none
 abbrev pub look : (Tally → ℕ) → List Tally → ℕ → ℕ

@@ -1,4 +1,5 @@
-ghost use Rattle.std.specs.Prelude.{◌≡◌, ℕ, ◌-◌, ◌<◌, ◌≤◌, true, Some, length, Contains, IfOk, IsTrue};
+ghost use Rattle.std.specs.Prelude.{◌≡◌, ℕ, ◌-◌, if◌then◌else◌, ◌<◌, ◌≤◌, true, Some, length, Contains, IfOk, IsTrue};
+ghost use Rattle.chip_detect.specs.Acknowledging.{is_done};
 
 use crate::slot::Slot;
 use crate::tallies::Tallies;
@@ -96,8 +97,7 @@ impl Detect {
         if owed == 0 || self.parent != Some(slot.edge) {
             return owed;
         }
-        let is_done = self.ins.all_open() == owed && passive && self.deficit() == 0;
-        if is_done { owed } else { owed - 1 }
+        may_ack_on_parent(owed, self.ins.all_open(), self.deficit(), passive)
     }
 
     /// Whether the vertex owes only the message that engaged it, and may not acknowledge it yet. `passive` says whether
@@ -230,4 +230,14 @@ impl Detect {
     {
         self.parent
     }
+}
+
+/// How many messages a vertex may acknowledge on its parent edge, where it owes `owed` messages. It keeps the one that
+/// engaged it until it is done but for these: it owes nothing elsewhere, is passive and has no deficit.
+pub fn may_ack_on_parent(owed: u64, all_owed: u64, deficit: u64, passive: bool) -> u64
+    requires { 0 < owed }
+    ensures { result ≡ (if is_done owed all_owed deficit passive then owed else owed - 1) }
+{
+    let is_done = all_owed == owed && passive && deficit == 0;
+    if is_done { owed } else { owed - 1 }
 }

@@ -3,8 +3,9 @@
 //! engaged it. `docs/DETECTOR.md` explains the method.
 #![tactic(auto)]
 
-pub use detector::Detect;
+pub use detector::{Detect, may_ack_on_parent};
 pub use slot::Slot;
+pub use tallies::{EDGE_LIMIT, MESSAGE_LIMIT, Tally, add_answers_at, add_message_at, slot_of};
 
 mod detector;
 pub mod laws;

@@ -13,7 +13,7 @@ use Rattle.chip_graph.specs.Ends.{edge_of}
 use Rattle.chip_graph.specs.Limits.{SizeLimits}
 use Rattle.chip_graph.specs.Multigraph.{Multigraph, IsEdge, IsGraphWithin}
 use Rattle.chip_graph.specs.Faults.{first_of_faults, fault_unless, fault_of_edge, fault_of_edges, fault_of_rows}
-use Rattle.chip_graph.specs.Faults.{IsUnreached}
+use Rattle.chip_graph.specs.Faults.{fault_of_sizes, IsUnreached}
 use Rattle.chip_graph.specs.Faults.{IsGraphFault}
 
 module _ {F : Type 0} where
@@ -47,10 +47,12 @@ edges_none vertices sink i (edge ∷ edges) ok =
 
 rows_none : (limits : SizeLimits) (G : Multigraph) → IsGraphWithin limits G → fault_of_rows limits G ≡ None
 rows_none limits G ok =
+    let sizes : fault_of_sizes limits G.vertices G.sink (length G.edges) ≡ None =
     after (ltb 0 G.vertices && leb G.vertices limits.vertices) graph_fault.Vertices _
     (and_from _ _ (lt-ltb 0 _ ok.graph.some_vertex) (le-leb _ limits.vertices ok.within_vertices))
     ∙ after (ltb G.sink G.vertices) graph_fault.Sink _ (lt-ltb _ _ ok.graph.sink_is_vertex)
-    ∙ after (leb (length G.edges) limits.edges) graph_fault.EdgeCount _ (le-leb _ limits.edges ok.within_edges)
+    ∙ alone (leb (length G.edges) limits.edges) graph_fault.EdgeCount (le-leb _ limits.edges ok.within_edges) in
+    ap (λ (f : Option GraphFault). first_of_faults f (fault_of_edges G.vertices G.sink 0 G.edges)) sizes
     ∙ edges_none G.vertices G.sink 0 G.edges ok.graph.edges_fit
 
 -- the least vertex without a walk is one

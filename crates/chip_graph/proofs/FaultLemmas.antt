@@ -1,20 +1,19 @@
 -- Serves Faults.antt, Multigraph.antt, Ends.antt.
 -- What follows where no fault was found in the rows of a graph.
-use Rattle.std.proofs.Common.{◌≡◌, ℕ, zero, suc, ◌^◌, ◌<◌, ◌≤◌, Bool, true, false, ltb, leb, ◌&&◌, List, [], ◌∷◌}
-use Rattle.std.proofs.Common.{length, Option, Some, None, Ok, refl, subst, arith, leb-true}
-use Rattle.std.proofs.lemmas.List.{get_or_default}
+use Rattle.std.proofs.Common.{◌≡◌, ℕ, zero, suc, ◌<◌, ◌≤◌, Bool, true, false, List, [], ◌∷◌}
+use Rattle.std.proofs.Common.{◌+◌, length, drop, Option, Some, None, Ok, Err, refl, sym, ap, ◌∙◌, arith, add-one, leb-true}
+use Rattle.std.proofs.Math.Seq.{drop-cons}
 use Rattle.std.proofs.lemmas.Bool.{and_parts, not-true, eqb-false}
 use borrow.Author.Tests.{ltb-true}
-use Rattle.std.specs.List.{All}
 use Rattle.chip_graph.specs.declared.edge.Edge.{Edge}
 use Rattle.chip_graph.specs.declared.edge.End.{End}
 use Rattle.chip_graph.specs.declared.edge.End.TheVariants.{Tail, Head}
-use Rattle.chip_graph.specs.declared.fault.GraphFault.TheVariants as graph_fault
-use Rattle.chip_graph.specs.Ends.{end_of, edge_of}
-use Rattle.chip_graph.specs.Limits.{SizeLimits, AreLimits}
+use Rattle.chip_graph.specs.Ends.{end_of, edge_of, IsShort}
+use Rattle.chip_graph.specs.Limits.{SizeLimits, AreLimits, max_vertices}
 use Rattle.chip_graph.specs.Multigraph.{Multigraph, IsEdge, IsGraphWithin, ReachesSink, edge_at}
 use Rattle.chip_graph.specs.Faults.{first_of_faults, fault_unless, refusal, fault_of_edge, fault_of_edges}
-use Rattle.chip_graph.specs.Faults.{fault_of_rows}
+use Rattle.chip_graph.specs.Faults.{fault_of_sizes, fault_of_rows}
+use Rattle.chip_graph.specs.declared.fault.GraphFault.{GraphFault}
 
 module _ {F : Type 0} where
   -- no first fault, no fault
@@ -32,7 +31,21 @@ module _ {F : Type 0} where
   accepted None is = refl
   accepted (Some fault) is = cc
 
-edge_ok : (vertices sink i : ℕ) (edge : Edge) → fault_of_edge vertices sink i edge ≡ None → IsEdge vertices sink edge
+-- a fault that a test told is there
+pub told : {F : Type 0} (fault : Option F) (is : F) → Err is ≡ refusal fault → fault ≡ Some is
+told None is e = cc
+told (Some fault) is e = cc
+
+-- an edge without a fault leaves those of the later ones
+pub edges_next : (vertices sink i : ℕ) (edges : List Edge) → i < length edges
+    → fault_of_edge vertices sink i (edge_of edges i) ≡ None
+    → fault_of_edges vertices sink i (drop i edges) ≡ fault_of_edges vertices sink (i + 1) (drop (i + 1) edges)
+edges_next vertices sink i edges l none =
+    ap (fault_of_edges vertices sink i) (drop-cons edges i (record { tail = 0; head = 0; mult = 0 }) l)
+    ∙ ap (λ (f : Option GraphFault). first_of_faults f (fault_of_edges vertices sink (suc i) (drop (suc i) edges))) none
+    ∙ ap (λ (k : ℕ). fault_of_edges vertices sink k (drop k edges)) (sym (add-one i))
+
+pub edge_ok : (vertices sink i : ℕ) (edge : Edge) → fault_of_edge vertices sink i edge ≡ None → IsEdge vertices sink edge
 edge_ok vertices sink i edge is =
     let ends = none_of _ _ is in
     let mults = none_of _ _ ends.1 in
@@ -48,46 +61,49 @@ edge_ok vertices sink i edge is =
       not_from_sink = eqb-false _ _ (not-true _ (passed _ _ loops.1));
     }
 
-edges_ok : (vertices sink i : ℕ) (edges : List Edge) → fault_of_edges vertices sink i edges ≡ None → (e : ℕ)
+pub edges_ok : (vertices sink i : ℕ) (edges : List Edge) → fault_of_edges vertices sink i edges ≡ None → (e : ℕ)
     → e < length edges → IsEdge vertices sink (edge_of edges e)
 edges_ok vertices sink i [] is e l = absurd (omega arith)
 edges_ok vertices sink i (edge ∷ edges) is zero l = edge_ok vertices sink i edge (none_of _ _ is).0
 edges_ok vertices sink i (edge ∷ edges) is (suc e) l = edges_ok vertices sink (suc i) edges (none_of _ _ is).1 e
     (omega arith)
 
-module _ (limits : SizeLimits) (G : Multigraph) (is : fault_of_rows limits G ≡ None) where
-  pub rows_vertices : (0 < G.vertices) × (G.vertices ≤ limits.vertices)
-  rows_vertices = let both = and_parts _ _ (passed _ _ (none_of _ _ is).0) in (ltb-true _ _ both.0, leb-true _ _ both.1)
+-- no rows with no fault are more than the limit allows
+pub rows_few : (limits : SizeLimits) (G : Multigraph) → fault_of_rows limits G ≡ None → length G.edges ≤ limits.edges
+rows_few limits G is =
+    let sizes = (none_of (fault_of_sizes limits G.vertices G.sink (length G.edges)) _ is).0 in
+    leb-true _ _ (passed _ _ (none_of _ _ (none_of _ _ sizes).1).1)
 
-  pub rows_sink : G.sink < G.vertices
-  rows_sink = ltb-true _ _ (passed _ _ (none_of _ _ (none_of _ _ is).1).0)
+module _ (limits : SizeLimits) (G : Multigraph)
+    (sizes : fault_of_sizes limits G.vertices G.sink (length G.edges) ≡ None) where
+  pub sizes_vertices : (0 < G.vertices) × (G.vertices ≤ limits.vertices)
+  sizes_vertices =
+      let both = and_parts _ _ (passed _ _ (none_of _ _ sizes).0) in (ltb-true _ _ both.0, leb-true _ _ both.1)
 
-  pub rows_few : length G.edges ≤ limits.edges
-  rows_few = leb-true _ _ (passed _ _ (none_of _ _ (none_of _ _ (none_of _ _ is).1).1).0)
+  pub sizes_sink : G.sink < G.vertices
+  sizes_sink = ltb-true _ _ (passed _ _ (none_of _ _ (none_of _ _ sizes).1).0)
 
-  rows_edges : fault_of_edges G.vertices G.sink 0 G.edges ≡ None
-  rows_edges =
-      let sink = (none_of
-      (fault_unless (ltb 0 G.vertices && leb G.vertices limits.vertices) graph_fault.Vertices) _ is).1 in
-      let count = (none_of (fault_unless (ltb G.sink G.vertices) graph_fault.Sink) _ sink).1 in
-      (none_of (fault_unless (leb (length G.edges) limits.edges) graph_fault.EdgeCount) _ count).1
+  pub sizes_edges : length G.edges ≤ limits.edges
+  sizes_edges = leb-true _ _ (passed _ _ (none_of _ _ (none_of _ _ sizes).1).1)
 
-  pub rows_edge : (e : ℕ) → e < length G.edges → IsEdge G.vertices G.sink (edge_at G e)
-  rows_edge = edges_ok G.vertices G.sink 0 G.edges rows_edges
+  -- what is wrong with the rows is then wrong with an edge
+  pub rows_as_edges : fault_of_rows limits G ≡ fault_of_edges G.vertices G.sink 0 G.edges
+  rows_as_edges = ap (λ (f : Option GraphFault). first_of_faults f (fault_of_edges G.vertices G.sink 0 G.edges)) sizes
 
-  pub rows_graph : AreLimits limits → ((v : ℕ) → v < G.vertices → ReachesSink G v) → IsGraphWithin limits G
-  rows_graph few all =
-      let vertices = rows_vertices.1 in
-      let edges = rows_few in
+  pub rows_graph : fault_of_edges G.vertices G.sink 0 G.edges ≡ None → AreLimits limits
+      → ((v : ℕ) → v < G.vertices → ReachesSink G v) → IsGraphWithin limits G
+  rows_graph none few all =
+      let vertices = sizes_vertices.1 in
+      let edges = sizes_edges in
       let most_vertices = few.few_vertices in
       let most_edges = few.few_edges in
       record {
         graph = record {
-          some_vertex = rows_vertices.0;
+          some_vertex = sizes_vertices.0;
           few_vertices = omega arith;
-          sink_is_vertex = rows_sink;
+          sink_is_vertex = sizes_sink;
           few_edges = omega arith;
-          edges_fit = rows_edge;
+          edges_fit = edges_ok G.vertices G.sink 0 G.edges none;
           all_reach = all;
         };
         within_vertices = vertices;
@@ -104,12 +120,11 @@ pub edges_end : (G : Multigraph) → AreEdges G → (end : End) (e : ℕ) → e 
 edges_end G are Tail e l = (are e l).tail_is_vertex
 edges_end G are Head e l = (are e l).head_is_vertex
 
--- the tails as a fact on each edge
-pub edges_tails : (G : Multigraph) → AreEdges G → All (λ (edge : Edge). edge.tail < G.vertices) G.edges
-edges_tails G are e d l = subst (λ (edge : Edge). edge.tail < G.vertices)
-    (get_or_default G.edges e (record { tail = 0; head = 0; mult = 0 }) d l) (edges_end G are Tail e l)
-
--- no multiplicity is large
-pub rows_mults : (limits : SizeLimits) (G : Multigraph) → fault_of_rows limits G ≡ None → (e : ℕ) → e < length G.edges
-    → (edge_at G e).mult ≤ 2 ^ 20
-rows_mults limits G is e l = (rows_edge limits G is e l).few_chips
+-- and its numbers fit 32 bits
+pub edges_short : (G : Multigraph) → AreEdges G → G.vertices ≤ max_vertices → (e : ℕ) → e < length G.edges
+    → IsShort (edge_at G e)
+edges_short G are few e l =
+    let is = are e l in
+    let tail = is.tail_is_vertex in
+    let head = is.head_is_vertex in
+    let mult = is.few_chips in record { tail = omega arith; head = omega arith; mult = omega arith }

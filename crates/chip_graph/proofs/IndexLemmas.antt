@@ -1,15 +1,16 @@
 -- Serves Multigraph.antt, Faults.antt, Distances.antt.
 -- What a graph keeps beside its edges is what follows from them.
-use Rattle.std.proofs.Common.{◌≡◌, ℕ, ◌<◌, ◌≤◌, ◌⊎◌, List, length, map, take, get_or, Option, Some, None}
-use Rattle.std.proofs.Common.{Result, Ok, Err, sym, ap, ◌∙◌, subst, arith}
-use Rattle.std.proofs.lemmas.List.{length-map, length-take-le, get_or-map, get_or-take}
+use Rattle.std.proofs.Common.{◌≡◌, ◌≢◌, ℕ, suc, ◌<◌, ◌⊎◌, Bool, cond, List, [], ◌∷◌, length, map, get_or, Option, Some}
+use Rattle.std.proofs.Common.{None, Result, Ok, Err, refl, sym, ap, ◌∙◌, subst, arith, ne_eqb}
+use Rattle.std.proofs.lemmas.List.{length-map, get_or-map}
 use Rattle.std.specs.Result.{IsErrAnd}
-use Rattle.std.specs.Prelude.{IfErr}
 use Rattle.chip_graph.specs.declared.fault.GraphFault.{GraphFault}
 use Rattle.chip_graph.specs.declared.fault.GraphFault.TheVariants as graph_fault
 use Rattle.chip_graph.specs.Limits.{SizeLimits}
 use Rattle.chip_graph.specs.Multigraph.{Multigraph, IsDistance, ReachesSink}
 use Rattle.chip_graph.specs.Faults.{fault_of_rows, IsGraphFault, NamesUnreached, MakesGraph}
+use Rattle.chip_graph.specs.declared.distance.TheConstants.{UNREACHED}
+use Rattle.chip_graph.specs.Found.{noted}
 use Rattle.chip_graph.specs.Distances.{IsDistanceOf, AreDistances}
 
 -- a vertex that has a distance reaches the sink
@@ -17,14 +18,17 @@ reaches : (G : Multigraph) (v : ℕ) (found : Option ℕ) (d : ℕ) → found �
     → ReachesSink G v
 reaches G v found d is of = let at : IsDistance G v d = subst (IsDistanceOf G v) is of in (at.reached.0, at.reached.1)
 
--- what was found at the front of a list
-pub known : (distances : List ℕ) (found : List (Option ℕ)) (n : ℕ) → n ≤ length found
-    → map (λ d. Some d) distances ≡ take n found → (v : ℕ) → v < n → get_or found v None ≡ Some (get_or distances v 0)
-known distances found n room same v l =
-    let each : length distances ≡ n = sym (length-map distances (λ d. Some d)) ∙ ap length same ∙ length-take-le n found room in
-    sym (get_or-take n found v None l)
-    ∙ ap (λ (xs : List (Option ℕ)). get_or xs v None) (sym same)
-    ∙ get_or-map (λ d. Some d) distances v 0 None (omega arith)
+-- a distance that was found
+noted_some : (d : ℕ) → d ≢ UNREACHED → noted d ≡ Some d
+noted_some d other = ap (λ (b : Bool). cond b None (Some d)) (ne_eqb d UNREACHED other)
+
+-- where all were found, all are distances
+pub all_noted : (ds : List ℕ) → ((v : ℕ) → v < length ds → get_or ds v 0 ≢ UNREACHED)
+    → map noted ds ≡ map (λ d. Some d) ds
+all_noted [] all = refl
+all_noted (d ∷ ds) all =
+    ap (λ (o : Option ℕ). o ∷ map noted ds) (noted_some d (all 0 (omega arith)))
+    ∙ ap (λ (os : List (Option ℕ)). Some d ∷ os) (all_noted ds (λ v l. all (suc v) (omega arith)))
 
 module _ (G : Multigraph) (distances : List ℕ) (are : AreDistances G (map (λ d. Some d) distances)) (v : ℕ)
     (is_vertex : v < G.vertices) where
@@ -41,25 +45,22 @@ module _ (G : Multigraph) (distances : List ℕ) (are : AreDistances G (map (λ 
   all_reach = (distance_is.reached.0, distance_is.reached.1)
 
 -- the first distance that is missing names the fault
-pub unreached_fault : (G : Multigraph) (found : List (Option ℕ)) → AreDistances G found
-    → (v : ℕ) (fault : GraphFault) → fault ≡ graph_fault.Unreached v → v < length found → get_or found v None ≡ None
-    → ((u : ℕ) → u < v → (d : ℕ) × (get_or found u None ≡ Some d)) → NamesUnreached G fault
-unreached_fault G found are v fault is l missing before = (
-  v,
-  is,
-  record {
-    is_vertex = (let each = are.one_each in omega arith);
-    unreached = subst (IsDistanceOf G v) missing (are.each v (let each = are.one_each in omega arith));
-    least = λ u m. reaches G u (get_or found u None) (before u m).0 (before u m).1
-        (are.each u (let each = are.one_each in omega arith));
-  },
-)
-
--- what is true of a fault is true of an answer that is this fault
-pub told : {T : Type 0} (P : GraphFault → Type 0) (result : Result T GraphFault) (fault : GraphFault)
-    → IsErrAnd result (λ e. e ≡ fault) → P fault → IfErr result P
-told P (Ok value) fault is why = absurd is
-told P (Err e) fault is why = subst P (sym is) why
+pub unreached_fault : (G : Multigraph) (ds : List ℕ) → AreDistances G (map noted ds)
+    → (v : ℕ) (fault : GraphFault) → fault ≡ graph_fault.Unreached v → v < length ds → get_or ds v 0 ≡ UNREACHED
+    → ((u : ℕ) → u < v → get_or ds u 0 ≢ UNREACHED) → NamesUnreached G fault
+unreached_fault G ds are v fault is l missing before =
+    let each = are.one_each in
+    let same = length-map ds noted in (
+      v,
+      is,
+      record {
+        is_vertex = omega arith;
+        unreached = subst (IsDistanceOf G v) (get_or-map noted ds v 0 None l ∙ ap noted missing) (are.each v (omega arith));
+        least = λ u m. reaches G u (get_or (map noted ds) u None) (get_or ds u 0)
+            (get_or-map noted ds u 0 None (omega arith) ∙ noted_some (get_or ds u 0) (before u m))
+            (are.each u (omega arith));
+      },
+    )
 
 -- a refusal for a reason that holds is an answer
 pub refused : (limits : SizeLimits) (G : Multigraph) (result : Result Multigraph GraphFault) (fault : GraphFault)

@@ -1,12 +1,13 @@
 -- Serves Multigraph.antt, Found.antt, Distances.antt.
 -- The search for distances: what holds of it after each vertex, and what it has found at its end.
 use Rattle.std.proofs.Common.{◌≡◌, ◌≢◌, ℕ, zero, suc, ◌+◌, ◌<◌, ◌≤◌, Bool, true, cond, List, [], ◌∷◌, ◌++◌, length}
-use Rattle.std.proofs.Common.{get_or, set, replicate, Option, Some, None, is_some, count_by, refl, sym, ap, ◌∙◌, subst}
-use Rattle.std.proofs.Common.{inl, inr, ◌⊎◌, arith, length-append, length-set, mul-zero, eqb, eq-eqb, eqb-true, ◌*◌}
+use Rattle.std.proofs.Common.{get_or, set, replicate, map, Option, Some, None, is_some, count_by, refl, sym, ap, ◌∙◌, subst}
+use Rattle.std.proofs.Common.{inl, inr, ◌⊎◌, arith, length-append, length-set, mul-zero, eqb, eq-eqb, eqb-true, ne_eqb, ◌*◌}
 use Rattle.std.proofs.Common.{get_or-set_same, get_or-set_other}
 use mathlib.Core.Logic.{dite}
 use native.Mathlib.Decide.{ℕ_discrete}
 use Rattle.std.proofs.lemmas.List.{get_or_append_left, get_or_push, length_push, get_or_read, length-replicate}
+use Rattle.std.proofs.lemmas.List.{get_or-map, map-set}
 use Rattle.std.proofs.lemmas.List.Sums.{sum_by-set, count_by-le-length}
 use Rattle.std.proofs.lemmas.List.Folds.{sum_by-replicate}
 use Rattle.std.proofs.lemmas.Option.{same_Some, none-some}
@@ -15,7 +16,8 @@ use Rattle.chip_graph.specs.Multigraph.{Multigraph, edge_at, edges_in, IsWalk}
 use Rattle.chip_graph.specs.Sums.{filter_below}
 use Rattle.chip_graph.specs.Distances.{IsDistanceOf, AreDistances}
 use Rattle.chip_graph.proofs.SumLemmas.{by_test}
-use Rattle.chip_graph.specs.Found.{Found, with_vertex, with_tails}
+use Rattle.chip_graph.specs.declared.distance.TheConstants.{UNREACHED}
+use Rattle.chip_graph.specs.Found.{Found, noted, with_vertex, with_tails}
 
 -- the distance noted for v
 abbrev pub distance_at : Found → ℕ → Option ℕ
@@ -98,6 +100,18 @@ with_vertex-known v d k f e = ap (λ (o : Option ℕ). cond (is_some o) f (pushe
 
 with_vertex-new : (v d : ℕ) (f : Found) → distance_at f v ≡ None → with_vertex v d f ≡ pushed v d f
 with_vertex-new v d f e = ap (λ (o : Option ℕ). cond (is_some o) f (pushed v d f)) e
+
+-- so it is as the distances are kept
+pub reached_new : (v d : ℕ) (ds : List ℕ) (rs : List Reached) → v < length ds → get_or ds v 0 ≡ UNREACHED → d < UNREACHED
+    → record { distances = map noted (set ds v d); reached = rs ++ record { vertex = v; distance = d } ∷ [] }
+    ≡ with_vertex v d (record { distances = map noted ds; reached = rs })
+reached_new v d ds rs inside is small =
+    let f : Found = record { distances = map noted ds; reached = rs } in
+    let some : noted d ≡ Some d = ap (λ (b : Bool). cond b None (Some d)) (ne_eqb d UNREACHED (λ e. omega arith)) in
+    let kept : map noted (set ds v d) ≡ set (map noted ds) v (Some d) =
+    map-set noted ds v d ∙ ap (set (map noted ds) v) some in
+    ap (λ (os : List (Option ℕ)). record { distances = os; reached = rs ++ record { vertex = v; distance = d } ∷ [] }) kept
+    ∙ sym (with_vertex-new v d f (get_or-map noted ds v 0 None inside ∙ ap noted is))
 
 -- the distances, the places and the number of the reached once v is among them
 module _ (v d : ℕ) (f : Found) (inside : v < length f.distances) (new : distance_at f v ≡ None) where

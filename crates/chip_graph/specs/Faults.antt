@@ -33,13 +33,18 @@ fault_of_edges vertices sink i [] = None
 fault_of_edges vertices sink i (edge ∷ edges) =
     first_of_faults (fault_of_edge vertices sink i edge) (fault_of_edges vertices sink (suc i) edges)
 
+-- the first thing wrong with the sizes of a graph with so many edges by these limits
+abbrev pub fault_of_sizes : SizeLimits → ℕ → ℕ → ℕ → Option GraphFault
+fault_of_sizes limits vertices sink edges =
+    first_of_faults (fault_unless (nat_lt 0 vertices && nat_le vertices limits.vertices) graph_fault.Vertices)
+    (first_of_faults (fault_unless (nat_lt sink vertices) graph_fault.Sink)
+    (fault_unless (nat_le edges limits.edges) graph_fault.EdgeCount))
+
 -- the first thing wrong with a graph by these limits, walks aside
 abbrev pub fault_of_rows : SizeLimits → Multigraph → Option GraphFault
 fault_of_rows limits G =
-    first_of_faults (fault_unless (nat_lt 0 G.vertices && nat_le G.vertices limits.vertices) graph_fault.Vertices)
-    (first_of_faults (fault_unless (nat_lt G.sink G.vertices) graph_fault.Sink)
-    (first_of_faults (fault_unless (nat_le (length G.edges) limits.edges) graph_fault.EdgeCount)
-    (fault_of_edges G.vertices G.sink 0 G.edges)))
+    first_of_faults (fault_of_sizes limits G.vertices G.sink (length G.edges))
+    (fault_of_edges G.vertices G.sink 0 G.edges)
 
 -- v is the least vertex from which no walk leads to the sink
 pub record IsUnreached (G : Multigraph) (v : ℕ) : Type 0 where

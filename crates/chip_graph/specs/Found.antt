@@ -1,9 +1,10 @@
 -- What a search for distances has found on its way.
-use Rattle.std.specs.Prelude.{ℕ, if◌then◌else◌, Option, Some, None, is_some}
+use Rattle.std.specs.Prelude.{ℕ, ◌==◌, if◌then◌else◌, Option, Some, None, is_some}
 use Rattle.std.specs.Prelude.{List, [], ◌∷◌, ◌++◌, fold, map, slice_index_or, slice_set}
 use Rattle.chip_graph.specs.declared.edge.Edge.{Edge}
 use Rattle.chip_graph.specs.declared.distance.Reached.{Reached}
 use Rattle.chip_graph.specs.declared.distance.Search.{Search}
+use Rattle.chip_graph.specs.declared.distance.TheConstants.{UNREACHED}
 use Rattle.chip_graph.specs.Ends.{edge_of}
 
 -- the distances by vertex, and the vertices that have one, in the order in which they were reached
@@ -11,9 +12,13 @@ pub record Found : Type 0 where
   pub distances : List (Option ℕ)
   pub reached : List Reached
 
+-- a distance as it is kept
+abbrev pub noted : ℕ → Option ℕ
+noted d = if d == UNREACHED then None else Some d
+
 -- what a `Search` shows
 abbrev pub findings : Search → Found
-findings s = record { distances = s.distances.items; reached = s.reached.items }
+findings s = record { distances = map noted s.distances.items; reached = s.reached.items }
 
 -- v is reached at this distance, unless it was reached before
 abbrev pub with_vertex : ℕ → ℕ → Found → Found

@@ -6,6 +6,7 @@ pub mod ChipGame
 pub mod Worked
 pub mod PackedLists
 pub mod Ends
+pub mod Counts
 pub mod Faults
 pub mod FaultNumbers
 pub mod Distances

@@ -1,14 +1,18 @@
-ghost use Rattle.std.specs.Prelude.{◌≡◌, ◌^◌, ◌<◌, ◌≤◌, [], replicate, IfOk, All, vec_len};
-ghost use Rattle.chip_graph.specs.Limits.{max_vertices};
-ghost use Rattle.chip_graph.specs.Ends.{AreEdgesBy};
+ghost use Rattle.std.specs.Prelude.{◌≡◌, ◌<◌, ◌≤◌, ℕ, [], length, map, replicate, IfOk, All, None, vec_len};
+ghost use Rattle.chip_graph.specs.Limits.{max_vertices, max_edges};
+ghost use Rattle.chip_graph.specs.Ends.{edge_of, AreCounts, AreEdgesBy};
+ghost use Rattle.chip_graph.specs.Multigraph.{IsEdge};
 ghost use Rattle.chip_graph.specs.declared.edge.End.TheVariants.{Head};
 ghost use Rattle.chip_graph.specs.Distances.{AreDistances};
-ghost use Rattle.chip_graph.specs.Found.{findings, with_vertex, with_all};
+ghost use Rattle.chip_graph.specs.Found.{findings, noted, with_vertex, with_all};
 
-use crate::edge::Edge;
-use crate::index;
+use crate::edge::{Edge, End};
+use crate::index::edges_by;
 use crate::packed_lists::PackedLists;
 use std::alloc::{AllocError, Global};
+
+/// In place of the distance of a vertex that no search has reached.
+pub(crate) const UNREACHED: u32 = u32::MAX;
 
 /// A vertex that a search has reached, and how far it is from the sink.
 #[derive(Clone, Copy)]
@@ -21,7 +25,7 @@ struct Reached {
 #[derive(Drop)]
 struct Search {
     /// By vertex.
-    distances: Vec<Option<u32>>,
+    distances: Vec<u32>,
     /// The vertices that have a distance, nearest first.
     reached: Vec<Reached>,
 }
@@ -34,7 +38,7 @@ impl Search {
             findings search ≡ with_vertex sink 0 (record { distances = replicate vertices None; reached = [] })) }
     {
         let mut distances = Vec::new(alloc);
-        distances.resize(vertices, None)?;
+        distances.resize(vertices, UNREACHED)?;
         let reached = Vec::with_capacity(alloc, vertices)?;
         let mut search = Search { distances, reached };
         search.reach(sink, 0)?;
@@ -43,19 +47,21 @@ impl Search {
 
     /// Notes this distance, unless the vertex was reached before.
     fn reach(&mut self, vertex: u32, distance: u32) -> Result<(), AllocError>
-        requires { vertex < vec_len self.old.distances }
+        requires vertex { vertex < vec_len self.old.distances }
+        requires distance { distance < UNREACHED }
         ensures { IfOk result (λ _. findings self.new ≡ with_vertex vertex distance (findings self.old)) }
     {
-        if self.distances[vertex as usize].is_none() {
+        if self.distances[vertex as usize] == UNREACHED {
             self.reached.push(Reached { vertex, distance })?;
-            self.distances[vertex as usize] = Some(distance);
+            self.distances[vertex as usize] = distance;
         }
         Ok(())
     }
 
     /// Notes this distance of each of these vertices.
     fn reach_all(&mut self, vertices: &[u32], distance: u32) -> Result<(), AllocError>
-        requires { All (λ v. v < vec_len self.old.distances) vertices.now }
+        requires vertices { All (λ v. v < vec_len self.old.distances) vertices.now }
+        requires distance { distance < UNREACHED }
         ensures { IfOk result (λ _. findings self.new ≡ with_all distance vertices.now (findings self.old)) }
     {
         for vertex in vertices {
@@ -65,31 +71,38 @@ impl Search {
     }
 }
 
-/// How far each vertex is from the sink: the length of a shortest walk, or `None` if no walk leads there.
-///
-/// `ins` has the edges into each vertex, ascending, by their numbers.
-pub(crate) fn distances(
+/// The edges into each vertex, and how far each vertex is from the sink: the length of a shortest walk, or `UNREACHED` if
+/// no walk leads there. So many edges go into each, each count one place behind its vertex's own.
+pub(crate) fn ins_and_distances(
     alloc: Global,
     vertices: u64,
     sink: u64,
     edges: &[Edge],
-    ins: &PackedLists<u64>,
-) -> Result<Vec<Option<u32>>, AllocError>
+    counts: Vec<u32>,
+) -> Result<(PackedLists<u64>, Vec<u32>), AllocError>
     requires sink_is_vertex { sink < vertices }
     requires few_vertices { vertices ≤ max_vertices }
-    requires tails_are_vertices { All (λ edge. edge.tail < vertices) edges.now }
-    requires ins { AreEdgesBy Head edges.now vertices ins.now }
-    ensures { IfOk result (λ distances.
-        AreDistances (record { vertices = vertices; sink = sink; edges = edges.now }) distances.items) }
+    requires few_edges { length edges.now ≤ max_edges }
+    requires edges { (e : ℕ) → e < length edges.now → IsEdge vertices sink (edge_of edges.now e) }
+    requires counted { AreCounts Head edges.now vertices (length edges.now) counts.items }
+    ensures ins { IfOk result (λ r. AreEdgesBy Head edges.now vertices r.0) }
+    ensures distances { IfOk result (λ r.
+        AreDistances (record { vertices = vertices; sink = sink; edges = edges.now }) (map noted r.1.items)) }
 {
-    // The tails side by side, so that the search reads no edge.
-    let tails = index::tails_of(alloc, edges, ins.members())?;
     let mut search = Search::begin(alloc, vertices as usize, sink as u32)?;
+    // The tails side by side, so that the search reads no edge.
+    let (ins, tails): (PackedLists<u64>, Vec<u32>) = edges_by(
+        alloc,
+        vertices,
+        counts,
+        edges,
+        End::Head,
+    )?;
     let mut next = 0;
     while next < search.reached.len() {
         let Reached { vertex, distance } = search.reached[next];
         search.reach_all(ins.beside(vertex as usize, &tails), distance + 1)?;
         next += 1;
     }
-    Ok(search.distances)
+    Ok((ins, search.distances))
 }

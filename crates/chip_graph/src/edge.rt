@@ -56,3 +56,38 @@ impl Edge {
         }
     }
 }
+
+/// What of an edge lies beside its number, in a list of edges.
+pub(crate) trait Part: Copy {
+    ghost use Rattle.chip_graph.specs.declared.edge.Edge.{Edge};
+    ghost use Rattle.chip_graph.specs.Ends.{IsShort};
+
+    ghost part_of: { Edge → Self };
+
+    /// This part of an edge.
+    fn part(edge: &Edge) -> Self
+        requires { IsShort edge.now }
+        ensures { result ≡ part_of edge.now };
+}
+
+/// The tail.
+impl Part for u32 {
+    ghost part_of = { λ edge. edge.tail };
+
+    fn part(edge: &Edge) -> u32 {
+        edge.tail as u32
+    }
+}
+
+impl Part for Link {
+    ghost use Rattle.chip_graph.specs.Multigraph.{link_of};
+
+    ghost part_of = { link_of };
+
+    fn part(edge: &Edge) -> Link {
+        Link {
+            head: edge.head as u32,
+            mult: edge.mult as u32,
+        }
+    }
+}

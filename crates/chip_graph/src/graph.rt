@@ -1,17 +1,14 @@
-ghost use Rattle.std.specs.Prelude.{◌≡◌, ◌+◌, ◌<◌, ◌≤◌, ◌⊎◌, ℕ, [], map, length, take, IfOk, IfErr, Some, None};
-ghost use Rattle.std.specs.Prelude.{slice_index, slice_index_or};
+ghost use Rattle.std.specs.Prelude.{◌≡◌, ◌≢◌, ◌<◌, ◌≤◌, ◌⊎◌, ℕ, length, IfOk, IfErr, OnOk, MatchResult, Some, None};
+ghost use Rattle.std.specs.Prelude.{slice_index};
 ghost use Rattle.chip_graph.specs.Limits.{max_vertices, max_edges, AreLimits};
-ghost use Rattle.chip_graph.specs.Multigraph.{IsEdge, ReachesSink};
-ghost use Rattle.chip_graph.specs.Distances.{AreDistances};
-ghost use Rattle.chip_graph.specs.Ends.{edge_of, AreEdgesBy};
-ghost use Rattle.chip_graph.specs.declared.edge.End.TheVariants.{Head};
-ghost use Rattle.chip_graph.specs.Faults.{refusal, fault_of_edge, fault_of_rows, NamesUnreached};
+ghost use Rattle.chip_graph.specs.Counts.{AreCounted};
+ghost use Rattle.chip_graph.specs.Faults.{refusal, fault_of_sizes, fault_of_edge, fault_of_edges};
 ghost use Rattle.chip_graph.specs.declared.fault.GraphFault.TheVariants.{NoMemory, Unreached};
 
-use crate::distance::distances;
+use crate::distance::{UNREACHED, ins_and_distances};
 use crate::edge::{AnyEdge, Edge, End, Link};
 use crate::fault::GraphFault;
-use crate::index;
+use crate::index::{Counts, edges_by};
 use crate::limits::Limits;
 use crate::packed_lists::PackedLists;
 use std::alloc::{AllocError, Global};
@@ -101,16 +98,16 @@ impl Graph {
         ensures { MakesGraph limits (record { vertices = vertices; sink = sink; edges = edges.items }) result }
     {
         let rows = edges.as_slice();
-        check_rows(limits, vertices, sink, rows)?;
-        let degrees = index::degrees(alloc, vertices, rows)?;
-        let (ins, distances) = ins_and_distances(alloc, vertices, sink, rows)?;
-        let outs = index::edges_by(alloc, vertices, rows, End::Tail)?;
-        let links = index::links_by(alloc, rows, outs.members())?;
+        check_sizes(limits, vertices, sink, rows.len())?;
+        let counts = count(alloc, vertices, sink, rows)?;
+        let (ins, distances) = ins_and_distances(alloc, vertices, sink, rows, counts.heads)?;
+        check_reached(&distances)?;
+        let (outs, links) = edges_by(alloc, vertices, counts.tails, rows, End::Tail)?;
         let indexed = Rows {
             vertices,
             sink,
             edges,
-            degrees,
+            degrees: counts.degrees,
             distances,
             outs,
             ins,
@@ -261,10 +258,9 @@ fn check_edge(vertices: u64, sink: u64, i: u64, edge: &Edge) -> Result<(), Graph
     Ok(())
 }
 
-/// The first fault of these rows by these limits, walks aside.
-fn check_rows(limits: Limits, vertices: u64, sink: u64, edges: &[Edge]) -> Result<(), GraphFault>
-    ensures first { result
-        ≡ refusal (fault_of_rows limits (record { vertices = vertices; sink = sink; edges = edges.now })) }
+/// The first fault of these sizes by these limits.
+fn check_sizes(limits: Limits, vertices: u64, sink: u64, edges: usize) -> Result<(), GraphFault>
+    ensures first { result ≡ refusal (fault_of_sizes limits vertices sink edges) }
     ensures limits { IfOk result (λ _. AreLimits limits) }
 {
     if vertices == 0 || vertices > limits.vertices() {
@@ -273,53 +269,58 @@ fn check_rows(limits: Limits, vertices: u64, sink: u64, edges: &[Edge]) -> Resul
     if sink >= vertices {
         return Err(GraphFault::Sink);
     }
-    if edges.len() as u64 > limits.edges() {
+    if edges as u64 > limits.edges() {
         return Err(GraphFault::EdgeCount);
     }
+    Ok(())
+}
+
+/// The first fault of an edge.
+fn check_edges(vertices: u64, sink: u64, edges: &[Edge]) -> Result<(), GraphFault>
+    ensures { result ≡ refusal (fault_of_edges vertices sink 0 edges.now) }
+{
     for (i, edge) in edges.iter().enumerate() {
         check_edge(vertices, sink, i as u64, edge)?;
     }
     Ok(())
 }
 
-/// The edges into each vertex and the distances, or the least vertex that is not reached.
-fn ins_and_distances(
-    alloc: Global,
-    vertices: u64,
-    sink: u64,
-    edges: &[Edge],
-) -> Result<(PackedLists<u64>, Vec<u32>), GraphFault>
+/// What is counted of edges without a fault, or the first fault. Memory runs out only where there is none.
+fn count(alloc: Global, vertices: u64, sink: u64, edges: &[Edge]) -> Result<Counts, GraphFault>
     requires few_vertices { vertices ≤ max_vertices }
     requires few_edges { length edges.now ≤ max_edges }
-    requires sink_is_vertex { sink < vertices }
-    requires edges { (e : ℕ) → e < length edges.now → IsEdge vertices sink (edge_of edges.now e) }
-    ensures ins { IfOk result (λ r. AreEdgesBy Head edges.now vertices r.0) }
-    ensures distances { IfOk result
-        (λ r. AreDistances (record { vertices = vertices; sink = sink; edges = edges.now }) (map (λ d. Some d) r.1.items)) }
-    ensures reached { IfOk result (λ r. (v : ℕ) → v < vertices
-        → ReachesSink (record { vertices = vertices; sink = sink; edges = edges.now }) v) }
-    ensures none { IfErr result (λ fault. (fault ≡ NoMemory)
-        ⊎ NamesUnreached (record { vertices = vertices; sink = sink; edges = edges.now }) fault) }
+    ensures { MatchResult result
+        (λ counts. (fault_of_edges vertices sink 0 edges.now ≡ None)
+        × AreCounted edges.now vertices (length edges.now) counts)
+        (λ fault. ((fault ≡ NoMemory) × (fault_of_edges vertices sink 0 edges.now ≡ None))
+        ⊎ (fault_of_edges vertices sink 0 edges.now ≡ Some fault)) }
 {
-    let ins = index::edges_by(alloc, vertices, edges, End::Head)?;
-    let found = distances(alloc, vertices, sink, edges, &ins)?;
-    Ok((ins, all_known(alloc, &found)?))
+    let mut counts = match Counts::begin(alloc, vertices) {
+        Ok(counts) => counts,
+        Err(_) => {
+            check_edges(vertices, sink, edges)?;
+            return Err(GraphFault::NoMemory);
+        }
+    };
+    for (i, edge) in edges.iter().enumerate() {
+        check_edge(vertices, sink, i as u64, edge)?;
+        counts.add(edges, i);
+    }
+    Ok(counts)
 }
 
-/// The distances that were found, if each vertex has one; if not, the least that has none is the fault.
-fn all_known(alloc: Global, found: &[Option<u32>]) -> Result<Vec<u32>, GraphFault>
-    ensures all { IfOk result (λ distances. map (λ d. Some d) distances.items ≡ found.now) }
-    ensures least { IfErr result (λ fault. (fault ≡ NoMemory) ⊎ ((v : ℕ) × (fault ≡ Unreached v)
-        × (v < length found.now)
-        × (slice_index_or found.now v None ≡ None)
-        × ((u : ℕ) → u < v → (d : ℕ) × (slice_index_or found.now u None ≡ Some d)))) }
+/// The least vertex whose distance was not found is the fault.
+fn check_reached(distances: &[u32]) -> Result<(), GraphFault>
+    ensures all { OnOk result ((v : ℕ) → v < length distances.now → slice_index distances.now v ≢ UNREACHED) }
+    ensures least { IfErr result (λ fault. (v : ℕ) × (fault ≡ Unreached v)
+        × (v < length distances.now)
+        × (slice_index distances.now v ≡ UNREACHED)
+        × ((u : ℕ) → u < v → slice_index distances.now u ≢ UNREACHED)) }
 {
-    let mut distances = Vec::with_capacity(alloc, found.len())?;
-    for (v, distance) in found.iter().enumerate() {
-        match distance {
-            Some(distance) => distances.push_reserved(*distance),
-            None => return Err(GraphFault::Unreached(v as u64)),
+    for (v, distance) in distances.iter().enumerate() {
+        if *distance == UNREACHED {
+            return Err(GraphFault::Unreached(v as u64));
         }
     }
-    Ok(distances)
+    Ok(())
 }

@@ -1,108 +1,166 @@
-use Rattle.std.proofs.Common.{map, ap, inl, inr, refl, ⊎_elim, ◌∙◌, arith}
-use Rattle.chip_graph.specs.declared.edge.End.TheVariants.{Tail, Head}
+use Rattle.std.proofs.Common.{◌≡◌, ◌≤◌, List, ℕ, length, Option, Some, None, map, ap, inl, inr, refl, sym, subst}
+use Rattle.std.proofs.Common.{⊎_elim, ◌∙◌, arith}
+use Rattle.chip_graph.specs.declared.edge.Edge.{Edge}
+use Rattle.chip_graph.specs.declared.edge.End.TheVariants.{Tail}
+use Rattle.chip_graph.specs.declared.fault.GraphFault.{GraphFault}
 use Rattle.chip_graph.specs.declared.fault.GraphFault.TheVariants.{NoMemory}
-use Rattle.chip_graph.specs.Multigraph.{Multigraph, link_of}
-use Rattle.chip_graph.specs.Ends.{edge_of}
-use Rattle.chip_graph.proofs.PickLemmas.{All-edges_by}
-use Rattle.chip_graph.proofs.FaultLemmas.{accepted, edges_end, rows_edge, rows_mults, rows_graph, rows_sink}
-use Rattle.chip_graph.proofs.FaultLemmas.{rows_vertices}
-use Rattle.chip_graph.proofs.IndexLemmas.{refused}
+use Rattle.chip_graph.specs.Limits.{max_vertices, max_edges}
+use Rattle.chip_graph.specs.Multigraph.{Multigraph}
+use Rattle.chip_graph.specs.Distances.{AreDistances}
+use Rattle.chip_graph.specs.Found.{noted}
+use Rattle.chip_graph.specs.Faults.{first_of_faults, fault_of_edges, fault_of_rows}
+use Rattle.chip_graph.proofs.FaultLemmas.{AreEdges, accepted, told, edges_ok, edges_end, edges_short, rows_graph}
+use Rattle.chip_graph.proofs.FaultLemmas.{rows_as_edges, sizes_vertices, sizes_sink, sizes_edges}
+use Rattle.chip_graph.proofs.IndexLemmas.{refused, unreached_fault, all_noted, all_reach}
 use Rattle.chip_graph.proofs.graph.Graph.within.Goals as goal
+use Rattle.chip_graph.proofs.graph.Graph.within.Goals.{In_ok-check_sizes, In_ok-counts, In_ok-check_reached}
+
+-- the graph that is made
+abbrev made : ℕ → ℕ → List Edge → Multigraph
+made vertices sink edges = record { vertices = vertices; sink = sink; edges = edges }
+
+-- the rows have no fault, and the edges are those of a graph
+rows : (c : In_ok-counts)
+    → fault_of_rows c.args.limits (made c.args.vertices c.args.sink c.as_slice-rows.result.now) ≡ None
+rows c = rows_as_edges c.args.limits (made c.args.vertices c.args.sink c.as_slice-rows.result.now)
+    (accepted _ c.in_ok-check_sizes.ensures.first) ∙ c.in_ok-counts.ensures.0
+
+are_edges : (c : In_ok-counts)
+    → AreEdges (made c.args.vertices c.args.sink c.as_slice-rows.result.now)
+are_edges c = edges_ok c.args.vertices c.args.sink 0 c.as_slice-rows.result.now c.in_ok-counts.ensures.0
+
+-- there are few vertices and edges
+few_vertices : (c : In_ok-check_sizes) → c.args.vertices ≤ max_vertices
+few_vertices c =
+    let is = sizes_vertices c.args.limits (made c.args.vertices c.args.sink c.as_slice-rows.result.now)
+    (accepted _ c.in_ok-check_sizes.ensures.first) in
+    let most = c.in_ok-check_sizes.ensures.limits.few_vertices in
+    omega (arith, is.1)
+
+few_edges : (c : In_ok-check_sizes) → length c.as_slice-rows.result.now ≤ max_edges
+few_edges c =
+    let is = sizes_edges c.args.limits (made c.args.vertices c.args.sink c.as_slice-rows.result.now)
+    (accepted _ c.in_ok-check_sizes.ensures.first) in
+    let most = c.in_ok-check_sizes.ensures.limits.few_edges in
+    omega arith
+
+-- each vertex has a distance
+all_found : (c : In_ok-check_reached)
+    → AreDistances (made c.args.vertices c.args.sink c.as_slice-rows.result.now)
+    (map (λ d. Some d) c.in_ok-ins.distances.items)
+all_found c =
+    subst (AreDistances (made c.args.vertices c.args.sink c.as_slice-rows.result.now))
+    (all_noted c.in_ok-ins.distances.items (rw c.deref.ensures.value at c.in_ok-check_reached.ensures.all))
+    c.in_ok-ins.ensures.distances
+
+pub count-requires-clause-few_vertices : goal.count-requires-clause-few_vertices
+count-requires-clause-few_vertices c = few_vertices (goal.at.count-requires-clause-few_vertices c).In_ok-check_sizes
+
+pub count-requires-clause-few_edges : goal.count-requires-clause-few_edges
+count-requires-clause-few_edges c = few_edges (goal.at.count-requires-clause-few_edges c).In_ok-check_sizes
+
+pub ins_and_distances-requires : goal.ins_and_distances-requires
+ins_and_distances-requires c = record {
+  sink_is_vertex = sizes_sink c.args.limits (made c.args.vertices c.args.sink c.as_slice-rows.result.now)
+      (accepted _ c.in_ok-check_sizes.ensures.first);
+  few_vertices = few_vertices (goal.at.ins_and_distances-requires c).In_ok-check_sizes;
+  few_edges = few_edges (goal.at.ins_and_distances-requires c).In_ok-check_sizes;
+  edges = are_edges (goal.at.ins_and_distances-requires c).In_ok-counts;
+  counted = c.in_ok-counts.ensures.1.heads;
+}
+
+pub edges_by-requires : goal.edges_by-requires
+edges_by-requires c =
+    let are = are_edges (goal.at.edges_by-requires c).In_ok-counts in
+    let few = few_vertices (goal.at.edges_by-requires c).In_ok-check_sizes in
+    record {
+      ends = edges_end (made c.args.vertices c.args.sink c.as_slice-rows.result.now) are Tail;
+      short = edges_short (made c.args.vertices c.args.sink c.as_slice-rows.result.now) are few;
+      few = few;
+      few_edges = few_edges (goal.at.edges_by-requires c).In_ok-check_sizes;
+      counted = c.in_ok-counts.ensures.1.tails;
+    }
+
+pub returns-in_err-check_sizes : goal.returns-in_err-check_sizes
+returns-in_err-check_sizes c =
+    rw (← c.as_slice-rows.ensures.value)
+    (refused c.args.limits (made c.args.vertices c.args.sink c.as_slice-rows.result.now) c.from_residual.result
+    c.in_err-check_sizes.field-0.0 c.from_residual.ensures.1
+    (inr (inl (ap (λ (f : Option GraphFault). first_of_faults f
+    (fault_of_edges c.args.vertices c.args.sink 0 c.as_slice-rows.result.now))
+    (told _ _ c.in_err-check_sizes.ensures.first)))))
+
+pub returns-in_err-counts : goal.returns-in_err-counts
+returns-in_err-counts c =
+    let same = rows_as_edges c.args.limits (made c.args.vertices c.args.sink c.as_slice-rows.result.now)
+    (accepted _ c.in_ok-check_sizes.ensures.first) in
+    rw (← c.as_slice-rows.ensures.value)
+    (refused c.args.limits (made c.args.vertices c.args.sink c.as_slice-rows.result.now) c.from_residual-in_err-counts.result
+    c.in_err-counts.field-0.0 c.from_residual-in_err-counts.ensures.1
+    (⊎_elim (λ memory. inl (memory.0, same ∙ memory.1)) (λ is. inr (inl (same ∙ is))) c.in_err-counts.ensures))
 
 pub returns-in_err-ins : goal.returns-in_err-ins
 returns-in_err-ins c =
-    let G : Multigraph = record { vertices = c.args.vertices; sink = c.args.sink; edges = c.as_slice-rows.result.now }
-    in
     rw (← c.as_slice-rows.ensures.value)
-    (refused c.args.limits G c.from_residual-in_err-ins.result c.in_err-ins.field-0.0 c.from_residual-in_err-ins.ensures.1
-    (⊎_elim (λ memory. inl (memory, accepted _ c.in_ok-check_rows.ensures.first))
-    (λ unreached. inr (inr (accepted _ c.in_ok-check_rows.ensures.first, unreached))) c.in_err-ins.ensures.none))
+    (refused c.args.limits (made c.args.vertices c.args.sink c.as_slice-rows.result.now) c.from_residual-in_err-ins.result
+    NoMemory c.from_residual-in_err-ins.ensures.1
+    (inl (refl, rows (goal.at.returns-in_err-ins c).In_ok-counts)))
 
-pub ins_and_distances-requires-clause-few_vertices : goal.ins_and_distances-requires-clause-few_vertices
-ins_and_distances-requires-clause-few_vertices c =
-    let rows = rows_vertices c.args.limits
-    (record { vertices = c.args.vertices; sink = c.args.sink; edges = c.as_slice-rows.result.now })
-    (accepted _ c.in_ok-check_rows.ensures.first) in
-    let most = c.in_ok-check_rows.ensures.limits.few_vertices in
-    omega (arith, rows.1)
-
-pub ins_and_distances-requires-clause-sink_is_vertex : goal.ins_and_distances-requires-clause-sink_is_vertex
-ins_and_distances-requires-clause-sink_is_vertex c = rows_sink c.args.limits
-    (record { vertices = c.args.vertices; sink = c.args.sink; edges = c.as_slice-rows.result.now })
-    (accepted _ c.in_ok-check_rows.ensures.first)
-
-pub ins_and_distances-requires-clause-edges : goal.ins_and_distances-requires-clause-edges
-ins_and_distances-requires-clause-edges c = rows_edge c.args.limits
-    (record { vertices = c.args.vertices; sink = c.args.sink; edges = c.as_slice-rows.result.now })
-    (accepted _ c.in_ok-check_rows.ensures.first)
-
-pub edges_by-requires-clause-ends : goal.edges_by-requires-clause-ends
-edges_by-requires-clause-ends c =
-    edges_end _ (rows_edge c.args.limits _ (accepted _ c.in_ok-check_rows.ensures.first)) Tail
-
-pub links_by-requires-clause-numbers : goal.links_by-requires-clause-numbers
-links_by-requires-clause-numbers c =
-    rw c.members.ensures (All-edges_by Tail c.as_slice-rows.result.now c.args.vertices c.in_ok-outs.outs
-    c.in_ok-outs.ensures)
-
-pub links_by-requires-clause-short : goal.links_by-requires-clause-short
-links_by-requires-clause-short c e l =
-    let none = accepted _ c.in_ok-check_rows.ensures.first in
-    let head = edges_end _ (rows_edge c.args.limits _ none) Head e l in
-    let mult = rows_mults c.args.limits _ none e l in
-    let most = c.in_ok-check_rows.ensures.limits.few_vertices in
-    let vertices = rows_vertices c.args.limits _ none in
-    (omega (arith, vertices.1), omega arith)
-
-pub degrees-requires-clause-tails : goal.degrees-requires-clause-tails
-degrees-requires-clause-tails c = edges_end _ (rows_edge c.args.limits _ (accepted _ c.in_ok-check_rows.ensures.first)) Tail
-
-pub degrees-requires-clause-mults : goal.degrees-requires-clause-mults
-degrees-requires-clause-mults c = rows_mults c.args.limits
-    (record { vertices = c.args.vertices; sink = c.args.sink; edges = c.as_slice-rows.result.now })
-    (accepted _ c.in_ok-check_rows.ensures.first)
-
-pub returns-in_err-degrees : goal.returns-in_err-degrees
-returns-in_err-degrees c =
-    let G : Multigraph = record { vertices = c.args.vertices; sink = c.args.sink; edges = c.as_slice-rows.result.now }
-    in
+pub returns-in_err-check_reached : goal.returns-in_err-check_reached
+returns-in_err-check_reached c =
+    let least = c.in_err-check_reached.ensures.least in
+    let found = subst (λ (ds : List ℕ). AreDistances (made c.args.vertices c.args.sink c.as_slice-rows.result.now)
+    (map noted ds))
+    (sym c.deref.ensures.value) c.in_ok-ins.ensures.distances in
     rw (← c.as_slice-rows.ensures.value)
-    (refused c.args.limits G c.from_residual-in_err-degrees.result NoMemory c.from_residual-in_err-degrees.ensures.1
-    (inl (refl, accepted _ c.in_ok-check_rows.ensures.first)))
+    (refused c.args.limits (made c.args.vertices c.args.sink c.as_slice-rows.result.now)
+    c.from_residual-in_err-check_reached.result c.in_err-check_reached.field-0.0 c.from_residual-in_err-check_reached.ensures.1
+    (inr (inr (
+      rows (goal.at.returns-in_err-check_reached c).In_ok-counts,
+      unreached_fault (made c.args.vertices c.args.sink c.as_slice-rows.result.now) c.deref.result.now found
+          least.0 c.in_err-check_reached.field-0.0 least.1 least.2 least.3 least.4,
+    ))))
+
+pub returns-in_err-outs : goal.returns-in_err-outs
+returns-in_err-outs c =
+    rw (← c.as_slice-rows.ensures.value)
+    (refused c.args.limits (made c.args.vertices c.args.sink c.as_slice-rows.result.now) c.from_residual-in_err-outs.result
+    NoMemory c.from_residual-in_err-outs.ensures.1
+    (inl (refl, rows (goal.at.returns-in_err-outs c).In_ok-counts)))
 
 pub returns-in_err-new : goal.returns-in_err-new
 returns-in_err-new c =
-    let G : Multigraph = record { vertices = c.args.vertices; sink = c.args.sink; edges = c.as_slice-rows.result.now }
-    in
     rw (← c.as_slice-rows.ensures.value)
-    (refused c.args.limits G c.from_residual-in_err-new.result NoMemory c.from_residual-in_err-new.ensures.1
-    (inl (refl, accepted _ c.in_ok-check_rows.ensures.first)))
+    (refused c.args.limits (made c.args.vertices c.args.sink c.as_slice-rows.result.now) c.from_residual-in_err-new.result
+    NoMemory c.from_residual-in_err-new.ensures.1
+    (inl (refl, rows (goal.at.returns-in_err-new c).In_ok-counts)))
 
 pub invariant_of-indexed : goal.invariant_of-indexed
 invariant_of-indexed c =
-    let none = accepted _ c.in_ok-check_rows.ensures.first in
-    let G : Multigraph = record { vertices = c.args.vertices; sink = c.args.sink; edges = c.as_slice-rows.result.now }
-    in
-    let ins = c.in_ok-ins.ensures in
-    let outs = c.in_ok-outs.ensures in
+    let found = all_found (goal.at.invariant_of-indexed c).In_ok-check_reached in
+    let degrees = c.in_ok-counts.ensures.1.degrees in
+    let ins = c.in_ok-ins.ensures.ins in
+    let outs = c.in_ok-outs.ensures.lists in
     rw (← c.as_slice-rows.ensures.value) (record {
-      graph = (rows_graph c.args.limits G none c.in_ok-check_rows.ensures.limits ins.reached).graph;
-      degree_each = c.in_ok-degrees.ensures.0;
-      degrees = c.in_ok-degrees.ensures.1;
-      distances = ins.distances;
+      graph = (rows_graph c.args.limits (made c.args.vertices c.args.sink c.as_slice-rows.result.now)
+          (accepted _ c.in_ok-check_sizes.ensures.first) c.in_ok-counts.ensures.0
+          c.in_ok-check_sizes.ensures.limits (all_reach _ c.in_ok-ins.distances.items found)).graph;
+      degree_each = degrees.one_each;
+      degrees = degrees.each;
+      distances = found;
       outs_each = outs.one_each;
       outs = outs.each;
-      ins_each = ins.ins.one_each;
-      ins = ins.ins.each;
-      linked = c.in_ok-links.ensures ∙ ap (map (λ e. link_of (edge_of c.as_slice-rows.result.now e))) c.members.ensures;
+      ins_each = ins.one_each;
+      ins = ins.each;
+      linked = c.in_ok-outs.ensures.parts;
     })
 
 pub returns : goal.returns
-returns c =
-    let none = accepted _ c.in_ok-check_rows.ensures.first in
-    let G : Multigraph = record { vertices = c.args.vertices; sink = c.args.sink; edges = c.as_slice-rows.result.now }
-    in (
-      c.in_ok-new.ensures.ok,
-      rw (← c.as_slice-rows.ensures.value)
-          (rows_graph c.args.limits G none c.in_ok-check_rows.ensures.limits c.in_ok-ins.ensures.reached),
-    )
+returns c = (
+  c.in_ok-new.ensures.ok,
+  rw (← c.as_slice-rows.ensures.value)
+      (rows_graph c.args.limits (made c.args.vertices c.args.sink c.as_slice-rows.result.now)
+      (accepted _ c.in_ok-check_sizes.ensures.first) c.in_ok-counts.ensures.0
+      c.in_ok-check_sizes.ensures.limits
+      (all_reach _ c.in_ok-ins.distances.items (all_found (goal.at.returns c).In_ok-check_reached))),
+)

@@ -1,6 +1,6 @@
 use Rattle.std.proofs.Common.{◌≡◌, drop}
 use Rattle.chip_graph.specs.Faults.{fault_of_edges}
-use Rattle.chip_graph.proofs.graph.check_rows.Given as goal
+use Rattle.chip_graph.proofs.graph.check_edges.Given as goal
 
 abbrev pub invariant-loop-i : goal.invariant-loop-i
 invariant-loop-i l = fault_of_edges l.vertices l.sink 0 l.edges

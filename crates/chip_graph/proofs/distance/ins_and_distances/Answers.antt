@@ -1,16 +1,16 @@
 use Rattle.std.proofs.Common.{◌≡◌, ◌+◌, ◌<◌, ℕ, List, All, vec_len, get_or, length, map, refl, ap, subst, sym, ◌∙◌, arith}
 use Rattle.chip_graph.specs.Multigraph.{Multigraph, edges_in}
-use Rattle.chip_graph.specs.Found.{Found, findings, with_all}
+use Rattle.chip_graph.specs.Found.{Found, findings, noted, with_all}
 use Rattle.chip_graph.specs.Ends.{edge_of}
 use Rattle.chip_graph.specs.declared.edge.Edge.{Edge}
-use Rattle.chip_graph.specs.declared.edge.End.TheVariants.{Head}
-use Rattle.chip_graph.proofs.PickLemmas.{All-edges_by}
+use Rattle.chip_graph.specs.declared.edge.End.TheVariants.{Tail, Head}
+use Rattle.chip_graph.proofs.FaultLemmas.{edges_end, edges_short}
 use Rattle.std.proofs.lemmas.List.{length-map}
 use Rattle.std.proofs.lemmas.List.Elements.{All-map}
 use Rattle.chip_graph.proofs.SpreadingLemmas.{IsSpread, IsReached, begin_spread, turn_reached, turn_kept, edges_in_below}
 use Rattle.chip_graph.proofs.SpreadingLemmas.{few_reached, all_distances}
-use Rattle.chip_graph.proofs.distance.distances.Goals as goal
-use Rattle.chip_graph.proofs.distance.distances.Goals.{After-index, After-beside}
+use Rattle.chip_graph.proofs.distance.ins_and_distances.Goals as goal
+use Rattle.chip_graph.proofs.distance.ins_and_distances.Goals.{After-index, After-beside}
 
 -- one of the reached is left
 some_left : (c : After-index) → c.loop-next.next < length c.loop-next.search.reached.items
@@ -35,9 +35,8 @@ row_is : (c : After-beside)
 row_is c =
     let at = turn_reached _ (findings c.loop-next.search) c.loop-next.next c.loop-next.invariant c.index.result.now
     (omega (arith, c.loop-next.search.reached.ok.0)) c.index.ensures in
-    c.beside.ensures (tail_in c.args.edges.now) (c.deref.ensures.value ∙ c.in_ok-tails.ensures
-    ∙ ap (map (tail_in c.args.edges.now)) c.members.ensures)
-    ∙ ap (map (tail_in c.args.edges.now)) (c.requires.ins.each c.index.result.now.vertex at.is_vertex)
+    c.beside.ensures (tail_in c.args.edges.now) (c.deref.ensures.value ∙ c.in_ok-ins.ensures.parts)
+    ∙ ap (map (tail_in c.args.edges.now)) (c.in_ok-ins.ensures.lists.each c.index.result.now.vertex at.is_vertex)
 
 pub loop-next-init : goal.loop-next-init
 loop-next-init c = subst (λ (f : Found). IsSpread
@@ -52,27 +51,36 @@ overflow_add-distance c = let at = turn (goal.at.overflow_add-distance c).After-
 pub beside-requires-clause-inside : goal.beside-requires-clause-inside
 beside-requires-clause-inside c =
     let at = turn (goal.at.beside-requires-clause-inside c).After-index in
-    let each = c.requires.ins.one_each in
+    let each = c.in_ok-ins.ensures.lists.one_each in
     omega (arith, at.is_vertex)
 
 pub beside-requires-clause-one_each : goal.beside-requires-clause-one_each
 beside-requires-clause-one_each c =
-    ap length (c.deref.ensures.value ∙ c.in_ok-tails.ensures ∙ ap (map (tail_in c.args.edges.now)) c.members.ensures)
+    ap length (c.deref.ensures.value ∙ c.in_ok-ins.ensures.parts)
     ∙ length-map _ (tail_in c.args.edges.now)
 
-pub tails_of-requires-clause-numbers : goal.tails_of-requires-clause-numbers
-tails_of-requires-clause-numbers c =
-    rw c.members.ensures (All-edges_by Head c.args.edges.now c.args.vertices c.args.ins.now c.requires.ins)
+pub edges_by-requires-clause-ends : goal.edges_by-requires-clause-ends
+edges_by-requires-clause-ends c = edges_end _ c.requires.edges Head
 
-pub reach_all-requires : goal.reach_all-requires
-reach_all-requires c =
+pub edges_by-requires-clause-short : goal.edges_by-requires-clause-short
+edges_by-requires-clause-short c = edges_short _ c.requires.edges c.requires.few_vertices
+
+pub reach_all-requires-clause-distance : goal.reach_all-requires-clause-distance
+reach_all-requires-clause-distance c = let at = turn (goal.at.reach_all-requires-clause-distance c).After-index in
+    let few = few_reached _ _ _ c.loop-next.invariant in
+    let l = some_left (goal.at.reach_all-requires-clause-distance c).After-index in
+    omega (arith, at.early, c.requires.few_vertices)
+
+pub reach_all-requires-clause-vertices : goal.reach_all-requires-clause-vertices
+reach_all-requires-clause-vertices c =
     let G : Multigraph = record { vertices = c.args.vertices; sink = c.args.sink; edges = c.args.edges.now } in
     let es : List ℕ = edges_in G c.index.result.now.vertex in
     let many = c.loop-next.invariant.one_each in
     let counted = c.loop-next.search.distances.ok.0 in
+    let same = length-map c.loop-next.search.distances.items noted in
     subst (All (λ v. v < vec_len c.loop-next.search.distances)) (sym (row_is c))
     (All-map (λ v. v < vec_len c.loop-next.search.distances) (tail_in c.args.edges.now) es (λ k d l.
-    let small = c.requires.tails_are_vertices (get_or es k d) (record { tail = 0; head = 0; mult = 0 })
+    let small = edges_end G c.requires.edges Tail (get_or es k d)
     (edges_in_below G c.index.result.now.vertex es refl k d l) in
     omega arith))
 
@@ -84,8 +92,11 @@ loop-next-preserved c =
     (findings c.loop-next.search)) (row_is (goal.at.loop-next-preserved c).After-beside)))
     (turn_kept G (findings c.loop-next.search) c.loop-next.next c.loop-next.invariant c.index.result.now
     (omega (arith, c.loop-next.search.reached.ok.0)) c.index.ensures
-    (λ e l. c.requires.tails_are_vertices e _ l) (edges_in G c.index.result.now.vertex) refl)
+    (edges_end G c.requires.edges Tail) (edges_in G c.index.result.now.vertex) refl)
 
-pub returns : goal.returns
-returns c = all_distances _ (findings c.loop-next.search) c.loop-next.next c.loop-next.invariant
+pub returns-clause-ins : goal.returns-clause-ins
+returns-clause-ins c = c.in_ok-ins.ensures.lists
+
+pub returns-clause-distances : goal.returns-clause-distances
+returns-clause-distances c = all_distances _ (findings c.loop-next.search) c.loop-next.next c.loop-next.invariant
     (omega (arith, c.loop-next.search.reached.ok.0))

@@ -1,7 +1,7 @@
 use Rattle.std.proofs.Common.{◌-◌}
 use Rattle.chip_graph.specs.Found.{findings}
 use Rattle.chip_graph.proofs.SpreadingLemmas.{IsSpread}
-use Rattle.chip_graph.proofs.distance.distances.Given as goal
+use Rattle.chip_graph.proofs.distance.ins_and_distances.Given as goal
 
 abbrev pub invariant-loop-next : goal.invariant-loop-next
 invariant-loop-next l = IsSpread (record { vertices = l.vertices; sink = l.sink; edges = l.edges })

@@ -39,7 +39,7 @@ impl Search {
     {
         let mut distances = Vec::new(alloc);
         distances.resize(vertices, UNREACHED)?;
-        let reached = Vec::with_capacity(alloc, vertices)?;
+        let reached = Vec::new(alloc);
         let mut search = Search { distances, reached };
         search.reach(sink, 0)?;
         Ok(search)

@@ -1,3 +1,4 @@
+pub mod EdgesLemmas
 pub mod KeptLemmas
 pub mod OrderLemmas
 pub mod SilentLemmas

@@ -1,6 +1,6 @@
 -- Serves Running.antt.
 -- The parts before anything is sent.
-use Rattle.std.proofs.Common.{◌≡◌, ◌≢◌, ℕ, ◌+◌, ◌<◌, false, List, [], ◌∷◌, ◌++◌, get_or, sym, ap, ◌∙◌, subst, arith, ⊎_elim, length-append}
+use Rattle.std.proofs.Common.{◌≡◌, ◌≢◌, ℕ, ◌+◌, ◌<◌, List, [], ◌∷◌, ◌++◌, get_or, sym, subst, arith, ⊎_elim, length-append}
 use Rattle.std.specs.List.{Contains}
 use Rattle.std.proofs.Math.ListN.{get_or-append}
 use Rattle.std.proofs.Math.Seq.{get_or-append_seam}
@@ -8,9 +8,8 @@ use Rattle.std.proofs.lemmas.List.Elements.{Contains-append_left, Contains-appen
 use mathlib.Core.Logic.{dite}
 use native.Mathlib.Decide.{ℕ_discrete}
 use Rattle.chip_diffusing.specs.Network.{AreAll}
-use Rattle.chip_diffusing.specs.Computation.{OpensPart}
 use Rattle.chip_diffusing.proofs.OrderLemmas.{contains_cases, contains_first, contains_nothing}
-use Rattle.chip_flooding.specs.Running.{Topology, Process, network_of, shown, nobody, world_of, AreOpening}
+use Rattle.chip_flooding.specs.Running.{Topology, Process, nobody, Opens, AreOpening}
 
 -- an edge below n of which the part is this end
 abbrev pub IsEnd : List ℕ → ℕ → ℕ → ℕ → Type 0
@@ -42,27 +41,14 @@ passed ends es part n all here = record {
 }
 
 -- one more part opens
-pub opened : (t : Topology) (n : ℕ) (processes : List Process) (s : Process) → AreOpening t n processes
-    → OpensPart (network_of t) n (shown s) → (n ≡ t.root → s.passive ≡ false)
-    → AreOpening t (n + 1) (processes ++ s ∷ [])
-opened t n processes s was opens root = record {
-  count_is = let long = length-append processes (s ∷ []) in let old = was.count_is in omega arith;
+pub opened : (t : Topology) (n : ℕ) (ps : List Process) (s : Process) → AreOpening t n ps → Opens t n s
+    → AreOpening t (n + 1) (ps ++ s ∷ [])
+opened t n ps s was opens = let all = was.count_is in record {
+  count_is = let long = length-append ps (s ∷ []) in omega arith;
   each = λ p l. dite (ℕ_discrete p n)
-      (λ z. subst (λ (q : ℕ). OpensPart (network_of t) q (world_of (processes ++ s ∷ []) q)) (sym z)
-      (subst (OpensPart (network_of t) n) (sym last) opens))
-      (λ other. subst (OpensPart (network_of t) p) (sym (earlier p (omega arith))) (was.each p (omega arith)));
-  at_work = λ l. dite (ℕ_discrete t.root n)
-      (λ z. subst (λ (q : ℕ). (world_of (processes ++ s ∷ []) q).passive ≡ false) (sym z)
-      (ap (λ (q : Process). q.passive) here ∙ root (sym z)))
-      (λ other. ap (λ (q : Process). q.passive)
-      (get_or-append processes (s ∷ []) nobody t.root (let old = was.count_is in omega arith)) ∙ was.at_work (omega arith));
+      (λ z. subst (λ (q : ℕ). Opens t q (get_or (ps ++ s ∷ []) q nobody)) (sym z) (subst (Opens t n) (sym here) opens))
+      (λ other. subst (Opens t p) (sym (get_or-append ps (s ∷ []) nobody p (omega arith))) (was.each p (omega arith)));
 }
   where
-    here : get_or (processes ++ s ∷ []) n nobody ≡ s
-    here = subst (λ (i : ℕ). get_or (processes ++ s ∷ []) i nobody ≡ s) was.count_is (get_or-append_seam processes s [] nobody)
-
-    last : world_of (processes ++ s ∷ []) n ≡ shown s
-    last = ap shown here
-
-    earlier : (p : ℕ) → p < n → world_of (processes ++ s ∷ []) p ≡ world_of processes p
-    earlier p l = ap shown (get_or-append processes (s ∷ []) nobody p (let old = was.count_is in omega arith))
+    here : get_or (ps ++ s ∷ []) n nobody ≡ s
+    here = subst (λ (i : ℕ). get_or (ps ++ s ∷ []) i nobody ≡ s) was.count_is (get_or-append_seam ps s [] nobody)

@@ -1,274 +1,173 @@
 -- Serves Running.antt.
--- An event of a run: the world after it, and what its channels count.
-use Rattle.std.proofs.Common.{◌≡◌, ◌≢◌, true, ℕ, ◌+◌, ◌-◌, ◌<◌, ◌≤◌, eqb, cond, List, ◌∷◌, get_or, set, refl, sym, ap, ◌∙◌, subst, arith}
+-- An event of a run: the call that notes it may be made, and a run is left.
+use Rattle.std.proofs.Common.{◌≡◌, ◌≢◌, ◌⊎◌, inl, inr, ℕ, ◌+◌, ◌-◌, ◌<◌, ◌≤◌, List, [], ◌∷◌, get_or, set, length, refl, sym, ap, ◌∙◌, subst, arith}
 use Rattle.std.proofs.Common.{get_or-set_same, get_or-set_other, length-set}
 use Rattle.std.proofs.lemmas.Bool.Decides.{nat_tests}
 use Rattle.std.proofs.lemmas.List.{get_or_read}
 use mathlib.Core.Logic.{dite}
 use native.Mathlib.Decide.{ℕ_discrete}
-use Rattle.chip_detect.specs.Tally.{message_limit}
 use Rattle.std.specs.Option.{IfSome}
-use Rattle.chip_detect.specs.Books.{Books, got_of, acked_of, sent_of, settled_of, owed, all_owed, deficit}
+use Rattle.chip_detect.specs.Tally.{message_limit}
+use Rattle.chip_detect.specs.Books.{owed, all_owed, deficit}
+use Rattle.chip_detect.specs.Acknowledging.{may_ack}
 use Rattle.chip_detect.specs.Steps.{MayBeMade}
 use Rattle.chip_detect.proofs.AllowedLemmas.{within_owed}
 use Rattle.chip_diffusing.specs.Network.{Network}
 use Rattle.chip_diffusing.specs.Computation.{Part, World, Event, Send, Get, Ack, Settle, Work, Log, May, Notes, Wakes, Happens}
 use Rattle.chip_diffusing.specs.Computation.{part_of, call_of, sent_on, got_on, acked_on, settled_on, in_flight}
-use Rattle.chip_diffusing.proofs.KeptLemmas.{legal_kept, who_inside, may_call}
-use Rattle.chip_flooding.specs.Running.{Process, Channel, shown, nobody, unused, world_of, RunState, net, world, AreCounts, StandsFor}
+use Rattle.chip_diffusing.proofs.KeptLemmas.{IsKept, legal_kept, who_inside, may_call, acked_most}
+use Rattle.chip_diffusing.proofs.EdgesLemmas.{counted}
+use Rattle.chip_flooding.specs.Running.{Topology, Process, Channel, State, network_of, shown, nobody, unused, world_of, IsRun, Runs}
 
--- what an event adds to the counts of an edge
-abbrev pub sends : Event → ℕ → ℕ
-sends (Send e) i = cond (eqb e i) 1 0
-sends _ i = 0
+-- what an event makes of the channels
+abbrev pub sends : Channel → Channel
+sends c = record { in_flight = c.in_flight + 1; acknowledged = c.acknowledged }
 
-abbrev pub gets : Event → ℕ → ℕ
-gets (Get e) i = cond (eqb e i) 1 0
-gets _ i = 0
+abbrev pub gets : Channel → Channel
+gets c = record { in_flight = c.in_flight - 1; acknowledged = c.acknowledged }
 
-abbrev pub acks : Event → ℕ → ℕ
-acks (Ack e n) i = cond (eqb e i) n 0
-acks _ i = 0
+abbrev pub acks : ℕ → Channel → Channel
+acks n c = record { in_flight = c.in_flight; acknowledged = c.acknowledged + n }
 
--- s are the acknowledgements that the tail has settled
-abbrev pub settles : Event → ℕ → ℕ → ℕ
-settles (Settle e word) i s = cond (eqb e i) (word - s) 0
-settles _ i s = 0
+abbrev pub channels_after : Event → List Channel → List Channel
+channels_after (Send e) cs = set cs e (sends (get_or cs e unused))
+channels_after (Get e) cs = set cs e (gets (get_or cs e unused))
+channels_after (Ack e n) cs = set cs e (acks n (get_or cs e unused))
+channels_after _ cs = cs
 
-module _ (net : Network) (old : World) (x : Event) (new : World) (step : Happens net old x new) where
-  abbrev mine : World → Books
-  mine w = (w (part_of net x)).books
+module _ {t : Topology} {ps : List Process} {cs : List Channel} (is : IsRun t ps cs) where
+  abbrev n : Network
+  n = network_of t
 
-  sent_mine : (x : Event) (a b : Books) → Notes a x b → (i : ℕ) → sent_of b i ≡ sent_of a i + sends x i
-  sent_mine (Send e) a b n i = grind (arith, nat_tests)
-  sent_mine (Get e) a b n i = grind arith
-  sent_mine (Ack e k) a b n i = grind arith
-  sent_mine (Settle e word) a b n i = grind arith
-  sent_mine (Work p) a b n i = grind arith
+  abbrev old : World
+  old = world_of ps
 
-  got_mine : (x : Event) (a b : Books) → Notes a x b → (i : ℕ) → got_of b i ≡ got_of a i + gets x i
-  got_mine (Send e) a b n i = grind arith
-  got_mine (Get e) a b n i = grind (arith, nat_tests)
-  got_mine (Ack e k) a b n i = grind arith
-  got_mine (Settle e word) a b n i = grind arith
-  got_mine (Work p) a b n i = grind arith
+  pub kept : IsKept n old
+  kept = legal_kept n is.topology.network is.log old is.legal
 
-  acked_mine : (x : Event) (a b : Books) → Notes a x b → (i : ℕ) → acked_of b i ≡ acked_of a i + acks x i
-  acked_mine (Send e) a b n i = grind arith
-  acked_mine (Get e) a b n i = grind arith
-  acked_mine (Ack e k) a b n i = grind (arith, nat_tests)
-  acked_mine (Settle e word) a b n i = grind arith
-  acked_mine (Work p) a b n i = grind arith
+  -- what a run reads
+  pub tail_at : (e p : ℕ) → e < n.edges → p ≡ get_or t.tails.items e p → p ≡ n.tail e
+  tail_at e p l at = get_or_read t.tails.items e p l at 0
 
-  sends_own : (x : Event) (i : ℕ) → net.tail i ≢ part_of net x → sends x i ≡ 0
-  sends_own (Send e) i other = let ne : e ≢ i = (λ z. other (ap net.tail (sym z))) in grind (arith, nat_tests)
-  sends_own (Get e) i other = refl
-  sends_own (Ack e k) i other = refl
-  sends_own (Settle e word) i other = refl
-  sends_own (Work p) i other = refl
+  pub head_at : (e p : ℕ) → e < n.edges → p ≡ get_or t.heads.items e p → p ≡ n.head e
+  head_at e p l at = get_or_read t.heads.items e p (let both = is.topology.both_ends in omega arith) at 0
 
-  gets_own : (x : Event) (i : ℕ) → net.head i ≢ part_of net x → gets x i ≡ 0
-  gets_own (Send e) i other = refl
-  gets_own (Get e) i other = let ne : e ≢ i = (λ z. other (ap net.head (sym z))) in grind (arith, nat_tests)
-  gets_own (Ack e k) i other = refl
-  gets_own (Settle e word) i other = refl
-  gets_own (Work p) i other = refl
+  pub channel_at : (e : ℕ) (c : Channel) → e < n.edges → c ≡ get_or cs e c → c ≡ get_or cs e unused
+  channel_at e c l at = get_or_read cs e c (let all = is.all_channels in omega arith) at unused
 
-  acks_own : (x : Event) (i : ℕ) → net.head i ≢ part_of net x → acks x i ≡ 0
-  acks_own (Send e) i other = refl
-  acks_own (Get e) i other = refl
-  acks_own (Ack e k) i other = let ne : e ≢ i = (λ z. other (ap net.head (sym z))) in grind (arith, nat_tests)
-  acks_own (Settle e word) i other = refl
-  acks_own (Work p) i other = refl
+  -- what is under way on an edge
+  pub record Flows (e : ℕ) (c : Channel) : Type 0 where
+    pub in_flight : c.in_flight ≡ in_flight n old e
+    pub acknowledged : c.acknowledged ≡ acked_on n old e
+    pub got : got_on n old e ≤ sent_on n old e
+    pub most : got_on n old e ≤ message_limit
+    pub owed : acked_on n old e + may_ack (old (n.head e)).books e (old (n.head e)).passive ≤ got_on n old e
 
-  settled_mine : (x : Event) (a b : Books) → Notes a x b → (i : ℕ) → settled_of b i ≡ settled_of a i + settles x i (settled_of a i)
-  settled_mine (Send e) a b n i = grind arith
-  settled_mine (Get e) a b n i = grind arith
-  settled_mine (Ack e k) a b n i = grind arith
-  settled_mine (Settle e word) a b n i = grind (arith, nat_tests)
-  settled_mine (Work p) a b n i = grind arith
+  pub flows : (e : ℕ) (c : Channel) → e < n.edges → c ≡ get_or cs e c → Flows e c
+  flows e c l at = let read = channel_at e c l at in
+      let b = (old (n.head e)).books in
+      let owes = within_owed e b.parent (owed b e) (all_owed b) (deficit b) (old (n.head e)).passive in
+      let answered = acked_most n is.topology.network old kept e l in record {
+        in_flight = ap (λ (d : Channel). d.in_flight) read ∙ is.in_flight e l;
+        acknowledged = ap (λ (d : Channel). d.acknowledged) read ∙ is.acknowledged e l;
+        got = kept.got e l;
+        most = (kept.sound (n.head e) (is.topology.network.heads e l)).ins.within e;
+        owed = omega arith;
+      }
 
-  settles_own : (x : Event) (i s : ℕ) → net.tail i ≢ part_of net x → settles x i s ≡ 0
-  settles_own (Send e) i s other = refl
-  settles_own (Get e) i s other = refl
-  settles_own (Ack e k) i s other = refl
-  settles_own (Settle e word) i s other = let ne : e ≢ i = (λ z. other (ap net.tail (sym z))) in grind (arith, nat_tests)
-  settles_own (Work p) i s other = refl
+  -- the channels count what is under way after the event too
+  module _ (new : World) where
+    abbrev Counts : List Channel → ℕ → Type 0
+    Counts cs e = ((get_or cs e unused).in_flight ≡ in_flight n new e) × ((get_or cs e unused).acknowledged ≡ acked_on n new e)
 
-  -- a count of an edge grows by what the event adds to it
-  counted : (count : Books → ℕ) (more : ℕ) (p : ℕ) → count (mine new) ≡ count (mine old) + more
-      → (p ≢ part_of net x → more ≡ 0) → count (new p).books ≡ count (old p).books + more
-  counted count more p here none = dite (ℕ_discrete p (part_of net x))
-      (λ z. subst (λ (q : ℕ). count (new q).books ≡ count (old q).books + more) (sym z) here)
-      (λ n. let same = ap (λ (s : Part). count s.books) (step.others p n) in let zero = none n in omega arith)
+    -- a channel after one was written
+    written : (e i : ℕ) (c : Channel) → e < n.edges → ((i ≡ e) × (get_or (set cs e c) i unused ≡ c))
+        ⊎ ((i ≢ e) × (get_or (set cs e c) i unused ≡ get_or cs i unused))
+    written e i c l = dite (ℕ_discrete i e)
+        (λ z. inl (z, ap (λ (j : ℕ). get_or (set cs e c) j unused) z
+        ∙ get_or-set_same cs e c unused (let all = is.all_channels in omega arith)))
+        (λ other. inr (other, get_or-set_other cs e i c unused other))
 
-  pub sent_after : (i : ℕ) → sent_on net new i ≡ sent_on net old i + sends x i
-  sent_after i = counted (λ b. sent_of b i) (sends x i) (net.tail i) (sent_mine x (mine old) (mine new) step.notes i)
-      (sends_own x i)
+    counts_after : (x : Event) → Happens n old x new → (i : ℕ) → i < n.edges → Counts (channels_after x cs) i
+    counts_after (Send e) step i l = let k = counted n old new (Send e) step i in let a = is.in_flight i l in
+        let b = is.acknowledged i l in let g = kept.got i l in
+        let w = written e i (sends (get_or cs e unused)) step.may.0 in grind (arith, nat_tests)
+    counts_after (Get e) step i l = let k = counted n old new (Get e) step i in let a = is.in_flight i l in
+        let b = is.acknowledged i l in let w = written e i (gets (get_or cs e unused)) step.may.0 in grind (arith, nat_tests)
+    counts_after (Ack e m) step i l = let k = counted n old new (Ack e m) step i in let a = is.in_flight i l in
+        let b = is.acknowledged i l in let w = written e i (acks m (get_or cs e unused)) step.may.0 in grind (arith, nat_tests)
+    counts_after (Settle e word) step i l = let k = counted n old new (Settle e word) step i in let a = is.in_flight i l in
+        let b = is.acknowledged i l in grind arith
+    counts_after (Work p) step i l = let k = counted n old new (Work p) step i in let a = is.in_flight i l in
+        let b = is.acknowledged i l in grind arith
 
-  pub got_after : (i : ℕ) → got_on net new i ≡ got_on net old i + gets x i
-  got_after i = counted (λ b. got_of b i) (gets x i) (net.head i) (got_mine x (mine old) (mine new) step.notes i)
-      (gets_own x i)
+  as_many : (x : Event) → length (channels_after x cs) ≡ length cs
+  as_many (Send e) = length-set cs e (sends (get_or cs e unused))
+  as_many (Get e) = length-set cs e (gets (get_or cs e unused))
+  as_many (Ack e m) = length-set cs e (acks m (get_or cs e unused))
+  as_many (Settle e word) = refl
+  as_many (Work p) = refl
 
-  pub acked_after : (i : ℕ) → acked_on net new i ≡ acked_on net old i + acks x i
-  acked_after i = counted (λ b. acked_of b i) (acks x i) (net.head i) (acked_mine x (mine old) (mine new) step.notes i)
-      (acks_own x i)
+-- how many messages of an edge may be acknowledged
+abbrev pub allowed : Topology → List Process → ℕ → ℕ
+allowed t ps e = let head = world_of ps ((network_of t).head e) in may_ack head.books e head.passive
 
-  pub settled_after : (i : ℕ) → settled_on net new i ≡ settled_on net old i + settles x i (settled_on net old i)
-  settled_after i = dite (ℕ_discrete (net.tail i) (part_of net x))
-      (λ z. subst (λ (q : ℕ). settled_of (new q).books i ≡ settled_of (old q).books i + settles x i (settled_of (old q).books i))
-      (sym z) (settled_mine x (mine old) (mine new) step.notes i))
-      (λ n. let same = ap (λ (s : Part). settled_of s.books i) (step.others (net.tail i) n) in
-      let zero = settles_own x i (settled_on net old i) n in omega arith)
+-- a process is about to do what it may
+pub record Acting (t : Topology) (ps : List Process) (cs : List Channel) (x : Event) (p : ℕ) (was : Process) : Type 0 where
+  pub is : IsRun t ps cs
+  pub may : May (network_of t) (world_of ps) x
+  pub at : p ≡ part_of (network_of t) x
+  pub read : was ≡ get_or ps p was
 
-  -- but for a message, nothing wakes a part
-  pub rests_on : ((e : ℕ) → x ≡ Get e → ⊥) → (p : ℕ) → (old p).passive ≡ true → (new p).passive ≡ true
-  rests_on other p was = dite (ℕ_discrete p (part_of net x))
-      (λ z. subst (λ (q : ℕ). (new q).passive ≡ true) (sym z)
-      (still x step.wakes other (subst (λ (q : ℕ). (old q).passive ≡ true) z was)))
-      (λ n. ap (λ (s : Part). s.passive) (step.others p n) ∙ was)
+module _ {t : Topology} {ps : List Process} {cs : List Channel} {x : Event} {p : ℕ} {was : Process} (a : Acting t ps cs x p was) where
+  inside : p < length ps
+  inside = let part = who_inside (network_of t) a.is.topology.network (world_of ps) x a.may in let all = a.is.all_processes in
+      let at = a.at in omega arith
+
+  pub own : shown was ≡ world_of ps (part_of (network_of t) x)
+  own = ap shown (get_or_read ps p was inside a.read nobody) ∙ ap (world_of ps) a.at
+
+  pub callable : IfSome (call_of x) (MayBeMade was.books)
+  callable = subst (λ (s : Part). IfSome (call_of x) (MayBeMade s.books)) (sym own)
+      (may_call (network_of t) a.is.topology.network (world_of ps) (kept a.is) x a.may)
+
+  happens : (now : Process) → Notes was.books x now.books → Wakes was.passive x now.passive
+      → Happens (network_of t) (world_of ps) x (world_of (set ps p now))
+  happens now notes wakes = record {
+    may = a.may;
+    notes = subst (λ (s : Part). Notes s.books x (new mine).books) own (subst (λ (s : Part). Notes was.books x s.books) here notes);
+    wakes = subst (λ (s : Part). Wakes s.passive x (new mine).passive) own
+        (subst (λ (s : Part). Wakes was.passive x s.passive) here wakes);
+    others = λ q other. ap shown (get_or-set_other ps p q now nobody (λ z. other (z ∙ a.at)));
+  }
     where
-      still : (x : Event) → Wakes (old (part_of net x)).passive x (new (part_of net x)).passive → ((e : ℕ) → x ≡ Get e → ⊥)
-          → (old (part_of net x)).passive ≡ true → (new (part_of net x)).passive ≡ true
-      still (Send e) wakes other was = wakes was
-      still (Get e) wakes other was = absurd (other e refl)
-      still (Ack e n) wakes other was = wakes was
-      still (Settle e word) wakes other was = wakes was
-      still (Work p) wakes other was = wakes was
+      mine : ℕ
+      mine = part_of (network_of t) x
 
--- a channel is written where an event adds to the counts of its edge alone
-pub written : (r : RunState) (log : Log) → StandsFor r log → (x : Event) (new : World) → Happens (net r) (world r) x new
-    → (e : ℕ) (was c : Channel) → was ≡ get_or r.channels e unused → e < (net r).edges
-    → ((i : ℕ) → i ≢ e → (sends x i ≡ 0) × (gets x i ≡ 0) × (acks x i ≡ 0))
-    → c.in_flight + gets x e ≡ was.in_flight + sends x e → c.acknowledged ≡ was.acknowledged + acks x e
-    → AreCounts (net r) new (set r.channels e c)
-written r log is x new step e was c read inside alone flight acked = record {
-  count_is = length-set r.channels e c ∙ is.counts.count_is;
-  in_flight = λ i l. dite (ℕ_discrete i e)
-      (λ z. subst (λ (j : ℕ). (get_or (set r.channels e c) j unused).in_flight ≡ in_flight (net r) new j) (sym z)
-      (ap (λ (d : Channel). d.in_flight) here ∙ now))
-      (λ n. ap (λ (d : Channel). d.in_flight) (get_or-set_other r.channels e i c unused n) ∙ is.counts.in_flight i l
-      ∙ (let a = sent_after (net r) (world r) x new step i in let b = got_after (net r) (world r) x new step i in
-      let none = alone i n in omega arith));
-  acknowledged = λ i l. dite (ℕ_discrete i e)
-      (λ z. subst (λ (j : ℕ). (get_or (set r.channels e c) j unused).acknowledged ≡ acked_on (net r) new j) (sym z)
-      (ap (λ (d : Channel). d.acknowledged) here ∙ given))
-      (λ n. ap (λ (d : Channel). d.acknowledged) (get_or-set_other r.channels e i c unused n) ∙ is.counts.acknowledged i l
-      ∙ (let a = acked_after (net r) (world r) x new step i in let none = alone i n in omega arith));
-}
-  where
-    here : get_or (set r.channels e c) e unused ≡ c
-    here = get_or-set_same r.channels e c unused (let all = is.counts.count_is in omega arith)
+      new : World
+      new = world_of (set ps p now)
 
-    now : c.in_flight ≡ in_flight (net r) new e
-    now =
-        let a = sent_after (net r) (world r) x new step e in
-        let b = got_after (net r) (world r) x new step e in
-        let w = ap (λ (d : Channel). d.in_flight) read ∙ is.counts.in_flight e inside in
-        let most = (legal_kept (net r) is.topology.network log (world r) is.legal).got e inside in omega arith
+      here : shown now ≡ new mine
+      here = ap shown (sym (get_or-set_same ps p now nobody inside)) ∙ ap new a.at
 
-    given : c.acknowledged ≡ acked_on (net r) new e
-    given =
-        let a = acked_after (net r) (world r) x new step e in
-        let w = ap (λ (d : Channel). d.acknowledged) read ∙ is.counts.acknowledged e inside in omega arith
+  -- it does it: one event of a legal log
+  pub runs : (now : Process) → Notes was.books x now.books → Wakes was.passive x now.passive
+      → Runs (record { topology = t; processes = ps }) x (record { topology = t; processes = set ps p now })
+  runs now notes wakes = record { topology = refl; happens = happens now notes wakes }
 
--- and none is written where it adds to none
-pub unwritten : (r : RunState) (log : Log) → StandsFor r log → (x : Event) (new : World) → Happens (net r) (world r) x new
-    → ((i : ℕ) → (sends x i ≡ 0) × (gets x i ≡ 0) × (acks x i ≡ 0)) → AreCounts (net r) new r.channels
-unwritten r log is x new step none = record {
-  count_is = is.counts.count_is;
-  in_flight = λ i l. is.counts.in_flight i l
-      ∙ (let a = sent_after (net r) (world r) x new step i in let b = got_after (net r) (world r) x new step i in
-      let zero = none i in omega arith);
-  acknowledged = λ i l. is.counts.acknowledged i l
-      ∙ (let a = acked_after (net r) (world r) x new step i in let zero = none i in omega arith);
-}
-
--- the state after a part acted
-abbrev pub after : RunState → ℕ → Process → List Channel → RunState
-after r p now channels = record { topology = r.topology; processes = set r.processes p now; channels = channels }
-
--- a part does what it may: this is one event, and some log leaves what is then
-pub acts : (r : RunState) (log : Log) → StandsFor r log → (x : Event) → May (net r) (world r) x → (p : ℕ)
-    → p ≡ part_of (net r) x → (was now : Process) → was ≡ get_or r.processes p nobody
-    → Notes was.books x now.books → Wakes was.passive x now.passive
-    → Happens (net r) (world r) x (world_of (set r.processes p now))
-acts r log is x may p at was now read notes wakes = record {
-  may = may;
-  notes = subst (λ (q : ℕ). Notes (world r q).books x (world_of (set r.processes p now) q).books) at
-      (subst (λ (s : Part). Notes (world r p).books x s.books) (sym here)
-      (subst (λ (s : Process). Notes s.books x now.books) read notes));
-  wakes = subst (λ (q : ℕ). Wakes (world r q).passive x (world_of (set r.processes p now) q).passive) at
-      (subst (λ (s : Part). Wakes (world r p).passive x s.passive) (sym here)
-      (subst (λ (s : Process). Wakes s.passive x now.passive) read wakes));
-  others = λ q other. ap shown (get_or-set_other r.processes p q now nobody (λ z. other (z ∙ at)));
-}
-  where
-    here : world_of (set r.processes p now) p ≡ shown now
-    here = ap shown (get_or-set_same r.processes p now nobody
-        (let part = who_inside (net r) is.topology.network (world r) x may in let all = is.count_is in omega arith))
-
-pub goes_on : (r : RunState) (log : Log) → StandsFor r log → (x : Event) (p : ℕ) (now : Process) (channels : List Channel)
-    → Happens (net r) (world r) x (world_of (set r.processes p now))
-    → AreCounts (net r) (world_of (set r.processes p now)) channels → StandsFor (after r p now channels) (x ∷ log)
-goes_on r log is x p now channels step counts = record {
-  topology = is.topology;
-  count_is = length-set r.processes p now ∙ is.count_is;
-  legal = record { first = is.legal.first; opens = is.legal.opens; leads = (world r, is.legal.leads, step) };
-  counts = counts;
-}
-
--- a part that may do an event may make the call that notes it
-pub callable : (r : RunState) (log : Log) → StandsFor r log → (x : Event) → May (net r) (world r) x → (p : ℕ)
-    → p ≡ part_of (net r) x → (was : Process) → was ≡ get_or r.processes p nobody
-    → IfSome (call_of x) (MayBeMade was.books)
-callable r log is x may p at was read =
-    subst (λ (s : Process). IfSome (call_of x) (MayBeMade s.books)) (sym read)
-    (subst (λ (q : ℕ). IfSome (call_of x) (MayBeMade (world r q).books)) (sym at)
-    (may_call (net r) is.topology.network (world r)
-    (legal_kept (net r) is.topology.network log (world r) is.legal) x may))
-
--- what a run reads of the tail of an edge, and of its head
-pub record Reads (r : RunState) (p : ℕ) (was : Process) (part : ℕ) : Type 0 where
-  pub at : p ≡ part
-  pub read : was ≡ get_or r.processes p nobody
-
-pub reads_tail : (r : RunState) (log : Log) → StandsFor r log → (e p : ℕ) (was : Process) → e < (net r).edges
-    → p ≡ get_or r.topology.tails.items e p → was ≡ get_or r.processes p was → Reads r p was ((net r).tail e)
-reads_tail r log is e p was l end here =
-    let at = get_or_read r.topology.tails.items e p l end 0 in record {
-      at = at;
-      read = get_or_read r.processes p was
-          (let part = is.topology.network.tails e l in let all = is.count_is in omega arith) here nobody;
-    }
-
-pub reads_head : (r : RunState) (log : Log) → StandsFor r log → (e p : ℕ) (was : Process) → e < (net r).edges
-    → p ≡ get_or r.topology.heads.items e p → was ≡ get_or r.processes p was → Reads r p was ((net r).head e)
-reads_head r log is e p was l end here =
-    let at = get_or_read r.topology.heads.items e p (let both = is.topology.both_ends in omega arith) end 0 in record {
-      at = at;
-      read = get_or_read r.processes p was
-          (let part = is.topology.network.heads e l in let all = is.count_is in omega arith) here nobody;
-    }
-
-pub reads_channel : (r : RunState) (log : Log) → StandsFor r log → (e : ℕ) (was : Channel) → e < (net r).edges
-    → was ≡ get_or r.channels e was → was ≡ get_or r.channels e unused
-reads_channel r log is e was l here = get_or_read r.channels e was (let all = is.counts.count_is in omega arith) here unused
-
--- all that may be acknowledged on an edge are few
-pub few_acknowledged : (r : RunState) (log : Log) → StandsFor r log → (e n : ℕ) → May (net r) (world r) (Ack e n)
-    → acked_on (net r) (world r) e + n ≤ message_limit
-few_acknowledged r log is e n may =
-    let kept = legal_kept (net r) is.topology.network log (world r) is.legal in
-    let b : Books = (world r ((net r).head e)).books in
-    let sound = kept.sound ((net r).head e) (is.topology.network.heads e may.0) in
-    let most = sound.ins.within e in
-    let answered = sound.ins.answered e in
-    let owes = within_owed e b.parent (owed b e) (all_owed b) (deficit b) (world r ((net r).head e)).passive in
-    let count = may.1 in omega arith
-
--- a tail may hear of all acknowledgements
-pub may_hear : (r : RunState) (log : Log) → StandsFor r log → (e : ℕ) → e < (net r).edges
-    → May (net r) (world r) (Settle e (acked_on (net r) (world r) e))
-may_hear r log is e l =
-    (l, (legal_kept (net r) is.topology.network log (world r) is.legal).heard e l, omega arith)
+  pub goes_on : (now : Process) → Notes was.books x now.books → Wakes was.passive x now.passive → (ds : List Channel)
+      → ds ≡ channels_after x cs → IsRun t (set ps p now) ds
+  goes_on now notes wakes ds counts = let step = happens now notes wakes in
+      subst (IsRun t (set ps p now)) (sym counts) (record {
+        topology = a.is.topology;
+        all_processes = length-set ps p now ∙ a.is.all_processes;
+        all_channels = as_many a.is x ∙ a.is.all_channels;
+        in_flight = λ e l. (counts_after a.is (world_of (set ps p now)) x step e l).0;
+        acknowledged = λ e l. (counts_after a.is (world_of (set ps p now)) x step e l).1;
+        log = x ∷ a.is.log;
+        legal = record {
+          first = a.is.legal.first;
+          opens = a.is.legal.opens;
+          leads = (world_of ps, a.is.legal.leads, step);
+        };
+      })

@@ -34,51 +34,53 @@ nobody = record { books = record { ins = []; outs = []; parent = None }; passive
 abbrev pub world_of : List Process → World
 world_of processes p = shown (slice_index_or processes p nobody)
 
+-- what a `Run` shows
+pub record State : Type 0 where
+  pub topology : Topology
+  pub processes : List Process
+
+abbrev pub net : State → Network
+net s = network_of s.topology
+
+abbrev pub world : State → World
+world s = world_of s.processes
+
 -- an edge on which nothing was sent
 abbrev pub unused : Channel
 unused = record { in_flight = 0; acknowledged = 0 }
 
--- what a `Run` shows
-pub record RunState : Type 0 where
-  pub topology : Topology
-  pub processes : List Process
-  pub channels : List Channel
+-- the channels count what is under way, and a legal log leaves the processes
+pub record IsRun (t : Topology) (processes : List Process) (channels : List Channel) : Type 0 where
+  pub topology : IsTopology t
+  pub all_processes : length processes ≡ t.parts
+  pub all_channels : length channels ≡ length t.tails.items
+  pub in_flight : (e : ℕ) → e < length t.tails.items
+      → (slice_index_or channels e unused).in_flight ≡ in_flight (network_of t) (world_of processes) e
+  pub acknowledged : (e : ℕ) → e < length t.tails.items
+      → (slice_index_or channels e unused).acknowledged ≡ acked_on (network_of t) (world_of processes) e
+  pub log : Log
+  pub legal : IsLegalLog (network_of t) log (world_of processes)
 
-abbrev pub net : RunState → Network
-net r = network_of r.topology
+-- some legal log leaves it
+abbrev pub IsRunning : State → Type 0
+IsRunning s = IsNetwork (net s) × ((log : Log) × IsLegalLog (net s) log (world s))
 
-abbrev pub world : RunState → World
-world r = world_of r.processes
+-- a process before all events: only the root is at work
+pub record Opens (t : Topology) (p : ℕ) (s : Process) : Type 0 where
+  pub part : OpensPart (network_of t) p (shown s)
+  pub at_work : p ≡ t.root → s.passive ≡ false
 
--- the channels count what is under way in this world
-pub record AreCounts (net : Network) (w : World) (channels : List Channel) : Type 0 where
-  pub count_is : length channels ≡ net.edges
-  pub in_flight : (e : ℕ) → e < net.edges → (slice_index_or channels e unused).in_flight ≡ in_flight net w e
-  pub acknowledged : (e : ℕ) → e < net.edges → (slice_index_or channels e unused).acknowledged ≡ acked_on net w e
-
--- this log leaves it
-pub record StandsFor (r : RunState) (log : Log) : Type 0 where
-  pub topology : IsTopology r.topology
-  pub count_is : length r.processes ≡ (net r).parts
-  pub legal : IsLegalLog (net r) log (world r)
-  pub counts : AreCounts (net r) (world r) r.channels
-
--- some log leaves it
-abbrev pub IsRunning : RunState → Type 0
-IsRunning r = (log : Log) × StandsFor r log
-
--- the first parts before all events
+-- so are the first of them
 pub record AreOpening (t : Topology) (count : ℕ) (processes : List Process) : Type 0 where
   pub count_is : length processes ≡ count
-  pub each : (p : ℕ) → p < count → OpensPart (network_of t) p (world_of processes p)
-  pub at_work : t.root < count → (world_of processes t.root).passive ≡ false
+  pub each : (p : ℕ) → p < count → Opens t p (slice_index_or processes p nobody)
 
 -- no event was done
-pub record IsOpening (t : Topology) (r : RunState) : Type 0 where
-  pub topology : r.topology ≡ t
-  pub opens : AreOpening t t.parts r.processes
+pub record IsOpening (t : Topology) (s : State) : Type 0 where
+  pub topology : s.topology ≡ t
+  pub opens : AreOpening t t.parts s.processes
 
 -- one event was done
-pub record Runs (old : RunState) (x : Event) (new : RunState) : Type 0 where
+pub record Runs (old : State) (x : Event) (new : State) : Type 0 where
   pub topology : new.topology ≡ old.topology
   pub happens : Happens (net old) (world old) x (world new)

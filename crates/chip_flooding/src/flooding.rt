@@ -1,7 +1,7 @@
-ghost use Rattle.std.specs.Prelude.{◌≡◌, ◌<◌, true, false, IfOk, IsTrue};
-ghost use Rattle.chip_diffusing.specs.Computation.{IsClosed, in_flight};
+ghost use Rattle.std.specs.Prelude.{◌≡◌, ◌<◌, ◌≤◌, ℕ, false, Some, None, IfOk};
+ghost use Rattle.chip_diffusing.specs.Computation.{in_flight};
 ghost use Rattle.chip_flooding.specs.Running.{IsTopology, network_of, net, world};
-ghost use Rattle.chip_flooding.specs.Flooding.{MarksReached, IsFlooded, IsSpread, IsIdle, unfinished};
+ghost use Rattle.chip_flooding.specs.Flooding.{MarksReached, IsFlooding, IsFlooded, IsIdle, unfinished};
 
 use crate::run::Run;
 use crate::topology::Topology;
@@ -15,87 +15,95 @@ pub fn flood(alloc: Global, topology: Topology) -> Result<Vec<bool>, AllocError>
     requires { IsTopology topology }
     ensures { IfOk result (λ marked. MarksReached (network_of topology) marked.items) }
 {
-    let mut marked = vec![in alloc; false; topology.parts]?;
-    let root = topology.root;
-    let mut run = Run::new(alloc, topology)?;
-    marked[root] = true;
-    spread(&mut run, &marked, root);
-    run.rest(root);
-    while !run.is_over() {
-        sweep(&mut run, &mut marked);
+    let mut marking = Marking::new(alloc, topology)?;
+    while !marking.run.is_over() {
+        let edge = marking.due_edge().unwrap();
+        marking.turn(edge);
     }
-    Ok(marked)
+    Ok(marking.marked)
 }
 
-/// Sends a message on each edge out of the part.
-fn spread(run: &mut Run, marked: &[bool], part: usize)
-    requires spread { IsSpread (net run.old) (world run.old) marked.now part 0 }
-    requires active { (world run.old part).passive ≡ false }
-    ensures topology { run.new.topology ≡ run.old.topology }
-    ensures spread { IsSpread (net run.old) (world run.new) marked.now part (net run.old).edges }
-    ensures unfinished { unfinished (net run.old) (world run.new) ≡ unfinished (net run.old) (world run.old) }
-{
-    for edge in 0..run.edges() {
-        if run.tail(edge) == part {
-            run.send(edge);
+/// A computation that runs, and which parts are marked.
+#[derive(Drop)]
+struct Marking {
+    run: Run,
+    marked: Vec<bool>,
+}
+
+impl Marking {
+    /// The root is marked and has sent, and nothing else was done.
+    fn new(alloc: Global, topology: Topology) -> Result<Marking, AllocError>
+        requires { IsTopology topology }
+        ensures topology { IfOk result (λ marking. marking.run.topology ≡ topology) }
+        ensures flooded { IfOk result (λ marking. IsFlooded marking.run marking.marked.items) }
+    {
+        let root = topology.root;
+        let mut marked = vec![in alloc; false; topology.parts]?;
+        marked[root] = true;
+        let run = Run::new(alloc, topology)?;
+        let mut marking = Marking { run, marked };
+        marking.spread(root);
+        marking.run.rest(root);
+        Ok(marking)
+    }
+
+    /// Sends a message on each edge out of the part.
+    fn spread(&mut self, part: usize)
+        requires part { part < (net self.old.run).parts }
+        requires active { (world self.old.run part).passive ≡ false }
+        requires flooding { IsFlooding (net self.old.run) (world self.old.run) self.old.marked.items part 0 }
+        ensures topology { self.new.run.topology ≡ self.old.run.topology }
+        ensures flooding { let run = self.new.run in IsFlooding (net run) (world run) self.new.marked.items part (net run).edges }
+        ensures unfinished { unfinished self.new.run ≤ unfinished self.old.run }
+    {
+        for edge in 0..self.run.edges() {
+            if self.run.tail(edge) == part {
+                self.run.send(edge);
+            }
         }
     }
-}
 
-/// The head of the edge gets a message, and if it is the first one it spreads it.
-fn receive(run: &mut Run, marked: &mut [bool], edge: usize)
-    requires flooded { IsFlooded (net run.old) (world run.old) marked.old }
-    requires edge { edge < (net run.old).edges }
-    requires some { 0 < in_flight (net run.old) (world run.old) edge }
-    ensures topology { run.new.topology ≡ run.old.topology }
-    ensures flooded { IsFlooded (net run.old) (world run.new) marked.new }
-    ensures less { unfinished (net run.old) (world run.new) < unfinished (net run.old) (world run.old) }
-{
-    let head = run.head(edge);
-    let is_first = !marked[head];
-    marked[head] = true;
-    run.get(edge);
-    if is_first {
-        spread(run, marked, head);
+    /// The head of the edge gets a message, and if it is the first one it spreads it.
+    fn receive(&mut self, edge: usize)
+        requires edge { edge < (net self.old.run).edges }
+        requires some { 0 < in_flight (net self.old.run) (world self.old.run) edge }
+        requires flooded { IsFlooded self.old.run self.old.marked.items }
+        ensures topology { self.new.run.topology ≡ self.old.run.topology }
+        ensures flooded { IsFlooded self.new.run self.new.marked.items }
+        ensures less { unfinished self.new.run < unfinished self.old.run }
+    {
+        let head = self.run.head(edge);
+        let is_first = !self.marked[head];
+        self.marked[head] = true;
+        self.run.get(edge);
+        if is_first {
+            self.spread(head);
+        }
+        self.run.rest(head);
     }
-    run.rest(head);
-}
 
-/// Does what there is to do on the edge, and says whether there was anything.
-fn turn(run: &mut Run, marked: &mut [bool], edge: usize) -> bool
-    requires flooded { IsFlooded (net run.old) (world run.old) marked.old }
-    requires edge { edge < (net run.old).edges }
-    ensures topology { run.new.topology ≡ run.old.topology }
-    ensures flooded { IsFlooded (net run.old) (world run.new) marked.new }
-    ensures less { IsTrue result → unfinished (net run.old) (world run.new) < unfinished (net run.old) (world run.old) }
-    ensures same { result ≡ false → run.new ≡ run.old }
-    ensures idle { result ≡ false → IsIdle (net run.old) (world run.old) edge }
-{
-    if run.in_flight(edge) > 0 {
-        receive(run, marked, edge);
-        return true;
-    }
-    if run.acknowledgeable(edge) == 0 {
-        return false;
-    }
-    run.acknowledge(edge);
-    run.settle(edge);
-    true
-}
-
-/// A turn of each edge.
-fn sweep(run: &mut Run, marked: &mut [bool])
-    requires flooded { IsFlooded (net run.old) (world run.old) marked.old }
-    requires not_closed { IsClosed (net run.old) (world run.old) → ⊥ }
-    ensures topology { run.new.topology ≡ run.old.topology }
-    ensures flooded { IsFlooded (net run.old) (world run.new) marked.new }
-    ensures less { unfinished (net run.old) (world run.new) < unfinished (net run.old) (world run.old) }
-{
-    let mut is_idle = true;
-    for edge in 0..run.edges() {
-        if turn(run, marked, edge) {
-            is_idle = false;
+    /// Gets or acknowledges what there is on the edge.
+    fn turn(&mut self, edge: usize)
+        requires edge { edge < (net self.old.run).edges }
+        requires due { IsIdle self.old.run edge → ⊥ }
+        requires flooded { IsFlooded self.old.run self.old.marked.items }
+        ensures topology { self.new.run.topology ≡ self.old.run.topology }
+        ensures flooded { IsFlooded self.new.run self.new.marked.items }
+        ensures less { unfinished self.new.run < unfinished self.old.run }
+    {
+        if self.run.in_flight(edge) > 0 {
+            self.receive(edge);
+        } else {
+            self.run.acknowledge(edge);
+            self.run.settle(edge);
         }
     }
-    prove!(!is_idle);
+
+    /// An edge on which there is something to get or to acknowledge.
+    fn due_edge(&self) -> Option<usize>
+        ensures due { (e : ℕ) → result ≡ Some e → (e < (net self.now.run).edges) × (IsIdle self.now.run e → ⊥) }
+        ensures none { result ≡ None → (e : ℕ) → e < (net self.now.run).edges → IsIdle self.now.run e }
+    {
+        (0..self.run.edges()).find(|edge| self.run.in_flight(*edge) > 0 || self.run.acknowledgeable(*edge) > 0)
+    }
 }

@@ -1,7 +1,6 @@
-ghost use Rattle.std.specs.Prelude.{◌≡◌, ◌<◌, ◌≤◌, false, length, slice_index, IfOk};
+ghost use Rattle.std.specs.Prelude.{◌≡◌, ◌<◌, ◌≤◌, length, slice_index, IfOk};
 ghost use Rattle.chip_diffusing.specs.Network.{AreAll};
-ghost use Rattle.chip_diffusing.specs.Computation.{OpensPart};
-ghost use Rattle.chip_flooding.specs.Running.{IsTopology, AreOpening, network_of, shown};
+ghost use Rattle.chip_flooding.specs.Running.{IsTopology, Opens, AreOpening};
 
 use crate::topology::Topology;
 use chip_detect::Detect;
@@ -29,8 +28,7 @@ pub fn opening_processes(alloc: Global, topology: &Topology) -> Result<Vec<Proce
 /// A part before anything is sent. Only the root is at work.
 fn opening_process(alloc: Global, topology: &Topology, part: usize) -> Result<Process, AllocError>
     requires { IsTopology topology.now }
-    ensures opens { IfOk result (λ process. OpensPart (network_of topology.now) part (shown process)) }
-    ensures root { IfOk result (λ process. part ≡ topology.now.root → process.passive ≡ false) }
+    ensures { IfOk result (Opens topology.now part) }
 {
     let ins = edges_at(alloc, &topology.heads, part)?;
     let outs = edges_at(alloc, &topology.tails, part)?;

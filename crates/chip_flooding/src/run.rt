@@ -19,27 +19,19 @@ pub struct Run {
 }
 
 impl Model for Run {
-    ghost use Rattle.chip_flooding.specs.Running.{RunState, IsRunning};
+    ghost use Rattle.chip_flooding.specs.Running.{State, IsRun};
 
-    ghost Value = { RunState };
+    ghost Value = { State };
 
-    ghost view = { λ a. record {
-      topology = a.topology;
-      processes = a.processes.items;
-      channels = a.channels.items;
-    } };
+    ghost view = { λ a. record { topology = a.topology; processes = a.processes.items } };
 
-    ghost invariant = { λ a. IsRunning (record {
-      topology = a.topology;
-      processes = a.processes.items;
-      channels = a.channels.items;
-    }) };
+    ghost invariant = { λ a. IsRun a.topology a.processes.items a.channels.items };
 }
 
 impl Run {
     ghost use Rattle.chip_detect.specs.Acknowledging.{may_ack};
     ghost use Rattle.chip_diffusing.specs.Computation.{Send, Get, Ack, Settle, Work, May, acked_on, in_flight, IsClosed, IsSilent};
-    ghost use Rattle.chip_flooding.specs.Running.{IsTopology, IsRunning, IsOpening, net, world, Runs};
+    ghost use Rattle.chip_flooding.specs.Running.{IsTopology, IsRunning, IsOpening, Runs, net, world};
 
     /// A computation before anything is sent. Only the root is at work.
     pub fn new(alloc: Global, topology: Topology) -> Result<Run, AllocError>
@@ -61,8 +53,7 @@ impl Run {
 
     /// How many edges there are.
     pub fn edges(&self) -> usize
-        ensures edges { result ≡ (net self.now).edges }
-        ensures running { IsRunning self.now }
+        ensures { result ≡ (net self.now).edges }
     {
         self.topology.tails.len()
     }
@@ -78,7 +69,8 @@ impl Run {
     /// The part that gets what is sent on the edge.
     pub fn head(&self, edge: usize) -> usize
         requires { edge < (net self.now).edges }
-        ensures { result ≡ (net self.now).head edge }
+        ensures head { result ≡ (net self.now).head edge }
+        ensures part { result < (net self.now).parts }
     {
         self.topology.heads[edge]
     }
@@ -98,8 +90,9 @@ impl Run {
         ensures active { (world self.new ((net self.old).tail edge)).passive ≡ false }
     {
         let tail = self.topology.tails[edge];
-        self.processes[tail].books.sent(edge as u64);
         self.channels[edge].in_flight += 1;
+        let process = &mut self.processes[tail];
+        process.books.sent(edge as u64);
     }
 
     /// Takes a message from the edge: its head is at work from here on.
@@ -109,18 +102,16 @@ impl Run {
         ensures active { (world self.new ((net self.old).head edge)).passive ≡ false }
     {
         let head = self.topology.heads[edge];
+        self.channels[edge].in_flight -= 1;
         let process = &mut self.processes[head];
         process.books.got(edge as u64);
         process.passive = false;
-        self.channels[edge].in_flight -= 1;
     }
 
     /// How many messages of the edge may be acknowledged now.
     pub fn acknowledgeable(&self, edge: usize) -> u64
         requires { edge < (net self.now).edges }
-        ensures count { let head = world self.now ((net self.now).head edge) in
-            result ≡ may_ack head.books edge head.passive }
-        ensures running { IsRunning self.now }
+        ensures { let head = world self.now ((net self.now).head edge) in result ≡ may_ack head.books edge head.passive }
     {
         let head = &self.processes[self.topology.heads[edge]];
         head.books.may_ack(edge as u64, head.passive)
@@ -146,7 +137,8 @@ impl Run {
     {
         let tail = self.topology.tails[edge];
         let word = self.channels[edge].acknowledged;
-        let _ = self.processes[tail].books.settled(edge as u64, word);
+        let process = &mut self.processes[tail];
+        let _ = process.books.settled(edge as u64, word);
     }
 
     /// The part has nothing more to do until a message comes.
@@ -162,6 +154,7 @@ impl Run {
     pub fn is_over(&self) -> bool
         ensures closed { IsTrue result ↔ IsClosed (net self.now) (world self.now) }
         ensures silent { IsTrue result → IsSilent (net self.now) (world self.now) }
+        ensures running { IsRunning self.now }
     {
         let root = &self.processes[self.topology.root];
         is_over(&root.books, root.passive)

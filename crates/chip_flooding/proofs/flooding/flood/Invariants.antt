@@ -1,13 +1,13 @@
 use Rattle.std.proofs.Common.{◌≡◌}
-use Rattle.chip_flooding.specs.Running.{network_of, world}
+use Rattle.chip_flooding.specs.Running.{net, world}
 use Rattle.chip_flooding.specs.Flooding.{IsFlooded, unfinished}
 use Rattle.chip_flooding.proofs.flooding.flood.Given as goal
 
-abbrev pub invariant-loop-run : goal.invariant-loop-run
-invariant-loop-run l = record {
-  topology : l.run.topology ≡ l.fn.topology;
-  flooded : IsFlooded (network_of l.fn.topology) (world l.run) l.marked.items;
+abbrev pub invariant-loop-marking : goal.invariant-loop-marking
+invariant-loop-marking l = record {
+  topology : l.marking.run.topology ≡ l.fn.topology;
+  flooded : IsFlooded l.marking.run l.marking.marked.items;
 }
 
-abbrev pub decreases-loop-run : goal.decreases-loop-run
-decreases-loop-run l = unfinished (network_of l.fn.topology) (world l.run)
+abbrev pub decreases-loop-marking : goal.decreases-loop-marking
+decreases-loop-marking l = unfinished l.marking.run

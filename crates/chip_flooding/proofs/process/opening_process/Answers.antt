@@ -5,10 +5,9 @@ use Rattle.chip_diffusing.specs.Network.{AreAll}
 use Rattle.chip_flooding.proofs.OpeningLemmas.{IsEnd}
 use Rattle.chip_flooding.proofs.process.opening_process.Goals as goal
 
-pub returns-clause-opens : goal.returns-clause-opens
-returns-clause-opens c =
-    let t = c.args.topology.now in
-    record {
+pub returns : goal.returns
+returns c = let t = c.args.topology.now in record {
+  part = record {
       ins = c.in_ok-ins.ins.items;
       outs = c.in_ok-outs.outs.items;
       all_ins = subst (λ (n : ℕ). AreAll c.in_ok-ins.ins.items (IsEnd t.heads.items c.args.part n)) c.requires.both_ends
@@ -18,4 +17,6 @@ returns-clause-opens c =
           (subst (λ (es : List ℕ). IsFresh c.in_ok-new.field-0 es c.deref-4.result.now) c.deref-3.ensures.value c.in_ok-new.ensures.fresh);
       sound = c.in_ok-new.ensures.sound;
       passive = λ other. grind (arith, nat_tests);
-    }
+  };
+  at_work = λ same. grind (arith, nat_tests);
+}

@@ -1,97 +1,58 @@
-use Rattle.std.proofs.Common.{◌≡◌, ℕ, get_or, ◌+◌, ◌<◌, set, ◌∷◌, refl, sym, subst, arith, ap, ◌∙◌}
-use Rattle.std.proofs.lemmas.Bool.Decides.{nat_tests}
+use Rattle.std.proofs.Common.{◌≡◌, ◌<◌, get_or, set, ap, ◌∙◌, subst, arith, ℕ}
 use Rattle.chip_detect.specs.Acknowledging.{may_ack}
-use Rattle.chip_diffusing.specs.Computation.{Event, Ack, May, Happens}
-use Rattle.chip_flooding.specs.Running.{unused, Process, Channel, RunState, net, world, world_of, Runs}
-use Rattle.chip_flooding.specs.contracts.run.Run.{the_view}
-use Rattle.chip_flooding.proofs.RunLemmas.{Reads, reads_head, reads_channel, acts, goes_on, after, written, callable}
-use Rattle.chip_flooding.proofs.RunLemmas.{few_acknowledged}
+use Rattle.chip_diffusing.specs.Computation.{Ack, Notes, Part}
+use Rattle.chip_flooding.specs.Running.{Process, Channel, network_of, world_of}
+use Rattle.chip_flooding.proofs.RunLemmas.{Acting, callable, runs, goes_on, own, flows, head_at, channel_at, acks, allowed}
 use Rattle.chip_flooding.proofs.run.Run.acknowledge.Goals as goal
-use Rattle.chip_flooding.proofs.run.Run.acknowledge.Goals.{After-index_mut}
+use Rattle.chip_flooding.proofs.run.Run.acknowledge.Goals.{After-index_mut-process, After-acknowledge-count}
 
-pub acknowledge-count-requires : goal.acknowledge-count-requires
-acknowledge-count-requires c =
-    let r : RunState = the_view c.self.inside in
-    let log = c.self.invariant.0 in
-    let is = c.self.invariant.1 in
-    let edge : c.args.edge < (net r).edges =
-    subst (λ (s : RunState). c.args.edge < (net s).edges) (sym c.self.view_is) c.requires in
-    let reads = reads_head r log is c.args.edge _ _ edge c.index-head.ensures c.index_mut-process.ensures.value in
-    (callable r log is (Ack c.args.edge 0) (edge, omega arith) c.index-head.result.now reads.at
-    c.index_mut-process.result.now reads.read).0
-
-edge : (c : After-index_mut) → c.args.edge < (net (the_view c.self.inside)).edges
-edge c = subst (λ (s : RunState). c.args.edge < (net s).edges) (sym c.self.view_is) c.requires
-
-reads : (c : After-index_mut) → let r = the_view c.self.inside in
-    Reads r c.index-head.result.now c.index_mut-process.result.now ((net r).head c.args.edge)
-reads c = reads_head (the_view c.self.inside) c.self.invariant.0 c.self.invariant.1 c.args.edge _ _ (edge c)
-    c.index-head.ensures c.index_mut-process.ensures.value
-
--- how many may be acknowledged
-abbrev allowed : RunState → ℕ → ℕ
-allowed r e = let head = world r ((net r).head e) in may_ack head.books e head.passive
-
-count : (c : After-index_mut) → c.acknowledge-count.result ≡ allowed (the_view c.self.inside) c.args.edge
-count c =
-    c.acknowledge-count.ensures.allowed
-    ∙ ap (λ (s : Process). may_ack s.books c.args.edge s.passive) (reads c).read
-    ∙ ap (λ (p : ℕ). let head = world (the_view c.self.inside) p in may_ack head.books c.args.edge head.passive) (reads c).at
-
-abbrev event : After-index_mut → Event
-event c = Ack c.args.edge c.acknowledge-count.result
-
-may : (c : After-index_mut) → let r = the_view c.self.inside in May (net r) (world r) (event c)
-may c = (edge c, (let same = count c in omega arith))
-
--- the head after the call, and the channel
-abbrev now : After-index_mut → Process
-now c = record { books = c.acknowledge-count.new.books; passive = c.index_mut-process.result.now.passive }
-
-abbrev channel : After-index_mut → Channel
-channel c = record {
-  in_flight = c.index_mut.result.now.in_flight;
-  acknowledged = c.index_mut.result.now.acknowledged + c.acknowledge-count.result;
+acting : (c : After-index_mut-process) → let r = c.self.inside in
+    Acting r.topology r.processes.items r.channels.items (Ack c.args.edge (allowed r.topology r.processes.items c.args.edge)) c.index-head.result.now c.index_mut-process.result.now
+acting c = let edge = rw (← c.self.view_is) at c.requires in record {
+  is = c.self.invariant;
+  may = (edge, omega arith);
+  at = head_at c.self.invariant c.args.edge _ edge c.index-head.ensures;
+  read = c.index_mut-process.ensures.value;
 }
 
-step : (c : After-index_mut) → let r = the_view c.self.inside in
-    Happens (net r) (world r) (event c) (world_of (set r.processes c.index-head.result.now (now c)))
-step c = acts (the_view c.self.inside) c.self.invariant.0 c.self.invariant.1 (event c) (may c) c.index-head.result.now
-    (reads c).at c.index_mut-process.result.now (now c) (reads c).read c.acknowledge-count.ensures.notes (λ z. z)
+pub acknowledge-count-requires : goal.acknowledge-count-requires
+acknowledge-count-requires c = (callable (acting (goal.at.acknowledge-count-requires c).After-index_mut-process)).0
 
-counted : (c : After-index_mut) → c.index_mut.result.now ≡ get_or c.self.inside.channels.items c.args.edge unused
-counted c = reads_channel (the_view c.self.inside) c.self.invariant.0 c.self.invariant.1 c.args.edge _ (edge c)
-    c.index_mut.ensures.value
+-- it acknowledges what may be acknowledged
+count : (c : After-acknowledge-count) → let r = c.self.inside in
+    Acting r.topology r.processes.items r.channels.items (Ack c.args.edge (allowed r.topology r.processes.items c.args.edge))
+    c.index-head.result.now c.index_mut-process.result.now
+    → c.acknowledge-count.result ≡ allowed r.topology r.processes.items c.args.edge
+count c a = c.acknowledge-count.ensures.allowed ∙ ap (λ (s : Part). may_ack s.books c.args.edge s.passive) (own a)
+
+notes : (c : After-acknowledge-count) → let r = c.self.inside in
+    Acting r.topology r.processes.items r.channels.items (Ack c.args.edge (allowed r.topology r.processes.items c.args.edge))
+    c.index-head.result.now c.index_mut-process.result.now
+    → Notes c.index_mut-process.result.now.books (Ack c.args.edge (allowed r.topology r.processes.items c.args.edge))
+    c.acknowledge-count.new.books
+notes c a = subst (λ (n : ℕ). Notes c.index_mut-process.result.now.books (Ack c.args.edge n) c.acknowledge-count.new.books)
+    (count c a) c.acknowledge-count.ensures.notes
 
 pub overflow_add-index_mut : goal.overflow_add-index_mut
 overflow_add-index_mut c =
-    let d = (goal.at.overflow_add-index_mut c).After-index_mut in
-    let few = few_acknowledged (the_view c.self.inside) c.self.invariant.0 c.self.invariant.1 c.args.edge
-    c.acknowledge-count.result (may d) in
-    let is = ap (λ (s : Channel). s.acknowledged) (counted d)
-    ∙ c.self.invariant.1.counts.acknowledged c.args.edge (may d).0 in omega arith
+    let g = goal.at.overflow_add-index_mut c in
+    let a = acting g.After-index_mut-process in
+    let f = flows a.is c.args.edge _ a.may.0 c.index_mut.ensures.value in
+    let n = count g.After-acknowledge-count a in omega arith
 
 pub invariant_of-self : goal.invariant_of-self
 invariant_of-self c =
-    let d = (goal.at.invariant_of-self c).After-index_mut in
-    let r : RunState = the_view c.self.inside in
-    let log = c.self.invariant.0 in
-    let is = c.self.invariant.1 in (
-      event d ∷ log,
-      goes_on r log is (event d) c.index-head.result.now (now d)
-          (set r.channels c.args.edge (channel d)) (step d)
-          (written r log is (event d) _ (step d) c.args.edge c.index_mut.result.now (channel d)
-          (counted d) (may d).0 (λ i n. grind (arith, nat_tests)) (grind arith) (grind (arith, nat_tests))),
-    )
+    let g = goal.at.invariant_of-self c in
+    let a = acting g.After-index_mut-process in
+    let n = count g.After-acknowledge-count a in
+    let read = channel_at a.is c.args.edge _ a.may.0 c.index_mut.ensures.value in
+    goes_on a _ (notes g.After-acknowledge-count a) (λ z. z) _
+    (ap (λ (n : ℕ). set c.self.inside.channels.items c.args.edge (acks n c.index_mut.result.now)) n
+    ∙ ap (λ (d : Channel). set c.self.inside.channels.items c.args.edge (acks (allowed c.self.inside.topology
+    c.self.inside.processes.items c.args.edge) d)) read)
 
 pub returns : goal.returns
 returns c =
-    let d = (goal.at.returns c).After-index_mut in
-    let r : RunState = the_view c.self.inside in
-    subst (λ (s : RunState). Runs s (Ack c.args.edge (allowed s c.args.edge)) (after r c.index-head.result.now (now d)
-    (set r.channels c.args.edge (channel d)))) c.self.view_is
-    (record {
-      topology = refl;
-      happens = subst (λ (n : ℕ). Happens (net r) (world r) (Ack c.args.edge n)
-          (world_of (set r.processes c.index-head.result.now (now d)))) (count d) (step d);
-    })
+    let g = goal.at.returns c in
+    let a = acting g.After-index_mut-process in
+    rw (← c.self.view_is) (runs a _ (notes g.After-acknowledge-count a) (λ z. z))

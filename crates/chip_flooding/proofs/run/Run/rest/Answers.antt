@@ -1,21 +1,12 @@
-use Rattle.std.proofs.Common.{◌<◌, true, ◌∷◌, refl, sym, subst, arith}
-use Rattle.std.proofs.lemmas.List.{get_or_read}
+use Rattle.std.proofs.Common.{◌<◌, true, refl}
 use Rattle.chip_diffusing.specs.Computation.{Work}
-use Rattle.chip_flooding.specs.Running.{Process, RunState, nobody, net}
-use Rattle.chip_flooding.proofs.RunLemmas.{acts, goes_on, unwritten}
+use Rattle.chip_flooding.proofs.RunLemmas.{Acting, goes_on}
 use Rattle.chip_flooding.proofs.run.Run.rest.Goals as goal
 
 pub invariant_of-self : goal.invariant_of-self
 invariant_of-self c =
-    let r : RunState = record { topology = c.self.inside.topology; processes = c.self.inside.processes.items; channels = c.self.inside.channels.items } in
-    let log = c.self.invariant.0 in
-    let is = c.self.invariant.1 in
-    let part : c.args.part < (net r).parts = subst (λ (s : RunState). c.args.part < (net s).parts) (sym c.self.view_is) c.requires in
-    let now : Process = record { books = c.index_mut.result.now.books; passive = true } in
-    let step = acts r log is (Work c.args.part) part c.args.part refl c.index_mut.result.now now
-    (get_or_read r.processes c.args.part _ (let all = is.count_is in omega arith) c.index_mut.ensures.value nobody)
-    refl (λ _. refl) in (
-      Work c.args.part ∷ log,
-      goes_on r log is (Work c.args.part) c.args.part now r.channels step
-          (unwritten r log is (Work c.args.part) _ step (λ i. (refl, refl, refl))),
-    )
+    let part = rw (← c.self.view_is) at c.requires in
+    let r = c.self.inside in
+    let a : Acting r.topology r.processes.items r.channels.items (Work c.args.part) c.args.part c.index_mut.result.now =
+    record { is = c.self.invariant; may = part; at = refl; read = c.index_mut.ensures.value } in
+    goes_on a _ refl (λ _. refl) _ refl

@@ -1,0 +1,67 @@
+-- Serves Computation.antt, Ending.antt.
+-- What an event makes of the counts of an edge, and sums over all edges.
+use Rattle.std.proofs.Common.{◌≡◌, ◌≢◌, ◌⊎◌, ℕ, zero, suc, ◌+◌, ◌-◌, ◌<◌, ◌≤◌, Bool, cond, eqb, inl, inr, subst, sym, arith}
+use Rattle.std.proofs.Common.{rules}
+use Rattle.std.proofs.lemmas.Bool.Decides.{nat_tests}
+use mathlib.Core.Logic.{dite}
+use native.Mathlib.Decide.{ℕ_discrete}
+use Rattle.chip_diffusing.specs.Network.{Network}
+use Rattle.chip_diffusing.specs.Computation.{World, Event, Send, Get, Ack, Settle, Work, Happens, part_of}
+use Rattle.chip_diffusing.specs.Computation.{sent_on, got_on, acked_on, settled_on}
+use Rattle.chip_diffusing.specs.Ending.{sum_below}
+
+-- messages sent and got on an edge, acknowledgements given and settled
+pub record Counts : Type 0 where
+  pub sent : ℕ
+  pub got : ℕ
+  pub acked : ℕ
+  pub settled : ℕ
+
+abbrev pub counts : Network → World → ℕ → Counts
+counts net w e = record { sent = sent_on net w e; got = got_on net w e; acked = acked_on net w e; settled = settled_on net w e }
+
+pub record AreEqual (a b : Counts) : Type 0 where
+  pub sent : a.sent ≡ b.sent
+  pub got : a.got ≡ b.got
+  pub acked : a.acked ≡ b.acked
+  pub settled : a.settled ≡ b.settled
+
+-- the counts of the edge i after an event
+abbrev pub after : Event → ℕ → Counts → Counts
+after (Send e) i k = record k { sent = cond (eqb e i) (k.sent + 1) k.sent }
+after (Get e) i k = record k { got = cond (eqb e i) (k.got + 1) k.got }
+after (Ack e n) i k = record k { acked = cond (eqb e i) (k.acked + n) k.acked }
+after (Settle e word) i k = record k { settled = cond (eqb e i) (k.settled + (word - k.settled)) k.settled }
+after (Work p) i k = k
+
+module _ (net : Network) (old new : World) where
+  -- a part acts or stays as it was
+  acts_or_stays : (x : Event) → Happens net old x new → (p : ℕ) → (p ≡ part_of net x) ⊎ ((p ≢ part_of net x) × (new p ≡ old p))
+  acts_or_stays x step p = dite (ℕ_discrete p (part_of net x)) (λ z. inl z) (λ n. inr (n, step.others p n))
+
+  pub counted : (x : Event) → Happens net old x new → (i : ℕ) → AreEqual (counts net new i) (after x i (counts net old i))
+  counted (Send e) step i = let t = acts_or_stays (Send e) step (net.tail i) in
+      let h = acts_or_stays (Send e) step (net.head i) in search (rules, arith, nat_tests)
+  counted (Get e) step i = let t = acts_or_stays (Get e) step (net.tail i) in
+      let h = acts_or_stays (Get e) step (net.head i) in search (rules, arith, nat_tests)
+  counted (Ack e n) step i = let t = acts_or_stays (Ack e n) step (net.tail i) in
+      let h = acts_or_stays (Ack e n) step (net.head i) in search (rules, arith, nat_tests)
+  counted (Settle e word) step i = let t = acts_or_stays (Settle e word) step (net.tail i) in
+      let h = acts_or_stays (Settle e word) step (net.head i) in search (rules, arith, nat_tests)
+  counted (Work p) step i = let t = acts_or_stays (Work p) step (net.tail i) in
+      let h = acts_or_stays (Work p) step (net.head i) in search (rules, arith, nat_tests)
+
+-- ---- sums
+
+pub less_at : (n : ℕ) (f g : ℕ → ℕ) → ((i : ℕ) → i < n → g i ≤ f i) → sum_below n g ≤ sum_below n f
+less_at zero f g less = omega arith
+less_at (suc n) f g less = let a = less n (omega arith) in let b = less_at n f g (λ i l. less i (omega arith)) in omega arith
+
+pub less_sum : (n : ℕ) (f g : ℕ → ℕ) → ((i : ℕ) → i < n → g i ≤ f i) → (e : ℕ) → e < n → g e < f e
+    → sum_below n g < sum_below n f
+less_sum zero f g less e l lower = absurd (omega arith)
+less_sum (suc n) f g less e l lower = dite (ℕ_discrete e n)
+    (λ z. let a = less_at n f g (λ i l. less i (omega arith)) in
+    let b : g n < f n = subst (λ (i : ℕ). g i < f i) z lower in omega arith)
+    (λ other. let a = less n (omega arith) in
+    let b = less_sum n f g (λ i l. less i (omega arith)) e (omega arith) lower in omega arith)

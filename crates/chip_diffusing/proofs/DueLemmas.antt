@@ -13,6 +13,7 @@ use Rattle.chip_diffusing.specs.Computation.{World, Event, Send, Get, Ack, Settl
 use Rattle.chip_diffusing.specs.Computation.{IsLegalLog, IsSilent, IsClosed, sent_on, got_on, acked_on, settled_on}
 use Rattle.chip_diffusing.specs.Ending.{HasRounds, IsDue, sum_below, left, LeadsDue}
 use Rattle.chip_diffusing.specs.Laws.{NeverStuck}
+use Rattle.chip_diffusing.proofs.EdgesLemmas.{counted, less_sum}
 use Rattle.chip_diffusing.proofs.KeptLemmas.{IsKept, acked_most, legal_kept}
 use Rattle.chip_diffusing.proofs.OrderLemmas.{detection_order}
 use Rattle.chip_diffusing.proofs.DepthLemmas.{depth_closes, depth_is_counted}
@@ -93,19 +94,6 @@ module _ (net : Network) (is : IsNetwork net) where
 
   -- ---- few are left
 
-  less_at : (n : ℕ) (f g : ℕ → ℕ) → ((i : ℕ) → i < n → g i ≤ f i) → sum_below n g ≤ sum_below n f
-  less_at zero f g less = omega arith
-  less_at (suc n) f g less = let a = less n (omega arith) in let b = less_at n f g (λ i l. less i (omega arith)) in omega arith
-
-  less_sum : (n : ℕ) (f g : ℕ → ℕ) → ((i : ℕ) → i < n → g i ≤ f i) → (e : ℕ) → e < n → g e < f e
-      → sum_below n g < sum_below n f
-  less_sum zero f g less e l lower = absurd (omega arith)
-  less_sum (suc n) f g less e l lower = dite (ℕ_discrete e n)
-      (λ z. let a = less_at n f g (λ i l. less i (omega arith)) in
-      let b : g n < f n = subst (λ (i : ℕ). g i < f i) z lower in omega arith)
-      (λ other. let a = less n (omega arith) in
-      let b = less_sum n f g (λ i l. less i (omega arith)) e (omega arith) lower in omega arith)
-
   module _ (old : World) (kept : IsKept net old) (silent : IsSilent net old) (new : World) where
     abbrev at_edge : World → ℕ → ℕ
     at_edge w e = (sent_on net w e - acked_on net w e) + (sent_on net w e - settled_on net w e)
@@ -117,31 +105,20 @@ module _ (net : Network) (is : IsNetwork net) where
 
     due_falls : (x : Event) → IsDue net old x → Happens net old x new → left net new < left net old
     due_falls (Ack e n) due step =
-        let after = one_later net is old kept silent new (Ack e n) step in
-        let l = step.may.0 in
         let b = (old (net.head e)).books in
-        let more = step.notes.ins.answered e in
-        let now : acked_on net new e ≡ acked_on net old e + n = grind (arith, nat_tests) in
+        let k = counted net old new (Ack e n) step e in
         let most = within_owed e b.parent (owed b e) (all_owed b) (deficit b) (old (net.head e)).passive in
         let allowed = step.may.1 in
-        let s = after.sent (net.tail e) e in
-        let t = after.settled (net.tail e) e in
-        let g = kept.got e l in
+        let g = kept.got e step.may.0 in
         let some : 0 < n = due.1 in
-        falls after e l (omega arith)
+        falls (one_later net is old kept silent new (Ack e n) step) e step.may.0 (grind (arith, nat_tests))
     due_falls (Settle e word) due step =
-        let after = one_later net is old kept silent new (Settle e word) step in
-        let l = step.may.0 in
-        let least = step.may.1 in
-        let more = step.notes.outs.answered e in
-        let now : settled_on net new e ≡ word = grind (arith, nat_tests) in
-        let s = after.sent (net.tail e) e in
-        let t = after.acked (net.head e) e in
-        let g = kept.got e l in
-        let h = acked_most net is old kept e l in
+        let k = counted net old new (Settle e word) step e in
+        let g = kept.got e step.may.0 in
+        let h = acked_most net is old kept e step.may.0 in
         let most = step.may.2 in
         let some : settled_on net old e < word = due.1 in
-        falls after e l (omega arith)
+        falls (one_later net is old kept silent new (Settle e word) step) e step.may.0 (grind (arith, nat_tests))
     due_falls (Send e) due step = absurd due.1
     due_falls (Get e) due step = absurd due.1
     due_falls (Work p) due step = absurd due.1

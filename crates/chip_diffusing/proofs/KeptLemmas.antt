@@ -22,6 +22,7 @@ use Rattle.chip_diffusing.specs.Computation.{Part, World, Event, Send, Get, Ack,
 use Rattle.chip_diffusing.specs.Computation.{part_of, call_of, OpensPart, Leads, IsLegalLog, sent_on, got_on, acked_on}
 use Rattle.chip_diffusing.specs.Computation.{settled_on}
 use Rattle.chip_diffusing.specs.Laws.{CallsMayBeMade}
+use Rattle.chip_diffusing.proofs.EdgesLemmas.{counted}
 
 pub cases_parent : (o : Option ℕ) → (o ≡ None) ⊎ ((q : ℕ) × (o ≡ Some q))
 cases_parent None = inl refl
@@ -188,35 +189,26 @@ module _ (net : Network) where
       -- ---- counts of an edge
 
       -- no settle goes beyond what was acknowledged before
-      settled_mine : (x : Event) → Happens net old x new → (e : ℕ) → settled_of (mine old x) e ≤ acked_on net old e
-          → settled_of (mine new x) e ≤ acked_on net old e
-      settled_mine (Send i) step e was = grind arith
-      settled_mine (Get i) step e was = grind arith
-      settled_mine (Ack i n) step e was = grind arith
-      settled_mine (Settle i word) step e was = let least = step.may.1 in let most = step.may.2 in grind (arith, nat_tests)
-      settled_mine (Work p) step e was = grind arith
-
       heard_after : (x : Event) → Happens net old x new → (e : ℕ) → e < net.edges
           → settled_on net new e ≤ acked_on net new e
-      heard_after x step e l =
-          let a = each (λ s t. settled_of s.books e ≤ acked_on net old e → settled_of t.books e ≤ acked_on net old e) x step
-          (λ s z. z) (settled_mine x step e) (net.tail e) (kept.heard e l) in
-          let b = (grows x step (net.head e)).acked e in omega arith
+      heard_after (Send i) step e l = let k = counted net old new (Send i) step e in let was = kept.heard e l in omega arith
+      heard_after (Get i) step e l = let k = counted net old new (Get i) step e in let was = kept.heard e l in omega arith
+      heard_after (Ack i n) step e l = let k = counted net old new (Ack i n) step e in let was = kept.heard e l in
+          grind (arith, nat_tests)
+      heard_after (Settle i word) step e l = let k = counted net old new (Settle i word) step e in
+          let was = kept.heard e l in let least = step.may.1 in let most = step.may.2 in grind (arith, nat_tests)
+      heard_after (Work p) step e l = let k = counted net old new (Work p) step e in let was = kept.heard e l in omega arith
 
       -- and nothing is got that was not sent before
-      got_mine : (x : Event) → Happens net old x new → (e : ℕ) → got_of (mine old x) e ≤ sent_on net old e
-          → got_of (mine new x) e ≤ sent_on net old e
-      got_mine (Send i) step e was = grind arith
-      got_mine (Get i) step e was = let some = step.may.1 in grind (arith, nat_tests)
-      got_mine (Ack i n) step e was = grind arith
-      got_mine (Settle i word) step e was = grind arith
-      got_mine (Work p) step e was = grind arith
-
       got_after : (x : Event) → Happens net old x new → (e : ℕ) → e < net.edges → got_on net new e ≤ sent_on net new e
-      got_after x step e l =
-          let a = each (λ s t. got_of s.books e ≤ sent_on net old e → got_of t.books e ≤ sent_on net old e) x step
-          (λ s z. z) (got_mine x step e) (net.head e) (kept.got e l) in
-          let b = (grows x step (net.tail e)).sent e in omega arith
+      got_after (Send i) step e l = let k = counted net old new (Send i) step e in let was = kept.got e l in
+          grind (arith, nat_tests)
+      got_after (Get i) step e l = let k = counted net old new (Get i) step e in let was = kept.got e l in
+          let some = step.may.1 in grind (arith, nat_tests)
+      got_after (Ack i n) step e l = let k = counted net old new (Ack i n) step e in let was = kept.got e l in omega arith
+      got_after (Settle i word) step e l = let k = counted net old new (Settle i word) step e in let was = kept.got e l in
+          omega arith
+      got_after (Work p) step e l = let k = counted net old new (Work p) step e in let was = kept.got e l in omega arith
 
       -- ---- neutral parts
 

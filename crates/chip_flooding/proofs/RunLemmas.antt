@@ -84,8 +84,11 @@ module _ {t : Topology} {ps : List Process} {cs : List Channel} (is : IsRun t ps
     written : (e i : ℕ) (c : Channel) → e < n.edges → ((i ≡ e) × (get_or (set cs e c) i unused ≡ c))
         ⊎ ((i ≢ e) × (get_or (set cs e c) i unused ≡ get_or cs i unused))
     written e i c l = dite (ℕ_discrete i e)
-        (λ z. inl (z, ap (λ (j : ℕ). get_or (set cs e c) j unused) z
-        ∙ get_or-set_same cs e c unused (let all = is.all_channels in omega arith)))
+        (λ z. inl (
+          z,
+          ap (λ (j : ℕ). get_or (set cs e c) j unused) z
+              ∙ get_or-set_same cs e c unused (let all = is.all_channels in omega arith),
+        ))
         (λ other. inr (other, get_or-set_other cs e i c unused other))
 
     counts_after : (x : Event) → Happens n old x new → (i : ℕ) → i < n.edges → Counts (channels_after x cs) i

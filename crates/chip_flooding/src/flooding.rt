@@ -104,6 +104,7 @@ impl Marking {
         ensures due { (e : ℕ) → result ≡ Some e → (e < (net self.now.run).edges) × (IsIdle self.now.run e → ⊥) }
         ensures none { result ≡ None → (e : ℕ) → e < (net self.now.run).edges → IsIdle self.now.run e }
     {
-        (0..self.run.edges()).find(|edge| self.run.in_flight(*edge) > 0 || self.run.acknowledgeable(*edge) > 0)
+        (0..self.run.edges()).find(|edge| self.run.in_flight(*edge) > 0
+            || self.run.acknowledgeable(*edge) > 0)
     }
 }

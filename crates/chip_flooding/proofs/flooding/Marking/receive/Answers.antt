@@ -30,11 +30,17 @@ spread : (c : After-rest) → (c.index.result.now ≡ true → IsFlooding (net c
     × IsFlooding (net run) (world run) c.if-is_first.self.marked.items c.head-head.result (net run).edges
     × (unfinished run ≤ unfinished c.get.new.self)
 spread c later = elim c.if-is_first.branch [
-    | then-is_first w ↦ rw w.self-is (w.spread.ensures.topology ∙ c.get.ensures.runs.topology, w.spread.ensures.flooding,
-        w.spread.ensures.unfinished)
-    | else-is_first w ↦ rw w.self-is (c.get.ensures.runs.topology,
-        later (let first = w.if-is_first.false in grind (arith, nat_tests)), omega arith)
-  ]
+  | then-is_first w ↦ rw w.self-is (
+    w.spread.ensures.topology ∙ c.get.ensures.runs.topology,
+    w.spread.ensures.flooding,
+    w.spread.ensures.unfinished,
+  )
+  | else-is_first w ↦ rw w.self-is (
+    c.get.ensures.runs.topology,
+    later (let first = w.if-is_first.false in grind (arith, nat_tests)),
+    omega arith,
+  )
+]
 
 pub returns-clause-flooded : goal.returns-clause-flooded
 returns-clause-flooded c =

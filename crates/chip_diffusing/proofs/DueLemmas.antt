@@ -11,7 +11,7 @@ use Rattle.chip_detect.proofs.AllowedLemmas.{within_owed}
 use Rattle.chip_diffusing.specs.Network.{Network, IsNetwork}
 use Rattle.chip_diffusing.specs.Computation.{World, Event, Send, Get, Ack, Settle, Work, Log, May, Happens, Leads}
 use Rattle.chip_diffusing.specs.Computation.{IsLegalLog, IsSilent, IsClosed, sent_on, got_on, acked_on, settled_on}
-use Rattle.chip_diffusing.specs.Ending.{HasRounds, IsDue, sum_below, left, LeadsDue}
+use Rattle.chip_diffusing.specs.Ending.{HasRounds, IsDue, left, LeadsDue}
 use Rattle.chip_diffusing.specs.Laws.{NeverStuck}
 use Rattle.chip_diffusing.proofs.EdgesLemmas.{counted, less_sum}
 use Rattle.chip_diffusing.proofs.KeptLemmas.{IsKept, acked_most, legal_kept}

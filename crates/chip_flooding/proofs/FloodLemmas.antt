@@ -1,7 +1,7 @@
 -- Serves Flooding.antt.
 -- What each event keeps of a flood, and that it ends with exactly the parts marked that can be reached.
 use Rattle.std.proofs.Common.{◌≡◌, ◌≢◌, ◌⊎◌, inl, inr, ℕ, zero, suc, ◌+◌, ◌-◌, ◌*◌, ◌<◌, ◌≤◌, Bool, true, false, not, ◌&&◌, ◌||◌, ◌==◌, nat_lt, cond, List, [], ◌∷◌}
-use Rattle.std.proofs.Common.{length, get_or, set, replicate, refl, sym, ap, ◌∙◌, subst, arith, true≢false, ⊎_elim, rules}
+use Rattle.std.proofs.Common.{length, set, replicate, refl, sym, ap, ◌∙◌, subst, arith, true≢false, ⊎_elim}
 use Rattle.std.proofs.Common.{get_or-set_same, get_or-set_other, length-set}
 use Rattle.std.proofs.lemmas.List.{length-replicate}
 use Rattle.std.proofs.lemmas.Bool.Decides.{nat_tests}
@@ -13,7 +13,7 @@ use Rattle.chip_detect.proofs.AllowedLemmas.{within_owed}
 use Rattle.chip_diffusing.specs.Network.{Network, IsNetwork}
 use Rattle.chip_diffusing.specs.Computation.{Part, World, Event, Send, Get, Ack, Settle, Work, Log, Happens, part_of}
 use Rattle.chip_diffusing.specs.Computation.{IsLegalLog, IsSilent, IsClosed, sent_on, got_on, acked_on, in_flight}
-use Rattle.chip_diffusing.specs.Ending.{sum_below, IsDue}
+use Rattle.chip_diffusing.specs.Ending.{IsDue}
 use Rattle.chip_diffusing.proofs.EdgesLemmas.{counted, less_at, less_sum}
 use Rattle.chip_diffusing.proofs.DueLemmas.{not_over_yet}
 use Rattle.chip_flooding.specs.Running.{Topology, Process, State, net, world, network_of, world_of, IsTopology, AreOpening, Runs}

@@ -1,6 +1,6 @@
 -- Serves Running.antt.
 -- An event of a run: the call that notes it may be made, and a run is left.
-use Rattle.std.proofs.Common.{◌≡◌, ◌≢◌, ◌⊎◌, inl, inr, ℕ, ◌+◌, ◌-◌, ◌<◌, ◌≤◌, List, [], ◌∷◌, get_or, set, length, refl, sym, ap, ◌∙◌, subst, arith}
+use Rattle.std.proofs.Common.{◌≡◌, ◌≢◌, ◌⊎◌, inl, inr, ℕ, ◌+◌, ◌-◌, ◌<◌, ◌≤◌, List, ◌∷◌, get_or, set, length, refl, sym, ap, ◌∙◌, subst, arith}
 use Rattle.std.proofs.Common.{get_or-set_same, get_or-set_other, length-set}
 use Rattle.std.proofs.lemmas.Bool.Decides.{nat_tests}
 use Rattle.std.proofs.lemmas.List.{get_or_read}
@@ -13,11 +13,11 @@ use Rattle.chip_detect.specs.Acknowledging.{may_ack}
 use Rattle.chip_detect.specs.Steps.{MayBeMade}
 use Rattle.chip_detect.proofs.AllowedLemmas.{within_owed}
 use Rattle.chip_diffusing.specs.Network.{Network}
-use Rattle.chip_diffusing.specs.Computation.{Part, World, Event, Send, Get, Ack, Settle, Work, Log, May, Notes, Wakes, Happens}
-use Rattle.chip_diffusing.specs.Computation.{part_of, call_of, sent_on, got_on, acked_on, settled_on, in_flight}
+use Rattle.chip_diffusing.specs.Computation.{Part, World, Event, Send, Get, Ack, Settle, Work, May, Notes, Wakes, Happens}
+use Rattle.chip_diffusing.specs.Computation.{part_of, call_of, sent_on, got_on, acked_on, in_flight}
 use Rattle.chip_diffusing.proofs.KeptLemmas.{IsKept, legal_kept, who_inside, may_call, acked_most}
 use Rattle.chip_diffusing.proofs.EdgesLemmas.{counted}
-use Rattle.chip_flooding.specs.Running.{Topology, Process, Channel, State, network_of, shown, nobody, unused, world_of, IsRun, Runs}
+use Rattle.chip_flooding.specs.Running.{Topology, Process, Channel, network_of, shown, nobody, unused, world_of, IsRun, Runs}
 
 -- what an event makes of the channels
 abbrev pub sends : Channel → Channel

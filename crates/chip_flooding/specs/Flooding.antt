@@ -9,19 +9,19 @@ use Rattle.chip_flooding.specs.Running.{State, net, world}
 
 -- these edges, the last one first, lead from the root to p
 abbrev pub IsPath : Network → List ℕ → ℕ → Type 0
-IsPath net [] p = p ≡ net.root
-IsPath net (e ∷ es) p = (e < net.edges) × (net.head e ≡ p) × IsPath net es (net.tail e)
+IsPath n [] p = p ≡ n.root
+IsPath n (e ∷ es) p = (e < n.edges) × (n.head e ≡ p) × IsPath n es (n.tail e)
 
 abbrev pub IsReached : Network → ℕ → Type 0
-IsReached net p = (es : List ℕ) × IsPath net es p
+IsReached n p = (es : List ℕ) × IsPath n es p
 
 abbrev pub is_marked : List Bool → ℕ → Bool
 is_marked marked p = slice_index_or marked p false
 
 -- exactly the parts that can be reached are marked
-pub record MarksReached (net : Network) (marked : List Bool) : Type 0 where
-  pub count_is : length marked ≡ net.parts
-  pub each : (p : ℕ) → p < net.parts → (is_marked marked p ≡ true) ↔ IsReached net p
+pub record MarksReached (n : Network) (marked : List Bool) : Type 0 where
+  pub count_is : length marked ≡ n.parts
+  pub each : (p : ℕ) → p < n.parts → (is_marked marked p ≡ true) ↔ IsReached n p
 
 -- ---- on the way
 

@@ -1,4 +1,4 @@
-use Rattle.std.proofs.Common.{◌≡◌, Option, Some, None, true, is_some, refl, true≢false, sym, ◌∙◌}
+use Rattle.std.proofs.Common.{◌≡◌, Option, Some, None, true, is_some, refl}
 use Rattle.chip_flooding.proofs.FloodLemmas.{idle_is_closed, marks_reached}
 use Rattle.chip_flooding.proofs.flooding.flood.Goals as goal
 

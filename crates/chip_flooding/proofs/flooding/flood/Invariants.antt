@@ -1,5 +1,4 @@
 use Rattle.std.proofs.Common.{◌≡◌}
-use Rattle.chip_flooding.specs.Running.{net, world}
 use Rattle.chip_flooding.specs.Flooding.{IsFlooded, unfinished}
 use Rattle.chip_flooding.proofs.flooding.flood.Given as goal
 

@@ -1,4 +1,3 @@
-use Rattle.std.proofs.Common.{◌+◌, subst, sym}
 use Rattle.chip_flooding.proofs.OpeningLemmas.{opened}
 use Rattle.chip_flooding.proofs.process.opening_processes.Goals as goal
 

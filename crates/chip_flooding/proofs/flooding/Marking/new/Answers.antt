@@ -1,4 +1,4 @@
-use Rattle.std.proofs.Common.{◌≡◌, true, false, ◌<◌, ◌∙◌, List, Bool, replicate, set, sym, subst}
+use Rattle.std.proofs.Common.{◌≡◌, true, false, ◌∙◌, List, Bool, replicate, set, sym, subst}
 use Rattle.chip_flooding.specs.Running.{network_of, net, world}
 use Rattle.chip_flooding.specs.Flooding.{IsFlooding}
 use Rattle.chip_flooding.proofs.FloodLemmas.{starts, rests}

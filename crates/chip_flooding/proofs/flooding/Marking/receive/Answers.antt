@@ -1,9 +1,9 @@
-use Rattle.std.proofs.Common.{◌≡◌, ℕ, ◌<◌, ◌≤◌, Bool, true, false, not, get_or, set, cond, sym, arith, ◌∙◌}
+use Rattle.std.proofs.Common.{◌≡◌, ◌≤◌, Bool, true, false, set, cond, sym, arith, ◌∙◌}
 use Rattle.std.proofs.lemmas.List.{get_or_read}
 use Rattle.std.proofs.lemmas.Bool.Decides.{nat_tests}
 use Rattle.chip_diffusing.specs.Computation.{Work}
 use Rattle.chip_flooding.specs.Running.{net, world}
-use Rattle.chip_flooding.specs.Flooding.{is_marked, IsFlooding, unfinished}
+use Rattle.chip_flooding.specs.Flooding.{IsFlooding, unfinished}
 use Rattle.chip_flooding.proofs.FloodLemmas.{gets, rests, no_more, less_after_get}
 use Rattle.chip_flooding.proofs.flooding.Marking.receive.Goals as goal
 use Rattle.chip_flooding.proofs.flooding.Marking.receive.Goals.{After-get, After-rest, then-is_first, else-is_first}

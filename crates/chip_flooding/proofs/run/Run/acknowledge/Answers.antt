@@ -1,7 +1,7 @@
-use Rattle.std.proofs.Common.{◌≡◌, ◌<◌, get_or, set, ap, ◌∙◌, subst, arith, ℕ}
+use Rattle.std.proofs.Common.{◌≡◌, set, ap, ◌∙◌, subst, arith, ℕ}
 use Rattle.chip_detect.specs.Acknowledging.{may_ack}
 use Rattle.chip_diffusing.specs.Computation.{Ack, Notes, Part}
-use Rattle.chip_flooding.specs.Running.{Process, Channel, network_of, world_of}
+use Rattle.chip_flooding.specs.Running.{Channel}
 use Rattle.chip_flooding.proofs.RunLemmas.{Acting, callable, runs, goes_on, own, flows, head_at, channel_at, acks, allowed}
 use Rattle.chip_flooding.proofs.run.Run.acknowledge.Goals as goal
 use Rattle.chip_flooding.proofs.run.Run.acknowledge.Goals.{After-index_mut-process, After-acknowledge-count}

@@ -1,4 +1,4 @@
-use Rattle.std.proofs.Common.{◌<◌, arith}
+use Rattle.std.proofs.Common.{arith}
 use Rattle.chip_diffusing.specs.Computation.{Ack}
 use Rattle.chip_flooding.proofs.RunLemmas.{Acting, callable, head_at}
 use Rattle.chip_flooding.proofs.run.Run.acknowledgeable.Goals as goal

@@ -1,6 +1,6 @@
-use Rattle.std.proofs.Common.{◌≡◌, false, get_or, set, ap}
+use Rattle.std.proofs.Common.{set, ap}
 use Rattle.chip_diffusing.specs.Computation.{Get}
-use Rattle.chip_flooding.specs.Running.{Process, Channel, network_of, world_of}
+use Rattle.chip_flooding.specs.Running.{Channel}
 use Rattle.chip_flooding.proofs.RunLemmas.{Acting, callable, runs, goes_on, head_at, channel_at, gets}
 use Rattle.chip_flooding.proofs.run.Run.get.Goals as goal
 use Rattle.chip_flooding.proofs.run.Run.get.Goals.{After-index_mut-process}

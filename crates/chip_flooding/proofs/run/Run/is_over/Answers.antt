@@ -1,4 +1,4 @@
-use Rattle.std.proofs.Common.{◌≡◌, get_or, sym, ap, arith}
+use Rattle.std.proofs.Common.{sym, ap, arith}
 use Rattle.std.proofs.lemmas.List.{get_or_read}
 use Rattle.chip_flooding.specs.Running.{Process, nobody, world_of}
 use Rattle.chip_flooding.proofs.run.Run.is_over.Goals as goal

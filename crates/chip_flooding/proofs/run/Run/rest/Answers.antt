@@ -1,4 +1,4 @@
-use Rattle.std.proofs.Common.{◌<◌, true, refl}
+use Rattle.std.proofs.Common.{refl}
 use Rattle.chip_diffusing.specs.Computation.{Work}
 use Rattle.chip_flooding.proofs.RunLemmas.{Acting, goes_on}
 use Rattle.chip_flooding.proofs.run.Run.rest.Goals as goal

@@ -1,6 +1,6 @@
-use Rattle.std.proofs.Common.{◌≡◌, false, get_or, set, ap}
+use Rattle.std.proofs.Common.{set, ap}
 use Rattle.chip_diffusing.specs.Computation.{Send}
-use Rattle.chip_flooding.specs.Running.{Process, Channel, network_of, world_of}
+use Rattle.chip_flooding.specs.Running.{Channel}
 use Rattle.chip_flooding.proofs.RunLemmas.{Acting, callable, runs, goes_on, tail_at, channel_at, sends}
 use Rattle.chip_flooding.proofs.run.Run.send.Goals as goal
 use Rattle.chip_flooding.proofs.run.Run.send.Goals.{After-index_mut-process}

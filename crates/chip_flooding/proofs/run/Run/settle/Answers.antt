@@ -1,8 +1,8 @@
-use Rattle.std.proofs.Common.{◌≡◌, ◌<◌, ◌-◌, get_or, set, ap, sym, refl, subst, arith, ℕ}
+use Rattle.std.proofs.Common.{◌-◌, refl, subst, arith, ℕ}
 use Rattle.chip_detect.specs.Books.{settled_of}
 use Rattle.chip_detect.specs.Steps.{Settles}
 use Rattle.chip_diffusing.specs.Computation.{Settle, acked_on}
-use Rattle.chip_flooding.specs.Running.{Process, Channel, network_of, world_of}
+use Rattle.chip_flooding.specs.Running.{network_of, world_of}
 use Rattle.chip_flooding.proofs.RunLemmas.{Acting, callable, runs, goes_on, flows, kept, tail_at}
 use Rattle.chip_flooding.proofs.run.Run.settle.Goals as goal
 use Rattle.chip_flooding.proofs.run.Run.settle.Goals.{After-index_mut-process, After-settled}

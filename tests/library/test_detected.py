@@ -1,0 +1,194 @@
+"""The examples that detect their own end, on threads: many runs as they are, and as many of each of three wrong uses.
+
+When they end is compared with the truth, a count of open tasks or messages under a lock of its own. A run ends *early*
+if the root says that it is over while some are open, and is *missed* if it does not say so 10 seconds after the last
+one. CHIPFIRE_SOAK is the number of runs of each, 300 if it is not set.
+"""
+import collections
+import math
+import os
+import random
+import sys
+import threading
+import time
+import types
+import unittest
+
+from library import BUILT, INCLUDE, ROOT, SHARED, STATIC, Room, need
+
+sys.path.append(f"{ROOT}/python")  # (knight.py finds the library by the package, if it is not told)
+
+RUNS = int(os.environ.get("CHIPFIRE_SOAK") or 300)
+STEAL, KNIGHT = f"{ROOT}/examples/c/steal.c", f"{ROOT}/examples/python/knight.py"
+MISSED_AFTER = 10
+COMPILE = ["gcc", "-std=c11", "-O2", "-Wall", "-Wextra", "-Werror", "-pedantic", "-pthread", f"-I{INCLUDE}"]
+WITH_SHARED = [f"-L{BUILT}", "-lchipfire", f"-Wl,-rpath,{BUILT}"]
+#: How an example is counted, and made wrong: texts that stand once in it, and what stands there instead.
+STEAL_COUNTED = [
+    ("SIDE = 8,", "SIDE = 5, WAYS = 10,"),
+    ('    printf("%" PRIu64 " ways\\n", ways);\n', ""),
+    ("    if (has_room) me->tasks", "    if (has_room) opened();\n    if (has_room) me->tasks"),
+    ("search(me, task);\n        pthread", "search(me, task);\n        if (has_task) finished(me);\n        pthread"),
+]
+STEAL_WRONG = {
+    "got after the work": [("must(chipfire_got(me->ins, PARTS + 1, &me->parent, edge));", "late = (int64_t)edge;")],
+    "acknowledged before the work": [("edge));\n    me->busy++;", "edge));\n    acknowledge(me);\n    me->busy++;")],
+    "passive too early": [("me->count == 0 && me->busy == 0", "me->count == 0")],
+}
+KNIGHT_COUNTED = [
+    ("        self.mail.put((edge, moves, 0))", "        opened()\n        self.mail.put((edge, moves, 0))"),
+    ("        with part.lock:\n            part.busy -=",
+     "        finished()\n        with part.lock:\n            part.busy -="),
+    ("part.books.is_over(True)", "judged(part.books)"),
+]
+KNIGHT_WRONG = {
+    "got after the work": [("part.books.got(edge)\n            ", ""),
+                           ("part.busy -= 1\n", "part.busy -= 1\n            part.books.got(edge)\n")],
+    "acknowledged before the work": [("            part.busy += 1\n", ""),
+                                     ("        for out in", "        self.acknowledge(part)\n        with part.lock:\n"
+                                      "            part.busy += 1\n        for out in")],
+    "passive too early": [("acknowledge(part.busy == 0)", "acknowledge(True)")],
+}
+Outcome = collections.namedtuple("Outcome", "runs early missed wrong")
+
+
+def edited(path, edits):
+    """Returns the text of a file after edits."""
+    with open(path, encoding="utf-8") as file:
+        text = file.read()
+    for old, new in edits:
+        assert text.count(old) == 1, f"{path}: {text.count(old)} times: {old}"
+        text = text.replace(old, new)
+    return text
+
+
+def moves_of_a_knight(side):
+    """Returns how many moves lead to each square from a corner, found move by move."""
+    squares = {(line, column) for line in range(side) for column in range(side)}
+    found, edge = {it: math.inf for it in squares}, {(0, 0)}
+    for moves in range(side * side):
+        found.update((it, moves) for it in edge)
+        edge = {(y, x) for y, x in squares if found[y, x] == math.inf
+                and any(abs(y - line) * abs(x - column) == 2 for line, column in edge)}
+    return found
+
+
+def told(name, make):
+    """Returns an outcome, and shows it with the seconds that it took."""
+    begun = time.monotonic()
+    outcome = make()
+    words = ", ".join(f"{number} {word}" for word, number in outcome._asdict().items())
+    print(f"{name}: {words}, {time.monotonic() - begun:.0f} s", flush=True)
+    return outcome
+
+
+class Judge:
+    """Knows the truth of one run of knight.py after another."""
+
+    def __init__(self):
+        self.lock, self.draw = threading.Lock(), random.Random("library: knight")
+        self.early = self.missed = self.tasks = 0
+        self.search, self.last = None, math.inf
+        threading.Thread(target=self.watch, daemon=True).start()
+
+    def pause(self):
+        """Lets other threads go first, now and then."""
+        if self.draw.random() < 0.3:
+            time.sleep(self.draw.choice([0, 1e-4, 1e-3]))
+
+    def opened(self):
+        with self.lock:
+            self.tasks += 1
+        self.pause()
+
+    def finished(self):
+        self.pause()
+        with self.lock:
+            self.tasks -= 1
+            self.last = time.monotonic()
+
+    def judged(self, books):
+        with self.lock:
+            over = books.is_over(True)
+            self.early += over and self.tasks > 0
+        return over
+
+    def watch(self):
+        """Ends a run that is missed."""
+        while True:
+            time.sleep(1)
+            with self.lock:
+                if self.search and self.tasks == 0 and time.monotonic() > self.last + MISSED_AFTER:
+                    self.missed += 1
+                    self.search.mail.put(None)
+                    self.search = None
+
+    def run(self, search):
+        """Returns what a search finds, and whether it ended when it should."""
+        before = self.early + self.missed
+        with self.lock:
+            self.search, self.tasks, self.last = search, 0, math.inf
+        found = search.find(4)
+        with self.lock:
+            self.search = None
+        return found, self.early + self.missed == before
+
+
+def knights(edits):
+    """Runs knight.py after edits on 3 by 3 squares many times."""
+    judge, example = Judge(), types.ModuleType("knight")
+    example.__dict__.update(opened=judge.opened, finished=judge.finished, judged=judge.judged)
+    exec(compile(edited(KNIGHT, KNIGHT_COUNTED + edits), KNIGHT, "exec"), example.__dict__)
+    library, right, wrong = example.load(SHARED), moves_of_a_knight(3), 0
+    for _ in range(RUNS):
+        found, is_timely = judge.run(example.Search(library, 3))
+        wrong += is_timely and found != right
+    return Outcome(RUNS, judge.early, judge.missed, wrong)
+
+
+class Soak(Room):
+    def is_right(self, outcome):
+        self.assertEqual(outcome, Outcome(RUNS, 0, 0, 0))
+
+    def are_caught(self, outcome, wrong_uses):
+        for name, edits in wrong_uses.items():
+            self.assertGreater(outcome(name, edits).early, 0, name)
+
+
+class Steal(Soak):
+    def test_it_counts_the_ways(self):
+        need("gcc")
+        self.runs(*COMPILE, STEAL, STATIC, "-o", f"{self.room}/steal")
+        self.assertEqual(self.runs(f"{self.room}/steal"), "92 ways\n")
+
+    def outcome(self, name, edits):
+        """Runs steal.c after edits many times."""
+        need("gcc")
+        with open(f"{self.room}/steal.c", "w", encoding="utf-8") as file:
+            file.write(edited(STEAL, STEAL_COUNTED + edits))
+        program = f"{self.room}/soak"
+        self.runs(*COMPILE, f"-I{self.room}", f"{ROOT}/tests/library/soak.c", *WITH_SHARED, "-o", program)
+        return told(f"steal.c, {name}", lambda: Outcome(*map(int, self.runs(program, str(RUNS)).split())))
+
+    def test_it_ends_when_it_is_over(self):
+        self.is_right(self.outcome("right", []))
+
+    def test_wrong_uses_are_caught(self):
+        self.are_caught(self.outcome, STEAL_WRONG)
+
+
+class Knight(Soak):
+    def outcome(self, name, edits):
+        return told(f"knight.py, {name}", lambda: knights(edits))
+
+    def test_it_finds_what_one_finds_move_by_move(self):
+        environment = {**os.environ, "PYTHONPATH": f"{ROOT}/python"}
+        found = self.runs(sys.executable, KNIGHT, "--library", SHARED, env=environment)
+        right = moves_of_a_knight(8)
+        self.assertEqual(found, "".join(" ".join(str(right[y, x]) for x in range(8)) + "\n" for y in range(8)))
+
+    def test_it_ends_when_it_is_over(self):
+        self.is_right(self.outcome("right", []))
+
+    def test_wrong_uses_are_caught(self):
+        self.are_caught(self.outcome, KNIGHT_WRONG)

@@ -69,20 +69,19 @@ class Books:
         self.call("got", *self.of_ins, self.parent, edge)
 
     def acknowledge(self, passive):
-        """Acknowledges all that may be. Returns the edges, each with how many messages."""
+        """Acknowledges all that may be. Returns the edges, each with how many messages are acknowledged so far."""
         answers, count = [], WORD()
         # (the parent edge comes last: its last message waits for all others)
         for tally in sorted(self.ins, key=lambda it: it.edge == self.parent.value):
             self.call("may_ack", *self.of_ins, *self.of_outs, self.parent, tally.edge, passive, count)
             self.call("acked", *self.of_ins, *self.of_outs, self.parent, tally.edge, passive, count)
             if count.value:
-                answers.append((tally.edge, count.value))
+                answers.append((tally.edge, tally.answered))
         return answers
 
-    def settle(self, edge, count):
-        """Notes that so many messages more are acknowledged."""
-        so_far = next(it.answered for it in self.outs if it.edge == edge)
-        self.call("settled", *self.of_outs, edge, so_far + count, WORD())
+    def settle(self, edge, word):
+        """Notes how many messages are acknowledged so far, as the head says or said before."""
+        self.call("settled", *self.of_outs, edge, word, WORD())
 
     def is_over(self, ended):
         """Whether it is over, as the root sees it. It has ended if it sends no more."""
@@ -119,7 +118,7 @@ class Search:
         tail = self.parts[self.ends[edge][0]]
         with tail.lock:
             tail.books.sent(edge)
-        self.mail.put((edge, moves, 0))
+        self.mail.put((edge, moves, None))
 
     def work(self, edge, moves):
         """Gets a message and works on it."""
@@ -138,15 +137,15 @@ class Search:
     def acknowledge(self, part):
         """Acknowledges what a part may."""
         with part.lock:
-            for edge, count in part.books.acknowledge(part.busy == 0):
-                self.mail.put((edge, None, count))
+            for edge, word in part.books.acknowledge(part.busy == 0):
+                self.mail.put((edge, None, word))
 
-    def settle(self, edge, count):
+    def settle(self, edge, word):
         """Settles acknowledgements. The root asks then whether it is over, and lets one thread end."""
         tail = self.ends[edge][0]
         part = self.parts[tail]
         with part.lock:
-            part.books.settle(edge, count)
+            part.books.settle(edge, word)
             is_over = tail is ROOT and part.books.is_over(True)
         if is_over:
             self.mail.put(None)
@@ -155,9 +154,9 @@ class Search:
     def serve(self):
         """One thread: it works on messages, and lets another one end when it does."""
         try:
-            for edge, moves, count in iter(self.mail.get, None):
+            for edge, moves, word in iter(self.mail.get, None):
                 if moves is None:
-                    self.settle(edge, count)
+                    self.settle(edge, word)
                 else:
                     self.work(edge, moves)
         finally:

@@ -36,7 +36,7 @@ STEAL_WRONG = {
     "passive too early": [("me->count == 0 && me->busy == 0", "me->count == 0")],
 }
 KNIGHT_COUNTED = [
-    ("        self.mail.put((edge, moves, 0))", "        opened()\n        self.mail.put((edge, moves, 0))"),
+    ("        self.mail.put((edge, moves, None))", "        opened()\n        self.mail.put((edge, moves, None))"),
     ("        with part.lock:\n            part.busy -=",
      "        finished()\n        with part.lock:\n            part.busy -="),
     ("part.books.is_over(True)", "judged(part.books)"),

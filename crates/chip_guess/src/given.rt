@@ -1,6 +1,6 @@
 //! Counts that were not searched for but given.
 
-ghost use Rattle.std.specs.Prelude.{◌≡◌, length, IfOk, IfSome};
+ghost use Rattle.std.specs.Prelude.{◌≡◌, ◌≤◌, ℕ, length, slice_index, IfOk, IfSome};
 
 use crate::burning::Burning;
 use crate::hierarchy::Hierarchy;
@@ -13,11 +13,24 @@ use std::num::nearest_u64_to_f64;
 /// Counts that were given for a game, each up to its limit and 0 for the sink, lowered until they pass the test. `None`
 /// where many steps are too few for that, and where memory runs out. What is not given is 0.
 pub fn lower_counts(alloc: Global, game: &Game, given: &[u64]) -> Option<Vec<u64>>
-    ensures { IfSome result (λ counts. length counts.items ≡ game.now.graph.vertices) }
+    ensures each { IfSome result (λ counts. length counts.items ≡ game.now.graph.vertices) }
+    ensures lowered { IfSome result
+        (λ counts. (v : ℕ) → slice_index counts.items v ≤ slice_index given.now v) }
 {
     let hierarchy = Hierarchy::flat(alloc, game.graph()).ok()?;
     let fired = vec![in alloc; 0; game.graph().vertices() as usize].ok()?;
-    lower_by(alloc, &hierarchy, game, &fired, given)
+    let mut counts = lower_by(alloc, &hierarchy, game, &fired, given)?;
+    keep_below(&mut counts, given);
+    Some(counts)
+}
+
+/// Lowers numbers that are above others to these, and to 0 where there are none.
+fn keep_below(numbers: &mut [u64], others: &[u64])
+    ensures { (v : ℕ) → slice_index numbers.new v ≤ slice_index others.now v }
+{
+    for (index, number) in numbers.iter_mut().enumerate() {
+        *number = (*number).min(others.get(index).copied().unwrap_or(0));
+    }
 }
 
 /// The counts, lowered on a graph of which nothing has fired.

@@ -1,4 +1,4 @@
-ghost use Rattle.std.specs.Prelude.{◌≤◌};
+ghost use Rattle.std.specs.Prelude.{◌≡◌, ◌+◌, ◌*◌, ◌≤◌, length};
 
 use crate::level::{Level, Link, NONE, Row, links_of, narrow};
 use crate::solver::TargetHeight::{self, Full, Margin, Middle, Stationary};
@@ -45,7 +45,10 @@ impl Hierarchy {
     /// vertex or a link are added to `looks`.
     pub fn new(alloc: Global, graph: &Graph, looks: &mut u64, most: u64) -> Option<Hierarchy>
         requires { looks.old ≤ most }
-        ensures { looks.new ≤ most }
+        ensures more { looks.old ≤ looks.new }
+        ensures at_most { looks.new ≤ most }
+        ensures begun { let end = looks.old + 16 * (graph.now.vertices + length graph.now.edges) in
+            end ≤ most → end ≤ looks.new }
     {
         let size = graph.vertices().saturating_add(graph.edges().len() as u64);
         if !spend(looks, size.saturating_mul(LOOKS_OF_GRAPH), most) {
@@ -73,7 +76,8 @@ impl Hierarchy {
     /// aggregates, once for their members, and twice for their links.
     fn coarsen(&mut self, alloc: Global, looks: &mut u64, most: u64) -> Result<(), AllocError>
         requires { looks.old ≤ most }
-        ensures { looks.new ≤ most }
+        ensures more { looks.old ≤ looks.new }
+        ensures at_most { looks.new ≤ most }
     {
         let mut next = next_level(alloc, &mut self.finest)?;
         'levels: for _ in 0..MOST_LEVELS {
@@ -155,7 +159,9 @@ fn are_zero(numbers: &[i64], links: &[Link]) -> bool {
 /// Adds looks to others, unless these are more than `most` then; whether it did.
 pub(crate) fn spend(looks: &mut u64, more: u64, most: u64) -> bool
     requires { looks.old ≤ most }
-    ensures { looks.new ≤ most }
+    ensures more { looks.old ≤ looks.new }
+    ensures at_most { looks.new ≤ most }
+    ensures spent { looks.old + more ≤ most → looks.new ≡ looks.old + more }
 {
     let all = looks.saturating_add(more);
     if all > most {

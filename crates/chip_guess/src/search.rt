@@ -95,7 +95,8 @@ impl<'a> Search<'a> {
     /// over. Its looks at a vertex or a link are added to `looks`.
     pub fn go_on(&mut self, alloc: Global, looks: &mut u64, most: u64) -> Result<bool, AllocError>
         requires { looks.old ≤ most }
-        ensures { looks.new ≤ most }
+        ensures more { looks.old ≤ looks.new }
+        ensures at_most { looks.new ≤ most }
     {
         'steps: for _ in 0..u64::MAX {
             if self.stage == Stage::Found || self.stage == Stage::GivenUp {

@@ -1,3 +1,4 @@
+pub mod LooksLemmas
 pub mod PlayLemmas
 pub mod WorkLemmas
 pub mod ResumeLemmas

@@ -1,11 +1,11 @@
 -- Serves Rounds.antt and Player.antt.
 -- The plain player: turns, rounds, and what they come to.
-use Rattle.std.proofs.Common.{◌≡◌, ◌≢◌, ℕ, zero, suc, ◌+◌, ◌-◌, ◌*◌, ◌/◌, ◌<◌, ◌≤◌, Bool, true, false, not, ◌&&◌}
+use Rattle.std.proofs.Common.{◌≡◌, ◌≢◌, ℕ, zero, suc, ◌+◌, ◌-◌, ◌*◌, ◌/◌, ◌<◌, ◌≤◌, ◌^◌, min, not, ◌&&◌}
 use Rattle.std.proofs.Common.{eqb, leb, List, [], length, sum, get_or, set, slice_index, replicate, ◌⊎◌}
 use Rattle.std.proofs.Common.{inl, inr, ⊎_elim, refl, sym, ap, ◌∙◌, subst, arith, get_or-set_same}
 use Rattle.std.proofs.Common.{get_or-set_other, mul_comm, mul-le-mul_left}
+use Rattle.std.proofs.Math.Nat.{add-mul}
 use Rattle.std.proofs.lemmas.List.{length-replicate}
-use Rattle.std.specs.Bool.{OnTrue, OnFalse}
 use mathlib.Core.Logic.{dite}
 use native.Mathlib.Decide.{ℕ_discrete, dec_lt}
 use Rattle.chip_graph.specs.Sums.{sum_below}
@@ -19,7 +19,8 @@ use Rattle.chip_sequence.specs.Counted.{IsAfter}
 use Rattle.chip_sequence.specs.Certificate.{AreForced, IsCertified, AreBurnt, IsOnTheWay}
 use Rattle.chip_sequence.specs.Bound.{firing_bound, greatest_degree}
 use Rattle.chip_sequence.specs.Play.{IsPlayed, IsEnough}
-use Rattle.chip_fire.specs.Rounds.{IsInRange, IsBegun, StaysOnTheWay, IsAtRest, GoesRound, firings_left, IsSwept}
+use Rattle.chip_fire.specs.Rounds.{IsInRange, IsBegun, StaysOnTheWay, firings_left}
+use Rattle.chip_fire.specs.Rounds.{IsSwept, IsRound, AreRounds}
 use Rattle.chip_fire.specs.Player.{PlaysOut}
 use Rattle.chip_sequence.proofs.FiringLemmas.{counts-replicate, batch}
 use Rattle.chip_sequence.proofs.EndLemmas.{continued}
@@ -77,62 +78,56 @@ module _ (G : Multigraph) (limit : ℕ) (chips fired : List ℕ) (ok : IsInRange
       (λ ne. (let a = counted_else u ne in let b = counted_more u in let c = ok.low_counts u in omega arith))))
       same counted_more
 
-  pub turn_less : get_or fired v 0 + k ≤ limit → 0 < k → firings_left G limit counted < firings_left G limit fired
+  pub turn_less : get_or fired v 0 + k ≤ limit → 0 < k
+      → (firings_left G limit counted < firings_left G limit fired)
+      × (firings_left G limit fired ≤ firings_left G limit counted + limit)
   turn_less room some =
       let a = sum_below_move G.vertices (λ u. limit - get_or counted u 0) (λ u. limit - get_or fired u 0) v is_vertex
       (λ u l ne. ap (λ (n : ℕ). limit - n) (counted_else u (λ z. ne (sym z)))) in
       let b = counted_here in
-      omega arith
+      (omega arith, omega arith)
 
 -- ---- one sweep
 
--- what follows where a test fails
-on_false : (b : Bool) {P Q : Type 0} → (P → Q) → OnFalse b P → OnFalse b Q
-on_false true f p = p
-on_false false f p = f p
-
--- what follows where a test is passed
-on_true : (b : Bool) {P Q : Type 0} → (P → Q) → OnTrue b P → OnTrue b Q
-on_true true f p = f p
-on_true false f p = p
-
-module _ (G : Multigraph) (limit first : ℕ) (chips fired chips' fired' : List ℕ) (any : Bool) (i : ℕ)
-    (so_far : IsSwept G limit first chips fired chips' fired' any (first + 2 * i)) where
+module _ (G : Multigraph) (limit first : ℕ) (chips fired chips' fired' : List ℕ) (count i : ℕ)
+    (so_far : IsSwept G limit first chips fired chips' fired' count (first + 2 * i)) where
   -- a vertex that does not fire
   pub sweep_rests : (IsLegal G (slice_index chips') (first + 2 * i) → slice_index fired' (first + 2 * i) ≡ limit)
-      → IsSwept G limit first chips fired chips' fired' any (first + 2 * (i + 1))
+      → IsSwept G limit first chips fired chips' fired' count (first + 2 * (i + 1))
   sweep_rests rests = record {
     in_range = so_far.in_range;
     stays = so_far.stays;
-    fewer = so_far.fewer;
-    some_fired = so_far.some_fired;
-    none_fired =
-        on_false any
-        (λ none. (
+    once_each = (let a = so_far.once_each in omega arith);
+    each_fires = so_far.each_fires;
+    few_each = so_far.few_each;
+    none_fired = λ zero.
+        let none = so_far.none_fired zero in (
           none.0,
           none.1,
           λ j l can. dite (ℕ_discrete j i)
               (λ e. subst (λ (w : ℕ). slice_index fired' (first + 2 * w) ≡ limit) (sym e)
               (rests (subst (λ (w : ℕ). IsLegal G (slice_index chips') (first + 2 * w)) e can)))
               (λ ne. none.2 j (omega arith) can),
-        )) so_far.none_fired;
+        );
   }
 
   -- the sink
-  pub sweep_sink : first + 2 * i ≡ G.sink → IsSwept G limit first chips fired chips' fired' any (first + 2 * (i + 1))
+  pub sweep_sink : first + 2 * i ≡ G.sink → IsSwept G limit first chips fired chips' fired' count (first + 2 * (i + 1))
   sweep_sink is = sweep_rests (λ can. absurd (can.not_sink is))
 
   -- a vertex that fires
   pub sweep_fires : (chips'' fired'' : List ℕ) → IsInRange G limit chips'' fired''
-      → StaysOnTheWay G limit chips' fired' chips'' fired'' → firings_left G limit fired'' < firings_left G limit fired'
-      → IsSwept G limit first chips fired chips'' fired'' true (first + 2 * (i + 1))
-  sweep_fires chips'' fired'' in_range stays less = record {
+      → StaysOnTheWay G limit chips' fired' chips'' fired''
+      → (firings_left G limit fired'' < firings_left G limit fired')
+      × (firings_left G limit fired' ≤ firings_left G limit fired'' + limit)
+      → IsSwept G limit first chips fired chips'' fired'' (count + 1) (first + 2 * (i + 1))
+  sweep_fires chips'' fired'' in_range stays fires = record {
     in_range = in_range;
     stays = λ x is. stays x (so_far.stays x is);
-    fewer = (let a = so_far.fewer in omega arith);
-    some_fired =
-        (let a = so_far.fewer in let b : firings_left G limit fired'' < firings_left G limit fired = omega arith in b);
-    none_fired = tt;
+    once_each = (let a = so_far.once_each in omega arith);
+    each_fires = (let a = so_far.each_fires in let b = fires.0 in omega arith);
+    few_each = (let a = so_far.few_each in let b = fires.1 in let c = add-mul count 1 limit in omega arith);
+    none_fired = λ zero. absurd (omega arith);
   }
 
 -- ---- one round
@@ -153,49 +148,69 @@ module _ (g : ChipGame) (chips fired chips' fired' chips'' fired'' : List ℕ) (
     on_the_way = odd (slice_index g.start) (even (slice_index g.start) begun.on_the_way);
   }
 
-  -- where nothing fired in the first: nothing may fire if nothing fired in the second either
-  round_rests : (any : Bool) → IsSwept g.graph g.limit 0 chips fired chips' fired' false g.graph.vertices
-      → IsSwept g.graph g.limit 1 chips' fired' chips'' fired'' any g.graph.vertices
-      → OnFalse any (IsAtRest g chips'' fired'')
-  round_rests any even odd = on_false any
-      (λ none v can. ⊎_elim
-      (λ is.
-      let can' : IsLegal g.graph (slice_index chips') (0 + 2 * is.0) =
-      subst (IsLegal g.graph (slice_index chips')) is.1
-      (subst (λ (l : List ℕ). IsLegal g.graph (slice_index l) v) none.0 can) in
-      ap (λ (l : List ℕ). slice_index l v) none.1 ∙ ap (slice_index fired') is.1
-      ∙ even.none_fired.2 is.0 can'.is_vertex can')
-      (λ is.
-      let can' : IsLegal g.graph (slice_index chips'') (1 + 2 * is.0) =
-      subst (IsLegal g.graph (slice_index chips'')) is.1 can in
-      ap (slice_index fired'') is.1 ∙ none.2 is.0 can'.is_vertex can')
-      (halves v))
-      odd.none_fired
-
-  -- a round in whose first sweep some vertex fired
-  pub round_fires : (any : Bool) → IsSwept g.graph g.limit 0 chips fired chips' fired' true g.graph.vertices
-      → IsSwept g.graph g.limit 1 chips' fired' chips'' fired'' any g.graph.vertices
-      → GoesRound g fired chips'' fired'' true
-  round_fires any even odd = record {
+  -- they make a round
+  pub two_sweeps : (count count' : ℕ) → IsSwept g.graph g.limit 0 chips fired chips' fired' count g.graph.vertices
+      → IsSwept g.graph g.limit 1 chips' fired' chips'' fired'' count' g.graph.vertices
+      → IsRound g fired chips'' fired'' (count + count')
+  two_sweeps count count' even odd = record {
     begun = both even.stays odd.stays odd.in_range;
-    some_fired = (let a = even.some_fired in let b = odd.fewer in omega arith);
-    none_fired = tt;
+    once_each = (let a = even.once_each in let b = odd.once_each in omega arith);
+    each_fires = (let a = even.each_fires in let b = odd.each_fires in omega arith);
+    few_each = (let a = even.few_each in let b = odd.few_each in let c = add-mul count count' g.limit in omega arith);
+    none_fired = λ zero.
+        let none = even.none_fired (omega arith) in
+        let none' = odd.none_fired (omega arith) in (
+          none'.1 ∙ none.1,
+          λ v can. ⊎_elim
+              (λ is.
+              let can' : IsLegal g.graph (slice_index chips') (0 + 2 * is.0) =
+              subst (IsLegal g.graph (slice_index chips')) is.1
+              (subst (λ (l : List ℕ). IsLegal g.graph (slice_index l) v) none'.0 can) in
+              ap (λ (l : List ℕ). slice_index l v) none'.1 ∙ ap (slice_index fired') is.1
+              ∙ none.2 is.0 can'.is_vertex can')
+              (λ is.
+              let can' : IsLegal g.graph (slice_index chips'') (1 + 2 * is.0) =
+              subst (IsLegal g.graph (slice_index chips'')) is.1 can in
+              ap (slice_index fired'') is.1 ∙ none'.2 is.0 can'.is_vertex can')
+              (halves v),
+        );
   }
 
-  -- a round in whose first sweep none fired
-  pub round_by_odd : (any : Bool) → IsSwept g.graph g.limit 0 chips fired chips' fired' false g.graph.vertices
-      → IsSwept g.graph g.limit 1 chips' fired' chips'' fired'' any g.graph.vertices
-      → GoesRound g fired chips'' fired'' any
-  round_by_odd any even odd = record {
-    begun = both even.stays odd.stays odd.in_range;
-    some_fired = on_true any (λ less. let a = even.fewer in omega arith) odd.some_fired;
-    none_fired = round_rests any even odd;
+-- ---- some rounds
+
+module _ (g : ChipGame) (fired : List ℕ) (before : ℕ) where
+  -- none
+  pub no_rounds : AreRounds g fired fired 0 before before
+  no_rounds = record {
+    turns = 0;
+    counted = λ fits. omega arith;
+    some_each = omega arith;
+    once_each = omega arith;
+    each_fires = omega arith;
+    few_each = omega arith;
+    none_fired = λ none. refl;
+  }
+
+  -- one more
+  pub round_more : (n after count : ℕ) (fired' chips'' fired'' : List ℕ) → AreRounds g fired fired' n before after
+      → IsRound g fired' chips'' fired'' count → 0 < count
+      → AreRounds g fired fired'' (n + 1) before (min (after + count) (2 ^ 64 - 1))
+  round_more n after count fired' chips'' fired'' so_far round some = record {
+    turns = so_far.turns + count;
+    counted = λ fits. (let a = so_far.counted fits in omega arith);
+    some_each = (let a = so_far.some_each in omega arith);
+    once_each = (let a = so_far.once_each in let b = round.once_each in
+        let c : (n + 1) * g.graph.vertices ≡ n * g.graph.vertices + g.graph.vertices = omega arith in omega arith);
+    each_fires = (let a = so_far.each_fires in let b = round.each_fires in omega arith);
+    few_each = (let a = so_far.few_each in let b = round.few_each in
+        let c = add-mul so_far.turns count g.limit in omega arith);
+    none_fired = λ zero. absurd (omega arith);
   }
 
 -- ---- the whole game
 
 -- a list of zeros
-zeros : (n v : ℕ) → slice_index (replicate n 0) v ≡ 0
+pub zeros : (n v : ℕ) → slice_index (replicate n 0) v ≡ 0
 zeros zero v = refl
 zeros (suc n) zero = refl
 zeros (suc n) (suc v) = zeros n v

@@ -1,7 +1,22 @@
 -- How long a search for counts may be.
-use Rattle.std.specs.Prelude.{ℕ, ◌+◌, ◌*◌, ◌≤◌, length}
+use Rattle.std.specs.Prelude.{ℕ, ◌+◌, ◌*◌, ◌≤◌, Bool, false, if◌then◌else◌, List, [], length}
 use Rattle.chip_graph.specs.ChipGame.{ChipGame}
+use Rattle.chip_fire.specs.Rounds.{firings_left}
 
--- a search for counts that makes few looks at a vertex or an edge: 160 at each, and two for each of the play before its end
-abbrev pub IsShort : ChipGame → ℕ → ℕ → Type 0
-IsShort g played searched = searched ≤ 160 * (g.graph.vertices + length g.graph.edges) + 2 * played
+-- how many vertices and edges a game has
+abbrev pub places : ChipGame → ℕ
+places g = g.graph.vertices + length g.graph.edges
+
+-- rounds that led from the counts fired to fired' added so few looks to `before`: at most one at each vertex and edge for
+-- each firing, and one more at each where they do not go on, but have come to the end
+pub record FewLooks (g : ChipGame) (fired fired' : List ℕ) (before after : ℕ) (goes_on : Bool) : Type 0 where
+  pub more : before ≤ after
+  pub few : after + places g * firings_left g.graph g.limit fired'
+      ≤ before + places g * firings_left g.graph g.limit fired + (if goes_on then 0 else places g)
+
+-- a search for counts that made few looks, 16 at each vertex and edge to begin with, and at most 160 at each and two for each
+-- that the play made before, which led to the counts fired
+pub record IsShort (g : ChipGame) (fired : List ℕ) (played searched : ℕ) : Type 0 where
+  pub played_few : FewLooks g [] fired 0 played false
+  pub begun : 16 * places g ≤ searched
+  pub short : searched ≤ 160 * places g + 2 * played

@@ -1,13 +1,13 @@
 //! The way to an end that is far: some rounds, and a search.
 
-ghost use Rattle.std.specs.Prelude.{◌≡◌, length};
-ghost use Rattle.chip_fire.specs.Search.{IsShort};
+ghost use Rattle.std.specs.Prelude.{◌≡◌, [], true, length};
+ghost use Rattle.chip_fire.specs.Search.{FewLooks, IsShort};
 
 use crate::play::Play;
 use crate::soon::looks_at_all;
+use crate::tuning::{STRETCH, TURN};
 use crate::watch::Watch;
-use chip_guess::tuning::{AHEAD, STRETCH, TURN};
-use chip_guess::{Hierarchy, Search};
+use chip_guess::{AHEAD, Hierarchy, Search};
 use std::alloc::Global;
 
 impl Play<'_> {
@@ -25,7 +25,7 @@ impl Play<'_> {
         };
         let mut searched = 0u64;
         let guess = self.search_counts(alloc, &before, &mut played, &mut searched, watch);
-        watch.searched(self.game, played, searched);
+        watch.searched(self, played, searched);
         if let Some(guess) = guess {
             let _ = self.raise_to(alloc, &guess);
         }
@@ -44,8 +44,9 @@ impl Play<'_> {
     ) -> Option<Vec<u64>>
         requires before_each { length before.now ≡ self.old.game.graph.vertices }
         requires unsearched { searched.old ≡ 0 }
+        requires few { FewLooks self.old.game [] self.old.fired 0 played.old true }
         ensures same { self.new.game ≡ self.old.game }
-        ensures short { IsShort self.old.game played.new searched.new }
+        ensures short { IsShort self.old.game self.new.fired played.new searched.new }
     {
         let game = self.game;
         let graph = game.graph();

@@ -1,6 +1,6 @@
 //! The test of counts that every whole play must reach.
 
-ghost use Rattle.std.specs.Prelude.{◌≡◌, ◌≢◌, ℕ, ◌+◌, ◌<◌, ◌≤◌, ◌↔◌, nat_le, if◌then◌else◌, length, slice_index};
+ghost use Rattle.std.specs.Prelude.{◌≡◌, ◌≢◌, ℕ, ◌+◌, ◌<◌, ◌≤◌, ◌↔◌, nat_le, max, if◌then◌else◌, length, slice_index};
 ghost use Rattle.std.specs.Prelude.{IfNone, IsTrue};
 ghost use Rattle.chip_graph.specs.Multigraph.{degree};
 ghost use Rattle.chip_graph.specs.ChipGame.{IsGame};
@@ -8,9 +8,9 @@ ghost use Rattle.chip_sequence.specs.Counted.{IsAfter};
 ghost use Rattle.chip_sequence.specs.Certificate.{AreForced, IsCertified, AreBurnt, in_degree, late_in_degree};
 ghost use Rattle.chip_fire.specs.Rounds.{IsBegun};
 
+use crate::burning::burning_order;
 use crate::play::Play;
 use chip_graph::{Game, Graph};
-use chip_guess::burning_order;
 use chip_sequence::after;
 use std::alloc::Global;
 
@@ -21,6 +21,8 @@ impl Play<'_> {
     pub(crate) fn raise_to(&mut self, alloc: Global, guess: &[u64]) -> Option<()>
         ensures same { self.new.game ≡ self.old.game }
         ensures kept { IfNone result (self.new ≡ self.old) }
+        ensures raised { (v : ℕ) → slice_index self.new.fired v
+            ≤ max (slice_index self.old.fired v) (slice_index guess.now v) }
     {
         let mut counts = Vec::from_slice(alloc, &self.fired).ok()?;
         raise(&mut counts, guess);
@@ -54,9 +56,11 @@ impl Play<'_> {
 }
 
 /// Raises numbers that are below others to these.
-fn raise(numbers: &mut [u64], others: &[u64]) {
-    for (number, other) in numbers.iter_mut().zip(others) {
-        *number = (*number).max(*other);
+fn raise(numbers: &mut [u64], others: &[u64])
+    ensures { (v : ℕ) → slice_index numbers.new v ≤ max (slice_index numbers.old v) (slice_index others.now v) }
+{
+    for (index, number) in numbers.iter_mut().enumerate() {
+        *number = (*number).max(others.get(index).copied().unwrap_or(0));
     }
 }
 

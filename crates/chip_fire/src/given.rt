@@ -1,27 +1,36 @@
 //! Counts that are given to a play.
 
-ghost use Rattle.std.specs.Prelude.{◌≡◌, ◌↔◌, IsTrue};
+ghost use Rattle.std.specs.Prelude.{◌≡◌, ◌↔◌, IsTrue, IfOk};
 ghost use Rattle.chip_fire.specs.Given.{IsUse, TakesAll, TakesNone};
 
 use crate::play::Play;
 use crate::watch::{GivenUse, Watch};
+use chip_graph::Game;
 use chip_guess::lower_counts;
-use std::alloc::Global;
+use std::alloc::{AllocError, Global};
 
-impl Play<'_> {
-    /// Goes on at the counts that were given, if any were, or at lower ones that are certified. Tells which it was.
-    pub(crate) fn use_given<W: Watch>(&mut self, alloc: Global, given: &[u64], watch: &mut W)
-        ensures { self.new.game ≡ self.old.game }
+impl<'a> Play<'a> {
+    /// The play that begins at the counts that were given, if any were, or at lower ones that are certified. Tells which
+    /// these are.
+    pub(crate) fn at_given<W: Watch>(
+        alloc: Global,
+        game: &'a Game,
+        given: &[u64],
+        watch: &mut W,
+    ) -> Result<Play<'a>, AllocError>
+        ensures { IfOk result (λ play. play.game ≡ game.now) }
     {
+        let mut play = Play::new(alloc, game)?;
         if given.is_empty() {
-            return;
+            return Ok(play);
         }
-        if self.raise_to(alloc, given).is_none()
-            && let Some(lowered) = lower_counts(alloc, self.game, given)
+        if play.raise_to(alloc, given).is_none()
+            && let Some(lowered) = lower_counts(alloc, game, given)
         {
-            let _ = self.raise_to(alloc, &lowered);
+            let _ = play.raise_to(alloc, &lowered);
         }
-        watch.used(self, given, self.use_of(given));
+        watch.used(&play, given, play.use_of(given));
+        Ok(play)
     }
 
     /// What became of counts that were given, where the play begins here.

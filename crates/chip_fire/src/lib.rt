@@ -13,6 +13,7 @@ pub use watch::{GivenUse, Unwatched, Watch};
 pub use work_list::{is_legal, work_off};
 
 mod advance;
+mod burning;
 mod certificate;
 mod given;
 mod play;
@@ -20,5 +21,6 @@ pub mod player;
 mod rounds;
 pub mod sitting;
 mod soon;
+mod tuning;
 pub mod watch;
 mod work_list;

@@ -1,6 +1,6 @@
 //! A play of a game: what it has come to, and its outcome once it rests.
 
-ghost use Rattle.std.specs.Prelude.{◌≡◌, ◌↔◌, IfOk, IsTrue, length, slice_index};
+ghost use Rattle.std.specs.Prelude.{◌≡◌, ℕ, ◌↔◌, IfOk, IsTrue, length, slice_index};
 ghost use Rattle.chip_sequence.specs.Firing.{legal_vertices};
 ghost use Rattle.chip_fire.specs.Rounds.{IsAtRest};
 ghost use Rattle.chip_fire.specs.Player.{PlaysOut};
@@ -34,7 +34,8 @@ impl<'a> Model for Play<'a> {
 impl<'a> Play<'a> {
     /// The start, where no vertex has fired. The memory of these two lists is all that a play needs.
     pub fn new(alloc: Global, game: &'a Game) -> Result<Play<'a>, AllocError>
-        ensures { IfOk result (λ play. play.game ≡ game.now) }
+        ensures game { IfOk result (λ play. play.game ≡ game.now) }
+        ensures unfired { IfOk result (λ play. (v : ℕ) → slice_index play.fired v ≡ 0) }
     {
         let chips = Vec::from_slice(alloc, game.start())?;
         let fired = vec![in alloc; 0; game.graph().vertices() as usize]?;

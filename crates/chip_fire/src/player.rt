@@ -3,9 +3,9 @@ ghost use Rattle.chip_fire.specs.Rounds.{IsAtRest};
 ghost use Rattle.chip_fire.specs.Player.{PlaysOut};
 
 use crate::play::Play;
+use crate::tuning::STRETCH;
 use crate::watch::{Unwatched, Watch};
 use chip_graph::Game;
-use chip_guess::tuning::STRETCH;
 use chip_sequence::Outcome;
 use std::alloc::{AllocError, Global};
 
@@ -42,8 +42,7 @@ pub fn plain_given<W: Watch>(
 ) -> Result<Outcome, AllocError>
     ensures { IfOk result (PlaysOut game.now) }
 {
-    let mut play = Play::new(alloc, game)?;
-    play.use_given(alloc, given, watch);
+    let mut play = Play::at_given(alloc, game, given, watch)?;
     play.play_few(alloc, watch);
     play.play_on(alloc, watch);
     play.outcome(alloc)

@@ -1,14 +1,16 @@
 //! Rounds, in which each vertex has its turn, and of which a watcher is told.
 
-ghost use Rattle.std.specs.Prelude.{◌≡◌, ◌+◌, ◌*◌, ◌/◌, ◌<◌, ◌≤◌, slice_index};
+ghost use Rattle.std.specs.Prelude.{◌≡◌, ◌+◌, ◌*◌, ◌/◌, ◌<◌, ◌≤◌, not, slice_index};
 ghost use Rattle.std.specs.Bool.{OnTrue, OnFalse};
 ghost use Rattle.chip_sequence.specs.Firing.{IsLegal};
-ghost use Rattle.chip_fire.specs.Rounds.{IsBegun, IsInRange, IsAtRest, StaysOnTheWay, GoesRound, firings_left, IsSwept};
+ghost use Rattle.chip_fire.specs.Rounds.{IsBegun, IsInRange, IsAtRest, StaysOnTheWay, GoesRound, firings_left};
+ghost use Rattle.chip_fire.specs.Rounds.{IsSwept, IsRound, AreRounds};
+ghost use Rattle.chip_fire.specs.Search.{FewLooks};
 
 use crate::play::Play;
+use crate::tuning::STRETCH;
 use crate::watch::Watch;
 use chip_graph::{Game, Graph};
-use chip_guess::tuning::STRETCH;
 use chip_sequence::fire_batch;
 
 impl Play<'_> {
@@ -21,7 +23,7 @@ impl Play<'_> {
         watch: &mut W,
     ) -> bool
         ensures same { self.new.game ≡ self.old.game }
-        ensures more { looks.old ≤ looks.new }
+        ensures few { FewLooks self.old.game self.old.fired self.new.fired looks.old looks.new (not result) }
     {
         let end = looks.saturating_add(most);
         'stretches: while *looks < end {
@@ -40,7 +42,7 @@ impl Play<'_> {
     pub(crate) fn rounds<W: Watch>(&mut self, most: u64, looks: &mut u64, watch: &mut W) -> bool
         ensures same { self.new.game ≡ self.old.game }
         ensures round { GoesRound self.old.game self.old.fired self.new.chips self.new.fired result }
-        ensures more { looks.old ≤ looks.new }
+        ensures few { FewLooks self.old.game self.old.fired self.new.fired looks.old looks.new result }
     {
         let graph = self.game.graph();
         let vertices = graph.vertices().max(1);
@@ -62,8 +64,8 @@ impl Play<'_> {
     }
 }
 
-/// Makes so many rounds, or until none fires a vertex; in how many one did. How many did in all is added to `turns`, up
-/// to 2^64 - 1.
+/// Makes so many rounds, or until none fires a vertex; in how many one did. Each time that a vertex fires in a round, as
+/// often in a row as it may, is added to `turns`, up to 2^64 - 1.
 // A round is so short that a play takes a seventh longer where this is a call.
 #[inline(always)]
 pub fn make_rounds(
@@ -77,59 +79,50 @@ pub fn make_rounds(
     requires some { 0 < most }
     ensures begun { IsBegun game.now chips.new fired.new }
     ensures at_most { result ≤ most }
-    ensures some_fired { result ≡ most
-        → firings_left game.now.graph game.now.limit fired.new < firings_left game.now.graph game.now.limit fired.old }
+    ensures rounds { AreRounds game.now fired.old fired.new result turns.old turns.new }
     ensures none_fired { result < most → IsAtRest game.now chips.new fired.new }
 {
     for made in 0..most {
-        if !round(game, chips, fired, turns) {
+        let count = round(game, chips, fired);
+        if count == 0 {
             return made;
         }
+        *turns = turns.saturating_add(count);
     }
     most
 }
 
 /// Lets each vertex fire as often as it may, first those with even numbers and then those with odd
-/// ones; whether any did. How many did is added to `turns`, up to 2^64 - 1.
+/// ones; how many did.
 ///
 /// Neighbours on paths and grids differ by an odd number, so a sweep over every second vertex seldom
 /// reads what it has just written: in ascending order a path takes nearly twice as long.
-fn round(game: &Game, chips: &mut [u64], fired: &mut [u64], turns: &mut u64) -> bool
+fn round(game: &Game, chips: &mut [u64], fired: &mut [u64]) -> u64
     requires { IsBegun game.now chips.old fired.old }
-    ensures { GoesRound game.now fired.old chips.new fired.new result }
+    ensures { IsRound game.now fired.old chips.new fired.new result }
 {
     let graph = game.graph();
     let limit = game.limit();
-    let even = sweep(graph, limit, 0, chips, fired, turns);
-    let odd = sweep(graph, limit, 1, chips, fired, turns);
-    even || odd
+    let even = sweep(graph, limit, 0, chips, fired);
+    let odd = sweep(graph, limit, 1, chips, fired);
+    even + odd
 }
 
-/// Lets every second vertex from the first one on fire as often as it may; whether any did.
-fn sweep(
-    graph: &Graph,
-    limit: u64,
-    first: u64,
-    chips: &mut [u64],
-    fired: &mut [u64],
-    turns: &mut u64,
-) -> bool
+/// Lets every second vertex from the first one on fire as often as it may; how many did.
+fn sweep(graph: &Graph, limit: u64, first: u64, chips: &mut [u64], fired: &mut [u64]) -> u64
     requires in_range { IsInRange graph.now limit chips.old fired.old }
     requires first_or_second { first ≤ 1 }
     ensures { IsSwept graph.now limit first chips.old fired.old chips.new fired.new result graph.now.vertices }
 {
     let sink = graph.sink();
-    let mut any = false;
     let mut count = 0u64;
     for step in 0..(graph.vertices() + 1 - first) / 2 {
         let vertex = first + 2 * step;
         if vertex != sink && turn(graph, limit, vertex, chips, fired) {
-            any = true;
-            count = count.wrapping_add(1);
+            count += 1;
         }
     }
-    *turns = turns.saturating_add(count);
-    any
+    count
 }
 
 /// Lets a vertex fire as often in a row as its chips and the limit allow; whether it did.
@@ -140,7 +133,8 @@ fn turn(graph: &Graph, limit: u64, vertex: u64, chips: &mut [u64], fired: &mut [
     requires in_range { IsInRange graph.now limit chips.old fired.old }
     ensures in_range { IsInRange graph.now limit chips.new fired.new }
     ensures stays { StaysOnTheWay graph.now limit chips.old fired.old chips.new fired.new }
-    ensures fires { OnTrue result (firings_left graph.now limit fired.new < firings_left graph.now limit fired.old) }
+    ensures fires { OnTrue result ((firings_left graph.now limit fired.new < firings_left graph.now limit fired.old)
+        × (firings_left graph.now limit fired.old ≤ firings_left graph.now limit fired.new + limit)) }
     ensures rests { OnFalse result ((chips.new ≡ chips.old) × (fired.new ≡ fired.old)
         × (IsLegal graph.now (slice_index chips.old) vertex → slice_index fired.old vertex ≡ limit)) }
 {

@@ -1,19 +1,13 @@
 //! The way to an end that may be near.
 
-ghost use Rattle.std.specs.Prelude.{◌≡◌, ◌+◌, ◌≤◌, length};
+ghost use Rattle.std.specs.Prelude.{◌≡◌, ◌+◌, not, length};
+ghost use Rattle.chip_fire.specs.Search.{FewLooks};
 
 use crate::play::Play;
+use crate::tuning::{FEW_LOOKS, FIRST_LOOKS, LOOKS_OF_FEW, VERTICES_PER_CHIP};
 use crate::watch::Watch;
 use chip_graph::Graph;
-use chip_guess::tuning::{FEW_LOOKS, FIRST_LOOKS};
 use std::alloc::Global;
-
-/// For how many vertices one chip waits where few do.
-const VERTICES_PER_CHIP: u64 = 64;
-
-/// How many looks at each vertex and edge are made by rounds, where few chips set off many: a search is slower than most
-/// such plays (full-1000, and some hundreds of chips on a full grid of 300 by 300).
-const LOOKS_OF_FEW: u64 = 1024;
 
 impl Play<'_> {
     /// Goes on by a work list where few chips wait to move, and by rounds where these have set off many.
@@ -38,7 +32,8 @@ impl Play<'_> {
     /// wait to move or the limit leaves little to do. Whether the play has ended. The looks are added to `looks`, which
     /// are none before.
     pub(crate) fn ends_soon<W: Watch>(&mut self, looks: &mut u64, watch: &mut W) -> bool
-        ensures { self.new.game ≡ self.old.game }
+        ensures same { self.new.game ≡ self.old.game }
+        ensures few { FewLooks self.old.game self.old.fired self.new.fired looks.old looks.new (not result) }
     {
         let all = looks_at_all(self.game.graph());
         let few = all.saturating_mul(FEW_LOOKS);
@@ -76,7 +71,7 @@ impl Play<'_> {
 
 /// The work of looking at each vertex and each edge out once.
 pub(crate) fn looks_at_all(graph: &Graph) -> u64
-    ensures { result ≤ graph.now.vertices + length graph.now.edges }
+    ensures { result ≡ graph.now.vertices + length graph.now.edges }
 {
     graph.vertices().saturating_add(graph.edges().len() as u64)
 }

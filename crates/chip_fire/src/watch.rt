@@ -1,6 +1,6 @@
 //! Who is told how a play goes on.
 
-ghost use Rattle.chip_fire.specs.Given.{IsUse};
+ghost use Rattle.chip_fire.specs.Given.{IsUse, IsBelow};
 ghost use Rattle.chip_fire.specs.Search.{IsShort};
 
 use crate::play::Play;
@@ -27,7 +27,8 @@ pub trait Watch {
 
     /// Told once what became of counts that were given, with the play as it begins.
     fn used(&mut self, _play: &Play<'_>, _given: &[u64], _use: GivenUse)
-        requires { IsUse _play.now.game _given.now _play.now.chips _play.now.fired _use }
+        requires told { IsUse _play.now.game _given.now _play.now.chips _play.now.fired _use }
+        requires below { IsBelow _given.now _play.now.fired }
     {}
 
     /// Told of a search for counts, in which no vertex fires, while it goes on.
@@ -35,8 +36,8 @@ pub trait Watch {
 
     /// Told once a search for counts is over how many looks at a vertex or an edge it made, the making of what it stands
     /// on too, and how many the rounds until then made.
-    fn searched(&mut self, _game: &Game, _played: u64, _searched: u64)
-        requires { IsShort _game.now _played _searched }
+    fn searched(&mut self, _play: &Play<'_>, _played: u64, _searched: u64)
+        requires { IsShort _play.now.game _play.now.fired _played _searched }
     {}
 
     /// Told after so many more rounds, in each of which some vertex fired, what the play has come to.

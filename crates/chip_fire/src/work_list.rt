@@ -8,14 +8,9 @@ ghost use Rattle.chip_fire.specs.WorkList.{AreListed, HasSupport};
 
 use crate::play::{Play, legal_vertices};
 use crate::rounds::times_in;
+use crate::tuning::{TURNS, VERTICES_PER_PLACE};
 use chip_graph::{Game, Graph};
 use std::alloc::{AllocError, Global};
-
-/// How many turns at each vertex a play by a work list makes before it gives up.
-const TURNS: u64 = 64;
-
-/// For how many vertices a work list has one place: rounds are twice as quick where many vertices fire (full-1000).
-const VERTICES_PER_PLACE: usize = 8;
 
 impl Play<'_> {
     /// Goes on by a work list, which begins with all legal vertices.

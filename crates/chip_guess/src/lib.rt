@@ -9,9 +9,10 @@
 //! what it found.
 #![tactic(auto)]
 
-pub use given::{burning_order, lower_counts};
+pub use given::lower_counts;
 pub use hierarchy::Hierarchy;
 pub use search::Search;
+pub use tuning::AHEAD;
 
 mod burning;
 mod cycle;
@@ -20,4 +21,4 @@ pub mod hierarchy;
 mod level;
 pub mod search;
 mod solver;
-pub mod tuning;
+mod tuning;

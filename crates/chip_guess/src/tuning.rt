@@ -1,19 +1,7 @@
-//! The numbers that were tuned, those of the player too, on games of `bench/`. A look is one at a vertex or an edge.
-
-/// How many looks at each vertex and edge a play makes before it is judged whether it ends soon. Doubled each time.
-pub const FIRST_LOOKS: u64 = 16;
-
-/// How many looks at each vertex and edge are too few to search counts: grid-six and random-graph with limits.
-pub const FEW_LOOKS: u64 = 480;
+//! The numbers of the search that were tuned, on games of `bench/`. A look is one at a vertex or an edge.
 
 /// How many looks at each vertex and edge a search may make beside two for each look of the play: as reading takes.
 pub const AHEAD: u64 = 160;
-
-/// How many looks at each vertex and edge the play makes in each of its turns beside a search.
-pub const TURN: u64 = 4;
-
-/// How many looks lie about between two times that it is told how far a play has come: some milliseconds.
-pub const STRETCH: u64 = 1 << 20;
 
 /// How many looks at each vertex and link at most are made before the levels are, and where a search begins.
 pub const LOOKS_OF_GRAPH: u64 = 16;

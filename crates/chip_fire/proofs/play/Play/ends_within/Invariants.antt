@@ -1,9 +1,13 @@
-use Rattle.std.proofs.Common.{◌≡◌, ◌≤◌}
+use Rattle.std.proofs.Common.{◌≡◌, true}
 use Rattle.chip_fire.specs.Rounds.{firings_left}
+use Rattle.chip_fire.specs.Search.{FewLooks}
 use Rattle.chip_fire.proofs.play.Play.ends_within.Given as goal
 
 abbrev pub invariant-stretches : goal.invariant-stretches
-invariant-stretches g l = record { same : l.self.game ≡ l.fn.self.game; more : l.fn.looks ≤ l.looks }
+invariant-stretches g l = record {
+  same : l.self.game ≡ l.fn.self.game;
+  few : FewLooks l.fn.self.game l.fn.self.fired l.self.fired l.fn.looks l.looks true;
+}
 
 abbrev pub decreases-stretches : goal.decreases-stretches
 decreases-stretches g l = firings_left l.self.game.graph l.self.game.limit l.self.fired

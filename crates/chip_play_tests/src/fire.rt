@@ -6,7 +6,8 @@ ghost use Rattle.chip_sequence.specs.Sittings.{IsResumed};
 
 use crate::games::{Rows, TRIANGLE, game_of, graph_of, triangle};
 use chip_fire::{
-    Play, ResumeFault, Search, Watch, is_legal, plain, plain_watched, resume, work_off,
+    Play, ResumeFault, Search, Watch, is_legal, plain, plain_watched, resume, resume_watched,
+    work_off,
 };
 use chip_graph::{Game, Graph};
 use chip_sequence::{Outcome, Resumed};
@@ -395,11 +396,12 @@ fn a_long_path_in_two_sittings(rt: HostRuntime) {
     long_path_ends(&rt, &last.outcome);
 }
 
-/// How often it was told something, of how many rounds in all, how many firings there were after the last of them, and of
-/// how many searches.
+/// How often it was told something, of how many plays, of how many rounds in all, how many firings there were after the
+/// last of them, and of how many searches.
 #[derive(Drop)]
 pub(crate) struct Told {
     times: u64,
+    plays: u64,
     pub(crate) rounds: u64,
     firings: u64,
     pub(crate) searches: u64,
@@ -414,6 +416,7 @@ impl Told {
     pub(crate) fn nothing() -> Told {
         Told {
             times: 0,
+            plays: 0,
             rounds: 0,
             firings: 0,
             searches: 0,
@@ -425,6 +428,10 @@ impl Told {
 }
 
 impl Watch for Told {
+    fn plays(&mut self, _game: &Game) {
+        self.plays = self.plays.saturating_add(1);
+    }
+
     fn searches(&mut self, search: &Search<'_>) {
         let chips = search.chips_to_move();
         self.least_to_move = self.least_to_move.min(chips);
@@ -437,15 +444,16 @@ impl Watch for Told {
         self.firings = all_firings(&play.fired);
     }
 
-    fn searched(&mut self, game: &Game, played: u64, searched: u64) {
-        let all = game.graph().vertices() + game.graph().edges().len() as u64;
+    fn searched(&mut self, play: &Play<'_>, played: u64, searched: u64) {
+        let graph = play.game.graph();
+        let all = graph.vertices() + graph.edges().len() as u64;
         self.searches = self.searches.saturating_add(1);
         self.looks = played.saturating_add(searched) / all.max(1);
     }
 }
 
 /// How often all vertices fired.
-fn all_firings(fired: &[u64]) -> u64 {
+pub(crate) fn all_firings(fired: &[u64]) -> u64 {
     let mut all = 0u64;
     for times in fired {
         all = all.saturating_add(*times);
@@ -558,6 +566,17 @@ fn three_sittings(rt: HostRuntime) {
     assert!(rt; second.outcome.over.as_slice() == [0].as_slice());
     let third = go_on(&rt, &second, 1 << 40, &[1, 0, 0], &[0, 1, 4], &[2, 1, 0]);
     assert!(rt; third.outcome.over.is_empty());
+}
+
+/// The second sitting is told of once, and its one round, in which vertex 0 fires.
+#[test]
+fn a_watched_sitting(rt: HostRuntime) {
+    let first = five_chips(&rt);
+    let mut told = Told::nothing();
+    let graph = Box::into_inner(triangle(&rt));
+    let last = resume_watched(rt.alloc(), graph, &first, 1 << 40, &mut told);
+    assert!(rt; last.is_ok());
+    assert!(rt; told.plays == 1 && told.rounds == 1 && told.firings == 1);
 }
 
 #[test]

@@ -1,49 +1,60 @@
 //! Plays that begin at given counts, and what becomes of these.
 
-use crate::fire::{is_same, long_game, long_path_ends};
+use crate::fire::{all_firings, is_same, long_game, long_path_ends};
 use crate::games::{Rows, TRIANGLE, game_of};
 use chip_fire::{GivenUse, Play, Watch, plain, plain_given};
 use chip_graph::Game;
 use chip_sequence::Outcome;
 use std::process::Abort;
 
-/// What became of given counts.
+/// What became of given counts, and how often all vertices have fired where the play begins.
 #[derive(Drop)]
 struct Used {
     last: Option<GivenUse>,
+    firings: u64,
 }
 
 impl Watch for Used {
-    fn used(&mut self, _play: &Play<'_>, _given: &[u64], given_use: GivenUse) {
+    fn used(&mut self, play: &Play<'_>, _given: &[u64], given_use: GivenUse) {
         self.last = Some(given_use);
+        self.firings = all_firings(&play.fired);
     }
 
     fn rounds(&mut self, _more: u64, _play: &Play<'_>) {}
 }
 
 /// Plays a game from given counts, and compares the outcome with that of `plain`, and what became of the counts.
-fn uses(rt: &(impl AllocGlobal + Abort), game: &Game, given: &[u64], expected: Option<GivenUse>) {
+fn uses(
+    rt: &(impl AllocGlobal + Abort),
+    game: &Game,
+    given: &[u64],
+    expected: Option<GivenUse>,
+) -> u64 {
     let outcome = plain(rt.alloc(), game).expect(rt, "memory");
-    uses_for(rt, game, given, &outcome, expected);
+    uses_for(rt, game, given, &outcome, expected)
 }
 
-/// The same with the outcome that is expected.
+/// The same with the outcome that is expected. How often all vertices have fired where the play begins.
 fn uses_for(
     rt: &(impl AllocGlobal + Abort),
     game: &Game,
     given: &[u64],
     expected: &Outcome,
     expected_use: Option<GivenUse>,
-) {
-    let mut used = Used { last: None };
+) -> u64 {
+    let mut used = Used {
+        last: None,
+        firings: 0,
+    };
     let outcome = plain_given(rt.alloc(), game, given, &mut used).expect(rt, "memory");
     assert!(rt; is_same(&outcome, expected), "another outcome");
     assert!(rt; used.last == expected_use, "{:?}", used.last);
+    used.firings
 }
 
 /// With 6 chips on vertex 0 of the triangle the counts of the end are 3, 1 and 0. By 4 and 2 no chip is left on vertices 0
 /// and 1: neither burns, and both lose a firing. By 3 and 2 vertex 0 burns, and vertex 1, which is below 0, does not; by 4
-/// and 1 it is the other way round. The sink fires as often as none.
+/// and 1 it is the other way round. The sink fires as often as none. So all that are lowered are lowered to 3 and 1.
 const SIX_CHIPS: [(&[u64], GivenUse); 12] = [
     (&[3, 1, 0], GivenUse::Certified),
     (&[3, 1], GivenUse::Certified),
@@ -63,7 +74,8 @@ const SIX_CHIPS: [(&[u64], GivenUse); 12] = [
 fn six_chips(rt: HostRuntime) {
     let game = game_of(&rt, TRIANGLE, &[6, 0, 0], 1 << 40);
     for (given, expected) in SIX_CHIPS {
-        uses(&rt, &game, given, Some(expected));
+        let firings = uses(&rt, &game, given, Some(expected));
+        assert!(rt; expected != GivenUse::Lowered || firings == 4);
     }
     uses(&rt, &game, &[], None);
 }

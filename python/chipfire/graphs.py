@@ -311,9 +311,10 @@ class Graph:
     def _by_names(self, values: Mapping[Hashable, Any]) -> list[Any]:
         found: dict[int, Any] = {}
         for name, count in values.items():
-            if self.number(name) in found:
+            vertex = self.number(name)
+            if vertex in found:
                 raise ValueError(f"vertex {name!r} is named twice")
-            found[self.number(name)] = count
+            found[vertex] = count
         return [found.get(vertex, 0) for vertex in range(self.vertices)]
 
     def _in_order(self, values: Any, of: str) -> list[Any]:
@@ -336,12 +337,10 @@ class Graph:
             widths = " or ".join(map(str, sorted({*map(len, rows)})))
             raise ValueError(f"the {of} stand in {len(rows)} rows of {widths}, and the graph has shape {self.shape}")
         flat = list(itertools.chain(*rows))
-        found = [0] * self.vertices
-        for vertex, square in enumerate(self.squares):
-            found[vertex], flat[square] = (0 if vertex == self.sink else flat[square]), 0
-        if any(flat):
+        if len(self.squares) < len(flat) and any(flat[it] for it in {*range(len(flat))}.difference(self.squares)):
             raise ValueError(f"there are {of} on a square that is no vertex of the graph")
-        return found
+        found = [0 if vertex == self.sink else flat[square] for vertex, square in enumerate(self.squares)]
+        return found + [0] * (self.vertices - len(found))
 
 
 def _both_ways(vertices: int, sink: int, pairs: Iterable[tuple[int, int]], shape: Any = None) -> Graph:

@@ -2,6 +2,7 @@
 
 from __future__ import annotations
 
+import contextlib
 import csv
 import importlib
 import io
@@ -45,12 +46,16 @@ def wholes(
     values: Sequence[Any], what: Callable[[int], str], least: int | None = 0, most: int | None = None
 ) -> Sequence[int]:
     """Many numbers, each as `whole` has it; `what` says which is in a place."""
-    try:
-        found = array("q", values)  # (as long as each is an int of up to 64 bits)
-        if (least is None or min(found, default=least) >= least) and (most is None or max(found, default=most) <= most):
+    for code in "Qq":  # (as long as each is an int of up to 64 bits; most often none is below 0)
+        try:
+            found = array(code, values)
+        except (OverflowError, TypeError):
+            continue
+        is_least = least is None or code == "Q" and least == 0 or min(found, default=least) >= least
+        if is_least and (most is None or max(found, default=most) <= most):
             return found
-    except (OverflowError, TypeError):
-        pass
+    with contextlib.suppress(TypeError, ValueError):
+        return [whole(value, "", least, most) for value in values]
     return [whole(value, what(place), least, most) for place, value in enumerate(values)]
 
 

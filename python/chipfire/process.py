@@ -181,7 +181,9 @@ def _meant(
         return f"{words[0]} takes 1 to {most}."
     if number == 91:
         kept = {f"/dev/fd/{file.number}": f"({kind})" for kind, file in inputs if isinstance(file, Kept)}
-        return f"it does not take the words `{' '.join(kept.get(word, word) for word in words)}`"
+        no_utf8 = [ascii(word)[1:-1] for word in words if re.search("[\ud800-\udfff]", word)]
+        told = no_utf8 or [kept.get(word, word) for word in words]
+        return f"it does not take the words `{' '.join(told)}`"
     if number == 92:
         return f"{re.sub('^--[a-z]+=', '', words[place[0]])} cannot be opened, or is also written"
     kinds = {kind: file for kind, file in inputs if not isinstance(file, Kept) or kind in ("schedule", "trace")}

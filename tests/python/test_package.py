@@ -572,6 +572,10 @@ class Mistakes(WithFolder):
         said = f"it does not take the words `plain (graph) {CHIPS_FILE} --large --limit=3`"
         self.assertTrue(str(fault).startswith(f"fault 91 Usage: {said}"), fault)
 
+    def test_of_the_words_one_that_is_no_utf_8_is_told(self):
+        fault = self.fault(chipfire.plain, TRIANGLE, os.fsdecode(b"caf\xe9.csv"), limit=3)
+        self.assertEqual((fault.number, fault.words), (91, r"it does not take the words `caf\udce9.csv`"))
+
     def test_what_is_no_graph_at_all(self):
         for value in (None, 3, {0: [1]}):
             for call in (chipfire.check, chipfire.order, lambda it: chipfire.plain(it, {}), chipfire.identity):

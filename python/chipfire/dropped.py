@@ -20,8 +20,6 @@ ROWS_HEADER = "vertex,chips,size,extent,lost\n"
 #: How many drops become text at a time, and how many bytes of rows become numbers.
 PART = 2**16
 _BYTES = 2**20
-#: How many drops the first call of the library makes. The next make more, or fewer if one takes a tenth of a second.
-_FIRST = 2**6
 
 
 @dataclass(frozen=True, repr=False, eq=False)
@@ -78,7 +76,8 @@ def played_drops(
     if not found or sum(chips) + max(amounts, default=0) > library.most(graph):
         return None
     left, columns = found[0], [array("Q", bytes(8 * len(at))) for _ in range(3)]
-    start, some = 0, _FIRST
+    # (one drop may be long; later calls make more, or fewer if one takes a tenth of a second)
+    start, some = 0, 1
     while start < len(at):
         begun, part = time.monotonic(), slice(start, start + some)
         where, many, *rows = (memoryview(it)[part] for it in (at, amounts, *columns))

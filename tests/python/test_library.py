@@ -130,9 +130,9 @@ class Amounts(unittest.TestCase):
         for graph in GRAPHS[:4]:
             drops = [(draw.randrange(graph.vertices), draw.randrange(4)) for _ in range(50)]
             chips, (at, amounts) = [9] * graph.vertices, zip(*drops)
-            for first, now in ((1, None), (7, itertools.count()), (50, None)):
-                clock = mock.patch("time.monotonic", side_effect=now) if now else mock.patch("chipfire.dropped.PART", 3)
-                with mock.patch("chipfire.dropped._FIRST", first), clock:
+            for quick in (0, 6, 50):
+                ticks = itertools.chain([0] * quick, itertools.count())
+                with mock.patch("time.monotonic", side_effect=ticks), mock.patch("chipfire.dropped.PART", 3):
                     found = chipfire.drops(graph, chips, at, amounts=amounts)
                 self.assertEqual(rows_of(found), list(slow_rows(graph, chips, drops)))
 

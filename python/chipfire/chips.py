@@ -3,8 +3,10 @@
 from __future__ import annotations
 
 import functools
+import itertools
 import json
 import operator
+from array import array
 from collections.abc import Callable, Hashable, Iterator, Mapping, Sequence
 from typing import TYPE_CHECKING, Any, TypeVar, Union
 
@@ -112,8 +114,7 @@ class Configuration(Drawn, Mapping[Hashable, int]):
 
     def is_recurrent(self, *, program: FileName | None = None) -> bool:
         """Whether it is recurrent: `chipfire.is_recurrent`."""
-        more = Configuration(self.graph, [*map(operator.add, self.numbers, burning(self.graph, program)[1])])
-        return min(self.numbers) >= 0 and more.stabilize(program=program) == self
+        return come_back(self.graph, [self.numbers], program)[0]
 
     def is_superstable(self, *, program: FileName | None = None) -> bool:
         """Whether it is superstable: `chipfire.is_superstable`."""
@@ -138,14 +139,32 @@ def played(chips: Configuration, program: FileName | None = None) -> tuple[Seque
         name = next(name for name, count in chips.items() if count < 0)
         others = "recurrent_representative and superstable_representative take such chips"
         raise ValueError(f"the chips of vertex {name!r} are below 0, so nothing is played; {others}")
-    found = library.play(chips.graph, chips.numbers, program)
-    if found is None:
-        files = [("graph", chips.graph.kept), ("chips", Kept([chips_text(chips.numbers).encode()]))]
-        told = json.loads(ask(program, "plain", files, graph=chips.graph))
-        found = told["chips"], told["fired"], len(told["over"])
-    if found[2]:
+    return played_many(chips.graph, chips.numbers, program)
+
+
+def played_many(graph: Graph, chips: Sequence[int], program: FileName | None) -> tuple[array[int], array[int]]:
+    """The same of the chips of one game after another."""
+    found = library.play(graph, chips, program)
+    left, fired, stopped = found or (array("Q"), array("Q"), 0)
+    for start in () if found else range(0, len(chips), graph.vertices or 1):
+        files = [("graph", graph.kept), ("chips", Kept([chips_text(chips[start : start + graph.vertices]).encode()]))]
+        told = json.loads(ask(program, "plain", files, graph=graph))
+        left.extend(told["chips"])
+        fired.extend(told["fired"])
+        stopped += len(told["over"])
+    if stopped:
         raise ValueError("a vertex fired 2^40 times, and the chips are not stable then")
-    return found[:2]
+    return left, fired
+
+
+def come_back(graph: Graph, rows: Sequence[tuple[int, ...]], program: FileName | None) -> list[bool]:
+    """Which configurations come back if the burning configuration is added and the sum is stabilized."""
+    fuel, width, none = burning(graph, program)[1], graph.vertices, (0,) * graph.vertices
+    # (no play comes back to what has less than no chip somewhere)
+    burnt = (map(operator.add, row if min(row) >= 0 else none, fuel) for row in rows)
+    left, _ = played_many(graph, [*itertools.chain.from_iterable(burnt)], program)
+    left[graph.sink :: width] = array("Q", bytes(8 * len(rows)))
+    return [tuple(left[at : at + width]) == row for at, row in zip(range(0, len(left), width), rows)]
 
 
 def once(question: Callable[[Graph, FileName | None], T]) -> Callable[[Graph, FileName | None], T]:

@@ -15,7 +15,6 @@ from __future__ import annotations
 
 import ctypes
 import functools
-import itertools
 import os
 import warnings
 from array import array
@@ -31,8 +30,9 @@ if TYPE_CHECKING:
 #: The most that a play in this process may take: vertices and edges, times chips, and times firings of each vertex.
 MOST_WORK = 2**28
 _NUMBER, _SLICE = ctypes.c_uint64, (ctypes.c_void_p, ctypes.c_size_t)
-#: No numbers; and what a slice of length 0 points to.
-_NONE, _SOMETHING = array("Q"), array("Q", [0])
+#: No numbers, one number, and a slice of length 0, which points to something.
+_NONE, _ZERO = array("Q"), array("Q", [0])
+_NOTHING = _ZERO.buffer_info()[0], 0
 
 
 @functools.cache
@@ -76,32 +76,37 @@ def most(graph: Graph) -> int:
 
 def _slice(name: str, numbers: Any) -> tuple[int, int]:
     """Where an array begins, and how many numbers it has."""
-    if isinstance(numbers, array) and numbers.typecode == "Q" and numbers:
-        return numbers.buffer_info()
+    if isinstance(numbers, array) and numbers.typecode == "Q":
+        return numbers.buffer_info() if numbers else _NOTHING
     try:
         view = memoryview(numbers)
         if view.format in ("Q", "L"):
-            return ctypes.addressof(ctypes.c_char.from_buffer(view if view.nbytes else _SOMETHING)), view.nbytes // 8
+            return (ctypes.addressof(ctypes.c_char.from_buffer(view)), view.nbytes // 8) if view.nbytes else _NOTHING
     except TypeError:
         pass
     kind = "array of 64-bit numbers from 0 on, one behind another, that can be written"
     raise TypeError(f"the {name} are no {kind}: {type(numbers).__name__}")
 
 
-def _call(call: str, graph: Graph, limit: int, **arrays: Any) -> None:
+def _call(call: Any, graph: Graph, limit: int, *arrays: Any) -> None:
     """Makes a call of the library. A fault is raised."""
-    found, place = _loaded(), _NUMBER()
-    if found is None:
-        raise ProgramNotFound(2, "there is no library of this version beside the program", "libchipfire.so")
-    edges = [_slice("edges", column) for column in graph.long_columns]
-    slices = [_slice(name, numbers) for name, numbers in arrays.items()]
-    ends = sorted([*edges, *slices])
-    if any(start + 8 * length > other for (start, length), (other, _) in zip(ends, ends[1:])):
-        raise ValueError(f"two of the {', '.join(arrays)} overlap")
-    of_graph = min(graph.vertices, 2**64 - 1), min(graph.sink, 2**64 - 1), *itertools.chain(*edges)
-    number = getattr(found, call)(*of_graph, whole(limit, "limit", 0, MAX_LIMIT), *itertools.chain(*slices), place)
+    place, of_graph = _NUMBER(), (min(graph.vertices, 2**64 - 1), min(graph.sink, 2**64 - 1))
+    words = [word for numbers in (*graph.long_columns, *arrays) for word in _slice("numbers", numbers)]
+    number = call(*of_graph, *words[:6], limit, *words[6:], place)
     if number:
         raise refused(number, place.value, graph)
+
+
+def _call_on(call: str, graph: Graph, limit: int, **arrays: Any) -> None:
+    """Makes a call on arrays of others, which must not overlap."""
+    found = _loaded()
+    if found is None:
+        raise ProgramNotFound(2, "there is no library of this version beside the program", "libchipfire.so")
+    edges = [("edges", column) for column in graph.long_columns]
+    ends = sorted(_slice(name, numbers) for name, numbers in [*edges, *arrays.items()])
+    if any(start + 8 * length > other for (start, length), (other, _) in zip(ends, ends[1:])):
+        raise ValueError(f"two of the {', '.join(arrays)} overlap")
+    _call(getattr(found, call), graph, whole(limit, "limit", 0, MAX_LIMIT), *arrays.values())
 
 
 def stabilize_all(
@@ -111,7 +116,7 @@ def stabilize_all(
 
     `fired` is as long, and gets how often each vertex fired. `stopped` gets of each game how many vertices the limit
     stopped. `guesses` is empty, or as long as `chips`: how often each vertex may have fired in the end."""
-    _call("chipfire_stabilize_all", graph, limit, guesses=guesses, chips=chips, fired=fired, stopped=stopped)
+    _call_on("chipfire_stabilize_all", graph, limit, guesses=guesses, chips=chips, fired=fired, stopped=stopped)
 
 
 def avalanches(
@@ -122,7 +127,7 @@ def avalanches(
     `sizes`, `extents` and `losts` get the numbers of each drop, as `Drops` has them. The limit is that of all firings
     of a vertex; if it stops the play of a drop, that is fault 13."""
     rows = {"sizes": sizes, "extents": extents, "losts": losts}
-    _call("chipfire_avalanches", graph, limit, at=at, amounts=amounts, chips=chips, **rows)
+    _call_on("chipfire_avalanches", graph, limit, at=at, amounts=amounts, chips=chips, **rows)
 
 
 def play(
@@ -130,14 +135,17 @@ def play(
 ) -> tuple[array[int], array[int], int] | None:
     """The chips and the counts at the end of one game after another, and how many vertices the limit stopped; or None
     if one of them is the program's."""
-    width, at_most = graph.vertices or 1, most(graph)
-    games = range(0, len(chips), width)
-    at_once = at_most // (1 + max((sum(chips[game : game + width]) for game in games), default=0))
-    if program is not None or not at_once or not _loaded():
+    found, width, at_most = _loaded() if program is None else None, graph.vertices or 1, most(graph)
+    starts = range(0, len(chips), width)
+    at_once = at_most // (1 + max([sum(chips[it : it + width]) for it in starts], default=0))
+    if not found or not at_once:
         return None
-    left, fired, stopped = array("Q", chips), array("Q", bytes(8 * len(chips))), array("Q", bytes(8 * len(games)))
-    for first in range(0, len(games) or 1, at_once):
-        part = slice(first * width, (first + at_once) * width)
-        here = memoryview(left)[part], memoryview(fired)[part], memoryview(stopped)[first : first + at_once]
-        stabilize_all(graph, *here, guesses=array("Q", guess[part]), limit=min(limit, at_most))
+    ended = left, fired, stopped = array("Q"), array("Q"), array("Q")
+    for first in range(0, len(starts) or 1, at_once):
+        part, games = slice(first * width, (first + at_once) * width), len(starts[first : first + at_once])
+        start = chips[part] if isinstance(chips, array) else array("Q", chips[part])
+        here = start, _ZERO * len(start), _ZERO * games
+        _call(found.chipfire_stabilize_all, graph, min(limit, at_most), array("Q", guess[part]), *here)
+        for numbers, more in zip(ended, here):
+            numbers += more
     return None if at_most < limit and any(stopped) else (left, fired, sum(stopped))

@@ -77,8 +77,9 @@ class _Question:
     """What the program is asked about a graph, which may stand in a file."""
 
     def __init__(self, graph: AnyGraph, program: AnyProgram) -> None:
-        self.program, self.given = program, graph
-        self.own = None if isinstance(graph, FILE) else self.graph
+        self.program, self.given, self.own = program, graph, None
+        if not isinstance(graph, FILE):
+            self.own = self.graph = known_graph(graph)
 
     @functools.cached_property
     def graph(self) -> Graph:
@@ -123,14 +124,22 @@ def plain(
     question = _Question(graph, program)
     start = question.numbers(chips)
     counts = () if guess is None else question.numbers(guess.total if isinstance(guess, Report) else guess, "firings")
-    if question.own and not progress and not isinstance(start, FILE) and not isinstance(counts, FILE):
-        most = MAX_LIMIT if limit is None else whole(limit, "limit", *_RANGES["limit"])
-        if found := library.play(question.own, start, program, most, capped(counts)):
+    if question.own and not progress and isinstance(start, tuple) and isinstance(counts, tuple):
+        if found := library.play(question.own, start, program, _limit(limit), capped(counts)):
             left, fired, stopped = found
-            over = (at for at, degree in enumerate(question.own.degrees()) if 0 < degree <= left[at]) if stopped else ()
-            return Report(tuple(left), tuple(fired), tuple(over), graph=question.own)
+            return Report(tuple(left), tuple(fired), _legal(question.own, left) if stopped else (), graph=question.own)
     files = [question.chips(start), *([] if guess is None else [question.chips(counts, "--guess", GUESS_HEADER)])]
     return Report.parse(question.ask("plain", files, limit=limit, progress=progress), question.graph)
+
+
+def _limit(limit: int | None) -> int:
+    """The limit of a play."""
+    return MAX_LIMIT if limit is None else whole(limit, "limit", *_RANGES["limit"])
+
+
+def _legal(graph: Graph, chips: Sequence[int]) -> tuple[int, ...]:
+    """The vertices that could fire."""
+    return tuple(at for at, degree in enumerate(graph.degrees()) if 0 < degree <= chips[at])
 
 
 def verify(

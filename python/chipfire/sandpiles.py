@@ -13,18 +13,20 @@ from collections.abc import Callable, Hashable, Iterable, Iterator, Sequence
 from dataclasses import dataclass, field
 from typing import Any, cast
 
-from chipfire import library, smith
-from chipfire.chips import Chips, Configuration, burning, capped, identity, played
+from chipfire import smith
+from chipfire.chips import Chips, Configuration, burning, come_back, identity, played, played_many
 from chipfire.dropped import PART
 from chipfire.graphs import Graph
-from chipfire.program import AnyGraph, AnyProgram, known_chips, known_graph, plain
-from chipfire.values import MAX_CHIPS, imported, whole
+from chipfire.program import AnyGraph, AnyProgram, known_graph, read_chips
+from chipfire.values import FILE, MAX_CHIPS, imported, whole
 
 
 def _held(graph: AnyGraph, chips: Chips, program: AnyProgram) -> Configuration:
     """Chips as a configuration."""
     known = known_graph(graph, program)
-    return Configuration(known, known_chips(known, chips, program))
+    if isinstance(chips, Configuration) and chips.graph is known:
+        return chips
+    return Configuration(known, read_chips(chips, known, program=program) if isinstance(chips, FILE) else chips)
 
 
 def stabilize(graph: AnyGraph, chips: Chips, *, program: AnyProgram = None) -> Configuration:
@@ -81,31 +83,24 @@ def stabilize_many(graph: AnyGraph, configurations: Iterable[Chips], *, program:
     Proved: the chips. Not proved: that Python passes them on."""
     known, given = known_graph(graph, program), cast(Any, configurations)
     width, numpy = known.vertices, imported("numpy")
-    is_array = hasattr(given, "__array_interface__") and given.shape[1:] == (width,) and given.dtype.kind in "iu"
-    if is_array and ((given >= 0) & (given <= MAX_CHIPS)).all():
-        start = array("Q", given.astype("u8").tobytes())
+    is_array = hasattr(given, "__array_interface__") and given.shape[1:] == (width,) and given.dtype.kind in "iuf"
+    if is_array and ((given >= 0) & (given <= MAX_CHIPS)).all() and (given % 1 == 0).all():
+        start: Sequence[int] = array("Q", given.astype("u8").tobytes())
     else:
         rows = (known.numbers(row, 0, f"chips in row {place}") for place, row in enumerate(given))
-        start = array("Q", capped([*itertools.chain.from_iterable(rows)]))
-    found, starts = library.play(known, start, program), range(0, len(start), width or 1)
-    reports = [] if found else [plain(known, start[it : it + width], program=program) for it in starts]
-    if not all(report.closed for report in reports):
-        raise ValueError("a vertex fired 2^40 times, and the chips are not stable then")
-    left = found[0] if found else array("Q", itertools.chain.from_iterable(report.chips for report in reports))
-    return numpy.frombuffer(left, "q").reshape(-1, width) if numpy else [tuple(left[it : it + width]) for it in starts]
+        start = [*itertools.chain.from_iterable(rows)]
+    left, _ = played_many(known, start, program)
+    if numpy:
+        return numpy.frombuffer(left, "q").reshape(-1, width)
+    return [tuple(left[it : it + width]) for it in range(0, len(left), width or 1)]
 
 
 def are_recurrent(graph: AnyGraph, configurations: Iterable[Chips], *, program: AnyProgram = None) -> list[bool]:
     """Of many configurations whether each is recurrent; they come as in `stabilize_many`.
     Proved and not proved: as of `is_recurrent`."""
     known = known_graph(graph, program)
-    fuel = burning(known, program)[1]
     rows = (known.numbers(row, of=f"chips in row {place}") for place, row in enumerate(configurations))
-    held = [Configuration(known, row).numbers for row in rows]
-    # (no play comes back to what has less than no chip somewhere)
-    burnt = [[max(count, 0) + more for count, more in zip(row, fuel)] for row in held]
-    left = stabilize_many(known, burnt, program=program)
-    return [Configuration(known, after).numbers == row for after, row in zip(left, held)]
+    return come_back(known, [Configuration(known, row).numbers for row in rows], program)
 
 
 def recurrent_representative(graph: AnyGraph, chips: Chips, *, program: AnyProgram = None) -> Configuration:

@@ -6,9 +6,9 @@
 An array is an `array.array("Q")`, or one of NumPy of `uint64` in C's order that can be written. No two arrays of a call
 overlap. On a fault all stay as they were.
 
-`plain`, and what stands on it, goes this way if neither the call nor CHIPFIRE names a program, the library lies where
-the program does and has the package's version, and the play is short. Else the program answers, as a process. In a
-forked child of a process with threads set CHIPFIRE, since the library asks for memory.
+`plain`, `verify` of a report, and what stands on them go this way if neither the call nor CHIPFIRE names a program, the
+library lies where the program does and has the package's version, and the play is short. Else the program answers, as a
+process. In a forked child of a process with threads set CHIPFIRE, since the library asks for memory.
 """
 
 from __future__ import annotations
@@ -52,7 +52,8 @@ def _beside() -> ctypes.CDLL | None:
             told = f"{file} has version {own}, and the package {version()}: each call starts the program, slower"
             warnings.warn(told, stacklevel=2)
             return None
-        for call, slices in (found.chipfire_stabilize_all, 4), (found.chipfire_avalanches, 6):
+        calls = (found.chipfire_stabilize_all, 4), (found.chipfire_avalanches, 6), (found.chipfire_verify, 3)
+        for call, slices in calls:
             call.restype = _NUMBER
             call.argtypes = [_NUMBER, _NUMBER, *3 * _SLICE, _NUMBER, *slices * _SLICE, ctypes.POINTER(_NUMBER)]
         return found
@@ -88,13 +89,14 @@ def _slice(name: str, numbers: Any) -> tuple[int, int]:
     raise TypeError(f"the {name} are no {kind}: {type(numbers).__name__}")
 
 
-def _call(call: Any, graph: Graph, limit: int, *arrays: Any) -> None:
-    """Makes a call of the library. A fault is raised."""
+def _call(call: Any, graph: Graph, limit: int, *arrays: Any, but: int = 0) -> int:
+    """Makes a call of the library. A fault is raised, `but` this one, whose number is returned; 0 if there is none."""
     place, of_graph = _NUMBER(), (min(graph.vertices, 2**64 - 1), min(graph.sink, 2**64 - 1))
     words = [word for numbers in (*graph.long_columns, *arrays) for word in _slice("numbers", numbers)]
-    number = call(*of_graph, *words[:6], limit, *words[6:], place)
-    if number:
+    number: int = call(*of_graph, *words[:6], limit, *words[6:], place)
+    if number not in (0, but):
         raise refused(number, place.value, graph)
+    return number
 
 
 def _call_on(call: str, graph: Graph, limit: int, **arrays: Any) -> None:
@@ -149,3 +151,15 @@ def play(
         for numbers, more in zip(ended, here):
             numbers += more
     return None if at_most < limit and any(stopped) else (left, fired, sum(stopped))
+
+
+def is_end(
+    graph: Graph, chips: Sequence[int], fired: Sequence[int], ends: Sequence[int], program: FileName | None, limit: int
+) -> bool | None:
+    """Whether these are the counts and the chips at the end of a game; or None if that is the program's to say."""
+    found, at_most = _loaded() if program is None else None, most(graph)
+    # (a game that is stopped here and not by its limit has a vertex that fires more often)
+    if not found or sum(chips) >= at_most or max(fired) >= at_most < limit:
+        return None
+    arrays = (array("Q", numbers) for numbers in (chips, fired, ends))
+    return _call(found.chipfire_verify, graph, min(limit, at_most), *arrays, but=53) == 0

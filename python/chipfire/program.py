@@ -148,7 +148,8 @@ def verify(
 ) -> bool:
     """Whether a report is what `plain` finds for this game and limit; or, in a form of chips, whether counts are those.
     A name is that of the file of a report. One that was stopped by a smaller limit may be honest, and is not verified.
-    Proved: the verdict on a file, and of what else is given the play. Not proved: that Python compares it."""
+    Proved: the verdict on a file, and on the counts and chips of a report where the library answers; else the play.
+    Not proved: what Python compares."""
     question = _Question(graph, program)
     if isinstance(report, FILE):
         files = [question.chips(chips), ("report", report)]
@@ -159,11 +160,17 @@ def verify(
                 return False
             raise
         return True
-    counts = report.total if isinstance(report, Report) else question.graph.numbers(report, of="firings")
-    if min(counts) < 0:
+    told = report if isinstance(report, Report) else None
+    counts = question.graph.numbers(told.total if told else report, of="firings")
+    if min(counts) < 0 or told and min(told.chips) < 0:
         return False
-    found = plain(graph, chips, limit=limit, guess=counts, progress=progress, program=program)
-    return found == replace(report, fired=counts, prior=None) if isinstance(report, Report) else found.fired == counts
+    start, own = question.numbers(chips), question.own
+    if told and own and not progress and isinstance(start, tuple):
+        is_end = library.is_end(own, start, capped(counts), capped(told.chips), program, _limit(limit))
+        if is_end is not None:
+            return is_end and told == replace(told, over=_legal(own, told.chips), sealed=(), graph=own)
+    found = plain(graph, start, limit=limit, guess=counts, progress=progress, program=program)
+    return found == replace(told, fired=counts, prior=None) if told else found.fired == counts
 
 
 def drops(

@@ -3,6 +3,7 @@
 All small cases are compared with the slow player of examples/play.py. With CHIPFIRE each call starts the program, and
 the tests of arrays are skipped.
 """
+import dataclasses
 import itertools
 import os
 import random
@@ -199,10 +200,29 @@ class Ways(WithFolder):
 
     def test_a_play_that_is_longer_than_was_thought_is_the_program_s(self):
         chain = chipfire.Graph(3, 2, [(0, 1, 10), (1, 0), (0, 2)])
-        for chips, starts in ([30, 0, 0], 0), ([300, 0, 0], 1):
+        short, long = (slow_report(chain, [chips, 0, 0]) for chips in (30, 300))
+        for call, wanted, starts in [
+            (lambda: chipfire.plain(chain, [30, 0]), short, False),
+            (lambda: chipfire.plain(chain, [300, 0]), long, True),
+            (lambda: chipfire.verify(chain, [30, 0], short), True, False),
+            (lambda: chipfire.verify(chain, [300, 0], long), True, True),
+            (lambda: chipfire.verify(chain, [300, 0], short), False, False),
+        ]:
             with mock.patch.object(library, "MOST_WORK", 6 * 320), self.counted() as started:
-                self.assertEqual(chipfire.plain(chain, chips), slow_report(chain, chips))
-            self.assertEqual(started.call_count > 0, bool(starts) or not IS_HERE)
+                self.assertEqual(call(), wanted)
+            self.assertEqual(started.call_count > 0, starts or not IS_HERE)
+
+    def test_reports_are_verified_whatever_is_short(self):
+        for graph in (SMALL[0], TRIANGLE, SMALL[-1]):
+            chips = [9] * graph.vertices
+            most, limits = max(slow_report(graph, chips).fired), [0, 1, 2, 5, 2**40]
+            reports = [slow_report(graph, chips, limit) for limit in limits]
+            less = dataclasses.replace(reports[-1], chips=(reports[-1].chips[0] - 2**41, *reports[-1].chips[1:]))
+            for short, (limit, right) in itertools.product((most, most + 1, 2**28), zip(limits, reports)):
+                work = max(short, sum(chips) + 1) * (graph.vertices + len(graph.edges))
+                with self.subTest(graph=graph, short=short, limit=limit), mock.patch.object(library, "MOST_WORK", work):
+                    found = [chipfire.verify(graph, chips, report, limit=limit) for report in [*reports, less]]
+                    self.assertEqual(found, [report == right for report in [*reports, less]])
 
     @unittest.skipUnless(IS_HERE, "the library is not called")
     def test_a_library_of_another_version_is_not_called(self):

@@ -14,3 +14,4 @@ pub mod Gathering
 pub mod Handed
 pub mod Joining
 pub mod Finished
+pub mod FaultNumbers

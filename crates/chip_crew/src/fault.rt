@@ -1,3 +1,4 @@
+use chip_graph::GameFault;
 use chip_net::Root;
 use std::alloc::AllocError;
 
@@ -27,6 +28,27 @@ pub enum CrewFault {
         /// The root.
         root: Root,
     },
+}
+
+impl CrewFault {
+    ghost use Rattle.std.specs.Prelude.{◌≡◌};
+    ghost use Rattle.chip_crew.specs.FaultNumbers.{crew_fault_number};
+
+    /// The number of this fault in the table of faults.
+    pub fn number(&self) -> u64
+        ensures { result ≡ crew_fault_number self.now }
+    {
+        match self {
+            CrewFault::Plan => 60,
+            CrewFault::Total => GameFault::Total.number(),
+            CrewFault::NoMemory => 90,
+            CrewFault::Spawn => 65,
+            CrewFault::GateShut => 62,
+            CrewFault::Doubled(_) => 64,
+            CrewFault::Lost(_) => 63,
+            CrewFault::Unfinished { .. } => 61,
+        }
+    }
 }
 
 impl From<AllocError> for CrewFault {

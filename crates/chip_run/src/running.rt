@@ -3,7 +3,9 @@
 ghost use Rattle.std.specs.Prelude.{◌≡◌, ℕ, false, None, option_map, IfOk, IfErr};
 ghost use Rattle.chip_graph.specs.Limits.{standard};
 ghost use Rattle.chip_graph.specs.ChipGame.{IsGame};
+ghost use Rattle.chip_command.specs.FaultNumbers.{number_of};
 ghost use Rattle.chip_command.specs.Statuses.{number_of_status};
+ghost use Rattle.chip_crew.specs.FaultNumbers.{crew_fault_number};
 ghost use Rattle.chip_crew.specs.declared.plan.Sharing.TheVariants.{Queue};
 ghost use Rattle.chip_run.specs.RunCommand.{RunReads, RunReports, ReportsSomeRun, Plays, IsNotPlayed, plan_of};
 
@@ -168,9 +170,10 @@ fn play<R: Threads + Wait + Sync, K: Gate + Sync>(
     }
 }
 
-/// A crew's fault, without the root.
+/// A crew's fault, without the root. Its number is the same.
 fn fault_of_crew(fault: CrewFault) -> Fault
-    ensures { result ≡ Rattle.chip_run.specs.RunCommand.fault_of_crew fault }
+    ensures fault { result ≡ Rattle.chip_run.specs.RunCommand.fault_of_crew fault }
+    ensures number { number_of result ≡ crew_fault_number fault }
 {
     match fault {
         CrewFault::Plan => Fault::Plan,

@@ -23,4 +23,4 @@ returns-in-Ok-clause-played g c =
 pub returns-clause-fault : goal.returns-clause-fault
 returns-clause-fault g c = not_played c.args.options.sharing c.args.game
     (option_map (λ fed. fed.items) c.args.feeds) c.args.options.plan (g.K.Gate.may_answer c.args.gate.now)
-    c.requires.gate c.in-Err.fault _ (rw c.as_deref.ensures.value at c.in-Err.ensures.fault) c.fault_of_crew.ensures
+    c.requires.gate c.in-Err.fault _ (rw c.as_deref.ensures.value at c.in-Err.ensures.fault) c.fault_of_crew.ensures.fault

@@ -1,4 +1,5 @@
-/* libchipfire: chip-firing games (abelian sandpiles), played by proved functions.
+/* libchipfire: chip-firing games (abelian sandpiles), played by proved functions, and behind them a detector of the end of
+ * your own computation.
  *
  * A graph is its number of vertices, its sink, and three slices with one number for each edge, as a sparse matrix in
  * coordinates has them: the tail, the head, and how many chips one firing of the tail sends to the head. A slice is a
@@ -99,6 +100,73 @@ uint64_t chipfire_verify(uint64_t vertices, uint64_t sink,
                          const uint64_t *fired, size_t fired_len,
                          const uint64_t *ends, size_t ends_len,
                          uint64_t *place);
+
+/* ---- The end of your own computation
+ *
+ * Parts send one another messages, and want to know when none is on its way and nobody is at work (Dijkstra and Scholten).
+ * docs/DETECTOR.md says how, and docs/tasks/detect-your-own.md which duties a part has.
+ *
+ * The books of a part are two slices with a tally for each edge, of those into the part and of those out of it, and its
+ * parent edge. They are memory of yours: nothing is kept from one call to the next. At first all counts are 0, and the
+ * parent is CHIPFIRE_NEUTRAL.
+ *
+ *     edge    its number, below 2^64 - 1. Each slice ascends by edges, names none twice, and has 2^23 + 1 at most
+ *     counts  up to 2^40
+ *     flags   0 is false, and all else true. What is written is 0 or 1
+ *
+ * Each call answers 0, or 46 or 47, and then nothing has changed:
+ *
+ *     46      there is no such edge, or a count is too high, or the books are not sound, where that is seen
+ *     47      so many messages may not be acknowledged yet
+ *
+ * A call that answers 0 keeps sound books sound. Of others nothing is promised, but it touches no memory except theirs.
+ * chipfire_books_check tells which are sound; the other calls look at one edge, and at all only where they must add up.
+ *
+ * The caller sees to this too, which no call can check:
+ *
+ *   - One call at a time works on the books of one part.
+ *   - A message is noted as sent before it can be got, and as got before it is worked on. None is lost or comes twice.
+ *   - The tail of an edge learns how many messages were acknowledged only after chipfire_acked has answered 0.
+ *   - A part that says that it is passive sends nothing, and only a message wakes it. Only the root begins at work, and no
+ *     edge leads to the root. */
+struct chipfire_tally {
+    uint64_t edge;      /* the number of the edge */
+    uint64_t messages;  /* how many messages were got on it (in), or sent (out) */
+    uint64_t answered;  /* how many of these are acknowledged (in), or known to be (out) */
+};
+
+/* The parent of a part that no message engages: the number of no edge. */
+#define CHIPFIRE_NEUTRAL UINT64_MAX
+
+/* Notes a message that was sent on the edge. */
+uint64_t chipfire_sent(struct chipfire_tally *outs, size_t outs_len, uint64_t edge);
+
+/* Notes a message that came on the edge. It engages a neutral part: the edge becomes its parent. */
+uint64_t chipfire_got(struct chipfire_tally *ins, size_t ins_len, uint64_t *parent, uint64_t edge);
+
+/* Writes how many messages of the edge may be acknowledged now. */
+uint64_t chipfire_may_ack(const struct chipfire_tally *ins, size_t ins_len,
+                          const struct chipfire_tally *outs, size_t outs_len,
+                          uint64_t parent, uint64_t edge, uint64_t passive, uint64_t *count);
+
+/* Notes that so many messages of the edge are acknowledged, at most as many as chipfire_may_ack writes. */
+uint64_t chipfire_acked(struct chipfire_tally *ins, size_t ins_len,
+                        const struct chipfire_tally *outs, size_t outs_len,
+                        uint64_t *parent, uint64_t edge, uint64_t passive, uint64_t count);
+
+/* Notes that the edge's head has acknowledged so many messages from the beginning on, as it says now or said before, and
+ * writes how many of these are new. */
+uint64_t chipfire_settled(struct chipfire_tally *outs, size_t outs_len, uint64_t edge, uint64_t word, uint64_t *more);
+
+/* Writes how many acknowledgements the part waits for. */
+uint64_t chipfire_deficit(const struct chipfire_tally *outs, size_t outs_len, uint64_t *count);
+
+/* Asked of the root: writes whether all is over. It is once the root sends no more and waits for no acknowledgement. */
+uint64_t chipfire_is_over(const struct chipfire_tally *outs, size_t outs_len, uint64_t ended, uint64_t *over);
+
+/* Says whether the books of a part are sound. */
+uint64_t chipfire_books_check(const struct chipfire_tally *ins, size_t ins_len,
+                              const struct chipfire_tally *outs, size_t outs_len, uint64_t parent);
 
 #ifdef __cplusplus
 }

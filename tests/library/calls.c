@@ -180,11 +180,42 @@ static void try_claims(void)
     FAULT(verify, c.limit = 1, 53, 0);
 }
 
+/* Part A of the small run in docs/DETECTOR.md: the edges 1 and 3 lead to it, and 0 out of it. */
+static void try_detector(void)
+{
+    struct chipfire_tally ins[] = {{1, 0, 0}, {3, 0, 0}}, outs[] = {{0, 0, 0}}, twice[] = {{2, 0, 0}, {2, 0, 0}};
+    uint64_t parent = CHIPFIRE_NEUTRAL, told = GUARD;
+    EXPECT(chipfire_books_check(ins, 2, outs, 1, parent) == 0 && chipfire_books_check(twice, 2, outs, 1, parent) == 46);
+    EXPECT(chipfire_got(ins, 2, &parent, 3) == 0 && parent == 3 && ins[1].messages == 1);
+    EXPECT(chipfire_got(ins, 2, &parent, 2) == 46 && parent == 3);
+    EXPECT(chipfire_sent(outs, 1, 0) == 0 && outs[0].messages == 1 && chipfire_sent(outs, 1, 1) == 46);
+    EXPECT(chipfire_got(ins, 2, &parent, 1) == 0 && parent == 3);
+    EXPECT(chipfire_may_ack(ins, 2, outs, 1, parent, 2, 1, &told) == 46 && told == GUARD);
+    EXPECT(chipfire_may_ack(ins, 2, outs, 1, parent, 1, 0, &told) == 0 && told == 1);
+    EXPECT(chipfire_acked(ins, 2, outs, 1, &parent, 1, 0, 2) == 46 && ins[0].answered == 0);
+    EXPECT(chipfire_acked(ins, 2, outs, 1, &parent, 1, 0, 1) == 0 && ins[0].answered == 1 && parent == 3);
+    EXPECT(chipfire_acked(ins, 2, outs, 1, &parent, 3, 1, 1) == 47 && ins[1].answered == 0 && parent == 3);
+    EXPECT(chipfire_deficit(outs, 1, &told) == 0 && told == 1);
+    EXPECT(chipfire_is_over(outs, 1, 1, &told) == 0 && told == 0);
+    told = GUARD;
+    EXPECT(chipfire_settled(outs, 1, 0, 2, &told) == 46 && told == GUARD && outs[0].answered == 0);
+    EXPECT(chipfire_settled(outs, 1, 0, 1, &told) == 0 && told == 1 && outs[0].answered == 1);
+    EXPECT(chipfire_settled(outs, 1, 0, 0, &told) == 0 && told == 0 && outs[0].answered == 1);
+    EXPECT(chipfire_acked(ins, 2, outs, 1, &parent, 3, 0, 1) == 47);
+    EXPECT(chipfire_acked(ins, 2, outs, 1, &parent, 3, 7, 1) == 0 && parent == CHIPFIRE_NEUTRAL);
+    EXPECT(chipfire_is_over(outs, 1, 0, &told) == 0 && told == 0 && chipfire_is_over(outs, 1, 9, &told) == 0 && told == 1);
+    EXPECT(chipfire_books_check(ins, 2, outs, 1, parent) == 0);
+    outs[0].answered = told = GUARD;
+    EXPECT(chipfire_deficit(outs, 1, &told) == 46 && chipfire_is_over(outs, 1, 1, &told) == 46 && told == GUARD);
+    EXPECT(chipfire_sent(outs, 1, 0) == 46 && outs[0].messages == 1);
+}
+
 int main(void)
 {
     EXPECT(chipfire_version() > 0);
     try_games();
     try_drops();
     try_claims();
+    try_detector();
     return wrong;
 }

@@ -11,6 +11,8 @@ ghost use Rattle.chip_exports.specs.Answers.{Answers, answer_of};
 use chip_library::{CallFault, EdgeLists, VERSION, avalanches, stabilize_all, verify};
 use std::alloc::Global;
 
+mod detector;
+
 /// The version of the library: 1,000,000 for each of the first number, 1,000 for each of the second, and the third.
 #[unsafe(no_mangle)]
 pub extern "C" fn chipfire_version() -> u64

@@ -3,4 +3,5 @@ pub mod CallFaults
 pub mod Batch
 pub mod Claims
 pub mod Drops
+pub mod PartBooks
 pub mod Worked

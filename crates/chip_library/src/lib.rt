@@ -10,6 +10,7 @@ pub use fault::CallFault;
 pub use stabilize::stabilize_all;
 
 mod claims;
+pub mod detector;
 mod drops;
 pub mod edges;
 mod fault;

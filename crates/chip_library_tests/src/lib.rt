@@ -4,6 +4,8 @@
 #[cfg(test)]
 mod claims;
 #[cfg(test)]
+mod detector;
+#[cfg(test)]
 mod drops;
 #[cfg(test)]
 mod graphs;

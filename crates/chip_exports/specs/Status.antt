@@ -1,0 +1,27 @@
+-- What C is told of a call on the books of a part.
+use Rattle.std.specs.Prelude.{◌≡◌, ℕ, Bool, true, false, not, ◌==◌, Result, Ok, Err}
+use Rattle.chip_library.specs.declared.detector.BooksFault.{BooksFault}
+use Rattle.chip_library.specs.PartBooks.{number_of}
+
+-- whether a word is true
+abbrev pub is_true : ℕ → Bool
+is_true word = not (word == 0)
+
+-- the number of a fault, or 0
+abbrev pub status_of : {T : Type 0} → Result T BooksFault → ℕ
+status_of (Ok told) = 0
+status_of (Err fault) = number_of fault
+
+-- the status tells a result of which the promise holds
+abbrev pub Status : {T : Type 0} → ℕ → (Result T BooksFault → Type 0) → Type 0
+Status {T} status promise = (done : Result T BooksFault) × promise done × (status ≡ status_of done)
+
+-- what is written, where `old` was written before
+abbrev pub count_of : Result ℕ BooksFault → ℕ → ℕ
+count_of (Ok count) old = count
+count_of (Err fault) old = old
+
+abbrev pub flag_of : Result Bool BooksFault → ℕ → ℕ
+flag_of (Ok true) old = 1
+flag_of (Ok false) old = 0
+flag_of (Err fault) old = old

@@ -1,0 +1,277 @@
+//! The books of one part of a diffusing computation, in memory of the caller (`docs/DETECTOR.md`).
+//!
+//! A part has a tally of each edge into it and of each edge out of it, by ascending edges, and the number of its parent
+//! edge, or `NEUTRAL`. At first all counts are 0, and the part is neutral. A call does on them what that of
+//! `chip_detect::Detect` does, and nothing where it refuses. Books that are not sound harm nothing but themselves.
+
+ghost use Rattle.std.specs.Prelude.{◌≡◌, ℕ, ◌-◌, ◌↔◌, true, List, IsTrue, IfOk, MatchOption, MatchResult};
+ghost use Rattle.std.specs.List.Sorted.{IsStrictlyIncreasing};
+ghost use Rattle.chip_detect.specs.declared.tallies.Tally.{Tally};
+ghost use Rattle.chip_detect.specs.Tally.{AreTallies, edges_of, answered_on, all_open};
+ghost use Rattle.chip_detect.specs.Books.{IsSound, in_edges, deficit};
+ghost use Rattle.chip_detect.specs.Acknowledging.{may_ack};
+ghost use Rattle.chip_detect.specs.Steps.{Got, Acked, Sent, Settled};
+ghost use Rattle.chip_diffusing.specs.Laws.{IsOver};
+ghost use Rattle.chip_library.specs.declared.detector.BooksFault.TheVariants.{NotSound};
+ghost use Rattle.chip_library.specs.PartBooks.{books_of, parent_of, HasEdge, Notes, Tells, IsPossible, ArePossible, IsFound, Suits, Settling};
+
+use chip_detect::{
+    EDGE_LIMIT, MESSAGE_LIMIT, Slot, Tally, add_answers_at, add_message_at, may_ack_on_parent,
+    slot_of,
+};
+
+/// The parent of a neutral part. No edge has this number.
+pub const NEUTRAL: u64 = u64::MAX;
+
+/// Why a call is refused.
+#[derive(Clone, Copy, Debug, PartialEq, Eq)]
+pub enum BooksFault {
+    /// There is no such edge, a count is too high, or the books are not sound, where that is seen.
+    NotSound,
+    /// So many messages may not be acknowledged yet.
+    NotYet,
+}
+
+impl BooksFault {
+    ghost use Rattle.std.specs.Prelude.{◌≡◌};
+    ghost use Rattle.chip_library.specs.PartBooks.{number_of};
+
+    /// The number of this fault in the table of faults.
+    pub fn number(&self) -> u64
+        ensures { result ≡ number_of self.now }
+    {
+        match self {
+            BooksFault::NotSound => 46,
+            BooksFault::NotYet => 47,
+        }
+    }
+}
+
+/// Notes a message that was sent on the edge.
+pub fn sent(outs: &mut [Tally], edge: u64) -> Result<(), BooksFault>
+    ensures { (ins : List Tally) → (parent : ℕ)
+        → Notes (books_of ins outs.old parent) (books_of ins outs.new parent) true (Sent edge) result }
+{
+    let Some((slot, tally)) = found(outs, edge) else {
+        return Err(BooksFault::NotSound);
+    };
+    if tally.messages == MESSAGE_LIMIT {
+        return Err(BooksFault::NotSound);
+    }
+    add_message_at(outs, slot);
+    Ok(())
+}
+
+/// Notes a message that came on the edge. A neutral part is engaged by it.
+pub fn got(ins: &mut [Tally], parent: &mut u64, edge: u64) -> Result<(), BooksFault>
+    ensures { (outs : List Tally)
+        → Notes (books_of ins.old outs parent.old) (books_of ins.new outs parent.new) true (Got edge) result }
+{
+    let Some((slot, tally)) = found(ins, edge) else {
+        return Err(BooksFault::NotSound);
+    };
+    if tally.messages == MESSAGE_LIMIT {
+        return Err(BooksFault::NotSound);
+    }
+    add_message_at(ins, slot);
+    if *parent == NEUTRAL {
+        *parent = edge;
+    }
+    Ok(())
+}
+
+/// How many messages of the edge may be acknowledged now; `passive` says whether the part is.
+pub fn may_ack(
+    ins: &[Tally],
+    outs: &[Tally],
+    parent: u64,
+    edge: u64,
+    passive: bool,
+) -> Result<u64, BooksFault>
+    ensures { let books = books_of ins.now outs.now parent in
+        Tells books (HasEdge (in_edges books) edge) (λ count. count ≡ may_ack books edge passive) result }
+{
+    let Some((_, tally)) = found(ins, edge) else {
+        return Err(BooksFault::NotSound);
+    };
+    let owed = tally.open();
+    if owed == 0 {
+        return Ok(0);
+    }
+    if parent != edge {
+        return Ok(owed);
+    }
+    let Some(all_owed) = all_open(ins) else {
+        return Err(BooksFault::NotSound);
+    };
+    match all_open(outs) {
+        Some(deficit) => Ok(may_ack_on_parent(owed, all_owed, deficit, passive)),
+        None => Err(BooksFault::NotSound),
+    }
+}
+
+/// Notes that `count` messages of the edge are acknowledged, which the tail must not see before. It is too early where
+/// `may_ack` answers fewer.
+pub fn acked(
+    ins: &mut [Tally],
+    outs: &[Tally],
+    parent: &mut u64,
+    edge: u64,
+    passive: bool,
+    count: u64,
+) -> Result<(), BooksFault>
+    ensures { Notes (books_of ins.old outs.now parent.old) (books_of ins.new outs.now parent.new) passive
+        (Acked edge count) result }
+{
+    let Some((slot, tally)) = found(ins, edge) else {
+        return Err(BooksFault::NotSound);
+    };
+    if count > tally.open() {
+        return Err(BooksFault::NotSound);
+    }
+    let Ok(most) = may_ack(ins, outs, *parent, edge, passive) else {
+        return Err(BooksFault::NotSound);
+    };
+    if count > most {
+        return Err(BooksFault::NotYet);
+    }
+    add_answers_at(ins, slot, count);
+    if *parent == edge && count == tally.open() {
+        *parent = NEUTRAL;
+    }
+    Ok(())
+}
+
+/// Notes that the edge's head acknowledged `word` messages so far, now or some time ago, and answers how many of these
+/// are new.
+pub fn settled(outs: &mut [Tally], edge: u64, word: u64) -> Result<u64, BooksFault>
+    ensures { Settling outs.old outs.new edge word result }
+{
+    let Some((slot, tally)) = found(outs, edge) else {
+        return Err(BooksFault::NotSound);
+    };
+    if word > tally.messages {
+        return Err(BooksFault::NotSound);
+    }
+    let more = word.saturating_sub(tally.answered);
+    add_answers_at(outs, slot, more);
+    Ok(more)
+}
+
+/// How many acknowledgements the part waits for.
+pub fn deficit(outs: &[Tally]) -> Result<u64, BooksFault>
+    ensures { (ins : List Tally) → (parent : ℕ) → let books = books_of ins outs.now parent in
+        Tells books (Unit {0}) (λ count. count ≡ deficit books) result }
+{
+    match all_open(outs) {
+        Some(count) => Ok(count),
+        None => Err(BooksFault::NotSound),
+    }
+}
+
+/// Whether the root may say that the computation is over; `ended` says whether it will send no more.
+pub fn is_over(outs: &[Tally], ended: bool) -> Result<bool, BooksFault>
+    ensures { (ins : List Tally) → (parent : ℕ) → let books = books_of ins outs.now parent in
+        Tells books (Unit {0}) (λ over. (IsTrue over ↔ IsTrue ended × (deficit books ≡ 0)) × (IsTrue over → IsOver books ended))
+        result }
+{
+    match all_open(outs) {
+        Some(deficit) => Ok(ended && deficit == 0),
+        None => Err(BooksFault::NotSound),
+    }
+}
+
+/// Whether the books are sound.
+pub fn check(ins: &[Tally], outs: &[Tally], parent: u64) -> Result<(), BooksFault>
+    ensures { MatchResult result (λ _. IsSound (books_of ins.now outs.now parent))
+        (λ fault. (fault ≡ NotSound) × (IsSound (books_of ins.now outs.now parent) → ⊥)) }
+{
+    if !are_sound(ins) {
+        return Err(BooksFault::NotSound);
+    }
+    if !are_sound(outs) {
+        return Err(BooksFault::NotSound);
+    }
+    if !suits(ins, parent) {
+        return Err(BooksFault::NotSound);
+    }
+    Ok(())
+}
+
+/// The slot of an edge and its tally, if it is possible.
+fn found(tallies: &[Tally], edge: u64) -> Option<(Slot, Tally)>
+    ensures { MatchOption result (AreTallies tallies.now → HasEdge (edges_of tallies.now) edge → ⊥)
+        (λ r. IsFound tallies.now edge r.0 r.1) }
+{
+    if edge == NEUTRAL {
+        return None;
+    }
+    let Some(slot) = slot_of(tallies, edge) else {
+        return None;
+    };
+    let tally = tallies[slot.index];
+    if is_possible(tally) {
+        Some((slot, tally))
+    } else {
+        None
+    }
+}
+
+/// Whether no more is answered than there was, within the limit.
+fn is_possible(tally: Tally) -> bool
+    ensures { IsTrue result ↔ IsPossible tally }
+{
+    tally.answered <= tally.messages && tally.messages <= MESSAGE_LIMIT
+}
+
+/// How many messages are open on all edges together, if all tallies are possible.
+fn all_open(tallies: &[Tally]) -> Option<u64>
+    ensures { MatchOption result (ArePossible tallies.now → ⊥)
+        (λ total. ArePossible tallies.now × (AreTallies tallies.now → total ≡ all_open tallies.now)) }
+{
+    if tallies.len() > EDGE_LIMIT {
+        return None;
+    }
+    let mut total = 0;
+    for &tally in tallies {
+        if !is_possible(tally) {
+            return None;
+        }
+        total += tally.open();
+    }
+    Some(total)
+}
+
+/// Whether the tallies of one side are sound.
+fn are_sound(tallies: &[Tally]) -> bool
+    ensures { IsTrue result ↔ AreTallies tallies.now }
+{
+    if !ascend(tallies) {
+        return false;
+    }
+    all_open(tallies).is_some()
+}
+
+/// Whether the edges ascend.
+fn ascend(tallies: &[Tally]) -> bool
+    ensures { IsTrue result ↔ IsStrictlyIncreasing (edges_of tallies.now) }
+{
+    tallies.is_sorted_by(|one, next| one.edge < next.edge)
+}
+
+/// Whether something is owed on the parent edge, or nothing at all where there is none.
+fn suits(ins: &[Tally], parent: u64) -> bool
+    requires { AreTallies ins.now }
+    ensures { IsTrue result ↔ Suits ins.now (parent_of parent) }
+{
+    if parent == NEUTRAL {
+        return match all_open(ins) {
+            Some(owed) => owed == 0,
+            None => false,
+        };
+    }
+    match found(ins, parent) {
+        Some((_, tally)) => tally.open() > 0,
+        None => false,
+    }
+}

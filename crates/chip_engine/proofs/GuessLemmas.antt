@@ -13,7 +13,9 @@ use Rattle.chip_command.specs.CommandAnswers.{Meets}
 use Rattle.chip_command.specs.Faults.{fault_of_report}
 use Rattle.chip_command.specs.Inputs.{Reads}
 use Rattle.chip_command.specs.declared.fault.Fault.{Fault}
-use Rattle.chip_engine.specs.GuessCommand.{has_brace, TellsCounts, MeansGuess, RefusesTold, reading_guess}
+use Rattle.chip_command.specs.PlainCommand.{PlainReports}
+use Rattle.chip_command.specs.declared.ended.Ended.{Ended}
+use Rattle.chip_engine.specs.GuessCommand.{has_brace, TellsCounts, MeansGuess, RefusesTold, reading_guess, GuessAnswers}
 
 -- a text that is no report, or want of memory
 pub no_report : (limits : SizeLimits) (vertices : ℕ) (text : List ℕ) (f : ReportFault)
@@ -38,3 +40,12 @@ told_guess limits vertices guess bytes read brace (Ok counts) tells = at_text li
     (λ text. MeansGuess limits vertices text counts.items) (record { report = λ _. tells; rows = λ rows. absurd (cc) })
 told_guess limits vertices guess bytes read brace (Err fault) refuses = λ text is. inr (at_text limits guess bytes read
     (λ text. (has_brace text ≡ true) × RefusesTold limits vertices text fault) (brace, refuses) text is)
+
+-- what `plain` writes with a guess is the report of the game that the other texts mean
+pub guess_writes : (limits : SizeLimits) (graph chips guess : Option (List ℕ)) (limit : ℕ) (old new : Option (List ℕ))
+    (result : Result Ended Fault) → GuessAnswers limits graph chips guess limit old new result
+    → PlainReports limits graph chips limit old new result
+guess_writes limits graph chips guess limit old new (Err fault) answers = λ graph_text graph_is chips_text chips_is. tt
+guess_writes limits graph chips guess limit old new (Ok ended) answers = λ graph_text graph_is chips_text chips_is.
+    let (text, (g, gave, (counts, told, reports)), out, cut) = answers.answer in
+    (g, gave.means graph_text graph_is chips_text chips_is, text, reports, out)

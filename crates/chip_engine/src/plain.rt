@@ -68,8 +68,10 @@ pub fn plain_guess_engine_with<G: Read, C: Read, Q: Read, P: Watch, W: Write>(
     watch: &mut P,
     output: &mut W,
 ) -> Result<Ended, Fault>
-    ensures { GuessAnswers options.limits (G.remaining graph.old) (C.remaining chips.old) (Q.remaining guess.old)
-        options.limit (W.contents output.old) (W.contents output.new) result }
+    ensures known { GuessAnswers options.limits (G.remaining graph.old) (C.remaining chips.old)
+        (Q.remaining guess.old) options.limit (W.contents output.old) (W.contents output.new) result }
+    ensures report { PlainReports options.limits (G.remaining graph.old) (C.remaining chips.old) options.limit
+        (W.contents output.old) (W.contents output.new) result }
 {
     let PlayOptions { limits, limit } = options;
     let game = read_game(alloc, limits, graph, chips, limit)?;

@@ -10,8 +10,10 @@ use Rattle.std.proofs.lemmas.List.{get_or_past, get_or_read, take_more_set, take
 use Rattle.std.proofs.lemmas.List.{take-append-drop, take-append-le, drop-append-le, map-append, flat_map_more}
 use Rattle.std.proofs.lemmas.List.Elements.{All-nil, All-cons, All-tail, All-from_get_or, Contains-get_or}
 use Rattle.std.proofs.lemmas.List.Elements.{Contains-push}
+use Rattle.std.proofs.lemmas.Fmt.{length-decimal-le}
+use Rattle.std.specs.Fmt.{decimal}
 use Rattle.std.specs.Io.KnownBytes.{Appends}
-use Rattle.std.proofs.KnownBytes.{Appends-trans}
+use Rattle.std.proofs.KnownBytes.{Appends-nil, Appends-trans}
 use mir.Val.{bool_byte}
 use mathlib.Core.Logic.{dite}
 use native.Mathlib.Decide.{ℕ_discrete}
@@ -41,7 +43,7 @@ use Rattle.chip_drops.specs.declared.pile.Pile.{Pile}
 use Rattle.chip_drops.specs.Avalanches.{dropped, IsAvalanche, DropsAddUp, AreAvalanches}
 use Rattle.chip_drops.specs.Pile.{IsPile, IsStable, IsBegunDrop, sum_between}
 use Rattle.chip_drops.specs.declared.rows.RowsFault.{RowsFault}
-use Rattle.chip_drops.specs.Rows.{row_text, rows_text, IsOut, LeavesRows}
+use Rattle.chip_drops.specs.Rows.{row_text, rows_text, IsOut, LeavesRows, most_held}
 
 -- ---- the work list of a drop, and what is told by it
 
@@ -345,18 +347,39 @@ module _ (p : Pile) (ds : List (ℕ × ℕ)) (i : ℕ) (p' : Pile) (text : List 
         );
       }
 
+-- a row is short
+pub row_short : (d : ℕ × ℕ) (a : Avalanche) → d.0 < 2 ^ 64 → d.1 < 2 ^ 64 → a.size < 2 ^ 64 → a.extent < 2 ^ 64
+    → a.lost < 2 ^ 64 → length (row_text (d, a)) ≤ 128
+row_short d a vertex count size extent lost =
+    let short : (n : ℕ) → n < 2 ^ 64 → length (decimal n) ≤ 20 = (λ n l. length-decimal-le 20 n (omega arith) (omega arith) l) in
+    let a0 = short d.0 vertex in let a1 = short d.1 count in let a2 = short a.size size in
+    let a3 = short a.extent extent in let a4 = short a.lost lost in
+    simp length-append (omega arith)
+
 -- a fault is handed on
 pub handed_on : {T : Type 0} {result : Result T RowsFault} (fault : RowsFault) → IsErrAnd result (λ f. f ≡ fault)
     → result ≡ Err fault
 handed_on {result = Ok value} fault is = absurd is
 handed_on {result = Err f} fault is = ap Err is
 
+-- nothing was written yet
+pub out_none : (old : Option (List ℕ)) (pending : List ℕ) (written : ℕ) (all : List ℕ) → pending ≡ all → written ≡ 0
+    → length all ≤ most_held → IsOut old old pending written all
+out_none old pending written all same none few = rw (same, none) (record {
+  counted = (let a : 0 + length all ≡ length all = omega arith in a);
+  held = few;
+  went = Appends-nil old;
+  rest = refl;
+})
+
 module _ (old now : Option (List ℕ)) (pending : List ℕ) (written : ℕ) (all : List ℕ)
     (is : IsOut old now pending written all) where
-  -- more bytes come
-  pub out_put : (more : List ℕ) → IsOut old now (pending ++ more) written (all ++ more)
-  out_put more = record {
+  -- more bytes come, and are not too many
+  pub out_put : (more : List ℕ) → length pending + length more ≤ most_held
+      → IsOut old now (pending ++ more) written (all ++ more)
+  out_put more few = record {
     counted = (let a = length-append all more in let b = length-append pending more in omega arith);
+    held = (let b = length-append pending more in omega arith);
     went = rw (take-append-le written all more (omega arith)) is.went;
     rest = drop-append-le written all more (omega arith) ∙ ap (λ (l : List ℕ). l ++ more) is.rest;
   }
@@ -367,6 +390,7 @@ module _ (old now : Option (List ℕ)) (pending : List ℕ) (written : ℕ) (all
   out_all now' written' went counted =
       let full : length all ≤ written' = omega arith in record {
         counted = omega arith;
+        held = omega arith;
         went = rw (take_all written' all full, ← take-append-drop written all, is.rest)
             (Appends-trans old now now' _ _ is.went went);
         rest = drop_all written' all full;
@@ -374,9 +398,10 @@ module _ (old now : Option (List ℕ)) (pending : List ℕ) (written : ℕ) (all
 
   -- a front of them does
   pub out_part : (now' : Option (List ℕ)) (n : ℕ) → n < length pending → Appends now now' (take n pending)
-      → (written + n < length all) × Appends old now' (take (written + n) all)
+      → ((written + n < length all) × Appends old now' (take (written + n) all))
+      × (length all ≤ written + n + most_held)
   out_part now' n l went =
-      (omega arith, rw (take-add written n all, is.rest) (Appends-trans old now now' _ _ is.went went))
+      ((omega arith, rw (take-add written n all, is.rest) (Appends-trans old now now' _ _ is.went went)), omega arith)
 
   -- none is pending
   pub out_end : pending ≡ [] → Appends old now all

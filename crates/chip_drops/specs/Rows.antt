@@ -1,5 +1,5 @@
 -- Drops on a pile as rows of text, one for each drop whose play has ended with no vertex legal.
-use Rattle.std.specs.Prelude.{◌≡◌, ℕ, ◌+◌, ◌<◌, Bool, true, false, List, ◌++◌, codes, length, map, take, drop}
+use Rattle.std.specs.Prelude.{◌≡◌, ◌⊎◌, ℕ, ◌+◌, ◌<◌, ◌≤◌, Bool, true, false, List, ◌++◌, codes, length, map, take, drop}
 use Rattle.std.specs.Prelude.{slice_index, Option, Result, Ok, Err}
 use Rattle.std.specs.List.{flat_map}
 use Rattle.std.specs.Fmt.{decimal}
@@ -10,7 +10,6 @@ use Rattle.chip_report.specs.FaultNumbers.{write_fault_number}
 use Rattle.chip_report.specs.Written.{WritesAll}
 use Rattle.chip_drops.specs.declared.avalanche.Avalanche.{Avalanche}
 use Rattle.chip_drops.specs.declared.pile.Pile.{Pile}
-use Rattle.chip_drops.specs.declared.rows.Dropped.{Dropped}
 use Rattle.chip_drops.specs.declared.rows.RowsFault.{RowsFault}
 use Rattle.chip_drops.specs.declared.rows.RowsFault.TheVariants.{Write, NoMemory}
 use Rattle.chip_drops.specs.Avalanches.{AreAvalanches}
@@ -31,16 +30,21 @@ abbrev pub TellsRows : Multigraph → (ℕ → ℕ) → List (ℕ × ℕ) → Li
 TellsRows G x ds text y = (told : List ((ℕ × ℕ) × Avalanche)) × (map (λ t. t.0) told ≡ ds)
     × AreAvalanches G x told y × (text ≡ rows_text told)
 
+-- how many bytes are held back at most: a stretch of 65,536, and a row of 128
+abbrev pub most_held : ℕ
+most_held = 65664
+
 -- of all bytes so many were written, and the others are pending
 pub record IsOut (old now : Option (List ℕ)) (pending : List ℕ) (written : ℕ) (all : List ℕ) : Type 0 where
   pub counted : written + length pending ≡ length all
+  pub held : length pending ≤ most_held
   pub went : Appends old now (take written all)
   pub rest : drop written all ≡ pending
 
--- a fault says how many bytes were written, or there was no memory after a front of them
+-- a fault says how many bytes were written, or there was no memory after a front of them; and few were held back
 abbrev pub FailsOut : Option (List ℕ) → Option (List ℕ) → List ℕ → RowsFault → Type 0
-FailsOut old now all (Write w) = WritesAll old now all (Err w)
-FailsOut old now all NoMemory = (k : ℕ) × Appends old now (take k all)
+FailsOut old now all (Write w) = WritesAll old now all (Err w) × (length all ≤ w.written + most_held)
+FailsOut old now all NoMemory = (k : ℕ) × Appends old now (take k all) × (length all ≤ k + most_held)
 
 -- the number of a fault of writing rows in the table of faults
 abbrev pub rows_fault_number : RowsFault → ℕ
@@ -60,9 +64,14 @@ EndsAt p ds n left p' true = (take n ds ≡ ds) × (p' ≡ left)
 EndsAt p ds n left p' false = (n < length ds) × IsPile p' × HasMore p.game (take (n + 1) ds) p'.game
     × (IsStable p'.game.graph (slice_index p'.chips.items) → ⊥)
 
--- what writing rows answers: those of the first n drops went out; or a front of them did, and there is a fault
-abbrev pub WritesRows : Pile → List (ℕ × ℕ) → Option (List ℕ) → Option (List ℕ) → Result Dropped RowsFault → Type 0
-WritesRows p ds old new (Ok end) = (n : ℕ) × (text : List ℕ) × (left : Pile) × LeavesRows p (take n ds) left text
-    × EndsAt p ds n left end.pile end.all × Appends old new text
-WritesRows p ds old new (Err fault) = (n : ℕ) × (text : List ℕ) × (left : Pile) × LeavesRows p (take n ds) left text
-    × FailsOut old new text fault
+-- the drops that p' has are the first n, or one more
+abbrev pub HasDrops : Pile → List (ℕ × ℕ) → ℕ → Pile → Type 0
+HasDrops p ds n p' = HasMore p.game (take n ds) p'.game ⊎ HasMore p.game (take (n + 1) ds) p'.game
+
+-- what writing rows answers with the pile p': the rows of the first n drops went out; or there is a fault, and all of them
+-- went out but for what may be held back, when no more drops were made than one after them
+abbrev pub WritesRows : Pile → List (ℕ × ℕ) → Option (List ℕ) → Option (List ℕ) → Pile → Result Bool RowsFault → Type 0
+WritesRows p ds old new p' (Ok all) = (n : ℕ) × (text : List ℕ) × (left : Pile) × LeavesRows p (take n ds) left text
+    × EndsAt p ds n left p' all × Appends old new text
+WritesRows p ds old new p' (Err fault) = (n : ℕ) × (text : List ℕ) × (left : Pile) × LeavesRows p (take n ds) left text
+    × HasDrops p ds n p' × FailsOut old new text fault

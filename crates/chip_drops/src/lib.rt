@@ -5,7 +5,7 @@
 
 pub use avalanche::Avalanche;
 pub use pile::Pile;
-pub use rows::{Dropped, HEADER, RowsFault, write_rows};
+pub use rows::{HEADER, RowsFault, write_rows};
 
 mod avalanche;
 pub mod laws;

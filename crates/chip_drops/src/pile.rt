@@ -118,7 +118,7 @@ impl Pile {
 #[derive(Drop)]
 pub(crate) struct BegunDrop {
     /// With the counts from before the drop in its room.
-    pile: Pile,
+    pub(crate) pile: Pile,
     /// How many chips the sink had with the drop.
     arrived: u64,
     /// How many at the front of the support are all vertices that fired, if the work list came to the end.

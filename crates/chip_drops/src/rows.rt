@@ -1,11 +1,11 @@
 //! The rows of drops.
 
 ghost use Rattle.std.specs.Prelude.{◌≡◌, ℕ, ◌+◌, ◌<◌, ◌≤◌, ◌++◌, [], IfOk, List, sum, slice_index};
-ghost use Rattle.std.specs.Prelude.{string_bytes, Option, MatchResult};
+ghost use Rattle.std.specs.Prelude.{string_bytes, length, true, Option, MatchResult};
 ghost use Rattle.chip_graph.specs.Limits.{max_total};
 ghost use Rattle.chip_graph.specs.More.{AreOfVertices, all_brought};
 ghost use Rattle.chip_drops.specs.Pile.{IsPile, IsStable};
-ghost use Rattle.chip_drops.specs.Rows.{WritesRows, IsOut, FailsOut, row_text};
+ghost use Rattle.chip_drops.specs.Rows.{WritesRows, IsOut, FailsOut, row_text, rows_text};
 
 use crate::avalanche::Avalanche;
 use crate::pile::Pile;
@@ -18,18 +18,10 @@ use std::io::Write;
 pub const HEADER: &str = "vertex,chips,size,extent,lost\n";
 
 /// How many bytes are put together before they are written.
-const STRETCH: usize = 1 << 16;
+const STRETCH: usize = 65_536;
 
 /// How many bytes a row has at most.
 const ROW: usize = 128;
-
-/// A pile after drops.
-#[derive(Drop)]
-pub struct Dropped {
-    pub pile: Pile,
-    /// Whether all drops were made, and the play of each has ended with no vertex legal.
-    pub all: bool,
-}
 
 /// Why not all rows were written.
 #[derive(Clone, Copy, Debug, PartialEq, Eq)]
@@ -75,6 +67,15 @@ struct Rows {
 }
 
 impl Rows {
+    /// The first line, which is to be written.
+    fn new(alloc: Global) -> Result<Rows, AllocError>
+        ensures { IfOk result (λ rows. (string_bytes rows.text ≡ rows_text []) × (rows.written ≡ 0)) }
+    {
+        let mut text = String::with_capacity(alloc, STRETCH + ROW)?;
+        text.push_str(HEADER)?;
+        Ok(Rows { text, written: 0 })
+    }
+
     /// Writes what was put together.
     fn write<W: Write>(&mut self, output: &mut W) -> Result<(), RowsFault>
         ensures flushed { IfOk result (λ _. string_bytes self.new.text ≡ []) }
@@ -101,7 +102,9 @@ impl Rows {
 
     /// Writes what was put together, if it is time.
     fn write_if<W: Write>(&mut self, is_time: bool, output: &mut W) -> Result<(), RowsFault>
-        ensures { (old : Option (List ℕ)) (all : List ℕ)
+        ensures flushed { is_time ≡ true → IfOk result (λ _. string_bytes self.new.text ≡ []) }
+        ensures fewer { IfOk result (λ _. length (string_bytes self.new.text) ≤ length (string_bytes self.old.text)) }
+        ensures bytes { (old : Option (List ℕ)) (all : List ℕ)
             → IsOut old (W.contents output.old) (string_bytes self.old.text) self.old.written all
             → MatchResult result
             (λ _. IsOut old (W.contents output.new) (string_bytes self.new.text) self.new.written all)
@@ -118,7 +121,9 @@ impl Rows {
         avalanche: Avalanche,
         output: &mut W,
     ) -> Result<(), RowsFault>
-        ensures { (old : Option (List ℕ)) (all : List ℕ)
+        requires few { length (string_bytes self.old.text) < 65536 }
+        ensures few { IfOk result (λ _. length (string_bytes self.new.text) < 65536) }
+        ensures bytes { (old : Option (List ℕ)) (all : List ℕ)
             → IsOut old (W.contents output.old) (string_bytes self.old.text) self.old.written all
             → let more = all ++ row_text ((vertex, count), avalanche) in MatchResult result
             (λ _. IsOut old (W.contents output.new) (string_bytes self.new.text) self.new.written more)
@@ -137,45 +142,54 @@ fn push_row(
     count: u64,
     avalanche: Avalanche,
 ) -> Result<(), AllocError>
-    ensures { IfOk result
+    ensures row { IfOk result
         (λ _. string_bytes text.new ≡ string_bytes text.old ++ row_text ((vertex, count), avalanche)) }
+    ensures short { length (row_text ((vertex, count), avalanche)) ≤ 128 }
 {
     let Avalanche { size, extent, lost } = avalanche;
     writeln!(text, "{vertex},{count},{size},{extent},{lost}")
 }
 
-/// Drops chips one after another on a pile, each a vertex and a count, and writes a row for each when its play has ended;
-/// the pile that they leave. Nothing is dropped after one whose play the limit has stopped, and it has no row.
+/// Drops chips one after another on a pile, each a vertex and a count, and writes a row for each when its play has ended.
+/// Nothing is dropped after one whose play the limit has stopped, and it has no row.
 ///
-/// Before a play that no work list comes to the end of, the rows that are there go out, and it is told how it goes on.
+/// It gives the pile back, with whether all drops were made and none was stopped. After a fault the last play may not have
+/// ended. Rows go out at most 65,664 bytes behind the drops. Before a play that no work list comes to the end of, all rows
+/// that are there go out, and the watcher is told how it goes on.
 pub fn write_rows<P: Watch, W: Write>(
     alloc: Global,
     mut pile: Pile,
     drops: &[(u64, u64)],
     watch: &mut P,
     output: &mut W,
-) -> Result<Dropped, RowsFault>
+) -> (Pile, Result<bool, RowsFault>)
     requires pile { IsPile pile }
     requires stable { IsStable pile.game.graph (slice_index pile.chips.items) }
     requires vertices { AreOfVertices pile.game drops.now }
     requires few_chips { sum pile.game.start + all_brought drops.now ≤ max_total }
-    ensures { WritesRows pile drops.now (W.contents output.old) (W.contents output.new) result }
+    ensures { WritesRows pile drops.now (W.contents output.old) (W.contents output.new) result.0 result.1 }
 {
-    let mut text = String::with_capacity(alloc, STRETCH + ROW)?;
-    text.push_str(HEADER)?;
-    let mut rows = Rows { text, written: 0 };
+    let Ok(mut rows) = Rows::new(alloc) else {
+        return (pile, Err(RowsFault::NoMemory));
+    };
     let mut all = true;
     'drops: for &(vertex, count) in drops {
         let begun = pile.begin_drop(vertex, count);
-        rows.write_if(begun.is_slow(), output)?;
+        if let Err(fault) = rows.write_if(begun.is_slow(), output) {
+            return (begun.pile, Err(fault));
+        }
         let (next, avalanche) = begun.finish(alloc, watch);
         pile = next;
         let Some(avalanche) = avalanche else {
             all = false;
             break;
         };
-        rows.push(vertex, count, avalanche, output)?;
+        if let Err(fault) = rows.push(vertex, count, avalanche, output) {
+            return (pile, Err(fault));
+        }
     }
-    rows.write(output)?;
-    Ok(Dropped { pile, all })
+    match rows.write(output) {
+        Ok(()) => (pile, Ok(all)),
+        Err(fault) => (pile, Err(fault)),
+    }
 }

@@ -111,8 +111,9 @@ fn play_drops<P: Watch, W: Write>(
         return Ok(rest);
     }
     let pile = Pile::new(alloc, game, rest)?;
-    match write_rows(alloc, pile, drops, watch, output) {
-        Ok(end) => Ok(end.pile.outcome(alloc)?),
+    let (pile, written) = write_rows(alloc, pile, drops, watch, output);
+    match written {
+        Ok(_) => Ok(pile.outcome(alloc)?),
         Err(fault) => Err(fault_of_rows(fault)),
     }
 }

@@ -74,8 +74,8 @@ fn writes_a_row_for_each_drop(rt: HostRuntime) {
     let mut rows = Vec::new(rt.alloc());
     let drops = [(0, 1), (2, 7), (0, 5)];
     let (pile, watch) = (Box::into_inner(rested(&rt)), &mut Unwatched);
-    let end = write_rows(rt.alloc(), pile, &drops, watch, &mut rows);
-    assert!(rt; end.is_ok_and(|end| end.all));
+    let (_, all) = write_rows(rt.alloc(), pile, &drops, watch, &mut rows);
+    assert!(rt; all == Ok(true));
     assert!(rt; rows.as_slice() == ROWS.as_bytes());
 }
 

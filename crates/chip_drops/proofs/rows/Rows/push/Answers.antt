@@ -1,13 +1,20 @@
+use Rattle.std.proofs.Common.{arith}
 use Rattle.chip_drops.specs.Rows.{row_text}
 use Rattle.chip_drops.proofs.DropLemmas.{handed_on, out_put}
 use Rattle.chip_drops.proofs.rows.Rows.push.Goals as goal
 
-pub returns-in_err-push_row : goal.returns-in_err-push_row
-returns-in_err-push_row g c old all is =
-    let put = out_put old _ _ _ all is (row_text ((c.args.vertex, c.args.count), c.args.avalanche)) in
-    rw (handed_on _ c.from_residual.ensures.1) (c.args.self.now.written, put.went)
+pub returns-in_err-push_row-clause-bytes : goal.returns-in_err-push_row-clause-bytes
+returns-in_err-push_row-clause-bytes g c old all is =
+    let few = c.requires.few in
+    let short = c.push_row.ensures.short in
+    let put = out_put old _ _ _ all is (row_text ((c.args.vertex, c.args.count), c.args.avalanche)) (omega arith) in
+    let counted = put.counted in
+    let held = put.held in
+    rw (handed_on _ c.from_residual.ensures.1) (c.args.self.now.written, put.went, (omega arith))
 
-pub returns : goal.returns
-returns g c old all is =
-    let put = out_put old _ _ _ all is (row_text ((c.args.vertex, c.args.count), c.args.avalanche)) in
-    c.write_if.ensures old _ (rw c.in_ok-push_row.ensures put)
+pub returns-clause-bytes : goal.returns-clause-bytes
+returns-clause-bytes g c old all is =
+    let few = c.requires.few in
+    let short = c.push_row.ensures.short in
+    let put = out_put old _ _ _ all is (row_text ((c.args.vertex, c.args.count), c.args.avalanche)) (omega arith) in
+    c.write_if.ensures.bytes old _ (rw c.in_ok-push_row.ensures.row put)

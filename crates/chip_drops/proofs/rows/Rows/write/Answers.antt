@@ -3,7 +3,7 @@ use Rattle.chip_drops.proofs.DropLemmas.{out_all, out_part}
 use Rattle.chip_drops.proofs.rows.Rows.write.Goals as goal
 
 pub returns-in_default-clause-bytes : goal.returns-in_default-clause-bytes
-returns-in_default-clause-bytes g c old all is = (c.args.self.now.written, is.went)
+returns-in_default-clause-bytes g c old all is = (c.args.self.now.written, is.went, omega arith)
 
 pub returns-in-Err-clause-bytes : goal.returns-in-Err-clause-bytes
 returns-in-Err-clause-bytes g c old all is =

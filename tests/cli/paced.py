@@ -146,7 +146,8 @@ def plays():
     yield "resume", Play("resume - report", files, second, [READ, writing(second)], 2)
     # (chips on the sink: nothing fires)
     files, answer = {**ON_PAIR, "drops": rows("chips", (2, 100))}, "vertex,chips,size,extent,lost\n2,100,0,0,0\n"
-    yield "avalanches", Play("avalanches - chips drops", files, answer, [READ], 3)
+    lines = [READ, writing(report_of([1, 0, 103], [2, 1, 0]))]
+    yield "avalanches", Play("avalanches - chips drops --report report", files, answer, lines, 3)
     yield "run", Turns("run - chips", ON_PAIRS, END_OF_PAIRS, 2)
     yield "run, dealt out", Turns("run - chips --dealt", ON_PAIRS, END_OF_PAIRS, 2)
     yield "run, fed", Turns("run - chips --feed feed", {**NO_CHIPS, "feed": rows("chips", (0, 4), (2, 0))}, END, 2)

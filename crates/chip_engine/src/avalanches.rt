@@ -50,7 +50,7 @@ pub fn avalanches_engine<G: Read, C: Read, D: Read, W: Write, T: Write>(
 }
 
 /// Does what `avalanches_engine` does, by these options, and tells now and then how far the play before the drops has
-/// come, and a slow one after a drop. Its answer and its bytes are the same, whoever is told.
+/// come, and a slow one after a drop, and of the report. Its answer and its bytes are the same, whoever is told.
 pub fn avalanches_engine_with<G: Read, C: Read, D: Read, P: Watch, W: Write, T: Write>(
     alloc: Global,
     graph: &mut G,
@@ -70,7 +70,7 @@ pub fn avalanches_engine_with<G: Read, C: Read, D: Read, P: Watch, W: Write, T: 
     watch.plays(&game);
     let rest = plain_watched(alloc, &game, watch)?;
     let outcome = play_drops(alloc, game, rest, &drops, watch, output)?;
-    write_report(alloc, &outcome, report)
+    write_report(alloc, &outcome, watch, report)
 }
 
 /// The drops of a file for a game, each a vertex and how many chips are added there.
@@ -129,9 +129,10 @@ fn fault_of_rows(fault: RowsFault) -> Fault
 }
 
 /// Writes the report of an outcome, where one is asked for.
-fn write_report<T: Write>(
+fn write_report<P: Watch, T: Write>(
     alloc: Global,
     outcome: &Outcome,
+    watch: &mut P,
     output: &mut Option<T>,
 ) -> Result<Ended, Fault>
     ensures { WritesReport (option_map T.contents output.old) (option_map T.contents output.new) outcome.now result }
@@ -141,6 +142,7 @@ fn write_report<T: Write>(
         return Ok(ended);
     };
     let text = report(alloc, outcome)?;
+    watch.writes(text.len() as u64);
     match write_all_of(writer, &text) {
         Ok(()) => Ok(ended),
         Err(_) => Err(Fault::WriteFile),

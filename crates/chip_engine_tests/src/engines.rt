@@ -23,7 +23,7 @@ pub(crate) const TRIANGLE: &str =
 pub(crate) const NO_LIMIT: u64 = 1 << 40;
 
 /// The report of the triangle with four chips on vertex 0.
-const PLAYED: &str =
+pub(crate) const PLAYED: &str =
     "{\"chips\":[1,0,3],\"closed\":true,\"fired\":[2,1,0],\"over\":[],\"sealed\":[],\"version\":1}\n";
 
 /// What `plain` answers and writes.
@@ -433,11 +433,11 @@ fn simulates_what_is_fed(rt: HostRuntime) {
 }
 
 /// The triangle with five chips on vertex 0, after a sitting with limit 2.
-const STOPPED: &str =
+pub(crate) const STOPPED: &str =
     "{\"chips\":[2,0,3],\"closed\":false,\"fired\":[2,1,0],\"over\":[0],\"sealed\":[],\"version\":1}\n";
 
 /// And after a second one.
-const WENT_ON: &str =
+pub(crate) const WENT_ON: &str =
     "{\"chips\":[0,1,4],\"closed\":true,\"fired\":[1,0,0],\"over\":[],\"prior\":[2,1,0],\"sealed\":[],\"version\":2}\n";
 
 /// And after one with limit 0 in its place.

@@ -7,3 +7,5 @@ mod avalanches;
 mod engines;
 #[cfg(test)]
 mod faults;
+#[cfg(test)]
+mod watched;

@@ -279,6 +279,19 @@ Only callers of the library chip_net meet this. Try again after the vertex made 
 `chipfire run --feed` does.
 ");
 
+static BOOKS: Explanation = row!(46 Books NOWHERE:
+    "no such edge, a count is too high, or the books of the part are not sound", "\
+Only callers of libchipfire meet this. `chipfire_books_check` looks at all edges of the part:
+each slice ascends by edges, no more is answered than there was, and a part has a parent
+exactly if it owes something there.
+");
+
+static NOT_YET: Explanation = row!(47 NotYet NOWHERE:
+    "so many messages may not be acknowledged yet", "\
+Only callers of libchipfire meet this. `chipfire_may_ack` tells how many may be. The message
+that engaged a part waits until the part is passive, owes nothing else and has no deficit.
+");
+
 static NOT_REPORT: Explanation = row!(50 NotReport NOWHERE: "the file is no report", "\
 A report is read only as chipfire wrote it, to the byte and with its newline. Keep what the
 command wrote in a file, and name that file. Of what `simulate` wrote only the last line is
@@ -371,7 +384,7 @@ report was written, or the file of `--report`, and all rows were.
 ");
 
 /// All faults, by their numbers.
-pub fn explanations() -> [&'static Explanation; 45] {
+pub fn explanations() -> [&'static Explanation; 47] {
     [
         &VERTICES,
         &SINK,
@@ -403,6 +416,8 @@ pub fn explanations() -> [&'static Explanation; 45] {
         &NO_EDGE,
         &ENDED,
         &FULL,
+        &BOOKS,
+        &NOT_YET,
         &NOT_REPORT,
         &PRIOR,
         &MISMATCH,

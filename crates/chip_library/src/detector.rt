@@ -4,13 +4,13 @@
 //! edge, or `NEUTRAL`. At first all counts are 0, and the part is neutral. A call does on them what that of
 //! `chip_detect::Detect` does, and nothing where it refuses. Books that are not sound harm nothing but themselves.
 
-ghost use Rattle.std.specs.Prelude.{◌≡◌, ℕ, ◌-◌, ◌↔◌, true, List, IsTrue, IfOk, MatchOption, MatchResult};
+ghost use Rattle.std.specs.Prelude.{◌≡◌, ℕ, ◌↔◌, true, List, IsTrue, MatchOption, MatchResult};
 ghost use Rattle.std.specs.List.Sorted.{IsStrictlyIncreasing};
 ghost use Rattle.chip_detect.specs.declared.tallies.Tally.{Tally};
-ghost use Rattle.chip_detect.specs.Tally.{AreTallies, edges_of, answered_on, all_open};
+ghost use Rattle.chip_detect.specs.Tally.{AreTallies, edges_of, all_open};
 ghost use Rattle.chip_detect.specs.Books.{IsSound, in_edges, deficit};
 ghost use Rattle.chip_detect.specs.Acknowledging.{may_ack};
-ghost use Rattle.chip_detect.specs.Steps.{Got, Acked, Sent, Settled};
+ghost use Rattle.chip_detect.specs.Steps.{Got, Acked, Sent};
 ghost use Rattle.chip_diffusing.specs.Laws.{IsOver};
 ghost use Rattle.chip_library.specs.declared.detector.BooksFault.TheVariants.{NotSound};
 ghost use Rattle.chip_library.specs.PartBooks.{books_of, parent_of, HasEdge, Notes, Tells, IsPossible, ArePossible, IsFound, Suits, Settling};

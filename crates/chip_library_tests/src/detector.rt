@@ -27,7 +27,11 @@ fn has(tally: &Tally, messages: u64, answered: u64) -> bool {
 /// The edges r and b, 3 and 1, lead to the part, and the edge a, 0, out of it.
 #[test]
 fn the_small_run(rt: HostRuntime) {
-    let (mut ins, mut outs, mut parent) = ([tally(1, 0, 0), tally(3, 0, 0)], [tally(0, 0, 0)], NEUTRAL);
+    let (mut ins, mut outs, mut parent) = (
+        [tally(1, 0, 0), tally(3, 0, 0)],
+        [tally(0, 0, 0)],
+        NEUTRAL,
+    );
     assert!(&rt; check(&ins, &outs, parent) == Ok(()));
     assert!(&rt; got(&mut ins, &mut parent, 3) == Ok(()) && parent == 3);
     assert!(&rt; sent(&mut outs, 0) == Ok(()) && deficit(&outs) == Ok(1));
@@ -51,7 +55,9 @@ fn refusals(rt: HostRuntime) {
     let (mut ins, mut outs, mut parent) = ([tally(4, MOST, 0)], [tally(5, MOST, 7)], 4);
     let refused = Err(BooksFault::NotSound);
     assert!(&rt; check(&ins, &outs, parent) == Ok(()));
-    assert!(&rt; got(&mut ins, &mut parent, 4) == refused && got(&mut ins, &mut parent, 5) == refused);
+    assert!(&rt;
+        got(&mut ins, &mut parent, 4) == refused && got(&mut ins, &mut parent, 5) == refused
+    );
     assert!(&rt; sent(&mut outs, 5) == refused && sent(&mut outs, NEUTRAL) == refused);
     assert!(&rt; acked(&mut ins, &outs, &mut parent, 4, false, MOST + 1) == refused);
     assert!(&rt; acked(&mut ins, &outs, &mut parent, 3, false, 0) == refused);
@@ -65,14 +71,39 @@ fn refusals(rt: HostRuntime) {
 #[test]
 fn garbage(rt: HostRuntime) {
     let refused = Err(BooksFault::NotSound);
-    assert!(&rt; check(&[tally(2, 1, 0), tally(1, 0, 0)], &[], 2) == refused, "edges descend");
-    assert!(&rt; check(&[tally(2, 1, 0), tally(2, 0, 0)], &[], 2) == refused, "an edge stands twice");
-    assert!(&rt; check(&[], &[tally(1, 0, 1)], NEUTRAL) == refused, "more is answered than there was");
-    assert!(&rt; check(&[], &[tally(1, MOST + 1, 1)], NEUTRAL) == refused, "too many messages");
-    assert!(&rt; check(&[tally(2, 1, 0)], &[], NEUTRAL) == refused, "a neutral part owes");
-    assert!(&rt; check(&[tally(2, 1, 1)], &[], 2) == refused, "nothing is owed to the parent");
-    assert!(&rt; check(&[tally(2, 1, 0)], &[], 1) == refused, "the parent is no edge");
-    let mut outs = [tally(9, u64::MAX, 0), tally(9, 0, u64::MAX), tally(0, u64::MAX, u64::MAX)];
+    assert!(&rt;
+        check(&[tally(2, 1, 0), tally(1, 0, 0)], &[], 2) == refused,
+        "edges descend"
+    );
+    assert!(&rt;
+        check(&[tally(2, 1, 0), tally(2, 0, 0)], &[], 2) == refused,
+        "an edge stands twice"
+    );
+    assert!(&rt;
+        check(&[], &[tally(1, 0, 1)], NEUTRAL) == refused,
+        "more is answered than there was"
+    );
+    assert!(&rt;
+        check(&[], &[tally(1, MOST + 1, 1)], NEUTRAL) == refused,
+        "too many messages"
+    );
+    assert!(&rt;
+        check(&[tally(2, 1, 0)], &[], NEUTRAL) == refused,
+        "a neutral part owes"
+    );
+    assert!(&rt;
+        check(&[tally(2, 1, 1)], &[], 2) == refused,
+        "nothing is owed to the parent"
+    );
+    assert!(&rt;
+        check(&[tally(2, 1, 0)], &[], 1) == refused,
+        "the parent is no edge"
+    );
+    let mut outs = [
+        tally(9, u64::MAX, 0),
+        tally(9, 0, u64::MAX),
+        tally(0, u64::MAX, u64::MAX),
+    ];
     assert!(&rt; deficit(&outs).is_err() && is_over(&outs, true).is_err());
     assert!(&rt; sent(&mut outs, 9).is_err() && settled(&mut outs, 9, u64::MAX).is_err());
 }

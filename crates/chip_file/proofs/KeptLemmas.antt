@@ -3,14 +3,14 @@
 use Rattle.std.proofs.Common.{◌≡◌, ℕ, ◌<◌, ◌≤◌, ◌⊎◌, List, length, Option, Some, None}
 use Rattle.std.proofs.Common.{Ok, Err, refl, sym, ap, ◌∙◌, subst, arith, inl, inr}
 use Rattle.std.proofs.lemmas.Bool.{lt-leb}
-use Rattle.std.specs.Prelude.{option_and_then, Result}
+use Rattle.std.specs.Prelude.{option_and_then, Result, nat_lt, nat_le, ◌&&◌}
 use Rattle.std.specs.Result.{IsErrAnd}
 use Rattle.chip_graph.specs.declared.edge.Edge.{Edge}
 use Rattle.chip_graph.specs.declared.fault.GraphFault.{GraphFault}
 use Rattle.chip_graph.specs.declared.fault.GraphFault.TheVariants as graph_fault
 use Rattle.chip_graph.specs.Limits.{SizeLimits}
 use Rattle.chip_graph.specs.Multigraph.{Multigraph, IsGraphWithin}
-use Rattle.chip_graph.specs.Faults.{IsGraphFault, MakesGraph}
+use Rattle.chip_graph.specs.Faults.{IsGraphFault, MakesGraph, first_of_faults, fault_unless, fault_of_edges}
 use Rattle.chip_graph.proofs.FaultLemmas.{rows_few}
 use Rattle.chip_json.specs.declared.fault.JsonFault.{JsonFault}
 use Rattle.chip_json.specs.declared.file.GraphFile.{GraphFile as Kept}
@@ -62,13 +62,24 @@ same_rows : (graph : Multigraph) (v s : ℕ) (edges : List Edge) → graph.verti
     → edges ≡ graph.edges → graph ≡ record { vertices = v; sink = s; edges = edges }
 same_rows graph v s edges a b c = rw (← a, ← b, c) refl
 
+-- what comes behind a fault is not looked at
+not_later : (one other : Option GraphFault) (f : GraphFault) (edges more : Option GraphFault)
+    → first_of_faults (first_of_faults one (first_of_faults other (Some f))) edges
+    ≡ first_of_faults (first_of_faults one (first_of_faults other (Some f))) more
+not_later None None f edges more = refl
+not_later None (Some g) f edges more = refl
+not_later (Some g) other f edges more = refl
+
 -- where there are too many edges, none is looked at
 fault_of_many : (limits : SizeLimits) (v s : ℕ) (all kept : List Edge) (f : GraphFault) → limits.edges < length all
     → limits.edges < length kept
     → IsGraphFault limits (record { vertices = v; sink = s; edges = kept }) f
     → IsGraphFault limits (record { vertices = v; sink = s; edges = all }) f
 fault_of_many limits v s all kept f many more (inl is) =
-    inl (rw (lt-leb (length all) limits.edges many) (rw (lt-leb (length kept) limits.edges more) at is))
+    inl (rw (lt-leb (length all) limits.edges many)
+    (not_later (fault_unless (nat_lt 0 v && nat_le v limits.vertices) graph_fault.Vertices)
+    (fault_unless (nat_lt s v) graph_fault.Sink) graph_fault.EdgeCount (fault_of_edges v s 0 all) (fault_of_edges v s 0 kept)
+    ∙ (rw (lt-leb (length kept) limits.edges more) at is)))
 fault_of_many limits v s all kept f many more (inr h) =
     let few : length kept ≤ limits.edges = rows_few limits (record { vertices = v; sink = s; edges = kept }) h.0 in
     absurd (omega arith)

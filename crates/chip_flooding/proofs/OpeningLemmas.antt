@@ -4,11 +4,10 @@ use Rattle.std.proofs.Common.{◌≡◌, ◌≢◌, ℕ, ◌+◌, ◌<◌, List,
 use Rattle.std.specs.List.{Contains}
 use Rattle.std.proofs.Math.ListN.{get_or-append}
 use Rattle.std.proofs.Math.Seq.{get_or-append_seam}
-use Rattle.std.proofs.lemmas.List.Elements.{Contains-append_left, Contains-append_right, Contains-append_cases}
+use Rattle.std.proofs.lemmas.List.Elements.{Contains-append_left, Contains-push, Contains-push_cases}
 use mathlib.Core.Logic.{dite}
 use native.Mathlib.Decide.{ℕ_discrete}
 use Rattle.chip_diffusing.specs.Network.{AreAll}
-use Rattle.chip_diffusing.proofs.OrderLemmas.{contains_cases, contains_first, contains_nothing}
 use Rattle.chip_flooding.specs.Running.{Topology, Process, nobody, Opens, AreOpening}
 
 -- an edge below n of which the part is this end
@@ -19,15 +18,10 @@ IsEnd ends part n e = (e < n) × (get_or ends e 0 ≡ part)
 pub listed : (ends es : List ℕ) (part n : ℕ) → AreAll es (IsEnd ends part n) → get_or ends n 0 ≡ part
     → AreAll (es ++ n ∷ []) (IsEnd ends part (n + 1))
 listed ends es part n all here = record {
-  all = λ e is. dite (ℕ_discrete e n)
-      (λ z. Contains-append_right es (n ∷ []) e (subst (Contains (n ∷ [])) (sym z) (contains_first n [])))
+  all = λ e is. dite (ℕ_discrete e n) (λ z. subst (Contains (es ++ n ∷ [])) (sym z) (Contains-push es n))
       (λ other. Contains-append_left es (n ∷ []) e (all.all e ((let l = is.0 in omega arith), is.1)));
-  none_else = λ e m. ⊎_elim
-      (λ old. let was = all.none_else e old in ((let l = was.0 in omega arith), was.1))
-      (λ last. ⊎_elim
-      (λ z. subst (IsEnd ends part (n + 1)) (sym z) (omega arith, here))
-      (λ none. absurd (contains_nothing e none)) (contains_cases n [] e last))
-      (Contains-append_cases es (n ∷ []) e m);
+  none_else = λ e m. ⊎_elim (λ old. let was = all.none_else e old in ((let l = was.0 in omega arith), was.1))
+      (λ z. subst (IsEnd ends part (n + 1)) z (omega arith, here)) (Contains-push_cases es n e m);
 }
 
 -- or it is not

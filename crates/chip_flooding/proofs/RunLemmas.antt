@@ -17,7 +17,7 @@ use Rattle.chip_diffusing.specs.Computation.{Part, World, Event, Send, Get, Ack,
 use Rattle.chip_diffusing.specs.Computation.{part_of, call_of, sent_on, got_on, acked_on, in_flight}
 use Rattle.chip_diffusing.proofs.KeptLemmas.{IsKept, legal_kept, who_inside, may_call, acked_most}
 use Rattle.chip_diffusing.proofs.EdgesLemmas.{counted}
-use Rattle.chip_flooding.specs.Running.{Topology, Process, Channel, network_of, shown, nobody, unused, world_of, IsRun, Runs}
+use Rattle.chip_flooding.specs.Running.{Topology, Process, Channel, IsTopology, network_of, shown, nobody, unused, world_of, IsRun, Runs}
 
 -- what an event makes of the channels
 abbrev pub sends : Channel → Channel
@@ -35,6 +35,14 @@ channels_after (Get e) cs = set cs e (gets (get_or cs e unused))
 channels_after (Ack e n) cs = set cs e (acks n (get_or cs e unused))
 channels_after _ cs = cs
 
+-- the ends of an edge
+module _ {t : Topology} (is : IsTopology t) where
+  pub tail_at : (e p : ℕ) → e < length t.tails.items → p ≡ get_or t.tails.items e p → p ≡ (network_of t).tail e
+  tail_at e p l at = get_or_read t.tails.items e p l at 0
+
+  pub head_at : (e p : ℕ) → e < length t.tails.items → p ≡ get_or t.heads.items e p → p ≡ (network_of t).head e
+  head_at e p l at = get_or_read t.heads.items e p (let both = is.both_ends in omega arith) at 0
+
 module _ {t : Topology} {ps : List Process} {cs : List Channel} (is : IsRun t ps cs) where
   abbrev n : Network
   n = network_of t
@@ -46,12 +54,6 @@ module _ {t : Topology} {ps : List Process} {cs : List Channel} (is : IsRun t ps
   kept = legal_kept n is.topology.network is.log old is.legal
 
   -- what a run reads
-  pub tail_at : (e p : ℕ) → e < n.edges → p ≡ get_or t.tails.items e p → p ≡ n.tail e
-  tail_at e p l at = get_or_read t.tails.items e p l at 0
-
-  pub head_at : (e p : ℕ) → e < n.edges → p ≡ get_or t.heads.items e p → p ≡ n.head e
-  head_at e p l at = get_or_read t.heads.items e p (let both = is.topology.both_ends in omega arith) at 0
-
   pub channel_at : (e : ℕ) (c : Channel) → e < n.edges → c ≡ get_or cs e c → c ≡ get_or cs e unused
   channel_at e c l at = get_or_read cs e c (let all = is.all_channels in omega arith) at unused
 

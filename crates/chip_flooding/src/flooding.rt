@@ -56,23 +56,28 @@ impl Marking {
         ensures flooding { let run = self.new.run in IsFlooding (net run) (world run) self.new.marked.items part (net run).edges }
         ensures unfinished { unfinished self.new.run ≤ unfinished self.old.run }
     {
-        for edge in 0..self.run.edges() {
-            if self.run.tail(edge) == part {
+        for edge in 0..self.run.topology().tails.len() {
+            if self.run.topology().tails[edge] == part {
                 self.run.send(edge);
             }
         }
     }
 
-    /// The head of the edge gets a message, and if it is the first one it spreads it.
-    fn receive(&mut self, edge: usize)
+    /// The head of the edge gets a message, and if it is its first one it spreads it. Where there is none it acknowledges.
+    fn turn(&mut self, edge: usize)
         requires edge { edge < (net self.old.run).edges }
-        requires some { 0 < in_flight (net self.old.run) (world self.old.run) edge }
+        requires due { IsIdle self.old.run edge → ⊥ }
         requires flooded { IsFlooded self.old.run self.old.marked.items }
         ensures topology { self.new.run.topology ≡ self.old.run.topology }
         ensures flooded { IsFlooded self.new.run self.new.marked.items }
         ensures less { unfinished self.new.run < unfinished self.old.run }
     {
-        let head = self.run.head(edge);
+        if self.run.in_flight(edge) == 0 {
+            self.run.acknowledge(edge);
+            self.run.settle(edge);
+            return;
+        }
+        let head = self.run.topology().heads[edge];
         let is_first = !self.marked[head];
         self.marked[head] = true;
         self.run.get(edge);
@@ -82,29 +87,12 @@ impl Marking {
         self.run.rest(head);
     }
 
-    /// Gets or acknowledges what there is on the edge.
-    fn turn(&mut self, edge: usize)
-        requires edge { edge < (net self.old.run).edges }
-        requires due { IsIdle self.old.run edge → ⊥ }
-        requires flooded { IsFlooded self.old.run self.old.marked.items }
-        ensures topology { self.new.run.topology ≡ self.old.run.topology }
-        ensures flooded { IsFlooded self.new.run self.new.marked.items }
-        ensures less { unfinished self.new.run < unfinished self.old.run }
-    {
-        if self.run.in_flight(edge) > 0 {
-            self.receive(edge);
-        } else {
-            self.run.acknowledge(edge);
-            self.run.settle(edge);
-        }
-    }
-
     /// An edge on which there is something to get or to acknowledge.
     fn due_edge(&self) -> Option<usize>
         ensures due { (e : ℕ) → result ≡ Some e → (e < (net self.now.run).edges) × (IsIdle self.now.run e → ⊥) }
         ensures none { result ≡ None → (e : ℕ) → e < (net self.now.run).edges → IsIdle self.now.run e }
     {
-        (0..self.run.edges()).find(|edge| self.run.in_flight(*edge) > 0
+        (0..self.run.topology().tails.len()).find(|edge| self.run.in_flight(*edge) > 0
             || self.run.acknowledgeable(*edge) > 0)
     }
 }

@@ -8,7 +8,6 @@ pub use topology::Topology;
 
 mod channel;
 mod flooding;
-pub mod laws;
 mod process;
 mod run;
 mod topology;

@@ -51,28 +51,12 @@ impl Run {
         })
     }
 
-    /// How many edges there are.
-    pub fn edges(&self) -> usize
-        ensures { result ≡ (net self.now).edges }
+    /// The parts and edges.
+    pub fn topology(&self) -> &Topology
+        ensures same { result.now ≡ self.now.topology }
+        ensures topology { IsTopology result.now }
     {
-        self.topology.tails.len()
-    }
-
-    /// The part that sends on the edge.
-    pub fn tail(&self, edge: usize) -> usize
-        requires { edge < (net self.now).edges }
-        ensures { result ≡ (net self.now).tail edge }
-    {
-        self.topology.tails[edge]
-    }
-
-    /// The part that gets what is sent on the edge.
-    pub fn head(&self, edge: usize) -> usize
-        requires { edge < (net self.now).edges }
-        ensures head { result ≡ (net self.now).head edge }
-        ensures part { result < (net self.now).parts }
-    {
-        self.topology.heads[edge]
+        &self.topology
     }
 
     /// How many messages are on their way on the edge.

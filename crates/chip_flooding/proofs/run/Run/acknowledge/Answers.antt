@@ -11,7 +11,7 @@ acting : (c : After-index_mut-process) → let r = c.self.inside in
 acting c = let edge = rw (← c.self.view_is) at c.requires in record {
   is = c.self.invariant;
   may = (edge, omega arith);
-  at = head_at c.self.invariant c.args.edge _ edge c.index-head.ensures;
+  at = head_at c.self.invariant.topology c.args.edge _ edge c.index-head.ensures;
   read = c.index_mut-process.ensures.value;
 }
 

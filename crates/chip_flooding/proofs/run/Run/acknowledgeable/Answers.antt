@@ -11,7 +11,7 @@ may_ack-requires c =
     record {
       is = c.self.invariant;
       may = (edge, omega arith);
-      at = head_at c.self.invariant c.args.edge _ edge c.index.ensures;
+      at = head_at c.self.invariant.topology c.args.edge _ edge c.index.ensures;
       read = c.index-head.ensures;
     } in
     (callable a).0

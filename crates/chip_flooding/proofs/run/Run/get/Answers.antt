@@ -10,7 +10,7 @@ acting : (c : After-index_mut-process) → let r = c.self.inside in
 acting c = let may = rw (← c.self.view_is) at c.requires in record {
   is = c.self.invariant;
   may = may;
-  at = head_at c.self.invariant c.args.edge _ may.0 c.index-head.ensures;
+  at = head_at c.self.invariant.topology c.args.edge _ may.0 c.index-head.ensures;
   read = c.index_mut-process.ensures.value;
 }
 

@@ -12,7 +12,7 @@ acting : (c : After-index_mut-process) → let r = c.self.inside in
 acting c = let edge = rw (← c.self.view_is) at c.requires in record {
   is = c.self.invariant;
   may = (edge, (kept c.self.invariant).heard c.args.edge edge, omega arith);
-  at = tail_at c.self.invariant c.args.edge _ edge c.index-tail.ensures;
+  at = tail_at c.self.invariant.topology c.args.edge _ edge c.index-tail.ensures;
   read = c.index_mut-process.ensures.value;
 }
 

@@ -5,7 +5,6 @@ use Rattle.chip_diffusing.specs.Network.{Network, IsNetwork}
 use Rattle.chip_diffusing.specs.Computation.{Part, World, Event, Log, OpensPart, IsLegalLog, Happens, in_flight, acked_on}
 pub use Rattle.chip_flooding.specs.declared.topology.Topology.{Topology}
 pub use Rattle.chip_flooding.specs.declared.process.Process.{Process}
-pub use Rattle.chip_flooding.specs.declared.channel.Channel.{Channel}
 
 -- the parts and edges as chip_diffusing sees them
 abbrev pub network_of : Topology → Network
@@ -45,19 +44,14 @@ net s = network_of s.topology
 abbrev pub world : State → World
 world s = world_of s.processes
 
--- an edge on which nothing was sent
-abbrev pub unused : Channel
-unused = record { in_flight = 0; acknowledged = 0 }
-
--- the channels count what is under way, and a legal log leaves the processes
-pub record IsRun (t : Topology) (processes : List Process) (channels : List Channel) : Type 0 where
+-- what is under way on each edge is counted, and a legal log leaves the processes
+pub record IsRun (t : Topology) (processes : List Process) (flights answers : List ℕ) : Type 0 where
   pub topology : IsTopology t
   pub all_processes : length processes ≡ t.parts
-  pub all_channels : length channels ≡ length t.tails.items
-  pub in_flight : (e : ℕ) → e < length t.tails.items
-      → (slice_index_or channels e unused).in_flight ≡ in_flight (network_of t) (world_of processes) e
-  pub acknowledged : (e : ℕ) → e < length t.tails.items
-      → (slice_index_or channels e unused).acknowledged ≡ acked_on (network_of t) (world_of processes) e
+  pub all_flights : length flights ≡ length t.tails.items
+  pub all_answers : length answers ≡ length t.tails.items
+  pub in_flight : (e : ℕ) → e < length t.tails.items → slice_index_or flights e 0 ≡ in_flight (network_of t) (world_of processes) e
+  pub acknowledged : (e : ℕ) → e < length t.tails.items → slice_index_or answers e 0 ≡ acked_on (network_of t) (world_of processes) e
   pub log : Log
   pub legal : IsLegalLog (network_of t) log (world_of processes)
 

@@ -15,7 +15,13 @@ pub fn flood(alloc: Global, topology: Topology) -> Result<Vec<bool>, AllocError>
     requires { IsTopology topology }
     ensures { IfOk result (λ marked. MarksReached (network_of topology) marked.items) }
 {
-    let mut marking = Marking::new(alloc, topology)?;
+    let root = topology.root;
+    let mut marked = vec![in alloc; false; topology.parts]?;
+    marked[root] = true;
+    let run = Run::new(alloc, topology)?;
+    let mut marking = Marking { run, marked };
+    marking.spread(root);
+    marking.run.rest(root);
     while !marking.run.is_over() {
         let edge = marking.due_edge().unwrap();
         marking.turn(edge);
@@ -31,22 +37,6 @@ struct Marking {
 }
 
 impl Marking {
-    /// The root is marked and has sent, and nothing else was done.
-    fn new(alloc: Global, topology: Topology) -> Result<Marking, AllocError>
-        requires { IsTopology topology }
-        ensures topology { IfOk result (λ marking. marking.run.topology ≡ topology) }
-        ensures flooded { IfOk result (λ marking. IsFlooded marking.run marking.marked.items) }
-    {
-        let root = topology.root;
-        let mut marked = vec![in alloc; false; topology.parts]?;
-        marked[root] = true;
-        let run = Run::new(alloc, topology)?;
-        let mut marking = Marking { run, marked };
-        marking.spread(root);
-        marking.run.rest(root);
-        Ok(marking)
-    }
-
     /// Sends a message on each edge out of the part.
     fn spread(&mut self, part: usize)
         requires part { part < (net self.old.run).parts }

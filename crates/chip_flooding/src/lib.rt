@@ -6,7 +6,6 @@ pub use flooding::flood;
 pub use run::Run;
 pub use topology::Topology;
 
-mod channel;
 mod flooding;
 mod process;
 mod run;

@@ -1,6 +1,6 @@
 ghost use Rattle.std.specs.Prelude.{◌≡◌, ◌<◌, ◌≤◌, length, slice_index, IfOk};
 ghost use Rattle.chip_diffusing.specs.Network.{AreAll};
-ghost use Rattle.chip_flooding.specs.Running.{IsTopology, Opens, AreOpening};
+ghost use Rattle.chip_flooding.specs.Running.{IsTopology, Opens};
 
 use crate::topology::Topology;
 use chip_detect::Detect;
@@ -13,20 +13,12 @@ pub struct Process {
     pub passive: bool,
 }
 
-/// All parts before anything is sent.
-pub fn opening_processes(alloc: Global, topology: &Topology) -> Result<Vec<Process>, AllocError>
-    requires { IsTopology topology.now }
-    ensures { IfOk result (λ processes. AreOpening topology.now topology.now.parts processes.items) }
-{
-    let mut processes = Vec::new(alloc);
-    for part in 0..topology.parts {
-        processes.push(opening_process(alloc, topology, part)?)?;
-    }
-    Ok(processes)
-}
-
 /// A part before anything is sent. Only the root is at work.
-fn opening_process(alloc: Global, topology: &Topology, part: usize) -> Result<Process, AllocError>
+pub fn opening_process(
+    alloc: Global,
+    topology: &Topology,
+    part: usize,
+) -> Result<Process, AllocError>
     requires { IsTopology topology.now }
     ensures { IfOk result (Opens topology.now part) }
 {

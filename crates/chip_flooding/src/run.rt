@@ -1,7 +1,6 @@
 ghost use Rattle.std.specs.Prelude.{◌≡◌, ◌↔◌, ◌<◌, false, IfOk, IsTrue};
 
-use crate::channel::Channel;
-use crate::process::{Process, opening_processes};
+use crate::process::{Process, opening_process};
 use crate::topology::Topology;
 use chip_diffusing::{acknowledge, is_over};
 use std::alloc::{AllocError, Global};
@@ -15,7 +14,10 @@ use std::marker::Model;
 pub struct Run {
     topology: Topology,
     processes: Vec<Process>,
-    channels: Vec<Channel>,
+    /// Of each edge, how many messages were sent and not got yet.
+    in_flight: Vec<u64>,
+    /// Of each edge, how many messages the head acknowledged, from the beginning on.
+    acknowledged: Vec<u64>,
 }
 
 impl Model for Run {
@@ -25,7 +27,7 @@ impl Model for Run {
 
     ghost view = { λ a. record { topology = a.topology; processes = a.processes.items } };
 
-    ghost invariant = { λ a. IsRun a.topology a.processes.items a.channels.items };
+    ghost invariant = { λ a. IsRun a.topology a.processes.items a.in_flight.items a.acknowledged.items };
 }
 
 impl Run {
@@ -38,16 +40,18 @@ impl Run {
         requires { IsTopology topology }
         ensures { IfOk result (IsOpening topology) }
     {
-        let processes = opening_processes(alloc, &topology)?;
-        let fresh = Channel {
-            in_flight: 0,
-            acknowledged: 0,
-        };
-        let channels = vec![in alloc; fresh; topology.tails.len()]?;
+        let mut processes = Vec::new(alloc);
+        for part in 0..topology.parts {
+            processes.push(opening_process(alloc, &topology, part)?)?;
+        }
+        let edges = topology.tails.len();
+        let in_flight = vec![in alloc; 0; edges]?;
+        let acknowledged = vec![in alloc; 0; edges]?;
         Ok(Run {
             topology,
             processes,
-            channels,
+            in_flight,
+            acknowledged,
         })
     }
 
@@ -64,7 +68,7 @@ impl Run {
         requires { edge < (net self.now).edges }
         ensures { result ≡ in_flight (net self.now) (world self.now) edge }
     {
-        self.channels[edge].in_flight
+        self.in_flight[edge]
     }
 
     /// Sends a message on the edge.
@@ -74,7 +78,7 @@ impl Run {
         ensures active { (world self.new ((net self.old).tail edge)).passive ≡ false }
     {
         let tail = self.topology.tails[edge];
-        self.channels[edge].in_flight += 1;
+        self.in_flight[edge] += 1;
         let process = &mut self.processes[tail];
         process.books.sent(edge as u64);
     }
@@ -86,7 +90,7 @@ impl Run {
         ensures active { (world self.new ((net self.old).head edge)).passive ≡ false }
     {
         let head = self.topology.heads[edge];
-        self.channels[edge].in_flight -= 1;
+        self.in_flight[edge] -= 1;
         let process = &mut self.processes[head];
         process.books.got(edge as u64);
         process.passive = false;
@@ -111,7 +115,7 @@ impl Run {
         let process = &mut self.processes[head];
         let passive = process.passive;
         let count = acknowledge(&mut process.books, edge as u64, passive);
-        self.channels[edge].acknowledged += count;
+        self.acknowledged[edge] += count;
     }
 
     /// Lets the tail of the edge hear of all acknowledgements.
@@ -120,7 +124,7 @@ impl Run {
         ensures { Runs self.old (Settle edge (acked_on (net self.old) (world self.old) edge)) self.new }
     {
         let tail = self.topology.tails[edge];
-        let word = self.channels[edge].acknowledged;
+        let word = self.acknowledged[edge];
         let process = &mut self.processes[tail];
         let _ = process.books.settled(edge as u64, word);
     }

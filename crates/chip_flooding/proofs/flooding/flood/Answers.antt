@@ -1,6 +1,25 @@
-use Rattle.std.proofs.Common.{◌≡◌, Option, Some, None, true, is_some, refl}
-use Rattle.chip_flooding.proofs.FloodLemmas.{idle_is_closed, marks_reached}
+use Rattle.std.proofs.Common.{◌≡◌, ◌∙◌, List, Bool, Option, Some, None, true, false, is_some, replicate, set, refl, sym, subst}
+use Rattle.chip_flooding.specs.Running.{network_of, net, world}
+use Rattle.chip_flooding.specs.Flooding.{IsFlooding}
+use Rattle.chip_flooding.proofs.FloodLemmas.{starts, rests, idle_is_closed, marks_reached}
 use Rattle.chip_flooding.proofs.flooding.flood.Goals as goal
+
+pub spread-requires-clause-flooding : goal.spread-requires-clause-flooding
+spread-requires-clause-flooding c =
+    let t = c.args.topology in
+    let run = c.in_ok-run.run' in
+    let all : c.in_ok-marked.marked.items ≡ replicate t.parts false = c.in_ok-marked.ensures.items_if_clones_equal (λ y same. same) in
+    rw c.in_ok-run.ensures.topology (subst (λ (m : List Bool). IsFlooding (network_of t) (world run) (set m t.root true) t.root 0)
+    (sym all) (starts t c.requires run.processes c.in_ok-run.ensures.opens))
+
+pub loop-marking-init : goal.loop-marking-init
+loop-marking-init c =
+    let run = c.spread.new.self.run in record {
+      topology = c.rest.ensures.runs.topology ∙ c.spread.ensures.topology ∙ c.in_ok-run.ensures.topology;
+      flooded = rw c.rest.ensures.runs.topology (rests (net run) (world run) (world c.rest.new.self) c.spread.new.self.marked.items
+          c.args.topology.root (rw (c.spread.ensures.topology ∙ c.in_ok-run.ensures.topology) c.requires.network.root)
+          c.spread.ensures.flooding c.rest.ensures.runs.happens c.rest.ensures.passive);
+    }
 
 some : {A : Type 0} → (o : Option A) → (o ≡ None → ⊥) → is_some o ≡ true
 some None unlike = absurd (unlike refl)

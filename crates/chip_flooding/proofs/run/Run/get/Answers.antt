@@ -1,18 +1,13 @@
-use Rattle.std.proofs.Common.{set, ap}
+use Rattle.std.proofs.Common.{ℕ, ◌-◌, set, ap, refl}
 use Rattle.chip_diffusing.specs.Computation.{Get}
-use Rattle.chip_flooding.specs.Running.{Channel}
-use Rattle.chip_flooding.proofs.RunLemmas.{Acting, callable, runs, goes_on, head_at, channel_at, gets}
+use Rattle.chip_flooding.proofs.RunLemmas.{Acting, acts, callable, runs, goes_on, head_at, flight_at}
 use Rattle.chip_flooding.proofs.run.Run.get.Goals as goal
 use Rattle.chip_flooding.proofs.run.Run.get.Goals.{After-index_mut-process}
 
-acting : (c : After-index_mut-process) → let r = c.self.inside in
-    Acting r.topology r.processes.items r.channels.items (Get c.args.edge) c.index-head.result.now c.index_mut-process.result.now
-acting c = let may = rw (← c.self.view_is) at c.requires in record {
-  is = c.self.invariant;
-  may = may;
-  at = head_at c.self.invariant.topology c.args.edge _ may.0 c.index-head.ensures;
-  read = c.index_mut-process.ensures.value;
-}
+acting : (c : After-index_mut-process)
+    → Acting c.self.inside (Get c.args.edge) c.index-head.result.now c.index_mut-process.result.now
+acting c = let may = rw (← c.self.view_is) at c.requires in acts c.self.invariant may
+    (head_at c.self.invariant.topology c.args.edge _ may.0 c.index-head.ensures) c.index_mut-process.ensures.value
 
 pub got-requires-clause-into : goal.got-requires-clause-into
 got-requires-clause-into c = (callable (acting (goal.at.got-requires-clause-into c).After-index_mut-process)).0
@@ -22,8 +17,8 @@ got-requires-clause-room c = (callable (acting (goal.at.got-requires-clause-room
 
 pub invariant_of-self : goal.invariant_of-self
 invariant_of-self c = let a = acting (goal.at.invariant_of-self c).After-index_mut-process in
-    goes_on a _ c.got.ensures.gets tt _ (ap (λ (d : Channel). set c.self.inside.channels.items c.args.edge (gets d))
-    (channel_at a.is c.args.edge _ a.may.0 c.index_mut.ensures.value))
+    goes_on a _ c.got.ensures.gets tt _ _ (ap (λ (n : ℕ). set c.self.inside.in_flight.items c.args.edge (n - 1))
+    (flight_at a.is c.args.edge _ a.may.0 c.index_mut.ensures.value)) refl
 
 pub returns-clause-runs : goal.returns-clause-runs
 returns-clause-runs c =

@@ -23,8 +23,11 @@ at_most_one : (b : Bool) → sent_by b ≤ 1
 at_most_one b = grind arith
 
 -- the marks after one more
-marked_after : (marked : List Bool) (p q : ℕ) → p < length marked → ((q ≡ p) × (is_marked (set marked p true) q ≡ true))
+abbrev IsMarkedAfter : List Bool → ℕ → ℕ → Type 0
+IsMarkedAfter marked p q = ((q ≡ p) × (is_marked (set marked p true) q ≡ true))
     ⊎ ((q ≢ p) × (is_marked (set marked p true) q ≡ is_marked marked q))
+
+marked_after : (marked : List Bool) (p q : ℕ) → p < length marked → IsMarkedAfter marked p q
 marked_after marked p q l = dite (ℕ_discrete q p)
     (λ z. inl (z, ap (is_marked (set marked p true)) z ∙ get_or-set_same marked p true false l))
     (λ other. inr (other, get_or-set_other marked p q true false other))
@@ -94,8 +97,7 @@ module _ (net : Network) (old new : World) (marked : List Bool) where
     settled = λ i m. let k = counted net old new (Get e) step i in let b = was.settled i m in omega arith;
   }
     where
-      marks : (q : ℕ) → ((q ≡ p) × (is_marked (set marked p true) q ≡ true))
-          ⊎ ((q ≢ p) × (is_marked (set marked p true) q ≡ is_marked marked q))
+      marks : (q : ℕ) → IsMarkedAfter marked p q
       marks q = marked_after marked p q (let all = was.count_is in omega arith)
 
       way : IsReached net (net.tail e)
@@ -157,8 +159,7 @@ starts t is ps opening = record {
       let b = (opening.each ((network_of t).head e) (is.network.heads e l)).part.fresh.ins.answered e in omega arith;
 }
   where
-    marks : (q : ℕ) → ((q ≡ t.root) × (is_marked (set (replicate t.parts false) t.root true) q ≡ true))
-        ⊎ ((q ≢ t.root) × (is_marked (set (replicate t.parts false) t.root true) q ≡ is_marked (replicate t.parts false) q))
+    marks : (q : ℕ) → IsMarkedAfter (replicate t.parts false) t.root q
     marks q = marked_after (replicate t.parts false) t.root q
         (let all = length-replicate t.parts false in let root = is.network.root in omega arith)
 

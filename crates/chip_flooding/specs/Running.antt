@@ -3,7 +3,7 @@ use Rattle.std.specs.Prelude.{◌≡◌, ℕ, ◌<◌, ◌≤◌, true, false, L
 use Rattle.chip_detect.specs.Tally.{edge_limit}
 use Rattle.chip_diffusing.specs.Network.{Network, IsNetwork}
 use Rattle.chip_diffusing.specs.Computation.{Part, World, Event, Log, OpensPart, IsLegalLog, Happens, in_flight, acked_on}
-pub use Rattle.chip_flooding.specs.declared.topology.Topology.{Topology}
+pub use Rattle.chip_flooding.specs.declared.process.Topology.{Topology}
 pub use Rattle.chip_flooding.specs.declared.process.Process.{Process}
 
 -- the parts and edges as chip_diffusing sees them

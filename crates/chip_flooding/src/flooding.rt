@@ -3,8 +3,8 @@ ghost use Rattle.chip_diffusing.specs.Computation.{in_flight};
 ghost use Rattle.chip_flooding.specs.Running.{IsTopology, network_of, net, world};
 ghost use Rattle.chip_flooding.specs.Flooding.{MarksReached, IsFlooding, IsFlooded, IsIdle, unfinished};
 
+use crate::process::Topology;
 use crate::run::Run;
-use crate::topology::Topology;
 use std::alloc::{AllocError, Global};
 
 /// Says of each part whether it can be reached from the root over edges from tail to head.

@@ -3,10 +3,9 @@
 #![tactic(auto)]
 
 pub use flooding::flood;
+pub use process::Topology;
 pub use run::Run;
-pub use topology::Topology;
 
 mod flooding;
 mod process;
 mod run;
-mod topology;

@@ -1,7 +1,6 @@
 ghost use Rattle.std.specs.Prelude.{◌≡◌, ◌↔◌, ◌<◌, false, IfOk, IsTrue};
 
-use crate::process::{Process, opening_process};
-use crate::topology::Topology;
+use crate::process::{Process, Topology, opening_process};
 use chip_diffusing::{acknowledge, is_over};
 use std::alloc::{AllocError, Global};
 use std::marker::Model;
@@ -113,8 +112,7 @@ impl Run {
     {
         let head = self.topology.heads[edge];
         let process = &mut self.processes[head];
-        let passive = process.passive;
-        let count = acknowledge(&mut process.books, edge as u64, passive);
+        let count = acknowledge(&mut process.books, edge as u64, process.passive);
         self.acknowledged[edge] += count;
     }
 
@@ -125,8 +123,7 @@ impl Run {
     {
         let tail = self.topology.tails[edge];
         let word = self.acknowledged[edge];
-        let process = &mut self.processes[tail];
-        let _ = process.books.settled(edge as u64, word);
+        let _ = self.processes[tail].books.settled(edge as u64, word);
     }
 
     /// The part has nothing more to do until a message comes.

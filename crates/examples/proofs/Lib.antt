@@ -1,0 +1,4 @@
+pub mod EndLemmas
+pub mod DriveLemmas
+pub mod RowLemmas
+pub mod TextLemmas

@@ -1,0 +1,98 @@
+-- Serves Answers.antt, Rows.antt.
+-- What callers ask of texts, by what the commands answer.
+use Rattle.std.proofs.Common.{◌≡◌, ℕ, List, [], ◌++◌, Option, Some, None, Result, Ok, Err, MatchResult}
+use Rattle.std.proofs.Common.{refl, sym, ap, ◌∙◌, subst, inl, inr}
+use Rattle.chip_graph.specs.Limits.{standard}
+use Rattle.chip_graph.specs.ChipGame.{ChipGame}
+use Rattle.chip_sequence.specs.Outcomes.{IsOutcome}
+use Rattle.chip_sequence.specs.declared.outcome.Outcome.{Outcome}
+use Rattle.chip_report.specs.ReportText.{report_text}
+use Rattle.chip_report.specs.Reportable.{content, FitsIn, IsReportWithin, IsNoReportWithin, Gives}
+use Rattle.chip_report.specs.declared.fault.ReportFault.{ReportFault}
+use Rattle.chip_report.specs.declared.fault.ReportFault.TheVariants.{NoMemory}
+use Rattle.chip_report.proofs.ReportLemmas.{one_outcome}
+use Rattle.chip_command.specs.PlainCommand.{PlainWrites}
+use Rattle.chip_command.specs.Reports.{Reports}
+use Rattle.chip_command.specs.declared.ended.Ended.{Ended}
+use Rattle.chip_command.proofs.OneReportLemmas.{one_game, one_report}
+use Rattle.chip_engine.specs.AvalanchesCommand.{AvalanchesAnswers, WritesReport, ended_of}
+use Rattle.chip_engine.specs.GuessCommand.{GuessAnswers}
+use Rattle.chip_engine.specs.VerifyCommand.{VerifyAnswers}
+use Rattle.examples.specs.Answers.{IsReportOf, IsToldEnd}
+use Rattle.examples.specs.Rows.{AreRowsOf, AreRowsBy}
+use Rattle.examples.proofs.EndLemmas.{every_end}
+use Rattle.examples.proofs.RowLemmas.{rows_by}
+
+-- the report of an outcome is read back as it
+pub read_again : (outcome : Outcome) → IsOutcome outcome → FitsIn standard outcome → (bytes : List ℕ)
+    → bytes ≡ report_text outcome → (r : Result Outcome ReportFault)
+    → Gives (IsReportWithin standard bytes) (IsNoReportWithin standard bytes) r
+    → MatchResult r (λ read. content read ≡ content outcome) (λ f. f ≡ NoMemory)
+read_again outcome ok fits bytes is (Ok read) gives =
+    one_outcome read outcome gives.0.reportable ok (sym gives.0.spelled ∙ is)
+read_again outcome ok fits bytes is (Err f) (inl memory) = memory
+read_again outcome ok fits bytes is (Err f) (inr none) =
+    absurd (none.1 outcome (record { reportable = ok; spelled = is }, fits))
+
+module _ (graph chips : List ℕ) (limit : ℕ) (start report : List ℕ) (ended : Ended) (empty : start ≡ [])
+    (writes : PlainWrites standard graph chips limit (Some start) (Some report) ended) where
+  -- what was written behind nothing is the report
+  pub is_report : IsReportOf graph chips limit report
+  is_report =
+      let (g, means, text, (o, played, is, status), out) = writes in
+      (g, means, o, every_end g o played, out ∙ ap (λ (before : List ℕ). before ++ text) empty ∙ is)
+
+  -- and with a guess it is the same
+  pub same_report : (guess : Option (List ℕ)) (start' report' : List ℕ) (ended' : Ended) → start' ≡ []
+      → GuessAnswers standard (Some graph) (Some chips) guess limit (Some start') (Some report') (Ok ended')
+      → report' ≡ report
+  same_report guess start' report' ended' empty' answers =
+      let (g, means, text, reports, out) = writes in
+      let (text', (h, gave, (counts, read, told)), out', cut) = answers.answer in
+      let same = one_game standard standard graph chips limit h g (gave.means graph refl chips refl) means in
+      let texts = one_report g text' text ended'.status ended.status
+      (subst (λ (k : ChipGame). Reports k text' ended'.status) same told) reports in
+      out' ∙ ap (λ (before : List ℕ). before ++ text') empty' ∙ texts.0
+      ∙ sym (out ∙ ap (λ (before : List ℕ). before ++ text) empty)
+
+-- a report that was verified tells every end
+pub told_end : (graph chips report : List ℕ) (limit : ℕ) (old new : Option (List ℕ)) (ended : Ended)
+    → VerifyAnswers standard (Some graph) (Some chips) (Some report) limit old new (Ok ended)
+    → IsToldEnd graph chips limit report
+told_end graph chips report limit old new ended answers =
+    let (text, (g, gave, (told, reads, (o, played, many, agrees, is, status))), out, cut) = answers.answer in (
+      g,
+      gave.means graph refl chips refl,
+      told,
+      (reads.0 report refl).1,
+      λ vs whole v below. let a = agrees v below in
+          (a.fired ∙ played.counted vs whole v, a.chips ∙ played.position vs whole v),
+    )
+
+-- how a command ended that dropped chips
+drops_ended : (old new : Option (Option (List ℕ))) (o : Outcome) (ended : Ended) → WritesReport old new o (Ok ended)
+    → ended ≡ ended_of o
+drops_ended None None o ended is = cc
+drops_ended None (Some new) o ended is = absurd is
+drops_ended (Some old) None o ended is = absurd is
+drops_ended (Some old) (Some new) o ended is = is.0
+
+-- what the rows are that it wrote behind nothing
+pub are_rows : (graph chips drops : List ℕ) (limit : ℕ) (start text : List ℕ) (old new : Option (Option (List ℕ)))
+    (ended : Ended) → start ≡ []
+    → AvalanchesAnswers standard (Some graph) (Some chips) (Some drops) limit
+    (record { rows = Some start; report = old }) (record { rows = Some text; report = new }) (Ok ended)
+    → AreRowsOf graph chips drops limit text ended.status
+are_rows graph chips drops limit start text old new ended empty (inl refused) = absurd refused
+are_rows graph chips drops limit start text old new ended empty (inr (g, gave, ds, gives, inr refused)) = absurd refused
+are_rows graph chips drops limit start text old new ended empty
+    (inr (g, gave, ds, gives, inl (o, (rows, g', comes, played, out), written))) =
+    let is : text ≡ rows = out ∙ ap (λ (before : List ℕ). before ++ rows) empty in
+    let status = ap (λ (e : Ended). e.status) (drops_ended old new o ended written) in (
+      g,
+      gave.means graph refl chips refl,
+      ds,
+      (gives.0 drops refl).1,
+      subst (λ (t : List ℕ). AreRowsBy g ds t ended.status) (sym is)
+          (rows_by g ds rows g' o ended.status played status comes),
+    )

@@ -1,0 +1,22 @@
+-- What rows of drops tell.
+use Rattle.std.specs.Prelude.{◌≡◌, ◌⊎◌, ℕ, ◌+◌, ◌<◌, List, [], length, take, Some}
+use Rattle.chip_graph.specs.Limits.{standard}
+use Rattle.chip_graph.specs.ChipGame.{ChipGame}
+use Rattle.chip_file.specs.DropsText.{drops_of_text}
+use Rattle.chip_drops.specs.Rows.{rows_text}
+use Rattle.chip_command.specs.Inputs.{MeansGame}
+use Rattle.chip_engine.specs.AvalanchesCommand.{Closes, TellsDrops}
+
+-- by the status: with 0 each drop has its row; with 2 those have one that come before the first that the limit stops,
+-- or the limit stops the game itself, and there is none
+abbrev pub AreRowsBy : ChipGame → List (ℕ × ℕ) → List ℕ → ℕ → Type 0
+AreRowsBy g ds text status =
+    ((status ≡ 0) × TellsDrops g ds text)
+    ⊎ ((status ≡ 2) × (n : ℕ) × (n < length ds) × TellsDrops g (take n ds) text × (Closes g (take (n + 1) ds) → ⊥))
+    ⊎ ((status ≡ 2) × (text ≡ rows_text []) × (Closes g [] → ⊥))
+
+-- they are the rows of these drops on the game of these texts
+abbrev pub AreRowsOf : (graph_text chips_text drops_text : List ℕ) → ℕ → List ℕ → ℕ → Type 0
+AreRowsOf graph_text chips_text drops_text limit text status =
+    (g : ChipGame) × MeansGame standard graph_text chips_text limit g
+    × (ds : List (ℕ × ℕ)) × (drops_of_text g.graph.vertices drops_text ≡ Some ds) × AreRowsBy g ds text status

@@ -1,14 +1,15 @@
 /* Runs examples/c/steal.c many times, or what an edit makes of it, and compares when it ends with the truth: how many
  * tasks there are, counted under a lock of their own, which the books know nothing of.
  *
- *     soak RUNS
+ *     soak RUNS EARLY
  *
- * It writes how many runs there were; how many ended early, while there were tasks; how many were missed, which had not
- * ended 10 seconds after the last task; and how many of the others found another number of ways than there are. The
- * test edits calls of `opened` and `finished` into the example, and uses of `late` into one that is wrong. */
+ * There are so many runs, or fewer if so many ended early. It writes how many there were; how many ended early, while
+ * there were tasks; how many were missed, which had not ended 10 seconds after the last task; and how many of the others
+ * found another number of ways than there are. The test edits calls of `opened` and `finished` into the example, and uses
+ * of `late` into one that is wrong. */
+#define _POSIX_C_SOURCE 200809L
 #include <chipfire.h>
 #include <pthread.h>
-#include <sched.h>
 #include <stdbool.h>
 #include <string.h>
 #include <time.h>
@@ -31,16 +32,17 @@ static unsigned drawn(unsigned many)
     return (unsigned)(draw >> 33) % many;
 }
 
-/* Lets other threads go first, fewer times than said. */
+/* Lets other threads go first, for less than so many microseconds. (Where others work beside, a thread that sleeps comes
+ * back sooner than one that yields.) */
 static void linger(unsigned most)
 {
-    for (unsigned turns = drawn(most); turns > 0; turns--) sched_yield();
+    nanosleep(&(struct timespec){0, 1000 * (long)drawn(most)}, NULL);
 }
 
 /* Lets them go first now and then. */
 static void pause_at_times(void)
 {
-    if (drawn(4) == 0) sched_yield();
+    if (drawn(8) == 0) linger(10);
 }
 
 /* The truth. */
@@ -96,7 +98,7 @@ static uint64_t judged(const struct chipfire_tally *outs, size_t length, uint64_
 static void got_late(struct part *me)
 {
     if (late == NO_EDGE) return;
-    linger(1000);
+    linger(3000);
     pthread_mutex_lock(&me->lock);
     must(chipfire_got(me->ins, PARTS + 1, &me->parent, (uint64_t)late));
     pthread_mutex_unlock(&me->lock);
@@ -105,8 +107,8 @@ static void got_late(struct part *me)
 
 int main(int count, char **words)
 {
-    long runs = count == 2 ? atol(words[1]) : 0, wrong = 0;
-    for (long run = 0; run < runs; run++) {
+    long runs = count == 3 ? atol(words[1]) : 0, most = count == 3 ? atol(words[2]) : 0, run = 0, wrong = 0;
+    for (; run < runs && early < most; run++) {
         long before = early + missed;
         memset(parts, 0, sizeof parts);
         memset(acked, 0, sizeof acked);
@@ -116,6 +118,6 @@ int main(int count, char **words)
         if (example() != 0) return 1;
         wrong += early + missed == before && ways != WAYS;
     }
-    printf("%ld %ld %ld %ld\n", runs, early, missed, wrong);
+    printf("%ld %ld %ld %ld\n", run, early, missed, wrong);
     return 0;
 }

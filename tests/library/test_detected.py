@@ -1,8 +1,8 @@
-"""The examples that detect their own end, on threads: many runs as they are, and as many of each of three wrong uses.
+"""The examples that detect their own end, on threads: many runs as they are, and runs of three wrong uses of each.
 
 When they end is compared with the truth, a count of open tasks or messages under a lock of its own. A run ends *early*
 if the root says that it is over while some are open, and is *missed* if it does not say so 10 seconds after the last
-one. CHIPFIRE_SOAK is the number of runs of each, 300 if it is not set.
+one. There are 300 runs, and a wrong use is run until one ends early. With CHIPFIRE_SOAK there are so many runs of each.
 """
 import collections
 import math
@@ -18,7 +18,9 @@ from library import BUILT, INCLUDE, ROOT, SHARED, STATIC, Room, need
 
 sys.path.append(f"{ROOT}/python")  # (knight.py finds the library by the package, if it is not told)
 
-RUNS = int(os.environ.get("CHIPFIRE_SOAK") or 300)
+#: How many runs there are, of a wrong use at most, and after how many early ends there are no more.
+SOAK = int(os.environ.get("CHIPFIRE_SOAK") or 0)
+RUNS, WRONG_RUNS, MOST_EARLY = (SOAK, SOAK, SOAK) if SOAK else (300, 10000, 1)
 STEAL, KNIGHT = f"{ROOT}/examples/c/steal.c", f"{ROOT}/examples/python/knight.py"
 MISSED_AFTER = 10
 COMPILE = ["gcc", "-std=c11", "-O2", "-Wall", "-Wextra", "-Werror", "-pedantic", "-pthread", f"-I{INCLUDE}"]
@@ -73,15 +75,6 @@ def moves_of_a_knight(side):
     return found
 
 
-def told(name, make):
-    """Returns an outcome, and shows it with the seconds that it took."""
-    begun = time.monotonic()
-    outcome = make()
-    words = ", ".join(f"{number} {word}" for word, number in outcome._asdict().items())
-    print(f"{name}: {words}, {time.monotonic() - begun:.0f} s", flush=True)
-    return outcome
-
-
 class Judge:
     """Knows the truth of one run of knight.py after another."""
 
@@ -134,25 +127,33 @@ class Judge:
         return found, self.early + self.missed == before
 
 
-def knights(edits):
-    """Runs knight.py after edits on 3 by 3 squares many times."""
+def knights(edits, runs, most_early):
+    """Runs knight.py after edits on 3 by 3 squares so many times, or fewer if so many have ended early."""
     judge, example = Judge(), types.ModuleType("knight")
     example.__dict__.update(opened=judge.opened, finished=judge.finished, judged=judge.judged)
     exec(compile(edited(KNIGHT, KNIGHT_COUNTED + edits), KNIGHT, "exec"), example.__dict__)
-    library, right, wrong = example.load(SHARED), moves_of_a_knight(3), 0
-    for _ in range(RUNS):
+    library, right, run, wrong = example.load(SHARED), moves_of_a_knight(3), 0, 0
+    while run < runs and judge.early < most_early:
         found, is_timely = judge.run(example.Search(library, 3))
-        wrong += is_timely and found != right
-    return Outcome(RUNS, judge.early, judge.missed, wrong)
+        run, wrong = run + 1, wrong + (is_timely and found != right)
+    return Outcome(run, judge.early, judge.missed, wrong)
 
 
 class Soak(Room):
-    def is_right(self, outcome):
-        self.assertEqual(outcome, Outcome(RUNS, 0, 0, 0))
+    def told(self, name, *words):
+        """Returns the outcome that a command writes, and shows it with the seconds that it took."""
+        begun = time.monotonic()
+        outcome = Outcome(*map(int, self.runs(*words).split()))
+        shown = ", ".join(f"{number} {word}" for word, number in outcome._asdict().items())
+        print(f"{name}: {shown}, {time.monotonic() - begun:.0f} s", flush=True)
+        return outcome
 
-    def are_caught(self, outcome, wrong_uses):
-        for name, edits in wrong_uses.items():
-            self.assertGreater(outcome(name, edits).early, 0, name)
+    def is_right(self):
+        self.assertEqual(self.outcome("right", RUNS), Outcome(RUNS, 0, 0, 0))
+
+    def are_caught(self, wrong_uses):
+        for name in wrong_uses:
+            self.assertGreater(self.outcome(name, WRONG_RUNS).early, 0, name)
 
 
 class Steal(Soak):
@@ -161,34 +162,40 @@ class Steal(Soak):
         self.runs(*COMPILE, STEAL, STATIC, "-o", f"{self.room}/steal")
         self.assertEqual(self.runs(f"{self.room}/steal"), "92 ways\n")
 
-    def outcome(self, name, edits):
-        """Runs steal.c after edits many times."""
+    def outcome(self, name, runs):
+        """Runs steal.c so many times, or a wrong use."""
         need("gcc")
         with open(f"{self.room}/steal.c", "w", encoding="utf-8") as file:
-            file.write(edited(STEAL, STEAL_COUNTED + edits))
+            file.write(edited(STEAL, STEAL_COUNTED + STEAL_WRONG.get(name, [])))
         program = f"{self.room}/soak"
         self.runs(*COMPILE, f"-I{self.room}", f"{ROOT}/tests/library/soak.c", *WITH_SHARED, "-o", program)
-        return told(f"steal.c, {name}", lambda: Outcome(*map(int, self.runs(program, str(RUNS)).split())))
+        return self.told(f"steal.c, {name}", program, str(runs), str(MOST_EARLY))
 
     def test_it_ends_when_it_is_over(self):
-        self.is_right(self.outcome("right", []))
+        self.is_right()
 
     def test_wrong_uses_are_caught(self):
-        self.are_caught(self.outcome, STEAL_WRONG)
+        self.are_caught(STEAL_WRONG)
 
 
 class Knight(Soak):
-    def outcome(self, name, edits):
-        return told(f"knight.py, {name}", lambda: knights(edits))
-
     def test_it_finds_what_one_finds_move_by_move(self):
         environment = {**os.environ, "PYTHONPATH": f"{ROOT}/python"}
         found = self.runs(sys.executable, KNIGHT, "--library", SHARED, env=environment)
         right = moves_of_a_knight(8)
         self.assertEqual(found, "".join(" ".join(str(right[y, x]) for x in range(8)) + "\n" for y in range(8)))
 
+    def outcome(self, name, runs):
+        """Runs knight.py or a wrong use in a process of its own, since tests of memory follow in this one."""
+        words = os.path.realpath(__file__), name, str(runs), str(MOST_EARLY)
+        return self.told(f"knight.py, {name}", sys.executable, *words)
+
     def test_it_ends_when_it_is_over(self):
-        self.is_right(self.outcome("right", []))
+        self.is_right()
 
     def test_wrong_uses_are_caught(self):
-        self.are_caught(self.outcome, KNIGHT_WRONG)
+        self.are_caught(KNIGHT_WRONG)
+
+
+if __name__ == "__main__":
+    print(*knights(KNIGHT_WRONG.get(sys.argv[1], []), *map(int, sys.argv[2:])))

@@ -31,6 +31,7 @@ The usual words of sandpiles are found under these names:
     Laplacian                  laplacian(graph), reduced_laplacian(graph)
     avalanche                  avalanche(graph, chips, vertex), avalanches(graph, chips, vertices); by the million:
                                drops(graph, chips, vertices), with random_drops(graph, count, seed)
+    many series of drops       chains(graph, n, drops, seed), from random_recurrent(graph, seed)
 
 `image` and `show` draw reports and configurations, `frames` draws plays. `page` makes a page for the browser on which
 one watches a run of the distributed machine, event by event, and `wrong_page` one on which a wrong detector fails;
@@ -47,6 +48,7 @@ from chipfire import library as library, machine
 from chipfire.animation import Frames, frames, frames_by_chips
 from chipfire.chips import CHIPS_HEADER as CHIPS_HEADER, Chips, Configuration
 from chipfire.dropped import Drops
+from chipfire.ensembles import Chains, Firings, chains, random_recurrent
 from chipfire.graphs import Graph, aztec, complete, cycle, from_networkx, from_sage, grid, path, region, torus, wheel
 from chipfire.library import find_library as find_library
 from chipfire.machine import (
@@ -90,5 +92,5 @@ __all__ = [
     "random_drops", "random_schedule", "read_chips", "recorded", "recurrent_representative", "recurrents",
     "reduced_laplacian", "region", "replay", "resume", "run", "shiviz", "shrink", "simulate", "stabilize",
     "stabilize_many", "superstable_representative", "superstables", "torus", "verify", "wheel", "write_chips",
-    "wrong_page",
+    "wrong_page", "Chains", "Firings", "chains", "random_recurrent",
 ]

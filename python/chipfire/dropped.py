@@ -76,19 +76,25 @@ def played_drops(
     if not found or sum(chips) + max(amounts, default=0) > library.most(graph):
         return None
     left, columns = found[0], [array("Q", bytes(8 * len(at))) for _ in range(3)]
-    # (one drop may be long; later calls make more, or fewer if one takes a tenth of a second)
+    try:
+        in_calls(graph, left, at, amounts, columns, library.most(graph))
+    except Fault as fault:
+        if fault.number == 13:
+            return None
+        raise
+    return None if sum(found[1]) + sum(columns[0]) > MAX_LIMIT else _shown(columns)
+
+
+def in_calls(graph: Graph, left: Any, at: Any, amounts: Any, columns: Sequence[Any], limit: int = MAX_LIMIT) -> None:
+    """Drops on what is left, by calls in each of which a vertex fires `limit` times at most. One drop may be long, so
+    the first call has one; later calls have more, or fewer if one takes a tenth of a second."""
     start, some = 0, 1
     while start < len(at):
         begun, part = time.monotonic(), slice(start, start + some)
         where, many, *rows = (memoryview(it)[part] for it in (at, amounts, *columns))
-        try:
-            library.avalanches(graph, where, many, left, rows[0], rows[1], rows[2], limit=library.most(graph))
-        except Fault as fault:
-            if fault.number == 13:
-                return None
-            raise
-        start, some = part.stop, 2 * some if time.monotonic() < begun + 0.1 else some // 2 or 1
-    return None if sum(found[1]) + sum(columns[0]) > MAX_LIMIT else _shown(columns)
+        library.avalanches(graph, where, many, left, rows[0], rows[1], rows[2], limit=limit)
+        start, took = part.stop, time.monotonic() - begun
+        some = 32 * some if took < 0.003 else 2 * some if took < 0.1 else some // 2 or 1
 
 
 def parts_of(at: array[int], amounts: array[int]) -> Iterator[bytes]:

@@ -18,7 +18,7 @@ from chipfire.chips import Chips, Configuration, burning, come_back, identity, p
 from chipfire.dropped import PART
 from chipfire.graphs import Graph
 from chipfire.program import AnyGraph, AnyProgram, known_graph, read_chips
-from chipfire.values import FILE, MAX_CHIPS, imported, whole
+from chipfire.values import FILE, MAX_CHIPS, imported, side_by_side, whole
 
 
 def _held(graph: AnyGraph, chips: Chips, program: AnyProgram) -> Configuration:
@@ -74,12 +74,14 @@ def is_recurrent(graph: AnyGraph, chips: Chips, *, program: AnyProgram = None) -
     return _held(graph, chips, program).is_recurrent(program=program)
 
 
-def stabilize_many(graph: AnyGraph, configurations: Iterable[Chips], *, program: AnyProgram = None) -> Any:
+def stabilize_many(
+    graph: AnyGraph, configurations: Iterable[Chips], *, workers: int = 1, program: AnyProgram = None
+) -> Any:
     """What lies there when no vertex can fire any more, of many configurations: a row for each, with a column for each
     vertex by numbers, where the sink has its chips too.
 
     The configurations are rows of an array, or come in any form of chips. The answer is an array of NumPy if that is
-    installed, else a list of rows.
+    installed, else a list of rows. So many `workers` play side by side, on threads of their own.
     Proved: the chips. Not proved: that Python passes them on."""
     known, given = known_graph(graph, program), cast(Any, configurations)
     width, numpy = known.vertices, imported("numpy")
@@ -89,7 +91,10 @@ def stabilize_many(graph: AnyGraph, configurations: Iterable[Chips], *, program:
     else:
         rows = (known.numbers(row, 0, f"chips in row {place}") for place, row in enumerate(given))
         start = [*itertools.chain.from_iterable(rows)]
-    left, _ = played_many(known, start, program)
+    count, workers = len(start) // (width or 1), whole(workers, "workers", 1, 64)
+    ends = [width * (count * it // workers) for it in range(workers + 1)]
+    parts = side_by_side(lambda it: played_many(known, start[ends[it] : ends[it + 1]], program)[0], workers, workers)
+    left = array("Q", b"".join(part.tobytes() for part in parts))
     if numpy:
         return numpy.frombuffer(left, "q").reshape(-1, width)
     return [tuple(left[it : it + width]) for it in range(0, len(left), width or 1)]

@@ -11,7 +11,10 @@ import operator
 import os
 from array import array
 from collections.abc import Callable, Iterable, Iterator, Sequence
-from typing import Any, Union
+from concurrent.futures import ThreadPoolExecutor
+from typing import Any, TypeVar, Union
+
+T = TypeVar("T")
 
 #: The most of a graph, and of a large one.
 MAX_VERTICES, MAX_EDGES = 4096, 65_536
@@ -67,6 +70,17 @@ def imported(name: str, wanted: str = "") -> Any:
         if wanted:
             raise ImportError(f"{wanted}, which is not installed") from None
         return None
+
+
+def side_by_side(work: Callable[[int], T], count: int, workers: int) -> list[T]:
+    """What work is for each number from 0 on, by so many threads. After an error or an interrupt none is begun."""
+    if workers == 1:
+        return [work(it) for it in range(count)]
+    pool = ThreadPoolExecutor(workers)
+    try:
+        return list(pool.map(work, range(count)))
+    finally:
+        pool.shutdown(cancel_futures=True)
 
 
 def counted(count: int, word: str) -> str:

@@ -36,6 +36,7 @@ class Own(chipfire.model.Core):
 print(chipfire.random_schedule(setting, 1, Own).note("last"), chipfire.judge(setting, []).is_true, found)
 print(chipfire.drops(grid, chips, chipfire.random_drops(grid, 9, 1), amounts=[1] * 9).histogram()[0], setting)
 print(chipfire.stabilize_many(grid, [chips, 4])[0], chipfire.are_recurrent(grid, [chips])[0], chipfire.find_library())
+print(chipfire.chains(grid, 2, 3, 1).size, chipfire.random_recurrent(grid, 1))
 print(chipfire.Schedule().take(4), chipfire.MAX_CHIPS, chipfire.find_program(), chipfire.CHIPS_HEADER, chipfire.RULES)
 """
 

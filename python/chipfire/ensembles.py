@@ -1,0 +1,280 @@
+"""Many sandpiles at once: random recurrent configurations, and series of drops that know nothing of one another."""
+
+from __future__ import annotations
+
+import itertools
+import os
+import random
+from array import array
+from bisect import bisect
+from collections import Counter
+from collections.abc import Mapping, Sequence
+from dataclasses import dataclass
+from typing import Any, NamedTuple
+
+from chipfire import library
+from chipfire.chips import Chips, Configuration
+from chipfire.dropped import in_calls
+from chipfire.graphs import Graph
+from chipfire.process import ProgramNotFound
+from chipfire.program import AnyGraph, known_graph
+from chipfire.values import imported, side_by_side, whole
+
+#: Of each vertex the heads of its edges, and how many chips one firing sends on the edges up to each of them.
+Outs = list[tuple[list[int], list[int]]]
+
+
+def random_recurrent(graph: AnyGraph, seed: Any, count: int | None = None) -> Any:
+    """A recurrent configuration of an undirected graph, each as probable as every other; with a `count` a list of so
+    many, drawn one after the other.
+
+    Wilson's algorithm (1996) draws a spanning tree by `random.Random(seed)`, and the burning bijection of Majumdar and
+    Dhar (1992) makes chips of it. Edges into the sink need none back; a graph that is else directed is a ValueError. A
+    grid of 60 by 60 takes some 20 ms.
+    Nothing of this is proved, and the program is not asked."""
+    known, draw = known_graph(graph), random.Random(seed)
+    outs = _undirected(known)
+    many = range(1 if count is None else whole(count, "the number of configurations"))
+    found = [Configuration(known, _burnt(known, outs, *_tree(known.sink, outs, draw))) for _ in many]
+    return found[0] if count is None else found
+
+
+def _undirected(graph: Graph) -> Outs:
+    """The edges out of each vertex of an undirected graph; another one is refused by the names of two vertices."""
+    graph.require()
+    mults: Counter[tuple[int, int]] = Counter()
+    outs: Outs = [([], []) for _ in range(graph.vertices)]
+    for tail, head, mult in zip(*graph.columns):
+        heads, ends = outs[tail]
+        heads.append(head)
+        ends.append(mult + (ends[-1] if ends else 0))
+        mults[tail, head] += mult
+    for (tail, head), mult in mults.items():
+        if head != graph.sink and mults[head, tail] != mult:
+            told = f"sends {mult} to {graph.names[head]!r} and gets {mults[head, tail]} back"
+            raise ValueError(f"the graph is directed: vertex {graph.names[tail]!r} {told}")
+    return outs
+
+
+def _tree(sink: int, outs: Outs, draw: random.Random) -> tuple[list[int], list[int]]:
+    """A random spanning tree: which of its chips goes to the next vertex, and how many edges lead to the sink."""
+    chance, (steps, depth) = draw.random, ([0] * len(outs), [-1] * len(outs))
+    depth[sink] = 0
+    for vertex in range(len(outs)):
+        at, way = vertex, list[int]()
+        while depth[at] < 0:
+            heads, ends = outs[at]
+            steps[at] = step = int(chance() * ends[-1])
+            at = heads[bisect(ends, step)]
+        at = vertex
+        while depth[at] < 0:
+            way.append(at)
+            heads, ends = outs[at]
+            at = heads[bisect(ends, steps[at])]
+        for level, passed in enumerate(reversed(way), depth[at] + 1):
+            depth[passed] = level
+    return steps, depth
+
+
+def _burnt(graph: Graph, outs: Outs, steps: Sequence[int], depth: Sequence[int]) -> list[int]:
+    """The chips with which each vertex burns in the step after its next one, whose edges have an order."""
+    found = [0] * graph.vertices
+    for vertex, (heads, ends) in enumerate(outs):
+        level, step, start, left = depth[vertex] - 1, steps[vertex], 0, ends[-1] if ends else 0
+        for head, end in zip(heads, ends):
+            if depth[head] < level:
+                left -= end - start
+            elif depth[head] == level and end > step:
+                left -= end - max(start, step)
+            start = end
+        found[vertex] = left
+    return found
+
+
+class Firings(NamedTuple):
+    """Which vertices fired by each drop, as the rows of a sparse matrix. The entries of drop `d` of chain `k`, with
+    `at = k * drops + d`, are those from `offsets[at]` to `offsets[at + 1]`: `vertices`, ascending, and their `counts`.
+    A vertex that fires takes 12 bytes, and up to 60 before all are in order."""
+
+    offsets: Any
+    vertices: Any
+    counts: Any
+
+
+@dataclass(frozen=True, repr=False, eq=False)
+class Chains:
+    """What `chains` answers: arrays with a row for each chain, of NumPy if it is installed, else lists of rows.
+
+    seeds   the seed of each chain: `random_drops(graph, drops, seeds[k])` has the vertices of chain `k`
+    size    how many firings each drop of each chain caused; 0 for those that were not made
+    extent  how many different vertices fired
+    lost    how many chips the firings brought to the sink
+    made    how many drops each chain made
+    chips   what lies on each vertex after the last one, by numbers; the sink has what it got in all
+    fired   which vertices fired by each drop, if that was asked for, else None
+    """
+
+    seeds: Sequence[str]
+    size: Any
+    extent: Any
+    lost: Any
+    made: Any
+    chips: Any
+    fired: Firings | None = None
+
+    def __repr__(self) -> str:
+        return f"<Chains: {len(self.seeds)} of up to {len(self.size[0])} drops>"
+
+
+def chains(
+    graph: AnyGraph, n: int, drops: int, seed: Any, *, chips: Chips | None = None, workers: int | None = None,
+    fired: bool = False, until: str | None = None,
+) -> Chains:
+    """Drops chips on random vertices in n chains, each with its own seed and so many drops, each drop on what the play
+    of the one before it left. It takes the library: without it that is a `ProgramNotFound`.
+
+    Each chain begins with `chips`: in one of their forms for all, or rows of an array or list, one for each. Without
+    them each begins with a `random_recurrent` configuration of its own, from which on the drops are stationary.
+    `workers` threads play, as many as there are processors if that is not said. An interrupt waits for chains that
+    have begun.
+
+    If it is asked for what `fired`, or `until` a drop has a "loss" of chips, or "spans" a grid, which is that the
+    vertices that fired touch two opposite borders, each call makes one drop of many chains, by NumPy. `until` stops a
+    chain after the first such drop. In a direction that is joined there are no borders, and "spans" does not know that.
+    Proved: sizes, extents, losses and counts of the drops. Not proved: that they are evenly drawn, and what stops."""
+    known, n, drops = known_graph(graph), whole(n, "the number of chains", 1), whole(drops, "the number of drops")
+    if until not in (None, "loss", "spans"):
+        raise ValueError(f"chains go on until 'loss' or 'spans', and not {until!r}")
+    if fired or until:
+        imported("numpy", "what fired, and when to stop, are found by NumPy")
+    if library.find_library() is None:
+        raise ProgramNotFound(2, "chains take the library, which is not beside the program in this version", "chipfire")
+    known.require()
+    if known.vertices < 2 and drops:
+        raise ValueError("the graph has only its sink, and so no vertex to drop on")
+    play = _Chains(known, n, drops, seed, random_recurrent(known, seed, n) if chips is None else chips)
+    workers = min(n, min(os.cpu_count() or 1, 64) if workers is None else whole(workers, "workers", 1, 64))
+    pieces = []
+    if fired or until:
+        ends = [n * it // workers for it in range(workers + 1)]
+        pieces = side_by_side(lambda it: play.step(range(ends[it], ends[it + 1]), until, fired), workers, workers)
+    else:
+        side_by_side(play.whole, n, workers)
+    return play.told(_in_order(pieces, n * drops) if fired else None)
+
+
+class _Chains:
+    """Chains as they are played: numbers of 64 bits, those of one chain behind those of another."""
+
+    def __init__(self, graph: Graph, n: int, drops: int, seed: Any, chips: Any) -> None:
+        self.graph, self.drops, self.seeds = graph, drops, [f"{seed} {chain}" for chain in range(n)]
+        self.inner = array("Q", (it for it in range(graph.vertices) if it != graph.sink))
+        self.made = array("Q", [drops]) * n
+        self.columns = [array("Q", bytes(8 * n * drops)) for _ in range(3)]
+        rows = [graph.chips(row) for row in chips] if _are_rows(graph, chips) else [graph.chips(chips)] * n
+        if len(rows) != n:
+            raise ValueError(f"there are chips for {len(rows)} chains, and {n} chains")
+        self.chips = array("Q", itertools.chain.from_iterable(rows))
+        _stabilize(graph, self.chips, array("Q", bytes(8 * len(self.chips))), array("Q", bytes(8 * n)))
+
+    def drawn(self, chain: int) -> Any:
+        """The vertices of a chain, as `random_drops` draws them; by NumPy's twister, which is Python's."""
+        draw, numpy = random.Random(self.seeds[chain]), imported("numpy")
+        if not numpy:
+            return array("Q", draw.choices(self.inner, k=self.drops))
+        state, twister = draw.getstate()[1], numpy.random.RandomState(0)
+        twister.set_state(("MT19937", state[:-1], state[-1]))
+        places = (twister.random_sample(self.drops) * len(self.inner)).astype("i8")
+        return numpy.frombuffer(self.inner, "u8")[places]
+
+    def whole(self, chain: int) -> None:
+        """Plays a chain from its beginning to its end."""
+        width, drops = self.graph.vertices, self.drops
+        left = memoryview(self.chips)[chain * width : (chain + 1) * width]
+        rows = [memoryview(column)[chain * drops : (chain + 1) * drops] for column in self.columns]
+        in_calls(self.graph, left, self.drawn(chain), array("Q", [1]) * drops, rows)
+
+    def step(self, group: range, until: str | None, wants_fired: bool) -> list[Any]:
+        """Plays some chains, one drop of each after the other; gets the drop, vertex and count of each that fired."""
+        numpy, width, drops = imported("numpy"), self.graph.vertices, self.drops
+        live, pieces, spans = numpy.array(group), [], _Spans(self.graph) if until == "spans" else None
+        chips, made, *columns = (numpy.frombuffer(it, "u8") for it in (self.chips, self.made, *self.columns))
+        chips = chips.reshape(-1, width)
+        at = numpy.array([self.drawn(chain) for chain in group])
+        for drop in range(drops if len(live) else 0):
+            there = chips[live]
+            there[numpy.arange(len(live)), at[live - group.start, drop]] += 1
+            fired, stopped = numpy.zeros_like(there), numpy.zeros(len(live), "u8")
+            _stabilize(self.graph, there, fired, stopped)
+            lost = there[:, self.graph.sink] - chips[live, self.graph.sink]
+            for column, values in zip(columns, (fired.sum(1), (fired > 0).sum(1), lost)):
+                column[live * drops + drop] = values
+            chips[live] = there
+            if wants_fired:
+                chain, vertex = numpy.nonzero(fired)
+                pieces.append((live[chain] * drops + drop, vertex.astype("i4"), fired[chain, vertex].astype("i8")))
+            if until:
+                ended = spans.by(fired) if spans else lost > 0
+                made[live[ended]] = drop + 1
+                live = live[~ended]
+                if not len(live):
+                    break
+        return pieces
+
+    def told(self, fired: Firings | None) -> Chains:
+        """What was played, by rows."""
+        numpy, n = imported("numpy"), len(self.seeds)
+        size, extent, lost, chips = (_by_rows(numpy, it, n) for it in (*self.columns, self.chips))
+        made = numpy.frombuffer(self.made, "q") if numpy else self.made
+        return Chains(tuple(self.seeds), size, extent, lost, made, chips, fired)
+
+
+def _stabilize(graph: Graph, chips: Any, fired: Any, stopped: Any) -> None:
+    """Plays games to their ends, by the library."""
+    library.stabilize_all(graph, chips, fired, stopped)
+    if any(stopped):
+        raise ValueError("a vertex fired 2^40 times, and the chips are not stable then")
+
+
+class _Spans:
+    """Where the borders of a grid are."""
+
+    def __init__(self, graph: Graph) -> None:
+        if graph.shape is None:
+            raise ValueError("the graph is no grid, so nothing spans it")
+        height, width = graph.shape
+        places = [divmod(square, width) for square in graph.squares]
+        self.borders = [
+            [vertex for vertex, place in enumerate(places) if place[way] == end and vertex != graph.sink]
+            for way, last in enumerate((height - 1, width - 1)) for end in (0, last)
+        ]
+
+    def by(self, fired: Any) -> Any:
+        """Of each game whether the vertices that fired touch two opposite borders."""
+        top, bottom, left, right = (fired[:, border].any(1) for border in self.borders)
+        return top & bottom | left & right
+
+
+def _are_rows(graph: Graph, chips: Any) -> bool:
+    """Whether chips are rows for chains, and not those of all."""
+    if not isinstance(chips, (list, tuple)) and getattr(chips, "ndim", 1) != 2:
+        return False
+    return all(isinstance(row, Mapping) or hasattr(row, "__len__") and len(row) == graph.vertices for row in chips)
+
+
+def _by_rows(numpy: Any, numbers: array[int], n: int) -> Any:
+    """Numbers in n rows."""
+    if numpy:
+        return numpy.frombuffer(numbers, "q").reshape(n, -1)
+    width = len(numbers) // n
+    return [array("q", numbers[it * width : (it + 1) * width]) for it in range(n)]
+
+
+def _in_order(pieces: Sequence[Sequence[Any]], count: int) -> Firings:
+    """The vertices that fired by each drop, by the numbers of so many drops."""
+    numpy = imported("numpy")
+    found = [it for piece in pieces for it in piece] or [[numpy.zeros(0, "i8")] * 3]
+    drop, vertices, counts = (numpy.concatenate(column) for column in zip(*found))
+    order = numpy.argsort(drop, kind="stable")
+    offsets = numpy.concatenate([[0], numpy.cumsum(numpy.bincount(drop, minlength=count))])
+    return Firings(offsets, vertices[order], counts[order])

@@ -1,0 +1,189 @@
+"""Random recurrent configurations and chains of drops: against the slow player of examples/play.py, and by counting.
+
+Chains take the library: with CHIPFIRE, which names a program, they are refused.
+"""
+import itertools
+import random
+import unittest
+from collections import Counter
+from unittest import mock
+
+import chipfire
+from test_counts import slow_report
+from test_drops import rows_of, slow_rows
+from test_package import TRIANGLE
+from test_sandpile_words import recurrent_ones
+from test_sandpiles import has
+
+IS_HERE = chipfire.find_library() is not None
+#: Edges of several chips, and some to the sink.
+MULTIGRAPH = chipfire.Graph.undirected([("a", "b", 2), ("b", "c"), ("a", "s", 3), ("c", "s"), ("c", "b", 2)], "s")
+#: Each square of 2 by 2 loses one more chip.
+LOSSY = chipfire.Graph(5, 4, [*chipfire.grid(2, 2).edges, *((vertex, 4) for vertex in range(4))])
+
+
+class Recurrent(unittest.TestCase):
+    def test_all_recurrent_configurations_are_drawn_evenly(self):
+        for graph, order in [(chipfire.grid(2, 2), 192), (MULTIGRAPH, None), (LOSSY, 3 * 5 * 5 * 7),
+                             (chipfire.cycle(7), 7), (chipfire.complete(5), 125)]:
+            wanted = recurrent_ones(graph)
+            self.assertEqual(len(wanted), order or len(wanted))
+            drawn = chipfire.random_recurrent(graph, 1, 20 * len(wanted))
+            counts = Counter(tuple(chips.values()) for chips in drawn)
+            self.assertEqual({*counts}, wanted)
+            freedom = len(wanted) - 1
+            squares = sum((count - 20) ** 2 / 20 for count in counts.values())
+            self.assertLess(abs(squares - freedom), 4 * (2 * freedom) ** 0.5, graph)
+
+    def test_a_seed_draws_one_or_many(self):
+        grid = chipfire.grid(9, 7)
+        many = chipfire.random_recurrent(grid, 5, 20)
+        self.assertEqual(chipfire.random_recurrent(grid, 5), many[0])
+        self.assertEqual(chipfire.random_recurrent(grid, 5, 20), many)
+        self.assertEqual((chipfire.are_recurrent(grid, many), len({*many})), ([True] * 20, 20))
+        self.assertEqual(chipfire.random_recurrent(chipfire.Graph(1, 0, []), 1), {})
+
+    def test_what_is_refused(self):
+        with self.assertRaisesRegex(ValueError, "'a' sends 2 to 'b' and gets 1 back"):
+            chipfire.random_recurrent(chipfire.Graph(3, 2, [(0, 1, 2), (1, 0), (0, 2)], ["a", "b", "s"]), 1)
+        with self.assertRaisesRegex(ValueError, "no walk leads to the sink"):
+            chipfire.random_recurrent(chipfire.Graph(3, 2, [(0, 1), (1, 0)]), 1)
+        with self.assertRaisesRegex(ValueError, "below 0"):
+            chipfire.random_recurrent(TRIANGLE, 1, -1)
+
+
+class Many(unittest.TestCase):
+    def test_workers_play_what_one_does(self):
+        grid, draw = chipfire.grid(4, 3), random.Random(1)
+        rows = [[draw.randrange(9) for _ in range(13)] for _ in range(10)]
+        wanted = [slow_report(grid, row).chips for row in rows]
+        for workers, some in itertools.product((1, 2, 3, 64), (0, 1, 10)):
+            found = chipfire.stabilize_many(grid, rows[:some], workers=workers)
+            self.assertEqual([tuple(row) for row in found], wanted[:some])
+        with self.assertRaises(ValueError):
+            chipfire.stabilize_many(grid, rows, workers=0)
+
+
+@unittest.skipUnless(IS_HERE, "chains take the library")
+class Chains(unittest.TestCase):
+    def test_each_chain_is_a_series_of_random_drops(self):
+        for graph, chips in [(chipfire.grid(4, 3), 2), (MULTIGRAPH, 0), (TRIANGLE, [9, 9, 9])]:
+            for workers in (1, 3):
+                found = chipfire.chains(graph, 5, 40, "seed", chips=chips, workers=workers)
+                for chain, seed in enumerate(found.seeds):
+                    drops = [(graph.number(it), 1) for it in chipfire.random_drops(graph, 40, seed)]
+                    fallen = Counter(vertex for vertex, _ in drops)
+                    rows = zip(*(column[chain].tolist() for column in (found.size, found.extent, found.lost)))
+                    self.assertEqual(list(rows), list(slow_rows(graph, graph.chips(chips), drops)))
+                    together = [there + fallen[at] for at, there in enumerate(graph.chips(chips))]
+                    self.assertEqual(found.chips[chain].tolist(), list(slow_report(graph, together).chips))
+                self.assertEqual((list(found.made), len({*found.seeds})), ([40] * 5, 5))
+
+    def test_chains_begin_with_chips_of_their_own(self):
+        grid = chipfire.grid(4, 4)
+        starts = chipfire.random_recurrent(grid, 3, 4)
+        found = chipfire.chains(grid, 4, 30, 3)
+        forms = [starts, tuple(starts), [[*it.numbers] for it in starts]]
+        if has("numpy"):
+            import numpy
+            forms.append(numpy.array([it.numbers for it in starts]))
+        for chips in forms:
+            again = chipfire.chains(grid, 4, 30, 3, chips=chips)
+            self.assertEqual([it.tolist() for it in again.size], [it.tolist() for it in found.size])
+        for chain, start in enumerate(starts):
+            alone = chipfire.drops(grid, start, chipfire.random_drops(grid, 30, found.seeds[chain]))
+            self.assertEqual(alone.size.tolist(), found.size[chain].tolist())
+
+    @unittest.skipUnless(has("numpy"), "NumPy is not here")
+    def test_the_numbers_without_numpy_are_the_same(self):
+        grid = chipfire.grid(5, 3)
+        found = chipfire.chains(grid, 3, 2000, 1)
+        with mock.patch("chipfire.ensembles.imported", return_value=None):
+            other = chipfire.chains(grid, 3, 2000, 1)
+        for name in ("size", "extent", "lost", "chips"):
+            self.assertEqual([it.tolist() for it in getattr(other, name)], getattr(found, name).tolist())
+        self.assertEqual((other.seeds, list(other.made)), (found.seeds, found.made.tolist()))
+
+    @unittest.skipUnless(has("numpy"), "NumPy is not here")
+    def test_what_fired_by_each_drop(self):
+        for graph, workers in itertools.product((chipfire.grid(4, 3), MULTIGRAPH, TRIANGLE), (1, 2)):
+            found = chipfire.chains(graph, 3, 40, 2, chips=[3] * graph.vertices, fired=True, workers=workers)
+            plain = chipfire.chains(graph, 3, 40, 2, chips=[3] * graph.vertices)
+            for name in ("size", "extent", "lost", "chips"):
+                self.assertEqual(getattr(found, name).tolist(), getattr(plain, name).tolist())
+            self.assertEqual(len(found.fired.offsets), 3 * 40 + 1)
+            for chain, seed in enumerate(found.seeds):
+                left = list(slow_report(graph, [3] * graph.vertices).chips)
+                for drop, name in enumerate(chipfire.random_drops(graph, 40, seed)):
+                    left[graph.number(name)] += 1
+                    report = slow_report(graph, left)
+                    begin, end = found.fired.offsets[40 * chain + drop :][:2]
+                    pairs = zip(found.fired.vertices[begin:end].tolist(), found.fired.counts[begin:end].tolist())
+                    self.assertEqual(list(pairs), [it for it in enumerate(report.fired) if it[1]])
+                    left = list(report.chips)
+
+    @unittest.skipUnless(has("numpy"), "NumPy is not here")
+    def test_a_chain_stops_after_the_first_drop_that_loses_a_chip_or_spans(self):
+        def spans(fired):
+            places = [divmod(vertex, 4) for vertex, count in enumerate(fired[:12]) if count]
+            rows, columns = ({*it} for it in zip(*places)) if places else ({}, {})
+            return {0, 2} <= {*rows} or {0, 3} <= {*columns}
+
+        grid = chipfire.grid(4, 3)
+        for until, is_last in [("loss", lambda lost, fired: lost > 0), ("spans", lambda lost, fired: spans(fired))]:
+            found = chipfire.chains(grid, 6, 60, 4, chips=0, until=until, fired=until == "spans", workers=2)
+            for chain, seed in enumerate(found.seeds):
+                left, made = [0] * 13, 0
+                for vertex in chipfire.random_drops(grid, 60, seed):
+                    left[vertex] += 1
+                    report, made = slow_report(grid, left), made + 1
+                    lost, left = report.chips[12] - left[12], list(report.chips)
+                    if is_last(lost, report.fired):
+                        break
+                self.assertEqual((found.made[chain], found.chips[chain].tolist()), (made, left))
+                self.assertEqual(found.size[chain, made:].sum(), 0)
+                self.assertEqual((found.size[chain, made - 1], found.lost[chain, made - 1]), (sum(report.fired), lost))
+            self.assertTrue(1 < min(found.made) and max(found.made) < 60)
+
+    @unittest.skipUnless(has("numpy"), "NumPy is not here")
+    def test_the_mean_size_from_a_recurrent_start_is_that_of_dhar(self):
+        """The mean number of firings is the sum of the inverse Laplacian, divided by the number of vertices (1990)."""
+        import numpy
+
+        grid = chipfire.grid(7, 6)
+        mean = numpy.linalg.inv(numpy.array(chipfire.reduced_laplacian(grid))).sum() / 42
+        found = chipfire.chains(grid, 200, 500, 1)
+        self.assertLess(abs(found.size.mean() / mean - 1), 0.03)
+        self.assertLess(abs(found.lost.mean() - 1), 0.02)
+
+    def test_what_is_refused(self):
+        for words, options in [("until 'loss' or 'spans'", {"until": "end"}), ("workers is below", {"workers": 0}),
+                               ("for 2 chains", {"chips": [[1] * 3] * 2})]:
+            with self.assertRaisesRegex(ValueError, words):
+                chipfire.chains(TRIANGLE, 3, 1, 1, **options)
+        with self.assertRaisesRegex(ValueError, "directed"):
+            chipfire.chains(chipfire.Graph(3, 2, [(0, 1, 2), (1, 0), (0, 2)]), 1, 1, 1)
+        with self.assertRaisesRegex(ValueError, "only its sink"):
+            chipfire.chains(chipfire.Graph(1, 0, []), 1, 1, 1)
+        if has("numpy"):
+            with self.assertRaisesRegex(ValueError, "no grid"):
+                chipfire.chains(chipfire.complete(4), 1, 1, 1, until="spans")
+        with mock.patch("chipfire.ensembles.imported", side_effect=ImportError("which is not installed")):
+            with self.assertRaises(ImportError):
+                chipfire.chains(TRIANGLE, 1, 1, 1, chips=0, fired=True)
+
+    def test_few_drops_and_none(self):
+        found = chipfire.chains(TRIANGLE, 2, 0, 1, chips=[4, 0, 0])
+        self.assertEqual(([len(row) for row in found.size], repr(found)), ([0, 0], "<Chains: 2 of up to 0 drops>"))
+        self.assertEqual([it.tolist() for it in found.chips], [list(slow_report(TRIANGLE, [4, 0, 0]).chips)] * 2)
+
+
+class WithoutTheLibrary(unittest.TestCase):
+    @unittest.skipIf(IS_HERE, "the library is here")
+    def test_chains_say_that_the_library_is_missing(self):
+        with self.assertRaisesRegex(chipfire.ProgramNotFound, "take the library"):
+            chipfire.chains(TRIANGLE, 1, 1, 1, chips=0)
+
+
+if __name__ == "__main__":
+    unittest.main()

@@ -49,7 +49,9 @@ from chipfire.animation import Frames, frames, frames_by_chips
 from chipfire.chips import CHIPS_HEADER as CHIPS_HEADER, Chips, Configuration
 from chipfire.dropped import Drops
 from chipfire.ensembles import Chains, Firings, chains, random_recurrent
-from chipfire.graphs import Graph, aztec, complete, cycle, from_networkx, from_sage, grid, path, region, torus, wheel
+from chipfire.graphs import (
+    Graph, aztec, complete, cycle, from_networkx, from_sage, grid, grid_for, path, region, torus, wheel,
+)
 from chipfire.library import find_library as find_library
 from chipfire.machine import (
     RULES as RULES, SCHEDULE_HEADER as SCHEDULE_HEADER, TRACE_HEADER as TRACE_HEADER, Board as Board, Books as Books,
@@ -92,5 +94,5 @@ __all__ = [
     "random_drops", "random_schedule", "read_chips", "recorded", "recurrent_representative", "recurrents",
     "reduced_laplacian", "region", "replay", "resume", "run", "shiviz", "shrink", "simulate", "stabilize",
     "stabilize_many", "superstable_representative", "superstables", "torus", "verify", "wheel", "write_chips",
-    "wrong_page", "Chains", "Firings", "chains", "random_recurrent",
+    "wrong_page", "Chains", "Firings", "chains", "grid_for", "random_recurrent",
 ]

@@ -5,6 +5,7 @@ from __future__ import annotations
 import functools
 import itertools
 import json
+import math
 import os
 import threading
 import weakref
@@ -23,6 +24,8 @@ _BESIDE: dict[str, Sequence[Sequence[tuple[int, int]]]] = {
     "triangular": [((-1, 0), (-1, 1), (0, -1), (0, 1), (1, -1), (1, 0))] * 2,
     "hexagonal": [((0, -1), (0, 1), (1, 0)), ((-1, 0), (0, -1), (0, 1))],
 }
+#: What sizes of a grid are called, and a number that no number of a vertex makes 0 or more.
+_WORDS, _FAR = ("width", "height", *(f"size in direction {it}" for it in range(3, 22))), 2**40
 #: How many edges become text at a time.
 _PART = 2**16
 #: The files of the graphs that were asked about last, by the graph's `id`, and how many of them are kept.
@@ -203,13 +206,32 @@ class Graph:
         yield f'],"sink":{self.sink},"version":1,"vertices":{self.vertices}}}\n'.encode()
 
     def number(self, name: Hashable) -> int:
-        """The number of the vertex with this name; a KeyError says that there is none."""
+        """The number of the vertex with this name, or on this square (row, column) of a graph with a shape and without
+        names; a KeyError says that there is none."""
         try:
             return self._numbers[name]
         except (KeyError, TypeError):
-            is_square = isinstance(name, tuple) and isinstance(self.names, range) and isinstance(self.squares, range)
-            hint = f": that of a square is {self.shape[1]} * row + column" if is_square and self.shape else ""
-            raise KeyError(f"the graph has no vertex {name!r}{hint}") from None
+            is_square = isinstance(name, tuple) and isinstance(self.names, range) and len(name) == 2
+            found = self._on(name) if is_square and self.shape else None
+            if found is None:
+                hint = f": a square of it is (row, column), below {self.shape}" if is_square and self.shape else ""
+                raise KeyError(f"the graph has no vertex {name!r}{hint}") from None
+            return found
+
+    def _on(self, place: Any) -> int | None:
+        """The vertex on a square (row, column), if there is one."""
+        height, width = self.shape or (0, 0)
+        row, column = place
+        if row not in range(height) or column not in range(width):
+            return None
+        square = width * int(row) + int(column)
+        if isinstance(self.squares, range):
+            return square if square in self.squares else None
+        return self._by_square.get(square)
+
+    @functools.cached_property
+    def _by_square(self) -> dict[int, int]:
+        return {square: vertex for vertex, square in enumerate(self.squares)}
 
     @functools.cached_property
     def _numbers(self) -> dict[Hashable, int]:
@@ -349,10 +371,80 @@ def _both_ways(vertices: int, sink: int, pairs: Iterable[tuple[int, int]], shape
     return Graph(vertices, sink, rows, shape=shape, from_sink=None)
 
 
-def grid(width: int, height: int) -> Graph:
-    """The grid: vertex `width * row + column`, and the sink after them all.
+def grid(
+    width: int, height: int, *more: int, periodic: bool | Sequence[bool] = False, loss: Any = 0, lattice: str = "square"
+) -> Graph:
+    """The grid: vertex `width * row + column`, also called `(row, column)`, and the sink after them all.
     A vertex on the border loses a chip to the sink on each side without a neighbour, so each has degree 4.
-    Sage: `sandpiles.Grid(height, width)`."""
+    Sage: `sandpiles.Grid(height, width)`.
+
+    With more sizes there are more directions: a third one has vertex `width * (height * layer + row) + column`, and a
+    picture of it the layers one below the other. In a `periodic` direction, of 2 at least, the borders are joined: in
+    all, or as said of each, as `(True, False)` of a cylinder. A firing loses `loss` more chips, one number for all, or
+    in a form of chips one for each vertex. If all directions are periodic some is needed. The `lattice` is as in
+    `region`; that of "hexagonal" has an even size where it is periodic."""
+    given = [whole(it, f"the {word}", 1) for it, word in zip((width, height, *more), _WORDS)]
+    joined = [*periodic] if isinstance(periodic, Iterable) else [periodic] * len(given)
+    if not any(joined) and not more and lattice == "square" and isinstance(loss, int) and loss == 0:
+        return _plain_grid(width, height)
+    if lattice not in _BESIDE or more and lattice != "square":
+        raise ValueError(f"no lattice of {len(given)} directions is named {lattice!r}; there are {', '.join(_BESIDE)}")
+    if len(joined) != len(given) or len(given) < 2 + len(more):
+        raise ValueError(f"there are {2 + len(more)} directions, and {len(joined)} are periodic or not")
+    if any(is_joined and (size < 2 or size % 2 and lattice == "hexagonal") for is_joined, size in zip(joined, given)):
+        raise ValueError(f"a periodic direction has a size of 2 or more, even if hexagonal, and not as {given}")
+    extents, sink = given[::-1], math.prod(given)
+    shape = (sink // given[0], given[0])
+    losses = Graph(sink + 1, sink, Columns(*(array("i") for _ in range(3))), shape=shape).numbers(loss, 0, "lost chips")
+    if all(joined) and not any(losses):
+        raise ValueError("no chip leaves a grid that is periodic on all sides: it takes a loss")
+    edges = _lattice_edges(extents, joined[::-1], lattice, losses)
+    return Graph(sink + 1, sink, edges, shape=shape, from_sink=None)
+
+
+def _lattice_edges(
+    extents: Sequence[int], joined: Sequence[bool], lattice: str, losses: Sequence[int]
+) -> list[tuple[int, int, int]]:
+    """The edges of a lattice by rows, with so many chips lost besides by each vertex."""
+    units = [tuple(int(it == place) for it in range(len(extents))) for place in range(len(extents))]
+    square = [*(tuple(-it for it in unit) for unit in units), *reversed(units)]
+    ways = [square, square] if lattice == "square" else [[*some] for some in _BESIDE[lattice]]
+    heads = {way: _moved(extents, joined, way) for some in ways for way in some}
+    edges, sink = [], math.prod(extents)
+    for vertex, place in enumerate(itertools.product(*map(range, extents))):
+        beside = [heads[way][vertex] for way in ways[sum(place) % 2]]
+        edges += [(vertex, head, 1) for head in beside if head >= 0]
+        if lost := losses[vertex] + sum(head < 0 for head in beside):
+            edges.append((vertex, sink, lost))
+    return edges
+
+
+def _moved(extents: Sequence[int], joined: Sequence[bool], way: Sequence[int]) -> list[int]:
+    """The number of the vertex that lies one way from each; below 0 if there is none."""
+    axes: list[list[int]] = []
+    stride = 1
+    for extent, is_joined, step in [*zip(extents, joined, way)][::-1]:
+        places = range(step, extent + step)
+        axes.insert(0, [stride * (it % extent) if is_joined or it in range(extent) else -_FAR for it in places])
+        stride *= extent
+    return [*map(sum, itertools.product(*axes))]
+
+
+def grid_for(chips: int) -> Graph:
+    """A square grid that so many chips on its middle do not leave; the middle is vertex `graph.sink // 2`.
+
+    By Levine and Peres (2009, theorem 4.1), pi r^2 chips stay in a circle of radius (1 / sqrt(2) + e) r + c, for each e
+    above 0 and a number c that depends on e. Here e is 0 and c is 2, which is tried for all piles of up to 9,000 chips
+    and some greater ones, and not proved: a report whose sink has no chip says that it was enough. A million chips get
+    801 by 801 squares, and spread over 729 by 729."""
+    half = math.isqrt(int(whole(chips, "the number of chips") / (2 * math.pi))) + 2
+    if (2 * half + 1) ** 2 >= MAX_LARGE_VERTICES:
+        raise ValueError(f"a square for {chips} chips has more than {MAX_LARGE_VERTICES} vertices")
+    return grid(2 * half + 1, 2 * half + 1)
+
+
+def _plain_grid(width: int, height: int) -> Graph:
+    """The grid of two directions, whose every border loses chips."""
     width, height = whole(width, "the width", 1), whole(height, "the height", 1)
     sink, inner = width * height, range(width, width * (height - 1)) if width > 1 else range(0)
 

@@ -44,7 +44,7 @@ NO_GRAPHS = [
 CHIPS = [
     ({1, 2}, TypeError, "chips are a dict by names, or numbers in an order, and no set: {1, 2}"),
     ({9: 1}, KeyError, "the graph has no vertex 9"),
-    ({(1, 1): 1}, KeyError, "the graph has no vertex (1, 1): that of a square is 3 * row + column"),
+    ({(1, 3): 1}, KeyError, "the graph has no vertex (1, 3): a square of it is (row, column), below (2, 3)"),
     ({2: -3}, ValueError, "the number of chips of vertex 2 is below 0: -3"),
     ({2: 0.5}, TypeError, "the number of chips of vertex 2 is no whole number: 0.5"),
     (["4"] * 6, TypeError, "the number of chips of vertex 0 is no whole number: '4'"),

@@ -31,7 +31,7 @@ The usual words of sandpiles are found under these names:
     Laplacian                  laplacian(graph), reduced_laplacian(graph)
     avalanche                  avalanche(graph, chips, vertex), avalanches(graph, chips, vertices); by the million:
                                drops(graph, chips, vertices), with random_drops(graph, count, seed)
-    many series of drops       chains(graph, n, drops, seed), from random_recurrent(graph, seed)
+    many series of drops       chains(graph, n, drops, seed), from random_recurrent(graph, seed); power_law(sizes)
 
 `image` and `show` draw reports and configurations, `frames` draws plays. `page` makes a page for the browser on which
 one watches a run of the distributed machine, event by event, and `wrong_page` one on which a wrong detector fails;
@@ -61,6 +61,7 @@ from chipfire.machine import (
 )
 from chipfire.pages import page, recorded
 from chipfire.pictures import PALETTES, Picture
+from chipfire.powers import PowerLaw, plot_sizes, power_law
 from chipfire.process import (
     Fault, ProgramNotFound, TraceCut, find_program as find_program, start_program as start_program, version,
 )
@@ -94,5 +95,5 @@ __all__ = [
     "random_drops", "random_schedule", "read_chips", "recorded", "recurrent_representative", "recurrents",
     "reduced_laplacian", "region", "replay", "resume", "run", "shiviz", "shrink", "simulate", "stabilize",
     "stabilize_many", "superstable_representative", "superstables", "torus", "verify", "wheel", "write_chips",
-    "wrong_page", "Chains", "Firings", "chains", "grid_for", "random_recurrent",
+    "wrong_page", "Chains", "Firings", "PowerLaw", "chains", "grid_for", "plot_sizes", "power_law", "random_recurrent",
 ]

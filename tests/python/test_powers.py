@@ -1,0 +1,74 @@
+"""Power laws of draws whose exponent is known, and the plot of them."""
+import math
+import random
+import unittest
+from collections import Counter
+
+import chipfire
+from test_sandpiles import has
+
+
+def drawn(exponent, least, most, count, seed):
+    """Draws of a known power law."""
+    sizes = range(least, most + 1)
+    return random.Random(seed).choices(sizes, [size**-exponent for size in sizes], k=count)
+
+
+class PowerLaw(unittest.TestCase):
+    def test_the_exponent_of_a_known_law_is_found(self):
+        for exponent, least, most, seed in [(1.5, 1, 2000, 1), (1.5, 5, 300, 2), (1.05, 1, 500, 3), (2.5, 1, 100, 4)]:
+            law = chipfire.power_law(drawn(exponent, least, most, 100_000, seed), least, most)
+            self.assertLess(abs(law.exponent - exponent), 0.02)
+            self.assertLess(abs(law.exponent - exponent), 4 * law.error)
+            self.assertEqual(law[2:], (least, most, 100_000))
+
+    def test_the_error_is_how_far_the_exponents_of_many_draws_lie_apart(self):
+        laws = [chipfire.power_law(drawn(1.5, 1, 100, 500, seed), 1, 100) for seed in range(60)]
+        squares = [((law.exponent - 1.5) / law.error) ** 2 for law in laws]
+        self.assertTrue(0.5 < sum(squares) / 60 < 1.6, sum(squares) / 60)
+
+    def test_what_lies_outside_is_left_out(self):
+        sizes = drawn(1.5, 1, 50, 2000, 1)
+        law = chipfire.power_law(sizes, 2, 20)
+        self.assertEqual(law.used, sum(2 <= size <= 20 for size in sizes))
+        self.assertEqual(chipfire.power_law([0] * 900 + [size for size in sizes if 2 <= size <= 20], 2, 20), law)
+        self.assertEqual(chipfire.power_law(Counter(sizes), 2, 20), law)
+        self.assertEqual(chipfire.power_law(sizes).most, max(sizes))
+
+    def test_two_sizes_by_hand(self):
+        # (three times as many of size 1 as of size 2: 2 ** exponent is 3)
+        law = chipfire.power_law({0: 9, 1: 75, 2: 25})
+        self.assertAlmostEqual(law.exponent, math.log2(3))
+        self.assertAlmostEqual(law.error, 1 / math.sqrt(100 * 0.75 * 0.25 * math.log(2) ** 2))
+
+    def test_what_is_refused(self):
+        for sizes, options in [([0, 0], {}), ([3, 3], {}), ([1, 2], {"least": 0}), ([1, 2], {"least": 2}),
+                               ([1, 9], {"most": 0}), ([], {})]:
+            with self.assertRaises(ValueError):
+                chipfire.power_law(sizes, **options)
+
+    @unittest.skipUnless(has("numpy"), "NumPy is not here")
+    def test_arrays(self):
+        import numpy
+
+        sizes = drawn(1.5, 1, 50, 2000, 1)
+        wanted = chipfire.power_law(sizes)
+        self.assertEqual(chipfire.power_law(numpy.array(sizes)), wanted)
+        self.assertEqual(chipfire.power_law(numpy.array(sizes).reshape(20, 100)), wanted)
+
+    @unittest.skipUnless(has("matplotlib"), "Matplotlib is not here")
+    def test_the_plot(self):
+        import matplotlib
+
+        matplotlib.use("Agg")
+        axes = chipfire.plot_sizes({0: 50, 1: 75, 2: 20, 3: 5, 4: 8}, 1, 2)
+        points, line = axes.lines
+        # (sizes 2 and 3 are 25, so 12.5 each; 4 to 7 are 8, so 2 each)
+        self.assertEqual(points.get_ydata().tolist(), [75, 12.5, 2])
+        self.assertEqual(points.get_xdata().tolist(), [1, math.sqrt(6), math.sqrt(28)])
+        self.assertEqual([round(it, 6) for it in line.get_ydata()], [75, 20])
+        self.assertIs(chipfire.plot_sizes([1, 2, 2], axes=axes), axes)
+
+
+if __name__ == "__main__":
+    unittest.main()

@@ -28,6 +28,7 @@ The usual words of sandpiles are found under these names:
     many configurations        stabilize_many(graph, rows), are_recurrent(graph, rows)
     equivalent, q-reduced      recurrent_representative(graph, chips), superstable_representative(graph, chips)
     sandpile group             order(graph), invariant_factors(graph), Configuration.order()
+    divisor, linear system     Divisor(graph, chips): reduced, effective, is_equivalent, rank; canonical_divisor, genus
     Laplacian                  laplacian(graph), reduced_laplacian(graph)
     avalanche                  avalanche(graph, chips, vertex), avalanches(graph, chips, vertices); by the million:
                                drops(graph, chips, vertices), with random_drops(graph, count, seed)
@@ -47,6 +48,7 @@ go by numbers, dicts and Series of pandas by names. Numbers of chips and firings
 from chipfire import library as library, machine
 from chipfire.animation import Frames, frames, frames_by_chips
 from chipfire.chips import CHIPS_HEADER as CHIPS_HEADER, Chips, Configuration
+from chipfire.divisors import Divisor, canonical_divisor, genus
 from chipfire.dropped import Drops
 from chipfire.ensembles import Chains, Firings, chains, random_recurrent
 from chipfire.graphs import (
@@ -87,13 +89,14 @@ __version__ = version()
 
 #: What is handed on besides is reachable too, and told of by `chipfire.machine`.
 __all__ = [
-    "Avalanche", "Check", "Chips", "Configuration", "Drops", "Fault", "Frames", "Graph", "PALETTES", "Picture",
-    "Program", "ProgramNotFound", "Report", "TraceCut", "add", "are_recurrent", "avalanche", "avalanches", "aztec",
-    "burning_configuration", "burning_script", "check", "complete", "cycle", "drops", "explain", "explore", "frames",
-    "frames_by_chips", "from_networkx", "from_sage", "grid", "identity", "invariant_factors", "is_recurrent",
-    "is_stable", "is_superstable", "judge", "laplacian", "machine", "order", "page", "path", "plain",
-    "random_drops", "random_schedule", "read_chips", "recorded", "recurrent_representative", "recurrents",
-    "reduced_laplacian", "region", "replay", "resume", "run", "shiviz", "shrink", "simulate", "stabilize",
+    "Avalanche", "Chains", "Check", "Chips", "Configuration", "Divisor", "Drops", "Fault", "Firings", "Frames", "Graph",
+    "PALETTES", "Picture", "PowerLaw", "Program", "ProgramNotFound", "Report", "TraceCut", "add", "are_recurrent",
+    "avalanche", "avalanches", "aztec", "burning_configuration", "burning_script", "canonical_divisor", "chains",
+    "check", "complete", "cycle", "drops", "explain", "explore", "frames", "frames_by_chips", "from_networkx",
+    "from_sage", "genus", "grid", "grid_for", "identity", "invariant_factors", "is_recurrent", "is_stable",
+    "is_superstable", "judge", "laplacian", "machine", "order", "page", "path", "plain", "plot_sizes", "power_law",
+    "random_drops", "random_recurrent", "random_schedule", "read_chips", "recorded", "recurrent_representative",
+    "recurrents", "reduced_laplacian", "region", "replay", "resume", "run", "shiviz", "shrink", "simulate", "stabilize",
     "stabilize_many", "superstable_representative", "superstables", "torus", "verify", "wheel", "write_chips",
-    "wrong_page", "Chains", "Firings", "PowerLaw", "chains", "grid_for", "plot_sizes", "power_law", "random_recurrent",
+    "wrong_page",
 ]

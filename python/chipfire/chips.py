@@ -19,6 +19,7 @@ if TYPE_CHECKING:
     from chipfire.graphs import Graph
 
 T = TypeVar("T")
+AnySums = TypeVar("AnySums", bound="Sums")
 CHIPS_HEADER = ("vertex", "chips")
 GUESS_HEADER = ("vertex", "fired")
 #: Numbers of vertices: by their names, as a dict or a Series of pandas; as an array of the graph's shape; one for each
@@ -37,7 +38,55 @@ def chips_text(chips: Sequence[int], header: Sequence[str] = CHIPS_HEADER) -> st
     return "".join([",".join(header), "\n", *(f"{at},{count}\n" for at, count in enumerate(capped(chips)) if count)])
 
 
-class Configuration(Drawn, Mapping[Hashable, int]):
+class Sums(Mapping[Hashable, int]):
+    """Chips by the names of vertices, as they are added and multiplied. They may be below 0, and are never changed."""
+
+    __array_ufunc__ = None  # (so that an array of NumPy and these are added here)
+
+    def __init__(self, graph: Graph, chips: Chips) -> None:
+        self.graph: Graph = graph
+        self.numbers: tuple[int, ...] = self._numbers(graph, chips)
+
+    @classmethod
+    def _numbers(cls, graph: Graph, chips: Chips) -> tuple[int, ...]:
+        """Chips by the numbers of the vertices."""
+        return graph.numbers(chips)
+
+    def __add__(self: AnySums, other: Chips) -> AnySums:
+        return type(self)(self.graph, list(map(operator.add, self.numbers, self._numbers(self.graph, other))))
+
+    __radd__ = __add__
+
+    def __sub__(self: AnySums, other: Chips) -> AnySums:
+        return self + -type(self)(self.graph, other)
+
+    def __rsub__(self: AnySums, other: Chips) -> AnySums:
+        return -self + other
+
+    def __mul__(self: AnySums, times: int) -> AnySums:
+        times = whole(times, "how many times", None)
+        return type(self)(self.graph, [times * count for count in self.numbers])
+
+    __rmul__ = __mul__
+
+    def __neg__(self: AnySums) -> AnySums:
+        return self * -1
+
+    def __eq__(self, other: object) -> bool:
+        if isinstance(other, type(self)) and other.graph is self.graph:
+            return self.numbers == other.numbers
+        return super().__eq__(other)
+
+    def __hash__(self) -> int:
+        return hash(frozenset(self.items()))
+
+    @property
+    def degree(self) -> int:
+        """How many chips there are."""
+        return sum(self.numbers)
+
+
+class Configuration(Drawn, Sums):
     """The chips of all vertices of a graph but the sink, by names; they may be below 0. It is never changed.
 
     graph    the graph
@@ -46,14 +95,12 @@ class Configuration(Drawn, Mapping[Hashable, int]):
     NumPy takes it as the array of its picture, and pandas as a Series, or in a DataFrame as `dict(configuration)`.
     """
 
-    __array_ufunc__ = None  # (so that an array of NumPy and a configuration are added here)
+    graph: Graph
 
     def __init__(self, graph: Graph, chips: Chips) -> None:
-        numbers = list(graph.numbers(chips))
+        super().__init__(graph, chips)
         if graph.sink < graph.vertices:
-            numbers[graph.sink] = 0
-        self.graph: Graph = graph
-        self.numbers = tuple(numbers)
+            self.numbers = (*self.numbers[: graph.sink], 0, *self.numbers[graph.sink + 1 :])
 
     def __getitem__(self, name: Hashable) -> int:
         vertex = self.graph.number(name)
@@ -67,42 +114,9 @@ class Configuration(Drawn, Mapping[Hashable, int]):
     def __len__(self) -> int:
         return self.graph.vertices - 1
 
-    def __eq__(self, other: object) -> bool:
-        if isinstance(other, Configuration) and other.graph is self.graph:
-            return self.numbers == other.numbers
-        return super().__eq__(other)
-
-    def __hash__(self) -> int:
-        return hash(frozenset(self.items()))
-
     def __repr__(self) -> str:
         said = f"<Configuration of {len(self)} vertices: {self._title('chips')}>"
         return repr(dict(self)) if len(self) <= 20 else said
-
-    def __add__(self, other: Chips) -> Configuration:
-        return Configuration(self.graph, list(map(operator.add, self.numbers, self.graph.numbers(other))))
-
-    __radd__ = __add__
-
-    def __sub__(self, other: Chips) -> Configuration:
-        return self + -Configuration(self.graph, other)
-
-    def __rsub__(self, other: Chips) -> Configuration:
-        return -self + other
-
-    def __mul__(self, times: int) -> Configuration:
-        times = whole(times, "how many times", None)
-        return Configuration(self.graph, [times * count for count in self.numbers])
-
-    __rmul__ = __mul__
-
-    def __neg__(self) -> Configuration:
-        return self * -1
-
-    @property
-    def degree(self) -> int:
-        """How many chips there are."""
-        return sum(self.numbers)
 
     def stabilize(self, *, program: FileName | None = None) -> Configuration:
         """What lies there when no vertex can fire any more: `chipfire.stabilize`."""

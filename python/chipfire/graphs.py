@@ -14,7 +14,7 @@ from collections import Counter, OrderedDict
 from collections.abc import Callable, Hashable, Iterable, Iterator, Mapping, Sequence, Set
 from typing import Any, NamedTuple
 
-from chipfire.chips import Chips, Configuration
+from chipfire.chips import Chips, Configuration, Sums
 from chipfire.process import Kept
 from chipfire.values import MAX_LARGE_EDGES, MAX_LARGE_VERTICES, MAX_MULT, FileName, imported, whole, wholes
 
@@ -322,9 +322,10 @@ class Graph:
     def numbers(self, values: Any, least: int | None = None, of: str = "chips") -> tuple[int, ...]:
         """The same, of `least` or more if that is said; or numbers of something else, as of "firings"."""
         is_report = hasattr(values, "fired") and hasattr(values, "chips")
-        if is_report or isinstance(values, Configuration):
+        if is_report or isinstance(values, Sums):
             if values.graph is not None and not values.graph.is_like(self):
-                raise ValueError(f"the {'report' if is_report else 'configuration'} is one of another graph")
+                kind = "report" if is_report else type(values).__name__.lower()
+                raise ValueError(f"the {kind} is one of another graph")
             if is_report or values.graph.names == self.names:
                 values = values.chips if is_report else values.numbers
         rows = self._by_names(values) if hasattr(values, "items") else self._in_order(values, of)

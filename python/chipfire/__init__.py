@@ -29,6 +29,7 @@ The usual words of sandpiles are found under these names:
     equivalent, q-reduced      recurrent_representative(graph, chips), superstable_representative(graph, chips)
     sandpile group             order(graph), invariant_factors(graph), Configuration.order()
     divisor, linear system     Divisor(graph, chips): reduced, effective, is_equivalent, rank; canonical_divisor, genus
+    polynomials                tutte_polynomial(graph), level_polynomial(graph), avalanche_polynomial(graph)
     Laplacian                  laplacian(graph), reduced_laplacian(graph)
     avalanche                  avalanche(graph, chips, vertex), avalanches(graph, chips, vertices); by the million:
                                drops(graph, chips, vertices), with random_drops(graph, count, seed)
@@ -63,6 +64,7 @@ from chipfire.machine import (
 )
 from chipfire.pages import page, recorded
 from chipfire.pictures import PALETTES, Picture
+from chipfire.polynomials import avalanche_polynomial, level_polynomial, tutte_polynomial
 from chipfire.powers import PowerLaw, plot_sizes, power_law
 from chipfire.process import (
     Fault, ProgramNotFound, TraceCut, find_program as find_program, start_program as start_program, version,
@@ -91,12 +93,13 @@ __version__ = version()
 __all__ = [
     "Avalanche", "Chains", "Check", "Chips", "Configuration", "Divisor", "Drops", "Fault", "Firings", "Frames", "Graph",
     "PALETTES", "Picture", "PowerLaw", "Program", "ProgramNotFound", "Report", "TraceCut", "add", "are_recurrent",
-    "avalanche", "avalanches", "aztec", "burning_configuration", "burning_script", "canonical_divisor", "chains",
-    "check", "complete", "cycle", "drops", "explain", "explore", "frames", "frames_by_chips", "from_networkx",
-    "from_sage", "genus", "grid", "grid_for", "identity", "invariant_factors", "is_recurrent", "is_stable",
-    "is_superstable", "judge", "laplacian", "machine", "order", "page", "path", "plain", "plot_sizes", "power_law",
-    "random_drops", "random_recurrent", "random_schedule", "read_chips", "recorded", "recurrent_representative",
-    "recurrents", "reduced_laplacian", "region", "replay", "resume", "run", "shiviz", "shrink", "simulate", "stabilize",
-    "stabilize_many", "superstable_representative", "superstables", "torus", "verify", "wheel", "write_chips",
+    "avalanche", "avalanche_polynomial", "avalanches", "aztec", "burning_configuration", "burning_script",
+    "canonical_divisor", "chains", "check", "complete", "cycle", "drops", "explain", "explore", "frames",
+    "frames_by_chips", "from_networkx", "from_sage", "genus", "grid", "grid_for", "identity", "invariant_factors",
+    "is_recurrent", "is_stable", "is_superstable", "judge", "laplacian", "level_polynomial", "machine", "order", "page",
+    "path", "plain", "plot_sizes", "power_law", "random_drops", "random_recurrent", "random_schedule", "read_chips",
+    "recorded", "recurrent_representative", "recurrents", "reduced_laplacian", "region", "replay", "resume", "run",
+    "shiviz", "shrink", "simulate", "stabilize", "stabilize_many", "superstable_representative", "superstables",
+    "torus", "tutte_polynomial", "verify", "wheel", "write_chips",
     "wrong_page",
 ]

@@ -1,7 +1,7 @@
 """Divisors of undirected graphs: chips on all vertices, the sink among them, which any vertex gives and takes.
 
-Whenever chips are stabilized, the program is asked, whose answer is proved. The sums, and all that is said of ranks, are
-not; the tests compare them with what the words mean.
+Whenever chips are stabilized, the program is asked, whose answer is proved. Sums and ranks are not; the tests compare them
+with what the words mean.
 """
 
 from __future__ import annotations
@@ -69,8 +69,8 @@ class Divisor(Sums):
         return Divisor(self.graph, left)
 
     def reduced(self, vertex: Hashable = None, *, program: AnyProgram = None) -> Divisor:
-        """The one equivalent divisor that is q-reduced, with q the vertex, or the sink if none is named: no vertex but q
-        is below 0, and no vertices without q can fire together and stay so.
+        """The one equivalent divisor that is q-reduced, with q the vertex, or the sink if none is named: no vertex but
+        q is below 0, and no vertices without q can fire together and stay so.
         Proved: the stabilizations. Not proved: the sums between them."""
         graph = self.graph if vertex is None else _with_sink(self.graph, self.graph.number(vertex))
         left = [*superstable_representative(graph, self.numbers, program=program).numbers]
@@ -92,11 +92,11 @@ class Divisor(Sums):
         """The rank r, by Baker and Norine: if any r chips are taken away, what is left is equivalent to an effective
         divisor, but not so if any r + 1 are; -1 if it is equivalent to none itself.
 
-        By Riemann and Roch, r(D) - r(K - D) = degree - genus + 1 with K the canonical divisor. So the one of lower degree
-        is searched: what is left of it, up to equivalence, after one chip less and less. Of each degree there are up to
-        `order(graph)`, exponential in the number of vertices. A ValueError tells if more than `most` divisors would be
-        looked at; the usual 100,000 take some seconds, and are enough for each graph of up to 10,000 spanning trees
-        and genus 10. Nothing of this is proved, and the program is not asked."""
+        By Riemann and Roch, r(D) - r(K - D) = degree - genus + 1 with K the canonical divisor. So the one of lower
+        degree is searched: what is left of it, up to equivalence, after one chip less and less. Of each degree there
+        are up to `order(graph)`, exponential in the number of vertices. A ValueError tells if more than `most` divisors
+        would be looked at. The usual 100,000 take some 15 s of 5 by 5 squares, and are enough for each graph of up to
+        10,000 spanning trees and genus 10. Nothing of this is proved, and the program is not asked."""
         most, other = whole(most, "the most divisors", 1), canonical_divisor(self.graph) - self
         if other.degree < self.degree:
             return self.degree - genus(self.graph) + 1 + other.rank(most=most)

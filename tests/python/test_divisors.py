@@ -1,4 +1,4 @@
-"""Divisors of all connected simple graphs of up to five vertices, against definitions that are gone through one by one."""
+"""Divisors of all connected simple graphs of up to five vertices, against the definitions."""
 import collections
 import functools
 import itertools
@@ -101,7 +101,7 @@ class Ranks(unittest.TestCase):
             self.assertEqual(chipfire.Divisor(ring, {2: degree}).rank(), max(degree - 1, min(degree, 0), -1))
         for graph in (K4, chipfire.complete(6), chipfire.grid(3, 3)):
             self.assertEqual(chipfire.canonical_divisor(graph).rank(), chipfire.genus(graph) - 1)
-        # (of three edges between two vertices, one chip on each is the canonical divisor, and two on one are another class)
+        # (with three edges between two vertices, one chip on each is the canonical divisor, and two on one are not)
         two = chipfire.Graph.undirected([("a", "b", 3)], "a")
         self.assertEqual([chipfire.Divisor(two, it).rank() for it in (1, {"a": 2}, {"a": 4, "b": -2})], [1, 0, -1])
 

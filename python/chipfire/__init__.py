@@ -27,7 +27,7 @@ The usual words of sandpiles are found under these names:
     recurrent, superstable     is_recurrent(graph, chips), is_superstable(graph, chips); all of them: recurrents(graph)
     many configurations        stabilize_many(graph, rows), are_recurrent(graph, rows)
     equivalent, q-reduced      recurrent_representative(graph, chips), superstable_representative(graph, chips)
-    sandpile group             order(graph), invariant_factors(graph), Configuration.order()
+    sandpile group             order(graph), invariant_factors(graph), Configuration.order(); coordinates: Group(graph)
     divisor, linear system     Divisor(graph, chips): reduced, effective, is_equivalent, rank; canonical_divisor, genus
     polynomials                tutte_polynomial(graph), level_polynomial(graph), avalanche_polynomial(graph)
     Laplacian                  laplacian(graph), reduced_laplacian(graph)
@@ -55,6 +55,7 @@ from chipfire.ensembles import Chains, Firings, chains, random_recurrent
 from chipfire.graphs import (
     Graph, aztec, complete, cycle, from_networkx, from_sage, grid, grid_for, path, region, torus, wheel,
 )
+from chipfire.groups import Group
 from chipfire.library import find_library as find_library
 from chipfire.machine import (
     RULES as RULES, SCHEDULE_HEADER as SCHEDULE_HEADER, TRACE_HEADER as TRACE_HEADER, Board as Board, Books as Books,
@@ -92,14 +93,14 @@ __version__ = version()
 #: What is handed on besides is reachable too, and told of by `chipfire.machine`.
 __all__ = [
     "Avalanche", "Chains", "Check", "Chips", "Configuration", "Divisor", "Drops", "Fault", "Firings", "Frames", "Graph",
-    "PALETTES", "Picture", "PowerLaw", "Program", "ProgramNotFound", "Report", "TraceCut", "add", "are_recurrent",
-    "avalanche", "avalanche_polynomial", "avalanches", "aztec", "burning_configuration", "burning_script",
-    "canonical_divisor", "chains", "check", "complete", "cycle", "drops", "explain", "explore", "frames",
-    "frames_by_chips", "from_networkx", "from_sage", "genus", "grid", "grid_for", "identity", "invariant_factors",
-    "is_recurrent", "is_stable", "is_superstable", "judge", "laplacian", "level_polynomial", "machine", "order", "page",
-    "path", "plain", "plot_sizes", "power_law", "random_drops", "random_recurrent", "random_schedule", "read_chips",
-    "recorded", "recurrent_representative", "recurrents", "reduced_laplacian", "region", "replay", "resume", "run",
-    "shiviz", "shrink", "simulate", "stabilize", "stabilize_many", "superstable_representative", "superstables",
-    "torus", "tutte_polynomial", "verify", "wheel", "write_chips",
+    "Group", "PALETTES", "Picture", "PowerLaw", "Program", "ProgramNotFound", "Report", "TraceCut", "add",
+    "are_recurrent", "avalanche", "avalanche_polynomial", "avalanches", "aztec", "burning_configuration",
+    "burning_script", "canonical_divisor", "chains", "check", "complete", "cycle", "drops", "explain", "explore",
+    "frames", "frames_by_chips", "from_networkx", "from_sage", "genus", "grid", "grid_for", "identity",
+    "invariant_factors", "is_recurrent", "is_stable", "is_superstable", "judge", "laplacian", "level_polynomial",
+    "machine", "order", "page", "path", "plain", "plot_sizes", "power_law", "random_drops", "random_recurrent",
+    "random_schedule", "read_chips", "recorded", "recurrent_representative", "recurrents", "reduced_laplacian",
+    "region", "replay", "resume", "run", "shiviz", "shrink", "simulate", "stabilize", "stabilize_many",
+    "superstable_representative", "superstables", "torus", "tutte_polynomial", "verify", "wheel", "write_chips",
     "wrong_page",
 ]

@@ -53,7 +53,7 @@ from chipfire.divisors import Divisor, canonical_divisor, genus
 from chipfire.dropped import Drops
 from chipfire.ensembles import Chains, Firings, chains, random_recurrent
 from chipfire.graphs import (
-    Graph, aztec, complete, cycle, from_networkx, from_sage, grid, grid_for, path, region, torus, wheel,
+    Graph, aztec, complete, cycle, from_edges, from_networkx, from_sage, grid, grid_for, path, region, torus, wheel,
 )
 from chipfire.groups import Group
 from chipfire.library import find_library as find_library
@@ -78,7 +78,7 @@ from chipfire.reports import Report
 from chipfire.sandpiles import (
     Avalanche, add, are_recurrent, avalanche, avalanches, burning_configuration, burning_script, invariant_factors,
     is_recurrent, is_stable, is_superstable, laplacian, order, random_drops, recurrent_representative, recurrents,
-    reduced_laplacian, stabilize, stabilize_many, superstable_representative, superstables,
+    reduced_laplacian, stabilize, stabilize_many, superstable_representative, superstables, to_networkx, to_scipy,
 )
 from chipfire.schedules import explore, judge, random_schedule, shiviz, shrink
 from chipfire.values import (
@@ -96,11 +96,11 @@ __all__ = [
     "Group", "PALETTES", "Picture", "PowerLaw", "Program", "ProgramNotFound", "Report", "TraceCut", "add",
     "are_recurrent", "avalanche", "avalanche_polynomial", "avalanches", "aztec", "burning_configuration",
     "burning_script", "canonical_divisor", "chains", "check", "complete", "cycle", "drops", "explain", "explore",
-    "frames", "frames_by_chips", "from_networkx", "from_sage", "genus", "grid", "grid_for", "identity",
+    "frames", "frames_by_chips", "from_edges", "from_networkx", "from_sage", "genus", "grid", "grid_for", "identity",
     "invariant_factors", "is_recurrent", "is_stable", "is_superstable", "judge", "laplacian", "level_polynomial",
     "machine", "order", "page", "path", "plain", "plot_sizes", "power_law", "random_drops", "random_recurrent",
     "random_schedule", "read_chips", "recorded", "recurrent_representative", "recurrents", "reduced_laplacian",
     "region", "replay", "resume", "run", "shiviz", "shrink", "simulate", "stabilize", "stabilize_many",
-    "superstable_representative", "superstables", "torus", "tutte_polynomial", "verify", "wheel", "write_chips",
-    "wrong_page",
+    "superstable_representative", "superstables", "to_networkx", "to_scipy", "torus", "tutte_polynomial", "verify",
+    "wheel", "write_chips", "wrong_page",
 ]

@@ -589,6 +589,23 @@ def from_networkx(graph: Any, sink: Any, weight: str | None = "weight") -> Graph
     return _named(graph.nodes(), sink, graph.edges(data=weight, default=1), graph.is_directed())
 
 
+def from_edges(
+    table: Any, sink: Any, source: Hashable = "source", target: Hashable = "target", weight: Hashable = "weight",
+    directed: bool = False,
+) -> Graph:
+    """The graph of a table with a row for each edge: a DataFrame of pandas, or a dict of columns.
+
+    `source` and `target` name the columns of the ends, and `weight` that of how many chips the edge sends, one if there
+    is no such column. Each edge leads both ways, unless they are `directed`. The order of the names, or else that in
+    which they come, gives the numbers. All else is as in `from_networkx`."""
+    columns = [table[name] for name in (source, target, weight) if name in (source, target) or name in table]
+    columns = [column.tolist() if hasattr(column, "tolist") else list(column) for column in columns]
+    if len({*map(len, columns)}) > 1:
+        raise ValueError(f"the columns of edges have {' and '.join(str(len(it)) for it in columns)} rows")
+    rows = _rows(zip(*columns))
+    return _named(_ordered(dict.fromkeys(name for row in rows for name in row[:2])), sink, rows, directed)
+
+
 def from_sage(graph: Any, sink: Any = None) -> Graph:
     """A graph of SageMath: a `Sandpile` with the sink that it has, or a `DiGraph` or `Graph` and its sink.
     An edge sends as many chips as its label says, or one if it has none; one of label 0, which Sage adds in some

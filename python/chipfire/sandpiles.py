@@ -204,6 +204,26 @@ def reduced_laplacian(graph: AnyGraph, *, sparse: bool = False) -> Any:
     return _matrix(smith.reduced(known_graph(graph)), sparse)
 
 
+def to_scipy(graph: AnyGraph) -> Any:
+    """The Laplacian as a sparse matrix of SciPy in coordinates (COO); the sink's row is as in `laplacian`."""
+    return laplacian(graph, sparse=True).tocoo()
+
+
+def to_networkx(graph: AnyGraph) -> Any:
+    """The graph in NetworkX: a `Graph` if each edge leads both ways, and else a `DiGraph`.
+
+    Vertices have their names. The attribute "weight" of an edge is its multiplicity, with parallel edges as one, and
+    the graph's attribute "sink" is the name of the sink, which has its edges of `laplacian`. So
+    `from_networkx(it, it.graph["sink"])` plays the same."""
+    known, networkx = known_graph(graph), imported("networkx", "a graph of NetworkX is one of NetworkX")
+    kind, names = networkx.Graph if smith.is_undirected(known) else networkx.DiGraph, known.names
+    found = kind(sink=names[known.sink])
+    found.add_nodes_from(names)
+    for tail, row in enumerate(smith.laplacian(known)):
+        found.add_weighted_edges_from((names[tail], names[head], -less) for head, less in row.items() if less < 0)
+    return found
+
+
 def _matrix(rows: list[smith.Row], sparse: bool) -> Any:
     size = len(rows)
     if not sparse:

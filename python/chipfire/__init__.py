@@ -52,10 +52,12 @@ from chipfire.chips import CHIPS_HEADER as CHIPS_HEADER, Chips, Configuration
 from chipfire.divisors import Divisor, canonical_divisor, genus
 from chipfire.dropped import Drops
 from chipfire.ensembles import Chains, Firings, chains, random_recurrent
+from chipfire.explorer import explore
 from chipfire.graphs import (
     Graph, aztec, complete, cycle, from_edges, from_networkx, from_sage, grid, grid_for, path, region, torus, wheel,
 )
 from chipfire.groups import Group
+from chipfire.judging import judge
 from chipfire.library import find_library as find_library
 from chipfire.machine import (
     RULES as RULES, SCHEDULE_HEADER as SCHEDULE_HEADER, TRACE_HEADER as TRACE_HEADER, Board as Board, Books as Books,
@@ -80,7 +82,7 @@ from chipfire.sandpiles import (
     is_recurrent, is_stable, is_superstable, laplacian, order, random_drops, recurrent_representative, recurrents,
     reduced_laplacian, stabilize, stabilize_many, superstable_representative, superstables, to_networkx, to_scipy,
 )
-from chipfire.schedules import explore, judge, random_schedule, shiviz, shrink
+from chipfire.schedules import random_schedule, shiviz, shrink
 from chipfire.values import (
     MAX_CHIPS as MAX_CHIPS, MAX_EDGES as MAX_EDGES, MAX_LARGE_EDGES as MAX_LARGE_EDGES,
     MAX_LARGE_VERTICES as MAX_LARGE_VERTICES, MAX_LIMIT as MAX_LIMIT, MAX_MULT as MAX_MULT,

@@ -54,6 +54,8 @@ class Schedule(list[Event]):
 
     def __init__(self, events: Iterable[Sequence[Any]] = ()) -> None:
         super().__init__(Event(*event) for event in events)
+        #: Whether nothing more was to come. A random schedule that is cut is not ended.
+        self.ended = bool(getattr(events, "ended", True))
         #: The notes, by the index of their event.
         self.notes: dict[int, str] = dict(getattr(events, "notes", {}))
 
@@ -120,12 +122,13 @@ def trace_text(trace: Iterable[Sequence[Any]]) -> str:
     return rows_text(TRACE_HEADER, (TraceRow(*row) for row in trace))
 
 
-def write_schedule(file: FileName, schedule: Iterable[Sequence[Any]]) -> None:
+def write_schedule(file: FileName, schedule: Iterable[Sequence[Any]], *, notes: bool = True) -> None:
     """Writes a schedule: a row for each event, which is a tuple of a kind, an edge or a vertex, and perhaps a count.
-    Notes, if there are any, are a fourth column, which this package and its page read, and the program does not."""
+    Notes, if there are any, are a fourth column, which this package and its page read. The program reads none (fault
+    23): without `notes` they are left out."""
     events = Schedule(schedule)
     noted = ((*event, events.notes.get(index, "")) for index, event in enumerate(events))
-    write(file, rows_text(NOTED_HEADER, noted) if events.notes else rows_text(SCHEDULE_HEADER, events))
+    write(file, rows_text(NOTED_HEADER, noted) if events.notes and notes else rows_text(SCHEDULE_HEADER, events))
 
 
 def has_notes(file: FileName) -> bool:

@@ -14,7 +14,6 @@ rules.
 from __future__ import annotations
 
 import argparse
-import copy
 import csv
 import json
 from collections.abc import Iterable, Iterator, Mapping, Sequence
@@ -54,10 +53,17 @@ class Vertex:
 
 
 class Core:
-    """A game, with the detector of Dijkstra and Scholten."""
+    """A game, with the detector of Dijkstra and Scholten.
 
-    #: What a detector of another kind keeps, as a value that does not change.
-    own: Any = ()
+    What a detector of your own keeps stands in attributes of the game, of its edges or of its vertices, under any name:
+    all of them belong to the state that `chipfire.explore` tells from others. What the class has, globals, chance and
+    the clock do not.
+    """
+
+    #: Attributes that say nothing of what will happen, such as a count of polls: they are no part of the state.
+    not_state: tuple[str, ...] = ()
+    #: Attributes that a game has for good.
+    HELD = ("vertices", "edges", "_ins", "_outs", "_degrees")
 
     def __init__(
         self, graph: Mapping[str, Any], chips: Sequence[int], limit: int = 2**40, ring: int = 1, fed: bool = False
@@ -68,44 +74,40 @@ class Core:
         rows = [*graph["edges"], *((-1, vertex, 0) for vertex in range(graph["vertices"]))]
         self.edges = [Edge(number, *row) for number, row in enumerate(rows)]
         self.graph_edges = len(graph["edges"])
-        self._ins: list[list[int]] = [[] for _ in self.vertices]
-        self._outs: list[list[int]] = [[] for _ in [*self.vertices, None]]  # (the last one is the root's)
+        self._ins: list[list[Edge]] = [[] for _ in self.vertices]
+        self._outs: list[list[Edge]] = [[] for _ in [*self.vertices, None]]  # (the last one is the root's)
         for e in self.edges:
-            self._ins[e.head].append(e.number)
-            self._outs[e.tail].append(e.number)
+            self._ins[e.head].append(e)
+            self._outs[e.tail].append(e)
+        self._degrees = [sum(e.mult for e in outs) for outs in self._outs]
         for vertex, e in enumerate(self.edges[self.graph_edges :]):
             if chips[vertex]:
                 e.sent, e.put = (chips[vertex],), 1
                 self.on_send(e)
 
-    def copied(self) -> Core:
-        """The same game once more, which goes its own way."""
-        other = copy.copy(self)
-        other.edges, other.vertices = [copy.copy(e) for e in self.edges], [copy.copy(v) for v in self.vertices]
-        return other
-
-    def state(self) -> tuple[Any, ...]:
-        """All that there is, as a value that can be compared."""
-        parts = [*self.edges, *self.vertices]
-        return (*(tuple(vars(part).values()) for part in parts), self.ended, self.own)
-
     def ins(self, v: int) -> list[Edge]:
-        return [self.edges[number] for number in self._ins[v]]
+        return self._ins[v]
 
     def outs(self, v: int) -> list[Edge]:
-        return [self.edges[number] for number in self._outs[v]]
+        return self._outs[v]
 
     def degree(self, v: int) -> int:
-        return sum(e.mult for e in self.outs(v))
+        return self._degrees[v]
 
     def is_legal(self, v: int) -> bool:
-        return v != self.sink and self.vertices[v].chips >= self.degree(v)
+        return v != self.sink and self.vertices[v].chips >= self._degrees[v]
 
     def is_pending(self, v: int) -> bool:
-        return any(e.pending for e in self.outs(v))
+        for e in self._outs[v]:  # (this is asked most often, and twice as fast as with any)
+            if e.pending:
+                return True
+        return False
 
     def has_unput(self, v: int) -> bool:
-        return any(e.put < len(e.sent) for e in self.outs(v))
+        for e in self._outs[v]:
+            if e.put < len(e.sent):
+                return True
+        return False
 
     def is_passive(self, v: int) -> bool:
         """Whether a vertex has nothing to do until another message comes."""
@@ -153,16 +155,20 @@ class Core:
         """The events that would do something now; nothing is sealed or fed by itself."""
         found: list[Event] = [] if self.ended else [("end", 0, 0)]
         for e in self.edges:
-            runs = e.tail >= 0 and self.vertices[e.tail].halt is None
-            may = {
-                "take": e.delivered < e.put,
-                "ack": self.may_ack(e) > 0,
-                "settle": e.settled < e.acked,
-                "clear": runs and e.pending and not (e.clear or e.refused) and len(e.sent) - e.delivered < self.ring,
-                "claim": runs and e.clear,
-                "put": e.put < len(e.sent),
-            }
-            found += [(kind, e.number, 0) for kind, it in may.items() if it]
+            number, sent, delivered = e.number, len(e.sent), e.delivered
+            if delivered < e.put:
+                found.append(("take", number, 0))
+            if e.acked < delivered and self.may_ack(e) > 0:
+                found.append(("ack", number, 0))
+            if e.settled < e.acked:
+                found.append(("settle", number, 0))
+            if (e.pending or e.clear) and e.tail >= 0 and self.vertices[e.tail].halt is None:
+                if e.pending and not (e.clear or e.refused) and sent - delivered < self.ring:
+                    found.append(("clear", number, 0))
+                if e.clear:
+                    found.append(("claim", number, 0))
+            if e.put < sent:
+                found.append(("put", number, 0))
         for v, vertex in enumerate(self.vertices):
             if v == self.sink or vertex.halt is not None or self.has_unput(v):
                 continue
@@ -185,11 +191,11 @@ class Core:
         for v, vertex in enumerate(self.vertices):
             if vertex.halt is None and self.is_legal(v) and vertex.fired < self.limit:
                 found.append(f"vertex {v} can fire")
-        return found
+        return found if self.ended else [*found, "the end of feeding is not noted"]
 
     def cause(self, v: int) -> Union[str, None]:
         """What makes a vertex halt."""
-        if any(e.refused for e in self.outs(v)):
+        if any(e.refused for e in self._outs[v]):
             return "sealed"
         if not self.is_pending(v) and self.is_legal(v) and self.vertices[v].fired == self.limit:
             return "over"

@@ -6,12 +6,13 @@ from collections.abc import Mapping
 from typing import Any
 
 from chipfire.detectors import known_detector
+from chipfire.explorer import explore
 from chipfire.layout import Point
 from chipfire.ledger import Ledger
 from chipfire.machine import Setting, Simulation
 from chipfire.pages import Words, asked, compared, filled, page_data
 from chipfire.program import AnyProgram
-from chipfire.schedules import EVENTS, explore, opened
+from chipfire.schedules import EVENTS, opened
 from chipfire.values import FileName, counted, write
 
 def wrong_page(
@@ -33,6 +34,8 @@ def wrong_page_text(
     """The text of the page that `wrong_page` writes."""
     setting = setting or known_detector(name).game
     found = explore(setting, name)
+    if found.schedule is None and not found.is_whole:
+        raise ValueError(f"{name}: {found}")
     if found.schedule is None:
         states = counted(found.states, "state")
         raise ValueError(f"{name} closes the root too early in no schedule of this game, which has {states}")

@@ -13,6 +13,8 @@ RULES = {
     "without-deficit": lambda passive, deficit, others: passive and not others,
     "any-order": lambda passive, deficit, others: passive and not deficit,
 }
+#: A vertex that lets go only if it owes something elsewhere: never too early, and it may wait for ever.
+SHY = lambda passive, deficit, others: passive and not deficit and others  # noqa: E731
 
 
 class Game:
@@ -87,18 +89,54 @@ def with_at(values, at, value):
     return (*values[:at], value, *values[at + 1 :])
 
 
-def searched(game, rule, only_once=False):
+def moved(game, state, rule, only_once=False, feeds=()):
+    """The states after one step more of (a state, whether the end is noted, how many feeds came)."""
+    now, ended, fed = state
+    for reached in game.after(now, rule, only_once):
+        yield reached, ended, fed
+    if ended:
+        return
+    chips, fired, parents, pending, sent, taken, acked, settled = now
+    first = game.tails.index(None)
+    yield (*now[:7], with_at(settled, first, acked[first])), True, fed
+    if fed < len(feeds):
+        at, count = feeds[fed]
+        if len(sent[at]) == taken[at]:
+            yield (*now[:4], with_at(sent, at, (*sent[at], count)), *now[5:]), False, fed + 1
+
+
+def searched(game, rule, only_once=False, feeds=None):
     """How many states all schedules reach, and the least steps to one where the root is closed too early, or None.
 
-    After a state in which the root is closed too early it goes on as after any other.
+    After a state in which the root is closed too early it goes on as after any other. With feeds, in their order, the
+    root is closed only once the end is noted, at any time.
     """
-    least, waiting, early = {game.start: 0}, [game.start], []
+    start = (game.start, feeds is None, 0)
+    least, waiting, early = {start: 0}, [start], []
     while waiting:
         state = waiting.pop()
-        if game.is_closed(state) and not game.is_over(state):
+        if state[1] and game.is_closed(state[0]) and not game.is_over(state[0]):
             early.append(state)
-        for reached in game.after(state, rule, only_once):
+        for reached in moved(game, state, rule, only_once, feeds or ()):
             if least.get(reached, least[state] + 2) > least[state] + 1:
                 least[reached] = least[state] + 1
                 waiting.append(reached)
     return len(least), min((least[state] for state in early), default=None)
+
+
+def lost(game, rule):
+    """The least steps to a state from which none is reached where the root is closed, or None."""
+    least, rows, before = {game.start: 0}, [game.start], {}
+    for state in rows:
+        for reached in game.after(state, rule, False):
+            before.setdefault(reached, []).append(state)
+            if reached not in least:
+                least[reached] = least[state] + 1
+                rows.append(reached)
+    able = {state for state in rows if game.is_closed(state)}
+    waiting = list(able)
+    while waiting:
+        more = set(before.get(waiting.pop(), ())) - able
+        able |= more
+        waiting += more
+    return min((least[state] for state in rows if state not in able), default=None)

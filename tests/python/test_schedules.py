@@ -3,16 +3,19 @@
 What a wrong detector does was worked out by hand first: the shortest schedule of each stands here with its reason. The
 numbers of states come from a search of another kind (second_search.py).
 """
+import copy
+import os
 import random
-import re
 import subprocess
 import sys
 import tempfile
+import threading
+import time
 import unittest
 
 import chipfire
 import second_search
-from chipfire import detectors, model, schedules
+from chipfire import detectors, model, schedules, states
 from test_pages import TRIANGLE, random_game
 
 #: Vertex 0 has two edges to the sink.
@@ -55,6 +58,195 @@ class Once(model.Core):
 
 class OnceAnyOrder(Once, detectors.AnyOrder):
     pass
+
+
+class Shy(model.Core):
+    """A vertex lets go only if it owes something elsewhere."""
+
+    def may_let_go(self, e):
+        return self.is_passive(e.head) and not self.deficit(self.outs(e.head)) and self.others_owed(e) > 0
+
+
+# What students write: each is found, or refused with its reason.
+
+
+class Timeout(model.Core):
+    """Gives up waiting after two ticks, which an attribute counts."""
+
+    tries = 0
+
+    def own_events(self):
+        yield "tick", 0, 0
+
+    def tick(self, at):
+        self.tries += 1
+        return "done"
+
+    def may_let_go(self, e):
+        return self.tries > 1 or super().may_let_go(e)
+
+
+class InAList(model.Core):
+    """Lets go once four messages were taken."""
+
+    def __init__(self, *words):
+        self.seen = []
+        super().__init__(*words)
+
+    def on_take(self, e):
+        self.seen.append(e.number)
+        super().on_take(e)
+
+    def may_let_go(self, e):
+        return len(self.seen) > 3 or super().may_let_go(e)
+
+
+class InADict(model.Core):
+    """Lets go once messages came on three edges."""
+
+    def __init__(self, *words):
+        self.seen = {"edges": [set()]}
+        super().__init__(*words)
+
+    def on_take(self, e):
+        self.seen["edges"][0].add(e.number)
+        super().on_take(e)
+
+    def may_let_go(self, e):
+        return len(self.seen["edges"][0]) > 2 or super().may_let_go(e)
+
+
+class OnAVertex(model.Core):
+    """A vertex lets go of its second message."""
+
+    def on_take(self, e):
+        vertex = self.vertices[e.head]
+        vertex.got = getattr(vertex, "got", 0) + 1
+        super().on_take(e)
+
+    def may_let_go(self, e):
+        return self.vertices[e.head].got > 1 or super().may_let_go(e)
+
+
+class ByACount(model.Core):
+    """The root closes once all messages are taken, without a look at who is at work."""
+
+    def is_closed(self):
+        return all(len(e.sent) == e.delivered for e in self.edges)
+
+
+class Polls(model.Core):
+    """Never lets go, and polls for ever."""
+
+    def own_events(self):
+        yield "poll", 0, 0
+
+    def poll(self, at):
+        return "done"
+
+    def may_let_go(self, e):
+        return False
+
+
+class LosesOne(model.Core):
+    """Forgets an acknowledgement if it gives two at once, or the one of an edge that had another."""
+
+    def settle(self, at):
+        e = self.edge(at)
+        more, e.settled = e.acked - e.settled, min(e.acked, 1)
+        return f"done {more}"
+
+
+class InTheClass(model.Core):
+    """Keeps a list in the class."""
+
+    seen = []
+
+    def on_take(self, e):
+        self.seen.append(e.number)
+        super().on_take(e)
+
+    def may_let_go(self, e):
+        return len(self.seen) > 3 or super().may_let_go(e)
+
+
+class CountsInTheClass(model.Core):
+    """Counts in the class."""
+
+    taken = 0
+
+    def on_take(self, e):
+        type(self).taken += 1
+        super().on_take(e)
+
+
+TAKEN = []
+
+
+class InAGlobal(model.Core):
+    """Keeps a list that is a global."""
+
+    def on_take(self, e):
+        TAKEN.append(e.number)
+        super().on_take(e)
+
+    def may_let_go(self, e):
+        return len(TAKEN) > 3 or super().may_let_go(e)
+
+
+class Chance(model.Core):
+    """Lets go by chance."""
+
+    def may_let_go(self, e):
+        return random.random() < 0.5 or super().may_let_go(e)
+
+
+class Clock(model.Core):
+    """Lets go by the clock."""
+
+    def may_let_go(self, e):
+        return time.perf_counter_ns() // 100 % 2 == 0 or super().may_let_go(e)
+
+
+class WithALock(model.Core):
+    """Has a lock."""
+
+    def __init__(self, *words):
+        super().__init__(*words)
+        self.lock = threading.Lock()
+
+
+class Asked(model.Core):
+    """Counts how often it is asked."""
+
+    polls = 0
+
+    def may_ack(self, e):
+        self.polls += 1
+        return super().may_ack(e)
+
+
+class AskedAndSaysSo(Asked):
+    not_state = ("polls",)
+
+
+class IgnoresTheEnd(model.Core):
+    """A root that is fed, and closes whenever it waits for nothing."""
+
+    def is_closed(self):
+        return self.deficit(self.edges[self.graph_edges :]) == 0
+
+
+EARLY = (Timeout, InAList, InADict, OnAVertex, ByACount)
+REFUSED = {
+    InTheClass: "InTheClass.seen stands in a class, and changed",
+    CountsInTheClass: "CountsInTheClass.taken stands in a class, and changed",
+    InAGlobal: "InAGlobal does not do the same again: after .* than in the search",
+    Chance: "Chance does not do the same again",
+    Clock: "Clock does not do the same again",
+    WithALock: r"WithALock.lock, of type lock, cannot be compared.*not_state = \('lock',\)",
+    Asked: "Asked changes polls when it is only asked what may happen",
+}
 
 
 class Explorer(unittest.TestCase):
@@ -114,10 +306,98 @@ class Explorer(unittest.TestCase):
         found = chipfire.explore(TWO, Never)
         self.assertIsNone(found.schedule)
         self.assertIn(("take", 2, 0), found.stuck)
+        self.assertEqual(found.lost, [])
+
+    def test_what_students_write_is_found_by_a_schedule_that_plays(self):
+        for detector in EARLY:
+            with self.subTest(detector.__name__):
+                found = chipfire.explore(FOUR, detector)
+                core = schedules.played(FOUR, detector, found.schedule)
+                self.assertTrue(schedules.is_early(core))
+                self.assertEqual((found.left, found.is_whole), (tuple(core.left()), False))
+        # By hand: take, two ticks, acknowledge, settle.
+        self.assertEqual([event.kind for event in chipfire.explore(FOUR, Timeout).schedule],
+                         ["take", "tick", "tick", "ack", "settle"])
+
+    def test_what_cannot_be_tried_is_refused_with_its_reason(self):
+        for detector, reason in REFUSED.items():
+            with self.subTest(detector.__name__), self.assertRaisesRegex(ValueError, reason):
+                chipfire.explore(TWO, detector)
+        found = chipfire.explore(FOUR, AskedAndSaysSo)
+        self.assertEqual((found.states, found.schedule, found.lost), (1405, None, None))
+
+    def test_where_the_root_can_never_be_closed(self):
+        for setting in (TWO, FOUR, chipfire.Setting(chipfire.path(3), (0, 2, 0, 0))):
+            found = chipfire.explore(setting, Shy)
+            sends = sum(event.kind == "put" for event in found.lost)
+            self.assertEqual(len(found.lost) - 2 * sends, second_search.lost(slow_game(setting), second_search.SHY))
+        polls = chipfire.explore(TWO, Polls)
+        self.assertEqual((polls.schedule, polls.stuck, polls.lost, polls.is_whole), (None, None, [], True))
+        self.assertIn("after 0 events the root can never be closed", str(polls))
+        loses = chipfire.explore(FOUR, LosesOne)
+        self.assertIsNone(loses.schedule)
+        self.assertFalse(schedules.played(FOUR, LosesOne, loses.lost).is_closed())
+        for seed in range(20):  # (nothing that follows closes it)
+            core, draw = schedules.played(FOUR, LosesOne, loses.lost), random.Random(seed)
+            for _ in range(150):
+                core.step(*draw.choice(core.enabled() or [("take", 0, 0)]))
+                self.assertFalse(core.is_closed())
+
+    def test_a_search_that_stops_accuses_nobody(self):
+        for detector in ("right", Polls, Shy):
+            found = chipfire.explore(FOUR, detector, most=100)
+            self.assertEqual((found.states, found.schedule, found.lost, found.is_whole), (100, None, None, False))
+            self.assertIn("the others are not tried, nor whether the root can always be closed", str(found))
+        self.assertTrue(chipfire.explore(FOUR, most=1405).is_whole)
+        # (a state that was reached and not gone on from is looked at too)
+        self.assertEqual(chipfire.explore(FOUR, "at-once", most=12).left, ("vertex 0 can fire",))
+
+    def test_feeds(self):
+        fed = chipfire.Setting(TRIANGLE, (0, 0, 0), fed=True)
+        for feeds in ((), ((4, 2),), ((4, 2), (5, 1)), ((4, 1), (4, 2))):
+            for name in ("right", "any-order"):
+                states, early = second_search.searched(slow_game(fed), second_search.RULES[name], feeds=feeds)
+                found = chipfire.explore(fed, name, feeds=feeds)
+                self.assertEqual((found.states, found.schedule, early, found.lost), (states, None, None, None))
+            for name in ("at-once", "without-deficit"):
+                _, early = second_search.searched(slow_game(fed), second_search.RULES[name], feeds=feeds)
+                found = chipfire.explore(fed, name, feeds=feeds).schedule
+                longer = found and sum(2 * (event.kind == "put") for event in found)
+                self.assertEqual(found and len(found) - longer, early)
+            found = chipfire.explore(fed, IgnoresTheEnd, feeds=feeds)
+            self.assertEqual((found.schedule, found.left), ([], ("the end of feeding is not noted",)))
+        told = chipfire.explore(fed, "at-once", feeds=((4, 2),)).schedule
+        replies = chipfire.simulate(TRIANGLE, (0, 0, 0), told, fed=True).replies
+        self.assertTrue(all(reply.is_done or reply.name in ("Engaged", "NothingOwed") for reply in replies))
+
+    def test_seals(self):
+        class NotHalted(model.Core):
+            def is_passive(self, v):
+                return super().is_passive(v) and self.vertices[v].halt is None
+
+        class HaltedLetsGo(model.Core):
+            def may_let_go(self, e):
+                return self.vertices[e.head].halt is not None or super().may_let_go(e)
+
+        self.assertIsNone(chipfire.explore(TWO, HaltedLetsGo).schedule)
+        found = chipfire.explore(TWO, HaltedLetsGo, seals=(1,))
+        self.assertTrue(schedules.is_early(schedules.played(TWO, HaltedLetsGo, found.schedule)))
+        self.assertIn(("seal", 1, 0), found.schedule)
+        right, waits = (chipfire.explore(TWO, detector, seals=(0, 1)) for detector in ("right", NotHalted))
+        self.assertEqual((right.schedule, right.lost), (None, None))
+        self.assertIn("halt", [event.kind for event in waits.stuck])
 
     def test_what_cannot_be_explored_is_told(self):
-        with self.assertRaisesRegex(ValueError, "more than 100 states"):
-            chipfire.explore(FOUR, most=100)
+        for options, said in (
+            ({"feeds": ((4, 2),)}, "the setting is not fed"), ({"seals": (4,)}, "the edge of a seal is above 3: 4"),
+            ({"most": 0}, "most is below 1"),
+        ):
+            with self.assertRaisesRegex(ValueError, said):
+                chipfire.explore(FOUR, **options)
+        with self.assertRaisesRegex(ValueError, "edge 1 is none of the root's, which are 4 to 6"):
+            chipfire.explore(chipfire.Setting(TRIANGLE, (0, 0, 0), fed=True), feeds=((1, 2),))
+        with self.assertRaisesRegex(TypeError, "a game is a chipfire.Setting of graph and chips, and not of Graph"):
+            chipfire.explore(TRIANGLE, (4, 0, 0))
         with self.assertRaisesRegex(ValueError, "no detector 'hasty', but right, at-once"):
             chipfire.explore(FOUR, "hasty")
 
@@ -143,8 +423,9 @@ class Model(unittest.TestCase):
 
     @staticmethod
     def does_something(core, event):
-        after = core.copied()
-        return not after.step(*event).startswith("not-now") and after.state() != core.state()
+        before, after = states.States(core), copy.deepcopy(core)
+        reply = after.step(*event)
+        return not reply.startswith("not-now") and states.States(after, before).noted() != before.noted()
 
 
 class RandomSchedules(unittest.TestCase):
@@ -164,6 +445,17 @@ class RandomSchedules(unittest.TestCase):
     def test_the_same_seed_draws_the_same(self):
         self.assertEqual(chipfire.random_schedule(FOUR, 5), chipfire.random_schedule(FOUR, 5))
         self.assertNotEqual(chipfire.random_schedule(FOUR, 5), chipfire.random_schedule(FOUR, 6))
+
+    def test_one_that_goes_round_for_ever_is_cut(self):
+        class NeverWhite(detectors.Safra):
+            def blackens(self, at):
+                return True
+
+        events = chipfire.random_schedule(FOUR, 1, NeverWhite, most=300)
+        self.assertEqual((len(events), events.ended), (300, False))
+        self.assertTrue(chipfire.random_schedule(FOUR, 1).ended)
+        found = chipfire.explore(FOUR, NeverWhite)
+        self.assertEqual((found.schedule, found.stuck, found.lost), (None, None, []))
 
     def test_one_that_is_fed_notes_the_end(self):
         setting = chipfire.Setting(TRIANGLE, (4, 0, 0), fed=True)
@@ -191,6 +483,12 @@ class RandomSchedules(unittest.TestCase):
 
 class Judge(unittest.TestCase):
     RIGHT = [("take", 4, 0, "got 0 4"), ("ack", 4, 0, "not-now 15"), ("settle", 4, 0, "done 0")]
+    HASTY = [("take", 4, 0, "got 0 4"), ("ack", 4, 0, "done 1"), ("settle", 4, 0, "done 1"), ("root", 0, 0, "closed")]
+
+    @staticmethod
+    def logged(detector, seed):
+        core = schedules.opened(FOUR, detector)
+        return [(*event, core.step(*event)) for event in chipfire.random_schedule(FOUR, seed, detector)]
 
     def test_a_right_log(self):
         judged = chipfire.judge(FOUR, self.RIGHT)
@@ -199,20 +497,62 @@ class Judge(unittest.TestCase):
         self.assertTrue(chipfire.judge(FOUR, [*self.RIGHT, ("root", 0, 0, "open")]).is_true)
 
     def test_the_first_row_that_differs_and_a_claim_that_is_false(self):
-        log = [("take", 4, 0, "got 0 4"), ("ack", 4, 0, "done 1"), ("settle", 4, 0, "done 1"), ("root", 0, 0, "closed")]
-        judged = chipfire.judge(FOUR, log)
-        self.assertEqual((judged.row, judged.told, judged.right), (1, "done 1", "not-now 15"))
+        judged = chipfire.judge(FOUR, self.HASTY)
+        self.assertEqual((judged.row, judged.told, judged.right, judged.fits), (1, "done 1", "not-now 15", True))
         self.assertEqual((judged.claim, judged.is_true, judged.left), ("closed", False, ("vertex 0 can fire",)))
-        said = ("row 1: the log says 'done 1', the right detector 'not-now 15'; the claim that the root is closed is "
-                "false, and left are: vertex 0 can fire")
+        said = ("row 1: the log says 'done 1', the right detector 'not-now 15'; the claim in row 3 that the root is "
+                "closed is false, and left are: vertex 0 can fire")
         self.assertEqual(str(judged), said)
 
+    def test_each_claim_is_judged_where_it_stands(self):
+        judged = chipfire.judge(FOUR, [*self.HASTY, ("fire", 0, 2, "done 2"), ("root", 0, 0, "open")])
+        self.assertEqual([(claim.row, claim.said, claim.is_true) for claim in judged.claims],
+                         [(3, "closed", False), (5, "open", True)])
+        self.assertEqual((judged.claim, judged.is_true, judged.is_missed), ("closed", False, False))
+        # (the same claim, once the game is over, is true)
+        whole = [*self.logged("right", 3), ("root", 0, 0, "closed")]
+        self.assertTrue(chipfire.judge(FOUR, whole).is_true)
+        self.assertFalse(chipfire.judge(FOUR, [*whole[:1], whole[-1], *whole[1:]]).is_true)
+
     def test_a_sound_detector_that_differs_is_not_called_wrong(self):
-        core, log = schedules.opened(FOUR, "safra"), []
-        for event in chipfire.random_schedule(FOUR, 3, "safra"):
-            log.append((*event, core.step(*event)))
-        judged = chipfire.judge(FOUR, [*log, ("root", 0, 0, "closed")])
-        self.assertEqual((judged.row, judged.is_true, judged.left), (None, True, ()))
+        for name, own in (("safra", "pass_on"), ("credit", "give_back")):
+            log = self.logged(name, 3)
+            judged = chipfire.judge(FOUR, [*log, ("root", 0, 0, "closed")], also=(own,))
+            self.assertEqual((judged.row, judged.is_true, judged.left), (None, True, ()))
+            judged = chipfire.judge(FOUR, [*log, ("root", 0, 0, "open")], also=(own,))
+            self.assertTrue(judged.is_missed)
+            self.assertIn("the end is missed: nothing is left, and the root is open", str(judged))
+            with self.assertRaisesRegex(ValueError, f"there is no event '{own}'"):
+                chipfire.judge(FOUR, log)
+
+    def test_messages_that_are_acknowledged_one_by_one(self):
+        # By hand: vertex 0 of a path fires twice, one at a time, and edge 0 holds both messages; vertex 1 is the sink,
+        # and acknowledges each on its own: the second of the two engaged nobody.
+        setting = chipfire.Setting(chipfire.Graph(2, 1, ((0, 1),)), (2, 0))
+        send = [("clear", 0, 0, "done {}"), ("claim", 0, 0, "sent {} 1"), ("put", 0, 0, "done 1")]
+        log = [("take", 1, 0, "got 0 2")]
+        for number in range(2):
+            log += [("fire", 0, 1, f"done {number + 1}")]
+            log += [(kind, at, count, reply.format(number)) for kind, at, count, reply in send]
+        log += [("take", 0, 0, "got 0 1"), ("take", 0, 0, "got 1 1")]
+        log += [(kind, edge, 0, "done 1") for edge in (0, 0, 1) for kind in ("ack", "settle")]
+        log += [("root", 0, 0, "closed")]
+        judged = chipfire.judge(setting, log)
+        self.assertEqual((judged.row, judged.fits, judged.is_true), (None, True, True))
+        # (a ring that is full is no mistake, and an empty one that is called full is)
+        full = [*log[:6], ("clear", 0, 0, "full"), *log[6:]]
+        self.assertEqual(str(chipfire.judge(setting, full)), str(judged).replace("row 17", "row 18"))
+        judged = chipfire.judge(setting, [*log[:2], ("clear", 0, 0, "full")])
+        self.assertEqual((judged.row, judged.fits), (2, False))
+        # (vertex 0 waits for two acknowledgements)
+        self.assertEqual(chipfire.judge(setting, log[:9] + [("ack", 1, 0, "done 1")]).row, 9)
+
+    def test_a_log_that_does_not_fit_gets_no_verdict(self):
+        judged = chipfire.judge(FOUR, [*self.RIGHT, ("fire", 0, 3, "done 3"), ("root", 0, 0, "closed")])
+        self.assertEqual((judged.row, judged.fits, judged.claims, judged.is_true), (3, False, (), None))
+        self.assertEqual(str(judged), "the log does not fit the game: row 3 says 'done 3', and the game 'not-now 7'; "
+                                      "what follows is not judged")
+        self.assertFalse(chipfire.judge(FOUR, [*self.HASTY, ("take", 0, 0, "got 0 1")]).is_true)
 
     def test_a_log_from_a_file(self):
         with tempfile.TemporaryDirectory(prefix="chipfire-python-") as folder:
@@ -222,10 +562,19 @@ class Judge(unittest.TestCase):
             self.assertEqual((judged.row, judged.told, judged.right), (1, "done 1", "done 2"))
             with open(f"{folder}/log.csv", "w", encoding="utf-8") as file:
                 file.write("event,at,count\ntake,4,0\n")
-            with self.assertRaisesRegex(ValueError, "does not begin with event,at,count,reply"):
+            with self.assertRaisesRegex(ValueError, "does not begin with event,at,count,reply: this is no log"):
                 chipfire.judge(FOUR, f"{folder}/log.csv")
-        with self.assertRaisesRegex(ValueError, "neither closed nor open"):
-            chipfire.judge(FOUR, [("root", 0, 0, "done")])
+
+    def test_rows_that_are_none(self):
+        for row, said in (
+            (("root", 0, 0, "done"), "neither closed nor open"), (("Take", 4, 0, "got 0 4"), "'Take': take is near"),
+            (("tkae", 4, 0, "got 0 4"), "'tkae': take is near"), (("quux", 0, 0, ""), "this is no log of a detector"),
+            (("take", -1, 0, "empty"), "row 1: at is below 0"), (("fire", 0, -1, ""), "row 1: count is below 0"),
+            (("take", "x", 0, "empty"), "row 1: at is no whole number: 'x'"),
+            (("take", 4, 0), "row 1 has not 4 fields"),
+        ):
+            with self.assertRaisesRegex(ValueError, said):
+                chipfire.judge(FOUR, [self.RIGHT[0], row])
 
 
 class ShiViz(unittest.TestCase):
@@ -238,6 +587,23 @@ class ShiViz(unittest.TestCase):
             '0 {"0":4}', "claim 1: sent 0 2", '0 {"0":5}', "put 1: done 2", '2 {"0":5, "2":1}', "take 1: got 0 2",
             '2 {"0":5, "2":2}', "ack 1: done 1", '0 {"0":6, "2":2}', "settle 1: done 1",
         ])
+
+    def test_a_token_is_refused(self):
+        with self.assertRaisesRegex(ValueError, "pass_on is an event of safra: what it carries is not known"):
+            chipfire.shiviz(FOUR, chipfire.random_schedule(FOUR, 3, "safra"), "safra")
+
+
+class Notes(unittest.TestCase):
+    def test_a_schedule_without_its_notes(self):
+        schedule = chipfire.Schedule().take(4).note("a first look")
+        with tempfile.TemporaryDirectory(prefix="chipfire-python-") as folder:
+            file = f"{folder}/schedule.csv"
+            texts = {True: "event,at,count,note\ntake,4,0,a first look\n", False: "event,at,count\ntake,4,0\n"}
+            for notes, said in texts.items():
+                chipfire.write_schedule(file, schedule, notes=notes)
+                with open(file, encoding="utf-8") as text:
+                    self.assertEqual(text.read(), said)
+            self.assertTrue(chipfire.simulate(TRIANGLE, (4, 0, 0), file).replies[0].is_done)
 
 
 if __name__ == "__main__":

@@ -3,20 +3,33 @@
     python -m chipfire page GRAPH CHIPS SCHEDULE >run.html
     python -m chipfire page GRAPH CHIPS TRACE >run.html
     python -m chipfire wrong NAME [GRAPH CHIPS] >wrong.html
+    python -m chipfire explore NAME [GRAPH CHIPS]
+    python -m chipfire explore FILE.py:CLASS [GRAPH CHIPS]
+    python -m chipfire judge GRAPH CHIPS LOG
+
+`explore` ends with status 0 if the detector never closes the root too early and can always close it, 2 if it can close
+it too early, 3 if it can miss the end, and 4 if there are too many states to tell. `judge` ends with 0 if all claims of
+the log are true, 2 if one is false, and 3 if the log misses the end. An error is 1.
 """
 
 from __future__ import annotations
 
 import argparse
+import runpy
 import sys
+from typing import Any
 
-from chipfire.detectors import DETECTORS
+from chipfire.detectors import DETECTORS, known_detector
+from chipfire.explorer import explore
+from chipfire.judging import judge
 from chipfire.layout import Point
 from chipfire.ledger import Disagreement
-from chipfire.machine import TRACE_HEADER, Setting
+from chipfire.machine import SCHEDULE_HEADER, TRACE_HEADER, Setting
+from chipfire.model import Core
 from chipfire.pages import page_text, recorded
 from chipfire.program import known_chips, known_graph, simulate
-from chipfire.values import begins, read_rows
+from chipfire.schedules import Detector
+from chipfire.values import MAX_LIMIT, begins, read_rows, rows_text
 from chipfire.wrong import wrong_page_text
 
 
@@ -38,20 +51,59 @@ def _page(asked: argparse.Namespace) -> str:
     return page_text(told, title=title, positions=places, program=asked.program)
 
 
+def _setting(files: list[str], asked: argparse.Namespace, **options: Any) -> Setting:
+    """The game of two files."""
+    if len(files) != 2:
+        raise ValueError("another game is GRAPH and CHIPS, two files")
+    known = known_graph(files[0], asked.program)
+    return Setting(known, known_chips(known, files[1], asked.program), **options)
+
+
+def _detector(name: str) -> Detector:
+    """A detector by its name, or the class in FILE.py:CLASS."""
+    file, colon, wanted = name.rpartition(":")
+    if not colon:
+        known_detector(name)
+        return name
+    try:
+        made = runpy.run_path(file).get(wanted)
+    except Exception as error:  # (whatever the file does)
+        raise ValueError(f"{file}: {type(error).__name__}: {error}") from error
+    if not (isinstance(made, type) and issubclass(made, Core)):
+        raise ValueError(f"{file} has no class {wanted} that is made of chipfire.model.Core")
+    return made
+
+
 def _wrong(asked: argparse.Namespace) -> str:
-    setting = None
-    if asked.game:
-        if len(asked.game) != 2:
-            raise ValueError("another game is GRAPH and CHIPS, two files")
-        known = known_graph(asked.game[0], asked.program)
-        setting = Setting(known, known_chips(known, asked.game[1], asked.program))
+    setting = _setting(asked.game, asked) if asked.game else None
     places = asked.positions and _positions(asked.positions)
     return wrong_page_text(asked.name, setting, title=asked.title, positions=places, program=asked.program)
 
 
-def _arguments() -> argparse.ArgumentParser:
-    parser = argparse.ArgumentParser(prog="python -m chipfire", description="chipfire's Python package.")
-    commands = parser.add_subparsers(required=True, metavar="COMMAND")
+def _explore(asked: argparse.Namespace) -> tuple[str, int]:
+    """What is found, with the shortest schedule, and the status."""
+    detector, known = _detector(asked.name), known_detector(asked.name if asked.name in DETECTORS else "right").game
+    options: dict[str, Any] = {"limit": asked.limit, "ring": asked.ring, "fed": bool(asked.feed)}
+    files = asked.game
+    setting = _setting(files, asked, **options) if files else Setting(known.graph, known.chips, **options)
+    found = explore(setting, detector, most=asked.most, feeds=asked.feed, seals=asked.seal)
+    missed = found.lost if found.lost is not None else found.stuck
+    shown = missed if found.schedule is None else found.schedule
+    status = 2 if found.schedule is not None else 3 if missed is not None else 0 if found.is_whole else 4
+    rows = "" if shown is None else rows_text(SCHEDULE_HEADER, shown)
+    return f"{found}\n{rows}", status
+
+
+def _judge(asked: argparse.Namespace) -> tuple[str, int]:
+    """The verdict on a log, and the status."""
+    judged = judge(_setting([asked.graph, asked.chips], asked, fed=asked.fed), asked.log, also=asked.also)
+    if not judged.fits and judged.is_true is None:
+        raise ValueError(str(judged))
+    return f"{judged}\n", 2 if not judged.is_true else 3 if judged.is_missed else 0
+
+
+def _add_pages(commands: Any) -> list[argparse.ArgumentParser]:
+    """The commands that write a page."""
     says = "writes a page of HTML on which a run can be watched event by event"
     page = commands.add_parser("page", help=says, description=says)
     page.add_argument("graph", metavar="GRAPH", help="a graph file")
@@ -70,6 +122,39 @@ def _arguments() -> argparse.ArgumentParser:
     for command in (page, wrong):
         command.add_argument("--title", metavar="TEXT", help="what stands above the page")
         command.add_argument("--positions", metavar="FILE", help="where the vertices stand: rows vertex,right,down")
+    return [page, wrong]
+
+
+def _add_verdicts(commands: Any) -> list[argparse.ArgumentParser]:
+    """The commands that tell by their status what they found."""
+    says = "tries all schedules of a small game: status 0 right, 2 too early, 3 can miss the end, 4 too many states"
+    found = commands.add_parser("explore", help=says, description=says)
+    found.add_argument("name", metavar="DETECTOR", help=f"FILE.py:CLASS, or one of {', '.join(DETECTORS)}")
+    found.add_argument("game", metavar="GRAPH CHIPS", nargs="*", help="another game than that of the detector")
+    found.add_argument("--most", type=int, default=100_000, metavar="N", help="how many states are looked at")
+    found.add_argument("--limit", type=int, default=MAX_LIMIT, metavar="F", help="how often each vertex may fire")
+    found.add_argument("--ring", type=int, default=1, metavar="R", help="how many cells the ring of an edge has")
+    says = "the root feeds so many chips on its edge, each feed after the others"
+    found.add_argument(
+        "--feed", type=int, nargs=2, action="append", default=[], metavar=("EDGE", "CHIPS"), help=says
+    )
+    found.add_argument("--seal", type=int, action="append", default=[], metavar="EDGE", help="it may be sealed")
+    found.set_defaults(make=_explore)
+    says = "judges a log: status 0 if its claims are true, 2 if one is false, 3 if it misses the end"
+    log = commands.add_parser("judge", help=says, description=says)
+    log.add_argument("graph", metavar="GRAPH", help="a graph file")
+    log.add_argument("chips", metavar="CHIPS", help="a chips file")
+    log.add_argument("log", metavar="LOG", help="rows event,at,count,reply")
+    log.add_argument("--also", action="append", default=[], metavar="EVENT", help="an event of its own detector")
+    log.add_argument("--fed", action="store_true", help="the root may feed chips")
+    log.set_defaults(make=_judge)
+    return [found, log]
+
+
+def _arguments() -> argparse.ArgumentParser:
+    parser = argparse.ArgumentParser(prog="python -m chipfire", description="chipfire's Python package.")
+    commands = parser.add_subparsers(required=True, metavar="COMMAND")
+    for command in [*_add_pages(commands), *_add_verdicts(commands)]:
         command.add_argument("--program", metavar="FILE", help="the program chipfire, if not the one that is found")
     return parser
 
@@ -77,11 +162,13 @@ def _arguments() -> argparse.ArgumentParser:
 def main() -> int:
     asked = _arguments().parse_args()
     try:
-        sys.stdout.buffer.write(asked.make(asked).encode())
+        made = asked.make(asked)
+        text, status = made if isinstance(made, tuple) else (made, 0)
+        sys.stdout.buffer.write(text.encode())
     except (Disagreement, OSError, ValueError) as error:
         print(f"chipfire: {error}", file=sys.stderr)
         return 1
-    return 0
+    return int(status)
 
 
 if __name__ == "__main__":

@@ -577,6 +577,46 @@ class Judge(unittest.TestCase):
                 chipfire.judge(FOUR, [self.RIGHT[0], row])
 
 
+class AtTheShell(unittest.TestCase):
+    OWN = "from chipfire.model import Core\nclass Mine(Core):\n    def may_let_go(self, e):\n        return {}\n"
+
+    def asked(self, *words):
+        environment = {**os.environ, "PYTHONPATH": os.path.dirname(os.path.dirname(chipfire.__file__))}
+        ran = subprocess.run([sys.executable, "-m", "chipfire", *words], env=environment, encoding="utf-8",
+                             stdout=subprocess.PIPE, stderr=subprocess.PIPE)
+        return ran.returncode, ran.stdout or ran.stderr
+
+    def test_the_status_of_explore(self):
+        with tempfile.TemporaryDirectory(prefix="chipfire-python-") as folder:
+            graph, chips = f"{folder}/graph.json", f"{folder}/chips.csv"
+            TWO.graph.write(graph)
+            chipfire.write_chips(chips, TWO.graph, TWO.chips)
+            for rule, status in (("True", 2), ("False", 3), ("super().may_let_go(e)", 0)):
+                with open(f"{folder}/mine.py", "w", encoding="utf-8") as file:
+                    file.write(self.OWN.format(rule))
+                told, said = self.asked("explore", f"{folder}/mine.py:Mine", graph, chips)
+                self.assertEqual(told, status, said)
+            self.assertIn("the root can always be closed", said)
+            self.assertEqual(self.asked("explore", "right", graph, chips, "--most", "5")[0], 4)
+            told, said = self.asked("explore", f"{folder}/mine.py:Yours")
+            self.assertEqual((told, "has no class Yours" in said), (1, True))
+        told, said = self.asked("explore", "at-once")
+        self.assertEqual((told, said.splitlines()[1:]), (2, ["event,at,count", "take,4,0", "ack,4,0", "settle,4,0"]))
+
+    def test_the_status_of_judge(self):
+        with tempfile.TemporaryDirectory(prefix="chipfire-python-") as folder:
+            graph, chips = f"{folder}/graph.json", f"{folder}/chips.csv"
+            TRIANGLE.write(graph)
+            chipfire.write_chips(chips, TRIANGLE, FOUR.chips)
+            over = [row for row in Judge.logged("right", 3)]
+            for rows, status in ((Judge.HASTY, 2), ([*over, ("root", 0, 0, "closed")], 0),
+                                 ([*over, ("root", 0, 0, "open")], 3), ([("fire", 0, 1, "done 1")], 1)):
+                with open(f"{folder}/log.csv", "w", encoding="utf-8") as file:
+                    file.write("event,at,count,reply\n" + "".join(",".join(map(str, row)) + "\n" for row in rows))
+                told, said = self.asked("judge", graph, chips, f"{folder}/log.csv")
+                self.assertEqual(told, status, said)
+
+
 class ShiViz(unittest.TestCase):
     def test_clocks_are_those_worked_out_by_hand(self):
         # Vertex 0 takes, fires and sends; the sink takes it (it knows 5 events of vertex 0) and acknowledges.

@@ -71,7 +71,7 @@ class States:
         #: What reads the values of each part, and what knows their numbers.
         self.held_values = [vars(part) for part in self.parts]
         self.readers = [(numbers.get, vars(part).values()) for part, numbers in zip(self.parts[:-1], self.numbers)]
-        self.sizes = like.sizes if like else self._sizes()
+        self.sizes: list[int] = like.sizes if like else self._sizes()
         names = [name for name in vars(core) if name not in self.held]
         self.rest = operator.itemgetter(*names)
         self.now: tuple[int, ...] = ()

@@ -101,9 +101,11 @@ class Ranks(unittest.TestCase):
             self.assertEqual(chipfire.Divisor(ring, {2: degree}).rank(), max(degree - 1, min(degree, 0), -1))
         for graph in (K4, chipfire.complete(6), chipfire.grid(3, 3)):
             self.assertEqual(chipfire.canonical_divisor(graph).rank(), chipfire.genus(graph) - 1)
-        # (with three edges between two vertices, one chip on each is the canonical divisor, and two on one are not)
+        # (with three edges between two vertices, one chip on each is the canonical divisor, to which a firing leads from
+        # 4 and -2, and not from 2 and 0; no firing leads from 1 and -1 to none)
         two = chipfire.Graph.undirected([("a", "b", 3)], "a")
-        self.assertEqual([chipfire.Divisor(two, it).rank() for it in (1, {"a": 2}, {"a": 4, "b": -2})], [1, 0, -1])
+        given = (1, {"a": 4, "b": -2}, {"a": 2}, {"a": 1, "b": -1})
+        self.assertEqual([chipfire.Divisor(two, it).rank() for it in given], [1, 1, 0, -1])
 
     def test_a_search_that_is_too_long_is_refused(self):
         graph = chipfire.grid(4, 4)

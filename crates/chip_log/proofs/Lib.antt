@@ -1,0 +1,9 @@
+pub mod PrefixLemmas
+pub mod CountLemmas
+pub mod MetLemmas
+pub mod PastLemmas
+pub mod SilentLemmas
+pub mod VerdictLemmas
+pub mod BooksLemmas
+pub mod LoopLemmas
+pub mod JudgeLemmas

@@ -1,0 +1,23 @@
+-- Lists and how they begin (as in chip_trace).
+use Rattle.std.proofs.Common.{◌≡◌, ℕ, ◌≤◌, List, ◌++◌, length, take, drop, sym, ap, ◌∙◌}
+use Rattle.std.proofs.Math.Seq.{take-append_seam}
+use Rattle.std.proofs.lemmas.List.{take-append-le, take-append-drop}
+
+module _ {A : Type 0} where
+  pub beginning_is : (xs rest all : List A) → xs ++ rest ≡ all → xs ≡ take (length xs) all
+  beginning_is xs rest all is = sym (take-append_seam xs rest) ∙ ap (take (length xs)) is
+
+  -- of two beginnings the longer one goes on from the shorter one
+  pub longer_beginning : (xs r ys s all : List A) → xs ++ r ≡ all → ys ++ s ≡ all → length xs ≤ length ys
+      → (more : List A) × (xs ++ more ≡ ys)
+  longer_beginning xs r ys s all p q l = (
+    drop (length xs) ys,
+    ap (λ (zs : List A). zs ++ drop (length xs) ys) (beginning_is xs r all p ∙ ap (take (length xs)) (sym q)
+        ∙ take-append-le (length xs) ys s l)
+        ∙ take-append-drop (length xs) ys,
+  )
+
+  -- two beginnings of one length are one
+  pub same_beginning : (xs r ys s all : List A) → xs ++ r ≡ all → ys ++ s ≡ all → length xs ≡ length ys → xs ≡ ys
+  same_beginning xs r ys s all p q e = beginning_is xs r all p ∙ ap (λ (n : ℕ). take n all) e
+      ∙ sym (beginning_is ys s all q)

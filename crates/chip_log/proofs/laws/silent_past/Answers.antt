@@ -1,0 +1,5 @@
+use Rattle.chip_log.proofs.SilentLemmas.{silent_is_right}
+use Rattle.chip_log.proofs.laws.silent_past.Goals as goal
+
+pub returns : goal.returns
+returns c = λ log p i past ends is silent. silent_is_right log ends p i past is silent

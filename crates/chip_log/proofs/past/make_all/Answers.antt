@@ -1,0 +1,47 @@
+use Rattle.std.proofs.Common.{◌<◌, List, length, take, get_or, false, arith, ap, sym, ◌∙◌, subst}
+use Rattle.std.proofs.lemmas.List.{take_more}
+use Rattle.chip_log.specs.declared.row.LogRow.{LogRow}
+use Rattle.chip_log.specs.declared.row.Step.TheVariants.{Out}
+use Rattle.chip_log.specs.declared.books.Said.{Said}
+use Rattle.chip_log.specs.declared.books.Said.TheVariants as said
+use Rattle.std.specs.Prelude.{slice_index_or}
+use Rattle.chip_log.specs.Tally.{TallyState, count}
+use Rattle.chip_log.specs.Past.{AreInFlight}
+use Rattle.chip_log.proofs.BooksLemmas.{make_flight}
+use Rattle.chip_log.proofs.LoopLemmas.{make_room}
+use Rattle.chip_log.proofs.past.make_all.Goals as goal
+
+-- what is read behind the last row
+abbrev none : LogRow
+none = record { process = 0; step = Out (record { channel = 0; is_control = false }) }
+
+pub make-requires-clause-room : goal.make-requires-clause-room
+make-requires-clause-room c =
+    let l : c.loop-next.next < length c.args.rows.now = omega arith in
+    make_room c.args.rows.now c.requires.log c.args.sizes c.requires.fits c.requires.few c.loop-next.next none l
+    c.loop-next.books.flight c.loop-next.invariant.made.flight
+
+pub loop-next-preserved : goal.loop-next-preserved
+loop-next-preserved c =
+    let inv = c.loop-next.invariant in
+    let l : c.loop-next.next < length c.args.rows.now = omega arith in
+    let made = c.make.ensures in
+    record {
+      place = omega arith;
+      claimer = made.claimer ∙ inv.claimer;
+      sized = record {
+        processes = ap length made.said ∙ inv.sized.processes;
+        flight = sym made.makes.same ∙ inv.sized.flight;
+        taken = ap (λ (t : TallyState). t.channels) made.taken ∙ inv.sized.taken;
+        sent = ap (λ (t : TallyState). t.channels) made.sent ∙ inv.sized.sent;
+      };
+      made = record {
+        flight = subst (λ (zs : List LogRow). AreInFlight zs c.make.new.self.flight)
+            (sym (take_more c.args.rows.now c.loop-next.next none l))
+            (make_flight (take c.loop-next.next c.args.rows.now) (get_or c.args.rows.now c.loop-next.next none)
+            c.loop-next.books.flight c.make.new.self.flight inv.made.flight made.makes);
+        taken = λ s. ap (λ (t : TallyState). count t s) made.taken ∙ inv.made.taken s;
+        sent = λ s. ap (λ (t : TallyState). count t s) made.sent ∙ inv.made.sent s;
+        said = λ q. ap (λ (items : List Said). slice_index_or items q said.Nothing) made.said ∙ inv.made.said q;
+      };
+    }

@@ -1,0 +1,16 @@
+-- A worked log: process 0 sends a message and is passive, and process 1 gets it.
+use Rattle.std.specs.Prelude.{◌≡◌, true, false, List, [], ◌∷◌}
+use Rattle.chip_log.specs.Log.{AreMet, is_active}
+use Rattle.chip_log.specs.Claims.{basic}
+use Rattle.chip_log.specs.declared.row.LogRow.{LogRow}
+use Rattle.chip_log.specs.declared.row.Step.TheVariants.{Out, In, Passive, Active}
+
+abbrev pub begins : List LogRow
+begins =
+    record { process = 0; step = Active } ∷ record { process = 0; step = Out (basic 0) }
+    ∷ record { process = 0; step = Passive } ∷ record { process = 1; step = In (basic 0) } ∷ []
+
+pub record WorkedLog : Type 0 where
+  pub met : AreMet begins [] begins
+  pub busy : is_active begins begins 1 ≡ true
+  pub idle : is_active begins begins 0 ≡ false

@@ -1,0 +1,171 @@
+//! What is known of the past of a claim, while the rows before it are looked at from the last to the first.
+
+ghost use Rattle.std.specs.Prelude.{◌≡◌, ◌+◌, ◌^◌, ◌<◌, ◌||◌, ◌==◌, true, [], length, IfOk};
+ghost use Rattle.chip_log.specs.declared.row.Stream.{Stream};
+ghost use Rattle.chip_log.specs.Log.{is_out, is_in};
+ghost use Rattle.chip_log.specs.Tally.{count};
+ghost use Rattle.chip_log.specs.Books.{said_before, has_row, is_needed, is_message_needed, Passes, Keeps, HasRoom, IsOf};
+ghost use Rattle.chip_log.specs.Books.{HasFlightRoom, HasCountRoom, HasMakeRoom};
+ghost use Rattle.chip_log.specs.Past.{AreSized, AreBooks};
+
+use crate::past::Sizes;
+use crate::row::{LogRow, Step, Stream};
+use crate::tally::Tally;
+use std::alloc::{AllocError, Global};
+
+/// What the rows of a process in the past say of it.
+#[derive(Clone, Copy)]
+pub(crate) enum Said {
+    /// There is no row.
+    Nothing,
+    /// No row says whether it is active.
+    Unsaid,
+    Passive,
+    Active,
+}
+
+impl Said {
+    /// Whether there is a row.
+    fn has_row(self) -> bool
+        ensures { result ≡ has_row self }
+    {
+        match self {
+            Said::Nothing => false,
+            Said::Unsaid | Said::Passive | Said::Active => true,
+        }
+    }
+
+    /// With one earlier row.
+    fn before(self, step: Step) -> Said
+        ensures { result ≡ said_before step self }
+    {
+        match self {
+            Said::Passive | Said::Active => self,
+            Said::Nothing | Said::Unsaid => match step {
+                Step::In(stream) => {
+                    if stream.is_control {
+                        Said::Unsaid
+                    } else {
+                        Said::Active
+                    }
+                }
+                Step::Passive => Said::Passive,
+                Step::Out(_) | Step::Active | Step::Over => Said::Unsaid,
+            },
+        }
+    }
+}
+
+/// Of a claim, and of the rows that were looked at so far.
+#[derive(Drop)]
+pub(crate) struct Books {
+    pub(crate) claimer: u32,
+    /// How many messages of each stream are on their way before these rows.
+    pub(crate) flight: Tally,
+    /// How many are got, and sent, by rows in the past.
+    pub(crate) taken: Tally,
+    pub(crate) sent: Tally,
+    /// By process.
+    pub(crate) said: Vec<Said>,
+}
+
+impl Books {
+    /// No row was looked at.
+    pub(crate) fn new(alloc: Global, sizes: Sizes, claimer: u32) -> Result<Books, AllocError>
+        ensures claimer { IfOk result (λ books. books.claimer ≡ claimer) }
+        ensures sized { IfOk result (AreSized sizes) }
+        ensures none { IfOk result (AreBooks [] []) }
+    {
+        Ok(Books {
+            claimer,
+            flight: Tally::new(alloc, sizes.channels)?,
+            taken: Tally::new(alloc, sizes.channels)?,
+            sent: Tally::new(alloc, sizes.channels)?,
+            said: vec![in alloc; Said::Nothing; sizes.processes as usize]?,
+        })
+    }
+
+    /// A row before the claim: its step is made.
+    pub(crate) fn make(&mut self, step: Step)
+        requires channel { IsOf self.old.flight.channels step }
+        requires room { HasMakeRoom step self.old.flight }
+        ensures makes { Passes step self.new.flight self.old.flight }
+        ensures claimer { self.new.claimer ≡ self.old.claimer }
+        ensures taken { self.new.taken ≡ self.old.taken }
+        ensures sent { self.new.sent ≡ self.old.sent }
+        ensures said { self.new.said.items ≡ self.old.said.items }
+    {
+        match step {
+            Step::Out(stream) => self.flight.add(stream),
+            Step::In(stream) => self.flight.remove(stream),
+            Step::Passive | Step::Active | Step::Over => {}
+        }
+    }
+
+    /// Looks at one more row.
+    pub(crate) fn look(&mut self, row: LogRow)
+        requires { HasRoom row self.old }
+        ensures passes { Passes row.step self.old.flight self.new.flight }
+        ensures keeps { Keeps (is_needed row self.new.flight self.old) row self.old self.new }
+    {
+        pass(&mut self.flight, row.step);
+        if self.needs(row) {
+            self.keep(row);
+        }
+    }
+
+    /// Whether this row is in the past.
+    fn needs(&self, row: LogRow) -> bool
+        requires process { row.process < length self.now.said.items }
+        requires flight { IsOf self.now.flight.channels row.step }
+        requires taken { IsOf self.now.taken.channels row.step }
+        ensures { result ≡ is_needed row self.now.flight self.now }
+    {
+        row.process == self.claimer
+            || self.said[row.process as usize].has_row()
+            || self.needs_message(row.step)
+    }
+
+    /// Whether the message of this step is needed.
+    fn needs_message(&self, step: Step) -> bool
+        requires flight { IsOf self.now.flight.channels step }
+        requires taken { IsOf self.now.taken.channels step }
+        ensures { result ≡ is_message_needed self.now.flight self.now.taken step }
+    {
+        match step {
+            Step::Out(stream) => self.flight.count(stream) < self.taken.count(stream),
+            Step::In(_) | Step::Passive | Step::Active | Step::Over => false,
+        }
+    }
+
+    /// Notes a row of the past.
+    fn keep(&mut self, row: LogRow)
+        requires process { row.process < length self.old.said.items }
+        requires taken { IsOf self.old.taken.channels row.step }
+        requires sent { IsOf self.old.sent.channels row.step }
+        requires room { HasCountRoom row.step self.old }
+        ensures flight { self.new.flight ≡ self.old.flight }
+        ensures keeps { Keeps true row self.old self.new }
+    {
+        let said = self.said[row.process as usize];
+        self.said[row.process as usize] = said.before(row.step);
+        match row.step {
+            Step::Out(stream) => self.sent.add(stream),
+            Step::In(stream) => self.taken.add(stream),
+            Step::Passive | Step::Active | Step::Over => {}
+        }
+    }
+}
+
+/// The step was not made yet.
+fn pass(flight: &mut Tally, step: Step)
+    requires channel { IsOf flight.old.channels step }
+    requires room { HasFlightRoom step flight.old }
+    ensures { Passes step flight.old flight.new }
+{
+    match step {
+        Step::Out(stream) => flight.remove(stream),
+        Step::In(stream) => flight.add(stream),
+        Step::Passive | Step::Active | Step::Over => {}
+    }
+}

@@ -7,3 +7,6 @@ pub mod VerdictLemmas
 pub mod BooksLemmas
 pub mod LoopLemmas
 pub mod JudgeLemmas
+mod QueuesLemmas
+mod OrderingLemmas
+mod OrderLemmas

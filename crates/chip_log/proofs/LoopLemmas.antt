@@ -39,7 +39,7 @@ all_length : (xs : List LogRow) → length (all_steps xs) ≡ length xs
 all_length [] = refl
 all_length (x ∷ xs) = let a = all_length xs in omega arith
 
-outs_few : (s : Stream) (xs : List LogRow) → outs s xs ≤ length xs
+pub outs_few : (s : Stream) (xs : List LogRow) → outs s xs ≤ length xs
 outs_few s xs = let a = sends_few s (all_steps xs) in let b = all_length xs in omega arith
 
 ins_few : (s : Stream) (xs : List LogRow) → ins s xs ≤ length xs

@@ -1,6 +1,7 @@
 -- The laws of claims.
-use Rattle.std.specs.Prelude.{◌≡◌, ℕ, List}
-use Rattle.chip_log.specs.Log.{HasEnds}
+use Rattle.std.specs.Prelude.{◌≡◌, ℕ, ◌≤◌, List, length}
+use Rattle.chip_log.specs.Log.{steps_of, IsInterleaving, HasEnds}
+use Rattle.chip_log.specs.Order.{IsProgress, IsGreatest, IsStuck}
 use Rattle.chip_log.specs.Claims.{IsBefore, IsPast, IsSilent, IsVerdict}
 use Rattle.chip_log.specs.declared.row.LogRow.{LogRow}
 use Rattle.chip_log.specs.declared.verdict.Verdict.{Verdict}
@@ -19,3 +20,16 @@ SilentPast = (log : List LogRow) (p i : ℕ) (past : List LogRow) → HasEnds lo
 -- no claim has two verdicts
 abbrev pub OneVerdict : Type 0
 OneVerdict = (log : List LogRow) (p i : ℕ) (v w : Verdict) → HasEnds log → IsVerdict log p i v → IsVerdict log p i w → v ≡ w
+
+-- no progress has more rows of a process than greatest progress
+abbrev pub MostProgress : Type 0
+MostProgress = (log used other : List LogRow) → HasEnds log → IsGreatest log used → IsProgress log other
+    → (p : ℕ) → length (steps_of p other) ≤ length (steps_of p used)
+
+-- a log that is stuck has no interleaving
+abbrev pub StuckOrder : Type 0
+StuckOrder = (log xs : List LogRow) (p i : ℕ) → HasEnds log → IsStuck log p i → IsInterleaving log xs → ⊥
+
+-- and is stuck in one place
+abbrev pub OnePlace : Type 0
+OnePlace = (log : List LogRow) (p i q j : ℕ) → HasEnds log → IsStuck log p i → IsStuck log q j → (p ≡ q) × (i ≡ j)

@@ -6,3 +6,7 @@ pub mod Past
 pub mod Judge
 pub mod Worked
 pub mod Laws
+pub mod Queues
+pub mod Agenda
+pub mod Order
+pub mod Ordering

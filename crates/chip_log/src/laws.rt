@@ -1,6 +1,6 @@
 //! The laws of logs.
 
-ghost use Rattle.chip_log.specs.Laws.{LeastPast, OneVerdict, SilentPast};
+ghost use Rattle.chip_log.specs.Laws.{LeastPast, MostProgress, OnePlace, OneVerdict, SilentPast, StuckOrder};
 ghost use Rattle.chip_log.specs.Worked.{WorkedLog};
 
 /// Who is active in a small log, by the definitions.
@@ -21,4 +21,19 @@ pub fn silent_past()
 /// A claim has one verdict.
 pub fn one_verdict()
     ensures { OneVerdict }
+{}
+
+/// No progress has more rows of a process than greatest progress.
+pub fn most_progress()
+    ensures { MostProgress }
+{}
+
+/// A log that is stuck has no interleaving.
+pub fn stuck_order()
+    ensures { StuckOrder }
+{}
+
+/// A log is stuck in one place.
+pub fn one_place()
+    ensures { OnePlace }
 {}

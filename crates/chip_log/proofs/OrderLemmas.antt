@@ -1,0 +1,301 @@
+-- Serves Order.antt.
+-- Where an order ends.
+use Rattle.std.proofs.Common.{◌≡◌, ℕ, ◌+◌, ◌≤◌, ◌<◌, ◌^◌, Bool, true, false, cond, List, [], ◌∷◌, ◌++◌, length}
+use Rattle.std.proofs.Common.{refl, sym, ap, ◌∙◌, subst, arith, append_assoc, append-nil, length-append, length-drop, take, drop, get_or, suc, ◌≢◌}
+use Rattle.std.specs.Prelude.{None, Some}
+use Rattle.std.proofs.lemmas.Bool.{ltb-true, ltb-false, lt-ltb, le-ltb}
+use Rattle.std.proofs.lemmas.List.{append_cancel_left, take_more}
+use Rattle.std.proofs.lemmas.List.Elements.{All-get_or}
+use Rattle.std.proofs.Math.Seq.{drop-cons}
+use mathlib.Core.Logic.{dite}
+use native.Mathlib.Decide.{ℕ_discrete, dec_lt}
+use Rattle.chip_log.specs.declared.row.LogRow.{LogRow}
+use Rattle.chip_log.specs.declared.row.Stream.{Stream}
+use Rattle.chip_log.specs.declared.row.Step.{Step}
+use Rattle.chip_log.specs.declared.row.Step.TheVariants.{Out, In, Passive, Active, Over}
+use Rattle.chip_log.specs.declared.past.Sizes.{Sizes}
+use Rattle.chip_log.specs.declared.order.Order.{Order}
+use Rattle.chip_log.specs.Log.{steps_of, is_in, sends, gets, outs, ins, active_after, begins_active, is_met, AreMet}
+use Rattle.chip_log.specs.Log.{IsInterleaving, HasEnds}
+use Rattle.chip_log.specs.Tally.{count}
+use Rattle.chip_log.specs.Queues.{queue_of, total}
+use Rattle.chip_log.specs.Past.{FitsRow}
+use Rattle.chip_log.specs.Order.{IsWellFormed, IsProgress, IsGreatest, IsStuck}
+use Rattle.chip_log.specs.Ordering.{is_there, IsReady, Reads, IsNext, IsKept, GoesOn, IsSettled, IsFirstLeft}
+use Rattle.chip_log.proofs.PrefixLemmas.{longer_beginning, same_beginning}
+use Rattle.chip_log.proofs.CountLemmas.{sends-append, gets-append, steps_of-append, steps_own, steps_push, steps_push_other}
+use Rattle.chip_log.proofs.CountLemmas.{outs_is, ins_is}
+use Rattle.chip_log.proofs.MetLemmas.{same_self, count_yes}
+use Rattle.chip_log.proofs.PastLemmas.{are_met_first, are_met_second}
+use Rattle.chip_log.proofs.QueuesLemmas.{total_le}
+use Rattle.chip_log.proofs.OrderingLemmas.{read_ready, read_keeps, read_more}
+
+module _ (sizes : Sizes) (log : List LogRow) (o : Order) (ready : IsReady sizes o) (kept : IsKept log [] o) where
+  own : (p : ℕ) → steps_of p o.done.items ++ queue_of o.queues p ≡ steps_of p log
+  own p = ap (λ (zs : List Step). steps_of p o.done.items ++ zs) (sym (append-nil (queue_of o.queues p))) ∙ kept.own p
+
+  all_done : (p : ℕ) → queue_of o.queues p ≡ [] → steps_of p o.done.items ≡ steps_of p log
+  all_done p none = sym (append-nil (steps_of p o.done.items))
+      ∙ ap (λ (zs : List Step). steps_of p o.done.items ++ zs) (sym none) ∙ own p
+
+  pub whole_order : IsFirstLeft o None → IsInterleaving log o.done.items
+  whole_order none = record { whole = λ p. all_done p (none p); met = kept.met }
+
+  module _ (settled : IsSettled o) where
+    not_met : (p : ℕ) (step : Step) → is_there o.flight step ≡ false → is_met log o.done.items p step ≡ false
+    not_met p (Out s) off = absurd (cc off)
+    not_met p (In s) off =
+        let a = ltb-false 0 (count o.flight s) off in
+        let b = ready.flight s in
+        le-ltb (ins s o.done.items) (outs s o.done.items) (omega arith)
+    not_met p Passive off = absurd (cc off)
+    not_met p Active off = absurd (cc off)
+    not_met p Over off = absurd (cc off)
+
+    pub stuck_order : (p : ℕ) → IsFirstLeft o (Some p)
+        → IsStuck log p (length (steps_of p o.done.items))
+    stuck_order p left = record {
+      used = o.done.items;
+      greatest = record {
+        progress = record { left = queue_of o.queues; own = own; met = kept.met };
+        stuck = λ q step later next. not_met q step (settled q step (later, next));
+      };
+      place = refl;
+      some =
+          let a = ap length (own p) in
+          let b = length-append (steps_of p o.done.items) (queue_of o.queues p) in
+          let c = left.0 in
+          omega arith;
+      least = λ q less. all_done q (left.1 q less);
+    }
+
+-- ---- one more row
+
+-- so far so many rows were read
+pub record IsSoFar (sizes : Sizes) (log : List LogRow) (n : ℕ) (o : Order) : Type 0 where
+  pub ready : IsReady sizes o
+  pub few : length o.done.items + total o.queues ≤ n
+  pub kept : IsKept log (drop n log) o
+
+pub row_fits : (sizes : Sizes) (log : List LogRow) → IsWellFormed sizes log → (n : ℕ) (d : LogRow) → n < length log
+    → FitsRow sizes (get_or log n d)
+row_fits sizes log well n d l = All-get_or (FitsRow sizes) log n d l well.fits
+
+module _ (sizes : Sizes) (log : List LogRow) (well : IsWellFormed sizes log) (short : length log < 2 ^ 32) (n : ℕ) (d : LogRow)
+    (l : n < length log) (old new : Order) (was : IsSoFar sizes log n old) (reads : Reads (get_or log n d) old new) where
+  room : length old.done.items + total old.queues + 1 < 2 ^ 32
+  room = let a = was.few in omega arith
+
+  pub now_ready : IsReady sizes new
+  now_ready = read_ready sizes (get_or log n d) old new was.ready reads (row_fits sizes log well n d l) room
+
+  pub read_on : (later : Order) → GoesOn sizes new later → IsSoFar sizes log (n + 1) later
+  read_on later on = record {
+    ready = on.ready;
+    few =
+        let a = on.same in
+        let b = read_more sizes (get_or log n d) old new was.ready reads (row_fits sizes log well n d l) room in
+        let c = was.few in
+        omega arith;
+    kept = on.keeps log (drop (n + 1) log) well.sent
+        (read_keeps sizes (get_or log n d) old new was.ready reads (row_fits sizes log well n d l) room log
+        (drop (n + 1) log)
+        (subst (λ (zs : List LogRow). IsKept log zs old) (drop-cons log n d l ∙ ap (λ (m : ℕ). get_or log n d ∷ drop m log)
+        (let e : suc n ≡ n + 1 = omega arith in e)) was.kept));
+  }
+
+empty : {X : Type 0} (xs : List X) → length xs ≤ 0 → xs ≡ []
+empty [] none = refl
+empty (x ∷ xs) none = absurd (omega arith)
+
+pub none_read : (sizes : Sizes) (log : List LogRow) (o : Order) → IsReady sizes o → o.done.items ≡ [] → total o.queues ≡ 0
+    → IsSoFar sizes log 0 o
+none_read sizes log o ready none zero_left = record {
+  ready = ready;
+  few = let a = ap length none in omega arith;
+  kept = record {
+    own = λ p. ap (λ (zs : List LogRow). steps_of p zs ++ (queue_of o.queues p ++ steps_of p log)) none
+        ∙ ap (λ (zs : List Step). zs ++ steps_of p log)
+        (empty (queue_of o.queues p) (let a = total_le o.queues p in omega arith));
+    met = subst (AreMet log []) (sym none) tt;
+  };
+}
+
+pub all_read : (sizes : Sizes) (log : List LogRow) → IsWellFormed sizes log → (n : ℕ) → length log ≤ n
+    → (o later : Order) → IsSoFar sizes log n o → GoesOn sizes o later → IsKept log [] later
+all_read sizes log well n past o later was on = subst (λ (zs : List LogRow). IsKept log zs later)
+    (empty (drop n log) (let a = length-drop n log in omega arith)) (on.keeps log (drop n log) well.sent was.kept)
+
+-- ---- how many rows a process has
+
+pub count_own : (p : ℕ) (log : List LogRow) (n : ℕ) (d : LogRow) → n < length log → (get_or log n d).process ≡ p
+    → length (steps_of p (take (n + 1) log)) ≡ length (steps_of p (take n log)) + 1
+count_own p log n d l e =
+    let a = ap (λ (zs : List LogRow). length (steps_of p zs)) (take_more log n d l) in
+    let b = ap length (steps_push p (take n log) (get_or log n d) e) in
+    let c = length-append (steps_of p (take n log)) ((get_or log n d).step ∷ []) in
+    omega arith
+
+pub count_other : (p : ℕ) (log : List LogRow) (n : ℕ) (d : LogRow) → n < length log → (get_or log n d).process ≢ p
+    → length (steps_of p (take (n + 1) log)) ≡ length (steps_of p (take n log))
+count_other p log n d l ne =
+    let a = ap (λ (zs : List LogRow). length (steps_of p zs)) (take_more log n d l) in
+    let b = ap length (steps_push_other p (take n log) (get_or log n d) ne) in
+    omega arith
+
+-- ---- greatest progress is greatest
+
+module _ (log : List LogRow) (ends : HasEnds log) (used : List LogRow) (is : IsProgress log used) where
+  pub used_outs : (s : Stream) → outs s used ≡ sends s (steps_of (ends.sender s) used)
+  used_outs s = outs_is s (ends.sender s) used (λ q ne.
+      let a = ap (sends s) (is.own q) in
+      let b = sends-append s (steps_of q used) (is.left q) in
+      let c = ends.sends s q ne in
+      omega arith)
+
+  pub used_ins : (s : Stream) → ins s used ≡ gets s (steps_of (ends.receiver s) used)
+  used_ins s = ins_is s (ends.receiver s) used (λ q ne.
+      let a = ap (gets s) (is.own q) in
+      let b = gets-append s (steps_of q used) (is.left q) in
+      let c = ends.gets s q ne in
+      omega arith)
+
+module _ (log : List LogRow) (ends : HasEnds log) (used : List LogRow) (most : IsGreatest log used) where
+  -- another progress, up to a row that is met, with no more rows of any process before it
+  module _ (pre later : List LogRow) (x : LogRow) (other : IsProgress log ((pre ++ x ∷ []) ++ later))
+      (before : IsProgress log pre) (met : is_met log pre x.process x.step ≡ true)
+      (fewer : (p : ℕ) → length (steps_of p pre) ≤ length (steps_of p used)) where
+    abbrev q : ℕ
+    q = x.process
+
+    abbrev behind : List Step
+    behind = steps_of q later ++ other.left q
+
+    goes_on : steps_of q pre ++ (x.step ∷ behind) ≡ steps_of q log
+    goes_on = sym (append_assoc (steps_of q pre) (x.step ∷ []) (steps_of q later ++ other.left q))
+        ∙ ap (λ (zs : List Step). zs ++ (steps_of q later ++ other.left q)) (sym (steps_push q pre x refl))
+        ∙ sym (append_assoc (steps_of q (pre ++ x ∷ [])) (steps_of q later) (other.left q))
+        ∙ ap (λ (zs : List Step). zs ++ other.left q) (sym (steps_of-append q (pre ++ x ∷ []) later)) ∙ other.own q
+
+    module _ (all : length (steps_of q used) ≤ length (steps_of q pre)) where
+      same : steps_of q pre ≡ steps_of q used
+      same = same_beginning (steps_of q pre) (x.step ∷ behind) (steps_of q used) (most.progress.left q) (steps_of q log)
+          goes_on (most.progress.own q) (let a = fewer q in omega arith)
+
+      next : most.progress.left q ≡ x.step ∷ behind
+      next = append_cancel_left (steps_of q used) (most.progress.left q) (x.step ∷ behind)
+          (most.progress.own q ∙ sym goes_on ∙ ap (λ (zs : List Step). zs ++ (x.step ∷ behind)) same)
+
+      receiver_is : (s : Stream) → x.step ≡ In s → q ≡ ends.receiver s
+      receiver_is s e = dite (ℕ_discrete q (ends.receiver s)) (λ same. same)
+          (λ ne.
+          let a = ap (gets s) (sym goes_on) in
+          let b = gets-append s (steps_of q pre) (x.step ∷ behind) in
+          let c = count_yes (is_in s x.step) (ap (is_in s) e ∙ same_self s) in
+          let d = ends.gets s q ne in
+          absurd (omega arith))
+
+      still_met : (step : Step) → x.step ≡ step → is_met log pre q step ≡ true → is_met log used q step ≡ true
+      still_met (Out s) e was =
+          ap (λ (steps : List Step). cond s.is_control true (active_after (begins_active (steps_of q log)) steps)) (sym same) ∙ was
+      still_met (In s) e was =
+          let a = ltb-true (ins s pre) (outs s pre) was in
+          let b = used_ins log ends pre before s in
+          let c = used_ins log ends used most.progress s in
+          let d = ap (λ (r : ℕ). gets s (steps_of r pre)) (sym (receiver_is s e)) in
+          let f = ap (λ (r : ℕ). gets s (steps_of r used)) (sym (receiver_is s e)) in
+          let g = ap (gets s) same in
+          let h = used_outs log ends pre before s in
+          let i = used_outs log ends used most.progress s in
+          let more = longer_beginning (steps_of (ends.sender s) pre) (before.left (ends.sender s))
+          (steps_of (ends.sender s) used) (most.progress.left (ends.sender s)) (steps_of (ends.sender s) log)
+          (before.own (ends.sender s)) (most.progress.own (ends.sender s)) (fewer (ends.sender s)) in
+          let j = ap (sends s) more.1 in
+          let k = sends-append s (steps_of (ends.sender s) pre) more.0 in
+          lt-ltb (ins s used) (outs s used) (omega arith)
+      still_met Passive e was = refl
+      still_met Active e was = refl
+      still_met Over e was = refl
+
+      pub not_more : ⊥
+      not_more =
+          let a = most.stuck q x.step behind next in
+          let b = still_met x.step refl met in
+          cc
+
+    one_more : (p : ℕ) → length (steps_of p (pre ++ x ∷ [])) ≤ length (steps_of p used)
+    one_more p = dite (ℕ_discrete q p)
+        (λ e. subst (λ (r : ℕ). length (steps_of r (pre ++ x ∷ [])) ≤ length (steps_of r used)) e
+        (dite (dec_lt (length (steps_of q pre)) (length (steps_of q used)))
+        (λ less.
+        let a = ap length (steps_push q pre x refl) in
+        let b = length-append (steps_of q pre) (x.step ∷ []) in
+        omega arith)
+        (λ no. absurd (not_more (omega arith)))))
+        (λ ne. let a = ap length (steps_push_other p pre x ne) in let b = fewer p in omega arith)
+
+  fewer_through : (pre later : List LogRow) → IsProgress log (pre ++ later)
+      → ((p : ℕ) → length (steps_of p pre) ≤ length (steps_of p used))
+      → (p : ℕ) → length (steps_of p (pre ++ later)) ≤ length (steps_of p used)
+  fewer_through pre [] other fewer p = let a = ap (λ (zs : List LogRow). length (steps_of p zs)) (append-nil pre) in
+      let b = fewer p in omega arith
+  fewer_through pre (x ∷ later) other fewer p =
+      let on : IsProgress log ((pre ++ x ∷ []) ++ later) = subst (IsProgress log) (sym (append_assoc pre (x ∷ []) later)) other in
+      let before : IsProgress log pre = record {
+        left = λ q. steps_of q (x ∷ later) ++ other.left q;
+        own = λ q. sym (append_assoc (steps_of q pre) (steps_of q (x ∷ later)) (other.left q))
+            ∙ ap (λ (zs : List Step). zs ++ other.left q) (sym (steps_of-append q pre (x ∷ later))) ∙ other.own q;
+        met = are_met_first log [] pre (x ∷ later) other.met;
+      } in
+      let met = (are_met_second log [] pre (x ∷ later) other.met).0 in
+      let a = fewer_through (pre ++ x ∷ []) later on (one_more pre later x on before met fewer) p in
+      let b = ap (λ (zs : List LogRow). length (steps_of p zs)) (append_assoc pre (x ∷ []) later) in
+      omega arith
+
+  pub most_progress : (other : List LogRow) → IsProgress log other
+      → (p : ℕ) → length (steps_of p other) ≤ length (steps_of p used)
+  most_progress other is = fewer_through [] other is (λ p. omega arith)
+
+module _ (log : List LogRow) (ends : HasEnds log) where
+  pub no_order : (p i : ℕ) (xs : List LogRow) → IsStuck log p i → IsInterleaving log xs → ⊥
+  no_order p i xs stuck is =
+      let whole : IsProgress log xs = record {
+        left = λ q. [];
+        own = λ q. append-nil (steps_of q xs) ∙ is.whole q;
+        met = is.met;
+      } in
+      let a = most_progress log ends stuck.used stuck.greatest xs whole p in
+      let b = stuck.place in
+      let c = stuck.some in
+      let d = ap length (is.whole p) in
+      omega arith
+
+  same_length : (p i q j : ℕ) → (one : IsStuck log p i) → (two : IsStuck log q j)
+      → (r : ℕ) → length (steps_of r one.used) ≡ length (steps_of r two.used)
+  same_length p i q j one two r =
+      let a = most_progress log ends one.used one.greatest two.used two.greatest.progress r in
+      let b = most_progress log ends two.used two.greatest one.used one.greatest.progress r in
+      omega arith
+
+  not_less : (p i q j : ℕ) → IsStuck log p i → IsStuck log q j → p < q → ⊥
+  not_less p i q j one two less =
+      let a = same_length p i q j one two p in
+      let b = ap length (two.least p less) in
+      let c = one.place in
+      let d = one.some in
+      omega arith
+
+  pub one_stuck : (p i q j : ℕ) → IsStuck log p i → IsStuck log q j → (p ≡ q) × (i ≡ j)
+  one_stuck p i q j one two = (same, place)
+    where
+      same : p ≡ q
+      same = dite (dec_lt p q) (λ less. absurd (not_less p i q j one two less))
+          (λ no. dite (dec_lt q p) (λ less. absurd (not_less q j p i two one less)) (λ other. omega arith))
+
+      place : i ≡ j
+      place =
+          let a = same_length p i q j one two p in
+          let b = ap (λ (r : ℕ). length (steps_of r two.used)) same in
+          let c = one.place in
+          let d = two.place in
+          omega arith

@@ -1,0 +1,38 @@
+-- Serves Queues.antt.
+-- One queue changes.
+use Rattle.std.proofs.Common.{◌≡◌, ℕ, zero, suc, ◌+◌, ◌<◌, ◌≤◌, List, [], ◌∷◌, length, map, set, get_or, replicate}
+use Rattle.std.proofs.Common.{refl, sym, ap, ◌∙◌, arith}
+use Rattle.std.proofs.lemmas.List.{map-set, get_or-map, length-map, get_or-replicate, get_or_past, length-replicate}
+use mathlib.Core.Logic.{dite}
+use native.Mathlib.Decide.{dec_lt}
+
+use Rattle.chip_log.specs.declared.row.Step.{Step}
+use Rattle.chip_log.specs.Queues.{queue_of, total}
+
+module _ {X : Type 0} (f : X → List Step) (xs : List X) (queues : List (List Step)) (is : map f xs ≡ queues) (p : ℕ)
+    (l : p < length queues) (q : X) (here : q ≡ get_or xs p q) where
+  pub own : f q ≡ queue_of queues p
+  own = ap f here ∙ sym (get_or-map f xs p q [] (let a = ap length is in let b = length-map xs f in omega arith))
+      ∙ ap (λ (zs : List (List Step)). queue_of zs p) is
+
+  pub changed : (new : X) (steps : List Step) → f new ≡ steps → map f (set xs p new) ≡ set queues p steps
+  changed new steps e = map-set f xs p new ∙ (λ j. set (is j) p (e j))
+
+pub total-set : (queues : List (List Step)) (p : ℕ) (steps : List Step) → p < length queues
+    → total (set queues p steps) + length (queue_of queues p) ≡ total queues + length steps
+total-set [] p steps l = absurd (omega arith)
+total-set (mine ∷ queues) zero steps l = omega arith
+total-set (mine ∷ queues) (suc p) steps l = let a = total-set queues p steps (omega arith) in omega arith
+
+pub total_le : (queues : List (List Step)) (p : ℕ) → length (queue_of queues p) ≤ total queues
+total_le [] p = let a = ap (λ (steps : List Step). length steps) (get_or_past [] p [] (omega arith)) in omega arith
+total_le (mine ∷ queues) zero = omega arith
+total_le (mine ∷ queues) (suc p) = let a = total_le queues p in omega arith
+
+pub none_queued : (n p : ℕ) → queue_of (replicate n []) p ≡ []
+none_queued n p = dite (dec_lt p n) (λ l. get_or-replicate n p [] [] l)
+    (λ no. let many = length-replicate {A = List Step} n [] in get_or_past (replicate n []) p [] (omega arith))
+
+pub none_in_total : (n : ℕ) → total (replicate n []) ≡ 0
+none_in_total zero = refl
+none_in_total (suc n) = let a = none_in_total n in omega arith

@@ -1,0 +1,36 @@
+use Rattle.std.proofs.Common.{below_more, arith, sym, ap, ◌∙◌, [], false}
+use Rattle.std.proofs.lemmas.List.{get_or_past}
+use mathlib.Core.Logic.{dite}
+use native.Mathlib.Decide.{dec_lt}
+use Rattle.chip_log.specs.Queues.{queue_of}
+use Rattle.chip_log.specs.Ordering.{is_there}
+use Rattle.chip_log.proofs.OrderingLemmas.{head_some, head_none, next_in_flight, one_next, no_next}
+use Rattle.chip_log.proofs.order.Order.first_ready.Goals as goal
+use Rattle.chip_log.proofs.order.Order.first_ready.Goals.{in-Some+else-may, in_default}
+
+pub may-requires : goal.may-requires
+may-requires c = next_in_flight c.args.sizes c.args.self.now c.requires c.loop-process.process c.in-Some.step
+    (head_some (queue_of c.args.self.now.queues c.loop-process.process) c.in-Some.step (sym c.in-Some.is ∙ c.first.ensures))
+
+pub returns-then-may : goal.returns-then-may
+returns-then-may c = (
+  c.loop-process-test.true,
+  head_some (queue_of c.args.self.now.queues c.loop-process.process) c.in-Some.step (sym c.in-Some.is ∙ c.first.ensures),
+  sym c.may.ensures ∙ c.if-may.true,
+)
+
+pub loop-process-preserved : goal.loop-process-preserved
+loop-process-preserved c = below_more _ _ c.loop-process.invariant
+    (elim c.match-first.branch [
+      | in-Some+else-may w ↦ λ step next.
+          ap (is_there c.args.self.now.flight) (one_next c.args.self.now c.loop-process.process w.in-Some.step step
+          (sym w.in-Some.is ∙ c.first.ensures) next) ∙ sym w.may.ensures ∙ w.if-may.false
+      | in_default w ↦ λ step next. absurd (no_next c.args.self.now c.loop-process.process step
+          (head_none (queue_of c.args.self.now.queues c.loop-process.process) (sym w.in_default.is ∙ c.first.ensures)) next)
+    ])
+
+pub returns : goal.returns
+returns c = λ p step next. dite (dec_lt p c.args.sizes.processes)
+    (λ l. let a = c.loop-process-test.false in c.loop-process.invariant p (omega arith) step next)
+    (λ no. let a = c.requires.processes in absurd (no_next c.args.self.now p step
+    (get_or_past c.args.self.now.queues p [] (omega arith)) next))

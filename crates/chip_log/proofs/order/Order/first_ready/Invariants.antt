@@ -1,0 +1,8 @@
+use Rattle.std.proofs.Common.{◌≡◌, ◌<◌, ℕ, false}
+use Rattle.chip_log.specs.declared.row.Step.{Step}
+use Rattle.chip_log.specs.Ordering.{IsNext, is_there}
+use Rattle.chip_log.proofs.order.Order.first_ready.Given as goal
+
+abbrev pub invariant-loop-process : goal.invariant-loop-process
+invariant-loop-process l = (q : ℕ) → q < l.process → (step : Step) → IsNext l.self q step
+    → is_there l.self.flight step ≡ false

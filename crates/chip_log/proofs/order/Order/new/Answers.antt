@@ -1,0 +1,28 @@
+use Rattle.std.proofs.Common.{ℕ, List, [], length, ap, ◌∙◌, sym, arith, replicate, subst}
+use Rattle.std.proofs.lemmas.List.{length-replicate}
+use Rattle.std.proofs.lemmas.List.Elements.{All-same, All-nil}
+use Rattle.chip_log.specs.declared.row.Step.{Step}
+use Rattle.chip_log.specs.Log.{outs, ins}
+use Rattle.chip_log.specs.Books.{IsOf}
+use Rattle.chip_log.specs.Queues.{queue_of, total}
+use Rattle.chip_log.proofs.QueuesLemmas.{none_queued, none_in_total}
+use Rattle.chip_log.proofs.order.Order.new.Goals as goal
+
+pub returns-clause-ready : goal.returns-clause-ready
+returns-clause-ready c = record {
+  processes = ap length c.in_ok-new-2.ensures ∙ length-replicate c.args.sizes.processes [];
+  agenda = c.in_ok-new-3.ensures.processes;
+  channels = c.in_ok-new-3.ensures.channels;
+  streams = c.in_ok-new.ensures.channels;
+  fits = λ p. All-same (IsOf c.args.sizes.channels) _ _ (ap (λ (qs : List (List Step)). queue_of qs p) c.in_ok-new-2.ensures
+      ∙ none_queued c.args.sizes.processes p) (All-nil (IsOf c.args.sizes.channels));
+  flight = λ s.
+      let a = c.in_ok-new.ensures.none s in
+      let b = ap (outs s) c.new.ensures.items in
+      let d = ap (ins s) c.new.ensures.items in
+      omega arith;
+  few = let a = ap total c.in_ok-new-2.ensures in let b = none_in_total c.args.sizes.processes in omega arith;
+}
+
+pub returns-clause-total : goal.returns-clause-total
+returns-clause-total c = ap total c.in_ok-new-2.ensures ∙ none_in_total c.args.sizes.processes

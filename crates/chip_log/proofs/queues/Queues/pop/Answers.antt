@@ -1,0 +1,14 @@
+use Rattle.std.proofs.Common.{List, ap, ◌∙◌, drop}
+use Rattle.chip_log.specs.declared.row.Step.{Step}
+use Rattle.chip_log.specs.Queues.{queue_of}
+use Rattle.chip_log.proofs.QueuesLemmas.{own, changed}
+use Rattle.chip_log.proofs.queues.Queues.pop.Goals as goal
+
+pub returns : goal.returns
+returns c =
+    let here = own (λ q. q.items) c.self.inside.steps.items c.args.self.now c.self.view_is c.args.process c.requires
+    c.index_mut-queue.result.now c.index_mut-queue.ensures.value in
+    changed (λ q. q.items) c.self.inside.steps.items c.args.self.now c.self.view_is c.args.process c.requires
+    c.index_mut-queue.result.now c.index_mut-queue.ensures.value c.pop_front.new.self
+    (drop 1 (queue_of c.args.self.now c.args.process))
+    (c.pop_front.ensures.rest ∙ ap (λ (steps : List Step). drop 1 steps) here)

@@ -1,0 +1,30 @@
+-- Which processes are to be looked at.
+use Rattle.std.specs.Prelude.{◌≡◌, ℕ, ◌<◌, length, All, Option, Some, None}
+use Rattle.chip_log.specs.declared.agenda.Agenda.TheInside.{Inside}
+
+-- what an `Agenda` shows: of how many processes and channels it is, and how many processes are to be looked at
+pub record AgendaState : Type 0 where
+  pub processes : ℕ
+  pub channels : ℕ
+  pub due : ℕ
+
+-- the fields, counted
+abbrev pub state_of : Inside → AgendaState
+state_of a = record { processes = a.processes; channels = length a.basic.items; due = length a.due.items }
+
+-- who waits is one of so many
+abbrev pub IsBelow : ℕ → Option ℕ → Type 0
+IsBelow n None = Unit {0}
+IsBelow n (Some p) = p < n
+
+-- all that it names are processes
+pub record NamesProcesses (a : Inside) : Type 0 where
+  pub each : length a.control.items ≡ length a.basic.items
+  pub due : All (λ p. p < a.processes) a.due.items
+  pub basic : All (IsBelow a.processes) a.basic.items
+  pub control : All (IsBelow a.processes) a.control.items
+
+-- it is of as many as before
+pub record IsSame (old new : AgendaState) : Type 0 where
+  pub processes : new.processes ≡ old.processes
+  pub channels : new.channels ≡ old.channels

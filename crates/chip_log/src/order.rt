@@ -1,0 +1,198 @@
+//! The rows of a log in an order in which each is met.
+
+ghost use Rattle.std.specs.Prelude.{◌≡◌, ◌+◌, ◌^◌, ◌<◌, true, [], length, ℕ, IfOk, MatchOption, MatchResult};
+ghost use Rattle.chip_log.specs.Log.{IsInterleaving, steps_of};
+ghost use Rattle.chip_log.specs.Books.{IsOf};
+ghost use Rattle.chip_log.specs.Queues.{total};
+ghost use Rattle.chip_log.specs.Order.{IsWellFormed, IsOrderFault};
+ghost use Rattle.chip_log.specs.Ordering.{is_there, IsReady, Reads, IsNext, Makes, IsKept, GoesOn, IsSettled, IsFirstLeft};
+
+use crate::agenda::Agenda;
+use crate::fault::OrderFault;
+use crate::past::Sizes;
+use crate::queues::Queues;
+use crate::row::{LogRow, Step};
+use crate::tally::Tally;
+use std::alloc::{AllocError, Global};
+
+/// Rows that were done in an order in which each is met, and those that wait.
+#[derive(Drop)]
+pub(crate) struct Order {
+    pub(crate) done: Vec<LogRow>,
+    /// How many messages of each stream are on their way behind them.
+    pub(crate) flight: Tally,
+    pub(crate) queues: Queues,
+    pub(crate) agenda: Agenda,
+}
+
+impl Order {
+    /// No row was read.
+    fn new(alloc: Global, sizes: Sizes) -> Result<Order, AllocError>
+        ensures ready { IfOk result (IsReady sizes) }
+        ensures none { IfOk result (λ order. order.done.items ≡ []) }
+        ensures total { IfOk result (λ order. total order.queues ≡ 0) }
+    {
+        Ok(Order {
+            done: Vec::new(alloc),
+            flight: Tally::new(alloc, sizes.channels)?,
+            queues: Queues::new(alloc, sizes.processes)?,
+            agenda: Agenda::new(alloc, sizes)?,
+        })
+    }
+
+    /// Reads one more row.
+    fn read(&mut self, row: LogRow) -> Result<(), AllocError>
+        requires queue { row.process < length self.old.queues }
+        requires process { row.process < self.old.agenda.processes }
+        ensures { IfOk result (λ _. Reads row self.old self.new) }
+    {
+        self.queues.push(row.process, row.step)?;
+        self.agenda.add(row.process)
+    }
+
+    /// Whether the message that a step gets is there.
+    fn may(&self, step: Step) -> bool
+        requires { IsOf self.now.flight.channels step }
+        ensures { result ≡ is_there self.now.flight step }
+    {
+        match step {
+            Step::In(stream) => self.flight.count(stream) > 0,
+            Step::Out(_) | Step::Passive | Step::Active | Step::Over => true,
+        }
+    }
+
+    /// Makes the next step of a process.
+    fn make(&mut self, sizes: Sizes, process: u32, step: Step) -> Result<(), AllocError>
+        requires ready { IsReady sizes self.old }
+        requires process { process < sizes.processes }
+        requires next { IsNext self.old process step }
+        requires there { is_there self.old.flight step ≡ true }
+        ensures { IfOk result (λ _. Makes process step self.old self.new) }
+    {
+        self.queues.pop(process);
+        self.done.push(LogRow { process, step })?;
+        self.agenda.add(process)?;
+        match step {
+            Step::Out(stream) => {
+                self.flight.add(stream);
+                self.agenda.wake(stream)?;
+            }
+            Step::In(stream) => self.flight.remove(stream),
+            Step::Passive | Step::Active | Step::Over => {}
+        }
+        Ok(())
+    }
+
+    /// Looks at a process: it makes its next step, or waits.
+    fn turn(&mut self, sizes: Sizes, process: u32) -> Result<(), AllocError>
+        requires ready { IsReady sizes self.old }
+        requires process { process < sizes.processes }
+        ensures { IfOk result (λ _. GoesOn sizes self.old self.new) }
+    {
+        if let Some(step) = self.queues.first(process) {
+            if self.may(step) {
+                self.make(sizes, process, step)?;
+            } else if let Step::In(stream) = step {
+                self.agenda.wait_for(stream, process);
+            }
+        }
+        Ok(())
+    }
+
+    /// Looks at all processes on the agenda, and at those that come onto it.
+    fn run(&mut self, sizes: Sizes) -> Result<(), AllocError>
+        requires { IsReady sizes self.old }
+        ensures { IfOk result (λ _. GoesOn sizes self.old self.new) }
+    {
+        while let Some(process) = self.agenda.next() {
+            self.turn(sizes, process)?;
+        }
+        Ok(())
+    }
+
+    /// The least process that can make its next step, and the step.
+    fn first_ready(&self, sizes: Sizes) -> Option<(u32, Step)>
+        requires { IsReady sizes self.now }
+        ensures { MatchOption result (IsSettled self.now) (λ found. (found.0 < sizes.processes)
+            × IsNext self.now found.0 found.1 × (is_there self.now.flight found.1 ≡ true)) }
+    {
+        for process in 0..sizes.processes {
+            if let Some(step) = self.queues.first(process) {
+                if self.may(step) {
+                    return Some((process, step));
+                }
+            }
+        }
+        None
+    }
+
+    /// Makes steps until no process can make its next one.
+    ///
+    /// The agenda only saves looks: that no step is left that could be made is seen by a last look at every process.
+    fn settle(&mut self, sizes: Sizes) -> Result<(), AllocError>
+        requires { IsReady sizes self.old }
+        ensures goes_on { IfOk result (λ _. GoesOn sizes self.old self.new) }
+        ensures settled { IfOk result (λ _. IsSettled self.new) }
+    {
+        loop {
+            self.run(sizes)?;
+            match self.first_ready(sizes) {
+                Some((process, step)) => self.make(sizes, process, step)?,
+                None => return Ok(()),
+            }
+        }
+    }
+
+    /// The least process with a step left.
+    fn first_left(&self, sizes: Sizes) -> Option<u32>
+        requires { IsReady sizes self.now }
+        ensures { IsFirstLeft self.now result }
+    {
+        for process in 0..sizes.processes {
+            if let Some(_) = self.queues.first(process) {
+                return Some(process);
+            }
+        }
+        None
+    }
+}
+
+/// How many rows a process has.
+fn rows_of(rows: &[LogRow], process: u32) -> u64
+    ensures { result ≡ length (steps_of process rows.now) }
+{
+    let mut count = 0;
+    let mut next = 0;
+    while next < rows.len() {
+        if rows[next].process == process {
+            count += 1;
+        }
+        next += 1;
+    }
+    count
+}
+
+/// All rows of a log in an order in which each is met, in time linear in the rows, the processes and the channels.
+///
+/// It fails exactly if there is no such order, or if memory runs out.
+pub fn ordered(alloc: Global, sizes: Sizes, rows: &[LogRow]) -> Result<Vec<LogRow>, OrderFault>
+    requires well_formed { IsWellFormed sizes rows.now }
+    requires few { length rows.now < 2 ^ 32 }
+    ensures { MatchResult result (λ ordered. IsInterleaving rows.now ordered.items) (IsOrderFault rows.now) }
+{
+    let mut order = Order::new(alloc, sizes)?;
+    let mut next = 0;
+    while next < rows.len() {
+        order.read(rows[next])?;
+        order.run(sizes)?;
+        next += 1;
+    }
+    order.settle(sizes)?;
+    match order.first_left(sizes) {
+        Some(process) => Err(OrderFault::Stuck {
+            process,
+            row: rows_of(&order.done, process),
+        }),
+        None => Ok(order.done),
+    }
+}

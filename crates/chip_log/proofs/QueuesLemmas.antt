@@ -5,7 +5,6 @@ use Rattle.std.proofs.Common.{refl, sym, ap, ◌∙◌, arith}
 use Rattle.std.proofs.lemmas.List.{map-set, get_or-map, length-map, get_or-replicate, get_or_past, length-replicate}
 use mathlib.Core.Logic.{dite}
 use native.Mathlib.Decide.{dec_lt}
-
 use Rattle.chip_log.specs.declared.row.Step.{Step}
 use Rattle.chip_log.specs.Queues.{queue_of, total}
 

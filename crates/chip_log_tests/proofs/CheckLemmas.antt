@@ -80,10 +80,11 @@ sent_from log before p (x ∷ xs) sent =
     let rest = sent_from log (before ++ x ∷ []) p xs both.1 in
     dite (ℕ_discrete x.process p)
     (λ same. subst (AreSent active) (sym (steps_own p x xs same)) (
-    subst (λ (q : ℕ). may_send (active_after (begins_active (steps_of q log)) (steps_of q before)) x.step ≡ true) same both.0,
-    subst (λ (b : Bool). AreSent b (steps_of p xs))
-    (ap (active_after begins) (steps_push p before x same) ∙ active_after-append begins (steps_of p before) (x.step ∷ []))
-    rest))
+      subst (λ (q : ℕ). may_send (active_after (begins_active (steps_of q log)) (steps_of q before)) x.step ≡ true) same both.0,
+      subst (λ (b : Bool). AreSent b (steps_of p xs))
+          (ap (active_after begins) (steps_push p before x same) ∙ active_after-append begins (steps_of p before) (x.step ∷ []))
+          rest,
+    ))
     (λ differs. subst (AreSent active) (sym (steps_other p x xs differs))
     (subst (λ (b : Bool). AreSent b (steps_of p xs)) (ap (active_after begins) (steps_push_other p before x differs)) rest))
 

@@ -65,11 +65,7 @@ pub(crate) const SIZES: Sizes = Sizes {
 };
 
 /// The verdict on the last claim of a log that is an interleaving, if there is a claim.
-fn last_verdict(
-    rt: &(impl AllocGlobal + Abort),
-    sizes: Sizes,
-    rows: &[LogRow],
-) -> Option<Verdict>
+fn last_verdict(rt: &(impl AllocGlobal + Abort), sizes: Sizes, rows: &[LogRow]) -> Option<Verdict>
     requires log { IsLog rows.now }
     requires fits { Fits sizes rows.now }
     requires few { length rows.now < 2 ^ 32 }

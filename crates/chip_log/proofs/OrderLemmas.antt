@@ -1,6 +1,6 @@
 -- Serves Order.antt.
 -- Where an order ends.
-use Rattle.std.proofs.Common.{◌≡◌, ℕ, ◌+◌, ◌≤◌, ◌<◌, ◌^◌, Bool, true, false, cond, List, [], ◌∷◌, ◌++◌, length}
+use Rattle.std.proofs.Common.{◌≡◌, ℕ, ◌+◌, ◌≤◌, ◌<◌, ◌^◌, true, false, cond, List, [], ◌∷◌, ◌++◌, length}
 use Rattle.std.proofs.Common.{refl, sym, ap, ◌∙◌, subst, arith, append_assoc, append-nil, length-append, length-drop, take, drop, get_or, suc, ◌≢◌}
 use Rattle.std.specs.Prelude.{None, Some}
 use Rattle.std.proofs.lemmas.Bool.{ltb-true, ltb-false, lt-ltb, le-ltb}
@@ -21,9 +21,9 @@ use Rattle.chip_log.specs.Tally.{count}
 use Rattle.chip_log.specs.Queues.{queue_of, total}
 use Rattle.chip_log.specs.Past.{FitsRow}
 use Rattle.chip_log.specs.Order.{IsWellFormed, IsProgress, IsGreatest, IsStuck}
-use Rattle.chip_log.specs.Ordering.{is_there, IsReady, Reads, IsNext, IsKept, GoesOn, IsSettled, IsFirstLeft}
+use Rattle.chip_log.specs.Ordering.{is_there, IsReady, Reads, IsKept, GoesOn, IsSettled, IsFirstLeft}
 use Rattle.chip_log.proofs.PrefixLemmas.{longer_beginning, same_beginning}
-use Rattle.chip_log.proofs.CountLemmas.{sends-append, gets-append, steps_of-append, steps_own, steps_push, steps_push_other}
+use Rattle.chip_log.proofs.CountLemmas.{sends-append, gets-append, steps_of-append, steps_push, steps_push_other}
 use Rattle.chip_log.proofs.CountLemmas.{outs_is, ins_is}
 use Rattle.chip_log.proofs.MetLemmas.{same_self, count_yes}
 use Rattle.chip_log.proofs.PastLemmas.{are_met_first, are_met_second}

@@ -1,27 +1,27 @@
 -- Serves Ordering.antt.
 -- Steps are made as long as they are met.
-use Rattle.std.proofs.Common.{◌≡◌, ◌≢◌, ℕ, suc, ◌+◌, ◌≤◌, ◌<◌, ◌^◌, Bool, true, false, cond, List, [], ◌∷◌, ◌++◌, length}
-use Rattle.std.proofs.Common.{refl, sym, ap, ◌∙◌, subst, arith, append_assoc, append-nil, length-append, length-set, drop}
-use Rattle.std.specs.Prelude.{All, slice_set, Some, None}
-use Rattle.std.proofs.lemmas.Bool.{ltb-true, ltb-false, lt-ltb}
-use Rattle.std.proofs.lemmas.List.{get_or-set_same, get_or-set_other, get_or_past}
+use Rattle.std.proofs.Common.{◌≡◌, ◌≢◌, ℕ, ◌+◌, ◌≤◌, ◌<◌, ◌^◌, Bool, true, List, [], ◌∷◌, ◌++◌, length}
+use Rattle.std.proofs.Common.{refl, sym, ap, ◌∙◌, subst, arith, append_assoc, length-append, length-set, drop}
+use Rattle.std.specs.Prelude.{All, Some, None}
+use Rattle.std.proofs.lemmas.Bool.{ltb-true, lt-ltb}
+use Rattle.std.proofs.lemmas.List.{get_or-set_same, get_or-set_other}
 use Rattle.std.proofs.lemmas.List.Elements.{All-same, All-rest, All-push, All-head}
 use mathlib.Core.Logic.{dite}
-use native.Mathlib.Decide.{ℕ_discrete, dec_lt}
+use native.Mathlib.Decide.{ℕ_discrete}
 use Rattle.chip_log.specs.declared.row.LogRow.{LogRow}
 use Rattle.chip_log.specs.declared.row.Stream.{Stream}
 use Rattle.chip_log.specs.declared.row.Step.{Step}
 use Rattle.chip_log.specs.declared.row.Step.TheVariants.{Out, In, Passive, Active, Over}
 use Rattle.chip_log.specs.declared.past.Sizes.{Sizes}
 use Rattle.chip_log.specs.declared.order.Order.{Order}
-use Rattle.chip_log.specs.Log.{steps_of, outs, ins, active_after, begins_active, is_met, AreMet, IsInterleaving}
+use Rattle.chip_log.specs.Log.{steps_of, outs, ins, active_after, begins_active, is_met, AreMet}
 use Rattle.chip_log.specs.Tally.{TallyState, count}
 use Rattle.chip_log.specs.Books.{IsOf}
 use Rattle.chip_log.specs.Past.{FitsRow, AreInFlight}
 use Rattle.chip_log.specs.Queues.{queue_of, head_of, total}
 use Rattle.chip_log.specs.Agenda.{AgendaState}
-use Rattle.chip_log.specs.Order.{may_send, AreSent, IsStuck}
-use Rattle.chip_log.specs.Ordering.{is_there, IsReady, Reads, IsNext, Makes, IsKept, work_left, GoesOn, IsSettled, IsFirstLeft}
+use Rattle.chip_log.specs.Order.{may_send, AreSent}
+use Rattle.chip_log.specs.Ordering.{is_there, IsReady, Reads, IsNext, Makes, IsKept, GoesOn}
 use Rattle.chip_log.proofs.CountLemmas.{active_after-append, steps_push, steps_push_other, steps_own, steps_other}
 use Rattle.chip_log.proofs.PastLemmas.{are_met_both}
 use Rattle.chip_log.proofs.BooksLemmas.{make_flight}

@@ -1,4 +1,4 @@
-use Rattle.std.proofs.Common.{below_more, arith, sym, ap, ◌∙◌, [], false}
+use Rattle.std.proofs.Common.{below_more, arith, sym, ap, ◌∙◌, []}
 use Rattle.std.proofs.lemmas.List.{get_or_past}
 use mathlib.Core.Logic.{dite}
 use native.Mathlib.Decide.{dec_lt}

@@ -1,4 +1,4 @@
-use Rattle.std.proofs.Common.{ℕ, List, [], length, ap, ◌∙◌, sym, arith, replicate, subst}
+use Rattle.std.proofs.Common.{List, [], length, ap, ◌∙◌, arith}
 use Rattle.std.proofs.lemmas.List.{length-replicate}
 use Rattle.std.proofs.lemmas.List.Elements.{All-same, All-nil}
 use Rattle.chip_log.specs.declared.row.Step.{Step}

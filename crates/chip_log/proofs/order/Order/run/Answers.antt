@@ -1,6 +1,4 @@
 use Rattle.std.proofs.Common.{arith}
-use Rattle.chip_log.specs.declared.order.Order.{Order}
-use Rattle.chip_log.specs.Ordering.{GoesOn, work_left}
 use Rattle.chip_log.proofs.OrderingLemmas.{looks, stays, GoesOn-trans}
 use Rattle.chip_log.proofs.order.Order.run.Goals as goal
 

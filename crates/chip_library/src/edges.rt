@@ -46,11 +46,11 @@ impl EdgeLists<'_> {
     {
         let mut edges = Vec::with_capacity(alloc, self.tails.len())?;
         for e in 0..self.tails.len() {
-            edges.push(Edge {
+            edges.push_reserved(Edge {
                 tail: self.tails[e],
                 head: self.heads[e],
                 mult: self.mults[e],
-            })?;
+            });
         }
         Ok(edges)
     }

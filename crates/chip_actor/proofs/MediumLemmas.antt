@@ -19,7 +19,7 @@ use Rattle.chip_part.specs.Cursor.{rest_of_turn, IsAt, GoesBy, most_left}
 use Rattle.chip_actor.specs.Turning.{DueAt, MayBeAt}
 use Rattle.chip_part.specs.Counting.{work_of, is_work}
 use Rattle.chip_actor.specs.Actor.{Actor, StandsFor, SomePart, WhateverPart}
-use Rattle.chip_actor.specs.Medium.{Holding, IsDueBy, MayServe, Serves, Meets, GoesOn, Moves, MakesTurn, AreOf}
+use Rattle.chip_actor.specs.Medium.{Holding, IsDueBy, MayServe, Serves, Meets, GoesOn, Moves, MakesTurnOver, AreOf}
 use Rattle.chip_part.proofs.CursorLemmas.{Passes, event_of_act, act_is_some}
 
 -- the latest first, of two lists one after another
@@ -223,7 +223,7 @@ few_left {a} x (g, s, stands) =
     omega arith
 
 -- a whole turn
-pub whole_turn : {H K : Holding} {a b : Actor} {n : ℕ} → Moves H a (At.Take 0) K b At.Over n → MakesTurn H a K b n
+pub whole_turn : {H K : Holding} {a b : Actor} {n : ℕ} → Moves H a (At.Take 0) K b At.Over n → MakesTurnOver H a K b n
 whole_turn {H} {K} {a} {b} {n} moves = λ g ds s held stands.
     let m = moves.goes g ds s held stands tt in
     let none = m.2.counted [] in

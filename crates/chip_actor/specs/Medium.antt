@@ -84,7 +84,7 @@ pub record IsTurnMade (now : Holding) (g : Setting) (v : ℕ) (ds : List Step) (
   pub is_turn : turn g v s more t
   pub counted : work_of g s more ≡ count
 
-abbrev pub MakesTurn : Holding → Actor → Holding → Actor → ℕ → Type 0
-MakesTurn old a new b count =
+abbrev pub MakesTurnOver : Holding → Actor → Holding → Actor → ℕ → Type 0
+MakesTurnOver old a new b count =
     (g : Setting) (ds : List Step) (s : Part) → old g a.vertex ds s → StandsFor g s a
     → (more : List Step) × (t : Part) × IsTurnMade new g a.vertex ds s b count more t

@@ -5,7 +5,7 @@ use Rattle.std.proofs.lemmas.List.{reverse-append, reverse-reverse}
 use Rattle.atomic_table.specs.Seated.{TableId}
 use Rattle.chip_part.specs.Setting.{Setting}
 use Rattle.chip_actor.specs.Actor.{Actor, StandsFor}
-use Rattle.chip_actor.specs.Medium.{Meets, MakesTurn, IsTurnMade}
+use Rattle.chip_actor.specs.Medium.{Meets, MakesTurnOver, IsTurnMade}
 use Rattle.chip_part.specs.Turn.{turn}
 use Rattle.chip_part.proofs.TurnLemmas.{turns_bounded}
 use Rattle.chip_part.specs.declared.cursor.Cursor.TheVariants as At
@@ -45,7 +45,7 @@ module _ {setup now : TurnSetup} {key : Setting} {table : TableId} {me : Mine} {
   may_turn = (g, reverse did, part, begins, actor.1, tt)
 
   module _ {now' : TurnSetup} {key' : Setting} {table' : TableId} {me' : Mine} {trace' : TraceState} {b : Actor}
-      {work : ℕ} (makes : MakesTurn (Holds setup now key table me trace) a
+      {work : ℕ} (makes : MakesTurnOver (Holds setup now key table me trace) a
       (Holds setup now' key' table' me' trace') b work) where
     abbrev more : List Step
     more = (makes g (reverse did) part begins actor.1).0

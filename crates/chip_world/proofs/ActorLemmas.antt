@@ -10,7 +10,7 @@ use Rattle.chip_part.specs.Setting.{Setting}
 use Rattle.chip_part.specs.declared.cursor.Cursor.TheVariants as At
 use Rattle.chip_root.specs.Root.{RootStandsFor}
 use Rattle.chip_actor.specs.Actor.{Actor, StandsFor, SomePart, WhateverPart}
-use Rattle.chip_actor.specs.Medium.{AreOf, Meets, MakesTurn, IsTurnMade}
+use Rattle.chip_actor.specs.Medium.{AreOf, Meets, MakesTurnOver, IsTurnMade}
 use Rattle.chip_actor.specs.Found.{MeetsEvent, MakesEvent, IsAnswered}
 use Rattle.chip_core.specs.Core.{Log, Step, Event, Reply, Rule, Part, part_of, part_in, unmet_rule, does, reply_of, sees}
 use Rattle.chip_core.specs.Core.{word_of_part, root, answer}
@@ -101,7 +101,7 @@ module _ (g : Setting) (log : Log) (w : WorldState) (stands : StandsForLog g log
                   (sym (parts_stay g v (root g) (λ z. (let l = inside in absurd (omega arith))) more mine log)) stands.root_stands;
             }
 
-        pub turn_leads : (count : ℕ) → MakesTurn (Holds shared) a (Holds new) b count
+        pub turn_leads : (count : ℕ) → MakesTurnOver (Holds shared) a (Holds new) b count
             → (longer : Log) × StandsForLog g longer after × IsTurnAfter g v log longer
         turn_leads count makes =
             let made = subst (λ (u : ℕ). (more : List Step) × (t : Part)

@@ -12,7 +12,7 @@ use chip_part::{Act, Cursor, Observed, is_by_limit};
 
 impl ActorState {
     ghost use Rattle.chip_actor.specs.Actor.{is_passive_now};
-    ghost use Rattle.chip_actor.specs.Medium.{Meets, Moves, MakesTurn};
+    ghost use Rattle.chip_actor.specs.Medium.{Meets, Moves, MakesTurnOver};
 
     /// Takes once from each edge into the vertex.
     #[inline(always)]
@@ -200,7 +200,7 @@ impl ActorState {
     #[inline(always)]
     pub fn turn<M: Medium>(&mut self, medium: &mut M) -> usize
         requires { Meets (M.holds medium.old) self.old (Cursor.Take 0) }
-        ensures { MakesTurn (M.holds medium.old) self.old (M.holds medium.new) self.new result }
+        ensures { MakesTurnOver (M.holds medium.old) self.old (M.holds medium.new) self.new result }
     {
         let taken = self.take_all(medium);
         let settled = self.settle_all(medium);

@@ -20,7 +20,7 @@ use Rattle.chip_core.specs.Outcomes.{IsOutcomeOf, ComesTo}
 use Rattle.chip_net.specs.Roots.{RootKnown, root_after, fed_by}
 
 -- the root, and the stopper where the root holds that part, did these steps in this log
-pub record AgreesWith (r : RootKnown) (log : Log) : Type 0 where
+pub record HasDoneIn (r : RootKnown) (log : Log) : Type 0 where
   pub root_did : r.did ≡ done_by r.net.setting (root r.net.setting) log
   pub stopper_did : (did : List Step) → r.stopper_did ≡ Some did
       → did ≡ done_by r.net.setting (stopper r.net.setting) log
@@ -28,7 +28,7 @@ pub record AgreesWith (r : RootKnown) (log : Log) : Type 0 where
 -- one read was made, after some legal log with what the root did
 abbrev pub ReadsAt : RootKnown → RootKnown → ℕ → ℕ → Type 0
 ReadsAt old new v seen = (new ≡ root_after old (saw (Read v) seen ∷ []))
-    × SomeLog old.net.setting (λ log. Fits old.net.setting log (saw (Read v) seen) × AgreesWith old log)
+    × SomeLog old.net.setting (λ log. Fits old.net.setting log (saw (Read v) seen) × HasDoneIn old log)
 
 -- reads of the vertices from v on, each with the word that it saw
 abbrev pub reads_from : ℕ → List ℕ → List Step
@@ -37,7 +37,7 @@ reads_from v (w ∷ ws) = saw (Read v) w ∷ reads_from (suc v) ws
 
 -- some legal log has what the root did, is closed, and has these fired words
 abbrev pub IsReadOut : RootKnown → List ℕ → Type 0
-IsReadOut r words = SomeLog r.net.setting (λ log. AgreesWith r log × IsClosed r.net.setting log
+IsReadOut r words = SomeLog r.net.setting (λ log. HasDoneIn r log × IsClosed r.net.setting log
     × ((v : ℕ) → v < length words → slice_index words v ≡ word_of_part (part_in r.net.setting log v)))
 
 -- ---- the readings of the words

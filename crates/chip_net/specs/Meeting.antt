@@ -11,7 +11,7 @@ use Rattle.chip_net.specs.Tokens.{NetId, ActorKnown}
 use Rattle.chip_net.specs.Rule.{SomeLog}
 use Rattle.chip_net.specs.Roots.{RootKnown, StopperKnown, Seals}
 use Rattle.chip_net.specs.declared.stopper.SealedAt.{SealedAt}
-use Rattle.chip_net.specs.Finish.{AgreesWith, Finishes}
+use Rattle.chip_net.specs.Finish.{HasDoneIn, Finishes}
 
 -- actors of the first vertices of this net, ascending
 abbrev pub AreInPlace : NetId → List ActorKnown → Type 0
@@ -25,14 +25,14 @@ DidTheirs g log actors =
 -- in one legal log the root did what it did, the stopper, where the root has that part, and each of these actors
 abbrev pub Together : RootKnown → List ActorKnown → Type 0
 Together root actors = IsSetting root.net.setting
-    × SomeLog root.net.setting (λ log. AgreesWith root log × DidTheirs root.net.setting log actors)
+    × SomeLog root.net.setting (λ log. HasDoneIn root log × DidTheirs root.net.setting log actors)
 
 -- some legal closed log has all that the root did, the stopper, where the root has that part, and each of these actors; and
 -- it has this outcome
 pub record IsRun (receipt : RootKnown) (actors : List ActorKnown) (o : Outcome) : Type 0 where
   pub log : Log
   pub legal : IsLegalLog receipt.net.setting log
-  pub agrees : AgreesWith receipt log
+  pub agrees : HasDoneIn receipt log
   pub actors_did : DidTheirs receipt.net.setting log actors
   pub closed : IsClosed receipt.net.setting log
   pub outcome : IsOutcomeOf receipt.net.setting log o

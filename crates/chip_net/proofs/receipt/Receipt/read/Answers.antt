@@ -10,7 +10,7 @@ use Rattle.chip_net.specs.Views.{did_in}
 use Rattle.chip_net.specs.Rule.{SomeLog}
 use Rattle.chip_net.specs.Tokens.{NetId}
 use Rattle.chip_net.specs.Roots.{RootKnown, root_part, IsOver}
-use Rattle.chip_net.specs.Finish.{AgreesWith}
+use Rattle.chip_net.specs.Finish.{HasDoneIn}
 use Rattle.chip_net.specs.contracts.receipt.Receipt.{the_view}
 use Rattle.chip_net.proofs.RulingLemmas.{Due, words_at, Made, made, event_asked, event_told}
 use Rattle.chip_net.proofs.RootingLemmas.{known_after}
@@ -61,7 +61,7 @@ returns-clause-reads c =
     let g = c.self.inside.setting.value in (
       known_after m c.self.view_is c.load.ensures.0,
       subst (λ (r : RootKnown). SomeLog r.net.setting
-          (λ log. Fits r.net.setting log (saw (Read c.args.vertex) c.load.result) × AgreesWith r log)) c.self.view_is
+          (λ log. Fits r.net.setting log (saw (Read c.args.vertex) c.load.result) × HasDoneIn r log)) c.self.view_is
           record {
             log = m.stepped.log;
             legal = m.stepped.legal;

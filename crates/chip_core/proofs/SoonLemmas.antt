@@ -23,7 +23,7 @@ use Rattle.chip_core.specs.Messages.{Message, messages_from, counts_in_flight}
 use Rattle.chip_core.specs.Detection.{IsTree, IsDetectionOrder}
 use Rattle.chip_core.specs.Histories.{done_by}
 use Rattle.chip_core.specs.Closing.{HasTurn, HasRounds}
-use Rattle.chip_core.specs.Soon.{IsAtRest, IsAtMostDeep, HasRoundInOrder, DepthCloses, DepthClosesLater, DepthIsCounted}
+use Rattle.chip_core.specs.Soon.{HasTerminated, IsAtMostDeep, HasRoundInOrder, DepthCloses, DepthClosesLater, DepthIsCounted}
 use Rattle.chip_core.proofs.LogLemmas.{part_kept, settled_step, acked_step, head_inside, tail_inside, acked_grows}
 use Rattle.chip_core.proofs.LogLemmas.{settled_grows, legal_before, in_pieces}
 use Rattle.chip_core.proofs.OrderLemmas.{contained, cases_parent, none_some}
@@ -100,7 +100,7 @@ module _ (g : Setting) where
       (contains_cases y ys x has)
 
   module _ (game : IsGame g.game) (some_ring : 0 < g.ring) where
-    at_rest : (log : Log) → IsAtRest g log → AtRest g log
+    at_rest : (log : Log) → HasTerminated g log → AtRest g log
     at_rest log rest = record {
       passive = rest.passive;
       taken = λ e l.

@@ -9,7 +9,7 @@ use Rattle.chip_core.specs.Laws.{ForEveryLog}
 use Rattle.chip_core.specs.Closing.{HasEnd, HasTurn, HasRounds}
 
 -- every vertex is passive, nothing is claimed and not taken, and the end is noted
-pub record IsAtRest (g : Setting) (log : Log) : Type 0 where
+pub record HasTerminated (g : Setting) (log : Log) : Type 0 where
   pub passive : (v : ℕ) → v < g.game.graph.vertices → is_passive g v (part_in g log v) ≡ true
   pub delivered : (e : ℕ) → e < all_edges g → in_flight g log e ≡ []
   pub end : HasEnd g log
@@ -31,13 +31,13 @@ pub record HasRoundInOrder (g : Setting) (before xs : Log) : Type 0 where
 
 -- one round more than the tree is deep closes the root, where in the last of them it settles after all turns
 abbrev pub DepthCloses : Type 0
-DepthCloses = ForEveryLog (λ g before. IsAtRest g before → (depth : ℕ) → IsAtMostDeep g before depth
+DepthCloses = ForEveryLog (λ g before. HasTerminated g before → (depth : ℕ) → IsAtMostDeep g before depth
     → (rounds last : Log) → HasRounds g depth before rounds → HasRoundInOrder g (rounds ++ before) last
     → IsLegalLog g (last ++ (rounds ++ before)) → IsClosed g (last ++ (rounds ++ before)))
 
 -- and two more, wherever in a round it settles
 abbrev pub DepthClosesLater : Type 0
-DepthClosesLater = ForEveryLog (λ g before. IsAtRest g before → (depth : ℕ) → IsAtMostDeep g before depth
+DepthClosesLater = ForEveryLog (λ g before. HasTerminated g before → (depth : ℕ) → IsAtMostDeep g before depth
     → (rounds : Log) → HasRounds g (suc (suc depth)) before rounds → IsLegalLog g (rounds ++ before)
     → IsClosed g (rounds ++ before))
 

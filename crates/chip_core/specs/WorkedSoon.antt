@@ -5,7 +5,7 @@ use Rattle.chip_part.specs.Setting.{Setting, setting_of}
 use Rattle.chip_part.specs.Part.{deficit}
 use Rattle.chip_part.specs.Worked.{small_triangle, chain, edge}
 use Rattle.chip_core.specs.Core.{Log, Event, Take, Ack, Fire, Clear, Claim, Put, Settle, part_in, log_after, root}
-use Rattle.chip_core.specs.Soon.{IsAtRest, IsAtMostDeep}
+use Rattle.chip_core.specs.Soon.{HasTerminated, IsAtMostDeep}
 
 abbrev pub root_waits : Setting → Log → ℕ
 root_waits g log = deficit g (root g) (part_in g log (root g))
@@ -74,6 +74,6 @@ first_first = Settle 0 ∷ Settle 1 ∷ Ack 2 ∷ Ack 4 ∷ Settle 2 ∷ Settle 
 abbrev pub PairCloses : Type 0
 PairCloses =
     let log : Log = log_after four_chips [] sent_back in
-    IsAtRest four_chips log × IsAtMostDeep four_chips log 2
+    HasTerminated four_chips log × IsAtMostDeep four_chips log 2
     × (root_waits four_chips (log_after four_chips log (second_first ++ first_first)) ≡ 1)
     × (root_waits four_chips (log_after four_chips log (second_first ++ (first_first ++ first_first))) ≡ 0)

@@ -81,19 +81,19 @@ abbrev pub ended_of : Outcome → Ended
 ended_of outcome = record { status = plain_status outcome; cut = false }
 
 -- what writing the report answers, where one is asked for: it goes out; or just a front of it does, or there is no memory
-abbrev pub WritesReport : Option (Option (List ℕ)) → Option (Option (List ℕ)) → Outcome → Result Ended Fault → Type 0
-WritesReport None None outcome result = result ≡ Ok (ended_of outcome)
-WritesReport (Some old) (Some new) outcome (Ok ended) = (ended ≡ ended_of outcome) × Appends old new (report_text outcome)
-WritesReport (Some old) (Some new) outcome (Err WriteFile) =
+abbrev pub ReportAnswer : Option (Option (List ℕ)) → Option (Option (List ℕ)) → Outcome → Result Ended Fault → Type 0
+ReportAnswer None None outcome result = result ≡ Ok (ended_of outcome)
+ReportAnswer (Some old) (Some new) outcome (Ok ended) = (ended ≡ ended_of outcome) × Appends old new (report_text outcome)
+ReportAnswer (Some old) (Some new) outcome (Err WriteFile) =
     (w : WriteFault) × WritesAll old new (report_text outcome) (Err w)
-WritesReport (Some old) (Some new) outcome (Err NoMemory) = Keeps old new
-WritesReport _ _ outcome result = ⊥
+ReportAnswer (Some old) (Some new) outcome (Err NoMemory) = Keeps old new
+ReportAnswer _ _ outcome result = ⊥
 
 -- what dropping chips on a game answers: the rows went out, and then the report is written; or the rows failed
 abbrev pub DropsAnswer : ChipGame → List (ℕ × ℕ) → Outputs → Outputs → Result Ended Fault → Type 0
 DropsAnswer g ds old new result =
     ((outcome : Outcome) × PlaysDrops g ds old.rows new.rows (Ok outcome)
-    × WritesReport old.report new.report outcome result)
+    × ReportAnswer old.report new.report outcome result)
     ⊎ IsErrAnd result (λ fault. PlaysDrops g ds old.rows new.rows (Err fault) × (new.report ≡ old.report))
 
 -- what `avalanches` answers by these limits: the inputs make no game, or the drops have a fault, or there are too many

@@ -5,7 +5,7 @@ ghost use Rattle.chip_graph.specs.Limits.{standard};
 ghost use Rattle.chip_graph.specs.ChipGame.{IsGame};
 ghost use Rattle.chip_graph.specs.More.{AreOfVertices, HasRoom};
 ghost use Rattle.chip_sequence.specs.Play.{IsPlayed};
-ghost use Rattle.chip_engine.specs.AvalanchesCommand.{AvalanchesAnswers, PlaysDrops, WritesReport};
+ghost use Rattle.chip_engine.specs.AvalanchesCommand.{AvalanchesAnswers, PlaysDrops, ReportAnswer};
 ghost use Rattle.chip_engine.specs.AvalanchesCommand.{fault_of_rows, reading_drops};
 
 use chip_command::{Ended, Fault, PlayOptions, read_game, status_of};
@@ -135,7 +135,7 @@ fn write_report<P: Watch, T: Write>(
     watch: &mut P,
     output: &mut Option<T>,
 ) -> Result<Ended, Fault>
-    ensures { WritesReport (option_map T.contents output.old) (option_map T.contents output.new) outcome.now result }
+    ensures { ReportAnswer (option_map T.contents output.old) (option_map T.contents output.new) outcome.now result }
 {
     let ended = Ended::of(status_of(outcome));
     let Some(writer) = output else {

@@ -15,7 +15,7 @@ use Rattle.chip_command.specs.PlainCommand.{PlainWrites}
 use Rattle.chip_command.specs.Reports.{Reports}
 use Rattle.chip_command.specs.declared.ended.Ended.{Ended}
 use Rattle.chip_command.proofs.OneReportLemmas.{one_game, one_report}
-use Rattle.chip_engine.specs.AvalanchesCommand.{AvalanchesAnswers, WritesReport, ended_of}
+use Rattle.chip_engine.specs.AvalanchesCommand.{AvalanchesAnswers, ReportAnswer, ended_of}
 use Rattle.chip_engine.specs.GuessCommand.{GuessAnswers}
 use Rattle.chip_engine.specs.VerifyCommand.{VerifyAnswers}
 use Rattle.examples.specs.Answers.{IsReportOf, IsToldEnd}
@@ -70,7 +70,7 @@ told_end graph chips report limit old new ended answers =
     )
 
 -- how a command ended that dropped chips
-drops_ended : (old new : Option (Option (List ℕ))) (o : Outcome) (ended : Ended) → WritesReport old new o (Ok ended)
+drops_ended : (old new : Option (Option (List ℕ))) (o : Outcome) (ended : Ended) → ReportAnswer old new o (Ok ended)
     → ended ≡ ended_of o
 drops_ended None None o ended is = cc
 drops_ended None (Some new) o ended is = absurd is

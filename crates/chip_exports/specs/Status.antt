@@ -1,7 +1,7 @@
 -- What C is told of a call on the books of a part.
 use Rattle.std.specs.Prelude.{◌≡◌, ℕ, Bool, true, false, not, ◌==◌, Result, Ok, Err}
 use Rattle.chip_library.specs.declared.detector.BooksFault.{BooksFault}
-use Rattle.chip_library.specs.PartBooks.{number_of}
+use Rattle.chip_library.specs.PartBooks.{books_fault_number}
 
 -- whether a word is true
 abbrev pub is_true : ℕ → Bool
@@ -10,7 +10,7 @@ is_true word = not (word == 0)
 -- the number of a fault, or 0
 abbrev pub status_of : {T : Type 0} → Result T BooksFault → ℕ
 status_of (Ok told) = 0
-status_of (Err fault) = number_of fault
+status_of (Err fault) = books_fault_number fault
 
 -- the status tells a result of which the promise holds
 abbrev pub Status : {T : Type 0} → ℕ → (Result T BooksFault → Type 0) → Type 0

@@ -10,15 +10,15 @@ use Rattle.chip_library.specs.declared.fault.CallFault.{CallFault}
 use Rattle.chip_library.specs.declared.fault.CallFault.TheVariants.{Lengths, Graph, Game, Vertex, Total, Stopped, Differs, NoMemory}
 
 -- the number of a fault in the table of faults
-abbrev pub number_of : CallFault → ℕ
-number_of Lengths = 12
-number_of (Graph fault) = graph_fault_number fault
-number_of (Game fault game) = game_fault_number fault
-number_of (Vertex drop) = 26
-number_of (Total drop) = 10
-number_of (Stopped drop) = 13
-number_of (Differs vertex) = 53
-number_of NoMemory = 90
+abbrev pub call_fault_number : CallFault → ℕ
+call_fault_number Lengths = 12
+call_fault_number (Graph fault) = graph_fault_number fault
+call_fault_number (Game fault game) = game_fault_number fault
+call_fault_number (Vertex drop) = 26
+call_fault_number (Total drop) = 10
+call_fault_number (Stopped drop) = 13
+call_fault_number (Differs vertex) = 53
+call_fault_number NoMemory = 90
 
 -- the edge, vertex, game or drop that it names, or 0
 abbrev pub place_of : CallFault → ℕ

@@ -12,9 +12,9 @@ use Rattle.chip_library.specs.declared.detector.BooksFault.{BooksFault}
 use Rattle.chip_library.specs.declared.detector.BooksFault.TheVariants.{NotSound, NotYet}
 
 -- the number of a fault in the table of faults
-abbrev pub number_of : BooksFault → ℕ
-number_of NotSound = 46
-number_of NotYet = 47
+abbrev pub books_fault_number : BooksFault → ℕ
+books_fault_number NotSound = 46
+books_fault_number NotYet = 47
 
 -- the word that stands for no parent: no edge has this number
 abbrev pub neutral : ℕ

@@ -34,11 +34,11 @@ pub enum BooksFault {
 
 impl BooksFault {
     ghost use Rattle.std.specs.Prelude.{◌≡◌};
-    ghost use Rattle.chip_library.specs.PartBooks.{number_of};
+    ghost use Rattle.chip_library.specs.PartBooks.{books_fault_number};
 
     /// The number of this fault in the table of faults.
     pub fn number(&self) -> u64
-        ensures { result ≡ number_of self.now }
+        ensures { result ≡ books_fault_number self.now }
     {
         match self {
             BooksFault::NotSound => 46,

@@ -24,11 +24,11 @@ pub enum CallFault {
 
 impl CallFault {
     ghost use Rattle.std.specs.Prelude.{◌≡◌};
-    ghost use Rattle.chip_library.specs.CallFaults.{number_of, place_of};
+    ghost use Rattle.chip_library.specs.CallFaults.{call_fault_number, place_of};
 
     /// The number of this fault in the table of faults.
     pub fn number(&self) -> u64
-        ensures { result ≡ number_of self.now }
+        ensures { result ≡ call_fault_number self.now }
     {
         match self {
             CallFault::Lengths => 12,

@@ -6,22 +6,22 @@ use Rattle.chip_part.specs.declared.rule.Rule.TheVariants.{NothingPending, Refus
 use Rattle.chip_part.specs.declared.rule.Rule.TheVariants.{NoCause, NothingOwed, Engaged, NotClosed, Ended, TooMuch}
 
 -- the number of a rule
-abbrev pub number_of : Rule → ℕ
-number_of NoSuch = 1
-number_of Sink = 2
-number_of Halted = 3
-number_of Pending = 4
-number_of Zero = 5
-number_of Limit = 6
-number_of NotLegal = 7
-number_of NothingPending = 8
-number_of Refused = 9
-number_of Unput = 10
-number_of NotCleared = 11
-number_of NotClaimed = 12
-number_of NoCause = 13
-number_of NothingOwed = 14
-number_of Engaged = 15
-number_of NotClosed = 16
-number_of Ended = 17
-number_of TooMuch = 18
+abbrev pub rule_number : Rule → ℕ
+rule_number NoSuch = 1
+rule_number Sink = 2
+rule_number Halted = 3
+rule_number Pending = 4
+rule_number Zero = 5
+rule_number Limit = 6
+rule_number NotLegal = 7
+rule_number NothingPending = 8
+rule_number Refused = 9
+rule_number Unput = 10
+rule_number NotCleared = 11
+rule_number NotClaimed = 12
+rule_number NoCause = 13
+rule_number NothingOwed = 14
+rule_number Engaged = 15
+rule_number NotClosed = 16
+rule_number Ended = 17
+rule_number TooMuch = 18

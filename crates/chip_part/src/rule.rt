@@ -44,11 +44,11 @@ pub enum Rule {
 }
 
 impl Rule {
-    ghost use Rattle.chip_part.specs.Numbers.{number_of};
+    ghost use Rattle.chip_part.specs.Numbers.{rule_number};
 
     /// The rule's number, 1 to 18, as outputs tell it.
     pub fn number(self) -> u8
-        ensures { result ≡ number_of self }
+        ensures { result ≡ rule_number self }
     {
         self as u8
     }

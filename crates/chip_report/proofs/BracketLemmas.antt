@@ -25,7 +25,7 @@ use Rattle.std.proofs.lemmas.Str.Parse.{without_leading_plus_none}
 use Rattle.chip_report.specs.ReportText.{comma, array_text}
 use Rattle.chip_report.specs.Reportable.{Gives}
 use Rattle.chip_report.specs.ReportLists.{opening_bracket, closing_bracket, first_list, text_behind_list}
-use Rattle.chip_report.specs.ReportLists.{text_behind_lists, number_of, numbers_of}
+use Rattle.chip_report.specs.ReportLists.{text_behind_lists, spelled_number, numbers_of}
 use Rattle.chip_report.specs.ReportLists.{list_at, AreListed, IsNoNumber, IsNoList, HasNoList}
 use Rattle.chip_report.specs.declared.fault.ReportFault.{ReportFault}
 use Rattle.chip_report.specs.declared.fault.ReportFault.TheVariants as fault
@@ -57,8 +57,8 @@ no_digit : (n c : ℕ) → n < 2 ^ 64 → (IsInRange 48 57 c → ⊥) → (i : �
     → get_or (decimal n) i 0 ≢ c
 no_digit n c fits other = not_in_digits own (decimal n) c (digits_decimal own n fits) other
 
-number_of-decimal : (n : ℕ) → n < 2 ^ 64 → number_of (decimal n) ≡ n
-number_of-decimal n fits =
+spelled_number-decimal : (n : ℕ) → n < 2 ^ 64 → spelled_number (decimal n) ≡ n
+spelled_number-decimal n fits =
     ap (digits_value 10)
     (without_leading_plus_none (decimal n)
     (no_digit n 43 fits (λ r. absurd (omega (arith, r))) 0 (decimal_nonempty n fits)))
@@ -107,14 +107,14 @@ pieces-joined n (m ∷ ms) fit =
     slice_split_at (λ b. eqb b comma) (decimal n) comma (joined (m ∷ ms)) (no_comma n (head_fits n (m ∷ ms) fit)) refl
     ∙ ap (λ (more : List (List ℕ)). decimal n ∷ more) (pieces-joined m ms (tail_fits n (m ∷ ms) fit))
 
-numbers-decimals : (ns : List ℕ) → AreShort ns → map number_of (map decimal ns) ≡ ns
+numbers-decimals : (ns : List ℕ) → AreShort ns → map spelled_number (map decimal ns) ≡ ns
 numbers-decimals [] fit = refl
 numbers-decimals (n ∷ ns) fit =
-    ap (λ (m : ℕ). m ∷ map number_of (map decimal ns)) (number_of-decimal n (head_fits n ns fit))
+    ap (λ (m : ℕ). m ∷ map spelled_number (map decimal ns)) (spelled_number-decimal n (head_fits n ns fit))
     ∙ ap (λ (more : List ℕ). n ∷ more) (numbers-decimals ns (tail_fits n ns fit))
 
 numbers_of-some : (list : List ℕ) → 0 < length list
-    → numbers_of list ≡ map number_of (slice_split (λ b. eqb b comma) list)
+    → numbers_of list ≡ map spelled_number (slice_split (λ b. eqb b comma) list)
 numbers_of-some [] some = absurd (omega arith)
 numbers_of-some (b ∷ bs) some = refl
 
@@ -127,7 +127,7 @@ numbers_of-joined : (ns : List ℕ) → AreShort ns → numbers_of (joined ns) �
 numbers_of-joined [] fit = refl
 numbers_of-joined (n ∷ ns) fit =
     numbers_of-some (joined (n ∷ ns)) (joined-some n ns (head_fits n ns fit))
-    ∙ ap (map number_of) (pieces-joined n ns fit)
+    ∙ ap (map spelled_number) (pieces-joined n ns fit)
     ∙ numbers-decimals (n ∷ ns) fit
 
 -- ---- the pieces of a list, as a program takes them
@@ -158,32 +158,32 @@ none_with most list piece i some within at none ns listed e =
     (at ∙ ap (λ (ps : List (List ℕ)). get_or ps i piece) same ∙ get_or-map decimal ns i 0 piece below)
 
 pub number_more : (xs : List (Bor (List ℕ))) (x : Bor (List ℕ)) (numbers : List ℕ) (n : ℕ)
-    → numbers ≡ map number_of (shown xs) → n ≡ number_of x.now
-    → numbers ++ n ∷ [] ≡ map number_of (shown (xs ++ x ∷ []))
+    → numbers ≡ map spelled_number (shown xs) → n ≡ spelled_number x.now
+    → numbers ++ n ∷ [] ≡ map spelled_number (shown (xs ++ x ∷ []))
 number_more xs x numbers n before is =
     rw (before, is)
-    (sym (ap (map number_of) (map-append (λ (y : Bor (List ℕ)). y.now) xs (x ∷ []))
-    ∙ map-append number_of (shown xs) (x.now ∷ [])))
+    (sym (ap (map spelled_number) (map-append (λ (y : Bor (List ℕ)). y.now) xs (x ∷ []))
+    ∙ map-append spelled_number (shown xs) (x.now ∷ [])))
 
 pub numbers_of-shown : (list : List ℕ) (xs : List (Bor (List ℕ))) (numbers : List ℕ) → 0 < length list
-    → shown xs ≡ pieces list → numbers ≡ map number_of (shown xs) → numbers ≡ numbers_of list
-numbers_of-shown list xs numbers some all is = is ∙ ap (map number_of) all ∙ sym (numbers_of-some list some)
+    → shown xs ≡ pieces list → numbers ≡ map spelled_number (shown xs) → numbers ≡ numbers_of list
+numbers_of-shown list xs numbers some all is = is ∙ ap (map spelled_number) all ∙ sym (numbers_of-some list some)
 
 -- no more numbers than pieces
-pub few_numbers : (xs : List (Bor (List ℕ))) (numbers : List ℕ) (most : ℕ) → numbers ≡ map number_of (shown xs)
+pub few_numbers : (xs : List (Bor (List ℕ))) (numbers : List ℕ) (most : ℕ) → numbers ≡ map spelled_number (shown xs)
     → length xs ≤ most → length numbers ≤ most
 few_numbers xs numbers most is few =
-    omega (arith, ap length is, length-map (shown xs) number_of, length-map xs (λ (x : Bor (List ℕ)). x.now))
+    omega (arith, ap length is, length-map (shown xs) spelled_number, length-map xs (λ (x : Bor (List ℕ)). x.now))
 
 -- what `parse` reads of digits
 pub read_number : {E : Type 0} (digits : List ℕ) (r : Result ℕ E) → ParsesUnsigned 64 10 digits r
-    → MatchOption (result_ok r) (IsNoNumber digits) (λ n. n ≡ number_of digits)
+    → MatchOption (result_ok r) (IsNoNumber digits) (λ n. n ≡ spelled_number digits)
 read_number digits (Ok n) parsed = parsed.1
 read_number digits (Err e) parsed = λ n fits spelled.
     let other : Err e ≡ Ok n = parse-decimal 64 n digits (Err e) fits fits spelled parsed in absurd cc
 
 pub no_number : (digits : List ℕ) (read : Option ℕ) (f : ReportFault)
-    → MatchOption read (IsNoNumber digits) (λ n. n ≡ number_of digits) → Err f ≡ ok_or read fault.NotReport
+    → MatchOption read (IsNoNumber digits) (λ n. n ≡ spelled_number digits) → Err f ≡ ok_or read fault.NotReport
     → (f ≡ fault.NoMemory) ⊎ ((f ≡ fault.NotReport) × IsNoNumber digits)
 no_number digits None f is e = inr (cc, is)
 no_number digits (Some n) f is e = absurd cc

@@ -27,13 +27,13 @@ text_behind_lists zero text = text
 text_behind_lists (suc lists) text = text_behind_lists lists (text_behind_list text)
 
 -- the number that digits spell
-abbrev pub number_of : List ℕ → ℕ
-number_of digits = digits_value 10 (without_leading_plus digits)
+abbrev pub spelled_number : List ℕ → ℕ
+spelled_number digits = digits_value 10 (without_leading_plus digits)
 
 -- the numbers that a list spells
 abbrev pub numbers_of : List ℕ → List ℕ
 numbers_of [] = []
-numbers_of (b ∷ bs) = map number_of (slice_split (λ c. c == comma) (b ∷ bs))
+numbers_of (b ∷ bs) = map spelled_number (slice_split (λ c. c == comma) (b ∷ bs))
 
 -- the numbers of the list behind so many others
 abbrev pub list_at : ℕ → List ℕ → List ℕ

@@ -2,7 +2,7 @@
 
 ghost use Rattle.std.specs.Prelude.{◌≡◌, ◌≤◌, length, IsUtf8, MatchOption};
 ghost use Rattle.chip_report.specs.Reportable.{Gives};
-ghost use Rattle.chip_report.specs.ReportLists.{first_list, text_behind_list, number_of, numbers_of};
+ghost use Rattle.chip_report.specs.ReportLists.{first_list, text_behind_list, spelled_number, numbers_of};
 ghost use Rattle.chip_report.specs.ReportLists.{IsNoNumber, IsNoList, HasNoList};
 
 use crate::fault::ReportFault;
@@ -64,7 +64,7 @@ fn numbers_of(alloc: Global, most: u64, list: &str) -> Result<Vec<u64>, ReportFa
 
 /// The number that digits spell, if it fits.
 fn number_of(digits: &str) -> Option<u64>
-    ensures { MatchOption result (IsNoNumber digits.now) (λ number. number ≡ number_of digits.now) }
+    ensures { MatchOption result (IsNoNumber digits.now) (λ number. number ≡ spelled_number digits.now) }
 {
     digits.parse::<u64>().ok()
 }

@@ -8,7 +8,7 @@ use Rattle.chip_link.specs.declared.message.Message.{Message}
 use Rattle.chip_part.specs.declared.reply.Reply.{Reply}
 use Rattle.chip_part.specs.declared.reply.Reply.TheVariants.{Done, Got, Sent, Empty, Full, Sealed, NotNow}
 use Rattle.chip_part.specs.Setting.{Setting, IsSetting, setting_with}
-use Rattle.chip_part.specs.Numbers.{number_of}
+use Rattle.chip_part.specs.Numbers.{rule_number}
 use Rattle.chip_core.specs.Core.{Log, IsLegalLog, step, log_after}
 use Rattle.chip_core.specs.Closing.{HasEnd, RootHasPut}
 use Rattle.chip_core.specs.Headline.{NoneHaltedBySeal}
@@ -45,7 +45,7 @@ reply_text (Sent message) = codes "sent " ++ message_text message ++ codes "\n"
 reply_text Empty = codes "empty\n"
 reply_text Full = codes "full\n"
 reply_text Sealed = codes "sealed\n"
-reply_text (NotNow rule) = codes "not-now " ++ decimal (number_of rule) ++ codes "\n"
+reply_text (NotNow rule) = codes "not-now " ++ decimal (rule_number rule) ++ codes "\n"
 
 -- the reply after which a log stands, and behind it the board where it is asked for
 abbrev pub answer_text : Bool → Setting → Log → Reply → List ℕ

@@ -1,12 +1,12 @@
 use Rattle.std.proofs.Common.{◌≡◌, ◌≤◌, length, map}
 use Rattle.std.specs.Vec.{vec_len}
-use Rattle.chip_report.specs.ReportLists.{number_of}
+use Rattle.chip_report.specs.ReportLists.{spelled_number}
 use Rattle.chip_report.proofs.BracketLemmas.{shown}
 use Rattle.chip_report.proofs.lists.numbers_of.Given as goal
 
 abbrev pub invariant-loop-digits : goal.invariant-loop-digits
 invariant-loop-digits l = record {
-  read : l.numbers.items ≡ map number_of (shown l.yielded);
+  read : l.numbers.items ≡ map spelled_number (shown l.yielded);
   len : vec_len l.numbers ≡ length l.yielded;
   few : vec_len l.numbers ≤ l.most;
 }

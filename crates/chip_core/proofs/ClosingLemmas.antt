@@ -53,7 +53,8 @@ settled_up s = record s {
 }
 
 module _ (g : Setting) where
-  neutral_up : (v : ℕ) (s : Part) → is_passive g v s ≡ true → IsNeutral g v (settled_up s)
+  -- a passive part is neutral then
+  pub neutral_up : (v : ℕ) (s : Part) → is_passive g v s ≡ true → IsNeutral g v (settled_up s)
   neutral_up v s passive = record {
     no_parent = refl;
     passive = passive;

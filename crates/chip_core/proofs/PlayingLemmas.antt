@@ -1,5 +1,5 @@
 -- Serves Playing.antt.
--- Where nothing is sealed no claim is refused, and no seal halts a vertex. So fair schedules play the game.
+-- If nothing is sealed, fair schedules play the game.
 use Rattle.std.proofs.Common.{◌≡◌, ℕ, Bool, false, cond, eqb, eqb-true, [], ◌∷◌, Option, Some}
 use Rattle.std.proofs.Common.{None, refl, sym, ap, ◌∙◌, arith, ◌<◌, ◌++◌, true≢false}
 use Rattle.std.proofs.lemmas.Bool.Decides.{nat_tests}
@@ -54,13 +54,14 @@ module _ (g : Setting) where
         (ap (λ (u : ℕ). ((part_in g log u).out e).link.refused) (sym (eqb-true (tail_of g e) v on)) ∙ none e)))
     halt_step old x = old (part_of g x)
 
-  unsealed : (log : Log) → IsLegalLog g log → ((e : ℕ) → stop_in g log e ≡ None)
+  -- if nothing is sealed, no claim is refused, and no seal halts a vertex
+  pub unsealed_refuses : (log : Log) → IsLegalLog g log → ((e : ℕ) → stop_in g log e ≡ None)
       → ((e : ℕ) → (out_in g log e).link.refused ≡ false) × ((v : ℕ) → is_by_seal (part_in g log v).halt ≡ false)
-  unsealed [] legal none = ((λ e. refl), (λ v. refl))
-  unsealed (x ∷ log) legal none =
+  unsealed_refuses [] legal none = ((λ e. refl), (λ v. refl))
+  unsealed_refuses (x ∷ log) legal none =
       let before : (e : ℕ) → stop_in g log e ≡ None =
       (λ e. was_open x.event x.seen e (stop_in g log e) (sym (stop_step g x log e) ∙ none e)) in
-      let old = unsealed log legal.0 before in (
+      let old = unsealed_refuses log legal.0 before in (
         (λ e. ap (λ (t : Tail). t.refused) (link_step g x log e)
             ∙ refused_step log before old.0 x.event x.seen legal.1.1 e),
         at_edge (λ _ (s : Part). is_by_seal s.halt ≡ false) (part_of g x.event) (λ v. does g x (part_in g log v))
@@ -69,7 +70,7 @@ module _ (g : Setting) where
 
 pub unsealed_halts_none : UnsealedHaltsNone
 unsealed_halts_none g game some_ring log legal open_all v l is = true≢false (sym (ap is_by_seal is)
-    ∙ (unsealed g log legal (λ e. is_none_of (stop_in g log e) (sym (seals_stand g log e) ∙ open_all e))).1 v)
+    ∙ (unsealed_refuses g log legal (λ e. is_none_of (stop_in g log e) (sym (seals_stand g log e) ∙ open_all e))).1 v)
 
 pub plays_out : (g : Setting) → IsGame g.game → 0 < g.ring → (log : Log) → IsLegalLog g log → SealsNone log → IsClosed g log
     → PlaysOut g log

@@ -35,7 +35,7 @@ use Rattle.chip_core.proofs.LogLemmas.{part_here, part_else, part_kept, head_ins
 use Rattle.chip_core.proofs.GivenLemmas.{feed_sees}
 use Rattle.chip_detect.specs.Change.{AddsAnswers}
 use Rattle.chip_core.proofs.NumberLemmas.{claims_most}
-use Rattle.chip_core.proofs.ClosingLemmas.{settled_up}
+use Rattle.chip_core.proofs.ClosingLemmas.{settled_up, neutral_up}
 use Rattle.chip_diffusing.specs.Network.{Network, IsNetwork}
 use Rattle.chip_diffusing.specs.Computation as diffusing
 use Rattle.chip_diffusing.specs.Computation.{Happens, Leads, May, Notes, Wakes, Get, Send, Work, OpensPart, World}
@@ -128,17 +128,6 @@ module _ (g : Setting) where
     parent = parent j;
   }
 
-  -- a passive vertex makes no event that would end its rest
-  neutral_up : (v : ℕ) (s : Part) → is_passive g v s ≡ true → IsNeutral g v (settled_up s)
-  neutral_up v s passive = record {
-    no_parent = refl;
-    passive = passive;
-    nothing_owed = tested_none (all_edges g) (λ e. eqb (head_of g e) v) (λ e. part.owed ((settled_up s).into e))
-        (λ e l on. omega arith);
-    no_deficit = tested_none (all_edges g) (λ e. eqb (tail_of g e) v) (λ e. part.outstanding ((settled_up s).out e))
-        (λ e l on. omega arith);
-  }
-
   -- the parent goes where all that is owed on its edge is acknowledged
   parent_goes : (o : Option ℕ) (e n : ℕ) (owes owes' : ℕ → ℕ) → n ≤ owes e
       → ((q : ℕ) → o ≡ Some q → (0 < owes q) × (e ≡ q → owes' q ≡ owes q - n) × (e ≢ q → owes' q ≡ owes q))
@@ -190,7 +179,7 @@ module _ (g : Setting) where
           let t = tail_inside g game e l in
           let s = part_in g log (tail_of g e) in
           no_pending g (tail_of g e) (settled_up s) (kept (tail_of g e)).outs
-          (neutral_up (tail_of g e) s (sym (at_vertex (tail_of g e) s t) ∙ on)) e refl (omega arith) runs pends
+          (neutral_up g (tail_of g e) s (sym (at_vertex (tail_of g e) s t) ∙ on)) e refl (omega arith) runs pends
 
       active : (e : ℕ) → (passive_of g (tail_of g e) (part_in g log (tail_of g e)) ≡ true → ⊥)
           → (was log (tail_of g e)).passive ≡ false
@@ -372,7 +361,7 @@ module _ (g : Setting) where
         let l = may.0 in
         works (saw (Fire v k) seen) log v refl (omega arith) refl
         (λ on. absurd (no_fire g v (settled_up s) (kept log legal.0 v).outs
-        (neutral_up v s (sym (at_vertex v s l) ∙ on)) v k refl may))
+        (neutral_up g v s (sym (at_vertex v s l) ∙ on)) v k refl may))
     one_event (Clear e) seen log legal =
         let q : ℕ = tail_of g e in
         let s = part_in g log q in
@@ -406,7 +395,7 @@ module _ (g : Setting) where
         (λ i m. (let a = length-sent_counts (s.out e).link in grind (arith, nat_tests))) (λ i. refl) refl)
         (⊎_elim (λ at. root_wakes (saw (Put e) seen) log q at refl)
         (λ vertex on. absurd (no_put g q (settled_up s) (kept log legal.0 q).outs
-        (neutral_up q s (sym (at_vertex q s vertex) ∙ on)) e refl may.0 may.1.0 may.1.1))
+        (neutral_up g q s (sym (at_vertex q s vertex) ∙ on)) e refl may.0 may.1.0 may.1.1))
         (tail_cases g game e))
     one_event (Halt v) seen log legal =
         let s = part_in g log v in
@@ -414,7 +403,7 @@ module _ (g : Setting) where
         let l = may.0 in
         works (saw (Halt v) seen) log v refl (omega arith) refl
         (λ on. absurd (no_halt g v (settled_up s) (kept log legal.0 v).outs
-        (neutral_up v s (sym (at_vertex v s l) ∙ on)) v refl may))
+        (neutral_up g v s (sym (at_vertex v s l) ∙ on)) v refl may))
     one_event (Settle e) seen log legal =
         let q : ℕ = tail_of g e in
         let s = part_in g log q in

@@ -1,6 +1,6 @@
 -- Serves Finish.antt, Roots.antt.
 -- What the root makes of its reads.
-use Rattle.std.proofs.Common.{◌≡◌, ℕ, ◌<◌, ◌≤◌, sum, ◌||◌, ◌&&◌, Bool, not, true, List, []}
+use Rattle.std.proofs.Common.{◌≡◌, ℕ, ◌<◌, ◌≤◌, sum, ◌||◌, ◌&&◌, Bool, not, true, false, List, []}
 use Rattle.std.proofs.Common.{length, map, get_or, slice_index, Option, Some, None, is_some, Contains, true≢false, refl}
 use Rattle.std.proofs.Common.{sym, ap, ◌∙◌, subst, arith}
 use Rattle.std.specs.List.{range_with_len}
@@ -21,7 +21,7 @@ use Rattle.chip_link.specs.Words.{fired_in, is_halted_in, is_by_limit_in, is_fir
 use Rattle.chip_part.specs.Setting.{Setting, IsSetting}
 use Rattle.chip_part.specs.declared.cause.Cause.{Cause}
 use Rattle.chip_part.specs.declared.cause.Cause.TheVariants.{SealedEdge, FiringLimit}
-use Rattle.chip_part.specs.Edges.{root, root_edge}
+use Rattle.chip_part.specs.Edges.{root, root_edge, stopper}
 use Rattle.chip_part.specs.Part.{Part, opening_part, is_by_limit, AreGiven}
 use Rattle.chip_core.specs.Core.{Log, part_in, word_of_part, IsLegalLog, IsClosed}
 use Rattle.chip_core.specs.Laws.{WordsOf}
@@ -35,6 +35,7 @@ use Rattle.chip_core.proofs.GivenLemmas.{given_is, given_start, given_within, pl
 use Rattle.chip_core.proofs.ClosingLemmas.{all_ended}
 use Rattle.chip_core.proofs.OrderLemmas.{contains_nothing}
 use Rattle.chip_core.proofs.OutcomeLemmas.{never_negative, comes, in_range, is_played}
+use Rattle.chip_core.proofs.PlayingLemmas.{unsealed_refuses}
 use Rattle.chip_net.specs.Roots.{RootKnown, root_part, root_after, fed_by}
 use Rattle.chip_net.specs.Finish.{reads_from, IsReadOut, ReadingsState, is_by_limit_at, is_by_seal_at, AreRead}
 use Rattle.chip_net.specs.Finish.{IsReading, IsOneEnd, Finishes}
@@ -43,7 +44,6 @@ use Rattle.chip_net.proofs.ReadingLemmas.{reads_feed_none, reads_part, reads_say
 use Rattle.chip_net.specs.Tokens.{NetId, ActorKnown}
 use Rattle.chip_part.proofs.EdgeLemmas.{tail_root}
 use Rattle.chip_link.specs.Link.{sent_counts}
-use Rattle.chip_net.proofs.UnsealedLemmas.{never_sealed}
 
 -- nothing passes where nothing is listed
 none_picked : (test : ℕ → Bool) (n : ℕ) → filter_below test n ≡ [] → (v : ℕ) → v < n → test v ≡ true → ⊥
@@ -51,6 +51,12 @@ none_picked test n empty v l on = contains_nothing v
     (subst (λ (xs : List ℕ). Contains xs v) empty (picked_has test n v l on))
 
 -- ---- at the end
+
+-- if the stopper did nothing, no seal halts a vertex
+never_sealed : (g : Setting) (log : Log) → IsLegalLog g log → done_by g (stopper g) log ≡ [] → (v : ℕ)
+    → is_by_seal (part_in g log v).halt ≡ false
+never_sealed g log legal none = (unsealed_refuses g log legal (λ e. ap (λ (s : Part). s.stop e)
+    (by_history g log (stopper g) ∙ ap (part_by g (opening_part g)) none))).1
 
 -- a word of a vertex is one
 pub fired_word_is : (g : Setting) → IsSetting g → (log : Log) → IsLegalLog g log → (v word : ℕ)

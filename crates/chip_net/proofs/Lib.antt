@@ -11,7 +11,6 @@ pub mod RootingLemmas
 pub mod SendingLemmas
 pub mod StoppingLemmas
 pub mod ReadingLemmas
-pub mod UnsealedLemmas
 pub mod FeedingLemmas
 pub mod FinishingLemmas
 pub mod ReachingLemmas

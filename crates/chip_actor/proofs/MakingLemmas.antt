@@ -1,23 +1,21 @@
 -- Serves Ends.antt, Actor.antt.
 -- Each call that makes an event: what its parts ask, and what it comes to.
-use Rattle.std.proofs.Common.{◌≡◌, ◌≢◌, ℕ, zero, suc, ◌+◌, ◌-◌, ◌*◌, ◌<◌, ◌≤◌, ◌^◌, ◌%◌, Bool, true, false, not, ◌&&◌}
-use Rattle.std.proofs.Common.{cond, if◌then◌else◌, eqb, List, [], ◌∷◌, ◌++◌, length, sum, Option, Some, None, is_some}
-use Rattle.std.proofs.Common.{IsTrue, option_to_list, refl, sym, ap, ◌∙◌, subst, arith, eq-eqb, eqb-true, true≢false}
-use Rattle.std.proofs.Common.{append-nil}
+use Rattle.std.proofs.Common.{◌≡◌, ◌≢◌, ℕ, zero, suc, ◌+◌, ◌-◌, ◌*◌, ◌<◌, ◌≤◌, ◌^◌, ◌%◌, Bool, true, false}
+use Rattle.std.proofs.Common.{cond, if◌then◌else◌, eqb, [], ◌∷◌, length, sum, Option, Some, None}
+use Rattle.std.proofs.Common.{IsTrue, option_to_list, refl, sym, ap, ◌∙◌, subst, arith, eq-eqb}
 use mathlib.Core.Logic.{dite}
 use native.Mathlib.Decide.{ℕ_discrete}
 use Rattle.std.specs.List.{Contains}
 use Rattle.chip_graph.specs.Sums.{sum_below}
-use Rattle.chip_graph.proofs.SumLemmas.{cond_yes, cond_no, cond_true, cond_false, by_test, tested_term}
+use Rattle.chip_graph.proofs.SumLemmas.{cond_yes, cond_no, by_test, tested_term, one_at_most}
 use Rattle.chip_link.specs.declared.message.Message.{Message}
 use Rattle.chip_link.specs.Words.{claims_in}
 use Rattle.chip_link.specs.Ends.{TailState, HeadState, claim_words, put_of, tail_after_clear, message_claimed}
 use Rattle.chip_link.specs.Ends.{message_taken, head_after_take}
 use Rattle.chip_link.specs.Link.{Tail, claims_of}
 use Rattle.chip_detect.specs.Tally.{message_limit}
-use Rattle.chip_detect.specs.Books.{Books, IsSound, in_edges, out_edges, got_of, sent_of, settled_of}
+use Rattle.chip_detect.specs.Books.{Books, IsSound, sent_of, settled_of}
 use Rattle.chip_detect.specs.Books as books
-use Rattle.chip_detect.specs.Acknowledging.{acknowledgeable_count}
 use Rattle.chip_detect.specs.Acknowledging as detector
 use Rattle.chip_detect.specs.Steps.{Gets, Acknowledges, Sends, Settles}
 use Rattle.chip_detect.proofs.SoundnessLemmas.{parent_goes_with_all}
@@ -37,9 +35,11 @@ use Rattle.chip_part.specs.Acting.{CanDo}
 use Rattle.chip_actor.specs.Actor.{Makes}
 use Rattle.chip_part.proofs.RuleLemmas.{rules_met}
 use Rattle.chip_actor.proofs.StandingLemmas.{out_inside, may_ack_is}
-use Rattle.chip_actor.proofs.StandingLemmas.{few_got, few_fired}
+use Rattle.chip_actor.proofs.StandingLemmas.{few_fired}
 use Rattle.chip_actor.proofs.SteppingLemmas.{takes, takes_none, settles, acknowledges, halts, clears, may_look, claims}
 use Rattle.chip_actor.proofs.SteppingLemmas.{is_refused, puts, fires}
+use Rattle.std.proofs.lemmas.Bool.{cond-true, cond-false}
+use Rattle.chip_part.proofs.TurnLemmas.{at_most_one}
 
 -- ---- a take
 
@@ -153,16 +153,8 @@ few_terms : (n : ℕ) (t : ℕ → Bool) (f : ℕ → ℕ) → ((e : ℕ) → f 
 few_terms zero t f ones = omega arith
 few_terms (suc n) t f ones =
     let before = few_terms n t f ones in let here = ones n in
-    by_test (t n) (λ y. let a = cond_true (t n) (f n) 0 y in omega arith) (λ z. let a = cond_false (t n) (f n) 0 z in
+    by_test (t n) (λ y. let a = cond-true (t n) (f n) 0 y in omega arith) (λ z. let a = cond-false (t n) (f n) 0 z in
     omega arith)
-
-at_most_one : (o : Option ℕ) → length (option_to_list o) ≤ 1
-at_most_one None = omega arith
-at_most_one (Some x) = omega arith
-
-one_or_none : (b : Bool) → cond b 1 0 ≤ 1
-one_or_none true = omega arith
-one_or_none false = omega arith
 
 pub record MayClaim (a : Actor) (e seen : ℕ) : Type 0 where
   pub clear : IsTrue (out_on a.outs e).link.clear
@@ -192,7 +184,7 @@ may_claim a e seen (g, s, stands, can) =
     let few-unput = few_terms (all_edges g) (λ i. eqb (tail_of g i) a.vertex)
     (λ i. length (option_to_list (s.out i).link.held)) (λ i. at_most_one (s.out i).link.held) in
     let few-refused = few_terms (all_edges g) (λ i. eqb (tail_of g i) a.vertex) (λ i. cond (s.out i).link.refused 1 0)
-    (λ i. one_or_none (s.out i).link.refused) in
+    (λ i. one_at_most (s.out i).link.refused) in
     let unput-is = stands.unput in let refused-is = stands.refused in
     let edges = stands.knows.setting.game.graph_fits.few_edges in
     let vertices = stands.knows.setting.game.graph_fits.few_vertices in
@@ -309,9 +301,9 @@ fire_made a k seen os change = λ g s stands can. (
 -- the message that a claim sent carries what was pending
 pub message_count : (word n : ℕ) (t : TailState) (m : Message) → Some m ≡ message_claimed word n t → m.count ≡ n
 message_count word n t m is = by_test (eqb word t.claims)
-    (λ y. counts (is ∙ cond_true (eqb word t.claims) (Some (record { edge = t.edge; place = t.claims; count = n })) None
+    (λ y. counts (is ∙ cond-true (eqb word t.claims) (Some (record { edge = t.edge; place = t.claims; count = n })) None
     y))
-    (λ z. absurd (differ (is ∙ cond_false (eqb word t.claims)
+    (λ z. absurd (differ (is ∙ cond-false (eqb word t.claims)
     (Some (record { edge = t.edge; place = t.claims; count = n })) None z)))
   where
     counts : Some m ≡ Some (record { edge = t.edge; place = t.claims; count = n }) → m.count ≡ n

@@ -2,9 +2,9 @@
 -- A send over a medium at one edge: what its calls ask, and how the turn goes on from each to the next.
 use Rattle.std.proofs.Common.{◌≡◌, ◌≢◌, ℕ, ◌+◌, ◌-◌, ◌^◌, ◌%◌, ◌<◌, ◌≤◌, Bool, true, false, ◌&&◌, cond, eqb, List}
 use Rattle.std.proofs.Common.{Option, length, slice_index}
-use Rattle.chip_graph.proofs.SumLemmas.{cond_yes, cond_no, cond_false}
+use Rattle.chip_graph.proofs.SumLemmas.{cond_yes, cond_no}
 use Rattle.std.proofs.Common.{Some, None, refl, sym, ap, ◌∙◌, subst, arith, length-set}
-use Rattle.std.proofs.lemmas.Bool.{false≢true, eqb-true}
+use Rattle.std.proofs.lemmas.Bool.{false≢true, eqb-true, cond-false}
 use Rattle.std.proofs.lemmas.List.{get_or-set_same, set-set}
 use Rattle.chip_link.specs.declared.message.Message.{Message}
 use Rattle.chip_link.specs.Words.{claims_in}
@@ -109,7 +109,7 @@ looked_clear t seen may = ap
 
 -- the words of a claim are told by it
 no_words : (t : TailState) → t.clear ≡ false → None ≡ claim_words t
-no_words t off = sym (cond_false t.clear (Some (t.claims, t.claims + 1)) None off)
+no_words t off = sym (cond-false t.clear (Some (t.claims, t.claims + 1)) None off)
 
 -- a place that may be claimed: the look counts, and found the cell empty
 place_told : (t : TailState) (looked place : ℕ) → Some place ≡ place_for looked t

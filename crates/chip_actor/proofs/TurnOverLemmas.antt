@@ -3,10 +3,9 @@
 use Rattle.std.proofs.Common.{◌≡◌, ◌≢◌, ℕ, ◌+◌, ◌-◌, ◌%◌, ◌<◌, ◌≤◌, Bool, true, false, not, ◌&&◌, eqb, List, [], length}
 use Rattle.std.proofs.Common.{sum, slice_index, Option, Some, None, is_some, is_none, option_map, option_to_list, refl}
 use Rattle.std.proofs.Common.{sym, ap, ◌∙◌, subst, arith, eq-eqb, ne_eqb, eqb-true}
-use Rattle.std.proofs.lemmas.Bool.{and_parts}
+use Rattle.std.proofs.lemmas.Bool.{and_parts, cond-true}
 use Rattle.std.proofs.lemmas.List.Sums.{sum_by-cons}
 use Rattle.std.specs.List.{Contains}
-use Rattle.chip_graph.proofs.SumLemmas.{cond_true}
 use Rattle.chip_part.specs.Setting.{Setting}
 use Rattle.chip_link.specs.Link.{claims_of}
 use Rattle.chip_link.specs.Ends.{head_cell, tail_cell, claim_words, put_of}
@@ -19,13 +18,13 @@ use Rattle.chip_part.specs.Edges.{tail_of, head_of}
 use Rattle.chip_actor.specs.declared.ends.outs.OutEnd.{OutEnd}
 use Rattle.chip_actor.specs.Ends.{out_on, in_on}
 use Rattle.chip_part.specs.declared.cause.Cause.{Cause}
-use Rattle.chip_part.specs.Part.{Part, cause, is_by_limit, may_ack, all_owed, refusals}
+use Rattle.chip_part.specs.Part.{Part, cause, is_by_limit, may_ack, refusals}
 use Rattle.chip_part.specs.Rules.{Take, Ack, Fire, Clear, Claim, Put, Settle}
 use Rattle.chip_part.specs.Turn.{ins_of, outs_of, may_fire, batch_of, is_at_limit}
 use Rattle.chip_part.specs.Cursor.{GoesBy, out_at}
 use Rattle.chip_actor.specs.Actor.{Actor, StandsFor, WhateverPart, is_passive_now}
 use Rattle.chip_actor.specs.Medium.{Holding, Moves}
-use Rattle.chip_actor.proofs.StandingLemmas.{may_ack_is, books_in, books_ins}
+use Rattle.chip_actor.proofs.StandingLemmas.{may_ack_is, books_in}
 use Rattle.chip_part.proofs.PartLemmas.{may_le}
 use Rattle.chip_part.proofs.TurnStepsLemmas.{take_due, takes_over, settle_due, settles_over, in_enters, out_leaves, fire_due}
 use Rattle.chip_part.proofs.TurnStepsLemmas.{no_fire_due, puts_over, puts_fit, refusal_none, sends_begin, send_due, sends_to}
@@ -33,6 +32,7 @@ use Rattle.chip_part.proofs.TurnStepsLemmas.{sends_over, claim_due, claim_over, 
 use Rattle.chip_part.proofs.TurnStepsLemmas.{acks_to, acks_over, no_parent, parent_due, no_parent_due}
 use Rattle.chip_actor.proofs.TurnActorLemmas.{pending_is, held_at_place, clear_at_place, none_held}
 use Rattle.chip_actor.proofs.MediumLemmas.{Stands, DueBy, moves_past, then_over, turn_ends}
+use Rattle.chip_detect.proofs.ListLemmas.{not_some}
 
 -- the edge at a slot of the actor's edges is the vertex's there
 module _ {g : Setting} {s : Part} {a : Actor} (stands : StandsFor g s a) {slot : Slot} where
@@ -197,7 +197,7 @@ module _ {a : Actor} {slot : Slot} (is : IsSlotOf a.outs.edges slot) where
         let n : ℕ = claims_of (s.out slot.edge).link in
         let same : Some w ≡ Some (n, n + 1)
         = words ∙ ap (λ (o : OutEnd). claim_words o.link) (stands.outs slot.edge (out_mine stands is))
-        ∙ cond_true (s.out slot.edge).link.clear (Some (n, n + 1)) None (ap (λ (e : ℕ). (s.out e).link.clear)
+        ∙ cond-true (s.out slot.edge).link.clear (Some (n, n + 1)) None (ap (λ (e : ℕ). (s.out e).link.clear)
         (sym (out_there stands is)) ∙ clear) in
         let one : w ≡ (n, n + 1) = cc in (
           subst (λ (e : ℕ). GoesBy g v s (At.Claim slot.index) (Claim e) (At.Store slot.index)) (out_there stands is)
@@ -322,10 +322,6 @@ module _ {a : Actor} {edge : ℕ} (parent : a.detect.parent ≡ Some edge) where
     parent_none none = turn_ends (λ g s stands at.
         no_parent_due g a.vertex stands.knows.vertex s edge (is_parent stands) (sym (parent_count g s stands) ∙ none))
 
-neutral : (p : Option ℕ) → is_some p ≡ false → p ≡ None
-neutral None off = refl
-neutral (Some e) off = absurd (cc)
-
 -- a vertex that isn't engaged owes nothing
 pub nothing_owed : {H : Holding} {a : Actor} → is_some a.detect.parent ≡ false → Moves H a (At.Ack 0) H a At.Over 0
 nothing_owed {H} {a} off = then_over {y = At.Parent}
@@ -334,10 +330,10 @@ nothing_owed {H} {a} off = then_over {y = At.Parent}
       tt,
       acks_over g v stands.knows.vertex s 0
           (λ k le within. ap not (eq-eqb _ _
-          (owes_none g s a stands (sym stands.books.parent ∙ neutral a.detect.parent off)
+          (owes_none g s a stands (sym stands.books.parent ∙ not_some a.detect.parent off)
           (slice_index (ins_of g v) k) (in_enters g v k within)))),
     )))
-    (no_parent_left (neutral a.detect.parent off))
+    (no_parent_left (not_some a.detect.parent off))
   where
     owes_none : (g : Setting) (s : Part) (a : Actor) (stands : StandsFor g s a) → s.parent ≡ None → (e : ℕ)
         → head_of g e ≡ a.vertex → may_ack g (head_of g e) s e ≡ 0

@@ -31,7 +31,6 @@ use Rattle.chip_sequence.specs.Firing.{IsLegal, legal_vertices}
 use Rattle.chip_sequence.specs.Sequence.{position_after, IsFiringSequence, HasEnded, HasEndedWithin, IsWholePlay}
 use Rattle.chip_sequence.proofs.EndLemmas.{one_end}
 use Rattle.chip_sequence.proofs.BoundLemmas.{same_ends}
-use Rattle.chip_sequence.proofs.LegalLemmas.{picked_ext}
 use Rattle.chip_part.specs.declared.cause.Cause.{Cause}
 use Rattle.chip_part.specs.declared.cause.Cause.TheVariants.{SealedEdge, FiringLimit}
 use Rattle.chip_part.specs.Edges.{over_ins}
@@ -41,6 +40,7 @@ use Rattle.chip_core.specs.Headline.{NoneHalted, NoneHaltedBySeal}
 use Rattle.chip_core.proofs.OrderLemmas.{all_neutral, all_counts}
 use Rattle.chip_core.proofs.PositionLemmas.{counts_are, leads_to, is_sequence, is_within}
 use Rattle.chip_core.proofs.ReachingLemmas.{step_legal}
+use Rattle.chip_graph.proofs.PickLemmas.{picked_ext}
 
 -- a part as if it owed nothing and waited for nothing
 abbrev pub settled_up : Part → Part

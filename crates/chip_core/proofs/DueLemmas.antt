@@ -4,10 +4,11 @@
 use Rattle.std.proofs.Common.{◌≡◌, ◌≢◌, ◌⊎◌, ℕ, ◌+◌, ◌<◌, ◌≤◌, true, false, not, ◌&&◌, ◌||◌, eqb, List, [], ◌∷◌, length}
 use Rattle.std.proofs.Common.{Option, Some, None, option_to_list, Contains, refl, sym, ap, ◌∙◌, subst, arith, inl, inr}
 use Rattle.std.proofs.Common.{⊎_elim, eqb-true, eq-eqb, zero, suc, Bool, cond, ltb, is_some, ne_eqb, ltb-true, lt-ltb}
-use Rattle.std.proofs.Common.{leb-true, true≢false, ◌++◌, get_or, append-nil, append_assoc}
-use Rattle.std.proofs.lemmas.Bool.{and_from, ltb-false, eqb-false, not-true, and_parts, not_from_false}
+use Rattle.std.proofs.Common.{leb-true, true≢false, ◌++◌, append-nil, append_assoc}
+use Rattle.std.proofs.lemmas.Bool.{and_from, ltb-false, eqb-false, not-true, and_parts, not_from_false, cond-true}
+use Rattle.std.proofs.lemmas.Bool.{cond-false}
 use Rattle.chip_graph.specs.ChipGame.{IsGame}
-use Rattle.chip_graph.proofs.SumLemmas.{tested_none, cond_yes, cond_no, cond_true, cond_false, by_test, tested_term}
+use Rattle.chip_graph.proofs.SumLemmas.{tested_none, cond_yes, cond_no, by_test, tested_term}
 use Rattle.chip_link.specs.Link.{claims_of, Tail, after_clear, after_claim, after_put}
 use Rattle.chip_link.proofs.SoundsLemmas.{none_held}
 use Rattle.chip_part.specs.Setting.{Setting}
@@ -23,8 +24,7 @@ use Rattle.chip_core.specs.Core.{log_after}
 use Rattle.chip_core.specs.Detection.{IsTree, IsDetectionOrder}
 use Rattle.chip_core.specs.Closing.{HasEnd, is_new_look, Advances, AsksFor, AsksForEverything}
 use Rattle.chip_core.proofs.LogLemmas.{part_kept, head_inside, edge_counts, tail_inside, link_step}
-use Rattle.chip_core.proofs.OrderLemmas.{detection_order, contains_later, contains_nothing, contained, none_some}
-use Rattle.chip_part.proofs.PickedLemmas.{contains_cases}
+use Rattle.chip_core.proofs.OrderLemmas.{detection_order}
 use mathlib.Core.Logic.{dite}
 use native.Mathlib.Decide.{ℕ_discrete, dec_lt}
 use Rattle.chip_part.specs.Counting.{is_got, is_sent}
@@ -40,6 +40,7 @@ use Rattle.chip_core.proofs.ReachingLemmas.{step_legal, run_legal}
 use Rattle.chip_core.proofs.ReplyLemmas.{log_after-append}
 use Rattle.chip_core.proofs.IdleLemmas.{bare, Alike, idle_alike}
 use Rattle.chip_part.proofs.RuleLemmas.{some_of, is_none_of}
+use Rattle.chip_detect.proofs.ListLemmas.{contains_later, contains_nothing, contained, none_some, contains_cases}
 
 module _ (g : Setting) where
   -- nobody has anything to do after this log
@@ -237,11 +238,11 @@ module _ (g : Setting) where
           let full : s.fired ≡ g.game.limit = omega arith in
           let other = eqb-false _ _ (not-true _ (and_parts _ _ on).0) in
           let why : (c : Cause) × (cause g v s ≡ Some c) = by_test (not (eqb (refusals g v s) 0))
-          (λ y. (SealedEdge, cond_true _ (Some SealedEdge) _ y))
+          (λ y. (SealedEdge, cond-true _ (Some SealedEdge) _ y))
           (λ n. (
             FiringLimit,
-            cond_false _ (Some SealedEdge) _ n
-                ∙ cond_true _ (Some FiringLimit) None (and_from _ _ (and_from _ _ (eq-eqb _ _ none) on) (eq-eqb _ _ full)),
+            cond-false _ (Some SealedEdge) _ n
+                ∙ cond-true _ (Some FiringLimit) None (and_from _ _ (and_from _ _ (eq-eqb _ _ none) on) (eq-eqb _ _ full)),
           )) in
           (met_rules g (Halt v) s (vertex, other, runs, unput, why), refl)
 
@@ -252,8 +253,8 @@ module _ (g : Setting) where
           let s : Part = part_in g log v in
           let some = tested_term (all_edges g) (λ i. eqb (tail_of g i) v) (λ i. cond (s.out i).link.refused 1 0) e
           (omega arith) (eq-eqb _ _ at) in
-          let one : ◌≡◌ {A = ℕ} (cond (s.out e).link.refused 1 0) 1 = cond_true (s.out e).link.refused 1 0 on in
-          let why : cause g v s ≡ Some SealedEdge = cond_true _ (Some SealedEdge) _
+          let one : ◌≡◌ {A = ℕ} (cond (s.out e).link.refused 1 0) 1 = cond-true (s.out e).link.refused 1 0 on in
+          let why : cause g v s ≡ Some SealedEdge = cond-true _ (Some SealedEdge) _
           (not_from_false _ (ne_eqb (refusals g v s) 0 (λ z. absurd (omega arith)))) in
           let other = (game.graph_fits.edges_fit e l).not_from_sink in
           let tail = tail_graph g e l in
@@ -387,14 +388,14 @@ module _ (g : Setting) where
   pub no_work : (log : Log) (x : Event) → Idle log x → Works g log x → ⊥
   no_work log x idle works =
       let a = tells_more log x works.0 in
-      let b : ◌≡◌ {A = ℕ} (cond (reply_counts g log x) 1 0) 1 = cond_true (reply_counts g log x) 1 0 works.1 in
+      let b : ◌≡◌ {A = ℕ} (cond (reply_counts g log x) 1 0) 1 = cond-true (reply_counts g log x) 1 0 works.1 in
       absurd (omega arith)
 
   no_refusal : (log : Log) (x : Event) → Idle log x → unmet_rule g x (acting_part g log x) ≡ None
       → is_refused g log x ≡ true → ⊥
   no_refusal log x idle none on =
       let a = tells_more log x none in
-      let b : ◌≡◌ {A = ℕ} (cond (is_refused g log x) 1 0) 1 = cond_true (is_refused g log x) 1 0 on in
+      let b : ◌≡◌ {A = ℕ} (cond (is_refused g log x) 1 0) 1 = cond-true (is_refused g log x) 1 0 on in
       absurd (omega arith)
 
   cases_rule : (o : Option Rule) → (o ≡ None) ⊎ ((r : Rule) × (o ≡ Some r))

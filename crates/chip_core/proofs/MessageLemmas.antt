@@ -3,15 +3,15 @@
 use Rattle.std.proofs.Common.{◌≡◌, ℕ, ◌+◌, ◌*◌, ◌<◌, ◌≤◌, ◌||◌, Bool, true, false, cond, eqb, List, [], ◌∷◌, ◌++◌}
 use Rattle.std.proofs.Common.{length, sum, take, drop, option_to_list, Option, Some, None, is_some, refl, sym, ap, ◌∙◌}
 use Rattle.std.proofs.Common.{subst, arith, true≢false, append_assoc, append-nil, length-append}
-use Rattle.std.proofs.lemmas.Bool.{or_right}
-use Rattle.std.proofs.lemmas.List.{take-append-le, take-append-drop, drop_at, append_cancel_left}
+use Rattle.std.proofs.lemmas.Bool.{or_right, cond-true, cond-false}
+use Rattle.std.proofs.lemmas.List.{take-append-le, take-append-drop, drop_at, append_cancel_left, nil_from_length}
 use Rattle.std.proofs.lemmas.List.Sums.{sum_by-cons, sum_by-append}
 use Rattle.std.specs.List.{slice_get}
 use mathlib.Core.Logic.{dite}
 use native.Mathlib.Decide.{ℕ_discrete}
 use Rattle.chip_graph.specs.ChipGame.{IsGame}
 use Rattle.chip_part.specs.Setting.{Setting}
-use Rattle.chip_graph.proofs.SumLemmas.{cond_yes, cond_no, by_test, cond_true, cond_false}
+use Rattle.chip_graph.proofs.SumLemmas.{cond_yes, cond_no, by_test}
 use Rattle.chip_link.specs.Words.{edge_word}
 use Rattle.chip_link.specs.Link.{Tail, sent_counts, claims_of, after_clear, after_claim, after_put, after_take}
 use Rattle.chip_link.specs.Laws.{IsPrefix}
@@ -150,9 +150,9 @@ module _ (g : Setting) where
       let next : Log = (step g log x).0 in
       let here : Bool = is_seal_of e x (step g log x).1 in
       by_test here
-      (λ on. cond_true here (sent_in e xs (replies_to g next xs)) (sent_after_seal e xs (replies_to g next xs)) on
+      (λ on. cond-true here (sent_in e xs (replies_to g next xs)) (sent_after_seal e xs (replies_to g next xs)) on
       ∙ sealed_before next xs e (now_sealed log e x (unmet_rule g x (part_in g log (part_of g x))) on))
-      (λ off. cond_false here (sent_in e xs (replies_to g next xs)) (sent_after_seal e xs (replies_to g next xs)) off
+      (λ off. cond-false here (sent_in e xs (replies_to g next xs)) (sent_after_seal e xs (replies_to g next xs)) off
       ∙ nothing_after_seal next xs e)
 
   -- ---- what was delivered
@@ -353,10 +353,6 @@ module _ (g : Setting) where
 
     -- ---- from the opening
 
-    empty_list : (xs : List ℕ) → length xs ≡ 0 → xs ≡ []
-    empty_list [] z = refl
-    empty_list (x ∷ xs) z = absurd (omega arith)
-
     -- what was given is the start and what was fed
     pub given_is_fed : (xs : List Event) (v : ℕ) → chips_given g (log_after g [] xs) v
         ≡ start_of g v + chips_in (sent_in (root_edge g v) xs (replies_to g [] xs))
@@ -376,7 +372,7 @@ module _ (g : Setting) where
     held_from_the_opening xs e l =
         let after : Log = log_after g [] xs in
         let none : sent_at [] e ≡ [] = ap (messages_from e 0) (append-nil (first_put g e)
-        ∙ empty_list (first_put g e) (first_few g e l)) in
+        ∙ nil_from_length (first_put g e) (first_few g e l)) in
         let sent : sent_in e xs (replies_to g [] xs)
         ≡ sent_at after e = sym (sent_is [] xs e tt
         ∙ ap (λ (ms : List Message). ms ++ sent_in e xs (replies_to g [] xs)) none) in

@@ -1,43 +1,28 @@
 -- Serves Core.antt.
 -- A detection order exists in every legal log, and what it says where the root is closed.
-use Rattle.std.proofs.Common.{◌≡◌, ◌≢◌, ◌⊎◌, ℕ, zero, suc, ◌-◌, ◌<◌, ◌&&◌, cond, eqb, List, [], ◌∷◌, length, get_or}
+use Rattle.std.proofs.Common.{◌≡◌, ◌≢◌, ◌⊎◌, ℕ, ◌-◌, ◌<◌, ◌&&◌, cond, eqb, List, [], ◌∷◌, length, get_or}
 use Rattle.std.proofs.Common.{Option, Some, None, Contains, refl, sym, ap, ◌∙◌, subst, arith, inl, inr, ⊎_elim}
 use Rattle.std.proofs.lemmas.List.{get_or_past}
-use Rattle.std.proofs.lemmas.List.Elements.{Contains-append_right}
 use mathlib.Core.Logic.{dite}
 use native.Mathlib.Decide.{ℕ_discrete, dec_lt}
 use Rattle.chip_graph.specs.ChipGame.{IsGame}
 use Rattle.chip_part.specs.Setting.{Setting}
-use Rattle.chip_graph.proofs.SumLemmas.{cond_yes, cond_no, cond_true, cond_false, by_test}
+use Rattle.chip_graph.proofs.SumLemmas.{cond_yes, cond_no, by_test}
 use Rattle.chip_detect.specs.Acknowledging.{is_parent, or_else}
 use Rattle.chip_part.specs.Part.{owed, may_ack}
 use Rattle.chip_part.specs.Steps.{parent_after, saw}
 use Rattle.chip_part.specs.Kept.{IsNeutral}
 use Rattle.chip_part.proofs.RuleLemmas.{rules_met}
 use Rattle.chip_part.proofs.PartLemmas.{at_edge, out_zero}
-use Rattle.chip_part.proofs.PickedLemmas.{contains_cases}
 use Rattle.chip_core.specs.Core.{Log, Step, Event, Take, Ack, Part, part_of, does, part_in, out_in, into_in, IsLegalLog}
 use Rattle.chip_core.specs.Core.{IsSettled, outstanding, all_edges, tail_of, head_of, root}
 use Rattle.chip_core.specs.Detection.{IsTree, IsDetectionOrder}
 use Rattle.chip_core.proofs.LogLemmas.{part_here, part_else, part_kept, edge_counts, head_inside, tail_cases}
+use Rattle.chip_detect.proofs.ListLemmas.{contains_first, contains_later, contains_nothing, contained, cases_option}
+use Rattle.chip_detect.proofs.ListLemmas.{none_some, contains_cases}
+use Rattle.std.proofs.lemmas.Bool.{cond-true, cond-false}
 
 -- ---- lists of vertices
-
-contains_first : (u : ℕ) (us : List ℕ) → Contains (u ∷ us) u
-contains_first u us = (0, omega arith, refl)
-
-pub contains_later : (u : ℕ) (us : List ℕ) (v : ℕ) → Contains us v → Contains (u ∷ us) v
-contains_later u us v m = Contains-append_right (u ∷ []) us v m
-
-pub contains_nothing : (v : ℕ) → Contains [] v → ⊥
-contains_nothing v m = let a = m.1 in absurd (omega arith)
-
-pub contained : (vs : List ℕ) (v : ℕ) → (Contains vs v) ⊎ (Contains vs v → ⊥)
-contained [] v = inr (contains_nothing v)
-contained (u ∷ us) v = dite (ℕ_discrete v u)
-    (λ e. inl (subst (Contains (u ∷ us)) (sym e) (contains_first u us)))
-    (λ ne. ⊎_elim (λ m. inl (contains_later u us v m)) (λ out. inr (λ z. ⊎_elim ne out (contains_cases u us v z)))
-    (contained us v))
 
 -- the list without every h
 without : ℕ → List ℕ → List ℕ
@@ -67,13 +52,6 @@ without_contains u h (v ∷ vs) ne m = dite (ℕ_discrete v h)
     (λ z. contains_later v (without h vs) u (without_contains u h vs ne z)) (contains_cases v vs u m)))
 
 -- ---- parents
-
-pub cases_parent : (o : Option ℕ) → (o ≡ None) ⊎ ((q : ℕ) × (o ≡ Some q))
-cases_parent None = inl refl
-cases_parent (Some q) = inr (q, refl)
-
-pub none_some : (q : ℕ) (o : Option ℕ) → o ≡ None → o ≡ Some q → ⊥
-none_some q o a b = absurd (cc)
 
 module _ (g : Setting) (game : IsGame g.game) (some_ring : 0 < g.ring) where
   -- the tail of an edge with something outstanding is the root or engaged
@@ -203,7 +181,7 @@ module _ (g : Setting) (game : IsGame g.game) (some_ring : 0 < g.ring) where
       ))
       (λ q. still_ordered x log (cond_no seen 0 (parents log h) (or_else (parents log h) e) some
       ∙ ap (λ (p : Option ℕ). or_else p e) q.1 ∙ sym q.1) o)
-      (cases_parent (parents log h)))
+      (cases_option (parents log h)))
   order_step log (Ack e) seen legal o =
       let x : Step = saw (Ack e) seen in
       let h : ℕ = head_of g e in
@@ -212,7 +190,7 @@ module _ (g : Setting) (game : IsGame g.game) (some_ring : 0 < g.ring) where
       let one = one_parent x log h refl in
       by_test (is_parent e s.parent && eqb (may_ack g h s e) (owed (s.into e)))
       (λ y.
-      let now : parents (x ∷ log) h ≡ None = one.0 ∙ cond_true _ None s.parent y in
+      let now : parents (x ∷ log) h ≡ None = one.0 ∙ cond-true _ None s.parent y in
       let free : (v q : ℕ) → v ≢ h → parents (x ∷ log) v ≡ Some q
       → tail_of g q ≢ h = (λ v q ne is at. (let p = parent_edge (x ∷ log) legal v q is in
       busy_tail (x ∷ log) legal q h p.0 at (head_inside g game e l) now p.3)) in (
@@ -222,7 +200,7 @@ module _ (g : Setting) (game : IsGame g.game) (some_ring : 0 < g.ring) where
             (λ z. subst (λ (u : ℕ). parents (x ∷ log) u ≡ None) (sym z) now)
             (λ z. one.1 v z ∙ o.2 v inside (λ m. out (without_contains v h o.0 z m))),
       ))
-      (λ n. still_ordered x log (cond_false _ None s.parent n) o)
+      (λ n. still_ordered x log (cond-false _ None s.parent n) o)
   order_step log ev seen legal o = still_ordered (saw ev seen) log refl o
 
   ordered : (log : Log) → IsLegalLog g log → Ordered log

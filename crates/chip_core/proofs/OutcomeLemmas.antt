@@ -12,7 +12,7 @@ use native.Mathlib.Decide.{dec_lt}
 use Rattle.chip_graph.specs.Multigraph.{degree}
 use Rattle.chip_graph.specs.ChipGame.{IsGame}
 use Rattle.chip_part.specs.Setting.{Setting}
-use Rattle.chip_graph.proofs.PickLemmas.{All-picked}
+use Rattle.chip_graph.proofs.PickLemmas.{All-picked, picked_none, picked_ext, picked_ascends, Contains-picked}
 use Rattle.chip_sequence.specs.declared.outcome.Outcome.{Outcome}
 use Rattle.chip_sequence.specs.Outcomes.{IsOutcome}
 use Rattle.chip_sequence.specs.Play.{IsPlayed}
@@ -21,7 +21,6 @@ use Rattle.chip_sequence.specs.Sequence.{position_after, counts, IsWholePlay}
 use Rattle.chip_sequence.specs.Counted.{position_by_counts, IsBelowZero}
 use Rattle.chip_sequence.proofs.FiringLemmas.{counts_outside}
 use Rattle.chip_sequence.proofs.EndLemmas.{one_end}
-use Rattle.chip_sequence.proofs.LegalLemmas.{picked_none, picked_ext, picked_ascends, Contains-picked}
 use Rattle.chip_part.specs.declared.cause.Cause.{Cause}
 use Rattle.chip_part.specs.declared.cause.Cause.TheVariants.{SealedEdge, FiringLimit}
 use Rattle.chip_core.specs.Core.{Log, part_in, fired_by, is_by_limit, IsLegalLog, IsClosed}

@@ -10,7 +10,7 @@ use native.Mathlib.Decide.{dec_lt}
 use Rattle.chip_graph.specs.Multigraph.{degree, edge_at}
 use Rattle.chip_graph.specs.ChipGame.{IsGame}
 use Rattle.chip_part.specs.Setting.{Setting}
-use Rattle.chip_graph.proofs.SumLemmas.{cond_yes, cond_no, cond_true, cond_false, tested_ext, tested_add}
+use Rattle.chip_graph.proofs.SumLemmas.{cond_yes, cond_no, tested_ext, tested_add}
 use Rattle.chip_link.specs.Link.{sent_counts}
 use Rattle.chip_sequence.specs.Sequence.{position_after, IsFiringSequence, counts, IsWithin}
 use Rattle.chip_sequence.specs.Counted.{inflow, position_by_counts, IsBelowZero}
@@ -28,6 +28,7 @@ use Rattle.chip_core.specs.Positions.{chips_given, held, full_position, firings,
 use Rattle.chip_core.specs.Laws.{gone_into}
 use Rattle.chip_core.proofs.LogLemmas.{part_kept, out_kept, edge_sound}
 use Rattle.chip_core.proofs.GivenLemmas.{started_grows}
+use Rattle.std.proofs.lemmas.Bool.{cond-true, cond-false}
 
 module _ (g : Setting) where
   -- ---- how often each vertex fired
@@ -53,12 +54,12 @@ module _ (g : Setting) where
 
   pub gone_graph : (log : Log) (e : ℕ) → e < graph_edges g
       → gone_into g log e ≡ chips_of_firings g e (fired_by g log (tail_of g e))
-  gone_graph log e l = cond_true (ltb e (length g.game.graph.edges))
+  gone_graph log e l = cond-true (ltb e (length g.game.graph.edges))
       (chips_of_firings g e (fired_by g log (tail_of g e)))
       (chips_given g log (e - graph_edges g)) (lt-ltb e (length g.game.graph.edges) l)
 
   pub gone_root : (log : Log) (e : ℕ) → graph_edges g ≤ e → gone_into g log e ≡ chips_given g log (e - graph_edges g)
-  gone_root log e l = cond_false (ltb e (length g.game.graph.edges))
+  gone_root log e l = cond-false (ltb e (length g.game.graph.edges))
       (chips_of_firings g e (fired_by g log (tail_of g e)))
       (chips_given g log (e - graph_edges g)) (le-ltb e (length g.game.graph.edges) l)
 

@@ -11,7 +11,7 @@ use Rattle.chip_part.proofs.PartLemmas.{out_zero}
 use Rattle.chip_core.specs.Core.{Log, Step, Event, Read, unmet_rule, part_of, part_in, sees, word_of_part, IsLegalLog}
 use Rattle.chip_core.specs.Core.{IsSettled, IsClosed, outstanding, tail_of, root, all_edges}
 use Rattle.chip_core.proofs.ClosingLemmas.{still, still_closed}
-use Rattle.chip_part.proofs.PickedLemmas.{contains_cases}
+use Rattle.chip_detect.proofs.ListLemmas.{contains_cases}
 
 -- the two ways to say that all that the root sent is settled
 pub settled_is : (g : Setting) (log : Log) → (deficit g (root g) (part_in g log (root g)) ≡ 0) ↔ IsSettled g log

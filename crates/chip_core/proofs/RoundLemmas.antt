@@ -1,8 +1,8 @@
 -- Serves Histories.antt, Closing.antt.
 -- What a whole turn of which no step counts tells of the vertex. Where every vertex made one, and the root settled all its
 -- edges, the root is closed.
-use Rattle.std.proofs.Common.{◌≡◌, ◌≢◌, ◌⊎◌, ℕ, zero, suc, ◌+◌, ◌<◌, ◌≤◌, Bool, true, false, not, ◌&&◌, cond, eqb, List}
-use Rattle.std.proofs.Common.{[], ◌∷◌, ◌++◌, length, get_or, Option, Some, None, is_some, Contains, refl, sym, ap, ◌∙◌}
+use Rattle.std.proofs.Common.{◌≡◌, ◌≢◌, ◌⊎◌, ℕ, ◌+◌, ◌<◌, ◌≤◌, Bool, true, false, not, ◌&&◌, cond, eqb, List}
+use Rattle.std.proofs.Common.{[], ◌∷◌, ◌++◌, length, Option, Some, None, is_some, Contains, refl, sym, ap, ◌∙◌}
 use Rattle.std.proofs.Common.{subst, arith, inl, inr, ⊎_elim, eqb-true, true≢false, eq-eqb, lt-ltb}
 use Rattle.std.proofs.lemmas.List.Elements.{Contains-append_left, Contains-append_right, Contains-push_cases}
 use Rattle.chip_part.specs.Setting.{Setting}
@@ -17,7 +17,7 @@ use Rattle.chip_part.specs.Turn.{is_at_limit, acknowledging_parent, turn}
 use Rattle.chip_core.specs.Histories.{part_by, done_by}
 use Rattle.chip_part.proofs.PhaseLemmas.{Spreads, of_takes, of_settles, of_firing, of_puts, of_sending_all, of_limit}
 use Rattle.chip_part.proofs.PhaseLemmas.{of_acks, of_turn}
-use Rattle.chip_part.proofs.PickedLemmas.{among_new_outs, contains_cases, among_new_ins}
+use Rattle.chip_part.proofs.PickedLemmas.{among_new_outs, among_new_ins}
 use Rattle.chip_core.specs.Work.{counts_as_work, work_in}
 use Rattle.chip_core.proofs.IdleLemmas.{bare, idle_does, Alike, counts_here, idle_alike, one_more, work_grows}
 use Rattle.chip_core.proofs.IdleLemmas.{idle_stretch}
@@ -32,11 +32,12 @@ use Rattle.chip_core.specs.Core.{Log, Step, Event, Part, Take, Clear, Settle, pa
 use Rattle.chip_core.specs.Core.{does, IsLegalLog, IsClosed, tail_of, head_of, all_edges, graph_edges}
 use Rattle.chip_core.specs.Words.{acting_part}
 use Rattle.chip_core.specs.Closing.{HasEnd, RootHasPut, HasTurn, HasRound}
-use Rattle.chip_core.proofs.LogLemmas.{part_here, part_else, edge_counts, head_inside, tail_inside, in_pieces}
+use Rattle.chip_core.proofs.LogLemmas.{edge_counts, head_inside, tail_inside, in_pieces}
 use Rattle.chip_core.proofs.DueLemmas.{Quiet, quiet_closes, Works, take_works, settle_works, none_unput}
 use Rattle.chip_core.proofs.DueLemmas.{look_finds}
 use Rattle.chip_core.proofs.ReachingLemmas.{part-append, part_own}
 use Rattle.chip_part.proofs.RuleLemmas.{is_none_of}
+use Rattle.chip_detect.proofs.ListLemmas.{contains_cases}
 
 -- how many of these count whatever they saw
 abbrev sure : Event → ℕ

@@ -38,9 +38,9 @@ use Rattle.chip_core.proofs.ReachingLemmas.{step_legal, run_legal, run_from}
 use Rattle.chip_core.proofs.ReplyLemmas.{log_after-append}
 use Rattle.chip_core.proofs.DueLemmas.{tells_in, run_grows, by_rule, made, asked_closes}
 use Rattle.chip_core.proofs.RoundLemmas.{round_closes, take_made, settle_made}
-use Rattle.chip_part.proofs.PickedLemmas.{contains_cases}
 use Rattle.chip_part.proofs.RuleLemmas.{rules_met}
 use Rattle.chip_core.proofs.LogLemmas.{met_here}
+use Rattle.chip_detect.proofs.ListLemmas.{contains_cases}
 
 module _ (g : Setting) (game : IsGame g.game) (some_ring : 0 < g.ring) where
   -- two logs leave the same parts but for the stopper's

@@ -1,6 +1,6 @@
 -- Serves Soon.antt, Detection.antt.
 -- Soon after the end each round takes the lowest level off the tree, until the root is closed.
-use Rattle.std.proofs.Common.{◌≡◌, ◌⊎◌, ℕ, zero, suc, ◌+◌, ◌-◌, ◌<◌, ◌≤◌, cond, eqb, List, [], ◌∷◌, ◌++◌, length, Some}
+use Rattle.std.proofs.Common.{◌≡◌, ◌⊎◌, ℕ, zero, suc, ◌+◌, ◌-◌, ◌<◌, ◌≤◌, eqb, List, [], ◌∷◌, ◌++◌, length, Some}
 use Rattle.std.proofs.Common.{None, Contains, refl, sym, ap, ◌∙◌, subst, arith, inl, inr, ⊎_elim, eqb-true}
 use Rattle.std.proofs.Common.{pos_of_ne-zero, append_assoc}
 use Rattle.std.proofs.lemmas.List.{length-drop}
@@ -26,28 +26,17 @@ use Rattle.chip_core.specs.Closing.{HasTurn, HasRounds}
 use Rattle.chip_core.specs.Soon.{HasTerminated, IsAtMostDeep, HasRoundInOrder, DepthCloses, DepthClosesLater, DepthIsCounted}
 use Rattle.chip_core.proofs.LogLemmas.{part_kept, settled_step, acked_step, head_inside, tail_inside, acked_grows}
 use Rattle.chip_core.proofs.LogLemmas.{settled_grows, legal_before, in_pieces}
-use Rattle.chip_core.proofs.OrderLemmas.{contained, cases_parent, none_some}
 use Rattle.chip_core.proofs.DueLemmas.{parent_below}
 use Rattle.chip_core.proofs.RoundLemmas.{makes_turn, settles_all, own_in}
 use Rattle.chip_core.proofs.ClosingLemmas.{settled_up, AtRest, rested, same_up, rests_on}
-use Rattle.chip_part.proofs.PickedLemmas.{contains_cases}
 use Rattle.chip_core.proofs.ReachingLemmas.{part_own}
-use Rattle.std.proofs.lemmas.Bool.Decides.{nat_tests}
+use Rattle.chip_detect.proofs.ListLemmas.{place_in, few_places, contained, cases_option, none_some, contains_cases}
 
 no_messages : (e place : ℕ) (counts : List ℕ) → messages_from e place counts ≡ [] → length counts ≡ 0
 no_messages e place [] is = refl
 no_messages e place (c ∷ cs) is = absurd (let a = ap (λ (l : List Message). length l) is in omega arith)
 
 -- ---- the place in a detection order as a level
-
-place_in : List ℕ → ℕ → ℕ
-place_in [] v = 0
-place_in (u ∷ us) v = cond (eqb v u) (suc (length us)) (place_in us v)
-
-few_places : (vs : List ℕ) (v : ℕ) → place_in vs v ≤ length vs
-unfolding place_in
-few_places [] v = omega arith
-few_places (u ∷ us) v = grind (arith, nat_tests, few_places us v)
 
 module _ (g : Setting) where
   module _ (game : IsGame g.game) (log : Log) where
@@ -160,7 +149,7 @@ module _ (g : Setting) where
         let b = ap (λ (s : Part). length (s.into e).got) (on.same (head_of g e)) in
         ⊎_elim (λ none. absurd (let c = owes_none (xs ++ log) legal e l none in omega arith))
         (λ q. q.1 ∙ sym (on.parent (head_of g e) q.0 q.1) ∙ here (omega arith))
-        (cases_parent (part_in g (xs ++ log) (head_of g e)).parent)
+        (cases_option (part_in g (xs ++ log) (head_of g e)).parent)
 
     -- ---- a turn of each vertex
 
@@ -289,7 +278,7 @@ module _ (g : Setting) where
                 (λ free. owes_none log (legal_before g xs log legal) e l free)
                 (λ q. absurd (let a = flat (head_of g e) (head_inside g game e l) q.0 q.1 in let b = a.0 in let c = a.1 in
                 omega arith))
-                (cases_parent (part_in g log (head_of g e)).parent) in
+                (cases_option (part_in g log (head_of g e)).parent) in
                 let x = settles e past l in
                 let a = settle_seen xs log legal x.0 x.1 e x.2 in
                 let b = ap (λ (s : Part). claims_of (s.out e).link) (on.same (tail_of g e)) in

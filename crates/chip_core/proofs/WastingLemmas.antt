@@ -8,7 +8,7 @@ use native.Mathlib.Decide.{ℕ_discrete}
 use Rattle.chip_graph.specs.ChipGame.{IsGame}
 use Rattle.chip_graph.specs.Sums.{sum_below}
 use Rattle.chip_graph.specs.Multigraph.{edge_at}
-use Rattle.chip_graph.proofs.SumLemmas.{cond_yes, cond_no, sum_below_le, sum_below_add, sum_below_one}
+use Rattle.chip_graph.proofs.SumLemmas.{cond_yes, cond_no, sum_below_le, sum_below_add, sum_below_one, one_at_most}
 use Rattle.chip_sequence.proofs.EndLemmas.{least_action}
 use Rattle.chip_link.specs.Link.{Tail, claims_of}
 use Rattle.chip_link.proofs.SoundsLemmas.{none_held, length-sent_counts}
@@ -33,10 +33,6 @@ use Rattle.chip_core.proofs.ScheduleLemmas.{ends_longer, bounds_stay, few_after}
 -- what new looks at an edge leave behind: each is followed by a claim, or a refusal, or is noted still
 abbrev looked : Tail → ℕ
 looked t = claims_of t + refused_on t + cond t.clear 1 0
-
-one_at_most : (b : Bool) → cond b 1 0 ≤ 1
-one_at_most true = omega arith
-one_at_most false = omega arith
 
 one_term : (n e more : ℕ) → e < n → sum_below n (λ i. cond (eqb e i) more 0) ≡ more
 one_term n e more l = sum_below_one n (λ i. cond (eqb e i) more 0) e l

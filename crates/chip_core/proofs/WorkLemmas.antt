@@ -9,8 +9,9 @@ use Rattle.chip_graph.specs.Multigraph.{edge_at, IsDistance}
 use Rattle.chip_sequence.specs.Bound.{greatest_degree, firing_bound, IsGreatestDistance}
 use Rattle.chip_sequence.proofs.EndLemmas.{least_action, continued}
 use Rattle.chip_sequence.proofs.BoundLemmas.{bound_law, below_top}
-use Rattle.chip_graph.proofs.SumLemmas.{cond_yes, cond_no, cond_false, sum_below_le, sum_below_ext}
+use Rattle.chip_graph.proofs.SumLemmas.{cond_yes, cond_no, sum_below_le, sum_below_ext}
 use Rattle.chip_graph.proofs.SumLemmas.{sum_below_add, sum_below_split, sum_below_scale, sum_below_one, sum_below_none}
+use Rattle.chip_graph.proofs.SumLemmas.{one_at_most, none_either}
 use Rattle.chip_link.specs.Link.{Tail, claims_of, after_clear, after_claim, after_put, after_take, sent_counts}
 use Rattle.chip_link.proofs.SoundsLemmas.{none_held, one_held, length-sent_counts}
 use Rattle.chip_part.specs.Setting.{Setting}
@@ -40,6 +41,7 @@ use Rattle.chip_core.proofs.LogLemmas.{met_here}
 use Rattle.chip_sequence.specs.Sequence.{IsFiringSequence, counts}
 use Rattle.chip_part.proofs.OpeningLemmas.{first_is}
 use Rattle.std.proofs.lemmas.Bool.Decides.{nat_tests}
+use Rattle.std.proofs.lemmas.Bool.{cond-false}
 
 -- one thing is changed, and what is measured of it grows by so much
 grows_at : {A : Type 0} (size : ℕ → A → ℕ) (e more : ℕ) (new old : ℕ → A) → size e (old e) + more ≤ size e (new e)
@@ -54,14 +56,6 @@ one_term n e more l = sum_below_one n (λ i. cond (eqb e i) more 0) e l
 -- a refusal that is noted, as a number
 abbrev pub refused_on : Tail → ℕ
 refused_on t = cond t.refused 1 0
-
-no_more : (b : Bool) → ◌≡◌ {A = ℕ} (cond b 0 0) 0
-no_more true = refl
-no_more false = refl
-
-at_most_one : (b : Bool) → cond b 1 0 ≤ 1
-at_most_one true = omega arith
-at_most_one false = omega arith
 
 -- what one step does, by what it tells
 take_grows : (b : Bool) (m : Message) (seen : ℕ) (got : List ℕ)
@@ -80,7 +74,7 @@ refusal_grows : (b : Bool) (e : ℕ) (m : Message) (count : ℕ) (t : Tail) → 
     → refused_on t + cond (is_refused_claim (Claim e) (cond b (Sent m) Sealed)) 1 0
     ≤ refused_on (cond b (record t { held = Some count; clear = false }) (record t { clear = false; refused = true }))
 refusal_grows true e m count t off = omega arith
-refusal_grows false e m count t off = let a : ◌≡◌ {A = ℕ} (refused_on t) 0 = cond_false t.refused 1 0 off in omega arith
+refusal_grows false e m count t off = let a : ◌≡◌ {A = ℕ} (refused_on t) 0 = cond-false t.refused 1 0 off in omega arith
 
 some_more : (n : ℕ) → cond (ltb 0 n) 1 0 ≤ n
 some_more n = grind (arith, nat_tests)
@@ -164,7 +158,7 @@ module _ (g : Setting) where
         omega arith
     edge_more log legal (Clear i) seen may e =
         let a = grows_at link_work i 0 (λ j. after_clear seen (out_in g log j).link) (λ j. (out_in g log j).link) (omega arith) e in
-        let b = no_more (eqb 0 e) in omega arith
+        let b = none_either (eqb 0 e) in omega arith
     edge_more log legal (Claim i) seen may e =
         let o = out_in g log i in
         let a = grows_at link_work i (counted log (Claim i) seen) (λ j. after_claim (out_in g log j).pending seen (out_in g log j).link)
@@ -179,7 +173,7 @@ module _ (g : Setting) where
         let long = length-sent_counts t in let held = one_held t may.1.0 may.1.1 in
         let a = grows_at link_work i 1 (λ j. after_put (out_in g log j).link) (λ j. (out_in g log j).link) (omega arith) e in
         omega arith
-    edge_more log legal x seen may e = let b = no_more (eqb (edge_of x) e) in omega arith
+    edge_more log legal x seen may e = let b = none_either (eqb (edge_of x) e) in omega arith
 
     vertex_after : (log : Log) (x : Event) (seen : ℕ) (s : Part) → Met g x s
         → s.fired + cond (is_some s.halt) 1 0 + by_vertex x (counted log x seen)
@@ -324,7 +318,7 @@ module _ (g : Setting) where
         let same = ap fired (tail_graph g e l) in omega arith) in
         let h = root_claims_are log legal in
         let i = sum_below_le n (vertex_work log) (λ v. fired v + 1) (λ v l.
-        let one = few v l in let halt = at_most_one (is_some (part_in g log v).halt) in omega arith) in
+        let one = few v l in let halt = one_at_most (is_some (part_in g log v).halt) in omega arith) in
         let j = sum_below_add n fired (λ v. 1) in
         let k = ones n in
         let all = work_fits log legal in
@@ -338,9 +332,9 @@ module _ (g : Setting) where
         + cond (eqb (edge_of x) e) (cond (is_refusal g (part_in g log (part_of g x)) (saw x seen)) 1 0) 0
         ≤ refused_on (link_after x seen e (out_in g log e))
     refused_more log legal (Clear i) seen may e l = let a = grows_at (λ j. refused_on) i 0 (λ j. after_clear seen (out_in g log j).link)
-        (λ j. (out_in g log j).link) (omega arith) e in let b = no_more (eqb 0 e) in omega arith
+        (λ j. (out_in g log j).link) (omega arith) e in let b = none_either (eqb 0 e) in omega arith
     refused_more log legal (Put i) seen may e l = let a = grows_at (λ j. refused_on) i 0 (λ j. after_put (out_in g log j).link)
-        (λ j. (out_in g log j).link) (omega arith) e in let b = no_more (eqb i e) in omega arith
+        (λ j. (out_in g log j).link) (omega arith) e in let b = none_either (eqb i e) in omega arith
     refused_more log legal (Claim i) seen may e l = grows_at (λ j. refused_on) i
         (cond (is_refusal g (part_in g log (tail_of g i)) (saw (Claim i) seen)) 1 0)
         (λ j. after_claim (out_in g log j).pending seen (out_in g log j).link) (λ j. (out_in g log j).link)
@@ -350,8 +344,8 @@ module _ (g : Setting) where
         let past = may.0 in
         let a = ap refused_on (cond_no i e (after_claim k seen (out_in g log e).link) (out_in g log e).link
         (λ z. absurd (omega arith))) in
-        let b = no_more (eqb i e) in omega arith
-    refused_more log legal x seen may e l = let b = no_more (eqb (edge_of x) e) in omega arith
+        let b = none_either (eqb i e) in omega arith
+    refused_more log legal x seen may e l = let b = none_either (eqb (edge_of x) e) in omega arith
 
     abbrev pub all_refused : Log → ℕ
     all_refused log = sum_below (graph_edges g) (λ e. refused_on (out_in g log e).link)
@@ -383,7 +377,7 @@ module _ (g : Setting) where
     few_refusals log legal =
         let a = refusals_noted log legal in
         let b = sum_below_le (graph_edges g) (λ e. refused_on (out_in g log e).link) (λ e. 1)
-        (λ e l. at_most_one (out_in g log e).link.refused) in
+        (λ e l. one_at_most (out_in g log e).link.refused) in
         let c = ones (graph_edges g) in
         omega arith
 

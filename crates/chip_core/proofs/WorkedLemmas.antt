@@ -7,7 +7,7 @@ use Rattle.chip_core.specs.Worked.{TwoEngaged, whole_schedule, WholeSchedule, li
 use Rattle.chip_core.specs.Worked.{StoppedByLimit, played_on, StoppedBySeal, fed_triangle, fed_schedule, ClosedByTheEnd}
 use Rattle.chip_graph.specs.Multigraph.{edge_at, IsEdge, IsGraph, ReachesSink}
 use Rattle.chip_part.specs.Setting.{Setting}
-use Rattle.chip_core.specs.Core.{End, Take, Ack, Settle, Fire, log_after, IsClosed, Log, part_in, tail_of}
+use Rattle.chip_core.specs.Core.{End, Take, Ack, Settle, Fire, log_after, Log, part_in, tail_of}
 use Rattle.chip_core.proofs.ReadLemmas.{settled_is, closed_is}
 use Rattle.chip_core.specs.WorkedSoon.{four_chips, sent_back, PairCloses}
 use Rattle.chip_core.proofs.PlayingLemmas.{plays_out}
@@ -21,6 +21,7 @@ use Rattle.chip_part.proofs.RestingLemmas.{same_edge}
 use Rattle.chip_graph.specs.Limits.{max_total, max_limit}
 use Rattle.chip_graph.specs.ChipGame.{IsGame}
 use Rattle.chip_link.proofs.SoundsLemmas.{none-some}
+use Rattle.chip_detect.proofs.ListLemmas.{contains_nothing}
 
 -- a list of one vertex has no other
 only_one : (u v : ℕ) → u < v → Contains (u ∷ []) v → ⊥
@@ -30,16 +31,13 @@ only_one u v l m = other m.0 m.1 m.2
     other zero few is = (let same : u ≡ v = is in absurd (omega arith))
     other (suc k) few is = absurd (omega arith)
 
-nothing_in : (v : ℕ) → Contains [] v → ⊥
-nothing_in v m = let few = m.1 in absurd (omega arith)
-
 pub two_engaged : TwoEngaged
 two_engaged = (
   record {
     tree = (
       (
         tt,
-        nothing_in 0,
+        contains_nothing 0,
         (
           4,
           record {

@@ -9,24 +9,23 @@ use mathlib.Core.Logic.{dite}
 use native.Mathlib.Decide.{ℕ_discrete, dec_lt}
 use Rattle.chip_graph.specs.ChipGame.{IsGame}
 use Rattle.chip_graph.specs.Sums.{filter_below}
-use Rattle.chip_graph.proofs.PickLemmas.{All-picked}
+use Rattle.chip_graph.proofs.PickLemmas.{All-picked, picked_has, picked_ascends}
 use Rattle.chip_graph.proofs.SumLemmas.{cond_yes, cond_no, by_test, picked_sum, tested_none}
 use Rattle.chip_link.proofs.SoundsLemmas.{none_held, length-sent_counts}
 use Rattle.chip_link.specs.Link.{Tail, claims_of, after_claim}
 use Rattle.chip_detect.specs.Books.{Books, owed, all_owed, deficit}
-use Rattle.chip_detect.specs.Acknowledging.{is_parent, or_else, parent_while_owed, acknowledgeable_count}
+use Rattle.chip_detect.specs.Acknowledging.{is_parent, or_else, parent_while_owed}
 use Rattle.chip_detect.specs.Acknowledging as detect
 use Rattle.chip_part.specs.Setting.{Setting}
 use Rattle.chip_part.specs.Part as part
 use Rattle.chip_part.specs.Part.{Part, opening_part, first_put, is_passive}
 use Rattle.chip_part.specs.Edges.{tail_of, head_of, all_edges, graph_edges, root, root_edge, stopper}
 use Rattle.chip_part.specs.Steps.{part_of, does, saw, got_after, acked_after}
-use Rattle.chip_part.specs.Kept.{KeepsPart, IsNeutral}
+use Rattle.chip_part.specs.Kept.{KeepsPart}
 use Rattle.chip_part.proofs.OpeningLemmas.{first_few}
 use Rattle.chip_detect.specs.Tally.{edge_limit}
-use Rattle.chip_diffusing.proofs.KeptLemmas.{none_some}
 use Rattle.chip_part.proofs.EdgeLemmas.{tail_root, head_root}
-use Rattle.chip_part.proofs.PickedLemmas.{picked_has, picked_passes, picked_rises}
+use Rattle.chip_part.proofs.PickedLemmas.{picked_passes}
 use Rattle.chip_part.proofs.PartLemmas.{idle_take, took_some, no_fire, no_pending, no_put, no_halt, may_le}
 use Rattle.chip_part.proofs.RuleLemmas.{rules_met}
 use Rattle.chip_core.specs.Core.{Log, Step, Event, Take, Ack, Fire, Clear, Claim, Put, Halt, Settle, Seal, Read, Feed, End}
@@ -43,6 +42,7 @@ use Rattle.chip_diffusing.proofs.CountedLemmas.{books_by, side, side_same, side_
 use Rattle.chip_diffusing.proofs.CountedLemmas.{side_all_open, side_fresh, counts_in}
 use Rattle.chip_diffusing.proofs.SilentLemmas.{leads_on}
 use Rattle.chip_core_diffuses.specs.Instance.{network_of, passive_of, Shows, CoreDiffuses}
+use Rattle.chip_detect.proofs.ListLemmas.{none_some}
 
 module _ (g : Setting) where
   abbrev pub net : Network
@@ -563,9 +563,9 @@ module _ (g : Setting) where
         → s.parent ≡ None → (p ≢ root g → passive_of g p s ≡ true) → OpensPart net p (show p s)
     opens_part p s got acked claims settled none passive =
         let a = side_fresh (ins p) (λ e. length (s.into e).got) (λ e. (s.into e).acked)
-        (picked_rises (λ e. eqb (head_of g e) p) (all_edges g)) (few_ins p) (λ e m. got e) (λ e m. acked e) in
+        (picked_ascends (λ e. eqb (head_of g e) p) (all_edges g)) (few_ins p) (λ e m. got e) (λ e m. acked e) in
         let b = side_fresh (outs p) (λ e. claims_of (s.out e).link) (λ e. (s.out e).settled)
-        (picked_rises (λ e. eqb (tail_of g e) p) (all_edges g)) (few_outs p) claims (λ e m. settled e) in
+        (picked_ascends (λ e. eqb (tail_of g e) p) (all_edges g)) (few_outs p) claims (λ e m. settled e) in
         record {
           ins = ins p;
           outs = outs p;

@@ -3,12 +3,11 @@
 use Rattle.std.proofs.Common.{◌≡◌, ◌==◌, ℕ, ◌+◌, ◌<◌, true, if◌then◌else◌, List, [], ◌∷◌, ◌++◌, length, Option}
 use Rattle.std.proofs.Common.{Some}
 use Rattle.std.proofs.Common.{None, is_some, refl, sym, ap, ◌∙◌, subst, arith, le-ltb}
-use Rattle.std.proofs.lemmas.Bool.{ltb-true}
+use Rattle.std.proofs.lemmas.Bool.{ltb-true, cond-false}
 use Rattle.std.proofs.lemmas.Bool.Decides.{nat_tests}
 use Rattle.std.specs.Prelude.{nat_lt}
 use Rattle.std.specs.Option.{option_zip}
 use Rattle.chip_graph.specs.ChipGame.{ChipGame}
-use Rattle.chip_graph.proofs.SumLemmas.{cond_false}
 use Rattle.chip_core.specs.Core.{Event, Seal, Step}
 use Rattle.chip_net.specs.Roots.{RootKnown, StopperKnown, new_stopper}
 use Rattle.chip_crew.specs.Crew.{CrewId}
@@ -52,7 +51,7 @@ none_sealed crew game None stopper is named same = ap (λ (o : Option StopperKno
 none_sealed crew game (Some at) stopper is named same = (
   [],
   ap (λ (o : Option StopperKnown). option_zip o (Some at)) is,
-  sym (cond_false (nat_lt at.turn 0) (Seal at.edge ∷ []) [] (le-ltb at.turn 0 (omega arith))),
+  sym (cond-false (nat_lt at.turn 0) (Seal at.edge ∷ []) [] (le-ltb at.turn 0 (omega arith))),
   subst (λ (g : ChipGame). at.edge < length g.graph.edges) (sym same) (ltb-true at.edge (length game.graph.edges) named),
 )
 

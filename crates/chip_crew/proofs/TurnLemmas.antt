@@ -6,7 +6,7 @@ use Rattle.std.proofs.Common.{None, refl, ap, ◌∙◌, arith, ne_eqb}
 use Rattle.std.proofs.lemmas.List.Elements.{All-head, All-tail}
 use Rattle.std.proofs.lemmas.List.Sums.{sum_by-cons, sum_by-append}
 use Rattle.chip_graph.proofs.PickLemmas.{All-picked}
-use Rattle.chip_graph.proofs.SumLemmas.{cond_yes, cond_false}
+use Rattle.chip_graph.proofs.SumLemmas.{cond_yes}
 use Rattle.chip_graph.specs.Multigraph.{edge_at, edges_in}
 use Rattle.chip_part.specs.Setting.{Setting}
 use Rattle.chip_part.specs.Cursor.{from_settling}
@@ -19,6 +19,7 @@ use Rattle.chip_part.specs.Turn.{outs_of, may_fire, batch_of, sending, acknowled
 use Rattle.chip_net.specs.Tokens.{ActorKnown, MakesTurn, part_known}
 use Rattle.chip_net.specs.declared.actor.Turn.{Turn}
 use Rattle.chip_crew.specs.Crew.{is_root_take, turns_of}
+use Rattle.std.proofs.lemmas.Bool.{cond-false}
 
 module _ (g : Setting) (v : ℕ) where
   abbrev take_count : Step → ℕ
@@ -54,7 +55,7 @@ module _ (g : Setting) (v : ℕ) where
       → ((seen : ℕ) (b : Part) → TakesNone (next seen b)) → TakesNone (seeing g v x next)
   none_seeing x next other one s ds t (seen, rest, is, more) =
       let a = one seen s _ rest t more in let b = ap takes_in is in let c = sum_by-cons take_count (saw x seen) rest in
-      let d = cond_false {A = ℕ} (is_root_take g v x) 1 0 other in omega arith
+      let d = cond-false {A = ℕ} (is_root_take g v x) 1 0 other in omega arith
 
   none_step : (x : Event) → is_root_take g v x ≡ false → TakesNone (one_step g v x)
   none_step x other = none_seeing x (λ seen before. nothing) other (λ seen before. none_nothing)

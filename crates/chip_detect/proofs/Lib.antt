@@ -1,3 +1,4 @@
+pub mod ListLemmas
 pub mod LookupsLemmas
 pub mod ChangesLemmas
 pub mod FreshLemmas

@@ -15,6 +15,7 @@ use Rattle.chip_detect.proofs.ChangesLemmas.{open_within_total, message_opens, m
 use Rattle.chip_detect.proofs.ChangesLemmas.{answers_tallies, answers_total}
 use Rattle.chip_detect.proofs.AllowedLemmas.{within_owed, all_when_done, active_keeps_one, one_is_kept, stays_owed}
 use Rattle.chip_detect.proofs.AllowedLemmas.{goes_unowed}
+use Rattle.chip_detect.proofs.ListLemmas.{not_some}
 
 module _ (old new : Books) (e count : ℕ) (sound : IsSound old) (on : Contains (in_edges old) e)
     (allowed : count ≤ may_ack old e true) (change : Acknowledges old new e count) where
@@ -129,10 +130,6 @@ steps_keep_soundness old new (Sent e) sound may made = sending_keeps old new e s
 steps_keep_soundness old new (Settled e word) sound may made =
     settling_keeps old new e _ sound (omega (arith, may.1, may.2)) made
 
-disengaged : (parent : Option ℕ) → is_some parent ≡ false → parent ≡ None
-disengaged None neutral = refl
-disengaged (Some p) neutral = cc
-
 still_engaged : (old new : Option ℕ) → new ≡ old → is_some old ≡ true → is_some new ≡ false → ⊥
 still_engaged old new same was is = cc
 
@@ -144,7 +141,7 @@ pub neutral_only_when_done : NeutralOnlyWhenDone
 neutral_only_when_done old new (Got e) sound may made was is =
     absurd (got_engaged e old.parent new.parent made.parent is)
 neutral_only_when_done old new (Acked e n) sound may made was is =
-    last_acknowledgement old new e n sound may.0 may.1 made old.parent refl was (disengaged new.parent is)
+    last_acknowledgement old new e n sound may.0 may.1 made old.parent refl was (not_some new.parent is)
 neutral_only_when_done old new (Sent e) sound may made was is =
     absurd (still_engaged old.parent new.parent made.parent was is)
 neutral_only_when_done old new (Settled e word) sound may made was is =

@@ -9,7 +9,7 @@ use Rattle.std.proofs.lemmas.Bool.Decides.{nat_tests}
 use Rattle.chip_detect.specs.Tally.{AreTallies, AreFresh, edges_of, messages_on, answered_on, open_on, all_open, edge_limit}
 use Rattle.chip_detect.specs.Books.{Books}
 use Rattle.chip_detect.specs.Change.{AddsMessage, AddsAnswers}
-use Rattle.chip_diffusing.proofs.OrderLemmas.{contained, contains_cases, contains_first, contains_later, contains_nothing}
+use Rattle.chip_detect.proofs.ListLemmas.{contained, contains_cases, contains_first, contains_later, contains_nothing}
 
 -- the books with so many messages and answers on each of these edges into the part and out of it
 abbrev pub books_by : List ℕ → List ℕ → (ℕ → ℕ) → (ℕ → ℕ) → (ℕ → ℕ) → (ℕ → ℕ) → Option ℕ → Books

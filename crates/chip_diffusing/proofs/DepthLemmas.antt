@@ -1,7 +1,7 @@
 -- Serves Ending.antt, Laws.antt.
 -- Where it is over each round takes the lowest level off the tree.
 use Rattle.std.proofs.Common.{Bool, true, Option, ◌+◌, ◌≡◌, ◌≢◌, ◌⊎◌, ℕ, zero, suc, ◌-◌, ◌<◌, ◌≤◌, eqb, List, [], ◌∷◌, cond}
-use Rattle.std.proofs.Common.{Some, None, Contains, refl, sym, ap, ◌∙◌, subst, arith, inl, inr, ⊎_elim, length}
+use Rattle.std.proofs.Common.{Some, None, Contains, refl, sym, ap, ◌∙◌, subst, arith, inl, inr, ⊎_elim}
 use Rattle.std.proofs.lemmas.Bool.Decides.{nat_tests}
 use mathlib.Core.Logic.{dite}
 use native.Mathlib.Decide.{ℕ_discrete}
@@ -13,10 +13,11 @@ use Rattle.chip_diffusing.specs.Computation.{World, IsSilent, IsClosed, sent_on,
 use Rattle.chip_diffusing.specs.Computation.{settled_on}
 use Rattle.chip_diffusing.specs.Ending.{IsTree, Goes, HasTurn, HasRound, HasRounds}
 use Rattle.chip_diffusing.specs.Laws.{DepthCloses, DepthIsCounted}
-use Rattle.chip_diffusing.proofs.KeptLemmas.{IsKept, legal_kept, sum_none, none_some, cases_parent}
-use Rattle.chip_diffusing.proofs.OrderLemmas.{contained, contains_first, contains_later, contains_cases, contains_nothing}
+use Rattle.chip_diffusing.proofs.KeptLemmas.{IsKept, legal_kept, sum_none}
 use Rattle.chip_diffusing.proofs.SilentLemmas.{IsLater, later, then_later}
 use Rattle.chip_diffusing.proofs.OrderLemmas.{owes_on}
+use Rattle.chip_detect.proofs.ListLemmas.{place_in, few_places, none_some, cases_option, contained, contains_first}
+use Rattle.chip_detect.proofs.ListLemmas.{contains_later, contains_cases, contains_nothing}
 
 -- ---- the books of one part
 
@@ -32,7 +33,7 @@ idle_little b e passive none = little e b.parent (owed b e) (all_owed b) (defici
 -- a passive part that waits for nothing and may acknowledge nothing isn't engaged
 rests : (b : Books) (passive : Bool) → IsSound b → passive ≡ true → deficit b ≡ 0
     → ((e : ℕ) → Contains (in_edges b) e → may_ack b e passive ≡ 0) → b.parent ≡ None
-rests b passive sound is none idle = ⊎_elim (λ z. z) (λ some. absurd (engaged some.0 some.1)) (cases_parent b.parent)
+rests b passive sound is none idle = ⊎_elim (λ z. z) (λ some. absurd (engaged some.0 some.1)) (cases_option b.parent)
   where
     elsewhere : (q : ℕ) → b.parent ≡ Some q → (i : ℕ) → owed b i ≡ cond (eqb q i) (0 + owed b q) 0
     elsewhere q parent i = let on = owes_on b i in let may = idle i in let few = idle_little b i passive in
@@ -96,7 +97,7 @@ module _ (net : Network) (is : IsNetwork net) (level : ℕ → ℕ) where
         (λ none. (let x = on.got h e in let y = on.acked h e in inl (omega arith)))
         (λ parent. ⊎_elim (λ gone. inl (none_owed b to_end.kept e l gone))
         (λ some. let was = on.parent h some.0 some.1 in let same : some.0 ≡ e = cc in inr (some.1 ∙ ap Some same))
-        (cases_parent (b h).books.parent))
+        (cases_option (b h).books.parent))
         (idle_little (m h inside other h).books e (m h inside other h).passive
         ((turn h inside other).given e (l, refl)))
 
@@ -175,7 +176,7 @@ module _ (net : Network) (is : IsNetwork net) (level : ℕ → ℕ) where
     no_parent : (v : World) → Low v 0 → (p : ℕ) → p < net.parts → (v p).books.parent ≡ None
     no_parent v flat p l = ⊎_elim (λ z. z)
         (λ some. let c = flat.below p l some.0 some.1 in let c0 = c.0 in let c1 = c.1 in absurd (omega arith))
-        (cases_parent (v p).books.parent)
+        (cases_option (v p).books.parent)
 
     closes : (v end : World) → HasRounds net (suc depth) w v → Goes net v end
         → ((e : ℕ) → IsOutOf net net.root e → acked_on net v e ≤ settled_on net end e) → IsClosed net end
@@ -202,15 +203,6 @@ depth_closes net is log w legal silent depth deep v end rounds goes heard =
     goes heard
 
 -- ---- the place in a detection order as a level
-
-place_in : List ℕ → ℕ → ℕ
-place_in [] v = 0
-place_in (u ∷ us) v = cond (eqb v u) (suc (length us)) (place_in us v)
-
-few_places : (vs : List ℕ) (v : ℕ) → place_in vs v ≤ length vs
-unfolding place_in
-few_places [] v = omega arith
-few_places (u ∷ us) v = grind (arith, nat_tests, few_places us v)
 
 outside : (vs : List ℕ) (v : ℕ) → (Contains vs v → ⊥) → place_in vs v ≡ 0
 unfolding place_in

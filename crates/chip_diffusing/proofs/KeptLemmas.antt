@@ -1,7 +1,7 @@
 -- Serves Computation.antt, Laws.antt.
 -- What every legal log keeps of the books, and that its events may be noted in them.
 use Rattle.std.proofs.Common.{◌≡◌, ◌⊎◌, ℕ, ◌-◌, ◌<◌, ◌≤◌, Bool, true, false, List, [], ◌∷◌, is_some}
-use Rattle.std.proofs.Common.{Option, Some, None, refl, sym, ap, ◌∙◌, subst, inl, inr, arith, ⊎_elim, true≢false, rules}
+use Rattle.std.proofs.Common.{Option, Some, None, refl, sym, ap, ◌∙◌, subst, arith, ⊎_elim, true≢false, rules}
 use Rattle.std.specs.List.{Contains, sum_by}
 use Rattle.std.specs.Option.{IfSome}
 use Rattle.std.proofs.lemmas.List.Sums.{sum_by-cons}
@@ -9,7 +9,7 @@ use Rattle.std.proofs.lemmas.Bool.Decides.{nat_tests}
 use Rattle.std.proofs.lemmas.List.Elements.{Contains-append_right}
 use mathlib.Core.Logic.{dite}
 use native.Mathlib.Decide.{ℕ_discrete}
-use Rattle.chip_detect.specs.Tally.{edges_of, all_open, message_limit, messages_on, answered_on}
+use Rattle.chip_detect.specs.Tally.{edges_of, all_open, message_limit}
 use Rattle.chip_detect.specs.Books.{Books, IsSound, in_edges, out_edges, got_of, acked_of, sent_of, settled_of, owed}
 use Rattle.chip_detect.specs.Books.{all_owed, deficit}
 use Rattle.chip_detect.specs.Acknowledging.{or_else, parent_while_owed, acknowledgeable_count}
@@ -23,13 +23,7 @@ use Rattle.chip_diffusing.specs.Computation.{part_of, call_of, OpensPart, Leads,
 use Rattle.chip_diffusing.specs.Computation.{settled_on}
 use Rattle.chip_diffusing.specs.Laws.{CallsMayBeMade}
 use Rattle.chip_diffusing.proofs.EdgesLemmas.{counted}
-
-pub cases_parent : (o : Option ℕ) → (o ≡ None) ⊎ ((q : ℕ) × (o ≡ Some q))
-cases_parent None = inl refl
-cases_parent (Some q) = inr (q, refl)
-
-pub none_some : (q : ℕ) (o : Option ℕ) → o ≡ None → o ≡ Some q → ⊥
-none_some q o a b = absurd (cc)
+use Rattle.chip_detect.proofs.ListLemmas.{cases_option}
 
 got_some : (o : Option ℕ) (e : ℕ) → or_else o e ≡ None → ⊥
 got_some None e is = absurd (cc)
@@ -241,7 +235,7 @@ module _ (net : Network) where
       mine_rests (Ack e n) step rest none = ⊎_elim
           (λ before. (step.wakes (rest before).0, ap all_open step.notes.outs ∙ (rest before).1))
           (λ some. last_ack e n step some.0 some.1 none)
-          (cases_parent (mine old (Ack e n)).parent)
+          (cases_option (mine old (Ack e n)).parent)
       mine_rests (Settle e word) step rest none =
           let was = rest (sym step.notes.parent ∙ none) in
           let b : Books = mine old (Settle e word) in

@@ -2,7 +2,6 @@
 -- The engaged parts form a tree below the root in every legal log, and what that says where the root is closed.
 use Rattle.std.proofs.Common.{◌≡◌, ◌≢◌, ◌⊎◌, ℕ, zero, suc, ◌<◌, ◌≤◌, cond, eqb, Bool, true, List, [], ◌∷◌}
 use Rattle.std.proofs.Common.{Option, Some, None, Contains, refl, sym, ap, ◌∙◌, subst, arith, inl, inr, ⊎_elim}
-use Rattle.std.proofs.lemmas.List.Elements.{Contains-append_right}
 use Rattle.std.proofs.lemmas.Bool.Decides.{nat_tests}
 use Rattle.std.proofs.lemmas.List.{get_or_default}
 use Rattle.chip_detect.proofs.LookupsLemmas.{absent_or_at}
@@ -16,30 +15,9 @@ use Rattle.chip_diffusing.specs.Computation.{Part, World, Event, Send, Get, Ack,
 use Rattle.chip_diffusing.specs.Computation.{IsLegalLog, IsSilent, IsClosed, sent_on, acked_on}
 use Rattle.chip_diffusing.specs.Ending.{IsTree, IsDetectionOrder}
 use Rattle.chip_diffusing.specs.Laws.{IsOver}
-use Rattle.chip_diffusing.proofs.KeptLemmas.{none_some, IsKept, acked_most, kept_on, legal_kept}
-use Rattle.chip_diffusing.proofs.KeptLemmas.{opens_kept, stays, was_parent, cases_parent}
-
--- ---- lists of parts
-
-pub contains_first : (u : ℕ) (us : List ℕ) → Contains (u ∷ us) u
-contains_first u us = (0, omega arith, refl)
-
-pub contains_later : (u : ℕ) (us : List ℕ) (v : ℕ) → Contains us v → Contains (u ∷ us) v
-contains_later u us v m = Contains-append_right (u ∷ []) us v m
-
-pub contains_nothing : (v : ℕ) → Contains [] v → ⊥
-contains_nothing v m = let a = m.1 in absurd (omega arith)
-
-pub contains_cases : (u : ℕ) (us : List ℕ) (v : ℕ) → Contains (u ∷ us) v → (v ≡ u) ⊎ Contains us v
-contains_cases u us v (zero, l, at) = inl (sym at)
-contains_cases u us v (suc i, l, at) = inr (i, omega arith, at)
-
-pub contained : (vs : List ℕ) (v : ℕ) → (Contains vs v) ⊎ (Contains vs v → ⊥)
-contained [] v = inr (contains_nothing v)
-contained (u ∷ us) v = dite (ℕ_discrete v u)
-    (λ e. inl (subst (Contains (u ∷ us)) (sym e) (contains_first u us)))
-    (λ ne. ⊎_elim (λ m. inl (contains_later u us v m)) (λ out. inr (λ z. ⊎_elim ne out (contains_cases u us v z)))
-    (contained us v))
+use Rattle.chip_diffusing.proofs.KeptLemmas.{IsKept, acked_most, kept_on, legal_kept}
+use Rattle.chip_diffusing.proofs.KeptLemmas.{opens_kept, stays, was_parent}
+use Rattle.chip_detect.proofs.ListLemmas.{contains_first, contains_later, contained, none_some, cases_option}
 
 or_else_cases : (o : Option ℕ) (e : ℕ) → (o ≡ None × or_else o e ≡ Some e) ⊎ (or_else o e ≡ o)
 or_else_cases None e = inl (refl, refl)
@@ -156,7 +134,7 @@ module _ (net : Network) (is : IsNetwork net) where
         ⊎_elim
         (λ none. put ps tree (inl (busy_tail w kept e edge.0.0 none edge.2)) (λ q m. m))
         (λ some. let t = grown k (net.tail e) some.0 (omega arith) inside some.1 ps tree in put t.list t.tree (inr t.has) t.more)
-        (cases_parent (parents w (net.tail e)))
+        (cases_option (parents w (net.tail e)))
       where
         put : (qs : List ℕ) → IsTree net w qs → (net.tail e ≡ net.root) ⊎ Contains qs (net.tail e)
             → ((q : ℕ) → Contains ps q → Contains qs q) → Grown ps p
@@ -186,7 +164,7 @@ module _ (net : Network) (is : IsNetwork net) where
           λ p e l at. dite (ℕ_discrete p n)
               (λ z. subst (Contains g.list) (sym z) g.has) (λ other. g.more p (t.2 p e (omega arith) at)),
         ))
-        (cases_parent (parents w n))
+        (cases_option (parents w n))
 
   -- in every legal log
   pub detection_order : (log : Log) (w : World) → IsLegalLog net log w → (ps : List ℕ) × IsDetectionOrder net w ps
@@ -199,7 +177,7 @@ module _ (net : Network) (is : IsNetwork net) where
           tree = t.1;
           others = λ p l other out.
               let none : parents w p ≡ None = ⊎_elim (λ z. z) (λ some. absurd (out (t.2 p some.0 l some.1)))
-              (cases_parent (parents w p)) in
+              (cases_option (parents w p)) in
               let rest = kept.neutral p l other none in
               record {
                 no_parent = none;
@@ -233,7 +211,7 @@ module _ (net : Network) (is : IsNetwork net) where
         let none = none_below k (net.tail some.0) (is.tails some.0 edge.0.0) (omega arith) in
         let all = root_settled some.0 edge.0.0 (busy_tail w kept some.0 edge.0.0 none edge.2) in
         absurd (omega arith))
-        (cases_parent (parents w p))
+        (cases_option (parents w p))
 
     no_parents : (p : ℕ) → p < net.parts → parents w p ≡ None
     no_parents p l = none_below (suc ((ranks log w legal).0 p)) p l (omega arith)

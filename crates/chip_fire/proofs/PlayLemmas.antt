@@ -26,10 +26,11 @@ use Rattle.chip_sequence.proofs.FiringLemmas.{counts-replicate, batch}
 use Rattle.chip_sequence.proofs.EndLemmas.{continued}
 use Rattle.chip_sequence.proofs.CertificateLemmas.{certified_counts, led, on_the_way, start_on_the_way}
 use Rattle.chip_sequence.proofs.CertificateLemmas.{same_way, playing_on, end_of_the_way, led_after}
-use Rattle.chip_sequence.proofs.LegalLemmas.{picked_none, legal_of_test}
+use Rattle.chip_sequence.proofs.LegalLemmas.{legal_of_test}
 use Rattle.chip_sequence.proofs.OutcomeLemmas.{outcome_is}
 use Rattle.chip_sequence.proofs.BurningLemmas.{burnt_counts}
 use Rattle.chip_sequence.proofs.BoundLemmas.{led_total, enough_law}
+use Rattle.chip_graph.proofs.PickLemmas.{picked_none}
 
 -- ---- quotients
 

@@ -8,6 +8,7 @@ use native.Mathlib.Decide.{ℕ_discrete}
 use Rattle.std.specs.List.{sum_by}
 use Rattle.std.proofs.lemmas.List.Sums.{sum_by-cons, sum_by_push}
 use Rattle.chip_graph.specs.Sums.{sum_below, filter_below}
+use Rattle.std.proofs.lemmas.Bool.{cond-true, cond-false}
 
 -- ---- choices by a test
 
@@ -19,14 +20,6 @@ cond_yes a b x y e = ap (λ (t : Bool). cond t x y) (eq-eqb a b e)
 pub cond_no : {A : Type 0} (a b : ℕ) (x y : A) → a ≢ b → cond (eqb a b) x y ≡ y
 cond_no a b x y e = ap (λ (t : Bool). cond t x y) (ne_eqb a b e)
 
--- a choice by a test that passes
-pub cond_true : {A : Type 0} (b : Bool) (x y : A) → b ≡ true → cond b x y ≡ x
-cond_true b x y e = ap (λ (t : Bool). cond t x y) e
-
--- a choice by a test that fails
-pub cond_false : {A : Type 0} (b : Bool) (x y : A) → b ≡ false → cond b x y ≡ y
-cond_false b x y e = ap (λ (t : Bool). cond t x y) e
-
 -- choices that differ only where the test passes, and are equal there
 pub cond_same : {A : Type 0} (b : Bool) (x y z : A) → (b ≡ true → x ≡ y) → cond b x z ≡ cond b y z
 cond_same true x y z p = p refl
@@ -36,6 +29,16 @@ cond_same false x y z p = refl
 pub by_test : {P : Type 0} (b : Bool) → (b ≡ true → P) → (b ≡ false → P) → P
 by_test true yes' no' = yes' refl
 by_test false yes' no' = no' refl
+
+-- a test counts one at most
+pub one_at_most : (b : Bool) → cond b 1 0 ≤ 1
+one_at_most true = omega arith
+one_at_most false = omega arith
+
+-- nothing, whatever a test says
+pub none_either : (b : Bool) → ◌≡◌ {A = ℕ} (cond b 0 0) 0
+none_either true = refl
+none_either false = refl
 
 -- ---- sums over the numbers below n
 
@@ -170,19 +173,15 @@ module _ (n : ℕ) (t : ℕ → Bool) where
 
   -- zeros where the test passes
   pub tested_none : (f : ℕ → ℕ) → ((e : ℕ) → e < n → t e ≡ true → f e ≡ 0) → sum_below n (λ e. cond (t e) (f e) 0) ≡ 0
-  tested_none f p = tested_ext f (λ e. 0) p ∙ sum_below_none n (λ e. cond (t e) 0 0) (λ e l. one (t e))
-    where
-      one : (b : Bool) → ◌≡◌ {A = ℕ} (cond b 0 0) 0
-      one true = refl
-      one false = refl
+  tested_none f p = tested_ext f (λ e. 0) p ∙ sum_below_none n (λ e. cond (t e) 0 0) (λ e l. none_either (t e))
 
   -- where the sum is 0, each term that passes is
   pub tested_zero : (f : ℕ → ℕ) → sum_below n (λ e. cond (t e) (f e) 0) ≡ 0 → (e : ℕ) → e < n → t e ≡ true → f e ≡ 0
-  tested_zero f z e l on = sym (cond_true (t e) (f e) 0 on) ∙ sum_below_zero n (λ e. cond (t e) (f e) 0) z e l
+  tested_zero f z e l on = sym (cond-true (t e) (f e) 0 on) ∙ sum_below_zero n (λ e. cond (t e) (f e) 0) z e l
 
   -- a term that passes is at most the sum
   pub tested_term : (f : ℕ → ℕ) (e : ℕ) → e < n → t e ≡ true → f e ≤ sum_below n (λ e. cond (t e) (f e) 0)
-  tested_term f e l on = subst (λ (x : ℕ). x ≤ sum_below n (λ e. cond (t e) (f e) 0)) (cond_true (t e) (f e) 0 on)
+  tested_term f e l on = subst (λ (x : ℕ). x ≤ sum_below n (λ e. cond (t e) (f e) 0)) (cond-true (t e) (f e) 0 on)
       (sum_below_term n (λ e. cond (t e) (f e) 0) e l)
 
   -- sums that differ at one place that passes
@@ -191,7 +190,7 @@ module _ (n : ℕ) (t : ℕ → Bool) where
   tested_move f h j l on p =
       let a = sum_below_move n (λ e. cond (t e) (f e) 0) (λ e. cond (t e) (h e) 0) j l
       (λ e m ne. cond_same (t e) (f e) (h e) 0 (p e m ne)) in
-      let b = cond_true (t j) (f j) 0 on in let c = cond_true (t j) (h j) 0 on in omega arith
+      let b = cond-true (t j) (f j) 0 on in let c = cond-true (t j) (h j) 0 on in omega arith
 
 -- ---- the numbers that pass a test, as a list
 
@@ -201,14 +200,14 @@ pub picked_sum : (f : ℕ → ℕ) (test : ℕ → Bool) (n : ℕ)
 picked_sum f test zero = refl
 picked_sum f test (suc n) = by_test (test n)
     (λ on.
-    let a = ap (sum_by f) (ap (λ (l : List ℕ). filter_below test n ++ l) (cond_true (test n) (n ∷ []) [] on)) in
+    let a = ap (sum_by f) (ap (λ (l : List ℕ). filter_below test n ++ l) (cond-true (test n) (n ∷ []) [] on)) in
     let b = sum_by_push f (filter_below test n) n in
-    let c = cond_true (test n) (f n) 0 on in
+    let c = cond-true (test n) (f n) 0 on in
     let d = picked_sum f test n in
     omega arith)
     (λ off.
-    let a = ap (sum_by f) (ap (λ (l : List ℕ). filter_below test n ++ l) (cond_false (test n) (n ∷ []) [] off)
+    let a = ap (sum_by f) (ap (λ (l : List ℕ). filter_below test n ++ l) (cond-false (test n) (n ∷ []) [] off)
     ∙ append-nil (filter_below test n)) in
-    let c = cond_false (test n) (f n) 0 off in
+    let c = cond-false (test n) (f n) 0 off in
     let d = picked_sum f test n in
     omega arith)

@@ -2,7 +2,7 @@
 -- One more drop on a pile, with its avalanche, and what its play comes to.
 use Rattle.std.proofs.Common.{◌≡◌, ℕ, ◌<◌, cond, eqb, List, [], ◌∷◌, ◌++◌, length, take, get_or, slice_index}
 use Rattle.std.proofs.Common.{refl, sym, ◌∙◌, subst, arith, rules, Contains}
-use Rattle.std.proofs.lemmas.List.{map-append}
+use Rattle.std.proofs.lemmas.List.{map-append, nil_from_length}
 use Rattle.std.proofs.lemmas.List.Sums.{sum_by-append}
 use Rattle.std.proofs.lemmas.List.Elements.{All-nil, All-push, Contains-get_or}
 use Rattle.chip_graph.specs.ChipGame.{ChipGame}
@@ -59,15 +59,11 @@ pub outcome_is : (p : Pile) → IsPile p → (o : Outcome) → IsPlayed p.game o
 outcome_is p is o played =
     let (vs, whole, there) = pile_ends p is in (λ i v. (there v ∙ sym (played.position vs whole v)) i)
 
-empty_nil : (l : List ℕ) → length l ≡ 0 → l ≡ []
-empty_nil [] is = refl
-empty_nil (x ∷ xs) is = absurd (omega arith)
-
 module _ (g : ChipGame) (o : Outcome) (played : IsPlayed g o) where
   -- where the limit stopped no vertex, none is legal
   pub none_stopped : length o.over.items ≡ 0 → IsStable g.graph (slice_index o.chips.items)
   none_stopped none v can =
-      let empty : legal_vertices g.graph (slice_index o.chips.items) ≡ [] = sym played.over ∙ empty_nil _ none in
+      let empty : legal_vertices g.graph (slice_index o.chips.items) ≡ [] = sym played.over ∙ nil_from_length _ none in
       let has : Contains [] v = subst (λ (l : List ℕ). Contains l v) empty
       ((legal_vertices_law g.graph (slice_index o.chips.items) v).1 can) in
       let past = has.1 in omega arith

@@ -15,7 +15,6 @@ use Rattle.chip_sequence.specs.declared.outcome.Outcome.{Outcome}
 use Rattle.chip_sequence.specs.Counted.{IsBelowZero, IsAfter}
 use Rattle.chip_sequence.specs.Play.{IsPlayed}
 use Rattle.chip_sequence.specs.Sequence.{HasEnded}
-use Rattle.chip_sequence.proofs.LegalLemmas.{picked_none, picked_ext, picked_has}
 use Rattle.chip_sequence.proofs.BoundLemmas.{same_ends}
 use Rattle.chip_link.specs.Words.{fired_in, is_halted_in, is_by_limit_in, is_fired_word}
 use Rattle.chip_part.specs.Setting.{Setting, IsSetting}
@@ -33,7 +32,6 @@ use Rattle.chip_core.proofs.NumberLemmas.{words_tell}
 use Rattle.chip_core.proofs.ReachingLemmas.{by_history}
 use Rattle.chip_core.proofs.GivenLemmas.{given_is, given_start, given_within, played_has_more, unfed_played}
 use Rattle.chip_core.proofs.ClosingLemmas.{all_ended}
-use Rattle.chip_core.proofs.OrderLemmas.{contains_nothing}
 use Rattle.chip_core.proofs.OutcomeLemmas.{never_negative, comes, in_range, is_played}
 use Rattle.chip_core.proofs.PlayingLemmas.{unsealed_refuses}
 use Rattle.chip_net.specs.Roots.{RootKnown, root_part, root_after, fed_by}
@@ -44,6 +42,8 @@ use Rattle.chip_net.proofs.ReadingLemmas.{reads_feed_none, reads_part, reads_say
 use Rattle.chip_net.specs.Tokens.{NetId, ActorKnown}
 use Rattle.chip_part.proofs.EdgeLemmas.{tail_root}
 use Rattle.chip_link.specs.Link.{sent_counts}
+use Rattle.chip_graph.proofs.PickLemmas.{picked_none, picked_ext, picked_has}
+use Rattle.chip_detect.proofs.ListLemmas.{contains_nothing}
 
 -- nothing passes where nothing is listed
 none_picked : (test : ℕ → Bool) (n : ℕ) → filter_below test n ≡ [] → (v : ℕ) → v < n → test v ≡ true → ⊥

@@ -3,7 +3,6 @@
 use Rattle.std.proofs.Common.{◌≡◌, ◌≢◌, ℕ, ◌+◌, ◌-◌, ◌*◌, ◌/◌, ◌%◌, ◌<◌, List, length, set, sym, ap, ◌∙◌, arith}
 use Rattle.std.proofs.Common.{cond, ltb, lt-ltb, le-ltb, get_or-set_same, get_or-set_other, div-add-mod'}
 use Rattle.std.proofs.lemmas.Nat.{mul-add-lt, div-mul-add}
-use Rattle.chip_graph.proofs.SumLemmas.{cond_true, cond_false}
 use Rattle.chip_part.specs.Setting.{Setting, IsSetting}
 use Rattle.chip_part.specs.Edges.{all_edges}
 use Rattle.chip_core.specs.Words.{Word, of_edge, of_acks, of_cell, of_vertex, IsWord}
@@ -11,6 +10,7 @@ use Rattle.chip_core.specs.Core.{Event}
 use Rattle.chip_net.specs.Views.{Mine}
 use Rattle.chip_net.specs.Rule.{Grows}
 use Rattle.chip_net.specs.Layout.{first_cell, first_fired, index_of, word_count, value_in}
+use Rattle.std.proofs.lemmas.Bool.{cond-true, cond-false}
 
 -- the word with this number
 abbrev word_at : Setting → ℕ → Word
@@ -38,11 +38,11 @@ module _ (g : Setting) where
   below e i l h = let b : e * g.ring + i < g.ring * all_edges g = mul-add-lt e g.ring i (all_edges g) l h in omega arith
 
   read_back : (w : Word) → IsWord g w → word_at g (index_of g w) ≡ w
-  read_back (of_edge e) l = cond_true (ltb e (all_edges g)) _ _ (lt-ltb e (all_edges g) l)
+  read_back (of_edge e) l = cond-true (ltb e (all_edges g)) _ _ (lt-ltb e (all_edges g) l)
   read_back (of_acks e) l =
       let n : ℕ = all_edges g + e in
-      cond_false (ltb n (all_edges g)) _ _ (le-ltb n (all_edges g) (omega arith))
-      ∙ cond_true (ltb n (first_cell g)) _ _ (lt-ltb n (first_cell g) (omega arith)) ∙ ap of_acks (omega arith)
+      cond-false (ltb n (all_edges g)) _ _ (le-ltb n (all_edges g) (omega arith))
+      ∙ cond-true (ltb n (first_cell g)) _ _ (lt-ltb n (first_cell g) (omega arith)) ∙ ap of_acks (omega arith)
   read_back (of_cell e i) l =
       let n : ℕ = first_cell g + (e * g.ring + i) in
       let m : n - first_cell g ≡ e * g.ring + i = omega arith in
@@ -50,15 +50,15 @@ module _ (g : Setting) where
       let cell : (n - first_cell g) % g.ring ≡ i =
       (let whole : e * g.ring + (n - first_cell g) % g.ring ≡ n - first_cell g =
       ap (λ k. k * g.ring + (n - first_cell g) % g.ring) (sym edge) ∙ div-add-mod' (n - first_cell g) g.ring in omega arith) in
-      cond_false (ltb n (all_edges g)) _ _ (le-ltb n (all_edges g) (omega arith))
-      ∙ cond_false (ltb n (first_cell g)) _ _ (le-ltb n (first_cell g) (omega arith))
-      ∙ cond_true (ltb n (first_fired g)) _ _ (lt-ltb n (first_fired g) (below e i l.0 l.1))
+      cond-false (ltb n (all_edges g)) _ _ (le-ltb n (all_edges g) (omega arith))
+      ∙ cond-false (ltb n (first_cell g)) _ _ (le-ltb n (first_cell g) (omega arith))
+      ∙ cond-true (ltb n (first_fired g)) _ _ (lt-ltb n (first_fired g) (below e i l.0 l.1))
       ∙ (λ k. of_cell (edge k) (cell k))
   read_back (of_vertex v) l =
       let n : ℕ = first_fired g + v in
-      cond_false (ltb n (all_edges g)) _ _ (le-ltb n (all_edges g) (omega arith))
-      ∙ cond_false (ltb n (first_cell g)) _ _ (le-ltb n (first_cell g) (omega arith))
-      ∙ cond_false (ltb n (first_fired g)) _ _ (le-ltb n (first_fired g) (omega arith)) ∙ ap of_vertex (omega arith)
+      cond-false (ltb n (all_edges g)) _ _ (le-ltb n (all_edges g) (omega arith))
+      ∙ cond-false (ltb n (first_cell g)) _ _ (le-ltb n (first_cell g) (omega arith))
+      ∙ cond-false (ltb n (first_fired g)) _ _ (le-ltb n (first_fired g) (omega arith)) ∙ ap of_vertex (omega arith)
 
   pub owner_read : (w : Word) → IsWord g w → (n : ℕ) → n ≡ index_of g w → owner_at g n ≡ owner_of w
   owner_read w l n is = ap (owner_at g) is ∙ ap owner_of (read_back w l)

@@ -8,7 +8,7 @@ use mathlib.Core.Logic.{dite}
 use native.Mathlib.Decide.{ℕ_discrete, dec_lt}
 use lib.ListN.{get_elem?}
 use Rattle.atomic_table.specs.Table.{opening}
-use Rattle.chip_graph.proofs.SumLemmas.{cond_no, cond_true, cond_false}
+use Rattle.chip_graph.proofs.SumLemmas.{cond_no}
 use Rattle.chip_part.specs.Setting.{Setting, IsSetting}
 use Rattle.chip_part.specs.Edges.{graph_edges, all_edges, start_of}
 use Rattle.chip_part.specs.Part.{first_put}
@@ -22,6 +22,7 @@ use Rattle.chip_net.specs.Rule.{Kept}
 use Rattle.chip_net.specs.Opening.{first_value, AreOpening}
 use Rattle.chip_net.proofs.LayingLemmas.{written_here, written_else}
 use Rattle.chip_net.proofs.ViewingLemmas.{none_some, part_there, part_empty}
+use Rattle.std.proofs.lemmas.Bool.{cond-true, cond-false}
 
 -- of a count of edges, one more only matters at that edge
 same_test : (e n : ℕ) → e ≢ n → ltb e n ≡ ltb e (n + 1)
@@ -29,7 +30,7 @@ same_test e n other = dite (dec_lt e n) (λ l. lt-ltb e n l ∙ sym (lt-ltb e (n
     (λ past. le-ltb e n (omega arith) ∙ sym (le-ltb e (n + 1) (omega arith)))
 
 now_counted : (e n : ℕ) (x : ℕ) → e ≡ n → cond (ltb e (n + 1)) x 0 ≡ x
-now_counted e n x same = cond_true (ltb e (n + 1)) x 0 (lt-ltb e (n + 1) (omega arith))
+now_counted e n x same = cond-true (ltb e (n + 1)) x 0 (lt-ltb e (n + 1) (omega arith))
 
 module _ (g : Setting) where
   module _ (v : ℕ) (inside : v < g.game.graph.vertices) (words : List ℕ) (opening : AreOpening g (graph_edges g + v) words)
@@ -87,7 +88,7 @@ module _ (g : Setting) where
               ∙ sym (now_counted e edge _ same ∙ (λ k. get_or (first_put g (same k)) (first k) 0)
               ∙ ap (λ (xs : List ℕ). get_or xs 0 0) put))
               (λ later. still (of_cell e i) l (other_kind _ _ (λ z. omega arith)) (other_cell _ _ later)
-              ∙ cond_false (ltb e edge) _ 0 (le-ltb e edge (omega arith))
+              ∙ cond-false (ltb e edge) _ 0 (le-ltb e edge (omega arith))
               ∙ sym (now_counted e edge _ same ∙ ap (λ (n : ℕ). get_or (first_put g n) i 0) same
               ∙ ap (λ (xs : List ℕ). get_or xs i 0) put ∙ get_or_past (start_of g v ∷ []) i 0 (omega arith))))
               (λ other. still (of_cell e i) l (other_kind _ _ (λ z. omega arith)) (other_owner _ _ other)
@@ -105,12 +106,12 @@ module _ (g : Setting) where
     there = λ p l. part_there (g.game.graph.vertices + 2) p l;
     shown = record {
       edges = λ e l. record {
-        word_is = opening.each (of_edge e) l ∙ cond_true (ltb e (all_edges g)) _ 0 (lt-ltb e (all_edges g) l)
+        word_is = opening.each (of_edge e) l ∙ cond-true (ltb e (all_edges g)) _ 0 (lt-ltb e (all_edges g) l)
             ∙ omega arith;
         ring_is = λ p lo hi.
             let m : p < g.ring = omega arith in
             ap (λ (i : ℕ). value_in g words (of_cell e i)) (mod-eq_of_lt m) ∙ opening.each (of_cell e p) (l, m)
-            ∙ cond_true (ltb e (all_edges g)) _ 0 (lt-ltb e (all_edges g) l);
+            ∙ cond-true (ltb e (all_edges g)) _ 0 (lt-ltb e (all_edges g) l);
       };
       acks = λ e l. opening.each (of_acks e) l;
       fired = λ v l. opening.each (of_vertex v) l;

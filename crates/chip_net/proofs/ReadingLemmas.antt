@@ -6,7 +6,6 @@ use Rattle.std.proofs.lemmas.List.{get_or_push, get_or_append_left, map-append, 
 use Rattle.std.proofs.lemmas.List.Elements.{Contains-append_right}
 use Rattle.chip_graph.specs.Sums.{filter_below}
 use Rattle.chip_graph.proofs.SumLemmas.{cond_yes, cond_no}
-use Rattle.chip_sequence.proofs.LegalLemmas.{picked_ext}
 use Rattle.chip_link.specs.Words.{fired_in, is_halted_in, is_by_limit_in}
 use Rattle.chip_part.specs.Setting.{Setting, IsSetting}
 use Rattle.chip_part.specs.Edges.{root, stopper}
@@ -21,6 +20,7 @@ use Rattle.chip_net.specs.Roots.{RootKnown, root_part, root_deficit, root_after,
 use Rattle.chip_net.specs.Finish.{ReadsAt, reads_from, IsReadOut, ReadingsState, readings_after, AreRead, IsReading}
 use Rattle.chip_net.proofs.ViewingLemmas.{part_append}
 use Rattle.chip_net.proofs.RootingLemmas.{steps_more}
+use Rattle.chip_graph.proofs.PickLemmas.{picked_ext}
 
 -- a read that saw this
 abbrev read : ℕ → ℕ → Step

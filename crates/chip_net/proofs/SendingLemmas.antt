@@ -5,7 +5,7 @@ use Rattle.std.proofs.Common.{refl, sym, ap, ◌∙◌, subst, arith, inr, eqb-t
 use mathlib.Core.Logic.{dite}
 use native.Mathlib.Decide.{ℕ_discrete}
 use Rattle.chip_graph.specs.Limits.{max_total}
-use Rattle.chip_graph.proofs.SumLemmas.{cond_yes, cond_no, cond_true, cond_false, by_test, sum_below_ext}
+use Rattle.chip_graph.proofs.SumLemmas.{cond_yes, cond_no, by_test, sum_below_ext}
 use Rattle.chip_link.specs.Link.{Tail, claims_of, sent_counts, after_clear, after_claim, after_put}
 use Rattle.chip_part.specs.Setting.{Setting}
 use Rattle.chip_part.specs.Edges.{root_edge, graph_edges, all_edges}
@@ -18,12 +18,13 @@ use Rattle.chip_net.specs.Roots.{RootKnown, root_part, root_after, has_ended, al
 use Rattle.chip_net.specs.Roots.{MakesEvent, HoldsNothing, Feeds}
 use Rattle.chip_net.proofs.ViewingLemmas.{part_append}
 use Rattle.chip_net.proofs.RootingLemmas.{root_step, steps_more, holds_by, by_look}
+use Rattle.std.proofs.lemmas.Bool.{cond-true, cond-false}
 
 -- what a look replies
 pub look_done : (seen claims place : ℕ) → Done place ≡ cond (eqb seen 0) (Done claims) Full → (seen ≡ 0) × (place ≡ claims)
 look_done seen claims place is = by_test (eqb seen 0)
-    (λ on. (eqb-true seen 0 on, (let z = is ∙ cond_true (eqb seen 0) (Done claims) Full on in cc)))
-    (λ off. (let z = is ∙ cond_false (eqb seen 0) (Done claims) Full off in absurd (cc)))
+    (λ on. (eqb-true seen 0 on, (let z = is ∙ cond-true (eqb seen 0) (Done claims) Full on in cc)))
+    (λ off. (let z = is ∙ cond-false (eqb seen 0) (Done claims) Full off in absurd (cc)))
 
 -- so many chips may be fed to a vertex, whose root edge is e
 pub record MayFeed (r : RootKnown) (vertex e count : ℕ) : Type 0 where

@@ -4,23 +4,24 @@ use Rattle.std.proofs.Common.{◌≡◌, ℕ, ◌+◌, ◌-◌, ◌<◌, ◌≤�
 use Rattle.chip_graph.specs.Multigraph.{IsGraph, edge_at, sum_out, sum_in, degree}
 use Rattle.chip_part.specs.Setting.{Setting}
 use Rattle.chip_graph.specs.Sums.{sum_below}
-use Rattle.chip_graph.proofs.SumLemmas.{cond_yes, cond_no, cond_true, cond_false, sum_below_ext, sum_below_none}
+use Rattle.chip_graph.proofs.SumLemmas.{cond_yes, cond_no, sum_below_ext, sum_below_none}
 use Rattle.chip_graph.proofs.SumLemmas.{sum_below_split, sum_below_one}
 use Rattle.chip_part.specs.Edges.{graph_edges, all_edges, root_edge, root, tail_of, head_of, mult_of, over_outs}
 use Rattle.chip_part.specs.Edges.{over_ins}
+use Rattle.std.proofs.lemmas.Bool.{cond-true, cond-false}
 
 module _ (g : Setting) where
   pub tail_graph : (e : ℕ) → e < graph_edges g → tail_of g e ≡ (edge_at g.game.graph e).tail
-  tail_graph e l = cond_true _ _ _ (lt-ltb e (length g.game.graph.edges) l)
+  tail_graph e l = cond-true _ _ _ (lt-ltb e (length g.game.graph.edges) l)
 
   pub tail_root : (e : ℕ) → graph_edges g ≤ e → tail_of g e ≡ root g
-  tail_root e l = cond_false _ _ _ (le-ltb e (length g.game.graph.edges) l)
+  tail_root e l = cond-false _ _ _ (le-ltb e (length g.game.graph.edges) l)
 
   pub head_graph : (e : ℕ) → e < graph_edges g → head_of g e ≡ (edge_at g.game.graph e).head
-  head_graph e l = cond_true _ _ _ (lt-ltb e (length g.game.graph.edges) l)
+  head_graph e l = cond-true _ _ _ (lt-ltb e (length g.game.graph.edges) l)
 
   pub head_root : (e : ℕ) → graph_edges g ≤ e → head_of g e ≡ e - graph_edges g
-  head_root e l = cond_false _ _ _ (le-ltb e (length g.game.graph.edges) l)
+  head_root e l = cond-false _ _ _ (le-ltb e (length g.game.graph.edges) l)
 
   pub graph_inside : (e : ℕ) → e < graph_edges g → e < all_edges g
   graph_inside e l = omega arith

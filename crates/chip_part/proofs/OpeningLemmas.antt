@@ -3,14 +3,14 @@
 use Rattle.std.proofs.Common.{◌≡◌, ℕ, ◌+◌, ◌-◌, ◌<◌, Bool, true, false, not, ◌&&◌, cond, eqb, ltb, leb, [], ◌∷◌}
 use Rattle.std.proofs.Common.{length, sum, Option, Some, None, refl, sym, ap, ◌∙◌, subst, arith, eq-eqb, eqb-true}
 use Rattle.std.proofs.Common.{lt-ltb, le-ltb, true≢false, mul-zero, append-nil}
-use Rattle.std.proofs.lemmas.Bool.{and_from, not_from_false, or_right, lt-leb, and_right}
+use Rattle.std.proofs.lemmas.Bool.{and_from, not_from_false, or_right, lt-leb, and_right, cond-true, cond-false}
 use mathlib.Core.Logic.{dite}
 use native.Mathlib.Decide.{ℕ_discrete}
 use Rattle.chip_graph.specs.Multigraph.{degree}
 use Rattle.chip_graph.specs.ChipGame.{IsGame}
 use Rattle.chip_part.specs.Setting.{Setting}
 use Rattle.chip_graph.specs.Sums.{sum_below}
-use Rattle.chip_graph.proofs.SumLemmas.{cond_yes, cond_no, cond_true, cond_false, tested_none, sum_below_ext}
+use Rattle.chip_graph.proofs.SumLemmas.{cond_yes, cond_no, tested_none, sum_below_ext}
 use Rattle.chip_graph.proofs.SumLemmas.{sum_by_place}
 use Rattle.chip_graph.proofs.WalksLemmas.{degree_positive}
 use Rattle.chip_link.specs.Link.{claims_of, sent_counts}
@@ -23,7 +23,7 @@ use Rattle.chip_link.proofs.SoundsLemmas.{none-some}
 module _ (g : Setting) where
   -- a root edge opens with the chips of its vertex, if it has any
   pub first_is : (v : ℕ) → first_put g (root_edge g v) ≡ cond (eqb (start_of g v) 0) [] (start_of g v ∷ [])
-  first_is v = cond_false (ltb (root_edge g v) (length g.game.graph.edges)) [] _
+  first_is v = cond-false (ltb (root_edge g v) (length g.game.graph.edges)) [] _
       (le-ltb (root_edge g v) (length g.game.graph.edges) (omega arith))
       ∙ ap (λ (u : ℕ). cond (eqb (start_of g u) 0) [] (start_of g u ∷ []))
       (let at : root_edge g v - graph_edges g ≡ v = omega arith in at)
@@ -43,7 +43,7 @@ module _ (g : Setting) where
       ∙ ap (λ (n : ℕ). sum_below n (start_of g)) (sym game.start_fits) ∙ sym (sum_by_place g.game.start)
 
   none_put : (e : ℕ) → e < graph_edges g → first_put g e ≡ []
-  none_put e l = cond_true (ltb e (length g.game.graph.edges)) [] _ (lt-ltb e (length g.game.graph.edges) l)
+  none_put e l = cond-true (ltb e (length g.game.graph.edges)) [] _ (lt-ltb e (length g.game.graph.edges) l)
 
   pub first_few : (e : ℕ) → e < graph_edges g → length (first_put g e) ≡ 0
   first_few e l = ap length (none_put e l)

@@ -1,12 +1,13 @@
 -- Serves Part.antt, Rules.antt, Steps.antt.
 -- What every part keeps by its own events, whatever they see.
-use Rattle.std.proofs.Common.{◌≡◌, ◌≢◌, ◌⊎◌, ℕ, zero, suc, ◌+◌, ◌-◌, ◌*◌, ◌<◌, ◌≤◌, Bool, true, false, not, ◌&&◌, ◌||◌}
-use Rattle.std.proofs.Common.{cond, eqb, ltb, leb, List, [], ◌∷◌, ◌++◌, length, sum, Option, Some, None, option_to_list}
-use Rattle.std.proofs.Common.{refl, sym, ap, ◌∙◌, subst, arith, inl, inr, ⊎_elim, eq-eqb, ne_eqb, eqb-true, ltb-true}
-use Rattle.std.proofs.Common.{leb-true, lt-ltb, le-ltb, le-leb, true≢false, length-append, append-nil, mul-add}
-use Rattle.std.proofs.Common.{mul_comm, mul-zero, add-mul, rules}
+use Rattle.std.proofs.Common.{◌≡◌, ◌≢◌, ◌⊎◌, ℕ, zero, suc, ◌+◌, ◌-◌, ◌*◌, ◌<◌, ◌≤◌, Bool, true, false, not, ◌&&◌}
+use Rattle.std.proofs.Common.{cond, eqb, List, [], ◌∷◌, ◌++◌, length, sum, Option, Some, None, option_to_list}
+use Rattle.std.proofs.Common.{refl, sym, ap, ◌∙◌, subst, arith, inl, inr, ⊎_elim, eq-eqb, eqb-true}
+use Rattle.std.proofs.Common.{true≢false, length-append, append-nil, mul-add}
+use Rattle.std.proofs.Common.{mul_comm, rules}
 use Rattle.std.proofs.lemmas.Bool.Decides.{nat_tests}
-use Rattle.std.proofs.lemmas.Bool.{not-true, eqb-false, and_parts, or_cases, and_from, cases_Bool, not_from_true}
+use Rattle.std.proofs.lemmas.Bool.{and_parts, and_from}
+use Rattle.std.proofs.lemmas.Bool.{cond-true, cond-false}
 use Rattle.std.proofs.lemmas.List.Sums.{sum_by-append, sum_by_push}
 use mathlib.Core.Logic.{dite}
 use native.Mathlib.Decide.{ℕ_discrete, dec_lt}
@@ -14,7 +15,7 @@ use Rattle.chip_graph.specs.Limits.{max_total}
 use Rattle.chip_graph.specs.Sums.{sum_below}
 use Rattle.chip_graph.specs.Multigraph.{degree}
 use Rattle.chip_part.specs.Setting.{Setting}
-use Rattle.chip_graph.proofs.SumLemmas.{cond_yes, cond_no, cond_true, cond_false, by_test, tested_le, tested_zero}
+use Rattle.chip_graph.proofs.SumLemmas.{cond_yes, cond_no, by_test, tested_le, tested_zero}
 use Rattle.chip_graph.proofs.SumLemmas.{tested_none, tested_move, sum_below_ext, sum_below_move}
 use Rattle.chip_link.specs.Link.{Tail, claims_of, sent_counts, after_clear, after_claim, after_put, after_take}
 use Rattle.chip_detect.specs.Acknowledging.{is_parent, or_else}
@@ -242,9 +243,9 @@ module _ (g : Setting) where
       let o = or_else_is s.parent e i in grind (arith, nat_tests)
   parents_kept (Ack e) seen p s by may acks ok = λ i h. by_test (is_parent e s.parent
       && eqb (may_ack g (head_of g e) s e) (owed (s.into e)))
-      (λ y. absurd (none-some i (sym (cond_true _ None s.parent y) ∙ h)))
+      (λ y. absurd (none-some i (sym (cond-true _ None s.parent y) ∙ h)))
       (λ n.
-      let was : s.parent ≡ Some i = sym (cond_false _ None s.parent n) ∙ h in
+      let was : s.parent ≡ Some i = sym (cond-false _ None s.parent n) ∙ h in
       let a = ok i was in
       let some_owed = a.2 in (
         a.0,
@@ -281,7 +282,7 @@ module _ (g : Setting) where
       let inside : e < graph_edges g = tail_inside e (subst (λ (n : ℕ). n < g.game.graph.vertices) (sym at) vertex) in
       let a = (outs e at).refused_pends inside y in let b = out_zero p (λ i. (s.out i).pending) none e l at in
       absurd (omega arith))
-      (λ n. cond_false _ 1 0 n))
+      (λ n. cond-false _ 1 0 n))
 
   pub cause_limit : (v : ℕ) (s : Part) → cause g v s ≡ Some FiringLimit → (s.fired ≡ g.game.limit) × (pending_of g v s ≡ 0)
       × (is_legal g v s ≡ true)
@@ -347,14 +348,14 @@ module _ (g : Setting) where
       let done : Bool = eqb (all_owed g (head_of g e) s) (owed (s.into e)) && is_passive g (head_of g e) s
       && eqb (deficit g (head_of g e) s) 0 in
       let finished : done ≡ true = by_test done (λ z. z)
-      (λ n. (let few = cond_true (is_parent e s.parent && not done) (owed (s.into e) - 1) (owed (s.into e))
+      (λ n. (let few = cond-true (is_parent e s.parent && not done) (owed (s.into e) - 1) (owed (s.into e))
       (and_from _ _ both.0 (Rattle.std.proofs.lemmas.Bool.not_from_false _ n)) in let some = may.1 in
       absurd (omega arith))) in
       let one = and_parts _ _ finished in
       let two = and_parts _ _ one.0 in
       let only : all_owed g (head_of g e) s ≡ owed (s.into e) = eqb-true _ _ two.0 in
       subst (λ (w : ℕ). IsNeutral g w (does g (saw (Ack e) seen) s)) (sym by) record {
-        no_parent = cond_true _ None s.parent y;
+        no_parent = cond-true _ None s.parent y;
         passive = two.1;
         nothing_owed =
             let a = tested_move (all_edges g) (λ i. eqb (head_of g i) (head_of g e))
@@ -367,7 +368,7 @@ module _ (g : Setting) where
         no_deficit = eqb-true _ _ one.1;
       })
       (λ n.
-      let none : s.parent ≡ None = sym (cond_false _ None s.parent n) ∙ h in
+      let none : s.parent ≡ None = sym (cond-false _ None s.parent n) ∙ h in
       let a = in_zero p (λ i. owed (s.into i)) (ok.neutral l none).nothing_owed e may.0 (sym by) in
       let b = may.1 in absurd (omega arith))
   neutral_kept (Fire v k) seen p s by may ok l h = absurd (no_fire p s ok.outs (ok.neutral l h) v k by may)

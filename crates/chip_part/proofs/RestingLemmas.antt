@@ -4,10 +4,10 @@
 use Rattle.std.proofs.Common.{◌≡◌, ◌⊎◌, ℕ, ◌+◌, ◌-◌, ◌<◌, Bool, true, false, not, ◌&&◌, cond, eqb, List, [], ◌∷◌}
 use Rattle.std.proofs.Common.{Option, Some, None, Contains, refl, sym, ap, ◌∙◌, subst, arith, inl, inr, ⊎_elim}
 use Rattle.std.proofs.Common.{eqb-true, eq-eqb, true≢false, pos_of_ne-zero}
-use Rattle.std.proofs.lemmas.Bool.{and_from, and_parts, eqb-false, not-true, not-false}
+use Rattle.std.proofs.lemmas.Bool.{and_from, and_parts, eqb-false, not-true, not-false, cond-true, cond-false}
 use mathlib.Core.Logic.{dite}
 use native.Mathlib.Decide.{ℕ_discrete}
-use Rattle.chip_graph.proofs.SumLemmas.{cond_yes, cond_no, cond_true, cond_false, by_test, sum_below_one}
+use Rattle.chip_graph.proofs.SumLemmas.{cond_yes, cond_no, by_test, sum_below_one}
 use Rattle.chip_detect.specs.Acknowledging.{is_parent, is_done}
 use Rattle.chip_part.specs.Setting.{Setting}
 use Rattle.chip_part.specs.Edges.{all_edges, head_of}
@@ -19,8 +19,9 @@ use Rattle.chip_part.specs.Steps.{Step, does, saw}
 use Rattle.chip_part.specs.Turn.{nothing, either_phase, each_phase, one_step, ins_of, acknowledging}
 use Rattle.chip_part.specs.Turn.{acknowledging_parent, turn}
 use Rattle.chip_part.proofs.PartLemmas.{may_le}
-use Rattle.chip_part.proofs.PickedLemmas.{contains_cases, into_turn}
+use Rattle.chip_part.proofs.PickedLemmas.{into_turn}
 use Rattle.chip_link.proofs.SoundsLemmas.{none-some}
+use Rattle.chip_detect.proofs.ListLemmas.{contains_cases}
 
 parent_of : (e : ℕ) (p : Option ℕ) → is_parent e p ≡ true → p ≡ Some e
 parent_of e None on = absurd (true≢false (sym on))
@@ -42,8 +43,8 @@ module _ (g : Setting) where
   all_but_one : (h e : ℕ) (s : Part) → (may_ack g h s e ≡ owed (s.into e))
       ⊎ ((s.parent ≡ Some e) × (may_ack g h s e ≡ owed (s.into e) - 1))
   all_but_one h e s = by_test (keeps h s e)
-      (λ on. inr (parent_of e s.parent (and_parts _ _ on).0, cond_true (keeps h s e) _ _ on))
-      (λ off. inl (cond_false (keeps h s e) _ _ off))
+      (λ on. inr (parent_of e s.parent (and_parts _ _ on).0, cond-true (keeps h s e) _ _ on))
+      (λ off. inl (cond-false (keeps h s e) _ _ off))
 
   pub idle_little : (h e : ℕ) (s : Part) → may_ack g h s e ≡ 0 → Little s e
   idle_little h e s none = ⊎_elim (λ all. inl (omega arith))
@@ -60,8 +61,8 @@ module _ (g : Setting) where
     -- where the parent is there still, it was
     pub was_parent : (i : ℕ) → acked.parent ≡ Some i → s.parent ≡ Some i
     was_parent i is = by_test (is_parent e s.parent && eqb (may_ack g (head_of g e) s e) (owed (s.into e)))
-        (λ y. absurd (none-some i (sym (cond_true _ None s.parent y) ∙ is)))
-        (λ n. sym (cond_false _ None s.parent n) ∙ is)
+        (λ y. absurd (none-some i (sym (cond-true _ None s.parent y) ∙ is)))
+        (λ n. sym (cond-false _ None s.parent n) ∙ is)
 
     here_little : Little acked e
     here_little = ⊎_elim (λ all. let a = owed_less in inl (omega arith))
@@ -71,7 +72,7 @@ module _ (g : Setting) where
         inr (
           by_test (is_parent e s.parent && eqb (may_ack g (head_of g e) s e) (owed (s.into e)))
               (λ y. absurd (less (eqb-true _ _ (and_parts _ _ y).1)))
-              (λ n. cond_false _ None s.parent n ∙ few.0),
+              (λ n. cond-false _ None s.parent n ∙ few.0),
           omega arith,
         )))
         (all_but_one (head_of g e) e s)
@@ -86,7 +87,7 @@ module _ (g : Setting) where
         inr (
           by_test (is_parent e s.parent && eqb (may_ack g (head_of g e) s e) (owed (s.into e)))
               (λ y. absurd (other (same_edge e i s.parent (parent_of e s.parent (and_parts _ _ y).0) one.0)))
-              (λ n. cond_false _ None s.parent n ∙ one.0),
+              (λ n. cond-false _ None s.parent n ∙ one.0),
           omega arith,
         )) little)
 
@@ -180,7 +181,7 @@ module _ (g : Setting) where
           by_test (keeps v s p)
           (λ on. true≢false (sym (and_from _ _ (and_from _ _ (eq-eqb _ _ whole) passive) (eq-eqb _ _ settled))
           ∙ not-true _ (and_parts _ _ on).1))
-          (λ off. let all = cond_false (keeps v s p) (owed (s.into p) - 1) (owed (s.into p)) off in
+          (λ off. let all = cond-false (keeps v s p) (owed (s.into p) - 1) (owed (s.into p)) off in
           let none = left p mine.0 mine.1 in let some = mine.2 in absurd (omega arith))
 
       pub rests : (s.parent ≡ None) ⊎ (0 < deficit g v s)

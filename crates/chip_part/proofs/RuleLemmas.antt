@@ -1,14 +1,13 @@
 -- Serves Rules.antt.
 -- The rules of an event in plain facts: each holds where none is unmet, and the other way round.
-use Rattle.std.proofs.Common.{◌≡◌, ◌≢◌, ℕ, ◌+◌, ◌*◌, ◌<◌, ◌≤◌, Bool, true, false, not, ◌&&◌, eqb, Option, Some, None}
+use Rattle.std.proofs.Common.{◌≡◌, ◌≢◌, ℕ, ◌<◌, ◌≤◌, Bool, true, false, not, eqb, Option, Some, None}
 use Rattle.std.proofs.Common.{is_some, is_none, refl, sym, ap, ◌∙◌, arith, inl, inr, ⊎_elim, le-ltb, eq-eqb, ne_eqb}
 use Rattle.std.proofs.Common.{eqb-true, ltb-true, leb-true, lt-ltb, le-leb, true≢false}
-use Rattle.std.proofs.lemmas.Bool.{not-true, eqb-false, and_parts, and_from}
+use Rattle.std.proofs.lemmas.Bool.{not-true, eqb-false, and_parts, and_from, cond-true, cond-false}
 use Rattle.chip_part.specs.Setting.{Setting}
 use Rattle.chip_part.specs.Part.{Part, Cause, is_running}
 use mathlib.Core.Logic.{dite}
 use native.Mathlib.Decide.{dec_lt}
-use Rattle.chip_graph.proofs.SumLemmas.{cond_true, cond_false}
 use Rattle.chip_part.specs.Edges.{graph_edges, all_edges}
 use Rattle.chip_part.proofs.EdgeLemmas.{graph_inside}
 use Rattle.chip_part.specs.Rules.{Event, Take, Ack, Fire, Clear, Claim, Put, Halt, Settle, Seal, Read, Rule, need, Feed}
@@ -71,12 +70,12 @@ rules_met g (Clear e) s h =
     let inside = ltb-true _ _ a.0 in
     dite (dec_lt e (graph_edges g))
     (λ l.
-    let is : unmet_by_vertex e s ≡ None = sym (cond_true _ _ _ (lt-ltb e (graph_edges g) l)) ∙ a.1 in
+    let is : unmet_by_vertex e s ≡ None = sym (cond-true _ _ _ (lt-ltb e (graph_edges g) l)) ∙ a.1 in
     let b = met _ _ _ is in let c = met _ _ _ b.1 in let d = met _ _ _ c.1 in
     inl (l, running _ b.0, not-true _ c.0, positive _ d.0))
     (λ n.
     let past : graph_edges g ≤ e = omega arith in
-    let is : unmet_by_root e s ≡ None = sym (cond_false _ _ _ (le-ltb e (graph_edges g) past)) ∙ a.1 in
+    let is : unmet_by_root e s ≡ None = sym (cond-false _ _ _ (le-ltb e (graph_edges g) past)) ∙ a.1 in
     let b = met _ _ _ is in let c = met _ _ _ b.1 in
     inr (past, inside, not-true _ b.0, nothing _ c.0))
 rules_met g (Claim e) s h = let a = met _ _ _ h in let b = met _ _ _ a.1 in let c = met _ _ _ b.1 in
@@ -108,10 +107,10 @@ met_rules g (Fire v k) s m =
     (passed _ _ _ (not_zero _ m.5) (passed _ _ _ (le-leb _ _ m.6) (passed _ _ _ (le-leb _ _ m.7) refl))))))
 met_rules g (Clear e) s m = ⊎_elim
     (λ v. passed _ _ _ (lt-ltb _ _ (graph_inside g e v.0))
-    (cond_true _ _ _ (lt-ltb e (graph_edges g) v.0)
+    (cond-true _ _ _ (lt-ltb e (graph_edges g) v.0)
     ∙ passed _ _ _ (ap is_running v.1) (passed _ _ _ (ap not v.2) (passed _ _ _ (not_zero _ v.3) refl))))
     (λ r. passed _ _ _ (lt-ltb _ _ r.1)
-    (cond_false _ _ _ (le-ltb e (graph_edges g) r.0)
+    (cond-false _ _ _ (le-ltb e (graph_edges g) r.0)
     ∙ passed _ _ _ (ap not r.2) (passed _ _ _ (ap is_none r.3) refl))) m
 met_rules g (Claim e) s m = passed _ _ _ (lt-ltb _ _ m.0) (passed _ _ _ (ap is_running m.1) (passed _ _ _ m.2 refl))
 met_rules g (Put e) s m = passed _ _ _ (lt-ltb _ _ m.0) (passed _ _ _ (ap is_some m.1.1) refl)

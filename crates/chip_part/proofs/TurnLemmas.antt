@@ -4,10 +4,10 @@
 use Rattle.std.proofs.Common.{◌≡◌, ℕ, suc, ◌+◌, ◌*◌, ◌<◌, ◌≤◌, Bool, true, false, not, ◌&&◌, cond, eqb, List, [], ◌∷◌}
 use Rattle.std.proofs.Common.{length, Option, Some, None, is_some, option_to_list, refl, sym, ap, ◌∙◌, subst, arith}
 use Rattle.std.proofs.Common.{eqb-true, length-append, true≢false, pos_of_ne-zero}
-use Rattle.std.proofs.lemmas.Bool.{and_parts, not-true, eqb-false}
+use Rattle.std.proofs.lemmas.Bool.{and_parts, not-true, eqb-false, cond-true, cond-false}
 use Rattle.std.specs.List.{All}
 use Rattle.chip_part.specs.Setting.{Setting}
-use Rattle.chip_graph.proofs.SumLemmas.{cond_true, cond_false, by_test}
+use Rattle.chip_graph.proofs.SumLemmas.{by_test}
 use Rattle.chip_link.specs.Link.{Tail, claims_of, after_put}
 use Rattle.chip_part.specs.Edges.{graph_edges, tail_of}
 use Rattle.chip_graph.specs.Multigraph.{edge_at}
@@ -190,7 +190,7 @@ module _ (g : Setting) (v : ℕ) where
           → either_phase b (seeing g v (Clear e) (after_clear_phase g v e)) nothing s ds t
           → (length ds ≤ busy_count s e) × ((i : ℕ) → busy_count t i ≤ busy_count s i)
       by true on ph =
-          let busy : ◌≡◌ {A = ℕ} (busy_count s e) 3 = cond_false _ 0 3 (not-true _ (and_parts _ _ on).1) in
+          let busy : ◌≡◌ {A = ℕ} (busy_count s e) 3 = cond-false _ 0 3 (not-true _ (and_parts _ _ on).1) in
           let all = sends_seeing 2 (Clear e) (after_clear_phase g v e) (λ n i p. omega arith) (after_look e) s ds t ph in
           ((let a = all.0 in omega arith), all.1)
       by false off ph = sends_nothing (busy_count s e) s ds t ph
@@ -203,9 +203,9 @@ module _ (g : Setting) (v : ℕ) where
   one_each s ok (e ∷ es) mine =
       let rest = one_each s ok es (λ k d l. mine (suc k) d (omega arith)) in
       by_test (eqb (s.out e).pending 0)
-      (λ y. let a : ◌≡◌ {A = ℕ} (busy_count s e) 0 = cond_true _ 0 3 y in
+      (λ y. let a : ◌≡◌ {A = ℕ} (busy_count s e) 0 = cond-true _ 0 3 y in
       let b = at_most_one (s.out e).link.held in omega arith)
-      (λ n. let a : ◌≡◌ {A = ℕ} (busy_count s e) 3 = cond_false _ 0 3 n in
+      (λ n. let a : ◌≡◌ {A = ℕ} (busy_count s e) 3 = cond-false _ 0 3 n in
       let h = ap (λ (o : Option ℕ). length (option_to_list o))
       (ok e (mine 0 0 (omega arith)) (pos_of_ne-zero (eqb-false (s.out e).pending 0 n))) in
       omega arith)
@@ -221,7 +221,7 @@ module _ (g : Setting) (v : ℕ) where
       → one_step g v (Halt v) s ds t → where_phase (is_at_limit g v) (one_step g v (Halt v)) t fs u → length fs ≤ 0
   no_second_halt s t ds fs u refused (seen, more, now, (none, same)) ph =
       let halted : is_running t.halt ≡ false = ap (λ (p : Part). is_running p.halt) same
-      ∙ ap is_running (cond_true (not (eqb (refusals g v s) 0)) _ _ (ap not refused)) in
+      ∙ ap is_running (cond-true (not (eqb (refusals g v s) 0)) _ _ (ap not refused)) in
       idle (is_at_limit g v t) (λ j. ((halted j && eqb (pending_of g v t) 0) && is_legal g v t)
       && eqb t.fired g.game.limit) ph
     where

@@ -1,20 +1,20 @@
 -- Serves Turn.antt, Cursor.antt, Part.antt.
 -- Each phase of a turn: what is due in it, and when the next phase is due.
-use Rattle.std.proofs.Common.{◌≡◌, ◌≢◌, ℕ, zero, suc, ◌+◌, ◌-◌, ◌*◌, ◌/◌, ◌<◌, ◌≤◌, min, Bool, true, false, not, ◌&&◌}
-use Rattle.std.proofs.Common.{cond, eqb, List, [], ◌∷◌, ◌++◌, length, get_or, slice_index, Option, Some, None, is_some}
-use Rattle.std.proofs.Common.{is_none, option_to_list, refl, sym, ap, ◌∙◌, subst, arith, eq-eqb, ne_eqb, eqb-true}
+use Rattle.std.proofs.Common.{◌≡◌, ◌≢◌, ℕ, ◌+◌, ◌-◌, ◌*◌, ◌/◌, ◌<◌, ◌≤◌, min, Bool, true, false, not, ◌&&◌}
+use Rattle.std.proofs.Common.{cond, eqb, List, [], ◌∷◌, length, get_or, slice_index, Option, Some, None, is_some}
+use Rattle.std.proofs.Common.{option_to_list, refl, sym, ap, ◌∙◌, subst, arith, eq-eqb, ne_eqb, eqb-true}
 use Rattle.std.proofs.Common.{ltb-true, leb-true, true≢false, inl}
 use Rattle.std.proofs.Math.Nat.{div-mul-le_self, le-div_iff_mul-le, le-min, min-le_left, min-le_right, mul-le-mul_right}
 use Rattle.std.proofs.Math.Nat.{le_trans}
 use Rattle.std.proofs.Math.Seq.{get_or-append_right}
 use Rattle.std.proofs.lemmas.List.{get_or_append_left, get_or_default}
-use Rattle.std.proofs.lemmas.Bool.{not-true, eqb-false, and_parts, and_from}
+use Rattle.std.proofs.lemmas.Bool.{not-true, eqb-false, and_parts, and_from, cond-true, cond-false}
 use mathlib.Core.Logic.{dite}
 use native.Mathlib.Decide.{ℕ_discrete, dec_lt}
 use Rattle.chip_graph.specs.Multigraph.{edge_at, edges_in, degree}
 use Rattle.chip_graph.specs.ChipGame.{IsGame}
 use Rattle.chip_part.specs.Setting.{Setting}
-use Rattle.chip_graph.proofs.SumLemmas.{cond_yes, cond_no, cond_true, cond_false, tested_none}
+use Rattle.chip_graph.proofs.SumLemmas.{cond_yes, cond_no, tested_none}
 use Rattle.chip_graph.proofs.PickLemmas.{All-picked}
 use Rattle.chip_graph.proofs.WalksLemmas.{degree_positive}
 use Rattle.chip_link.specs.Link.{Tail, claims_of, after_clear, after_claim, after_put}
@@ -22,7 +22,7 @@ use Rattle.chip_part.specs.declared.cause.Cause.TheVariants.{SealedEdge, FiringL
 use Rattle.chip_part.specs.declared.cursor.Cursor.TheVariants as At
 use Rattle.chip_part.specs.Edges.{graph_edges, all_edges, root_edge, tail_of, head_of}
 use Rattle.chip_part.specs.Part.{Part, Cause, is_running, may_ack, pending_of, unput_count, refusals, cause, is_legal}
-use Rattle.chip_part.specs.Rules.{Event, Take, Ack, Fire, Clear, Claim, Put, Halt, Settle}
+use Rattle.chip_part.specs.Rules.{Take, Ack, Fire, Clear, Claim, Put, Halt, Settle}
 use Rattle.chip_part.specs.Steps.{Step, does, saw}
 use Rattle.chip_part.specs.Turn.{nothing, either_phase, where_phase, and_then, each_phase, one_step, seeing, ins_of}
 use Rattle.chip_part.specs.Turn.{outs_of, firing, may_fire, batch_of, putting, sending, sending_all, after_clear_phase}
@@ -138,7 +138,7 @@ module _ (g : Setting) (v : ℕ) (vertex : v < g.game.graph.vertices) (s : Part)
       (game.graph_fits.edges_fit e l).not_from_sink (sym (tail_graph g e l) ∙ at ∙ is)
 
   cause_sealed : refusals g v s ≢ 0 → (c : Cause) × (cause g v s ≡ Some c)
-  cause_sealed some = (SealedEdge, cond_true (not (eqb (refusals g v s) 0)) _ _ (ap not (ne_eqb _ _ some)))
+  cause_sealed some = (SealedEdge, cond-true (not (eqb (refusals g v s) 0)) _ _ (ap not (ne_eqb _ _ some)))
 
   -- takes
 
@@ -505,8 +505,8 @@ module _ (g : Setting) (v : ℕ) (vertex : v < g.game.graph.vertices) (s : Part)
       let why : (k : Cause) × (cause g v s ≡ Some k) = dite (ℕ_discrete (refusals g v s) 0)
       (λ none. (
         FiringLimit,
-        cond_false (not (eqb (refusals g v s) 0)) _ _ (ap not (eq-eqb _ _ none))
-            ∙ cond_true (eqb (pending_of g v s) 0 && is_legal g v s && eqb s.fired g.game.limit) _ None
+        cond-false (not (eqb (refusals g v s) 0)) _ _ (ap not (eq-eqb _ _ none))
+            ∙ cond-true (eqb (pending_of g v s) 0 && is_legal g v s && eqb s.fired g.game.limit) _ None
             (and_from _ _ (and_from _ _ c.1 b.1) a.1),
       ))
       cause_sealed in

@@ -1,10 +1,10 @@
 -- Serves Root.antt.
 -- The root's feeder: what it knows of the root edges, and how a look, a claim and a put there change it.
 use Rattle.std.proofs.Common.{◌≡◌, ◌≢◌, ℕ, zero, suc, ◌+◌, ◌-◌, ◌<◌, ◌≤◌, ◌^◌, Bool, true, false, not}
-use Rattle.std.proofs.Common.{cond, eqb, ltb}
+use Rattle.std.proofs.Common.{cond, eqb}
 use Rattle.std.proofs.Common.{List, [], ◌∷◌, length, sum, get_or, set, slice_index, Option, Some, None}
 use Rattle.std.proofs.Common.{is_none}
-use Rattle.std.proofs.Common.{option_to_list, refl, sym, ap, ◌∙◌, subst, arith, eq-eqb, le-ltb, lt-ltb}
+use Rattle.std.proofs.Common.{option_to_list, refl, sym, ap, ◌∙◌, subst, arith, eq-eqb, lt-ltb}
 use Rattle.std.proofs.Common.{length-set, get_or-set_same, get_or-set_other, true≢false, length-append, le-leb}
 use Rattle.std.proofs.Math.Nat.{mod-eq_of_lt}
 use Rattle.std.proofs.lemmas.Bool.{and_from, leb-true}
@@ -12,8 +12,8 @@ use Rattle.std.proofs.lemmas.List.Sums.{sum_by-append}
 use mathlib.Core.Logic.{dite}
 use native.Mathlib.Decide.{ℕ_discrete}
 use Rattle.chip_graph.specs.Limits.{max_total}
-use Rattle.chip_graph.proofs.SumLemmas.{cond_yes, cond_no, cond_false, sum_below_term}
-use Rattle.chip_graph.proofs.SumLemmas.{sum_below_le, sum_below_move, tested_move}
+use Rattle.chip_graph.proofs.SumLemmas.{cond_yes, cond_no, sum_below_term}
+use Rattle.chip_graph.proofs.SumLemmas.{sum_below_le, sum_below_move, tested_move, none_either}
 use Rattle.chip_link.specs.Ends.{TailState, new_tail, may_clear, claim_words, tail_after_clear, tail_after_claim}
 use Rattle.chip_link.specs.Ends.{tail_after_put}
 use Rattle.chip_link.specs.Link.{Tail, claims_of, sent_counts, tail_state, after_clear, after_claim, after_put}
@@ -22,7 +22,7 @@ use Rattle.chip_link.proofs.StatesLemmas.{tail_clears, tail_claims, tail_puts}
 use Rattle.chip_graph.specs.ChipGame.{IsGame}
 use Rattle.chip_part.specs.Setting.{Setting}
 use Rattle.chip_part.specs.Edges.{graph_edges, all_edges, root_edge, tail_of, root, start_of}
-use Rattle.chip_part.specs.Part.{Part, opening_part, first_put, outstanding, deficit, all_fed}
+use Rattle.chip_part.specs.Part.{Part, opening_part, outstanding, deficit, all_fed}
 use Rattle.chip_part.specs.Rules.{Clear, Put, Settle, Feed, End}
 use Rattle.chip_part.specs.declared.reply.Reply.TheVariants.{Done, Full, Sealed}
 use Rattle.chip_part.specs.declared.reply.Reply.{Reply}
@@ -195,10 +195,6 @@ module _ (g : Setting) (s s' : Part) (f f' : Feeder) (feeds : Feeds g s f) (v : 
 
 -- ---- the events of a root that feeds
 
-nothing_more : (b : Bool) → ◌≡◌ {A = ℕ} (cond b 0 0) 0
-nothing_more true = refl
-nothing_more false = refl
-
 module _ (g : Setting) (s : Part) (r : Root) (stands : RootStandsFor g s r) (v : ℕ) (l : v < g.game.graph.vertices) where
   abbrev f : Feeder
   f = r.feeder
@@ -241,7 +237,7 @@ module _ (g : Setting) (s : Part) (r : Root) (stands : RootStandsFor g s r) (v :
       (ap (tail_after_clear seen) (tail_is g s f feeds_here v l)
       ∙ tail_clears edge g.ring tail seen (may_look g s f feeds_here v l none))
       (ap (λ (x : Feeder). x.tails) is) (ap (λ (x : Feeder). length x.given) is)
-      (λ u m. (let a = ap (λ (x : Feeder). slice_index x.given u) is in let b = nothing_more (eqb v u) in omega arith))
+      (λ u m. (let a = ap (λ (x : Feeder). slice_index x.given u) is in let b = none_either (eqb v u) in omega arith))
       (let a = ap (λ (x : Feeder). x.fed) is in omega arith) (ap (λ (x : Feeder). x.ended) is)
       (look_keeps tail seen (feeds_here.kept v l) none) (let low = feeds_here.within in omega arith) (omega arith))
 
@@ -273,7 +269,7 @@ module _ (g : Setting) (s : Part) (r : Root) (stands : RootStandsFor g s r) (v :
       (tail_after_put (tail_at f v))
       (ap tail_after_put (tail_is g s f feeds_here v l) ∙ tail_puts edge g.ring tail)
       (ap (λ (x : Feeder). x.tails) is) (ap (λ (x : Feeder). length x.given) is)
-      (λ u m. (let a = ap (λ (x : Feeder). slice_index x.given u) is in let b = nothing_more (eqb v u) in omega arith))
+      (λ u m. (let a = ap (λ (x : Feeder). slice_index x.given u) is in let b = none_either (eqb v u) in omega arith))
       (let a = ap (λ (x : Feeder). x.fed) is in omega arith) (ap (λ (x : Feeder). x.ended) is)
       (put_keeps tail (feeds_here.kept v l)) (let low = feeds_here.within in omega arith) (omega arith))
 

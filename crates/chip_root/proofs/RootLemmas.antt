@@ -5,10 +5,10 @@ use Rattle.std.proofs.Common.{get_or, set, replicate, slice_index, le-ltb, eq-eq
 use Rattle.std.proofs.Common.{sym, ap, ◌∙◌, Bool, true, false}
 use Rattle.std.proofs.Common.{subst, arith, length-set, get_or-set_same, get_or-set_other}
 use Rattle.std.proofs.lemmas.List.{get_or-replicate, length-replicate}
-use Rattle.std.proofs.lemmas.Bool.{leb-true}
+use Rattle.std.proofs.lemmas.Bool.{leb-true, cond-false}
 use mathlib.Core.Logic.{dite}
 use native.Mathlib.Decide.{ℕ_discrete}
-use Rattle.chip_graph.proofs.SumLemmas.{tested_term, tested_move, cond_yes, cond_no, cond_false}
+use Rattle.chip_graph.proofs.SumLemmas.{tested_term, tested_move, cond_yes, cond_no}
 use Rattle.chip_graph.proofs.SumLemmas.{sum_below_ext, sum_below_none, sum_below_split}
 use Rattle.chip_link.specs.Link.{claims_of}
 use Rattle.chip_graph.specs.ChipGame.{IsGame}
@@ -31,7 +31,7 @@ module _ (g : Setting) where
   first_root v =
       let past = le-ltb (root_edge g v) (graph_edges g) (omega arith) in
       let at : root_edge g v - graph_edges g ≡ v = omega arith in
-      cond_false (ltb (root_edge g v) (graph_edges g)) [] _ past
+      cond-false (ltb (root_edge g v) (graph_edges g)) [] _ past
       ∙ ap (λ (u : ℕ). cond (eqb (start_of g u) 0) [] (start_of g u ∷ [])) at
 
   pub first_claims : (v : ℕ) → claims_of ((opening_part g).out (root_edge g v)).link ≡ cond (eqb (start_of g v) 0) 0 1

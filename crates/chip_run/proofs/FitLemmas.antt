@@ -13,7 +13,6 @@ use mathlib.Core.Logic.{dite}
 use native.Mathlib.Decide.{ℕ_discrete, dec_lt}
 use Rattle.chip_graph.specs.Multigraph.{edge_at, degree}
 use Rattle.chip_graph.specs.ChipGame.{ChipGame, IsGame}
-use Rattle.chip_graph.proofs.SumLemmas.{cond_true, cond_false}
 use Rattle.chip_link.specs.declared.trace.TraceRow.{TraceRow}
 use Rattle.chip_link.specs.declared.trace.TraceRow.TheVariants as Row
 use Rattle.chip_link.specs.Link.{Tail, sent_counts}
@@ -49,6 +48,7 @@ use Rattle.chip_run.specs.Laws.{LogsFit, UnfedLogsFit}
 use Rattle.std.specs.List.{enumerate_from, count_by}
 use Rattle.chip_graph.specs.More.{brought_to}
 use Rattle.chip_run.specs.Feeding.{has_chips, feeds_of}
+use Rattle.std.proofs.lemmas.Bool.{cond-true, cond-false}
 
 -- ---- how many feeds are for a vertex
 
@@ -307,13 +307,13 @@ module _ (g : Setting) where
         (λ l. (
           opening (out_in g log e).pending,
           sym ((tells game log legal (tail_of g e)).sent e l refl)
-              ∙ ap made (tail_graph g e l) ∙ sym (cond_true (ltb e m) own first (lt-ltb e m l)),
+              ∙ ap made (tail_graph g e l) ∙ sym (cond-true (ltb e m) own first (lt-ltb e m l)),
         ))
         (λ n.
         let at : root_edge g (e - m) ≡ e = omega arith in
         let sent = subst (λ (i : ℕ). IsPrefix (sent_counts (out_in g log i).link) first) at
         (opened (e - m) (omega arith)) in
-        (sent.0, sent.1 ∙ sym (cond_false (ltb e m) own first (le-ltb e m (omega arith)))))
+        (sent.0, sent.1 ∙ sym (cond-false (ltb e m) own first (le-ltb e m (omega arith)))))
 
     take_met : (log : Log) → IsLegalLog g log → Opens log → (e seen : ℕ) → e < all_edges g
         → seen ≡ sees g log (Take e) → seen ≢ 0 → is_met whole (recorded log) (head_of g e) (Row.Take e seen) ≡ true

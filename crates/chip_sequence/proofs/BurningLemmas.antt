@@ -7,7 +7,7 @@ use Rattle.std.proofs.lemmas.List.Sums.{sum_by_more_le}
 use mathlib.Core.Logic.{dite}
 use native.Mathlib.Decide.{ℕ_discrete, dec_lt, dec_le}
 use Rattle.chip_graph.specs.Multigraph.{Multigraph, edge_at, edges_in, sum_in, degree, IsGraph}
-use Rattle.chip_graph.proofs.SumLemmas.{cond_true, picked_sum, tested_le, tested_add, tested_scale}
+use Rattle.chip_graph.proofs.SumLemmas.{picked_sum, tested_le, tested_add, tested_scale}
 use Rattle.chip_sequence.specs.Sequence.{position_after, counts, IsFiringSequence, IsWithin}
 use Rattle.chip_sequence.specs.Counted.{inflow}
 use Rattle.chip_sequence.specs.Certificate.{AreForced, in_degree, late_in_degree, IsBurnt, AreBurnt}
@@ -16,6 +16,7 @@ use Rattle.chip_sequence.proofs.FiringLemmas.{sink_never, inflow_more, counts_mo
 use Rattle.chip_sequence.proofs.AfterLemmas.{sum_small}
 use Rattle.chip_sequence.proofs.CertificateLemmas.{inflow_add}
 use Rattle.chip_sequence.specs.Firing.{fired_once}
+use Rattle.std.proofs.lemmas.Bool.{cond-true}
 
 -- ---- the vertex that has most, and among these the one that burns first
 
@@ -76,7 +77,7 @@ some_first w rank (suc n) =
 edge_brings : (mult most tail : ℕ) (r s : ℕ) → tail ≤ most → (tail ≡ most → r ≤ s)
     → mult * tail + mult ≤ mult * most + cond (leb r s) mult 0
 edge_brings mult most tail r s low late = dite (dec_le r s)
-    (λ l. let a = cond_true (leb r s) mult 0 (le-leb r s l) in let b = mul-le-mul_left mult low in omega arith)
+    (λ l. let a = cond-true (leb r s) mult 0 (le-leb r s l) in let b = mul-le-mul_left mult low in omega arith)
     (λ nl.
     let b : mult * (tail + 1) ≤ mult * most =
     mul-le-mul_left mult
@@ -223,7 +224,7 @@ last_fires (v ∷ vs) u some = dite (ℕ_discrete v u)
 
 -- a choice that is made less often is no greater
 fewer : (a b : Bool) (m : ℕ) → (a ≡ true → b ≡ true) → cond a m 0 ≤ cond b m 0
-fewer true b m p = let d = cond_true b m 0 (p refl) in omega arith
+fewer true b m p = let d = cond-true b m 0 (p refl) in omega arith
 fewer false b m p = omega arith
 
 -- a choice that is made only where something counts

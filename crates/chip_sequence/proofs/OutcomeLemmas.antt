@@ -8,11 +8,10 @@ use Rattle.std.proofs.lemmas.List.Sums.{get_or-le-sum_by}
 use Rattle.chip_graph.specs.Limits.{max_total, max_limit}
 use Rattle.chip_graph.specs.Multigraph.{degree}
 use Rattle.chip_graph.specs.ChipGame.{ChipGame, IsGame}
-use Rattle.chip_graph.proofs.PickLemmas.{All-picked}
+use Rattle.chip_graph.proofs.PickLemmas.{All-picked, picked_ascends}
 use Rattle.chip_sequence.specs.declared.outcome.Outcome.{Outcome}
 use Rattle.chip_sequence.specs.Outcomes.{IsOutcome}
 use Rattle.chip_sequence.specs.Play.{IsPlayed}
-use Rattle.chip_sequence.proofs.LegalLemmas.{picked_ascends}
 
 -- what was played can be reported
 pub outcome_is : (g : ChipGame) → IsGame g → (o : Outcome) → IsPlayed g o → IsOutcome o

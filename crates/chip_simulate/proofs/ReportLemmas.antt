@@ -26,7 +26,6 @@ use Rattle.chip_core.specs.Work.{fed_so_far}
 use Rattle.chip_core.proofs.GivenLemmas.{feed_sees, recorded_step, played_has_more, unfed_records}
 use Rattle.chip_core.proofs.ReachingLemmas.{step_legal, run_legal}
 use Rattle.chip_core.proofs.ReplyLemmas.{length_replies}
-use Rattle.chip_sequence.proofs.LegalLemmas.{picked_has}
 use Rattle.chip_world.specs.Rounds.{IsDrive}
 use Rattle.chip_world.specs.declared.world.driving.Drive.{Drive}
 use Rattle.chip_world.specs.declared.world.driving.Drive.TheVariants.{Closed, Unfinished}
@@ -40,6 +39,7 @@ use Rattle.chip_simulate.specs.SimulateCommand.{reply_text, answers_text, EndsCl
 use Rattle.chip_simulate.specs.SimulateReport.{fed_by_reply, fed_by_replies, told_text, EndsOpen, EndsAsPlain}
 use Rattle.chip_simulate.specs.SimulateReport.{SimulateWrites, SimulateReports}
 use Rattle.chip_simulate.specs.declared.simulate.SimulateOptions.{SimulateOptions}
+use Rattle.chip_graph.proofs.PickLemmas.{picked_has}
 
 module _ (g : Setting) where
   -- ---- what events feed

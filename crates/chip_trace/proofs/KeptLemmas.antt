@@ -8,7 +8,7 @@ use mathlib.Core.Logic.{dite}
 use native.Mathlib.Decide.{ℕ_discrete}
 use Rattle.std.proofs.lemmas.List.{get_or-set_same, get_or-set_other, length-replicate}
 use Rattle.std.proofs.Math.ListN.{length-set}
-use Rattle.std.proofs.lemmas.Bool.{eqb-true}
+use Rattle.std.proofs.lemmas.Bool.{eqb-true, and_parts}
 use Rattle.chip_link.specs.declared.trace.TraceRow.{TraceRow}
 use Rattle.chip_link.specs.declared.trace.TraceRow.TheVariants.{Take, Fire}
 use Rattle.chip_graph.specs.Multigraph.{Multigraph, edge_at}
@@ -21,7 +21,7 @@ use Rattle.chip_trace.specs.declared.progress.ReplayProgress.{ReplayProgress}
 use Rattle.chip_trace.specs.Kept.{runner_at, rows_used, row_after, IsReached, IsKept}
 use Rattle.chip_trace.proofs.PrefixLemmas.{take_slice_get}
 use Rattle.chip_trace.proofs.RowLemmas.{fires-append, chips_taken-append, takes_of-append, rows_of-push}
-use Rattle.chip_trace.proofs.RowLemmas.{rows_of-push_other, firings-append, met_stays, AreMet-push, and_first}
+use Rattle.chip_trace.proofs.RowLemmas.{rows_of-push_other, firings-append, met_stays, AreMet-push}
 
 -- an edge goes into one vertex
 pub one_head : (G : Multigraph) (e u v : ℕ) → goes_into G u e ≡ true → goes_into G v e ≡ true → u ≡ v
@@ -129,7 +129,7 @@ kept_take g traces p q v edge count kept is_vertex next met fits is_edge moved t
     }
 
     goes : goes_into g.graph v edge ≡ true
-    goes = and_first (goes_into g.graph v edge) _ met
+    goes = (and_parts (goes_into g.graph v edge) _ met).0
 
     is_here : runner_at q v ≡ taker
     is_here = here g traces p q v (Take edge count) kept is_vertex next met taker moved refl

@@ -3,14 +3,13 @@
 use Rattle.std.proofs.Common.{◌≡◌, ℕ, ◌+◌, ◌-◌, ◌<◌, ◌≤◌, ◌==◌, nat_le, not, ◌&&◌, Bool, true, false, cond, eqb, List}
 use Rattle.std.proofs.Common.{[], ◌∷◌, ◌++◌, length, map, refl, sym, ap, ◌∙◌, arith, eq-eqb, add-one, append-nil}
 use Rattle.std.specs.Prelude.{nat_lt}
-use Rattle.std.proofs.lemmas.Bool.{ltb-false, lt-ltb, le-ltb}
+use Rattle.std.proofs.lemmas.Bool.{ltb-false, lt-ltb, le-ltb, cond-true, cond-false}
 use Rattle.std.proofs.lemmas.List.{map-append}
 use Rattle.chip_link.specs.declared.trace.TraceRow.{TraceRow}
 use Rattle.chip_graph.specs.Sums.{filter_below}
 use Rattle.chip_graph.specs.Multigraph.{Multigraph, edge_at, degree}
 use Rattle.chip_graph.specs.Edges.{head_of}
 use Rattle.chip_graph.specs.ChipGame.{ChipGame}
-use Rattle.chip_graph.proofs.SumLemmas.{cond_true, cond_false}
 use Rattle.chip_trace.specs.declared.remaining.Left.TheVariants.{Messages}
 use Rattle.chip_trace.specs.Interleaving.{fires, chips_taken, takes_of, goes_into}
 use Rattle.chip_trace.specs.Left.{messages_left, chips_held, legal_left, left_of, left_after}
@@ -50,7 +49,7 @@ one_more : {A : Type 0} (f : ℕ → A) (test : ℕ → Bool) (n : ℕ) → test
     → map f (filter_below test (n + 1)) ≡ map f (filter_below test n) ++ f n ∷ []
 one_more f test n passes =
     ap (λ (m : ℕ). map f (filter_below test m)) (add-one n)
-    ∙ ap (λ (xs : List ℕ). map f (filter_below test n ++ xs)) (cond_true (test n) (n ∷ []) [] passes)
+    ∙ ap (λ (xs : List ℕ). map f (filter_below test n ++ xs)) (cond-true (test n) (n ∷ []) [] passes)
     ∙ map-append f (filter_below test n) (n ∷ [])
 
 -- a number that does not
@@ -58,7 +57,7 @@ no_more : {A : Type 0} (f : ℕ → A) (test : ℕ → Bool) (n : ℕ) → test 
     → map f (filter_below test (n + 1)) ≡ map f (filter_below test n)
 no_more f test n fails =
     ap (λ (m : ℕ). map f (filter_below test m)) (add-one n)
-    ∙ ap (λ (xs : List ℕ). map f (filter_below test n ++ xs)) (cond_false (test n) (n ∷ []) [] fails)
+    ∙ ap (λ (xs : List ℕ). map f (filter_below test n ++ xs)) (cond-false (test n) (n ∷ []) [] fails)
     ∙ ap (map f) (append-nil (filter_below test n))
 
 module _ (g : ChipGame) (p : ReplayProgress) (n : ℕ) where

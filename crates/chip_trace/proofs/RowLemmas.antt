@@ -1,5 +1,6 @@
 -- Serves Interleaving.antt.
 -- What rows come to as they grow, and that a row that is met stays met.
+use Rattle.std.proofs.lemmas.Bool.{and_parts}
 use Rattle.std.proofs.Common.{◌≡◌, ◌≢◌, ℕ, ◌+◌, ◌-◌, ◌*◌, Bool, true, false, cond, eqb, List, [], ◌∷◌, ◌++◌, length}
 use Rattle.std.proofs.Common.{map, sum, refl, sym, ap, ◌∙◌, subst, arith, append_assoc, append-nil}
 use Rattle.std.specs.Prelude.{slice_get, slice_index, Option, Some, None, ◌&&◌, nat_lt}
@@ -64,14 +65,6 @@ firings-append (x ∷ xs) v row = ap (with_firing x.vertex x.row) (firings-appen
 
 -- ---- tests
 
-pub and_first : (a b : Bool) → (a && b) ≡ true → a ≡ true
-and_first true b is = refl
-and_first false b is = absurd (cc is)
-
-pub and_second : (a b : Bool) → (a && b) ≡ true → b ≡ true
-and_second true b is = is
-and_second false b is = absurd (cc is)
-
 pub and_both : (a b : Bool) → a ≡ true → b ≡ true → (a && b) ≡ true
 and_both true b p q = q
 and_both false b p q = absurd (cc p)
@@ -115,12 +108,12 @@ met_stays g used later v (Fire k) same goes met = subst
     (λ (rows : List TraceRow). may_fire g v (sum (fires rows)) (chips_taken rows) k ≡ true) same met
 met_stays g used later v (Take edge count) same goes met =
     and_both (goes_into g.graph v edge) (has_count (next_message g later v edge) count)
-    (and_first (goes_into g.graph v edge) (has_count (next_message g used v edge) count) met)
+    (and_parts (goes_into g.graph v edge) (has_count (next_message g used v edge) count) met).0
     (ap (λ (o : Option ℕ). has_count o count) next ∙ found.2)
   where
     found : (message : ℕ) × (next_message g used v edge ≡ Some message) × (eqb message count ≡ true)
     found = has_count_is (next_message g used v edge) count
-        (and_second (goes_into g.graph v edge) (has_count (next_message g used v edge) count) met)
+        (and_parts (goes_into g.graph v edge) (has_count (next_message g used v edge) count) met).1
 
     more : (more : List ℕ) × (messages g (λ u. fires (used u)) edge ++ more ≡ messages g (λ u. fires (later u)) edge)
     more = more_messages g used later edge goes

@@ -11,14 +11,14 @@ use Rattle.chip_trace.specs.declared.progress.ReplayProgress.{ReplayProgress}
 use Rattle.chip_trace.specs.declared.look.Finding.{Finding}
 use Rattle.chip_trace.specs.declared.look.Finding.TheVariants as finding
 use Rattle.chip_trace.specs.Kept.{rows_used, Finds, IsWrongAt}
-use Rattle.chip_trace.proofs.RowLemmas.{and_first, and_second}
+use Rattle.std.proofs.lemmas.Bool.{and_parts}
 
 -- a row that is met is not wrong
 pub met_not_wrong : (g : ChipGame) (used : ℕ → List TraceRow) (v : ℕ) (row : TraceRow) → is_met g used v row ≡ true
     → is_wrong g used v row ≡ false
 met_not_wrong g used v (Fire k) met = ap not met
 met_not_wrong g used v (Take edge count) met = tests (goes_into g.graph v edge) (next_message g used v edge)
-    (and_first (goes_into g.graph v edge) _ met) (and_second (goes_into g.graph v edge) _ met)
+    (and_parts (goes_into g.graph v edge) _ met).0 (and_parts (goes_into g.graph v edge) _ met).1
   where
     tests : (b : Bool) (o : Option ℕ) → b ≡ true → has_count o count ≡ true → (not b || has_other_count o count) ≡ false
     tests true None p q = absurd (cc q)

@@ -7,7 +7,7 @@ use Rattle.std.proofs.lemmas.List.{get_or-replicate, get_or_past, get_or_push, g
 use mathlib.Core.Logic.{dite}
 use native.Mathlib.Decide.{ℕ_discrete, dec_lt}
 use Rattle.chip_part.specs.Setting.{Setting, IsSetting}
-use Rattle.chip_graph.proofs.SumLemmas.{cond_yes, cond_no, cond_true, cond_false}
+use Rattle.chip_graph.proofs.SumLemmas.{cond_yes, cond_no}
 use Rattle.chip_link.specs.Link.{Shows}
 use Rattle.chip_link.proofs.ShownLemmas.{fresh_shows, first_shows}
 use Rattle.chip_part.specs.Edges.{start_of}
@@ -17,6 +17,7 @@ use Rattle.chip_core.specs.Core.{graph_edges, all_edges}
 use Rattle.chip_world.specs.SharedWords.{opening_words}
 use Rattle.chip_world.specs.World.{WorldState, ShowsEdge, StandsForLog, first_chips, AreOpeningWords}
 use Rattle.chip_world.specs.World.{AreOpeningActors}
+use Rattle.std.proofs.lemmas.Bool.{cond-true, cond-false}
 
 -- one more element, and what holds of each
 pub pushed : {X : Type 0} (P : ℕ → X → Type 0) (xs : List X) (y : X) (n : ℕ) → length xs ≡ n
@@ -69,13 +70,13 @@ module _ (g : Setting) (is_setting : IsSetting g) where
   first_put_is : (e : ℕ) → first_put g e
       ≡ cond (eqb (first_chips g.game e) 0) [] (first_chips g.game e ∷ [])
   first_put_is e = dite (dec_lt e (graph_edges g))
-      (λ l. cond_true (ltb e (graph_edges g)) [] _ (lt-ltb e (graph_edges g) l)
+      (λ l. cond-true (ltb e (graph_edges g)) [] _ (lt-ltb e (graph_edges g) l)
       ∙ sym (cond_yes (first_chips g.game e) 0 [] (first_chips g.game e ∷ [])
-      (cond_true (ltb e (graph_edges g)) 0 (start_of g (e - graph_edges g)) (lt-ltb e (graph_edges g) l))))
+      (cond-true (ltb e (graph_edges g)) 0 (start_of g (e - graph_edges g)) (lt-ltb e (graph_edges g) l))))
       (λ n. let past = le-ltb e (graph_edges g) (omega arith) in
-      cond_false (ltb e (graph_edges g)) [] _ past
+      cond-false (ltb e (graph_edges g)) [] _ past
       ∙ ap (λ (c : ℕ). cond (eqb c 0) [] (c ∷ []))
-      (sym (cond_false (ltb e (graph_edges g)) 0 (start_of g (e - graph_edges g)) past)))
+      (sym (cond-false (ltb e (graph_edges g)) 0 (start_of g (e - graph_edges g)) past)))
 
   edge_shown : (e : ℕ) → ShowsEdge g [] e (opening_words g.ring (first_chips g.game e))
   edge_shown e = record {

@@ -10,7 +10,7 @@ use mathlib.Core.Logic.{dite}
 use native.Mathlib.Decide.{ℕ_discrete}
 use Rattle.chip_graph.specs.ChipGame.{IsGame}
 use Rattle.chip_part.specs.Setting.{Setting}
-use Rattle.chip_graph.proofs.SumLemmas.{by_test, cond_yes, cond_no}
+use Rattle.chip_graph.proofs.SumLemmas.{by_test, cond_yes, cond_no, one_at_most}
 use Rattle.chip_part.specs.declared.reply.Reply.TheVariants.{Got, Sent, NotNow}
 use Rattle.chip_part.specs.declared.rule.Rule.TheVariants.{NoSuch}
 use Rattle.chip_core.specs.Core.{Log, Event, Take, Claim, Feed}
@@ -46,12 +46,8 @@ counted test edges xs i d counts new l so_far same change =
           ap (count_among (test e)) longer in omega arith);
       few = λ e m. (let was = so_far.few e m in let now = change e m in let long = length-append (take i xs) (x ∷ []) in
           let all : length (take (i + 1) xs) ≡ length (take i xs ++ x ∷ []) = ap (λ (l : List Event). length l) longer in
-          let one = at_most_one (test e x) in omega arith);
+          let one = one_at_most (test e x) in omega arith);
     }
-  where
-    at_most_one : (b : Bool) → cond b 1 0 ≤ 1
-    at_most_one true = omega arith
-    at_most_one false = omega arith
 
 -- ---- a message that an event brings is of an edge
 

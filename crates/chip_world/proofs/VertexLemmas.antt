@@ -2,10 +2,10 @@
 -- The vertex that makes an event.
 use Rattle.std.proofs.Common.{◌≡◌, ℕ, ◌<◌, Bool, true, false, cond, ltb, Option, Some, None, refl, sym, ◌∙◌, subst}
 use Rattle.std.proofs.Common.{true≢false}
-use Rattle.std.proofs.lemmas.Bool.{ltb-true}
+use Rattle.std.proofs.lemmas.Bool.{ltb-true, cond-false}
 use Rattle.chip_graph.specs.ChipGame.{IsGame}
 use Rattle.chip_part.specs.Setting.{Setting}
-use Rattle.chip_graph.proofs.SumLemmas.{by_test, cond_false}
+use Rattle.chip_graph.proofs.SumLemmas.{by_test}
 use Rattle.chip_part.specs.Rules.{need}
 use Rattle.chip_part.specs.declared.rule.Rule.{Rule}
 use Rattle.chip_part.specs.declared.rule.Rule.TheVariants.{NoSuch}
@@ -61,7 +61,7 @@ module _ (g : Setting) where
   -- an edge that isn't the root's is the graph's
   pub is_graph_edge : (e : ℕ) → is_root_edge g e ≡ false → ltb e (graph_edges g) ≡ true
   is_graph_edge e is = by_test (ltb e (graph_edges g)) (λ yes. yes)
-      (λ no. absurd (true≢false (sym (cond_false (ltb e (graph_edges g)) false true no) ∙ is)))
+      (λ no. absurd (true≢false (sym (cond-false (ltb e (graph_edges g)) false true no) ∙ is)))
 
   -- where none was found the event names no edge and no vertex
   pub missing : (x : Event) (s : Part) → is_of_others g x ≡ false → vertex_of g x ≡ None

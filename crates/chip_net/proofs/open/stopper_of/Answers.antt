@@ -1,8 +1,8 @@
 use Rattle.std.proofs.Common.{ℕ, [], Some, None, sym, ap, ◌∙◌, arith}
-use Rattle.chip_graph.proofs.SumLemmas.{cond_true}
 use Rattle.chip_part.specs.Edges.{root}
 use Rattle.chip_net.specs.Views.{find}
 use Rattle.chip_net.proofs.open.stopper_of.Goals as goal
+use Rattle.std.proofs.lemmas.Bool.{cond-true}
 
 pub returns-clause-root : goal.returns-clause-root
 returns-clause-root g c =
@@ -11,4 +11,4 @@ returns-clause-root g c =
 
 pub returns-clause-left : goal.returns-clause-left
 returns-clause-left g c = ap (λ (n : ℕ). find n c.take_out-own.new.seat.me.0.parts) (sym c.requires.part)
-    ∙ c.take_out-own.ensures.gone ∙ sym (cond_true c.args.stoppable None (Some []) c.if-not-stoppable.false)
+    ∙ c.take_out-own.ensures.gone ∙ sym (cond-true c.args.stoppable None (Some []) c.if-not-stoppable.false)

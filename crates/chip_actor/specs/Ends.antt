@@ -98,7 +98,7 @@ pub record IsFreshIns (G : Multigraph) (ring v : ℕ) (is : InEnds) : Type 0 whe
   pub edges : is.edges ≡ edges_in G v ++ (length G.edges + v) ∷ []
   pub ends : is.ends ≡ map (λ e. new_head e ring) is.edges
 
--- the first place from `from` on with an element that passes the test, where there is one
+-- the first place from `from` on with an element that passes the test, if there is one
 abbrev pub IsFirstFrom : (ℕ → Bool) → List ℕ → ℕ → Option ℕ → Type 0
 IsFirstFrom test xs from None = (k : ℕ) → from ≤ k → k < length xs → test (slice_index xs k) ≡ false
 IsFirstFrom test xs from (Some i) = (from ≤ i) × (i < length xs) × (test (slice_index xs i) ≡ true)

@@ -101,7 +101,7 @@ impl ActorState {
         self.fired
     }
 
-    /// Why it halted, where it did.
+    /// Why it halted, if it did.
     pub fn halted(&self) -> Option<Cause>
         ensures value { result ≡ self.now.halt }
         ensures part { WhateverPart self.now (λ g s. result ≡ s.halt) }

@@ -1,4 +1,4 @@
--- What an actor answers where it is asked for an event: what the tests go by.
+-- What an actor answers if it is asked for an event: what the tests go by.
 use Rattle.std.specs.Prelude.{◌≡◌, ℕ, true}
 use Rattle.chip_part.specs.Rules.{Event, unmet_rule}
 use Rattle.chip_part.specs.declared.reply.Reply.{Reply}

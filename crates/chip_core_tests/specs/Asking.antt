@@ -25,7 +25,7 @@ fits_seen s (Claim e) seen = claims_in seen == claims_of (s.out e).link
 fits_seen s (Settle e) seen = nat_le (s.out e).settled seen && nat_le seen (claims_of (s.out e).link)
 fits_seen s _ seen = true
 
--- the vertex may be asked for this event, and where it makes it, it may see this
+-- the vertex may be asked for this event, and if it makes it, it may see this
 abbrev pub may_ask : Setting → ℕ → Part → Event → ℕ → Bool
 may_ask g v s x seen = part_of g x == v && (is_some (unmet_rule g x s) || fits_seen s x seen)
 

@@ -17,7 +17,7 @@ root_fits_seen g s (Feed e k) seen = seen == claims_of (s.out e).link
 root_fits_seen g s End seen = fits_seen s (Settle (root_edge g 0)) seen
 root_fits_seen g s x seen = fits_seen s x seen
 
--- the root may be asked for this event, and where it makes it, it may see this
+-- the root may be asked for this event, and if it makes it, it may see this
 abbrev pub may_ask_root : Setting → Part → Event → ℕ → Bool
 may_ask_root g s x seen = is_of_root g x && (is_some (unmet_rule g x s) || root_fits_seen g s x seen)
 

@@ -80,7 +80,7 @@ fn make_turn(rt: &impl Abort, actor: &mut ActorState, turn: &[(Act, u64)]) -> us
 }
 
 /// Asks for one event after another, each with the word that it sees and the reply that is hoped for, and makes a turn
-/// of these operations, where there are some. The answer is how many of these count.
+/// of these operations, if there are some. The answer is how many of these count.
 fn play(
     rt: &impl Abort,
     actor: &mut ActorState,

@@ -31,7 +31,7 @@ fn new_wire(rt: &(impl AllocGlobal + Abort), edge: u64, size: u64) -> Box<Wire>
     Box::new(rt.alloc(), wire).expect(rt, "memory")
 }
 
-/// Sends one message where the tail finds room, by plain reads and writes: its place and its cell.
+/// Sends one message if the tail finds room, by plain reads and writes: its place and its cell.
 fn send(
     rt: &impl Abort,
     tail: &mut TailLink,

@@ -9,7 +9,7 @@ use Rattle.chip_crew.specs.declared.plan.Plan.{Plan}
 use Rattle.chip_crew.specs.declared.plan.Sharing.{Sharing}
 use Rattle.chip_crew.specs.declared.plan.Sharing.TheVariants as sharing
 
--- whose actors it shares, the plan, what it has to feed, and what is known where its gate answers so for a worker and one
+-- whose actors it shares, the plan, what it has to feed, and what is known if its gate answers so for a worker and one
 -- of its turns
 pub record Asked : Type 1 where
   pub crew : CrewId
@@ -17,7 +17,7 @@ pub record Asked : Type 1 where
   pub feeds : Left
   pub may_answer : ℕ → ℕ → Bool → Type 0
 
--- the root of a crew as its net opens: it holds the stopper's part where nothing is to be sealed
+-- the root of a crew as its net opens: it holds the stopper's part if nothing is to be sealed
 abbrev pub root_of : CrewId → Plan → RootKnown
 root_of crew plan = new_root crew.net (if is_some plan.seal then None else Some [])
 

@@ -35,7 +35,7 @@ pub record EndsLed (crew : CrewId) (feeds : Left) (plan : Plan) (receipt : RootK
   pub is_back : TakesBack plan.seal turns led back
   pub ends : EndsWell back receipt o
 
--- the root was polled once and isn't closed: so many messages are left, none only where the end of feeding isn't noted
+-- the root was polled once and isn't closed: so many messages are left, none only if the end of feeding isn't noted
 pub record StaysOpen (old now : RootKnown) (left : ℕ) : Type 0 where
   pub polled : PolledOnce old now
   pub deficit : left ≡ root_deficit now

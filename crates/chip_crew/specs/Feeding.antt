@@ -6,7 +6,7 @@ use Rattle.chip_graph.specs.More.{all_brought}
 use Rattle.chip_net.specs.Roots.{RootKnown, has_ended, all_given, Feeds, LooksInVain, Ends, IsPolling}
 use Rattle.chip_net.specs.declared.poll.RootState.{RootState}
 
--- what is left to feed before the end is noted, a vertex and its chips each; nothing where the end is noted
+-- what is left to feed before the end is noted, a vertex and its chips each; nothing if the end is noted
 abbrev pub Left : Type 0
 Left = Option (List (ℕ × ℕ))
 
@@ -22,7 +22,7 @@ pub record MayFeed (root : RootKnown) (left : List (ℕ × ℕ)) : Type 0 where
   pub each : All (λ pair. (pair.0 < root.net.setting.game.graph.vertices) × (0 < pair.1)) left
   pub within : all_given root + all_brought left ≤ max_total
 
--- so it may, where the end isn't noted
+-- so it may, if the end isn't noted
 abbrev pub MayFeedLeft : RootKnown → Left → Type 0
 MayFeedLeft root None = Unit {0}
 MayFeedLeft root (Some left) = MayFeed root left
@@ -33,12 +33,12 @@ FeedsNext [] left old new = (left ≡ []) × (new ≡ old)
 FeedsNext (pair ∷ rest) left old new = ((left ≡ rest) × ((place : ℕ) × Feeds old new pair.0 pair.1 place))
     ⊎ ((left ≡ pair ∷ rest) × LooksInVain old new pair.0)
 
--- where nothing is left, the end is noted
+-- if nothing is left, the end is noted
 abbrev pub EndsAfter : List (ℕ × ℕ) → Left → RootKnown → RootKnown → Type 0
 EndsAfter [] left old new = (left ≡ None) × ((answer : RootState) × Ends old new answer)
 EndsAfter (pair ∷ rest) left old new = (left ≡ Some (pair ∷ rest)) × (new ≡ old)
 
--- the first that is left was fed if its cell was empty, and the end was noted where then nothing was left
+-- the first that is left was fed if its cell was empty, and the end was noted if then nothing was left
 abbrev pub FeedsOnce : Left → Left → RootKnown → RootKnown → Type 0
 FeedsOnce None left old new = (left ≡ None) × (new ≡ old)
 FeedsOnce (Some feeds) left old new =

@@ -40,7 +40,7 @@ abbrev pub RefusesPlan : ChipGame → Left → Plan → CrewFault → Type 0
 RefusesPlan game feeds plan e = ((e ≡ fault.Plan) × (is_fed_plan game (pairs feeds) plan ≡ false))
     ⊎ ((e ≡ fault.Total) × (is_fed_plan game (pairs feeds) plan ≡ true) × PassesTotal game feeds)
 
--- the crew's net was opened for this game with these rings, to be fed where there are feeds, and its actors with room for
+-- the crew's net was opened for this game with these rings, to be fed if there are feeds, and its actors with room for
 -- so many trace rows; so many workers share them in this way
 pub record IsCrewFor (shared : Sharing) (game : ChipGame) (feeds : Left) (plan : Plan) (crew : CrewId) : Type 0 where
   pub can : CanPlay game feeds plan

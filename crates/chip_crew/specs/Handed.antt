@@ -14,7 +14,7 @@ use Rattle.chip_crew.specs.declared.worker.Share.{Share}
 use Rattle.chip_crew.specs.declared.worker.Share.TheVariants as share
 use Rattle.chip_crew.specs.declared.worker.WorkerResult.{WorkerResult}
 
--- of a round of at most so many turns a worker made so many, and fewer only where its gate was shut
+-- of a round of at most so many turns a worker made so many, and fewer only if its gate was shut
 pub record IsRoundOf (asked : Asked) (worker most made : ℕ) : Type 0 where
   pub at_most : made ≤ most
   pub shut : made < most → ShutFor asked worker
@@ -25,7 +25,7 @@ HasDealt asked worker turns actors = (asked.crew.sharing ≡ sharing.Dealt) × A
     × ((first : List ActorKnown) × (all_turns first ≡ 0) × RoundsMade (passes asked worker) turns first actors)
 
 module _ {B : Type 0} where
-  -- what a worker has after so many turns, each of which its gate let pass: where there is a queue, its pass of it and the
+  -- what a worker has after so many turns, each of which its gate let pass: if there is a queue, its pass of it and the
   -- net's actor that it kept; else the actors that were dealt to it
   abbrev pub HasMade : Asked → ℕ → ℕ → Share B → Type 0
   HasMade asked worker turns (share.Queue queue pass kept) = (asked.crew.sharing ≡ sharing.Queue)
@@ -52,7 +52,7 @@ module _ {B : Type 0} where
   AreReady asked queue all = EachFrom (IsReady asked queue) 0 all
 
   module _ {D : Type 0} where
-    -- what a worker hands back: what it has after so many turns, and its gate answered false only where it may
+    -- what a worker hands back: what it has after so many turns, and its gate answered false only if it may
     pub record IsHanded (asked : Asked) (worker : ℕ) (handed : WorkerResult B D) : Type 0 where
       pub at_most : handed.turns ≤ asked.plan.turns
       pub made : HasMade asked worker handed.turns handed.share

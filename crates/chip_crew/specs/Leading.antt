@@ -29,7 +29,7 @@ pub record LeadsRound (old new : Leader) : Type 0 where
   pub feeds : new.feeds ≡ old.feeds
   pub seal : new.seal ≡ old.seal
 
--- the crew is to stop exactly where the root is closed
+-- the crew is to stop exactly if the root is closed
 abbrev pub Stops : Bool → Leader → Type 0
 Stops true leader = IsOver leader.root
 Stops false leader = IsOver leader.root → ⊥

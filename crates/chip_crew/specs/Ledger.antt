@@ -48,11 +48,11 @@ got_turns l = all_turns l.taken
 abbrev pub gave_turns : Ledger → ℕ
 gave_turns l = all_turns l.put
 
--- the turns of this actor, where there is one
+-- the turns of this actor, if there is one
 abbrev pub kept_turns : Option ActorKnown → ℕ
 kept_turns kept = all_turns (option_to_list kept)
 
--- the vertex of this actor, where there is one
+-- the vertex of this actor, if there is one
 abbrev pub vertex_of : Option ActorKnown → List ℕ
 vertex_of kept = map (λ a. a.vertex) (option_to_list kept)
 
@@ -60,7 +60,7 @@ vertex_of kept = map (λ a. a.vertex) (option_to_list kept)
 abbrev pub HasJust : Ledger → Option ActorKnown → Type 0
 HasJust ledger kept = (ledger.workers ≡ 1) × (ledger.has ≡ vertex_of kept)
 
--- the actor that was kept is the next, and nothing was taken; else it is one that was taken, where one came
+-- the actor that was kept is the next, and nothing was taken; else it is one that was taken, if one came
 abbrev pub IsNext : Ledger → Ledger → Option ActorKnown → Option ActorKnown → Type 0
 IsNext old new (Some kept) next = (next ≡ Some kept) × (new ≡ old)
 IsNext old new None (Some next) = new ≡ with_taken old next
@@ -71,7 +71,7 @@ abbrev pub IsPutOrKept : Ledger → Ledger → ActorKnown → Option ActorKnown 
 IsPutOrKept old new a None = new ≡ with_put old a
 IsPutOrKept old new a (Some kept) = (kept ≡ a) × (new ≡ old)
 
--- the next actor made exactly one turn, and then it was put, or it is kept; where there was none nothing was put or kept
+-- the next actor made exactly one turn, and then it was put, or it is kept; if there was none nothing was put or kept
 abbrev pub EndsTurn : Ledger → Ledger → Option ActorKnown → Option ActorKnown → Type 0
 EndsTurn old new (Some next) kept =
     (after : ActorKnown) × (answer : Turn) × MakesTurn next after answer × IsPutOrKept old new after kept

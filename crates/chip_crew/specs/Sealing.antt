@@ -20,25 +20,25 @@ seals_by at turns = if nat_lt at.turn turns then Seal at.edge ∷ [] else []
 abbrev pub MaySeal : NetId → Option (StopperKnown × SealAt) → Type 0
 MaySeal net seal = IfSome seal (λ s. (s.0.net ≡ net) × (s.1.edge < graph_edges net.setting))
 
--- the stopper sealed the edge once more where this is the turn for it, and else it did nothing
+-- the stopper sealed the edge once more if this is the turn for it, and else it did nothing
 abbrev pub SealsBefore : ℕ → Option (StopperKnown × SealAt) → Option (StopperKnown × SealAt) → Type 0
 SealsBefore turn None new = new ≡ None
 SealsBefore turn (Some s) new = (did : List Step) × (new ≡ Some (record { net = s.0.net; did = did }, s.1))
     × (events_of did ≡ events_of s.0.did ++ (if s.1.turn == turn then Seal s.1.edge ∷ [] else []))
 
 -- after so many turns of worker 0 the stopper of the crew has sealed what was due by then, and nothing else; there is none
--- where nothing is to be sealed
+-- if nothing is to be sealed
 abbrev pub HasSealed : CrewId → Option SealAt → ℕ → Option (StopperKnown × SealAt) → Type 0
 HasSealed crew None turns seal = seal ≡ None
 HasSealed crew (Some at) turns seal = (did : List Step) × (seal ≡ Some (record { net = crew.net; did = did }, at))
     × (events_of did ≡ seals_by at turns) × (at.edge < graph_edges crew.net.setting)
 
--- the root has the stopper back, where there is one
+-- the root has the stopper back, if there is one
 abbrev pub HasBack : Option (StopperKnown × SealAt) → RootKnown → RootKnown → Type 0
 HasBack None old new = new ≡ old
 HasBack (Some s) old new = new ≡ with_stopper old s.0.did
 
--- the root has the stopper back, which sealed what was due in so many turns of worker 0; where nothing was to be sealed
+-- the root has the stopper back, which sealed what was due in so many turns of worker 0; if nothing was to be sealed
 -- the root had it all along
 abbrev pub TakesBack : Option SealAt → ℕ → RootKnown → RootKnown → Type 0
 TakesBack None turns old new = new ≡ old

@@ -8,7 +8,7 @@ use crate::plan::SealAt;
 use chip_net::{Net, Receipt, Root, RootState, Stopper};
 use chip_sequence::Outcome;
 
-/// Gives the root the stopper back, where there is one: nothing is sealed from then on.
+/// Gives the root the stopper back, if there is one: nothing is sealed from then on.
 pub(crate) fn take_back(net: &Net, root: &mut Root, seal: Option<(Stopper, SealAt)>)
     requires net { root.old.net ≡ net.now }
     requires stopper { IfSome seal (λ s. s.0.net ≡ net.now) }

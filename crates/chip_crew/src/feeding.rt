@@ -6,7 +6,7 @@ ghost use Rattle.chip_crew.specs.Feeding.{MayFeed, MayFeedLeft, FeedsNext, Feeds
 
 use chip_net::{FeedFault, Net, Root};
 
-/// Feeds the first that is left, and tells what is left then. Where its cell is full it is left still.
+/// Feeds the first that is left, and tells what is left then. If its cell is full it is left still.
 #[cold]
 fn feed_next<'a>(net: &Net, root: &mut Root, left: &'a [(u64, u64)]) -> &'a [(u64, u64)]
     requires net { root.old.net ≡ net.now }
@@ -25,7 +25,7 @@ fn feed_next<'a>(net: &Net, root: &mut Root, left: &'a [(u64, u64)]) -> &'a [(u6
     }
 }
 
-/// Feeds the first that is left, and notes the end once nothing is. Where it is noted nothing is done.
+/// Feeds the first that is left, and notes the end once nothing is. If it is noted nothing is done.
 pub(crate) fn feed_once(net: &Net, root: &mut Root, left: &mut Option<&[(u64, u64)]>)
     requires net { root.old.net ≡ net.now }
     requires may { MayFeedLeft root.old (option_copied left.old) }

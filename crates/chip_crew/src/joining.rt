@@ -24,7 +24,7 @@ use std::sync::atomic::Ordering::SeqCst;
 use std::thread::{Promise, PromisedHandle, Scope, Threads};
 
 /// The promise of the worker of this number, which begins with this share and these duties: each of its turns was let pass
-/// by its gate and gave one actor one turn, its gate answered false only where it may, and it did its duties.
+/// by its gate and gave one actor one turn, its gate answered false only if it may, and it did its duties.
 #[derive(Drop)]
 pub(crate) struct WorkerPromise<'a, B: Crew, D> {
     number: u64,

@@ -17,7 +17,7 @@ use chip_net::{Net, Root, RootState, Stopper};
 pub(crate) struct Leader<'a> {
     /// The root, which it polls after each of its rounds.
     pub root: Root,
-    /// What it feeds, a vertex and its chips each, before it notes the end; `None` where the end is noted.
+    /// What it feeds, a vertex and its chips each, before it notes the end; `None` if the end is noted.
     pub feeds: Option<&'a [(u64, u64)]>,
     /// The stopper, and when it is to seal which edge.
     pub seal: Option<(Stopper, SealAt)>,
@@ -25,7 +25,7 @@ pub(crate) struct Leader<'a> {
     pub is_closed: bool,
 }
 
-/// Seals, where this is the turn for it.
+/// Seals, if this is the turn for it.
 fn seal_before(net: &Net, seal: &mut Option<(Stopper, SealAt)>, turn: u64)
     requires { MaySeal net.now seal.old }
     ensures { SealsBefore turn seal.old seal.new }

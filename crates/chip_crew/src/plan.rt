@@ -25,7 +25,7 @@ pub trait Gate {
     ghost may_answer: { Self → ℕ → ℕ → Bool → Type 0 } = { λ _ _ _ _. ⊤ };
 
     /// Whether the worker may begin its turn of this number. Workers and turns are numbered from 0, and each worker
-    /// counts its own turns. Where it may not, the whole crew ends.
+    /// counts its own turns. If it may not, the whole crew ends.
     fn pass(&self, worker: u64, turn: u64) -> bool
         ensures { may_answer self.now worker turn result };
 

@@ -228,11 +228,11 @@ fn play_on<R: Threads + Wait, B: Crew + Send + Sync, G: Gate + Sync>(
 }
 
 /// Plays a game on a net of its own by as many threads as the plan says, which share its actors in this way, and feeds it
-/// where there are feeds: a vertex and a count of chips for it each.
+/// if there are feeds: a vertex and a count of chips for it each.
 ///
 /// Worker 0 polls the root after each of its rounds and ends the others' work once it is closed. With a queue each turn is
-/// a round. Where the actors are dealt out, a round is one turn of each actor that worker 0 has. Before each of its turns
-/// worker 0 makes the next feed, where the cell for its message is empty, and after the last one it notes that no more
+/// a round. If the actors are dealt out, a round is one turn of each actor that worker 0 has. Before each of its turns
+/// worker 0 makes the next feed, if the cell for its message is empty, and after the last one it notes that no more
 /// come. When all workers have ended, the calling thread polls once more and finishes. Without a seal the game ends as the
 /// one that has all these chips at the start. All threads are joined, whatever happens.
 pub fn run_with<R: Threads + Wait, G: Gate + Sync>(
@@ -253,7 +253,7 @@ pub fn run_with<R: Threads + Wait, G: Gate + Sync>(
     play_on::<R, Brand, G>(rt, alloc, opened, feeds, &plan, sharing, gate)
 }
 
-/// Does what `run_with` does with a queue where nothing is fed.
+/// Does what `run_with` does with a queue if nothing is fed.
 pub fn run<R: Threads + Wait, G: Gate + Sync>(
     rt: &R,
     alloc: Global,
@@ -270,7 +270,7 @@ pub fn run<R: Threads + Wait, G: Gate + Sync>(
     run_with(rt, alloc, game, plan, Sharing::Queue, None, gate)
 }
 
-/// Does what `run_with` does with a queue where there are feeds.
+/// Does what `run_with` does with a queue if there are feeds.
 pub fn run_fed<R: Threads + Wait, G: Gate + Sync>(
     rt: &R,
     alloc: Global,

@@ -125,7 +125,7 @@ fn turn_by_queue<B: Crew>(
 }
 
 impl<'a, B: Crew, G: Gate> Shared<'a, B, G> {
-    /// Begins a turn of a worker, where its gate lets it pass. Else all are told to stop.
+    /// Begins a turn of a worker, if its gate lets it pass. Else all are told to stop.
     #[inline(always)]
     fn begin<D: Duties>(&self, worker: u64, turn: u64, duties: &mut D) -> bool
         requires turn { turn < B.asked.plan.turns }
@@ -144,8 +144,8 @@ impl<'a, B: Crew, G: Gate> Shared<'a, B, G> {
     }
 
     /// The turns of a round of a worker with actors of its own, one of each actor, and one if it has none: at most so
-    /// many, the first of which has this number, and fewer where the gate answers no. It tells how many were made, and
-    /// yields where no actor had anything to do.
+    /// many, the first of which has this number, and fewer if the gate answers no. It tells how many were made, and
+    /// yields if no actor had anything to do.
     #[inline(always)]
     fn turn_each<D: Duties>(
         &self,
@@ -185,7 +185,7 @@ impl<'a, B: Crew, G: Gate> Shared<'a, B, G> {
         most
     }
 
-    /// The turns of a round of a worker, of which the first has this number: at most so many, and fewer where the gate
+    /// The turns of a round of a worker, of which the first has this number: at most so many, and fewer if the gate
     /// answers no. It tells how many were made. With a queue the turns in vain before them in a row are counted on.
     #[inline(always)]
     fn round<D: Duties>(

@@ -31,7 +31,7 @@ NeutralOnlyWhenDone =
     is_engaged old ≡ true → is_engaged new ≡ false →
     IsLastAcknowledgement old new s
 
--- the parent goes exactly where all that is owed on its edge is acknowledged
+-- the parent goes exactly if all that is owed on its edge is acknowledged
 abbrev pub ParentGoesWithAll : Type 0
 ParentGoesWithAll =
     (old new : Books) (e count : ℕ) →

@@ -22,7 +22,7 @@ edges_of ts = map (λ t. t.edge) ts
 abbrev pub tally_at : List Tally → ℕ → Tally
 tally_at ts i = get_or ts i (record { edge = 0; messages = 0; answered = 0 })
 
--- what f reads off the tally of the edge e; 0 where e has none
+-- what f reads off the tally of the edge e; 0 if e has none
 abbrev pub look : (Tally → ℕ) → List Tally → ℕ → ℕ
 look f [] e = 0
 look f (t ∷ ts) e = if t.edge == e then f t else look f ts e

@@ -12,7 +12,7 @@ use Rattle.chip_diffusing.specs.Ending.{IsDetectionOrder, IsDue, left, LeadsDue,
 abbrev pub ForEveryLog : (Network → World → Type 0) → Type 0
 ForEveryLog P = (net : Network) → IsNetwork net → (log : Log) (w : World) → IsLegalLog net log w → P net w
 
--- where the root is closed, the computation is over
+-- if the root is closed, the computation is over
 abbrev pub ClosedIsSilent : Type 0
 ClosedIsSilent = ForEveryLog (λ net w. IsClosed net w → IsSilent net w)
 
@@ -29,7 +29,7 @@ IsOver books ended = ForEveryLog (λ net w. (w net.root).books ≡ books → (w 
 abbrev pub EngagedIsATree : Type 0
 EngagedIsATree = ForEveryLog (λ net w. (ps : List ℕ) × IsDetectionOrder net w ps)
 
--- where it is over and the root isn't closed, an acknowledgement or a settle is due
+-- if it is over and the root isn't closed, an acknowledgement or a settle is due
 abbrev pub NeverStuck : Type 0
 NeverStuck = ForEveryLog (λ net w. IsSilent net w → (IsClosed net w → ⊥) → (x : Event) × IsDue net w x)
 
@@ -38,7 +38,7 @@ abbrev pub NotOverYet : Type 0
 NotOverYet = ForEveryLog (λ net w. (IsClosed net w → ⊥)
     → ((p : ℕ) × (p < net.parts) × ((w p).passive ≡ false)) ⊎ ((e : ℕ) × May net w (Get e)) ⊎ ((x : Event) × IsDue net w x))
 
--- where it is over, few events that are due can be done, and where none is left the root is closed
+-- if it is over, few events that are due can be done, and if none is left the root is closed
 abbrev pub FewAreLeft : Type 0
 FewAreLeft = ForEveryLog (λ net w. IsSilent net w → (xs : Log) (later : World) → LeadsDue net w xs later
     → (length xs ≤ left net w) × (((x : Event) → IsDue net later x → ⊥) → IsClosed net later))

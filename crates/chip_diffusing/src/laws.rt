@@ -17,7 +17,7 @@ pub fn calls()
     ensures { CallsMayBeMade }
 {}
 
-/// The theorem of Dijkstra and Scholten: where the root is closed, nothing is on its way and every part is passive,
+/// The theorem of Dijkstra and Scholten: if the root is closed, nothing is on its way and every part is passive,
 /// now and ever after.
 pub fn closed_roots()
     ensures silent { ClosedIsSilent }
@@ -29,14 +29,14 @@ pub fn trees()
     ensures { EngagedIsATree }
 {}
 
-/// Where it is over and the root is not closed something is due, and not much is left.
+/// If it is over and the root is not closed something is due, and not much is left.
 pub fn endings()
     ensures never_stuck { NeverStuck }
     ensures not_over_yet { NotOverYet }
     ensures few_are_left { FewAreLeft }
 {}
 
-/// Where it is over, as many rounds as the tree is deep and one more close the root.
+/// If it is over, as many rounds as the tree is deep and one more close the root.
 pub fn soon_after_the_end()
     ensures depth { DepthCloses }
     ensures counted { DepthIsCounted }

@@ -29,7 +29,7 @@ pub struct Pile {
 
 impl Pile {
     /// A pile on which nothing was dropped, of a game and its outcome. Drops take no more memory than it has then, but
-    /// for what a search takes where there is some.
+    /// for what a search takes if there is some.
     #[tactic(auto, using(crate::proofs::DropLemmas::played_begun, crate::proofs::DropLemmas::played_rests))]
     pub fn new(alloc: Global, game: Game, outcome: Outcome) -> Result<Pile, AllocError>
         requires game { IsGame game }
@@ -49,7 +49,7 @@ impl Pile {
         })
     }
 
-    /// Drops so many chips on a vertex and plays to the end: the avalanche, or `None` where the limit has stopped it.
+    /// Drops so many chips on a vertex and plays to the end: the avalanche, or `None` if the limit has stopped it.
     pub fn drop_chips(self, alloc: Global, vertex: u64, count: u64) -> (Pile, Option<Avalanche>)
         requires pile { IsPile self }
         requires stable { IsStable self.game.graph (slice_index self.chips.items) }
@@ -131,7 +131,7 @@ impl BegunDrop {
         self.worked.is_none()
     }
 
-    /// Plays to the end: the avalanche, or `None` where the limit has stopped it.
+    /// Plays to the end: the avalanche, or `None` if the limit has stopped it.
     pub(crate) fn finish<P: Watch>(self, alloc: Global, watch: &mut P) -> (Pile, Option<Avalanche>)
         requires { (g : ChipGame) × (ds : List (ℕ × ℕ)) × (x : ℕ → ℕ) × IsBegunDrop g ds x self }
         ensures pile { IsPile result.0 }

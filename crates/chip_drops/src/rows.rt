@@ -113,7 +113,7 @@ impl Rows {
         if is_time { self.write(output) } else { Ok(()) }
     }
 
-    /// Puts a row to them, and writes them where there are enough.
+    /// Puts a row to them, and writes them if there are enough.
     fn push<W: Write>(
         &mut self,
         vertex: u64,

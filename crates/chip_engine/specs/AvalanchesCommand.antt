@@ -60,7 +60,7 @@ ComesTo g ds text g' outcome =
     × (is_closed outcome ≡ false))
     ⊎ ((text ≡ rows_text []) × (g' ≡ g) × (is_closed outcome ≡ false))
 
--- what two outputs hold: that of the rows, and that of the report where there is one
+-- what two outputs hold: that of the rows, and that of the report if there is one
 pub record Outputs : Type 0 where
   pub rows : Option (List ℕ)
   pub report : Option (Option (List ℕ))
@@ -80,7 +80,7 @@ PlaysDrops g ds old new (Err fault) =
 abbrev pub ended_of : Outcome → Ended
 ended_of outcome = record { status = plain_status outcome; cut = false }
 
--- what writing the report answers, where one is asked for: it goes out; or just a front of it does, or there is no memory
+-- what writing the report answers, if one is asked for: it goes out; or just a front of it does, or there is no memory
 abbrev pub ReportAnswer : Option (Option (List ℕ)) → Option (Option (List ℕ)) → Outcome → Result Ended Fault → Type 0
 ReportAnswer None None outcome result = result ≡ Ok (ended_of outcome)
 ReportAnswer (Some old) (Some new) outcome (Ok ended) = (ended ≡ ended_of outcome) × Appends old new (report_text outcome)

@@ -29,11 +29,11 @@ table_text what table =
 abbrev pub rows_of : List (Bor Explanation) → List Explanation
 rows_of table = map (λ row. row.now) table
 
--- the row of a table with this number, where there is one
+-- the row of a table with this number, if there is one
 abbrev pub row_with : List Explanation → ℕ → Option Explanation
 row_with table number = find (λ row. row.number == number) table
 
--- what a table has to say: in the row with a number, where there is one; in all rows where no number is given
+-- what a table has to say: in the row with a number, if there is one; in all rows if no number is given
 abbrev pub explanation : List ℕ → List Explanation → Option ℕ → Option (List ℕ)
 explanation what table (Some number) = option_map (row_text what) (row_with table number)
 explanation what table None = Some (table_text what table)

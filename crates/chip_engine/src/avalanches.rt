@@ -20,7 +20,7 @@ use std::io::{Read, Write};
 
 /// Plays the game of a graph file, a chips file and a firing limit to its end, within the standard limits, and then drops
 /// the chips of a third file on it, one row after another, each played to its end. The rows of the avalanches go out, and
-/// then, where one is asked for, the report of the game that has all these chips at the start.
+/// then, if one is asked for, the report of the game that has all these chips at the start.
 ///
 /// All files are read before the first byte is written. The limit counts all firings of a vertex. A drop whose play it
 /// stops has no row, and nothing is dropped after it.
@@ -128,7 +128,7 @@ fn fault_of_rows(fault: RowsFault) -> Fault
     }
 }
 
-/// Writes the report of an outcome, where one is asked for.
+/// Writes the report of an outcome, if one is asked for.
 fn write_report<P: Watch, T: Write>(
     alloc: Global,
     outcome: &Outcome,

@@ -9,10 +9,10 @@ use chip_command::{Answer, Ended, Explanation, Fault, deliver};
 use std::alloc::{AllocError, Global};
 use std::io::Write;
 
-/// Explains the row of a table with this number, or lists all its rows, a line each, where no number is given. `what`
+/// Explains the row of a table with this number, or lists all its rows, a line each, if no number is given. `what`
 /// says what the rows are of: `fault` or `rule`.
 ///
-/// `Fault::Usage` where no row of the table has the number.
+/// `Fault::Usage` if no row of the table has the number.
 pub fn explain_engine<W: Write>(
     alloc: Global,
     what: &str,
@@ -43,7 +43,7 @@ fn tell(
     Ok(Answer::of_lines(explain(alloc, what, row)?))
 }
 
-/// The row of a table with this number, where there is one.
+/// The row of a table with this number, if there is one.
 fn row_of<'a>(table: &[&'a Explanation], number: u64) -> Option<&'a Explanation>
     ensures { option_map (λ row. row.now) result ≡ row_with (rows_of table.now) number }
 {

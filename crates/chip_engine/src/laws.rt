@@ -34,7 +34,7 @@ pub fn sittings()
 {}
 
 /// A simulation that closed wrote, behind the lines of its replies, the report of the plain player, unless it names a
-/// sealed vertex: of the same files, or, where chips were fed, of files that have all these chips at the start.
+/// sealed vertex: of the same files, or, if chips were fed, of files that have all these chips at the start.
 pub fn simulated_bytes()
     ensures { SimulatedBytes }
 {}

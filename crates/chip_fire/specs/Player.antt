@@ -5,7 +5,7 @@ use Rattle.chip_sequence.specs.declared.outcome.Outcome.{Outcome}
 use Rattle.chip_sequence.specs.Outcomes.{IsOutcome}
 use Rattle.chip_sequence.specs.Play.{IsPlayed, IsEnough}
 
--- the outcome of a whole play of the game: it can be reported, and no vertex is left over where the limit is enough
+-- the outcome of a whole play of the game: it can be reported, and no vertex is left over if the limit is enough
 pub record PlaysOut (g : ChipGame) (o : Outcome) : Type 0 where
   pub played : IsPlayed g o
   pub in_range : IsOutcome o

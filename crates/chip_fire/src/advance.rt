@@ -12,7 +12,7 @@ use std::alloc::Global;
 
 impl Play<'_> {
     /// Goes on by some rounds, and where these have not ended the play, at counts that are searched and certified, if there
-    /// are some. Where there is no memory, no counts are searched.
+    /// are some. If there is no memory, no counts are searched.
     pub(crate) fn advance<W: Watch>(&mut self, alloc: Global, watch: &mut W)
         ensures { self.new.game ≡ self.old.game }
     {
@@ -32,7 +32,7 @@ impl Play<'_> {
     }
 
     /// Searches counts for the play from those of `before` on, while the play goes on: each has its turns, and the search
-    /// makes twice as many looks. `None` where the play has ended first, or where memory ran out, which ends the search
+    /// makes twice as many looks. `None` if the play has ended first, or if memory ran out, which ends the search
     /// alone.
     fn search_counts<W: Watch>(
         &mut self,

@@ -39,7 +39,7 @@ impl Play<'_> {
 
     /// Whether counts pass a test, by the chips that they leave. One is passed where each vertex that fires more often
     /// by them than it has fired lacks at most one chip then to fire once more; the other is the burning test, by these
-    /// ranks, and finds more where no vertex has a greater in-degree than out-degree.
+    /// ranks, and finds more if no vertex has a greater in-degree than out-degree.
     fn are_certified(&self, counts: &[u64], order: &[u64], chips: &[u64]) -> bool
         requires counts_each { length counts.now ≡ self.now.game.graph.vertices }
         requires order_each { length order.now ≡ self.now.game.graph.vertices }

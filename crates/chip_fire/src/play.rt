@@ -32,7 +32,7 @@ impl<'a> Model for Play<'a> {
 }
 
 impl<'a> Play<'a> {
-    /// The start, where no vertex has fired. The memory of these two lists is all that a play needs.
+    /// The start, if no vertex has fired. The memory of these two lists is all that a play needs.
     pub fn new(alloc: Global, game: &'a Game) -> Result<Play<'a>, AllocError>
         ensures game { IfOk result (λ play. play.game ≡ game.now) }
         ensures unfired { IfOk result (λ play. (v : ℕ) → slice_index play.fired v ≡ 0) }
@@ -55,7 +55,7 @@ impl<'a> Play<'a> {
         true
     }
 
-    /// The outcome, where no vertex may fire within the limit.
+    /// The outcome, if no vertex may fire within the limit.
     pub fn outcome(self, alloc: Global) -> Result<Outcome, AllocError>
         requires { IsAtRest self.game self.chips self.fired }
         ensures { IfOk result (PlaysOut self.entry.game) }

@@ -66,7 +66,7 @@ impl Play<'_> {
 
 /// Makes so many rounds, or until none fires a vertex; in how many one did. Each time that a vertex fires in a round, as
 /// often in a row as it may, is added to `turns`, up to 2^64 - 1.
-// A round is so short that a play takes a seventh longer where this is a call.
+// A round is so short that a play takes a seventh longer if this is a call.
 #[inline(always)]
 pub fn make_rounds(
     game: &Game,

@@ -87,7 +87,7 @@ pub fn is_legal(graph: &Graph, chips: &[u64], vertex: u64) -> bool
 }
 
 /// Lets a legal vertex fire as often as its chips allow, and lists in its place those that had not the chips to fire
-/// and have them then; how many are listed then. `None` where the limit or the room of the list is too small.
+/// and have them then; how many are listed then. `None` if the limit or the room of the list is too small.
 #[tactic(auto, using(chip_sequence::proofs::BoundLemmas::some_degree))]
 #[inline]
 fn turn(

@@ -2,7 +2,7 @@
 use Rattle.std.specs.Prelude.{◌≡◌, ℕ, ◌<◌, List, length, Option, Some, None, slice_index_or}
 use Rattle.chip_graph.specs.Multigraph.{Multigraph, ReachesSink, IsDistance}
 
--- how far v is from the sink; `None` where no walk leads there
+-- how far v is from the sink; `None` if no walk leads there
 abbrev pub IsDistanceOf : Multigraph → ℕ → Option ℕ → Type 0
 IsDistanceOf G v None = ReachesSink G v → ⊥
 IsDistanceOf G v (Some d) = IsDistance G v d

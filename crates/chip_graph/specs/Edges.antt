@@ -33,7 +33,7 @@ tail_of G e = if nat_lt e (length G.edges) then (edge_at G e).tail else G.vertic
 abbrev pub head_of : Multigraph → ℕ → ℕ
 head_of G e = if nat_lt e (length G.edges) then (edge_at G e).head else e - length G.edges
 
--- the edge that has this number, where one has it: one of the graph's own, or the root edge into a vertex
+-- the edge that has this number, if one has it: one of the graph's own, or the root edge into a vertex
 abbrev pub IsNumbered : Multigraph → ℕ → Option AnyEdge → Type 0
 IsNumbered G e (Some (Own edge)) = (e < graph_edges G) × (edge ≡ edge_at G e)
 IsNumbered G e (Some (Root head)) = (head < G.vertices) × (e ≡ root_edge G head)

@@ -15,7 +15,7 @@ abbrev pub first_of_faults : {F : Type 0} → Option F → Option F → Option F
 first_of_faults None later = later
 first_of_faults (Some fault) later = Some fault
 
--- a fault where a test fails
+-- a fault if a test fails
 abbrev pub fault_unless : {F : Type 0} → Bool → F → Option F
 fault_unless test fault = if test then None else Some fault
 
@@ -67,7 +67,7 @@ abbrev pub refusal : {F : Type 0} → Option F → Result (Unit {0}) F
 refusal None = Ok tt
 refusal (Some fault) = Err fault
 
--- what making a graph answers: the graph where it is one within the limits, else its first fault; want of memory only
+-- what making a graph answers: the graph if it is one within the limits, else its first fault; want of memory only
 -- where the rows have no fault, since nothing grows before they are looked at
 abbrev pub MakesGraph : SizeLimits → Multigraph → Result Multigraph GraphFault → Type 0
 MakesGraph limits G (Ok graph) = (graph ≡ G) × IsGraphWithin limits G
@@ -81,7 +81,7 @@ fault_of_game g =
     (first_of_faults (fault_unless (nat_le (sum g.start) max_total) game_fault.Total)
     (fault_unless (nat_le g.limit max_limit) game_fault.Limit))
 
--- what making a game answers: the game where it is one, else its first fault
+-- what making a game answers: the game if it is one, else its first fault
 abbrev pub MakesGame : ChipGame → Result ChipGame GameFault → Type 0
 MakesGame g (Ok game) = (game ≡ g) × (fault_of_game g ≡ None)
 MakesGame g (Err fault) = fault_of_game g ≡ Some fault

@@ -45,7 +45,7 @@ pub record AreLimits (limits : SizeLimits) : Type 0 where
   pub few_edges : limits.edges ≤ max_edges
   pub few_bytes : limits.bytes ≤ max_text
 
--- these limits, where none is above the greatest
+-- these limits, if none is above the greatest
 abbrev pub limits_of : ℕ → ℕ → ℕ → Option SizeLimits
 limits_of vertices edges bytes =
     if nat_le vertices max_vertices && nat_le edges max_edges && nat_le bytes max_text

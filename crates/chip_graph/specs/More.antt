@@ -28,7 +28,7 @@ pub record HasMore (old : ChipGame) (more : List (ℕ × ℕ)) (new : ChipGame) 
   pub start : (v : ℕ) → v < length old.start → slice_index new.start v ≡ slice_index old.start v + brought_to more v
   pub total : sum new.start ≡ sum old.start + all_brought more
 
--- what adding chips answers: the game with more where the total stays within the limit, else the game as it was
+-- what adding chips answers: the game with more if the total stays within the limit, else the game as it was
 abbrev pub AddsChips : ChipGame → List (ℕ × ℕ) → Result ChipGame ChipGame → Type 0
 AddsChips g more (Ok game) = HasRoom g more × HasMore g more game
 AddsChips g more (Err game) = (max_total < sum g.start + all_brought more) × (game ≡ g)

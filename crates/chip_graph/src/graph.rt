@@ -285,7 +285,7 @@ fn check_edges(vertices: u64, sink: u64, edges: &[Edge]) -> Result<(), GraphFaul
     Ok(())
 }
 
-/// What is counted of edges without a fault, or the first fault. Memory runs out only where there is none.
+/// What is counted of edges without a fault, or the first fault. Memory runs out only if there is none.
 fn count(alloc: Global, vertices: u64, sink: u64, edges: &[Edge]) -> Result<Counts, GraphFault>
     requires few_vertices { vertices ≤ max_vertices }
     requires few_edges { length edges.now ≤ max_edges }

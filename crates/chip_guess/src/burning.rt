@@ -14,7 +14,7 @@ use std::num::saturating_f64_to_i64;
 pub(crate) struct Vertex {
     /// How often it fires beyond what it had fired when the search began; 0 where its count is to stay as it is.
     pub(crate) fires: i64,
-    /// The chips left to it less what its neighbours have taken back: it burns where this is not below 0.
+    /// The chips left to it less what its neighbours have taken back: it burns if this is not below 0.
     slack: i64,
     /// What comes in where each vertex that fires does so once.
     comes: i64,
@@ -352,7 +352,7 @@ fn stop(vertices: &mut [Vertex], links: &[Link], vertex: usize, next: &mut u32) 
     }
 }
 
-/// Brings a vertex what another one sends it along a link. It is to burn next where it may by that, and all up to the
+/// Brings a vertex what another one sends it along a link. It is to burn next if it may by that, and all up to the
 /// last one have taken a firing back.
 #[inline]
 fn bring(vertices: &mut [Vertex], link: Link, last: usize, next: &mut u32) {

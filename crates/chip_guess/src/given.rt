@@ -11,7 +11,7 @@ use std::alloc::{AllocError, Global};
 use std::num::nearest_u64_to_f64;
 
 /// Counts that were given for a game, each up to its limit and 0 for the sink, lowered until they pass the test. `None`
-/// where many steps are too few for that, and where memory runs out. What is not given is 0.
+/// if many steps are too few for that, or memory runs out. What is not given is 0.
 pub fn lower_counts(alloc: Global, game: &Game, given: &[u64]) -> Option<Vec<u64>>
     ensures each { IfSome result (λ counts. length counts.items ≡ game.now.graph.vertices) }
     ensures lowered { IfSome result
@@ -24,7 +24,7 @@ pub fn lower_counts(alloc: Global, game: &Game, given: &[u64]) -> Option<Vec<u64
     Some(counts)
 }
 
-/// Lowers numbers that are above others to these, and to 0 where there are none.
+/// Lowers numbers that are above others to these, and to 0 if there are none.
 fn keep_below(numbers: &mut [u64], others: &[u64])
     ensures { (v : ℕ) → slice_index numbers.new v ≤ slice_index others.now v }
 {

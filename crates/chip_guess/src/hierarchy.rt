@@ -41,7 +41,7 @@ pub struct Hierarchy {
 }
 
 impl Hierarchy {
-    /// The hierarchy of a graph; `None` where memory runs out, or so many looks in all are too few. Its looks at a
+    /// The hierarchy of a graph; `None` if memory runs out, or so many looks in all are too few. Its looks at a
     /// vertex or a link are added to `looks`.
     pub fn new(alloc: Global, graph: &Graph, looks: &mut u64, most: u64) -> Option<Hierarchy>
         requires { looks.old ≤ most }
@@ -214,7 +214,7 @@ fn aggregate(rows: &[Row], links: &[Link], aggregates: &mut [u32]) -> usize {
     count
 }
 
-/// The vertex that sends most along these links, where one in no aggregate counts more; `NONE` where there is none.
+/// The vertex that sends most along these links, where one in no aggregate counts more; `NONE` if there is none.
 fn strongest(links: &[Link], aggregates: &[u32]) -> u32 {
     let mut strongest = NONE;
     let mut most = 0i64;

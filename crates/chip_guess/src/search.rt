@@ -129,7 +129,7 @@ impl<'a> Search<'a> {
     }
 
     /// The counts that were found, where each vertex had fired so often, up to this limit; `None` where none were, and
-    /// where memory runs out.
+    /// if memory runs out.
     pub fn found(&self, alloc: Global, fired: &[u64], limit: u64) -> Option<Vec<u64>>
         ensures each { IfSome result (λ counts. length counts.items ≡ length fired.now) }
         ensures within { IfSome result (λ counts. (v : ℕ) → slice_index counts.items v ≤ limit) }

@@ -59,7 +59,7 @@ pub record GraphFile : Type 0 where
   pub version : ℕ
   pub graph : Multigraph
 
--- the file of these parts, where each is there
+-- the file of these parts, if each is there
 abbrev pub file_of_parts : Option ℕ → Option ℕ → Option ℕ → Option (List Edge) → Option GraphFile
 file_of_parts (Some version) (Some vertices) (Some sink) (Some edges) =
     Some (record { version = version; graph = record { vertices = vertices; sink = sink; edges = edges } })

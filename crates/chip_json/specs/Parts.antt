@@ -14,7 +14,7 @@ use Rattle.chip_json.specs.declared.fault.JsonFault.TheVariants.{NotJson, Shape,
 use Rattle.chip_json.specs.GraphFile.{GraphFile, file_of_value, json_of}
 use Rattle.chip_json.specs.Rows.{Keeps, KeepsAny}
 
--- a member, where it is there
+-- a member, if it is there
 abbrev pub add_member : List ℕ → Option Data → Members → Members
 add_member name None ms = ms
 add_member name (Some d) ms = member name d ms
@@ -74,7 +74,7 @@ KeepsFile most (Some file) (Some kept) = (file.version ≡ kept.version) × Keep
 KeepsFile most None None = ⊤
 KeepsFile most _ _ = ⊥
 
--- the file of these parts, where each is there
+-- the file of these parts, if each is there
 abbrev pub kept_of : Option ℕ → Option ℕ → Option ℕ → Option (Vec Edge Global) → Option Kept
 kept_of (Some version) (Some vertices) (Some sink) (Some edges) =
     Some (record { version = version; vertices = vertices; sink = sink; edges = edges })

@@ -34,7 +34,7 @@ and_items r (item d ds) = and_items (and_number r (number_of_value d)) ds
 abbrev pub Keeps : ℕ → List Edge → List Edge → Type 0
 Keeps most all kept = (kept ≡ all) ⊎ ((most < length all) × (most < length kept))
 
--- what is kept of edges, where there are any
+-- what is kept of edges, if there are any
 abbrev pub KeepsAny : ℕ → Option (List Edge) → Option (Vec Edge Global) → Type 0
 KeepsAny most (Some all) (Some kept) = Keeps most all kept.items
 KeepsAny most None None = ⊤
@@ -48,7 +48,7 @@ AreRows most ds kept = KeepsAny most (edges_of_rows ds) kept
 abbrev pub AreRowsUnder : ℕ → Data → Option (Vec Edge Global) → Type 0
 AreRowsUnder most d kept = KeepsAny most (option_and_then edges_of_rows (as_array d)) kept
 
--- what reading a value answers where memory may run out
+-- what reading a value answers if memory may run out
 abbrev pub MayRead : {T : Type 0} → ℕ → List Token → List Token → (Data → T → Type 0) → Result T JsonFault → Type 0
 MayRead depth old new Is (Ok x) = (d : Data) × (next_value depth old ≡ Some (d, new)) × Is d x
 MayRead depth old new Is (Err f) = (f ≡ NoMemory) ⊎ ((f ≡ NotJson) × (next_value depth old ≡ None))

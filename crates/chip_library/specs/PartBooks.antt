@@ -83,7 +83,7 @@ pub record IsFound (ts : List Tally) (e : ℕ) (slot : Slot) (t : Tally) : Type 
   pub is_edge : e < neutral
   pub possible : IsPossible t
 
--- something is owed on the parent edge, or nothing at all where there is none
+-- something is owed on the parent edge, or nothing at all if there is none
 pub record Suits (ins : List Tally) (parent : Option ℕ) : Type 0 where
   pub engaged : (p : ℕ) → parent ≡ Some p → 0 < open_on ins p
   pub neutral_owes : parent ≡ None → all_open ins ≡ 0

@@ -259,7 +259,7 @@ fn ascend(tallies: &[Tally]) -> bool
     tallies.is_sorted_by(|one, next| one.edge < next.edge)
 }
 
-/// Whether something is owed on the parent edge, or nothing at all where there is none.
+/// Whether something is owed on the parent edge, or nothing at all if there is none.
 fn suits(ins: &[Tally], parent: u64) -> bool
     requires { AreTallies ins.now }
     ensures { IsTrue result ↔ Suits ins.now (parent_of parent) }

@@ -31,7 +31,7 @@ may_clear t = (is_none t.held && not t.refused) && nat_lt t.claims (2 ^ 62)
 abbrev pub tail_after_clear : ℕ → TailState → TailState
 tail_after_clear cell t = if may_clear t then record t { clear = cell == 0 } else t
 
--- the place that may be claimed next where this is in its cell
+-- the place that may be claimed next if this is in its cell
 abbrev pub place_for : ℕ → TailState → Option ℕ
 place_for cell t = if may_clear t && cell == 0 then Some t.claims else None
 
@@ -39,7 +39,7 @@ place_for cell t = if may_clear t && cell == 0 then Some t.claims else None
 abbrev pub claim_words : TailState → Option (ℕ × ℕ)
 claim_words t = if t.clear then Some (t.claims, t.claims + 1) else None
 
--- after a claim for this count that saw this word: it is taken where the word was the expected one, else the edge is
+-- after a claim for this count that saw this word: it is taken if the word was the expected one, else the edge is
 -- sealed
 abbrev pub tail_after_claim : ℕ → ℕ → TailState → TailState
 tail_after_claim word count t = if word == t.claims

@@ -9,6 +9,6 @@ max_ring = 64
 abbrev pub IsRing : ℕ → Type 0
 IsRing cells = (0 < cells) × (cells ≤ max_ring)
 
--- the ring of so many cells, where there is one
+-- the ring of so many cells, if there is one
 abbrev pub ring_of : ℕ → Option ℕ
 ring_of cells = if nat_lt 0 cells && nat_le cells max_ring then Some cells else None

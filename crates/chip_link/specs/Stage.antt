@@ -24,7 +24,7 @@ is_refused At.Idle = false
 is_refused At.Clear = false
 is_refused At.Held = false
 
--- how many claims go with a stage: a place is left where the cell was seen empty, and what is held was claimed
+-- how many claims go with a stage: a place is left if the cell was seen empty, and what is held was claimed
 abbrev pub HasClaims : Stage → ℕ → Type 0
 HasClaims At.Clear claims = claims < 2 ^ 62
 HasClaims At.Held claims = (0 < claims) × (claims ≤ 2 ^ 62)

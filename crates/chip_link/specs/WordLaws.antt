@@ -23,7 +23,7 @@ EdgeWordStands = (word : ℕ) → word < 2 ^ 64
 abbrev pub AddsClaims : Type 0
 AddsClaims = (claims more : ℕ) (sealed : Bool) → edge_word claims sealed + more ≡ edge_word (claims + more) sealed
 
--- the same of a word that is read, where no claim is lost into the seal's bit
+-- the same of a word that is read, if no claim is lost into the seal's bit
 abbrev pub AddedReads : Type 0
 AddedReads = (word more : ℕ) → word < 2 ^ 64 → claims_in word + more < 2 ^ 63
     → ReadsAs (word + more) (claims_in word + more) (is_sealed_in word)
@@ -37,13 +37,13 @@ SealsWord = (claims : ℕ) (sealed : Bool) → claims < 2 ^ 63
 abbrev pub SealedReads : Type 0
 SealedReads = (word : ℕ) → word < 2 ^ 64 → ReadsAs (bit_or word (2 ^ 63)) (claims_in word) true
 
--- the exchange of so many claims for one more goes through where the edge isn't sealed, and else leaves the word
+-- the exchange of so many claims for one more goes through if the edge isn't sealed, and else leaves the word
 abbrev pub ExchangesWord : Type 0
 ExchangesWord = (claims : ℕ) (sealed : Bool)
     → word_after_exchange claims (claims + 1) (edge_word claims sealed)
     ≡ edge_word (if sealed then claims else claims + 1) sealed
 
--- the word is the expected one exactly where the edge isn't sealed
+-- the word is the expected one exactly if the edge isn't sealed
 abbrev pub ExpectsUnsealed : Type 0
 ExpectsUnsealed = (claims : ℕ) (sealed : Bool) → (edge_word claims sealed ≡ claims) ↔ (sealed ≡ false)
 
@@ -68,7 +68,7 @@ abbrev pub AddsFirings : Type 0
 AddsFirings = (fired more : ℕ) (halted by_limit : Bool)
     → fired_word fired halted by_limit + more ≡ fired_word (fired + more) halted by_limit
 
--- the same of a word that is read, where no firing is lost into the bits above
+-- the same of a word that is read, if no firing is lost into the bits above
 abbrev pub AddedFiringsRead : Type 0
 AddedFiringsRead = (word more : ℕ) → word < 2 ^ 64 → fired_in word + more < 2 ^ 62
     → ReadsAsFired (word + more) (fired_in word + more) (is_halted_in word) (is_by_limit_in word)

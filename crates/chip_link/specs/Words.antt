@@ -39,7 +39,7 @@ is_halted_in word = nat_le (2 ^ 63) word
 abbrev pub is_by_limit_in : ℕ → Bool
 is_by_limit_in word = nat_le (2 ^ 62) (word % 2 ^ 63)
 
--- the word of some vertex: the limit is a cause only where there is a halt
+-- the word of some vertex: the limit is a cause only if there is a halt
 abbrev pub is_fired_word : ℕ → Bool
 is_fired_word word = is_halted_in word || not (is_by_limit_in word)
 

@@ -19,7 +19,7 @@ use Rattle.chip_core.specs.Positions.{firings}
 use Rattle.chip_core.specs.Outcomes.{IsOutcomeOf, ComesTo}
 use Rattle.chip_net.specs.Roots.{RootKnown, root_after, fed_by}
 
--- the root, and the stopper where the root holds that part, did these steps in this log
+-- the root, and the stopper if the root holds that part, did these steps in this log
 pub record HasDoneIn (r : RootKnown) (log : Log) : Type 0 where
   pub root_did : r.did ≡ done_by r.net.setting (root r.net.setting) log
   pub stopper_did : (did : List Step) → r.stopper_did ≡ Some did
@@ -96,7 +96,7 @@ IsOneEnd g o = (vs : List ℕ) → IsFiringSequence g.graph (slice_index g.start
 
 -- every fired word was read once, ascending, and these readings make the outcome
 pub record Finishes (old receipt : RootKnown) (o : Outcome) : Type 0 where
-  -- the game that was played has what was fed more than the net was opened with; where nothing was, it is the same
+  -- the game that was played has what was fed more than the net was opened with; if nothing was, it is the same
   pub game : ChipGame
   pub more : HasMore old.net.setting.game (fed_by old) game
   pub unfed : old.net.setting.fed ≡ false → game ≡ old.net.setting.game
@@ -114,5 +114,5 @@ pub record Finishes (old receipt : RootKnown) (o : Outcome) : Type 0 where
   -- where no seal halted a vertex it is every player's, and where none halted at all it is every end's
   pub played : o.sealed.items ≡ [] → IsPlayed game o
   pub one_end : o.over.items ≡ [] → o.sealed.items ≡ [] → IsOneEnd game o
-  -- where the root holds the stopper's part, which did nothing, no seal halted a vertex
+  -- if the root holds the stopper's part, which did nothing, no seal halted a vertex
   pub unsealed : old.stopper_did ≡ Some [] → o.sealed.items ≡ []

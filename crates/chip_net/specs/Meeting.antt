@@ -22,12 +22,12 @@ abbrev pub DidTheirs : Setting → Log → List ActorKnown → Type 0
 DidTheirs g log actors =
     (v : ℕ) (a : ActorKnown) → slice_get actors v ≡ Some a → a.did ≡ done_by g a.vertex log
 
--- in one legal log the root did what it did, the stopper, where the root has that part, and each of these actors
+-- in one legal log the root did what it did, the stopper, if the root has that part, and each of these actors
 abbrev pub Together : RootKnown → List ActorKnown → Type 0
 Together root actors = IsSetting root.net.setting
     × SomeLog root.net.setting (λ log. HasDoneIn root log × DidTheirs root.net.setting log actors)
 
--- some legal closed log has all that the root did, the stopper, where the root has that part, and each of these actors; and
+-- some legal closed log has all that the root did, the stopper, if the root has that part, and each of these actors; and
 -- it has this outcome
 pub record IsRun (receipt : RootKnown) (actors : List ActorKnown) (o : Outcome) : Type 0 where
   pub log : Log
@@ -42,7 +42,7 @@ abbrev pub Met : Setting → View → List ActorKnown → Type 0
 Met g view actors = SomeLog g (λ log. DidTheirs g log actors
     × ((p : ℕ) (did : List Step) → length actors ≤ p → find p view.parts ≡ Some did → did ≡ done_by g p log))
 
--- where a root finished and then met the actors, all of that is one run with the outcome that it read
+-- if a root finished and then met the actors, all of that is one run with the outcome that it read
 abbrev pub OneRun : Type 0
 OneRun = (old receipt : RootKnown) (o : Outcome) (actors : List ActorKnown) → Finishes old receipt o
     → Together receipt actors → IsRun receipt actors o

@@ -5,7 +5,7 @@ use Rattle.chip_net.specs.Tokens.{newcomer}
 use Rattle.chip_net.specs.Roots.{new_root, new_stopper}
 use Rattle.chip_net.specs.declared.open.Opened.{Opened}
 
--- a net of this setting and its tokens: the root, which has the stopper's part where there is no stopper, and the actors
+-- a net of this setting and its tokens: the root, which has the stopper's part if there is no stopper, and the actors
 -- of all vertices, ascending, each with room for so many trace rows
 pub record IsOpened (g : Setting) (trace_rows : ℕ) (stoppable : Bool) (o : Opened) : Type 0 where
   pub setting : o.net.setting ≡ g

@@ -28,7 +28,7 @@ use Rattle.chip_net.specs.declared.poll.RootState.{RootState}
 use Rattle.chip_net.specs.declared.poll.RootState.TheVariants.{Closed, Running}
 use Rattle.chip_net.specs.declared.stopper.SealedAt.{SealedAt}
 
--- the root: its net, all that it did, and what the stopper did, where the root holds that part too
+-- the root: its net, all that it did, and what the stopper did, if the root holds that part too
 pub record RootKnown : Type 0 where
   pub net : NetId
   pub did : List Step

@@ -17,7 +17,7 @@ abbrev pub find : ℕ → List History → Option (List Step)
 find p [] = None
 find p (x ∷ xs) = if x.part == p then Some x.did else find p xs
 
--- the same of a seat's view, where there is the seat
+-- the same of a seat's view, if there is the seat
 abbrev pub find_in : ℕ → Maybe View → Option (List Step)
 find_in p none = None
 find_in p (some v) = find p v.parts

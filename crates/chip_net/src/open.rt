@@ -116,7 +116,7 @@ fn all_actors(
     Ok(actors)
 }
 
-/// The stopper, where there is to be one: its part then leaves the seat.
+/// The stopper, if there is to be one: its part then leaves the seat.
 fn stopper_of<J: OnePart>(net: &Net, seat: &mut PartSeat, stoppable: bool) -> Option<Stopper>
     requires part { J.part ≡ stopper net.now.setting }
     requires table { seat.old.table_id ≡ net.now.table }
@@ -206,7 +206,7 @@ impl Net {
         Ok((opened.net, opened.root, opened.actors, opened.stopper))
     }
 
-    /// The same where the root may feed more chips, until it notes the end of feeding: the net can't close before.
+    /// The same if the root may feed more chips, until it notes the end of feeding: the net can't close before.
     pub fn open_fed(
         alloc: Global,
         game: &Game,

@@ -42,7 +42,7 @@ impl Trace {
         })
     }
 
-    /// One row more. Where there is no room for it, the trace is cut from then on.
+    /// One row more. If there is no room for it, the trace is cut from then on.
     pub(crate) fn note(&mut self, row: TraceRow)
         ensures room { self.new.room ≡ self.old.room }
         ensures keeps { (all : List TraceRow) → Keeps all self.old → Keeps (all ++ row ∷ []) self.new }

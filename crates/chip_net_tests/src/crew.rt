@@ -221,7 +221,7 @@ fn tells_polls<R: Threads + Wait + Sync + Abort + AllocGlobal>(
 }
 
 /// One worker gives vertex 0, 1 and 2 a turn, and again. In its third turn vertex 0 acknowledges the root's one
-/// message, after which the root is closed. With a queue the six polls before it are told. Where the actors are dealt
+/// message, after which the root is closed. With a queue the six polls before it are told. If the actors are dealt
 /// out, it polls after each round of three turns: two polls are told, and the third finds the root closed.
 #[test]
 fn polls_are_told(rt: HostRuntime) {

@@ -44,7 +44,7 @@ IsNoReportWithin limits bytes = (outcome : Outcome) → IsReportWithin limits by
 abbrev pub GrowsForALine : {T : Type 0} → List ℕ → Result T ReportFault → Type 0
 GrowsForALine bytes result = IfErr result (λ f. f ≡ fault.NoMemory → (json : List ℕ) × (bytes ≡ json ++ 10 ∷ []))
 
--- a value that is right, or `NotReport` where there is none; memory may always run out
+-- a value that is right, or `NotReport` if there is none; memory may always run out
 abbrev pub Gives : {T : Type 0} → (T → Type 0) → Type 0 → Result T ReportFault → Type 0
 Gives IsRight HasNone (Ok value) = IsRight value
 Gives IsRight HasNone (Err f) = (f ≡ fault.NoMemory) ⊎ ((f ≡ fault.NotReport) × HasNone)

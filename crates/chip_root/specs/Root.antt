@@ -78,7 +78,7 @@ feed_rule v count f =
     (need (nat_le (f.fed + count) max_total) TooMuch
     (need (tail_at f v).clear NotCleared None)))
 
--- the feeder of a game that opens: the end of feeding is noted where none is fed
+-- the feeder of a game that opens: the end of feeding is noted if none is fed
 pub record IsOpeningFeeder (g : Setting) (f : Feeder) : Type 0 where
   pub tails_each : length f.tails ≡ g.game.graph.vertices
   pub tails : (v : ℕ) → v < g.game.graph.vertices → (d : TailState)

@@ -50,7 +50,7 @@ RefusesFedGame limits graph_text chips_text feed_text limit fault =
     RefusesInputs limits graph_text chips_text limit fault
     ⊎ ((g : ChipGame) × MeansGame limits graph_text chips_text limit g × RefusesFed limits feed_text g.graph.vertices fault)
 
--- a fact of the text that a reader has left, where it is known; of no text where there is no reader
+-- a fact of the text that a reader has left, where it is known; of no text if there is no reader
 abbrev pub ForText : Option (Option (List ℕ)) → (Option (List ℕ) → Type 0) → Type 0
 ForText None P = P None
 ForText (Some left) P = ForSome left (λ text. P (Some text))

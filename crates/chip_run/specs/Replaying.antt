@@ -53,7 +53,7 @@ pub record FitTogether (g : ChipGame) (traces : List (List TraceRow)) (o : Outco
   pub interleaving : IsInterleaving g traces rows
   pub fired : (v : ℕ) → times_of v (firings rows) ≡ slice_index o.fired.items v
 
--- a report went out, and a trace where one is asked for: all rows of the actors, cut or not, fit together, with the
+-- a report went out, and a trace if one is asked for: all rows of the actors, cut or not, fit together, with the
 -- counts of the report
 pub record WritesOneRun (g : ChipGame) (old new : Outputs) (cut : Bool) : Type 0 where
   pub actors : List ActorKnown

@@ -61,7 +61,7 @@ pub record Plays (shared : Sharing) (g : ChipGame) (feeds : Left) (plan : Plan)
   pub actors_are : actors ≡ crew.actors.items
   pub reports : ReportsFed g feeds text status
 
--- what is known of the two outputs: of the report's, and of the trace's where there is one
+-- what is known of the two outputs: of the report's, and of the trace's if there is one
 pub record Outputs : Type 0 where
   pub report : Option (List ℕ)
   pub trace : Option (Option (List ℕ))

@@ -4,7 +4,7 @@ ghost use Rattle.chip_run.specs.Laws.{SameBytes, SameBytesFed, RunTellsPlay, Log
 ghost use Rattle.chip_run.specs.Worked.{RowsOfFirstSteps};
 
 /// A run on threads that wrote a report wrote the bytes of the plain player, with its status: of the same files, or,
-/// where chips were fed, of files that have all these chips at the start.
+/// if chips were fed, of files that have all these chips at the start.
 pub fn same_bytes()
     ensures alike { SameBytes }
     ensures fed { SameBytesFed }

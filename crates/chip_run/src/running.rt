@@ -46,7 +46,7 @@ pub struct RunOptions {
 }
 
 /// Plays the game of a graph file, a chips file and a firing limit, within the standard limits, on so many threads,
-/// with such rings, each thread for so many turns at most. The chips of the file of feeds, where there is one, come
+/// with such rings, each thread for so many turns at most. The chips of the file of feeds, if there is one, come
 /// while the vertices fire. Where a trace is asked for, the rows that the actors wrote down are written first, at most
 /// so many of each vertex, and then the report.
 ///

@@ -56,7 +56,7 @@ abbrev pub FiringBound : Type 0
 FiringBound = (G : Multigraph) (x : ℕ → ℕ) → IsGraph G → (v distance : ℕ) → IsDistance G v distance → (vs : List ℕ)
     → IsFiringSequence G x vs → counts vs v ≤ firing_bound (sum_below G.vertices x) (greatest_degree G) distance
 
--- where the limit is at least the bound at the greatest distance, nothing is still legal at the end
+-- if the limit is at least the bound at the greatest distance, nothing is still legal at the end
 abbrev pub Enough : Type 0
 Enough = (G : Multigraph) (x : ℕ → ℕ) → IsGraph G → (distance limit : ℕ) → IsGreatestDistance G distance
     → firing_bound (sum_below G.vertices x) (greatest_degree G) distance ≤ limit → (vs : List ℕ)
@@ -86,7 +86,7 @@ abbrev pub BurntCounts : Type 0
 BurntCounts = (G : Multigraph) (x : ℕ → ℕ) (limit : ℕ) → IsGraph G → (f g rank : ℕ → ℕ) → AreForced G x limit f
     → AreBurnt G x limit f g rank → AreForced G x limit g
 
--- where no in-degree is above the degree, the counts of every firing sequence within the limit burn in the order of
+-- if no in-degree is above the degree, the counts of every firing sequence within the limit burn in the order of
 -- some ranks
 abbrev pub FiredBurn : Type 0
 FiredBurn = (G : Multigraph) (x : ℕ → ℕ) (limit : ℕ)

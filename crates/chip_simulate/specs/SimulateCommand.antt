@@ -47,11 +47,11 @@ reply_text Full = codes "full\n"
 reply_text Sealed = codes "sealed\n"
 reply_text (NotNow rule) = codes "not-now " ++ decimal (rule_number rule) ++ codes "\n"
 
--- the reply after which a log stands, and behind it the board where it is asked for
+-- the reply after which a log stands, and behind it the board if it is asked for
 abbrev pub answer_text : Bool → Setting → Log → Reply → List ℕ
 answer_text books g log reply = reply_text reply ++ (if books then board_text g log else [])
 
--- the replies to these events, each with the board after it where it is asked for
+-- the replies to these events, each with the board after it if it is asked for
 abbrev pub answers_text : Bool → Setting → Log → List Event → List ℕ
 answers_text books g log [] = []
 answers_text books g log (x ∷ xs) =

@@ -69,7 +69,7 @@ fn push_all_owed(lines: &mut String, world: &World, edges: &[u64]) -> Result<(),
     Ok(())
 }
 
-/// Appends what is owed on this edge, where something is.
+/// Appends what is owed on this edge, if something is.
 fn push_owed(lines: &mut String, world: &World, edge: u64) -> Result<(), AllocError>
     requires { edge < all_edges world.now.setting }
     ensures { IfOk result (λ _. WhateverLog world.now

@@ -1,4 +1,4 @@
-//! `simulate`: the core's replies to a schedule, and the report where the root closes.
+//! `simulate`: the core's replies to a schedule, and the report if the root closes.
 
 ghost use Rattle.std.specs.Prelude.{◌≡◌, ◌++◌, [], true, false, IfOk, codes, flat_map, string_bytes};
 ghost use Rattle.chip_graph.specs.Limits.{standard};
@@ -42,7 +42,7 @@ pub struct SimulateOptions {
 
 /// Runs a schedule on the game of a graph file, a chips file and a firing limit, within the standard limits, with rings of
 /// so many cells, and then so many rounds of turns at most; writes a line for each reply of the schedule, and the report
-/// where the root closes. A game that is `fed` gets chips by its schedule too, and closes only after that has noted the
+/// if the root closes. A game that is `fed` gets chips by its schedule too, and closes only after that has noted the
 /// end. As many rounds as `rounds_to_close` of `chip_world` then close it, if the root has put what it claimed.
 pub fn simulate_engine<G: Read, C: Read, S: Read, W: Write>(
     alloc: Global,

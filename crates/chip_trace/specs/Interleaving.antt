@@ -34,7 +34,7 @@ abbrev pub opening : ℕ → List ℕ
 opening zero = []
 opening (suc chips) = suc chips ∷ []
 
--- the messages of an edge, in order, where the vertices have made these firings: one for each firing of its tail;
+-- the messages of an edge, in order, if the vertices have made these firings: one for each firing of its tail;
 -- root edge m + v, behind the m graph edges, has the start of v
 abbrev pub messages : ChipGame → (ℕ → List ℕ) → ℕ → List ℕ
 messages g fired e =
@@ -46,7 +46,7 @@ messages g fired e =
 abbrev pub goes_into : Multigraph → ℕ → ℕ → Bool
 goes_into G v e = if nat_lt e (length G.edges) then (edge_at G e).head == v else e == length G.edges + v
 
--- the first message of an edge into v that v has not taken, if there is one, where each vertex has used these rows
+-- the first message of an edge into v that v has not taken, if there is one, once each vertex has used these rows
 abbrev pub next_message : ChipGame → (ℕ → List TraceRow) → ℕ → ℕ → Option ℕ
 next_message g used v e = slice_get (messages g (λ u. fires (used u)) e) (takes_of e (used v))
 
@@ -61,7 +61,7 @@ abbrev pub may_fire : ChipGame → ℕ → ℕ → ℕ → ℕ → Bool
 may_fire g v fired chips k = not (v == g.graph.sink) && nat_lt 0 k
     && (nat_le (fired + k) g.limit && nat_le ((fired + k) * degree g.graph v) chips)
 
--- whether a row of v is met, where each vertex has used these rows
+-- whether a row of v is met, once each vertex has used these rows
 abbrev pub is_met : ChipGame → (ℕ → List TraceRow) → ℕ → TraceRow → Bool
 is_met g used v (Take edge count) = goes_into g.graph v edge && has_count (next_message g used v edge) count
 is_met g used v (Fire k) = may_fire g v (sum (fires (used v))) (chips_taken (used v)) k

@@ -10,7 +10,7 @@ use Rattle.chip_trace.specs.Interleaving.{fires, chips_taken, takes_of, messages
 use Rattle.chip_trace.specs.declared.remaining.Left.{Left}
 use Rattle.chip_trace.specs.declared.remaining.Left.TheVariants.{Messages, CanFire, AtLimit}
 
--- how many messages of an edge were not taken, where the vertices made these firings and so many of each were taken
+-- how many messages of an edge were not taken, if the vertices made these firings and so many of each were taken
 abbrev pub messages_left : ChipGame → (ℕ → List ℕ) → (ℕ → ℕ) → ℕ → ℕ
 messages_left g fired taken e = length (messages g fired e) - taken e
 
@@ -22,7 +22,7 @@ chips_held g fired chips v = chips v - sum (fired v) * degree g.graph v
 abbrev pub legal_left : ChipGame → (ℕ → List ℕ) → ℕ → Left
 legal_left g fired v = if nat_lt (sum (fired v)) g.limit then CanFire v else AtLimit v
 
--- the edges with messages that were not taken, and then the legal vertices, both ascending, where the vertices made
+-- the edges with messages that were not taken, and then the legal vertices, both ascending, if the vertices made
 -- these firings and took so many chips, and so many messages of each edge were taken
 abbrev pub left_of : ChipGame → (ℕ → List ℕ) → (ℕ → ℕ) → (ℕ → ℕ) → List Left
 left_of g fired chips taken =
@@ -30,7 +30,7 @@ left_of g fired chips taken =
     (filter_below (λ e. nat_lt 0 (messages_left g fired taken e)) (all_edges g.graph))
     ++ map (legal_left g fired) (legal_vertices g.graph (chips_held g fired chips))
 
--- what is left where each vertex has used these rows
+-- what is left once each vertex has used these rows
 abbrev pub left_after : ChipGame → (ℕ → List TraceRow) → List Left
 left_after g used =
     left_of g (λ v. fires (used v)) (λ v. chips_taken (used v)) (λ e. takes_of e (used (head_of g.graph e)))

@@ -42,7 +42,7 @@ pub record IsLeast (P : ℕ → Type 0) (v : ℕ) : Type 0 where
   pub here : P v
   pub least : (u : ℕ) → u < v → P u → ⊥
 
--- v is the least vertex whose next row is wrong; where there is none, the least one with an unused row
+-- v is the least vertex whose next row is wrong; if there is none, the least one with an unused row
 abbrev pub IsBlamed : ChipGame → List (List TraceRow) → List Placed → ℕ → Type 0
 IsBlamed g traces xs v = IsLeast (HasWrongRow g traces xs) v
     ⊎ (((u : ℕ) → HasWrongRow g traces xs u → ⊥) × IsLeast (HasUnusedRow traces xs) v)

@@ -30,7 +30,7 @@ lines_from v (trace ∷ traces) = rows_text v trace ++ lines_from (suc v) traces
 abbrev pub trace_text : List (List TraceRow) → List ℕ
 trace_text traces = header ++ lines_from 0 traces
 
--- the text went out and nothing else; where a write failed, just its first bytes did, and not all of them; where memory
+-- the text went out and nothing else; if a write failed, just its first bytes did, and not all of them; if memory
 -- ran out, nothing did
 abbrev pub WritesText : Option (List ℕ) → Option (List ℕ) → List ℕ → Result (Unit {0}) TraceFault → Type 0
 WritesText old new text (Ok done) = Appends old new text

@@ -4,7 +4,7 @@ use thiserror::Error;
 /// Why recorded runs have no interleaving.
 #[derive(Clone, Copy, Debug, PartialEq, Eq, Error)]
 pub enum ReplayFault {
-    /// At greatest progress the next row of this vertex is wrong, or it waits where none is wrong.
+    /// At greatest progress the next row of this vertex is wrong, or it waits if none is wrong.
     #[error("vertex {vertex} is stuck at its row {row}")]
     Stuck {
         vertex: u64,

@@ -11,7 +11,7 @@ use Rattle.chip_world.specs.World.{WorldState, WhateverLog}
 use Rattle.chip_world.specs.declared.world.driving.Drive.{Drive}
 use Rattle.chip_world.specs.declared.world.driving.Drive.TheVariants.{Closed}
 
--- one more than the steps that can count, where no vertex is further than so from the sink: each vertex fires no more
+-- one more than the steps that can count, if no vertex is further than so from the sink: each vertex fires no more
 -- often than the limit and the firing bound allow, each firing makes one message an edge, with five steps, and so does
 -- each chip that the root sends; each vertex may halt
 abbrev pub rounds_to_close : ChipGame → ℕ → ℕ

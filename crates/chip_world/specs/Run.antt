@@ -48,7 +48,7 @@ pub record Counts (test : ℕ → Event → Bool) (edges : ℕ) (xs : List Event
   pub each : (e : ℕ) → e < edges → slice_index counts e ≡ count_among (test e) xs
   pub few : (e : ℕ) → e < edges → slice_index counts e ≤ length xs
 
--- one more is counted for this edge, where it is there
+-- one more is counted for this edge, if it is there
 abbrev pub CountsMore : Option ℕ → List ℕ → List ℕ → Type 0
 CountsMore edge old new = (length new ≡ length old)
     × ((e : ℕ) → e < length old → slice_index new e ≡ slice_index old e + (if is_edge e edge then 1 else 0))

@@ -26,6 +26,6 @@ sink_alone =
 abbrev pub OneRoundCloses : Type 0
 OneRoundCloses = IsDrive sink_alone 10 [] (saw (Settle 0) 1 ∷ saw (Ack 0) 0 ∷ saw (Take 0) 5 ∷ []) Closed
 
--- no round is made where none is asked for
+-- no round is made if none is asked for
 abbrev pub NoRoundLeavesOpen : Type 0
 NoRoundLeavesOpen = IsDrive sink_alone 0 [] [] (Unfinished 0)

@@ -72,7 +72,7 @@ impl World {
         World::of(alloc, Setting::of_copy(alloc, game, Ring::of(ring), false)?)
     }
 
-    /// The same where the root may feed more chips, until it notes the end of feeding.
+    /// The same if the root may feed more chips, until it notes the end of feeding.
     pub fn open_fed(alloc: Global, game: &Game, ring: u64) -> Result<World, AllocError>
         requires { IsRing ring }
         ensures { IfOk result (StandsForLog (setting_with game.now ring true) []) }
@@ -288,7 +288,7 @@ impl World {
         self.actors[vertex as usize].fired()
     }
 
-    /// Why it halted, where it did.
+    /// Why it halted, if it did.
     pub fn halted(&self, vertex: u64) -> Option<Cause>
         requires { vertex < self.now.setting.game.graph.vertices }
         ensures { WhateverLog self.now (λ g log. result ≡ (part_in g log vertex).halt) }

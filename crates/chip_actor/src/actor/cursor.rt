@@ -79,7 +79,7 @@ impl ActorState {
         is_free && self.is_legal() && self.fired < self.limit
     }
 
-    /// How often it fires where it may: as often as its chips and its limit allow.
+    /// How often it fires if it may: as often as its chips and its limit allow.
     pub(crate) fn batch(&self) -> u64
         requires { SomePart self.now (λ g s. may_fire g self.now.vertex s ≡ true) }
         ensures { WhateverPart self.now (λ g s. result ≡ batch_of g self.now.vertex s) }

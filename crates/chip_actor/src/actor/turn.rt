@@ -114,7 +114,7 @@ impl ActorState {
         work
     }
 
-    /// Acknowledges once more on the edge of the message that engaged the vertex, where it still does.
+    /// Acknowledges once more on the edge of the message that engaged the vertex, if it still does.
     #[inline(always)]
     fn ack_parent<M: Medium>(&mut self, medium: &mut M, passive: bool) -> usize
         requires passive { passive ≡ is_passive_now self.old }

@@ -47,7 +47,7 @@ fn fed_twice(rt: HostRuntime) {
     ends(&rt, &world, &[2, 1, 0], &[1, 0, 3], &[], &[]);
 }
 
-/// Three chips for vertex 0 and the end, where there is room for more messages.
+/// Three chips for vertex 0 and the end, if there is room for more messages.
 const THREE_CHIPS_AND_THE_END: [(Event, Reply); 5] = [
     (Event::Clear(4), Reply::Done(0)),
     (feed!(4, 3), sent!(4, 0, 3)),
@@ -85,7 +85,7 @@ fn fed_past_the_total(rt: HostRuntime) {
     expect(&rt, &mut world, &TOO_MANY);
 }
 
-/// Each rule of the root, where it isn't met.
+/// Each rule of the root, if it isn't met.
 const OUT_OF_TURN: [(Event, Reply); 20] = [
     (Event::Clear(7), Reply::NotNow(Rule::NoSuch)),
     (Event::Put(7), Reply::NotNow(Rule::NoSuch)),

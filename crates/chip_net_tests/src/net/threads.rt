@@ -43,7 +43,7 @@ pub(crate) fn poll_until(net: &Net, closed: &AtomicBool, mut root: Root) -> Root
     root
 }
 
-/// Seals an edge, where there is a stopper.
+/// Seals an edge, if there is a stopper.
 fn seal_once(net: &Net, stopper: Option<Stopper>, edge: u64) -> bool
     requires { IfSome stopper (λ s. s.net ≡ net.now) }
 {

@@ -79,7 +79,7 @@ struct Tally {
 }
 
 impl Tally {
-    /// The counts of these events, where there are so many edges.
+    /// The counts of these events, if there are so many edges.
     fn new(alloc: Global, all_edges: usize, events: &[Event]) -> Result<Tally, AllocError>
         ensures claims { IfOk result (λ tally. Counts is_claim_of all_edges events.now tally.claims.items) }
         ensures takes { IfOk result (λ tally. Counts is_take_of all_edges events.now tally.takes.items) }

@@ -1,9 +1,10 @@
 -- Serves Edges.antt, Part.antt.
 -- Every part opens with what it keeps.
-use Rattle.std.proofs.Common.{◌≡◌, ℕ, ◌+◌, ◌-◌, ◌<◌, Bool, true, false, not, ◌&&◌, cond, eqb, ltb, leb, [], ◌∷◌}
-use Rattle.std.proofs.Common.{length, sum, Option, Some, None, refl, sym, ap, ◌∙◌, subst, arith, eq-eqb, eqb-true}
-use Rattle.std.proofs.Common.{lt-ltb, le-ltb, true≢false, mul-zero, append-nil}
-use Rattle.std.proofs.lemmas.Bool.{and_from, not_from_false, or_right, lt-leb, and_right, cond-true, cond-false}
+use Rattle.std.proofs.lemmas.Bool.Decides.{nat_tests}
+use Rattle.std.proofs.Common.{◌≡◌, ℕ, ◌+◌, ◌-◌, ◌<◌, Bool, false, not, ◌&&◌, cond, eqb, ltb, leb, [], ◌∷◌, length, sum}
+use Rattle.std.proofs.Common.{Option, Some, None, refl, sym, ap, ◌∙◌, subst, arith, eq-eqb, eqb-true, rules, lt-ltb}
+use Rattle.std.proofs.Common.{le-ltb, mul-zero, append-nil}
+use Rattle.std.proofs.lemmas.Bool.{lt-leb, and_right, cond-true, cond-false}
 use mathlib.Core.Logic.{dite}
 use native.Mathlib.Decide.{ℕ_discrete}
 use Rattle.chip_graph.specs.Multigraph.{degree}
@@ -50,17 +51,8 @@ module _ (g : Setting) where
 
   pub opening_keeps : IsGame g.game → (p : ℕ) → KeepsPart g p (opening_part g)
   opening_keeps game p = record {
-    outs = λ e at. record {
-      all_made = λ l. (let a = ap sum (none_put e l) in let b = mul-zero (mult_of g e) in omega arith);
-      fewer = λ l. (let a = first_few e l in omega arith);
-      fewer_yet = λ l h. absurd (omega arith);
-      clear_pends = λ l z. absurd (true≢false (sym z));
-      refused_pends = λ l z. absurd (true≢false (sym z));
-      clear_open = λ l z. refl;
-      free_hand = λ l h. refl;
-      root_idle = λ l. refl;
-      root_unfed = λ l off. refl;
-    };
+    outs = λ e at. (let a = none_put e in let b = first_few e in let c = mul-zero (mult_of g e) in
+        search (rules, arith, nat_tests));
     chips_are = (let a = tested_none (all_edges g) (λ e. eqb (head_of g e) p) (λ e. 0) (λ e l on. refl) in
         let b = mul-zero (degree g.game.graph p) in omega arith);
     within = omega arith;
@@ -69,11 +61,8 @@ module _ (g : Setting) where
     at_limit = λ h. absurd (none_cause h);
     neutral = λ l h. record {
       no_parent = refl;
-      passive = and_from _ _ (eq-eqb _ _ (tested_none (all_edges g) (λ e. eqb (tail_of g e) p) (λ e. 0)
-          (λ e m on. refl)))
-          (or_right (not true) _ (and_from _ _
-          (eq-eqb _ _ (tested_none (all_edges g) (λ e. eqb (tail_of g e) p) (λ e. 0) (λ e m on. refl)))
-          (not_from_false _ (illegal l))));
+      passive = (let a = tested_none (all_edges g) (λ e. eqb (tail_of g e) p) (λ e. 0) (λ e m on. refl) in
+          let off = illegal l in grind (arith, nat_tests));
       nothing_owed = tested_none (all_edges g) (λ e. eqb (head_of g e) p) (λ e. 0 - 0) (λ e m on. refl);
       no_deficit = tested_none (all_edges g) (λ e. eqb (tail_of g e) p)
           (λ e. claims_of (record { put = first_put g e; held = None; clear = false; refused = false }) - 0) (λ e m on.

@@ -1,13 +1,11 @@
 -- Serves Part.antt, Rules.antt, Steps.antt.
 -- What every part keeps by its own events, whatever they see.
-use Rattle.std.proofs.Common.{◌≡◌, ◌≢◌, ◌⊎◌, ℕ, zero, suc, ◌+◌, ◌-◌, ◌*◌, ◌<◌, ◌≤◌, Bool, true, false, not, ◌&&◌}
-use Rattle.std.proofs.Common.{cond, eqb, List, [], ◌∷◌, ◌++◌, length, sum, Option, Some, None, option_to_list}
-use Rattle.std.proofs.Common.{refl, sym, ap, ◌∙◌, subst, arith, inl, inr, ⊎_elim, eq-eqb, eqb-true}
-use Rattle.std.proofs.Common.{true≢false, length-append, append-nil, mul-add}
-use Rattle.std.proofs.Common.{mul_comm, rules}
+use Rattle.std.proofs.Common.{◌≡◌, ◌≢◌, ◌⊎◌, ℕ, zero, suc, ◌+◌, ◌-◌, ◌*◌, ◌<◌, ◌≤◌, Bool, true, false, not, ◌&&◌, cond}
+use Rattle.std.proofs.Common.{eqb, List, [], ◌∷◌, ◌++◌, length, sum, Option, Some, None, option_to_list, refl, sym, ap}
+use Rattle.std.proofs.Common.{◌∙◌, subst, arith, ⊎_elim, eq-eqb, eqb-true, true≢false, length-append, append-nil}
+use Rattle.std.proofs.Common.{mul-add, mul_comm, rules}
 use Rattle.std.proofs.lemmas.Bool.Decides.{nat_tests}
-use Rattle.std.proofs.lemmas.Bool.{and_parts, and_from}
-use Rattle.std.proofs.lemmas.Bool.{cond-true, cond-false}
+use Rattle.std.proofs.lemmas.Bool.{and_parts, and_from, cond-true, cond-false}
 use Rattle.std.proofs.lemmas.List.Sums.{sum_by-append, sum_by_push}
 use mathlib.Core.Logic.{dite}
 use native.Mathlib.Decide.{ℕ_discrete, dec_lt}
@@ -21,8 +19,8 @@ use Rattle.chip_link.specs.Link.{Tail, claims_of, sent_counts, after_clear, afte
 use Rattle.chip_detect.specs.Acknowledging.{is_parent, or_else}
 use Rattle.chip_part.specs.declared.cause.Cause.TheVariants.{FiringLimit}
 use Rattle.chip_part.specs.Edges.{graph_edges, all_edges, root_edge, tail_of, head_of, mult_of, over_outs, over_ins}
-use Rattle.chip_part.specs.Part.{Cause, Part, owed, outstanding, may_ack, all_owed, pending_of, unput_count}
-use Rattle.chip_part.specs.Part.{refusals, cause, is_legal, is_passive, deficit, all_fed}
+use Rattle.chip_part.specs.Part.{Cause, Part, owed, outstanding, may_ack, all_owed, pending_of, unput_count, refusals}
+use Rattle.chip_part.specs.Part.{cause, is_legal, is_passive, deficit, all_fed}
 use Rattle.chip_part.specs.Rules.{Event, Take, Ack, Fire, Clear, Claim, Put, Halt, Settle, Feed, End, unmet_rule}
 use Rattle.chip_part.specs.Steps.{part_of, settled_after, got_after, acked_after, halt_after, fired_after, saw}
 use Rattle.chip_part.specs.Steps.{parent_after, link_after, ended_after, does, Step}
@@ -47,12 +45,10 @@ at_edge P e new old here rest = at_other P e new old here (λ i other. rest i)
 
 -- no message is claimed where none is counted
 pub no_held : (held : Option ℕ) → length (option_to_list held) ≡ 0 → held ≡ None
-no_held None z = refl
-no_held (Some count) z = absurd (omega arith)
+no_held held z = grind (arith, nat_tests)
 
 held_counts : (held : Option ℕ) (count : ℕ) → held ≡ Some count → 0 < length (option_to_list held)
-held_counts None count h = absurd (cc)
-held_counts (Some c) count h = omega arith
+held_counts held count h = grind (arith, nat_tests)
 
 module _ (g : Setting) where
   pub tail_inside : (e : ℕ) → tail_of g e < g.game.graph.vertices → e < graph_edges g
@@ -124,27 +120,14 @@ module _ (g : Setting) where
       let t = (s.out e).link in
       let sums = sum_by-append (λ (x : ℕ). x) t.put (option_to_list t.held) in
       let long = length-append t.put (option_to_list t.held) in
-      record {
-        all_made = λ l. (let a = old.all_made l in omega arith);
-        fewer = λ l. (let b = old.fewer l in omega arith);
-        fewer_yet = λ l h. (let b = old.fewer_yet l h in omega arith);
-        clear_pends = old.clear_pends;
-        refused_pends = old.refused_pends;
-        clear_open = old.clear_open;
-        free_hand = λ l h. refl;
-        root_idle = old.root_idle;
-        root_unfed = λ l off. (let none = ap (λ (k : Tail). k.held) (old.root_unfed l off) in
-            let some = may.1.1 in absurd (cc));
-      }) ok
-  outs_kept (Claim e) seen p s by may unfed ok = λ i at. claim_kept i (ok i at) (eqb e i) refl
-    where
-      claim_kept : (i : ℕ) → KeepsOut g i (s.out i).link (s.out i).pending s.fired → (b : Bool) → eqb e i ≡ b → KeepsOut g i
-          (cond b (after_claim (s.out i).pending seen (s.out i).link) (s.out i).link)
-          (cond b (cond (eqb seen (claims_of (s.out i).link)) 0 (s.out i).pending) (s.out i).pending) s.fired
-      claim_kept i old true is =
-          let here = subst (λ (k : ℕ). (k < graph_edges g) × ((s.out k).link.clear ≡ true)) (eqb-true e i is) (may.0, may.2) in
-          claim_keeps i (s.out i).link (s.out i).pending s.fired (eqb seen (claims_of (s.out i).link)) old here.0 here.1
-      claim_kept i old false is = old
+      let some = may.1.1 in
+      let unfed' = λ (l : graph_edges g ≤ e) (off : g.fed ≡ false). ap (λ (k : Tail). k.held) (old.root_unfed l off) in
+      search (rules, arith, nat_tests)) ok
+  outs_kept (Claim e) seen p s by may unfed ok = λ i at. by_test (eqb e i)
+      (λ is. let same = eqb-true e i is in let inside = may.0 in let clear = may.2 in
+      rw is (claim_keeps i (s.out i).link (s.out i).pending s.fired (eqb seen (claims_of (s.out i).link)) (ok i at)
+      (omega arith) (grind (arith, nat_tests))))
+      (λ off. rw off (ok i at))
   outs_kept _ seen p s by may unfed ok = ok
 
   -- ---- the edges into the part
@@ -201,23 +184,17 @@ module _ (g : Setting) where
     parent = cond_yes seen 0 s.parent (or_else s.parent e) none j;
     out = s.out;
     into = λ i. record {
-      got = same (eqb e i) (after_take seen (s.into i).got) (s.into i).got
-          (took_none seen (s.into i).got none) j;
+      got = (let z : got_after (Take e) seen i (s.into i) ≡ (s.into i).got = grind (arith, nat_tests) in z) j;
       acked = (s.into i).acked;
     };
     stop = s.stop;
     ended = s.ended;
   }
-    where
-      same : (b : Bool) (x y : List ℕ) → x ≡ y → cond b x y ≡ y
-      same true x y q = q
-      same false x y q = refl
 
   -- ---- the parent
 
   is_parent_of : (o : Option ℕ) (e : ℕ) → o ≡ Some e → is_parent e o ≡ true
-  is_parent_of None e h = absurd (cc)
-  is_parent_of (Some p) e h = eq-eqb p e (let z : p ≡ e = cc in z)
+  is_parent_of o e h = grind (arith, nat_tests)
 
   abbrev pub Parents : ℕ → Part → Type 0
   Parents p s = (e : ℕ) → s.parent ≡ Some e → (e < all_edges g) × (head_of g e ≡ p) × (0 < owed (s.into e))
@@ -228,12 +205,10 @@ module _ (g : Setting) where
   owed_take e seen s i = let b = took_more seen (s.into i).got in grind (arith, nat_tests)
 
   or_else_is : (o : Option ℕ) (e i : ℕ) → or_else o e ≡ Some i → (o ≡ Some i) ⊎ (e ≡ i)
-  or_else_is None e i h = inr (let z : e ≡ i = cc in z)
-  or_else_is (Some q) e i h = inl h
+  or_else_is o e i h = grind (arith, nat_tests)
 
   or_else-not_none : (o : Option ℕ) (e : ℕ) → or_else o e ≡ None → ⊥
-  or_else-not_none None e h = absurd (cc)
-  or_else-not_none (Some q) e h = absurd (cc)
+  or_else-not_none o e h = grind (arith, nat_tests)
 
   parents_kept : (x : Event) (seen p : ℕ) (s : Part) → p ≡ part_of g x → Met g x s
       → ((e : ℕ) → (s.into e).acked ≤ length (s.into e).got) → Parents p s
@@ -277,12 +252,10 @@ module _ (g : Setting) where
 
   pub no_refusals : (p : ℕ) (s : Part) → p < g.game.graph.vertices → Outs p s → pending_of g p s ≡ 0 → refusals g p s ≡ 0
   no_refusals p s vertex outs none = tested_none (all_edges g) (λ e. eqb (tail_of g e) p)
-      (λ e. cond (s.out e).link.refused 1 0) (λ e l on. by_test (s.out e).link.refused
-      (λ y. let at = eqb-true _ _ on in
+      (λ e. cond (s.out e).link.refused 1 0) (λ e l on. let at = eqb-true _ _ on in
       let inside : e < graph_edges g = tail_inside e (subst (λ (n : ℕ). n < g.game.graph.vertices) (sym at) vertex) in
-      let a = (outs e at).refused_pends inside y in let b = out_zero p (λ i. (s.out i).pending) none e l at in
-      absurd (omega arith))
-      (λ n. cond-false _ 1 0 n))
+      let a = (outs e at).refused_pends inside in let b = out_zero p (λ i. (s.out i).pending) none e l at in
+      grind (arith, nat_tests))
 
   pub cause_limit : (v : ℕ) (s : Part) → cause g v s ≡ Some FiringLimit → (s.fired ≡ g.game.limit) × (pending_of g v s ≡ 0)
       × (is_legal g v s ≡ true)
@@ -415,15 +388,9 @@ module _ (g : Setting) where
       let at : root_edge g v ≡ e = omega arith in
       let m = sum_below_move g.game.graph.vertices (λ w. sent_after (Feed e k) seen s (root_edge g w))
       (λ w. sum (sent_counts (s.out (root_edge g w)).link)) v (omega arith)
-      (λ w l ne. ap (λ (t : Tail). sum (sent_counts t))
-      (cond_no e (root_edge g w) (after_claim k seen (s.out (root_edge g w)).link) (s.out (root_edge g w)).link
-      (λ same. ne (let y : e ≡ root_edge g w = same in omega arith)))) in
-      let here : sent_after (Feed e k) seen s (root_edge g v)
-      ≡ sum (sent_counts (after_claim k seen (s.out (root_edge g v)).link)) = ap (λ (t : Tail). sum (sent_counts t))
-      (cond_yes e (root_edge g v) (after_claim k seen (s.out (root_edge g v)).link) (s.out (root_edge g v)).link
-      (sym at)) in
+      (λ w l ne. grind (arith, nat_tests)) in
       let more = claim_sends k seen (s.out (root_edge g v)).link in
-      omega arith
+      grind (arith, nat_tests)
   fed_kept (Claim e) seen s may ok =
       let inside = may.0 in
       let same = sum_below_ext g.game.graph.vertices (λ v. sent_after (Claim e) seen s (root_edge g v))
@@ -436,9 +403,7 @@ module _ (g : Setting) where
   fed_kept (Put e) seen s may ok =
       let same = sum_below_ext g.game.graph.vertices (λ v. sent_after (Put e) seen s (root_edge g v))
       (λ v. sum (sent_counts (s.out (root_edge g v)).link)) (λ v l.
-      at_edge (λ i (t : Tail). sum (sent_counts t) ≡ sum (sent_counts (s.out i).link)) e
-      (λ i. after_put (s.out i).link) (λ i. (s.out i).link) (ap sum (put_sends (s.out e).link)) (λ i. refl)
-      (root_edge g v)) in
+      let same = put_sends (s.out (root_edge g v)).link in grind (arith, nat_tests)) in
       omega arith
   fed_kept _ seen s may ok = ok
 

@@ -1,7 +1,7 @@
 -- Serves Edges.antt.
 -- The numbers that pass a test, as a list: they ascend, and each of them is there.
-use Rattle.std.proofs.Common.{◌≡◌, ℕ, zero, suc, ◌+◌, ◌<◌, ◌≤◌, Bool, true, cond, [], ◌∷◌, ◌++◌, length}
-use Rattle.std.proofs.Common.{sym, ap, ◌∙◌, subst, arith, length-append, append-nil, eqb, eq-eqb}
+use Rattle.std.proofs.Common.{◌≡◌, ℕ, zero, suc, ◌+◌, ◌<◌, ◌≤◌, Bool, true, [], ◌∷◌, ◌++◌, length}
+use Rattle.std.proofs.Common.{sym, ◌∙◌, subst, arith, length-append, append-nil, eqb, eq-eqb}
 use mathlib.Core.Logic.{dite}
 use native.Mathlib.Decide.{dec_lt}
 use Rattle.std.specs.List.{All, Contains}
@@ -34,20 +34,14 @@ ins_rise G v =
 pub picked_passes : (test : ℕ → Bool) (n : ℕ) → All (λ e. test e ≡ true) (filter_below test n)
 picked_passes test zero = All-nil (λ e. test e ≡ true)
 picked_passes test (suc n) = by_test (test n)
-    (λ is. subst (λ (t : Bool). All (λ e. test e ≡ true) (filter_below test n ++ cond t (n ∷ []) [])) (sym is)
-    (All-push (λ e. test e ≡ true) (filter_below test n) n (picked_passes test n) is))
-    (λ is. subst (λ (t : Bool). All (λ e. test e ≡ true) (filter_below test n ++ cond t (n ∷ []) [])) (sym is)
-    (subst (All (λ e. test e ≡ true)) (sym (append-nil (filter_below test n))) (picked_passes test n)))
+    (λ is. rw is (All-push (λ e. test e ≡ true) (filter_below test n) n (picked_passes test n) is))
+    (λ is. rw (is, append-nil) (picked_passes test n))
 
 pub length-picked : (test : ℕ → Bool) (n : ℕ) → length (filter_below test n) ≤ n
 length-picked test zero = omega arith
 length-picked test (suc n) =
     let before = length-picked test n in
-    by_test (test n)
-    (λ is. let l = ap length (ap (λ (t : Bool). filter_below test n ++ cond t (n ∷ []) []) is) in
-    let m = length-append (filter_below test n) (n ∷ []) in omega arith)
-    (λ is. let l = ap length (ap (λ (t : Bool). filter_below test n ++ cond t (n ∷ []) []) is) in
-    let m = length-append (filter_below test n) [] in omega arith)
+    by_test (test n) (λ is. rw (is, length-append) (omega arith)) (λ is. rw (is, length-append) (omega arith))
 
 -- the edges out of a vertex, and into it with its root edge, are all that have it as their tail or head
 pub among_new_outs : (g : Setting) (v : ℕ) → v < g.game.graph.vertices → (e : ℕ) → tail_of g e ≡ v

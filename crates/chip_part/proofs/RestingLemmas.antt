@@ -1,10 +1,11 @@
 -- Serves Turn.antt, Part.antt, Laws.antt.
 -- What a whole turn leaves: nothing may be acknowledged. So a vertex that is passive then is neutral, or waits for
 -- acknowledgements.
-use Rattle.std.proofs.Common.{◌≡◌, ◌⊎◌, ℕ, ◌+◌, ◌-◌, ◌<◌, Bool, true, false, not, ◌&&◌, cond, eqb, List, [], ◌∷◌}
-use Rattle.std.proofs.Common.{Option, Some, None, Contains, refl, sym, ap, ◌∙◌, subst, arith, inl, inr, ⊎_elim}
-use Rattle.std.proofs.Common.{eqb-true, eq-eqb, true≢false, pos_of_ne-zero}
-use Rattle.std.proofs.lemmas.Bool.{and_from, and_parts, eqb-false, not-true, not-false, cond-true, cond-false}
+use Rattle.std.proofs.lemmas.Bool.Decides.{nat_tests}
+use Rattle.std.proofs.Common.{◌≡◌, ◌⊎◌, ℕ, ◌+◌, ◌-◌, ◌<◌, Bool, true, not, ◌&&◌, cond, eqb, List, [], ◌∷◌, Option, Some}
+use Rattle.std.proofs.Common.{None, Contains, refl, sym, ap, ◌∙◌, subst, arith, inl, inr, ⊎_elim, eqb-true, eq-eqb}
+use Rattle.std.proofs.Common.{true≢false, pos_of_ne-zero}
+use Rattle.std.proofs.lemmas.Bool.{and_from, and_parts, not-true, cond-true, cond-false}
 use mathlib.Core.Logic.{dite}
 use native.Mathlib.Decide.{ℕ_discrete}
 use Rattle.chip_graph.proofs.SumLemmas.{cond_yes, cond_no, by_test, sum_below_one}
@@ -16,16 +17,14 @@ use Rattle.chip_part.specs.Kept.{KeepsPart}
 use Rattle.chip_part.specs.Laws.{IdleTurnRests}
 use Rattle.chip_part.specs.Rules.{Ack}
 use Rattle.chip_part.specs.Steps.{Step, does, saw}
-use Rattle.chip_part.specs.Turn.{nothing, either_phase, each_phase, one_step, ins_of, acknowledging}
-use Rattle.chip_part.specs.Turn.{acknowledging_parent, turn}
+use Rattle.chip_part.specs.Turn.{each_phase, ins_of, acknowledging, acknowledging_parent, turn}
 use Rattle.chip_part.proofs.PartLemmas.{may_le}
 use Rattle.chip_part.proofs.PickedLemmas.{into_turn}
 use Rattle.chip_link.proofs.SoundsLemmas.{none-some}
 use Rattle.chip_detect.proofs.ListLemmas.{contains_cases}
 
 parent_of : (e : ℕ) (p : Option ℕ) → is_parent e p ≡ true → p ≡ Some e
-parent_of e None on = absurd (true≢false (sym on))
-parent_of e (Some p) on = ap Some (eqb-true p e on)
+parent_of e p on = grind (arith, nat_tests)
 
 pub same_edge : (e i : ℕ) (p : Option ℕ) → p ≡ Some e → p ≡ Some i → e ≡ i
 same_edge e i p here there = cc
@@ -60,36 +59,13 @@ module _ (g : Setting) where
 
     -- where the parent is there still, it was
     pub was_parent : (i : ℕ) → acked.parent ≡ Some i → s.parent ≡ Some i
-    was_parent i is = by_test (is_parent e s.parent && eqb (may_ack g (head_of g e) s e) (owed (s.into e)))
-        (λ y. absurd (none-some i (sym (cond-true _ None s.parent y) ∙ is)))
-        (λ n. sym (cond-false _ None s.parent n) ∙ is)
+    was_parent i is = grind (arith, nat_tests)
 
     here_little : Little acked e
-    here_little = ⊎_elim (λ all. let a = owed_less in inl (omega arith))
-        (λ few. dite (ℕ_discrete (may_ack g (head_of g e) s e) (owed (s.into e)))
-        (λ all. let a = owed_less in inl (omega arith))
-        (λ less. let a = owed_less in let b = few.1 in
-        inr (
-          by_test (is_parent e s.parent && eqb (may_ack g (head_of g e) s e) (owed (s.into e)))
-              (λ y. absurd (less (eqb-true _ _ (and_parts _ _ y).1)))
-              (λ n. cond-false _ None s.parent n ∙ few.0),
-          omega arith,
-        )))
-        (all_but_one (head_of g e) e s)
+    here_little = let a = owed_less in let b = all_but_one (head_of g e) e s in grind (arith, nat_tests)
 
     stays_little : (i : ℕ) → Little s i → Little acked i
-    stays_little i little = dite (ℕ_discrete e i)
-        (λ same. subst (Little acked) same here_little)
-        (λ other.
-        let a = cond_no e i ((s.into i).acked + may_ack g (head_of g e) s e) (s.into i).acked other in
-        ⊎_elim (λ z. inl (omega arith))
-        (λ one. let b = one.1 in
-        inr (
-          by_test (is_parent e s.parent && eqb (may_ack g (head_of g e) s e) (owed (s.into e)))
-              (λ y. absurd (other (same_edge e i s.parent (parent_of e s.parent (and_parts _ _ y).0) one.0)))
-              (λ n. cond-false _ None s.parent n ∙ one.0),
-          omega arith,
-        )) little)
+    stays_little i little = let here = here_little in grind (arith, nat_tests)
 
   module _ (v : ℕ) where
     -- ---- the acknowledgements of a turn
@@ -100,13 +76,9 @@ module _ (g : Setting) where
         ⊎ ((0 < may_ack g (head_of g e) s e) × ((seen : ℕ) × (t ≡ does g (saw (Ack e) seen) s)))
 
     acked_or_not : (e : ℕ) (s : Part) (ds : List Step) (t : Part) → acknowledging g v e s ds t → Acked e s t
-    acked_or_not e s ds t = either (not (eqb (may_ack g (head_of g e) s e) 0)) refl
-      where
-        either : (b : Bool) → not (eqb (may_ack g (head_of g e) s e) 0) ≡ b
-            → either_phase b (one_step g v (Ack e)) nothing s ds t → Acked e s t
-        either true on (seen, rest, is, (empty, same)) =
-            inr (pos_of_ne-zero (eqb-false _ _ (not-true _ on)), (seen, same))
-        either false off (empty, same) = inl (same, eqb-true _ _ (not-false _ off))
+    acked_or_not e s ds t phase = by_test (eqb (may_ack g (head_of g e) s e) 0)
+        (λ none. let idle = rw none at phase in inl (idle.1, eqb-true _ _ none))
+        (λ some. let made = rw some at phase in inr (grind (arith, nat_tests), (made.0, made.3.1)))
 
     after_one : (e : ℕ) (s t : Part) → Acked e s t → ((i : ℕ) → Little s i → Little t i) × Little t e
     after_one e s t acked = ⊎_elim

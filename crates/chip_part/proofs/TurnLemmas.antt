@@ -1,29 +1,29 @@
 -- Serves Turn.antt, Rules.antt.
 -- How many operations a turn has at most. An edge out of the vertex has either a message to put or something to send,
 -- never both, so three operations for it are enough.
+use Rattle.std.proofs.lemmas.Bool.Decides.{nat_tests}
+use Rattle.chip_graph.proofs.SumLemmas.{by_test}
+use Rattle.chip_part.specs.Turn.{sending_all, Phase, nothing, either_phase, where_phase, each_phase, one_step, seeing}
+use Rattle.chip_part.specs.Turn.{ins_of, outs_of, firing, may_fire, batch_of, putting, sending, after_clear_phase}
+use Rattle.chip_part.specs.Turn.{after_claim_phase, acknowledging, acknowledging_parent, is_at_limit, IsTurn}
+use Rattle.chip_part.specs.Turn.{most_steps}
 use Rattle.std.proofs.Common.{◌≡◌, ℕ, suc, ◌+◌, ◌*◌, ◌<◌, ◌≤◌, Bool, true, false, not, ◌&&◌, cond, eqb, List, [], ◌∷◌}
-use Rattle.std.proofs.Common.{length, Option, Some, None, is_some, option_to_list, refl, sym, ap, ◌∙◌, subst, arith}
-use Rattle.std.proofs.Common.{eqb-true, length-append, true≢false, pos_of_ne-zero}
-use Rattle.std.proofs.lemmas.Bool.{and_parts, not-true, eqb-false, cond-true, cond-false}
+use Rattle.std.proofs.Common.{length, Option, Some, None, option_to_list, sym, ap, ◌∙◌, subst, arith, eqb-true}
+use Rattle.std.proofs.Common.{length-append}
 use Rattle.std.specs.List.{All}
 use Rattle.chip_part.specs.Setting.{Setting}
-use Rattle.chip_graph.proofs.SumLemmas.{by_test}
-use Rattle.chip_link.specs.Link.{Tail, claims_of, after_put}
 use Rattle.chip_part.specs.Edges.{graph_edges, tail_of}
 use Rattle.chip_graph.specs.Multigraph.{edge_at}
 use Rattle.chip_graph.proofs.PickLemmas.{All-picked}
 use Rattle.chip_part.proofs.PickedLemmas.{picked_passes}
 use Rattle.chip_part.proofs.EdgeLemmas.{tail_graph}
-use Rattle.chip_part.specs.Part.{Part, is_running, unput_count, refusals, pending_of, is_legal}
+use Rattle.chip_part.specs.Part.{Part, is_running, unput_count, refusals}
 use Rattle.chip_part.specs.Rules.{Event, Take, Ack, Fire, Clear, Claim, Put, Halt, Settle}
 use Rattle.chip_part.specs.Steps.{Step, does, saw}
-use Rattle.chip_part.specs.Turn.{Phase, nothing, either_phase, where_phase, each_phase, one_step, seeing, ins_of}
-use Rattle.chip_part.specs.Turn.{outs_of, firing, may_fire, batch_of, putting, sending, after_clear_phase}
-use Rattle.chip_part.specs.Turn.{after_claim_phase, acknowledging, acknowledging_parent, is_at_limit, IsTurn}
-use Rattle.chip_part.specs.Turn.{most_steps}
 use Rattle.chip_part.specs.Kept.{KeepsPart}
 use Rattle.chip_part.proofs.PartLemmas.{out_zero, no_held, tail_inside}
 use Rattle.chip_part.specs.Cursor.{from_putting}
+use Rattle.std.proofs.lemmas.Bool.{cond-true}
 
 -- whatever such a phase does, it has at most n operations
 abbrev AtMost : ℕ → Phase → Type 0
@@ -98,18 +98,13 @@ module _ (g : Setting) (v : ℕ) where
 
   fires_keep : v < g.game.graph.vertices → (s : Part) (ds : List Step) (t : Part) → firing g v s ds t → IsExclusive s
       → IsExclusive t
-  fires_keep vertex s ds t ph ok = cases (may_fire g v s) refl ph
-    where
-      cases : (b : Bool) → may_fire g v s ≡ b → either_phase b (one_step g v (Fire v (batch_of g v s))) nothing s ds t
-          → IsExclusive t
-      cases false is (none, same) = subst IsExclusive (sym same) ok
-      cases true is (seen, more, now, (none, same)) = subst IsExclusive (sym same) (λ e at some.
-          (let a = and_parts _ _ is in let b = and_parts _ _ a.0 in let c = and_parts _ _ b.0 in
-          let idle : unput_count g v s ≡ 0 = eqb-true _ _ c.1 in
-          let inside = tail_inside g e
-          (subst (λ (n : ℕ). n < g.game.graph.vertices) (sym at) vertex) in
-          no_held (s.out e).link.held
-          (out_zero g v (λ i. length (option_to_list (s.out i).link.held)) idle e (omega arith) at)))
+  fires_keep vertex s ds t ph ok = by_test (may_fire g v s)
+      (λ is. let made = rw is at ph in subst IsExclusive (sym made.3.1) (λ e at some.
+      (let idle : unput_count g v s ≡ 0 = grind (arith, nat_tests) in
+      let inside = tail_inside g e (subst (λ (n : ℕ). n < g.game.graph.vertices) (sym at) vertex) in
+      no_held (s.out e).link.held
+      (out_zero g v (λ i. length (option_to_list (s.out i).link.held)) idle e (omega arith) at))))
+      (λ off. let idle = rw off at ph in subst IsExclusive (sym idle.1) ok)
 
   -- what a put of an edge costs, and what its sending does
   abbrev held_count : Part → ℕ → ℕ
@@ -121,30 +116,10 @@ module _ (g : Setting) (v : ℕ) where
   -- ---- the puts
 
   put_costs : (e : ℕ) → Costs held_count e (putting g v e)
-  put_costs e s front m = by (s.out e).link.held refl
-    where
-      emptied : (b : Bool) (t : Tail)
-          → length (option_to_list (cond b (after_put t) t).held) ≤ length (option_to_list t.held)
-      emptied true t = omega arith
-      emptied false t = omega arith
-
-      by : (h : Option ℕ) → (s.out e).link.held ≡ h → either_phase (is_some h) (one_step g v (Put e)) nothing s front m
-          → (length front ≤ held_count s e) × ((i : ℕ) → held_count m i ≤ held_count s i)
-      by None was (none, same) = (
-        (let a = ap length none in omega arith),
-        λ i. (let a = ap (λ (p : Part). held_count p i) same in omega arith),
-      )
-      by (Some c) was (seen, more, now, (none, same)) = (
-        (let a = ap length now in let b = ap length none in let h = ap (λ (o : Option ℕ). length (option_to_list o)) was in omega arith),
-        λ i. (let a = ap (λ (p : Part). held_count p i) same in let b = emptied (eqb e i) (s.out i).link in omega arith),
-      )
+  put_costs e s front m phase = (grind (arith, nat_tests), λ i. grind (arith, nat_tests))
 
   puts_leave : (e : ℕ) (s : Part) (ds : List Step) (t : Part) → putting g v e s ds t → (i : ℕ) → busy_count t i ≤ busy_count s i
-  puts_leave e s ds t = by (is_some (s.out e).link.held)
-    where
-      by : (b : Bool) → either_phase b (one_step g v (Put e)) nothing s ds t → (i : ℕ) → busy_count t i ≤ busy_count s i
-      by true (seen, more, now, (none, same)) i = let a = ap (λ (p : Part). busy_count p i) same in omega arith
-      by false (none, same) i = let a = ap (λ (p : Part). busy_count p i) same in omega arith
+  puts_leave e s ds t phase i = grind (arith, nat_tests)
 
   -- ---- the sends
 
@@ -171,29 +146,20 @@ module _ (g : Setting) (v : ℕ) where
   sends_either n true p q some other = some
   sends_either n false p q some other = other
 
-  claimed_less : (b c : Bool) (n : ℕ) → cond (eqb (cond b (cond c 0 n) n) 0) 0 3 ≤ cond (eqb n 0) 0 3
-  claimed_less true true n = omega arith
-  claimed_less true false n = omega arith
-  claimed_less false c n = omega arith
-
   after_look : (e seen : ℕ) (s : Part) → Sends 2 (after_clear_phase g v e seen s)
   after_look e seen s = sends_either 2 (eqb seen 0) _ nothing (sends_seeing 1 (Claim e) (after_claim_phase g v e)
-      (λ n i p. claimed_less (eqb e i) (eqb n (claims_of (p.out i).link)) (p.out i).pending)
+      (λ n i p. grind (arith, nat_tests))
       (λ n p. sends_either 1 _ (one_step g v (Put e)) (one_step g v (Halt v))
       (sends_seeing 0 (Put e) _ (λ n i p. omega arith) (λ n p. sends_nothing 0))
       (sends_seeing 0 (Halt v) _ (λ n i p. omega arith) (λ n p. sends_nothing 0)))) (sends_nothing 2)
 
   send_costs : (e : ℕ) → Costs busy_count e (sending g v e)
-  send_costs e s ds t = by (is_running s.halt && not (eqb (s.out e).pending 0)) refl
-    where
-      by : (b : Bool) → (is_running s.halt && not (eqb (s.out e).pending 0)) ≡ b
-          → either_phase b (seeing g v (Clear e) (after_clear_phase g v e)) nothing s ds t
-          → (length ds ≤ busy_count s e) × ((i : ℕ) → busy_count t i ≤ busy_count s i)
-      by true on ph =
-          let busy : ◌≡◌ {A = ℕ} (busy_count s e) 3 = cond-false _ 0 3 (not-true _ (and_parts _ _ on).1) in
-          let all = sends_seeing 2 (Clear e) (after_clear_phase g v e) (λ n i p. omega arith) (after_look e) s ds t ph in
-          ((let a = all.0 in omega arith), all.1)
-      by false off ph = sends_nothing (busy_count s e) s ds t ph
+  send_costs e s ds t phase = by_test (is_running s.halt && not (eqb (s.out e).pending 0))
+      (λ on.
+      let all = sends_seeing 2 (Clear e) (after_clear_phase g v e) (λ n i p. omega arith) (after_look e) s ds t
+      (rw on at phase) in
+      let few = all.0 in (grind (arith, nat_tests), all.1))
+      (λ off. sends_nothing (busy_count s e) s ds t (rw off at phase))
 
   -- ---- together
 
@@ -202,13 +168,7 @@ module _ (g : Setting) (v : ℕ) where
   one_each s ok [] mine = omega arith
   one_each s ok (e ∷ es) mine =
       let rest = one_each s ok es (λ k d l. mine (suc k) d (omega arith)) in
-      by_test (eqb (s.out e).pending 0)
-      (λ y. let a : ◌≡◌ {A = ℕ} (busy_count s e) 0 = cond-true _ 0 3 y in
-      let b = at_most_one (s.out e).link.held in omega arith)
-      (λ n. let a : ◌≡◌ {A = ℕ} (busy_count s e) 3 = cond-false _ 0 3 n in
-      let h = ap (λ (o : Option ℕ). length (option_to_list o))
-      (ok e (mine 0 0 (omega arith)) (pos_of_ne-zero (eqb-false (s.out e).pending 0 n))) in
-      omega arith)
+      let few = at_most_one (s.out e).link.held in let free = ok e (mine 0 0 (omega arith)) in grind (arith, nat_tests)
 
   outs_leave : All (λ e. tail_of g e ≡ v) (outs_of g v)
   outs_leave k d l =
@@ -222,24 +182,19 @@ module _ (g : Setting) (v : ℕ) where
   no_second_halt s t ds fs u refused (seen, more, now, (none, same)) ph =
       let halted : is_running t.halt ≡ false = ap (λ (p : Part). is_running p.halt) same
       ∙ ap is_running (cond-true (not (eqb (refusals g v s) 0)) _ _ (ap not refused)) in
-      idle (is_at_limit g v t) (λ j. ((halted j && eqb (pending_of g v t) 0) && is_legal g v t)
-      && eqb t.fired g.game.limit) ph
-    where
-      idle : (b : Bool) → b ≡ false → either_phase b (one_step g v (Halt v)) nothing t fs u → length fs ≤ 0
-      idle true off ph = absurd (true≢false off)
-      idle false off (none', same') = let a = ap length none' in omega arith
+      grind (arith, nat_tests)
 
-  middle : (s t u : Part) (ds fs : List Step) (b : Bool) → b ≡ is_running s.halt → (c : Bool)
-      → c ≡ eqb (refusals g v s) 0
-      → either_phase b (either_phase c (each_phase (sending g v) (outs_of g v)) (one_step g v (Halt v))) nothing s ds t
+  middle : (s t u : Part) (ds fs : List Step) → sending_all g v s ds t
       → where_phase (is_at_limit g v) (one_step g v (Halt v)) t fs u
       → length ds + length fs ≤ total (busy_count s) (outs_of g v) + 1
-  middle s t u ds fs false is c is' (none, same) ph = let a = ap length none in
-      let b = at_most_where 1 (is_at_limit g v) (one_step g v (Halt v)) (at_most_step (Halt v)) t fs u ph in omega arith
-  middle s t u ds fs true is true is' sends ph = let a = each_costs busy_count (sending g v) send_costs (outs_of g v) s ds t sends in
-      let b = at_most_where 1 (is_at_limit g v) (one_step g v (Halt v)) (at_most_step (Halt v)) t fs u ph in omega arith
-  middle s t u ds fs true is false is' halt ph = let a = at_most_step (Halt v) s ds t halt in
-      let b = no_second_halt s t ds fs u (sym is') halt ph in omega arith
+  middle s t u ds fs sends ph =
+      let b = at_most_where 1 (is_at_limit g v) (one_step g v (Halt v)) (at_most_step (Halt v)) t fs u ph in
+      by_test (is_running s.halt)
+      (λ on. let either = rw on at sends in by_test (eqb (refusals g v s) 0)
+      (λ none. let a = each_costs busy_count (sending g v) send_costs (outs_of g v) s ds t (rw none at either) in omega arith)
+      (λ some. let halt = rw some at either in let a = at_most_step (Halt v) s ds t halt in
+      let c = no_second_halt s t ds fs u some halt ph in omega arith))
+      (λ off. let idle = rw off at sends in let a = ap length idle.0 in omega arith)
 
   at_most_parent : (p : Option ℕ) → AtMost 1 (acknowledging_parent g v p)
   at_most_parent None = at_most_more 0 1 nothing (omega arith) at_most_nothing
@@ -252,7 +207,7 @@ module _ (g : Setting) (v : ℕ) where
       let busy = total_le (busy_count m4) (busy_count s) (each_keeps (λ p q. (i : ℕ) → busy_count q i ≤ busy_count p i)
       (λ p i. omega arith) (λ p m q one more i. (let a = one i in let b = more i in omega arith)) (putting g v) puts_leave
       (outs_of g v) s f4 m4 puts) (outs_of g v) in
-      let n5 = middle m4 m5 m6 f5 f6 (is_running m4.halt) refl (eqb (refusals g v m4) 0) refl sends limit in
+      let n5 = middle m4 m5 m6 f5 f6 sends limit in
       let both = one_each s free (outs_of g v) outs_leave in
       let n7 = at_most_each (acknowledging g v) (λ e. at_most_where 1 _ (one_step g v (Ack e)) (at_most_step (Ack e)))
       (ins_of g v) m6 f7 m7 acks in

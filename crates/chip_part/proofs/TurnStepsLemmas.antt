@@ -1,27 +1,27 @@
 -- Serves Turn.antt, Cursor.antt, Part.antt.
 -- Each phase of a turn: what is due in it, and when the next phase is due.
-use Rattle.std.proofs.Common.{◌≡◌, ◌≢◌, ℕ, ◌+◌, ◌-◌, ◌*◌, ◌/◌, ◌<◌, ◌≤◌, min, Bool, true, false, not, ◌&&◌}
-use Rattle.std.proofs.Common.{cond, eqb, List, [], ◌∷◌, length, get_or, slice_index, Option, Some, None, is_some}
-use Rattle.std.proofs.Common.{option_to_list, refl, sym, ap, ◌∙◌, subst, arith, eq-eqb, ne_eqb, eqb-true}
-use Rattle.std.proofs.Common.{ltb-true, leb-true, true≢false, inl}
+use Rattle.std.proofs.lemmas.Bool.Decides.{nat_tests}
+use Rattle.std.proofs.Common.{◌≡◌, ◌≢◌, ℕ, ◌+◌, ◌-◌, ◌*◌, ◌/◌, ◌<◌, ◌≤◌, min, Bool, true, false, not, ◌&&◌, cond, eqb}
+use Rattle.std.proofs.Common.{List, [], ◌∷◌, length, get_or, slice_index, Option, Some, None, is_some, option_to_list}
+use Rattle.std.proofs.Common.{refl, sym, ap, ◌∙◌, subst, arith, eq-eqb, ne_eqb, eqb-true, true≢false, inl}
 use Rattle.std.proofs.Math.Nat.{div-mul-le_self, le-div_iff_mul-le, le-min, min-le_left, min-le_right, mul-le-mul_right}
 use Rattle.std.proofs.Math.Nat.{le_trans}
 use Rattle.std.proofs.Math.Seq.{get_or-append_right}
 use Rattle.std.proofs.lemmas.List.{get_or_append_left, get_or_default}
-use Rattle.std.proofs.lemmas.Bool.{not-true, eqb-false, and_parts, and_from, cond-true, cond-false}
+use Rattle.std.proofs.lemmas.Bool.{and_from, cond-true}
 use mathlib.Core.Logic.{dite}
 use native.Mathlib.Decide.{ℕ_discrete, dec_lt}
 use Rattle.chip_graph.specs.Multigraph.{edge_at, edges_in, degree}
 use Rattle.chip_graph.specs.ChipGame.{IsGame}
 use Rattle.chip_part.specs.Setting.{Setting}
-use Rattle.chip_graph.proofs.SumLemmas.{cond_yes, cond_no, tested_none}
+use Rattle.chip_graph.proofs.SumLemmas.{cond_yes, tested_none}
 use Rattle.chip_graph.proofs.PickLemmas.{All-picked}
 use Rattle.chip_graph.proofs.WalksLemmas.{degree_positive}
-use Rattle.chip_link.specs.Link.{Tail, claims_of, after_clear, after_claim, after_put}
+use Rattle.chip_link.specs.Link.{Tail, claims_of, after_clear, after_claim}
 use Rattle.chip_part.specs.declared.cause.Cause.TheVariants.{SealedEdge, FiringLimit}
 use Rattle.chip_part.specs.declared.cursor.Cursor.TheVariants as At
 use Rattle.chip_part.specs.Edges.{graph_edges, all_edges, root_edge, tail_of, head_of}
-use Rattle.chip_part.specs.Part.{Part, Cause, is_running, may_ack, pending_of, unput_count, refusals, cause, is_legal}
+use Rattle.chip_part.specs.Part.{Part, Cause, is_running, may_ack, unput_count, refusals, cause}
 use Rattle.chip_part.specs.Rules.{Take, Ack, Fire, Clear, Claim, Put, Halt, Settle}
 use Rattle.chip_part.specs.Steps.{Step, does, saw}
 use Rattle.chip_part.specs.Turn.{nothing, either_phase, where_phase, and_then, each_phase, one_step, seeing, ins_of}
@@ -32,41 +32,18 @@ use Rattle.chip_part.specs.Cursor.{out_at, rest_of_turn, claiming, storing, from
 use Rattle.chip_part.specs.Cursor.{from_refusal, from_sending, from_limit, from_acknowledging, HoldsNothing, IsSending}
 use Rattle.chip_part.specs.Cursor.{IsAt, GoesBy}
 use Rattle.chip_part.proofs.EdgeLemmas.{tail_graph, head_graph, head_root, graph_inside}
-use Rattle.chip_part.proofs.RuleLemmas.{met_rules, positive, running}
+use Rattle.chip_part.proofs.RuleLemmas.{met_rules, positive, some_of}
 use Rattle.chip_part.proofs.PartLemmas.{out_zero, tail_inside, may_le}
 use Rattle.chip_part.proofs.PickedLemmas.{picked_passes, among_new_outs}
 use Rattle.chip_part.proofs.CursorLemmas.{skip, step, either_yes, either_no, where_yes, where_no, each_over, each_more}
 use Rattle.chip_part.proofs.CursorLemmas.{each_to, each_none, Passes}
-use Rattle.chip_part.proofs.RuleLemmas.{some_of, is_none_of}
 
--- ---- a tail before and after
+-- ---- a claim
 
-abbrev held_of : Tail → Option ℕ
-held_of t = t.held
-
-abbrev refused_of : Tail → Bool
-refused_of t = t.refused
-
-kept_field : {A : Type 0} (field : Tail → A) (b : Bool) (t u : Tail) → field u ≡ field t → field (cond b u t) ≡ field t
-kept_field field true t u same = same
-kept_field field false t u same = refl
-
--- a claim holds a message exactly where it was taken, and is refused exactly where it wasn't
 claim_held : (b : Bool) (count : ℕ) (t : Tail) → t.held ≡ None
     → is_some (let u : Tail = cond b (record t { held = Some count; clear = false })
     (record t { clear = false; refused = true }) in u).held ≡ b
-claim_held true count t none = refl
-claim_held false count t none = ap is_some none
-
-claim_either : (b : Bool) (count : ℕ) (t : Tail) → t.held ≡ None → t.refused ≡ false
-    → (let u : Tail = cond b (record t { held = Some count; clear = false })
-    (record t { clear = false; refused = true }) in u.refused ≡ not (is_some u.held))
-claim_either true count t none open' = open'
-claim_either false count t none open' = sym (ap (λ (o : Option ℕ). not (is_some o)) none)
-
-is_false : (b : Bool) → ◌≡◌ {A = ℕ} (cond b 1 0) 0 → b ≡ false
-is_false true z = absurd (omega arith)
-is_false false z = refl
+claim_held b count t none = grind (arith, nat_tests)
 
 -- ---- the edges of a vertex
 
@@ -122,7 +99,7 @@ module _ (g : Setting) (v : ℕ) (vertex : v < g.game.graph.vertices) (s : Part)
 
   open_edge : refusals g v s ≡ 0 → (e : ℕ) → tail_of g e ≡ v → (s.out e).link.refused ≡ false
   open_edge none e at = let l = inside e at in
-      is_false _ (out_zero g v (λ i. cond (s.out i).link.refused 1 0) none e (omega arith) at)
+      let z = out_zero g v (λ i. cond (s.out i).link.refused 1 0) none e (omega arith) at in grind (arith, nat_tests)
 
   refused_edge : (e : ℕ) → tail_of g e ≡ v → (s.out e).link.refused ≡ true → refusals g v s ≢ 0
   refused_edge e at is z = true≢false (sym is ∙ open_edge z e at)
@@ -180,8 +157,7 @@ module _ (g : Setting) (v : ℕ) (vertex : v < g.game.graph.vertices) (s : Part)
 
   pub may_fire_pays : IsGame g.game → may_fire g v s ≡ true → 0 < degree g.game.graph v
   may_fire_pays game may =
-      let legal = and_parts _ _ (and_parts _ _ (and_parts _ _ may).0).1 in
-      degree_positive g.game.graph v (game.graph_fits.all_reach v vertex) (eqb-false _ _ (not-true _ legal.0))
+      degree_positive g.game.graph v (game.graph_fits.all_reach v vertex) (λ at. grind (arith, nat_tests))
       (λ e l. (game.graph_fits.edges_fit e l).some_chips)
 
   -- a batch is one firing at least, and is paid
@@ -196,29 +172,15 @@ module _ (g : Setting) (v : ℕ) (vertex : v < g.game.graph.vertices) (s : Part)
 
   pub fire_due : IsGame g.game → may_fire g v s ≡ true → GoesBy g v s At.Fire (Fire v (batch_of g v s)) (At.Put 0)
   fire_due game may =
-      let a = and_parts _ _ may in
-      let b = and_parts _ _ a.0 in
-      let c = and_parts _ _ b.0 in
-      let d = and_parts _ _ c.0 in
-      let legal = and_parts _ _ b.1 in
-      let other : v ≢ g.game.graph.sink = eqb-false _ _ (not-true _ legal.0) in
-      let costs : degree g.game.graph v ≤ s.chips = leb-true _ _ legal.1 in
-      let below : s.fired < g.game.limit = ltb-true _ _ a.1 in
+      let costs : degree g.game.graph v ≤ s.chips = grind (arith, nat_tests) in
+      let below : s.fired < g.game.limit = grind (arith, nat_tests) in
+      let some = batch_some s.chips (degree g.game.graph v) (g.game.limit - s.fired) (may_fire_pays game may) costs
+      (let z : 0 < g.game.limit - s.fired = omega arith in z) in
+      let paid = batch_paid s.chips (degree g.game.graph v) (g.game.limit - s.fired) in
       let room = min-le_right (s.chips / degree g.game.graph v) (g.game.limit - s.fired) in
-      let within : s.fired + batch_of g v s ≤ g.game.limit = omega arith in
       record {
         mine = refl;
-        met = met_rules g (Fire v (batch_of g v s)) s (
-          vertex,
-          other,
-          running _ d.0,
-          eqb-true _ _ d.1,
-          eqb-true _ _ c.1,
-          batch_some s.chips (degree g.game.graph v) (g.game.limit - s.fired) (may_fire_pays game may) costs
-              (let z : 0 < g.game.limit - s.fired = omega arith in z),
-          within,
-          batch_paid s.chips (degree g.game.graph v) (g.game.limit - s.fired),
-        );
+        met = met_rules g (Fire v (batch_of g v s)) s (grind (arith, nat_tests));
         fewer = omega arith;
         fits = λ seen k l. absurd (omega arith);
         rest = λ seen ds after h. step (firing g v) (from_putting g v 0) s
@@ -247,11 +209,7 @@ module _ (g : Setting) (v : ℕ) (vertex : v < g.game.graph.vertices) (s : Part)
         mine = out_leaves g v next within;
         met = met_rules g (Put e) s (graph_inside g e (out_inside g v next within), some_of _ held);
         fewer = omega arith;
-        fits = λ seen k l. dite (dec_lt k next)
-            (λ before. kept_none (eqb e (out_at g v k)) (s.out (out_at g v k)).link
-            (dite (dec_lt k place) (λ b. at k b) (λ n. is_none_of _ (none k (omega arith) before))))
-            (λ n. let same : next ≡ k = omega arith in
-            put_none (eqb e (out_at g v k)) (s.out (out_at g v k)).link (eq-eqb _ _ (ap (out_at g v) same)));
+        fits = λ seen k l. (let old = at k in let passed = none k in grind (arith, nat_tests));
         rest = λ seen ds after h. each_to (putting g v) (outs_of g v) (from_refusal g v) place next from (omega arith) s
             (λ k a b. idle_put k (none k a b)) _ after
             (each_more (putting g v) (outs_of g v) (from_refusal g v) next within s
@@ -259,14 +217,6 @@ module _ (g : Setting) (v : ℕ) (vertex : v < g.game.graph.vertices) (s : Part)
             (where_yes (λ p. is_some (p.out e).link.held) (one_step g v (Put e)) s _ _ held
             (seen, [], refl, (refl, refl))) h);
       }
-    where
-      kept_none : (b : Bool) (t : Tail) → t.held ≡ None → (cond b (after_put t) t).held ≡ None
-      kept_none true t none = refl
-      kept_none false t none = none
-
-      put_none : (b : Bool) (t : Tail) → b ≡ true → (cond b (after_put t) t).held ≡ None
-      put_none true t is = refl
-      put_none false t is = absurd (cc)
 
   pub puts_over : (place : ℕ)
       → ((k : ℕ) → place ≤ k → k < length (outs_of g v) → is_some (s.out (out_at g v k)).link.held ≡ false)
@@ -277,9 +227,8 @@ module _ (g : Setting) (v : ℕ) (vertex : v < g.game.graph.vertices) (s : Part)
       → ((k : ℕ) → place ≤ k → k < length (outs_of g v) → is_some (s.out (out_at g v k)).link.held ≡ false)
       → HoldsNothing g v s
   puts_fit place at none e out =
-      let p = out_place g v vertex e out in
-      subst (λ (i : ℕ). (s.out i).link.held ≡ None) p.2
-      (dite (dec_lt p.0 place) (λ before. at p.0 before) (λ n. is_none_of _ (none p.0 (omega arith) p.1)))
+      let p = out_place g v vertex e out in let old = at p.0 in let passed = none p.0 in
+      grind (arith, nat_tests)
 
   -- a refusal that was noted before
 
@@ -328,11 +277,7 @@ module _ (g : Setting) (v : ℕ) (vertex : v < g.game.graph.vertices) (s : Part)
 
   idle_send : (e : ℕ) → not (eqb (s.out e).pending 0) ≡ false → sending g v e s [] s
   idle_send e none = where_no (λ p. is_running p.halt && not (eqb (p.out e).pending 0))
-      (seeing g v (Clear e) (after_clear_phase g v e)) s (both (is_running s.halt) _ none)
-    where
-      both : (b c : Bool) → c ≡ false → (b && c) ≡ false
-      both true c off = off
-      both false c off = refl
+      (seeing g v (Clear e) (after_clear_phase g v e)) s (grind (arith, nat_tests))
 
   pub send_due : (place next : ℕ) → IsSending g v s → place ≤ next → next < length (outs_of g v)
       → not (eqb (s.out (out_at g v next)).pending 0) ≡ true
@@ -349,9 +294,8 @@ module _ (g : Setting) (v : ℕ) (vertex : v < g.game.graph.vertices) (s : Part)
           within,
           record {
             running = at.running;
-            held = λ i out. kept_field held_of (eqb e i) (s.out i).link (after_clear seen (s.out i).link) refl ∙ at.held i out;
-            refused = λ i out. kept_field refused_of (eqb e i) (s.out i).link (after_clear seen (s.out i).link) refl
-                ∙ at.refused i out;
+            held = λ i out. (let was = at.held i out in grind (arith, nat_tests));
+            refused = λ i out. (let was = at.refused i out in grind (arith, nat_tests));
           },
         );
         rest = λ seen ds after (front, m, back, is, claim, more).
@@ -402,16 +346,9 @@ module _ (g : Setting) (v : ℕ) (vertex : v < g.game.graph.vertices) (s : Part)
           within,
           record {
             running = at.running;
-            held = λ i there other. ap
-                (λ (u : Tail). u.held) (cond_no e i (after_claim (s.out i).pending seen (s.out i).link)
-                (s.out i).link other) ∙ at.held i there;
-            refused = λ i there other. ap
-                (λ (u : Tail). u.refused)
-                (cond_no e i (after_claim (s.out i).pending seen (s.out i).link) (s.out i).link other)
-                ∙ at.refused i there;
-            either = subst (λ (u : Tail). u.refused ≡ not (is_some u.held))
-                (sym (cond_yes e e (after_claim (s.out e).pending seen t) t refl))
-                (claim_either (eqb seen (claims_of t)) (s.out e).pending t (at.held e out) (at.refused e out));
+            held = λ i there other. (let was = at.held i there in grind (arith, nat_tests));
+            refused = λ i there other. (let was = at.refused i there in grind (arith, nat_tests));
+            either = (let was = at.held e out in let open' = at.refused e out in grind (arith, nat_tests));
           },
         );
         rest = λ seen ds after (front, m, back, is, store, more). (
@@ -452,13 +389,8 @@ module _ (g : Setting) (v : ℕ) (vertex : v < g.game.graph.vertices) (s : Part)
         fewer = omega arith;
         fits = λ seen. record {
           running = at.running;
-          held = λ i there. dite (ℕ_discrete e i)
-              (λ same. ap (λ (u : Tail). u.held) (cond_yes e i (after_put (s.out i).link) (s.out i).link same))
-              (λ other. ap (λ (u : Tail). u.held) (cond_no e i (after_put (s.out i).link) (s.out i).link other)
-              ∙ at.held i there other);
-          refused = λ i there. kept_field refused_of (eqb e i) (s.out i).link (after_put (s.out i).link) refl
-              ∙ dite (ℕ_discrete e i) (λ same. subst (λ (k : ℕ). (s.out k).link.refused ≡ false) same (at.either
-              ∙ ap not held)) (at.refused i there);
+          held = λ i there. (let was = at.held i there in grind (arith, nat_tests));
+          refused = λ i there. (let was = at.refused i there in let here = at.either in grind (arith, nat_tests));
         };
         rest = λ seen ds after h. step (storing g v e) (from_sending g v (place + 1)) s
             (does g (saw (Put e) seen) s) (saw (Put e) seen)
@@ -476,8 +408,7 @@ module _ (g : Setting) (v : ℕ) (vertex : v < g.game.graph.vertices) (s : Part)
       let e : ℕ = out_at g v place in
       let out = out_leaves g v place within in
       let some = refused_edge e out (at.either ∙ ap not none) in
-      let holds : HoldsNothing g v s = λ i there. dite (ℕ_discrete e i)
-      (λ same. subst (λ (k : ℕ). (s.out k).link.held ≡ None) same (is_none_of _ none)) (at.held i there) in
+      let holds : HoldsNothing g v s = λ i there. (let was = at.held i there in grind (arith, nat_tests)) in
       let cause' = cause_sealed some in
       record {
         mine = refl;
@@ -498,21 +429,12 @@ module _ (g : Setting) (v : ℕ) (vertex : v < g.game.graph.vertices) (s : Part)
 
   pub limit_due : HoldsNothing g v s → is_at_limit g v s ≡ true → GoesBy g v s At.Limit (Halt v) (At.Ack 0)
   limit_due holds may =
-      let a = and_parts _ _ may in
-      let b = and_parts _ _ a.0 in
-      let c = and_parts _ _ b.0 in
-      let legal = and_parts _ _ b.1 in
       let why : (k : Cause) × (cause g v s ≡ Some k) = dite (ℕ_discrete (refusals g v s) 0)
-      (λ none. (
-        FiringLimit,
-        cond-false (not (eqb (refusals g v s) 0)) _ _ (ap not (eq-eqb _ _ none))
-            ∙ cond-true (eqb (pending_of g v s) 0 && is_legal g v s && eqb s.fired g.game.limit) _ None
-            (and_from _ _ (and_from _ _ c.1 b.1) a.1),
-      ))
-      cause_sealed in
+      (λ none. (FiringLimit, grind (arith, nat_tests))) cause_sealed in
       record {
         mine = refl;
-        met = met_rules g (Halt v) s (vertex, eqb-false _ _ (not-true _ legal.0), running _ c.0, no_unput holds, why);
+        met = met_rules g (Halt v) s
+            (vertex, (λ at. grind (arith, nat_tests)), grind (arith, nat_tests), no_unput holds, why);
         fewer = omega arith;
         fits = λ seen. tt;
         rest = λ seen ds after h. step (where_phase (is_at_limit g v) (one_step g v (Halt v)))

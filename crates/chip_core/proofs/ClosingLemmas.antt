@@ -1,9 +1,11 @@
 -- Serves Core.antt, Soon.antt.
 -- Where every vertex is passive and all that was claimed is taken, steps only settle and acknowledge. Where the root is
 -- closed nothing changes any more, everything is delivered, and chips and counts are those of every end.
+use Rattle.std.proofs.lemmas.Bool.Decides.{nat_tests}
+use Rattle.chip_part.specs.Part.{pending_of, owed, is_passive, is_legal}
 use Rattle.std.proofs.Common.{◌≡◌, ℕ, ◌<◌, ◌≤◌, true, false, eqb, ◌∷◌, length, get_or, Option, None, option_to_list}
-use Rattle.std.proofs.Common.{refl, sym, ap, ◌∙◌, arith, ⊎_elim, true≢false, ◌≢◌, ◌⊎◌, ◌+◌, ◌-◌, Bool, cond, List, []}
-use Rattle.std.proofs.Common.{sum, Some, inl, inr, ne_eqb, le-leb}
+use Rattle.std.proofs.Common.{refl, sym, ap, ◌∙◌, arith, ⊎_elim, true≢false, ◌≢◌, ◌+◌, ◌-◌, Bool, cond, List, []}
+use Rattle.std.proofs.Common.{sum, Some}
 use Rattle.std.proofs.lemmas.List.{get_or_past, drop_all}
 use mathlib.Core.Logic.{dite}
 use native.Mathlib.Decide.{dec_lt}
@@ -11,7 +13,6 @@ use Rattle.chip_graph.specs.ChipGame.{IsGame}
 use Rattle.chip_graph.proofs.SumLemmas.{tested_none}
 use Rattle.chip_link.specs.Link.{claims_of, sent_counts}
 use Rattle.chip_part.specs.Setting.{Setting}
-use Rattle.chip_part.specs.Part.{owed, is_passive, is_legal}
 use Rattle.chip_part.specs.Kept.{IsNeutral}
 use Rattle.chip_part.specs.Steps.{saw}
 use Rattle.chip_part.proofs.EdgeLemmas.{tail_root}
@@ -23,15 +24,12 @@ use Rattle.chip_core.specs.Core.{Feed, End, part_of, does, part_in, out_in, into
 use Rattle.chip_core.specs.Core.{head_of, root, all_edges, graph_edges, Rule, unmet_rule, sees, is_by_limit, answer}
 use Rattle.chip_core.specs.Core.{step, log_after, IsClosed, stopper, root_edge}
 use Rattle.chip_core.proofs.LogLemmas.{part_kept, edge_counts, tail_inside, end_stays, tail_cases}
-use Rattle.std.proofs.lemmas.Bool.{and_from, not_from_false}
 use Rattle.chip_graph.specs.Sums.{filter_below}
-use Rattle.chip_graph.specs.Multigraph.{degree}
 use Rattle.chip_link.proofs.SoundsLemmas.{length-sent_counts}
 use Rattle.chip_sequence.specs.Firing.{IsLegal, legal_vertices}
 use Rattle.chip_sequence.specs.Sequence.{position_after, IsFiringSequence, HasEnded, HasEndedWithin, IsWholePlay}
 use Rattle.chip_sequence.proofs.EndLemmas.{one_end}
 use Rattle.chip_sequence.proofs.BoundLemmas.{same_ends}
-use Rattle.chip_part.specs.declared.cause.Cause.{Cause}
 use Rattle.chip_part.specs.declared.cause.Cause.TheVariants.{SealedEdge, FiringLimit}
 use Rattle.chip_part.specs.Edges.{over_ins}
 use Rattle.chip_core.specs.Messages.{counts_in_flight, messages_from, in_flight}
@@ -146,11 +144,6 @@ module _ (g : Setting) where
         end = end_stays g x log rest.end;
       }
 
-cases_halt : (h : Option Cause) → (h ≡ None) ⊎ ((h ≡ Some FiringLimit) ⊎ (h ≡ Some SealedEdge))
-cases_halt None = inl refl
-cases_halt (Some FiringLimit) = inr (inl refl)
-cases_halt (Some SealedEdge) = inr (inr refl)
-
 module _ (g : Setting) (game : IsGame g.game) (some_ring : 0 < g.ring) where
   module _ (log : Log) (legal : IsLegalLog g log) (closed : IsClosed g log) where
     resting : (v : ℕ) → v < g.game.graph.vertices → IsNeutral g v (part_in g log v)
@@ -242,16 +235,15 @@ module _ (g : Setting) (game : IsGame g.game) (some_ring : 0 < g.ring) where
       nothing_held : (e : ℕ) → e < all_edges g → held g log e ≡ 0
       nothing_held e l =
           let ok = part_kept g game log legal (tail_of g e) in
+          let v : ℕ = tail_of g e in
           ⊎_elim
           (λ at. dite (dec_lt e (graph_edges g)) (λ m. absurd (let a = tail_inside g game e m in omega arith))
           (λ n. (ok.outs e refl).root_idle (omega arith)))
-          (λ t. ⊎_elim
-          (λ runs. out_zero g (tail_of g e) (λ i. ((part_in g log (tail_of g e)).out i).pending)
-          (passive_parts g (tail_of g e) (part_in g log (tail_of g e)) (resting (tail_of g e) t).passive runs).1 e l
-          refl)
-          (λ halted. ⊎_elim (λ limit. out_zero g (tail_of g e) (λ i. ((part_in g log (tail_of g e)).out i).pending)
-          (ok.at_limit limit).1 e l refl) (λ seal. absurd (no_seal (tail_of g e) t seal)) halted)
-          (cases_halt (part_in g log (tail_of g e)).halt))
+          (λ t.
+          let runs = passive_parts g v (part_in g log v) (resting v t).passive in
+          let limit = ok.at_limit in let seal = no_seal v t in
+          let none : pending_of g v (part_in g log v) ≡ 0 = grind (arith, nat_tests) in
+          out_zero g v (λ i. ((part_in g log v).out i).pending) none e l refl)
           (tail_cases g game e)
 
       pub chips_are : (v : ℕ) → v < g.game.graph.vertices
@@ -269,13 +261,9 @@ module _ (g : Setting) (game : IsGame g.game) (some_ring : 0 < g.ring) where
           → (part_in g log v).halt ≡ Some FiringLimit
       legal_halted v can =
           let same = chips_are v can.is_vertex in
-          let chips = can.enough_chips in
-          let s = part_in g log v in
-          let may : is_legal g v s ≡ true = and_from _ _ (not_from_false _ (ne_eqb _ _ can.not_sink))
-          (le-leb (degree g.game.graph v) s.chips (omega arith)) in
-          ⊎_elim (λ runs. absurd (true≢false (sym may
-          ∙ (passive_parts g v s (resting v can.is_vertex).passive runs).2)))
-          (λ h. ⊎_elim (λ z. z) (λ z. absurd (no_seal v can.is_vertex z)) h) (cases_halt s.halt)
+          let chips = can.enough_chips in let other = can.not_sink in
+          let runs = passive_parts g v (part_in g log v) (resting v can.is_vertex).passive in
+          let seal = no_seal v can.is_vertex in grind (arith, nat_tests)
 
       has_ended : HasEndedWithin g.game.graph (chips_given g log) g.game.limit (firings log)
       has_ended v can = counts_are g log v ∙ ((part_kept g game log legal v).at_limit (legal_halted v can)).0
@@ -291,12 +279,8 @@ module _ (g : Setting) (game : IsGame g.game) (some_ring : 0 < g.ring) where
       -- the vertices halted by the limit are exactly those that may still fire
       by_limit_is : (v : ℕ) → v < g.game.graph.vertices → is_by_limit (part_in g log v).halt ≡ is_legal g v (part_in g log v)
       by_limit_is v l =
-          let s = part_in g log v in
-          ⊎_elim
-          (λ runs. ap is_by_limit runs ∙ sym (passive_parts g v s (resting v l).passive runs).2)
-          (λ h. ⊎_elim (λ limit. ap is_by_limit limit ∙ sym ((part_kept g game log legal v).at_limit limit).2)
-          (λ seal. absurd (no_seal v l seal)) h)
-          (cases_halt s.halt)
+          let runs = passive_parts g v (part_in g log v) (resting v l).passive in
+          let full = (part_kept g game log legal v).at_limit in let seal = no_seal v l in grind (arith, nat_tests)
 
       pub over : filter_below (λ v. is_by_limit (part_in g log v).halt) g.game.graph.vertices
           ≡ legal_vertices g.game.graph (chips_at g log)

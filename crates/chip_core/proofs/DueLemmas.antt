@@ -1,21 +1,21 @@
 -- Serves Detection.antt, Closing.antt.
 -- Where the end is noted and nobody has anything to do the root is closed; so until then there is something to do, and where
 -- everything is asked for in vain it is closed.
-use Rattle.std.proofs.Common.{◌≡◌, ◌≢◌, ◌⊎◌, ℕ, ◌+◌, ◌<◌, ◌≤◌, true, false, not, ◌&&◌, ◌||◌, eqb, List, [], ◌∷◌, length}
-use Rattle.std.proofs.Common.{Option, Some, None, option_to_list, Contains, refl, sym, ap, ◌∙◌, subst, arith, inl, inr}
-use Rattle.std.proofs.Common.{⊎_elim, eqb-true, eq-eqb, zero, suc, Bool, cond, ltb, is_some, ne_eqb, ltb-true, lt-ltb}
-use Rattle.std.proofs.Common.{leb-true, true≢false, ◌++◌, append-nil, append_assoc}
-use Rattle.std.proofs.lemmas.Bool.{and_from, ltb-false, eqb-false, not-true, and_parts, not_from_false, cond-true}
-use Rattle.std.proofs.lemmas.Bool.{cond-false}
+use Rattle.std.proofs.lemmas.Bool.Decides.{nat_tests}
+use Rattle.std.proofs.Common.{rules, ◌≡◌, ◌≢◌, ◌⊎◌, ℕ, ◌+◌, ◌<◌, ◌≤◌, true, false, not, ◌&&◌, ◌||◌, eqb, List, [], ◌∷◌}
+use Rattle.std.proofs.Common.{length, Option, Some, None, option_to_list, Contains, refl, sym, ap, ◌∙◌, subst, arith}
+use Rattle.std.proofs.Common.{inl, inr, ⊎_elim, eqb-true, eq-eqb, zero, suc, Bool, cond, ltb, is_some, ltb-true, lt-ltb}
+use Rattle.std.proofs.Common.{◌++◌, append-nil, append_assoc}
+use Rattle.std.proofs.lemmas.Bool.{ltb-false, eqb-false, not-true, and_parts}
 use Rattle.chip_graph.specs.ChipGame.{IsGame}
 use Rattle.chip_graph.proofs.SumLemmas.{tested_none, cond_yes, cond_no, by_test, tested_term}
-use Rattle.chip_link.specs.Link.{claims_of, Tail, after_clear, after_claim, after_put}
+use Rattle.chip_link.specs.Link.{claims_of, Tail, after_clear}
 use Rattle.chip_link.proofs.SoundsLemmas.{none_held}
 use Rattle.chip_part.specs.Setting.{Setting}
 use Rattle.chip_part.specs.declared.cause.Cause.{Cause}
 use Rattle.chip_part.specs.Part.{Part, is_running, owed, may_ack, deficit, pending_of, unput_count, is_passive}
 use Rattle.chip_part.specs.Part.{is_legal, refusals, cause}
-use Rattle.chip_part.proofs.PartLemmas.{tail_inside as own_edge, in_zero, may_le, at_edge}
+use Rattle.chip_part.proofs.PartLemmas.{tail_inside as own_edge, in_zero, may_le}
 use Rattle.chip_part.proofs.RestingLemmas.{rests, idle_little}
 use Rattle.chip_core.specs.Core.{Log, Out, part_in, out_in, into_in, IsLegalLog, IsSettled, IsClosed, outstanding}
 use Rattle.chip_core.specs.Core.{tail_of, head_of, root, all_edges, graph_edges, Event, Part, Take, Ack, Fire, Clear}
@@ -27,20 +27,22 @@ use Rattle.chip_core.proofs.LogLemmas.{part_kept, head_inside, edge_counts, tail
 use Rattle.chip_core.proofs.OrderLemmas.{detection_order}
 use mathlib.Core.Logic.{dite}
 use native.Mathlib.Decide.{ℕ_discrete, dec_lt}
-use Rattle.chip_part.specs.Counting.{is_got, is_sent}
-use Rattle.chip_part.specs.declared.reply.Reply.TheVariants.{Got, Sent, Empty, Sealed}
 use Rattle.chip_part.specs.declared.cause.Cause.TheVariants.{SealedEdge, FiringLimit}
-use Rattle.chip_part.specs.Steps.{message_of, saw, link_after}
+use Rattle.chip_part.specs.Steps.{saw, link_after}
 use Rattle.chip_part.proofs.EdgeLemmas.{tail_graph}
-use Rattle.chip_part.proofs.RuleLemmas.{met_rules, running, rules_met}
+use Rattle.chip_part.proofs.RuleLemmas.{met_rules, running, rules_met, some_of, is_none_of}
 use Rattle.chip_core.specs.Words.{acting_part}
-use Rattle.chip_core.specs.Work.{counts_as_work, is_refused_claim, is_refusal, work_in, refusals_in}
+use Rattle.chip_core.specs.Work.{counts_as_work, is_refusal, work_in, refusals_in}
 use Rattle.chip_core.proofs.NumberLemmas.{empty_is}
 use Rattle.chip_core.proofs.ReachingLemmas.{step_legal, run_legal}
 use Rattle.chip_core.proofs.ReplyLemmas.{log_after-append}
 use Rattle.chip_core.proofs.IdleLemmas.{bare, Alike, idle_alike}
-use Rattle.chip_part.proofs.RuleLemmas.{some_of, is_none_of}
 use Rattle.chip_detect.proofs.ListLemmas.{contains_later, contains_nothing, contained, none_some, contains_cases}
+
+-- a vertex with nothing to do is passive
+idle_passive : (g : Setting) (v : ℕ) (s : Part) → unput_count g v s ≡ 0 → (s.halt ≡ None → pending_of g v s ≡ 0)
+    → (s.halt ≡ None → pending_of g v s ≡ 0 → is_legal g v s ≡ false) → is_passive g v s ≡ true
+idle_passive g v s unput pending legal = grind (arith, nat_tests)
 
 module _ (g : Setting) where
   -- nobody has anything to do after this log
@@ -127,15 +129,7 @@ module _ (g : Setting) where
           absurd (omega arith))))
 
       passive : is_passive g v s ≡ true
-      passive = and_from _ _ (eq-eqb _ _ no_unput) (by_halt s.halt refl)
-        where
-          by_halt : (h : Option Cause) → s.halt ≡ h
-              → (not (is_running s.halt) || (eqb (pending_of g v s) 0 && not (is_legal g v s))) ≡ true
-          by_halt (Some c) is = ap (λ (h : Option Cause). not (is_running h)
-              || (eqb (pending_of g v s) 0 && not (is_legal g v s))) is
-          by_halt None is = ap (λ (h : Option Cause). not (is_running h)
-              || (eqb (pending_of g v s) 0 && not (is_legal g v s))) is
-              ∙ and_from _ _ (eq-eqb _ _ (no_pending is)) (ap not (quiet.fired v inside is (no_pending is)))
+      passive = idle_passive g v s no_unput no_pending (quiet.fired v inside)
 
       none_latest : ⊥
       none_latest = ⊎_elim (λ none. none_some order.tree.2.0 s.parent none order.tree.2.1.parent)
@@ -159,7 +153,7 @@ find : (n : ℕ) (test : ℕ → Bool) → ((k : ℕ) × (k < n) × (test k ≡ 
 find zero test = inr (λ k l. absurd (omega arith))
 find (suc n) test = ⊎_elim (λ some. let l = some.1 in inl (some.0, omega arith, some.2))
     (λ none. by_test (test n) (λ on. inl (n, omega arith, on))
-    (λ off. inr (λ k l. dite (ℕ_discrete k n) (λ same. ap test same ∙ off) (λ other. none k (omega arith)))))
+    (λ off. inr (λ k l. let old = none k in grind (arith, nat_tests))))
     (find n test)
 
 -- an element of a list stands between others
@@ -190,9 +184,7 @@ module _ (g : Setting) where
         → Works log (Take e)
     take_works e l more = (
       met_rules g (Take e) (part_in g log (head_of g e)) l,
-      ap is_got (cond_no (sees g log (Take e)) 0 Empty
-          (Got (message_of e (length (into_in g log e).got) (sees g log (Take e))))
-          (λ none. let a = (empty_is g game some_ring log legal e).0 none in absurd (omega arith))),
+      (let a = (empty_is g game some_ring log legal e).0 in grind (arith, nat_tests)),
     )
 
     pub put_works : (e : ℕ) → e < all_edges g → is_some (out_in g log e).link.held ≡ true → Works log (Put e)
@@ -220,14 +212,7 @@ module _ (g : Setting) where
       -- a legal vertex fires below its limit
       pub fires_once : pending_of g v (part_in g log v) ≡ 0 → is_legal g v (part_in g log v) ≡ true
           → fired_by g log v < g.game.limit → Works log (Fire v 1)
-      fires_once none on below =
-          let both = and_parts _ _ on in
-          let other = eqb-false _ _ (not-true _ both.0) in
-          let chips = leb-true _ _ both.1 in (
-            met_rules g (Fire v 1) (part_in g log v)
-                (vertex, other, runs, none, unput, omega arith, omega arith, omega arith),
-            refl,
-          )
+      fires_once none on below = (met_rules g (Fire v 1) (part_in g log v) (grind (arith, nat_tests)), refl)
 
       -- and halts at it
       pub limit_halts : pending_of g v (part_in g log v) ≡ 0 → is_legal g v (part_in g log v) ≡ true
@@ -235,16 +220,9 @@ module _ (g : Setting) where
       limit_halts none on past =
           let s : Part = part_in g log v in
           let kept = (part_kept g game log legal v).within in
-          let full : s.fired ≡ g.game.limit = omega arith in
-          let other = eqb-false _ _ (not-true _ (and_parts _ _ on).0) in
-          let why : (c : Cause) × (cause g v s ≡ Some c) = by_test (not (eqb (refusals g v s) 0))
-          (λ y. (SealedEdge, cond-true _ (Some SealedEdge) _ y))
-          (λ n. (
-            FiringLimit,
-            cond-false _ (Some SealedEdge) _ n
-                ∙ cond-true _ (Some FiringLimit) None (and_from _ _ (and_from _ _ (eq-eqb _ _ none) on) (eq-eqb _ _ full)),
-          )) in
-          (met_rules g (Halt v) s (vertex, other, runs, unput, why), refl)
+          let why : (c : Cause) × (cause g v s ≡ Some c) = dite (ℕ_discrete (refusals g v s) 0)
+          (λ zero. (FiringLimit, grind (arith, nat_tests))) (λ some. (SealedEdge, grind (arith, nat_tests))) in
+          (met_rules g (Halt v) s (vertex, (λ at. grind (arith, nat_tests)), runs, unput, why), refl)
 
       -- a vertex of which a claim was refused halts
       pub refused_halts : (e : ℕ) → e < graph_edges g → tail_of g e ≡ v → ((part_in g log v).out e).link.refused ≡ true
@@ -253,9 +231,7 @@ module _ (g : Setting) where
           let s : Part = part_in g log v in
           let some = tested_term (all_edges g) (λ i. eqb (tail_of g i) v) (λ i. cond (s.out i).link.refused 1 0) e
           (omega arith) (eq-eqb _ _ at) in
-          let one : ◌≡◌ {A = ℕ} (cond (s.out e).link.refused 1 0) 1 = cond-true (s.out e).link.refused 1 0 on in
-          let why : cause g v s ≡ Some SealedEdge = cond-true _ (Some SealedEdge) _
-          (not_from_false _ (ne_eqb (refusals g v s) 0 (λ z. absurd (omega arith)))) in
+          let why : cause g v s ≡ Some SealedEdge = grind (arith, nat_tests) in
           let other = (game.graph_fits.edges_fit e l).not_from_sink in
           let tail = tail_graph g e l in
           (met_rules g (Halt v) s (vertex, (λ z. other (sym tail ∙ at ∙ z)), runs, unput, (SealedEdge, why)), refl)
@@ -265,14 +241,7 @@ module _ (g : Setting) where
         → (out_in g log e).link.clear ≡ true
         → Tells log (Claim e)
     claim_tells e l runs clear =
-        let o = out_in g log e in
-        let seen : ℕ = sees g log (Claim e) in
-        let message = message_of e (claims_of o.link) o.pending in (
-          met_rules g (Claim e) (part_in g log (tail_of g e)) (l, runs, clear),
-          dite (ℕ_discrete seen (claims_of o.link))
-              (λ hit. inl (ap is_sent (cond_yes seen (claims_of o.link) (Sent message) Sealed hit)))
-              (λ miss. inr (ap (is_refused_claim (Claim e)) (cond_no seen (claims_of o.link) (Sent message) Sealed miss))),
-        )
+        (met_rules g (Claim e) (part_in g log (tail_of g e)) (l, runs, clear), grind (arith, nat_tests))
 
     -- a look at a cell that is empty
     pub look_finds : (e : ℕ) → claims_of (out_in g log e).link ≢ length (into_in g log e).got + g.ring
@@ -293,15 +262,6 @@ module _ (g : Setting) where
       },
     )
 
-    second : (a b c : Bool) → b ≡ true → (a || b || c) ≡ true
-    second true b c on = refl
-    second false b c on = ap (λ (t : Bool). t || c) on
-
-    third : (a b c : Bool) → c ≡ true → (a || b || c) ≡ true
-    third true b c on = refl
-    third false true c on = refl
-    third false false c on = on
-
     by_sending : (e : ℕ) → e < graph_edges g → ((i : ℕ) → i < all_edges g → (out_in g log i).link.held ≡ None)
         → (part_in g log (tail_of g e)).halt ≡ None
         → claims_of (out_in g log e).link ≢ length (into_in g log e).got + g.ring → 0 < (out_in g log e).pending
@@ -312,12 +272,12 @@ module _ (g : Setting) where
         (λ off. by_test (out_in g log e).link.clear
         (λ clear. let claim = claim_tells e l runs clear in
         ⊎_elim (λ counts. by_work (Claim e) (claim.0, counts))
-        (λ refused. (Claim e, record { may = claim.0; tells = second _ _ _ refused })) claim.1)
-        (λ noted. (
+        (λ refused. (Claim e, record { may = claim.0; tells = grind (arith, nat_tests) })) claim.1)
+        (λ noted. let empty = look_finds e room in (
           Clear e,
           record {
             may = met_rules g (Clear e) (part_in g log (tail_of g e)) (inl (l, runs, off, pends));
-            tells = third (reply_counts log (Clear e)) (is_refused log (Clear e)) _ (and_from _ _ (eq-eqb _ _ (look_finds e room)) (ap not noted));
+            tells = grind (arith, nat_tests);
           },
         )))
 
@@ -344,18 +304,13 @@ module _ (g : Setting) where
         (λ t. let parts = and_parts _ _ t.2 in let more = and_parts _ _ parts.0 in
         by_sending t.0 t.1 none (running _ more.0) (eqb-false _ _ (not-true _ more.1)) (ltb-true _ _ parts.1))
         (λ no_send. absurd (not_closed (quiet_closes g game some_ring log legal record {
-          taken = λ e l. (let a = ltb-false _ _ (no_take e l) in
-              let b = (edge_counts g game some_ring log legal e).2 in omega arith);
+          taken = λ e l. (let a = no_take e l in let b = (edge_counts g game some_ring log legal e).2 in
+              grind (arith, nat_tests));
           put = none;
           settled = λ e l. ltb-false _ _ (no_settle e l);
           acked = λ e l. (let a = ltb-false _ _ (no_ack e l) in omega arith);
-          fired = λ v l runs idle. by_test (is_legal g v (part_in g log v))
-              (λ on. absurd (true≢false (sym (and_from _ _ (and_from _ _ (ap is_running runs) (eq-eqb _ _ idle)) on)
-              ∙ no_fire v l)))
-              (λ off. off);
-          sent = λ e l runs room. dite (ℕ_discrete (out_in g log e).pending 0) (λ z. z)
-              (λ some. absurd (true≢false (sym (and_from _ _ (and_from _ _ (ap is_running runs)
-              (not_from_false _ (ne_eqb _ _ room))) (lt-ltb 0 _ (omega arith))) ∙ no_send e l)));
+          fired = λ v l runs idle. (let a = no_fire v l in grind (arith, nat_tests));
+          sent = λ e l runs room. (let a = no_send e l in grind (arith, nat_tests));
         } end)))
         (find (graph_edges g) (λ e. (is_running (part_in g log (tail_of g e)).halt
         && not (eqb (claims_of (out_in g log e).link) (length (into_in g log e).got + g.ring)))
@@ -386,17 +341,11 @@ module _ (g : Setting) where
   tells_more log x none = ap tells_in (made log x none)
 
   pub no_work : (log : Log) (x : Event) → Idle log x → Works g log x → ⊥
-  no_work log x idle works =
-      let a = tells_more log x works.0 in
-      let b : ◌≡◌ {A = ℕ} (cond (reply_counts g log x) 1 0) 1 = cond-true (reply_counts g log x) 1 0 works.1 in
-      absurd (omega arith)
+  no_work log x idle works = let a = tells_more log x works.0 in grind (arith, nat_tests)
 
   no_refusal : (log : Log) (x : Event) → Idle log x → unmet_rule g x (acting_part g log x) ≡ None
       → is_refused g log x ≡ true → ⊥
-  no_refusal log x idle none on =
-      let a = tells_more log x none in
-      let b : ◌≡◌ {A = ℕ} (cond (is_refused g log x) 1 0) 1 = cond-true (is_refused g log x) 1 0 on in
-      absurd (omega arith)
+  no_refusal log x idle none on = let a = tells_more log x none in grind (arith, nat_tests)
 
   cases_rule : (o : Option Rule) → (o ≡ None) ⊎ ((r : Rule) × (o ≡ Some r))
   cases_rule None = inl refl
@@ -428,10 +377,7 @@ module _ (g : Setting) where
   }
 
   then_still : (a b c : Log) → Still a b → Still b c → Still a c
-  then_still a b c ab bc = record {
-    parts = λ p. ab.parts p ∙ bc.parts p;
-    refused = λ e l. ab.refused e l ∙ bc.refused e l;
-  }
+  then_still a b c ab bc = search (rules, arith, nat_tests)
 
   back_still : (a b : Log) → Still a b → Still b a
   back_still a b ab = record { parts = λ p. sym (ab.parts p); refused = λ e l. sym (ab.refused e l) }
@@ -448,23 +394,16 @@ module _ (g : Setting) where
 
     idle_notes : (log : Log) → IsLegalLog g log → (x : Event) → Idle log x → unmet_rule g x (acting_part g log x) ≡ None
         → (e : ℕ) → e < graph_edges g → Notes log e (link_after x (sees g log x) e (out_in g log e))
-    idle_notes log legal (Clear i) idle none e l = at_edge (λ j (t : Tail). Notes log j t) i
-        (λ j. after_clear (sees g log (Clear i)) (out_in g log j).link) (λ j. (out_in g log j).link)
-        (refl, (λ room clear. eq-eqb _ 0 (look_finds g game some_ring log legal i room))) (λ j. (refl, (λ room clear. clear))) e
+    idle_notes log legal (Clear i) idle none e l =
+        let empty = look_finds g game some_ring log legal i in grind (arith, nat_tests)
     idle_notes log legal (Claim i) idle none e l =
         let may = rules_met g (Claim i) (acting_part g log (Claim i)) none in
         absurd (⊎_elim (λ counts. no_work log (Claim i) idle (none, counts))
         (λ refused. no_refusal log (Claim i) idle none refused)
         (claim_tells g game some_ring log legal i may.0 may.1 may.2).1)
-    idle_notes log legal (Put i) idle none e l = at_edge (λ j (t : Tail). Notes log j t) i
-        (λ j. after_put (out_in g log j).link) (λ j. (out_in g log j).link) (refl, (λ room clear. clear))
-        (λ j. (refl, (λ room clear. clear))) e
+    idle_notes log legal (Put i) idle none e l = grind (arith, nat_tests)
     idle_notes log legal (Feed i k) idle none e l =
-        let may = rules_met g (Feed i k) (acting_part g log (Feed i k)) none in
-        let past = may.0 in
-        subst (Notes log e) (sym (cond_no i e (after_claim k (sees g log (Feed i k)) (out_in g log e).link)
-        (out_in g log e).link (λ z. absurd (omega arith))))
-        (refl, (λ room clear. clear))
+        let past = (rules_met g (Feed i k) (acting_part g log (Feed i k)) none).0 in grind (arith, nat_tests)
     idle_notes log legal _ idle none e l = (refl, (λ room clear. clear))
 
     notes_after : (log : Log) → IsLegalLog g log → (x : Event) → Idle log x → (e : ℕ) → e < graph_edges g

@@ -1,45 +1,42 @@
 -- Serves Core.antt.
 -- What was given to each vertex: all that was sent on its root edge, at the opening and by feeding.
+use Rattle.std.proofs.lemmas.Bool.Decides.{nat_tests}
 use Rattle.std.proofs.Common.{◌≡◌, ◌≢◌, ℕ, ◌+◌, ◌-◌, ◌<◌, ◌≤◌, true, false, cond, eqb, List, [], ◌∷◌, ◌++◌, sum}
-use Rattle.std.proofs.Common.{slice_index, Option, Some, None, option_to_list, refl, sym, ap, ◌∙◌, arith, append-nil}
-use Rattle.std.proofs.Common.{append_assoc, true≢false}
+use Rattle.std.proofs.Common.{slice_index, Option, None, refl, sym, ap, ◌∙◌, arith, append-nil, append_assoc}
+use Rattle.std.proofs.Common.{true≢false}
 use Rattle.std.proofs.lemmas.List.{get_or_past, ext_get_or}
 use Rattle.std.proofs.lemmas.List.FromFn.{fill_by_all, get_or-map-range_with_len, length-map-range_with_len}
 use Rattle.std.proofs.lemmas.List.Sums.{sum_by-cons, sum_by-append}
 use mathlib.Core.Logic.{dite}
-use native.Mathlib.Decide.{ℕ_discrete, dec_lt}
+use native.Mathlib.Decide.{dec_lt}
 use Rattle.chip_graph.specs.ChipGame.{IsGame}
 use Rattle.chip_graph.specs.Limits.{max_total}
 use Rattle.chip_graph.specs.Sums.{sum_below}
 use Rattle.chip_graph.specs.More.{brought_to, all_brought, HasMore}
-use Rattle.chip_graph.proofs.SumLemmas.{cond_yes, cond_no, sum_below_ext, sum_by_place, sum_below_one, sum_below_add}
+use Rattle.chip_graph.proofs.SumLemmas.{cond_no, sum_below_ext, sum_by_place, sum_below_one, sum_below_add}
 use Rattle.chip_graph.proofs.SumLemmas.{sum_below_none}
 use Rattle.chip_link.specs.Words.{edge_word}
-use Rattle.chip_link.specs.Link.{Tail, sent_counts, claims_of, after_clear, after_claim, after_put, after_seal}
+use Rattle.chip_link.specs.Link.{Tail, sent_counts, claims_of, after_claim}
 use Rattle.chip_part.specs.Setting.{Setting}
 use Rattle.chip_part.specs.Edges.{start_of}
 use Rattle.chip_part.specs.Part.{Part, all_fed, AreGiven}
 use Rattle.chip_part.specs.Steps.{link_after, stop_after}
 use Rattle.chip_part.specs.Kept.{Met, opening_tail}
 use Rattle.chip_part.proofs.EdgeLemmas.{tail_root}
-use Rattle.chip_part.proofs.PartLemmas.{at_edge, at_other}
 use Rattle.chip_part.proofs.OpeningLemmas.{first_sent, first_fed}
 use Rattle.chip_core.specs.Core.{Log, Step, Event, Clear, Claim, Put, Seal, Feed, part_of, part_in, out_in, stop_in}
 use Rattle.chip_core.specs.Core.{sees, IsLegalLog, tail_of, root, root_edge, graph_edges}
 use Rattle.chip_core.specs.Positions.{chips_given, played_game, fed_of, fed_in}
 use Rattle.chip_core.specs.Histories.{done_by}
 use Rattle.chip_core.specs.Laws.{GivenByTheRecord}
-use Rattle.chip_core.proofs.LogLemmas.{link_step, stop_step, part_kept, out_kept, edge_sound}
-use Rattle.chip_core.proofs.LogLemmas.{met_here}
+use Rattle.chip_core.proofs.LogLemmas.{link_step, stop_step, part_kept, out_kept, edge_sound, met_here}
 
 module _ (g : Setting) where
   -- ---- no root edge is ever sealed
 
   stop_after_at : (x : Event) (seen e : ℕ) (log : Log) → Met g x (part_in g log (part_of g x)) → graph_edges g ≤ e
       → stop_in g log e ≡ None → stop_after x seen e (stop_in g log e) ≡ None
-  stop_after_at (Seal i) seen e log may past none =
-      cond_no i e (after_seal seen (stop_in g log e)) (stop_in g log e) (λ z. (let a : i ≡ e = z in
-      let inside : i < graph_edges g = may in absurd (omega arith))) ∙ none
+  stop_after_at (Seal i) seen e log may past none = let inside : i < graph_edges g = may in grind (arith, nat_tests)
   stop_after_at x seen e log may past none = none
 
   pub never_sealed : (log : Log) → IsLegalLog g log → (e : ℕ) → graph_edges g ≤ e → stop_in g log e ≡ None
@@ -70,10 +67,7 @@ module _ (g : Setting) where
     feed_sends log legal e k may =
         let t = (out_in g log e).link in
         let empty : t.held ≡ None = (edge_sound g game some_ring log legal e).quiet may.5 in
-        let all : sent_counts t ≡ t.put = ap (λ (h : Option ℕ). t.put ++ option_to_list h) empty ∙ append-nil t.put in
-        ap sent_counts (cond_yes (sees g log (Feed e k)) (claims_of t) (record t { held = Some k; clear = false })
-        (record t { clear = false; refused = true }) (feed_sees log legal e k may.0))
-        ∙ ap (λ (l : List ℕ). l ++ k ∷ []) (sym all)
+        let saw = feed_sees log legal e k may.0 in let put = append-nil t.put in grind (arith, nat_tests)
 
     -- ---- what was given grows by what is fed
 
@@ -83,24 +77,14 @@ module _ (g : Setting) where
     sends : (x : Event) (log : Log) → IsLegalLog g log → Met g x (part_in g log (part_of g x)) → (v : ℕ)
         → sent_counts (link_after x (sees g log x) (root_edge g v) (out_in g log (root_edge g v)))
         ≡ sent_counts (out_in g log (root_edge g v)).link ++ fed_to x v
-    sends (Feed i k) log legal may v = at_other
-        (λ j (t : Tail). sent_counts t ≡ sent_counts (out_in g log j).link ++ cond (eqb i j) (k ∷ []) []) i
-        (λ j. after_claim k (sees g log (Feed i k)) (out_in g log j).link) (λ j. (out_in g log j).link)
-        (feed_sends log legal i k may
-        ∙ ap (λ (l : List ℕ). sent_counts (out_in g log i).link ++ l) (sym (cond_yes i i (k ∷ []) [] refl)))
-        (λ j other. sym (ap (λ (l : List ℕ). sent_counts (out_in g log j).link ++ l) (cond_no i j (k ∷ []) [] other)
-        ∙ append-nil (sent_counts (out_in g log j).link))) (root_edge g v)
+    sends (Feed i k) log legal may v = let sent = feed_sends log legal i k may in
+        let same = append-nil (sent_counts (out_in g log (root_edge g v)).link) in grind (arith, nat_tests)
     sends (Claim i) log legal may v = let own = may.0 in
-        ap sent_counts (cond_no i (root_edge g v) (after_claim (out_in g log (root_edge g v)).pending (sees g log (Claim i))
-        (out_in g log (root_edge g v)).link) (out_in g log (root_edge g v)).link (λ z. absurd (omega arith)))
-        ∙ sym (append-nil (sent_counts (out_in g log (root_edge g v)).link))
-    sends (Clear i) log legal may v = at_edge (λ j (t : Tail). sent_counts t ≡ sent_counts (out_in g log j).link ++ []) i
-        (λ j. after_clear (sees g log (Clear i)) (out_in g log j).link) (λ j. (out_in g log j).link)
-        (sym (append-nil (sent_counts (out_in g log i).link))) (λ j. sym (append-nil (sent_counts (out_in g log j).link)))
-        (root_edge g v)
-    sends (Put i) log legal may v = at_edge (λ j (t : Tail). sent_counts t ≡ sent_counts (out_in g log j).link ++ []) i
-        (λ j. after_put (out_in g log j).link) (λ j. (out_in g log j).link) refl
-        (λ j. sym (append-nil (sent_counts (out_in g log j).link))) (root_edge g v)
+        let same = append-nil (sent_counts (out_in g log (root_edge g v)).link) in grind (arith, nat_tests)
+    sends (Clear i) log legal may v =
+        let same = append-nil (sent_counts (out_in g log (root_edge g v)).link) in grind (arith, nat_tests)
+    sends (Put i) log legal may v =
+        let same = append-nil (sent_counts (out_in g log (root_edge g v)).link) in grind (arith, nat_tests)
     sends _ log legal may v = sym (append-nil (sent_counts (out_in g log (root_edge g v)).link))
 
     -- a step sends on a root edge what it feeds there
@@ -113,12 +97,7 @@ module _ (g : Setting) where
 
     fed_sum : (x : Event) (s : Part) → Met g x s → (v : ℕ) → sum (fed_to x v) ≡ brought_to (fed_of g x) v
     fed_sum (Feed i k) s may v =
-        let past = may.0 in let one = brought_one (i - graph_edges g) v k in
-        dite (ℕ_discrete i (root_edge g v))
-        (λ same. let a = ap sum (cond_yes i (root_edge g v) (k ∷ []) [] same) in
-        let b = cond_yes (i - graph_edges g) v k 0 (omega arith) in omega arith)
-        (λ other. let a = ap sum (cond_no i (root_edge g v) (k ∷ []) [] other) in
-        let b = cond_no (i - graph_edges g) v k 0 (λ z. other (let y : i - graph_edges g ≡ v = z in omega arith)) in omega arith)
+        let past = may.0 in let one = brought_one (i - graph_edges g) v k in grind (arith, nat_tests)
     fed_sum _ s may v = refl
 
     pub started_step : (x : Step) (log : Log) → IsLegalLog g (x ∷ log) → (v : ℕ)
@@ -163,13 +142,9 @@ module _ (g : Setting) where
     -- a step adds what it feeds
     pub recorded_step : (x : Step) (log : Log) → IsLegalLog g (x ∷ log)
         → recorded (x ∷ log) ≡ recorded log ++ fed_of g x.event
-    recorded_step x log legal = dite (ℕ_discrete (part_of g x.event) (root g))
-        (λ same. ap (fed_in g) (cond_yes (part_of g x.event) (root g) (done_by g (root g) log ++ x ∷ [])
-        (done_by g (root g) log) same) ∙ fed_push (done_by g (root g) log) x)
-        (λ other. ap (fed_in g) (cond_no (part_of g x.event) (root g) (done_by g (root g) log ++ x ∷ [])
-        (done_by g (root g) log) other) ∙ sym (append-nil (recorded log))
-        ∙ ap (λ (l : List (ℕ × ℕ)). recorded log ++ l) (sym (fed_elsewhere x.event (part_in g log (part_of g x.event))
-        (met_here g x log legal) other)))
+    recorded_step x log legal = let push = fed_push (done_by g (root g) log) x in let same = append-nil (recorded log) in
+        let none = fed_elsewhere x.event (part_in g log (part_of g x.event)) (met_here g x log legal) in
+        grind (arith, nat_tests)
 
     -- what a vertex was given is its start and what the record fed it
     pub started_recorded : (log : Log) → IsLegalLog g log → (v : ℕ)
@@ -193,11 +168,9 @@ module _ (g : Setting) where
         let inside = may.1 in
         let v : ℕ = e - graph_edges g in
         let one = sum_below_one g.game.graph.vertices (brought_to ((v, k) ∷ [])) v (omega arith)
-        (λ u l ne. (let b = brought_one v u k in let d = cond_no v u k 0 (λ z. ne (sym z)) in omega arith)) in
+        (λ u l ne. (let b = brought_one v u k in grind (arith, nat_tests))) in
         let here = brought_one v v k in
-        let yes = cond_yes v v k 0 refl in
-        let all = sum_by-cons (λ (p : ℕ × ℕ). p.1) (v, k) [] in
-        omega arith
+        let all = sum_by-cons (λ (p : ℕ × ℕ). p.1) (v, k) [] in grind (arith, nat_tests)
     fed_once x s may = nothing_fed
 
     total_recorded : (log : Log) → IsLegalLog g log

@@ -1,7 +1,8 @@
 -- Serves Work.antt, Core.antt.
 -- A step that doesn't count leaves all parts but for their notes, the seals and the end.
-use Rattle.std.proofs.Common.{◌≡◌, ◌≢◌, ℕ, ◌+◌, ◌-◌, ◌≤◌, Bool, true, false, cond, eqb, ltb, [], ◌∷◌, ◌++◌, Option}
-use Rattle.std.proofs.Common.{Some, None, refl, sym, ap, ◌∙◌, subst, arith, true≢false}
+use Rattle.std.proofs.lemmas.Bool.Decides.{nat_tests}
+use Rattle.std.proofs.Common.{◌≡◌, ◌≢◌, ℕ, ◌+◌, ◌-◌, ◌≤◌, Bool, true, false, cond, eqb, ltb, [], ◌∷◌, ◌++◌, None, refl}
+use Rattle.std.proofs.Common.{sym, ap, ◌∙◌, arith, true≢false}
 use mathlib.Core.Logic.{dite}
 use native.Mathlib.Decide.{ℕ_discrete}
 use Rattle.chip_graph.proofs.SumLemmas.{cond_yes, cond_no}
@@ -106,8 +107,7 @@ module _ (g : Setting) where
       (λ p. refl)
 
   pub one_more : (b : Bool) (n m : ℕ) → cond b 1 0 + n ≡ m → m ≤ n → b ≡ false
-  one_more true n m is le = absurd (omega arith)
-  one_more false n m is le = refl
+  one_more b n m is le = grind (arith, nat_tests)
 
   pub work_grows : (xs log : Log) → work_in g log ≤ work_in g (xs ++ log)
   work_grows [] log = omega arith

@@ -1,8 +1,9 @@
 -- Serves Core.antt.
 -- The parts and the edges in a legal log: what every one of them keeps, whatever was done.
+use Rattle.std.proofs.lemmas.Bool.Decides.{nat_tests}
 use Rattle.std.proofs.Common.{◌≡◌, ◌≢◌, ◌⊎◌, ℕ, ◌+◌, ◌-◌, ◌<◌, ◌≤◌, Bool, true, false, cond, eqb, List, [], ◌∷◌, ◌++◌}
-use Rattle.std.proofs.Common.{length, append_assoc, Option, None, refl, sym, ap, ◌∙◌, subst}
-use Rattle.std.proofs.Common.{arith, inl, inr, ⊎_elim, pos_of_ne-zero}
+use Rattle.std.proofs.Common.{length, append_assoc, Option, None, refl, sym, ap, ◌∙◌, subst, arith, inl, inr, ⊎_elim}
+use Rattle.std.proofs.Common.{pos_of_ne-zero, ltb}
 use mathlib.Core.Logic.{dite}
 use native.Mathlib.Decide.{ℕ_discrete, dec_lt}
 use Rattle.chip_graph.specs.ChipGame.{IsGame}
@@ -12,7 +13,7 @@ use Rattle.chip_link.specs.Link.{Tail, claims_of, after_clear, after_claim, afte
 use Rattle.chip_link.proofs.SoundsLemmas.{clear_sound, claim_sound, put_sound, take_sound, seal_sound, fresh_sound}
 use Rattle.chip_link.proofs.SoundsLemmas.{first_sound}
 use Rattle.chip_part.specs.Edges.{start_of}
-use Rattle.chip_part.specs.Part.{first_put, may_ack}
+use Rattle.chip_part.specs.Part.{first_put}
 use Rattle.chip_part.specs.Steps.{link_after, settled_after, got_after, acked_after, stop_after}
 use Rattle.chip_part.specs.Kept.{Met, KeepsOut, KeepsPart}
 use Rattle.chip_part.proofs.EdgeLemmas.{tail_graph, tail_root, head_graph, head_root}
@@ -22,10 +23,9 @@ use Rattle.chip_part.proofs.PartLemmas as part_lemmas
 use Rattle.chip_part.proofs.OpeningLemmas.{opening_keeps}
 use Rattle.chip_core.specs.Core.{Log, Step, Event, Take, Ack, Clear, Claim, Put, Settle, Seal, Feed, End, Part, Out}
 use Rattle.chip_core.specs.Core.{Into, part_of, does, part_in, out_in, into_in, stop_in, sees, IsLegalLog, tail_of}
-use Rattle.chip_core.specs.Core.{head_of, root, root_edge, stopper, all_edges, graph_edges}
+use Rattle.chip_core.specs.Core.{head_of, root, stopper, all_edges, graph_edges}
 use Rattle.chip_part.proofs.TurnLemmas.{at_most_one}
 use Rattle.std.proofs.lemmas.Bool.{eqb-false}
-use Rattle.std.proofs.Common.{ltb}
 
 pub in_pieces : (front round back xs before : Log) → xs ≡ back ++ (round ++ front)
     → xs ++ before ≡ back ++ (round ++ (front ++ before))
@@ -52,26 +52,24 @@ module _ (g : Setting) where
   -- ---- an edge after one more event, as if its tail, its head and the stopper had made it
 
   link_idle : (x : Event) (seen e : ℕ) (o : Out) → part_of g x ≢ tail_of g e → link_after x seen e o ≡ o.link
-  link_idle (Clear i) seen e o ne = cond_no i e (after_clear seen o.link) o.link (λ z. ne (ap (tail_of g) z))
-  link_idle (Claim i) seen e o ne = cond_no i e (after_claim o.pending seen o.link) o.link (λ z. ne (ap (tail_of g) z))
-  link_idle (Put i) seen e o ne = cond_no i e (after_put o.link) o.link (λ z. ne (ap (tail_of g) z))
-  link_idle (Feed i k) seen e o ne = cond_no i e (after_claim k seen o.link) o.link (λ z. ne (ap (tail_of g) z))
+  link_idle (Clear i) seen e o ne = grind (arith, nat_tests)
+  link_idle (Claim i) seen e o ne = grind (arith, nat_tests)
+  link_idle (Put i) seen e o ne = grind (arith, nat_tests)
+  link_idle (Feed i k) seen e o ne = grind (arith, nat_tests)
   link_idle _ seen e o ne = refl
 
   settled_idle : (x : Event) (seen e : ℕ) (o : Out) → part_of g x ≢ tail_of g e
       → settled_after g x seen e o ≡ o.settled
-  settled_idle (Settle i) seen e o ne = cond_no i e (o.settled + (seen - o.settled)) o.settled
-      (λ z. ne (ap (tail_of g) z))
-  settled_idle End seen e o ne = cond_no (root_edge g 0) e (o.settled + (seen - o.settled)) o.settled
-      (λ z. ne (sym (tail_root g e (let a : root_edge g 0 ≡ e = z in omega arith))))
+  settled_idle (Settle i) seen e o ne = grind (arith, nat_tests)
+  settled_idle End seen e o ne = let at = tail_root g e in grind (arith, nat_tests)
   settled_idle _ seen e o ne = refl
 
   got_idle : (x : Event) (seen e : ℕ) (i : Into) → part_of g x ≢ head_of g e → got_after x seen e i ≡ i.got
-  got_idle (Take j) seen e i ne = cond_no j e (after_take seen i.got) i.got (λ z. ne (ap (head_of g) z))
+  got_idle (Take j) seen e i ne = grind (arith, nat_tests)
   got_idle _ seen e i ne = refl
 
   acked_idle : (x : Event) (s : Part) (e : ℕ) (i : Into) → part_of g x ≢ head_of g e → acked_after g x s e i ≡ i.acked
-  acked_idle (Ack j) s e i ne = cond_no j e (i.acked + may_ack g (head_of g j) s j) i.acked (λ z. ne (ap (head_of g) z))
+  acked_idle (Ack j) s e i ne = grind (arith, nat_tests)
   acked_idle _ s e i ne = refl
 
   stop_idle : (x : Event) (seen e : ℕ) (stop : Option ℕ) → part_of g x ≢ stopper g → stop_after x seen e stop ≡ stop
@@ -123,17 +121,13 @@ module _ (g : Setting) where
       (part_lemmas.stays_ended g x.event (part_in g log (part_of g x.event)).ended) (λ p on. on) (root g)
 
   -- what is acknowledged and settled is never taken back
-  no_less : (b : Bool) (n k : ℕ) → n ≤ cond b (n + k) n
-  no_less true n k = omega arith
-  no_less false n k = omega arith
-
   pub acked_grows : (x : Event) (s : Part) (e : ℕ) (i : Into) → i.acked ≤ acked_after g x s e i
-  acked_grows (Ack j) s e i = no_less (eqb j e) i.acked (may_ack g (head_of g j) s j)
+  acked_grows (Ack j) s e i = grind (arith, nat_tests)
   acked_grows _ s e i = omega arith
 
   pub settled_grows : (x : Event) (seen e : ℕ) (o : Out) → o.settled ≤ settled_after g x seen e o
-  settled_grows (Settle j) seen e o = no_less (eqb j e) o.settled (seen - o.settled)
-  settled_grows End seen e o = no_less (eqb (root_edge g 0) e) o.settled (seen - o.settled)
+  settled_grows (Settle j) seen e o = grind (arith, nat_tests)
+  settled_grows End seen e o = grind (arith, nat_tests)
   settled_grows _ seen e o = omega arith
 
   -- ---- whose an edge is
@@ -240,16 +234,10 @@ module _ (g : Setting) where
         → ((e : ℕ) → (out_in g log e).settled ≤ (into_in g log e).acked)
         → (e : ℕ) → settled_after g x seen e (out_in g log e)
         ≤ acked_after g x (part_in g log (head_of g e)) e (into_in g log e)
-    settle_step log (Settle e) seen is ok = at_edge (λ i (n : ℕ). n ≤ (into_in g log i).acked) e
-        (λ i. (out_in g log i).settled + (seen - (out_in g log i).settled)) (λ i. (out_in g log i).settled) (let a = ok e
-        in omega arith) ok
-    settle_step log (Ack e) seen is ok = at_edge (λ i (n : ℕ). (out_in g log i).settled ≤ n) e
-        (λ i. (into_in g log i).acked + may_ack g (head_of g e) (part_in g log (head_of g i)) e)
-        (λ i. (into_in g log i).acked) (let a = ok e in omega arith) ok
-    settle_step log End seen is ok = at_edge (λ i (n : ℕ). n ≤ (into_in g log i).acked) (root_edge g 0)
-        (λ i. (out_in g log i).settled + (seen - (out_in g log i).settled)) (λ i. (out_in g log i).settled)
-        (let a = ok (root_edge g 0) in omega arith) ok
-    settle_step log _ seen is ok = ok
+    settle_step log (Settle i) seen is ok e = let a = ok e in grind (arith, nat_tests)
+    settle_step log (Ack i) seen is ok e = let a = ok e in grind (arith, nat_tests)
+    settle_step log End seen is ok e = let a = ok e in grind (arith, nat_tests)
+    settle_step log _ seen is ok e = ok e
 
     -- what the tail settled, the head acknowledged
     pub settled_behind : (log : Log) → IsLegalLog g log → (e : ℕ) → (out_in g log e).settled ≤ (into_in g log e).acked

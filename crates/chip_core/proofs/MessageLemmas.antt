@@ -1,32 +1,29 @@
 -- Serves Core.antt, Messages.antt.
 -- The messages that are read off the replies are those of the parts; nothing is sent on a sealed edge.
+use Rattle.std.proofs.lemmas.Bool.Decides.{nat_tests}
 use Rattle.std.proofs.Common.{◌≡◌, ℕ, ◌+◌, ◌*◌, ◌<◌, ◌≤◌, ◌||◌, Bool, true, false, cond, eqb, List, [], ◌∷◌, ◌++◌}
-use Rattle.std.proofs.Common.{length, sum, take, drop, option_to_list, Option, Some, None, is_some, refl, sym, ap, ◌∙◌}
-use Rattle.std.proofs.Common.{subst, arith, true≢false, append_assoc, append-nil, length-append}
+use Rattle.std.proofs.Common.{length, sum, take, drop, option_to_list, Option, Some, None, refl, sym, ap, ◌∙◌, subst}
+use Rattle.std.proofs.Common.{arith, true≢false, append_assoc, append-nil, length-append}
 use Rattle.std.proofs.lemmas.Bool.{or_right, cond-true, cond-false}
 use Rattle.std.proofs.lemmas.List.{take-append-le, take-append-drop, drop_at, append_cancel_left, nil_from_length}
 use Rattle.std.proofs.lemmas.List.Sums.{sum_by-cons, sum_by-append}
 use Rattle.std.specs.List.{slice_get}
-use mathlib.Core.Logic.{dite}
-use native.Mathlib.Decide.{ℕ_discrete}
 use Rattle.chip_graph.specs.ChipGame.{IsGame}
 use Rattle.chip_part.specs.Setting.{Setting}
-use Rattle.chip_graph.proofs.SumLemmas.{cond_yes, cond_no, by_test}
-use Rattle.chip_link.specs.Words.{edge_word}
-use Rattle.chip_link.specs.Link.{Tail, sent_counts, claims_of, after_clear, after_claim, after_put, after_take}
+use Rattle.chip_graph.proofs.SumLemmas.{by_test}
+use Rattle.chip_link.specs.Link.{Tail, sent_counts, claims_of, after_claim}
 use Rattle.chip_link.specs.Laws.{IsPrefix}
 use Rattle.chip_link.proofs.NumberingLemmas.{numbered, numbered-append, length-numbered, numbered_at}
 use Rattle.chip_link.proofs.SoundsLemmas.{length-sent_counts}
-use Rattle.chip_part.specs.declared.reply.Reply.TheVariants.{Got, Sent, Empty, Sealed, NotNow}
+use Rattle.chip_part.specs.declared.reply.Reply.TheVariants.{NotNow}
 use Rattle.chip_part.specs.Edges.{mult_of, start_of, root_edge}
 use Rattle.chip_part.specs.Part.{first_put}
 use Rattle.chip_part.specs.Steps.{message_of, link_after, got_after, saw}
 use Rattle.chip_part.proofs.RuleLemmas.{rules_met}
-use Rattle.chip_part.proofs.PartLemmas.{at_edge, at_other}
 use Rattle.chip_part.proofs.OpeningLemmas.{first_few, first_sent}
-use Rattle.chip_core.specs.Core.{Log, Event, Take, Clear, Claim, Put, Seal, Feed, Rule, Reply, unmet_rule, part_of}
-use Rattle.chip_core.specs.Core.{reply_of, part_in, out_in, into_in, stop_in, fired_by, sees, IsLegalLog, answer, step}
-use Rattle.chip_core.specs.Core.{log_after, replies_to, tail_of, graph_edges}
+use Rattle.chip_core.specs.Core.{Log, Event, Take, Clear, Claim, Put, Seal, Feed, Rule, unmet_rule, part_of, reply_of}
+use Rattle.chip_core.specs.Core.{part_in, out_in, into_in, fired_by, sees, IsLegalLog, answer, step, log_after}
+use Rattle.chip_core.specs.Core.{replies_to, tail_of, graph_edges}
 use Rattle.chip_core.specs.Messages.{Message, sent_by, delivered_by, is_seal_of, sent_in, sent_after_seal, is_seal}
 use Rattle.chip_core.specs.Messages.{was_sealed, messages_from, counts_in_flight, in_flight, sent_on, delivered_on}
 use Rattle.chip_core.specs.Messages.{AreInOrderFrom, chips_in}
@@ -84,43 +81,14 @@ not_seal : (e : ℕ) (x : Event) (r : Rule) → is_seal_of e x (NotNow r) ≡ fa
 not_seal e (Seal i) r = refl
 not_seal e _ r = refl
 
--- what is told of an edge by a reply to a claim or a feed, or to a take
-told_so : (tell : Reply → List Message) (here b : Bool) (m : Message) → tell (Sent m) ≡ cond here (m ∷ []) []
-    → tell Sealed ≡ [] → tell (cond b (Sent m) Sealed) ≡ cond here (cond b (m ∷ []) []) []
-told_so tell here true m sent sealed = sent
-told_so tell true false m sent sealed = sealed
-told_so tell false false m sent sealed = sealed
-
-got_so : (e i : ℕ) (here b : Bool) (m : Message) → eqb i e ≡ here
-    → delivered_by e (Take i) (cond b Empty (Got m)) ≡ cond here (cond b [] (m ∷ [])) []
-got_so e i true true m is = refl
-got_so e i false true m is = refl
-got_so e i here false m is = ap (λ (b : Bool). cond b (m ∷ []) []) is
-
 module _ (g : Setting) where
   -- ---- seals
-
-  -- a claim or a feed of a sealed edge isn't answered by a message, whatever is told of one
-  refused : (log : Log) (e : ℕ) → was_sealed log e ≡ true → (i count : ℕ) (told : Reply → List Message)
-      → (let m : Message = message_of i (claims_of (out_in g log i).link) count in
-      told (Sent m) ≡ cond (eqb i e) (m ∷ []) []) → told Sealed ≡ []
-      → told (cond (eqb (edge_word (claims_of (out_in g log i).link) (is_some (stop_in g log i)))
-      (claims_of (out_in g log i).link)) (Sent (message_of i (claims_of (out_in g log i).link) count)) Sealed) ≡ []
-  refused log e was i count told sent sealed =
-      let n : ℕ = claims_of (out_in g log i).link in
-      let seen : ℕ = edge_word n (is_some (stop_in g log i)) in
-      let m : Message = message_of i n count in
-      told_so told (eqb i e) (eqb seen n) m sent sealed ∙ dite (ℕ_discrete i e)
-      (λ same.
-      let more = ap (edge_word n) (sym (seals_stand g log i) ∙ ap (was_sealed log) same ∙ was) in
-      cond_yes i e (cond (eqb seen n) (m ∷ []) []) [] same ∙ cond_no seen n (m ∷ []) [] (λ z. absurd (omega arith)))
-      (λ other. cond_no i e (cond (eqb seen n) (m ∷ []) []) [] other)
 
   no_send : (log : Log) (e : ℕ) → was_sealed log e ≡ true → (x : Event) (o : Option Rule)
       → sent_by e x (answer g log x o).1 ≡ []
   no_send log e was x (Some r) = not_sent e x r
-  no_send log e was (Claim i) None = refused log e was i (out_in g log i).pending (sent_by e (Claim i)) refl refl
-  no_send log e was (Feed i k) None = refused log e was i k (sent_by e (Feed i k)) refl refl
+  no_send log e was (Claim i) None = let stand = seals_stand g log i in grind (arith, nat_tests)
+  no_send log e was (Feed i k) None = let stand = seals_stand g log i in grind (arith, nat_tests)
   no_send log e was _ _ = refl
 
   stays_sealed : (log : Log) (e : ℕ) → was_sealed log e ≡ true → (x : Event) (o : Option Rule)
@@ -163,24 +131,8 @@ module _ (g : Setting) where
 
   got_event : (x : Event) (log : Log) (e : ℕ) → messages_from e 0 (got_after x (sees g log x) e (into_in g log e))
       ≡ got_at log e ++ delivered_by e x (reply_of g x (sees g log x) (part_in g log (part_of g x)))
-  got_event (Take i) log e = at_other (λ j (l : List ℕ). messages_from j 0 l ≡ got_at log j
-      ++ cond (eqb i j) (cond (eqb seen 0) [] (m ∷ [])) []) i (λ j. after_take seen (into_in g log j).got)
-      (λ j. (into_in g log j).got) (taken (eqb seen 0)
-      ∙ sym (ap (λ (l : List Message). got_at log i ++ l) (cond_yes i i (cond (eqb seen 0) [] (m ∷ [])) [] refl)))
-      (λ j other. sym (ap (λ (l : List Message). got_at log j ++ l) (cond_no i j (cond (eqb seen 0) [] (m ∷ [])) [] other)
-      ∙ append-nil (got_at log j))) e
-      ∙ sym (ap (λ (l : List Message). got_at log e ++ l) (got_so e i (eqb i e) (eqb seen 0) m refl))
-    where
-      seen : ℕ
-      seen = sees g log (Take i)
-
-      m : Message
-      m = message_of i (length (into_in g log i).got) seen
-
-      taken : (b : Bool) → messages_from i 0 (cond b (into_in g log i).got ((into_in g log i).got ++ seen ∷ []))
-          ≡ got_at log i ++ cond b [] (m ∷ [])
-      taken true = sym (append-nil (got_at log i))
-      taken false = push i (into_in g log i).got (length (into_in g log i).got) seen refl
+  got_event (Take i) log e = let got = (into_in g log e).got in let none = append-nil (got_at log e) in
+      let more = push e got (length got) (sees g log (Take i)) refl in grind (arith, nat_tests)
   got_event _ log e = sym (append-nil (got_at log e))
 
   got_answer : (log : Log) (x : Event) (o : Option Rule) (e : ℕ)
@@ -207,63 +159,30 @@ module _ (g : Setting) where
     abbrev sent_at : Log → ℕ → List Message
     sent_at log e = messages_from e 0 (sent_counts (out_in g log e).link)
 
-    -- a claim of b, and what it sends
-    claim_counts : (b : Bool) (count : ℕ) (t : Tail) → t.held ≡ None
-        → sent_counts (cond b (record t { held = Some count; clear = false }) (record t { clear = false; refused = true }))
-        ≡ sent_counts t ++ cond b (count ∷ []) []
-    claim_counts true count t none = sym (ap (λ (l : List ℕ). l ++ count ∷ [])
-        (ap (λ (h : Option ℕ). t.put ++ option_to_list h) none ∙ append-nil t.put))
-    claim_counts false count t none = sym (append-nil (sent_counts t))
-
-    -- a claim or a feed of the edge i with these counts
-    claim_sent : (log : Log) (i : ℕ) (count : ℕ → ℕ) (seen : ℕ) → (out_in g log i).link.held ≡ None → (e : ℕ)
-        → messages_from e 0 (sent_counts (cond (eqb i e) (after_claim (count e) seen (out_in g log e).link) (out_in g log e).link))
+    -- a claim or a feed of the edge i with this count
+    claim_sent : (log : Log) (i count seen : ℕ) → (out_in g log i).link.held ≡ None → (e : ℕ)
+        → messages_from e 0 (sent_counts (cond (eqb i e) (after_claim count seen (out_in g log e).link) (out_in g log e).link))
         ≡ sent_at log e ++ cond (eqb i e) (cond (eqb seen (claims_of (out_in g log i).link))
-        (message_of i (claims_of (out_in g log i).link) (count i) ∷ []) []) []
-    claim_sent log i count seen none = at_other (λ j (u : Tail). messages_from j 0 (sent_counts u) ≡ sent_at log j
-        ++ cond (eqb i j) (cond (eqb seen (claims_of t)) (m ∷ []) []) []) i
-        (λ j. after_claim (count j) seen (out_in g log j).link) (λ j. (out_in g log j).link)
-        (ap (messages_from i 0) (claim_counts (eqb seen (claims_of t)) (count i) t none) ∙ pushed (eqb seen (claims_of t))
-        ∙ sym (ap (λ (l : List Message). sent_at log i ++ l) (cond_yes i i _ [] refl)))
-        (λ j other. sym (ap (λ (l : List Message). sent_at log j ++ l) (cond_no i j _ [] other) ∙ append-nil (sent_at log j)))
-      where
-        t : Tail
-        t = (out_in g log i).link
-
-        m : Message
-        m = message_of i (claims_of t) (count i)
-
-        pushed : (b : Bool) → messages_from i 0 (sent_counts t ++ cond b (count i ∷ []) []) ≡ sent_at log i ++ cond b (m ∷ []) []
-        pushed true = push i (sent_counts t) (claims_of t) (count i) (sym (length-sent_counts t))
-        pushed false = ap (messages_from i 0) (append-nil (sent_counts t)) ∙ sym (append-nil (sent_at log i))
+        (message_of i (claims_of (out_in g log i).link) count ∷ []) []) []
+    claim_sent log i count seen none e =
+        let t = (out_in g log e).link in let more = push e (sent_counts t) (claims_of t) count (sym (length-sent_counts t)) in
+        let put = append-nil t.put in let same = append-nil (sent_at log e) in grind (arith, nat_tests)
 
     sent_event : (x : Event) (log : Log) (e : ℕ) → IsLegalLog g log
         → unmet_rule g x (part_in g log (part_of g x)) ≡ None
         → messages_from e 0 (sent_counts (link_after x (sees g log x) e (out_in g log e))) ≡ sent_at log e
         ++ sent_by e x (reply_of g x (sees g log x) (part_in g log (part_of g x)))
-    sent_event (Clear i) log e legal met = ap (messages_from e 0)
-        (at_edge (λ j (t : Tail). sent_counts t ≡ sent_counts (out_in g log j).link) i
-        (λ j. after_clear (sees g log (Clear i)) (out_in g log j).link) (λ j. (out_in g log j).link) refl (λ j. refl) e)
-        ∙ sym (append-nil (sent_at log e))
-    sent_event (Put i) log e legal met = ap (messages_from e 0)
-        (at_edge (λ j (t : Tail). sent_counts t ≡ sent_counts (out_in g log j).link) i
-        (λ j. after_put (out_in g log j).link)
-        (λ j. (out_in g log j).link) (append-nil (sent_counts (out_in g log i).link)) (λ j. refl) e)
-        ∙ sym (append-nil (sent_at log e))
+    sent_event (Clear i) log e legal met = let same = append-nil (sent_at log e) in grind (arith, nat_tests)
+    sent_event (Put i) log e legal met = let same = append-nil (sent_at log e) in
+        let put = append-nil (sent_counts (out_in g log e).link) in grind (arith, nat_tests)
     sent_event (Claim i) log e legal met =
-        let seen : ℕ = sees g log (Claim i) in
-        let t : Tail = (out_in g log i).link in
-        claim_sent log i (λ j. (out_in g log j).pending) seen ((edge_sound g game some_ring log legal i).quiet
-        (rules_met g (Claim i) (part_in g log (tail_of g i)) met).2) e
-        ∙ sym (ap (λ (l : List Message). sent_at log e ++ l)
-        (told_so (sent_by e (Claim i)) (eqb i e) (eqb seen (claims_of t)) _ refl refl))
+        let none = (edge_sound g game some_ring log legal i).quiet
+        (rules_met g (Claim i) (part_in g log (tail_of g i)) met).2 in
+        let sent = claim_sent log i (out_in g log i).pending (sees g log (Claim i)) none e in grind (arith, nat_tests)
     sent_event (Feed i k) log e legal met =
-        let seen : ℕ = sees g log (Feed i k) in
-        let t : Tail = (out_in g log i).link in
-        claim_sent log i (λ j. k) seen ((edge_sound g game some_ring log legal i).quiet
-        (rules_met g (Feed i k) (part_in g log (tail_of g i)) met).5) e
-        ∙ sym (ap (λ (l : List Message). sent_at log e ++ l)
-        (told_so (sent_by e (Feed i k)) (eqb i e) (eqb seen (claims_of t)) _ refl refl))
+        let none = (edge_sound g game some_ring log legal i).quiet
+        (rules_met g (Feed i k) (part_in g log (tail_of g i)) met).5 in
+        let sent = claim_sent log i k (sees g log (Feed i k)) none e in grind (arith, nat_tests)
     sent_event _ log e legal met = sym (append-nil (sent_at log e))
 
     sent_answer : (log : Log) (x : Event) (o : Option Rule) (e : ℕ) → unmet_rule g x (part_in g log (part_of g x)) ≡ o

@@ -1,19 +1,20 @@
 -- Serves Core.antt, Laws.antt.
 -- The numbers of a legal log, the cells and words that its events see, and that these keep within the limits.
-use Rattle.std.proofs.Common.{◌≡◌, ◌≢◌, ◌↔◌, ℕ, suc, ◌+◌, ◌-◌, ◌^◌, ◌<◌, ◌≤◌, ◌||◌, Bool, true, false, cond, eqb, List}
-use Rattle.std.proofs.Common.{[], ◌∷◌, length, sum, drop, get_or, Option, Some, None, option_to_list, is_some, refl}
-use Rattle.std.proofs.Common.{sym, ap, ◌∙◌, subst, arith, eq-eqb, leb-true, true≢false}
+use Rattle.std.proofs.lemmas.Bool.Decides.{nat_tests}
+use Rattle.std.proofs.Common.{◌≡◌, ◌≢◌, ◌↔◌, ℕ, suc, ◌+◌, ◌-◌, ◌^◌, ◌<◌, ◌≤◌, ◌||◌, Bool, true, false, eqb, List, []}
+use Rattle.std.proofs.Common.{◌∷◌, length, sum, drop, get_or, Option, Some, None, option_to_list, is_some, refl, sym}
+use Rattle.std.proofs.Common.{ap, ◌∙◌, subst, arith, eq-eqb, leb-true, true≢false}
 use Rattle.std.proofs.lemmas.List.{get_or_past, get_or_append_left, get_or-drop, length-drop}
 use Rattle.std.proofs.lemmas.List.Sums.{sum_by-cons, sum_by-append, get_or-le-sum_by}
 use mathlib.Core.Logic.{dite}
-use native.Mathlib.Decide.{ℕ_discrete, dec_lt}
+use native.Mathlib.Decide.{dec_lt}
 use Rattle.chip_graph.specs.Limits.{max_total}
 use Rattle.chip_graph.specs.ChipGame.{IsGame}
 use Rattle.chip_part.specs.Setting.{Setting}
-use Rattle.chip_graph.proofs.SumLemmas.{cond_yes, cond_no, sum_below_term, tested_term}
+use Rattle.chip_graph.proofs.SumLemmas.{sum_below_term, tested_term}
 use Rattle.chip_link.specs.Words.{edge_word}
 use Rattle.chip_link.specs.WordLaws.{ReadsAs, ReadsAsFired}
-use Rattle.chip_link.specs.Link.{claims_of, sent_counts, after_seal, IsSealedAt}
+use Rattle.chip_link.specs.Link.{claims_of, sent_counts, IsSealedAt}
 use Rattle.chip_link.proofs.SoundsLemmas.{none_held, length-sent_counts}
 use Rattle.chip_link.proofs.WordLawsLemmas.{edge_word_reads, fired_word_reads}
 use Rattle.chip_sequence.specs.Sequence.{position_after}
@@ -50,12 +51,7 @@ module _ (g : Setting) where
 
   seal_step : (x : Event) (seen e : ℕ) (stop : Option ℕ)
       → is_some (stop_after x seen e stop) ≡ (is_seal e x || is_some stop)
-  seal_step (Seal i) seen e stop = both (eqb i e) stop
-    where
-      both : (b : Bool) (stop : Option ℕ) → is_some (cond b (after_seal seen stop) stop) ≡ (b || is_some stop)
-      both true None = refl
-      both true (Some first) = refl
-      both false stop = refl
+  seal_step (Seal i) seen e stop = grind (arith, nat_tests)
   seal_step (Take i) seen e stop = refl
   seal_step _ seen e stop = refl
 
@@ -177,13 +173,8 @@ module _ (g : Setting) where
         let t = (out_in g log e).link in
         let got = (into_in g log e).got in
         let all_put = none_held t empty in (
-          (λ some. dite (ℕ_discrete (claims_of t) (length got + g.ring)) (λ z. z)
-              (λ n. absurd (some (cond_no (claims_of t) (length got + g.ring) (get_or t.put (length got) 0) 0 n)))),
-          (λ full z.
-              let a = s.counted (length got) (omega arith) in
-              let b : get_or t.put (length got) 0
-              ≡ 0 = sym (cond_yes (claims_of t) (length got + g.ring) (get_or t.put (length got) 0) 0 full) ∙ z in
-              absurd (omega arith)),
+          (λ some. grind (arith, nat_tests)),
+          (λ full z. let a = s.counted (length got) (omega arith) in grind (arith, nat_tests)),
         )
 
     pub cells : (e : ℕ) → CellsOf g log e

@@ -1,6 +1,6 @@
 -- Serves Core.antt.
 -- A detection order exists in every legal log, and what it says where the root is closed.
-use Rattle.std.proofs.Common.{◌≡◌, ◌≢◌, ◌⊎◌, ℕ, ◌-◌, ◌<◌, ◌&&◌, cond, eqb, List, [], ◌∷◌, length, get_or}
+use Rattle.std.proofs.Common.{eqb-true, ◌≡◌, ◌≢◌, ◌⊎◌, ℕ, ◌-◌, ◌<◌, ◌&&◌, cond, eqb, List, [], ◌∷◌, length, get_or}
 use Rattle.std.proofs.Common.{Option, Some, None, Contains, refl, sym, ap, ◌∙◌, subst, arith, inl, inr, ⊎_elim}
 use Rattle.std.proofs.lemmas.List.{get_or_past}
 use mathlib.Core.Logic.{dite}
@@ -32,23 +32,18 @@ without h (v ∷ vs) = cond (eqb v h) (without h vs) (v ∷ without h vs)
 contains_without : (u h : ℕ) (vs : List ℕ) → Contains (without h vs) u → Contains vs u
 unfolding without
 contains_without u h [] m = m
-contains_without u h (v ∷ vs) m = dite (ℕ_discrete v h)
-    (λ e. contains_later v vs u
-    (contains_without u h vs (subst
-    (λ (l : List ℕ). Contains l u) (cond_yes v h (without h vs) (v ∷ without h vs) e) m)))
-    (λ ne. ⊎_elim (λ z. subst (Contains (v ∷ vs)) (sym z) (contains_first v vs))
-    (λ z. contains_later v vs u (contains_without u h vs z))
-    (contains_cases v (without h vs) u
-    (subst (λ (l : List ℕ). Contains l u) (cond_no v h (without h vs) (v ∷ without h vs) ne) m)))
+contains_without u h (v ∷ vs) m = by_test (eqb v h)
+    (λ on. contains_later v vs u (contains_without u h vs (rw on at m)))
+    (λ off. ⊎_elim (λ z. (0, omega arith, sym z)) (λ z. contains_later v vs u (contains_without u h vs z))
+    (contains_cases v (without h vs) u (rw off at m)))
 
 without_contains : (u h : ℕ) (vs : List ℕ) → u ≢ h → Contains vs u → Contains (without h vs) u
 unfolding without
 without_contains u h [] ne m = m
-without_contains u h (v ∷ vs) ne m = dite (ℕ_discrete v h)
-    (λ e. subst (λ (l : List ℕ). Contains l u) (sym (cond_yes v h (without h vs) (v ∷ without h vs) e))
-    (⊎_elim (λ z. absurd (ne (z ∙ e))) (λ z. without_contains u h vs ne z) (contains_cases v vs u m)))
-    (λ n. subst (λ (l : List ℕ). Contains l u) (sym (cond_no v h (without h vs) (v ∷ without h vs) n))
-    (⊎_elim (λ z. subst (Contains (v ∷ without h vs)) (sym z) (contains_first v (without h vs)))
+without_contains u h (v ∷ vs) ne m = by_test (eqb v h)
+    (λ on. rw on (⊎_elim (λ z. absurd (ne (z ∙ eqb-true v h on))) (λ z. without_contains u h vs ne z)
+    (contains_cases v vs u m)))
+    (λ off. rw off (⊎_elim (λ z. (0, omega arith, sym z))
     (λ z. contains_later v (without h vs) u (without_contains u h vs ne z)) (contains_cases v vs u m)))
 
 -- ---- parents

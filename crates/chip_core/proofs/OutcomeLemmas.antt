@@ -1,8 +1,9 @@
 -- Serves Core.antt, Outcomes.antt, Positions.antt.
 -- What the outcome of a closed log tells: a report takes it, a firing sequence leads to it, and where no seal halted a
 -- vertex every player comes to it.
+use Rattle.std.proofs.lemmas.Bool.Decides.{nat_tests}
 use Rattle.std.proofs.Common.{◌≡◌, ℕ, ◌^◌, ◌<◌, ◌≤◌, true, false, not, ◌&&◌, eqb, leb, List, All, Contains, length}
-use Rattle.std.proofs.Common.{slice_index, Option, Some, None, refl, sym, ap, ◌∙◌, subst, arith, true≢false}
+use Rattle.std.proofs.Common.{slice_index, Option, Some, sym, ap, ◌∙◌, subst, arith, true≢false}
 use Rattle.std.specs.List.Sorted.{IsStrictlyIncreasing}
 use Rattle.std.proofs.lemmas.List.{get_or_past}
 use Rattle.std.proofs.lemmas.List.Elements.{All-from_get_or}
@@ -22,7 +23,7 @@ use Rattle.chip_sequence.specs.Counted.{position_by_counts, IsBelowZero}
 use Rattle.chip_sequence.proofs.FiringLemmas.{counts_outside}
 use Rattle.chip_sequence.proofs.EndLemmas.{one_end}
 use Rattle.chip_part.specs.declared.cause.Cause.{Cause}
-use Rattle.chip_part.specs.declared.cause.Cause.TheVariants.{SealedEdge, FiringLimit}
+use Rattle.chip_part.specs.declared.cause.Cause.TheVariants.{SealedEdge}
 use Rattle.chip_core.specs.Core.{Log, part_in, fired_by, is_by_limit, IsLegalLog, IsClosed}
 use Rattle.chip_core.specs.Positions.{chips_given, played_game, chips_at, firings}
 use Rattle.chip_core.specs.Headline.{NoneHaltedBySeal}
@@ -34,14 +35,10 @@ use Rattle.chip_sequence.proofs.CertificateLemmas.{inflow_outside}
 
 -- a halt has one cause
 one_cause : (h : Option Cause) → is_by_limit h ≡ true → is_by_seal h ≡ true → ⊥
-one_cause None limit seal = true≢false (sym limit)
-one_cause (Some SealedEdge) limit seal = true≢false (sym limit)
-one_cause (Some FiringLimit) limit seal = true≢false (sym seal)
+one_cause h limit seal = grind (arith, nat_tests)
 
 no_seal_halts : (h : Option Cause) → (h ≡ Some SealedEdge → ⊥) → is_by_seal h ≡ false
-no_seal_halts None no' = refl
-no_seal_halts (Some SealedEdge) no' = absurd (no' refl)
-no_seal_halts (Some FiringLimit) no' = refl
+no_seal_halts h no' = grind (arith, nat_tests)
 
 module _ (g : Setting) (game : IsGame g.game) (some_ring : 0 < g.ring) (log : Log) (legal : IsLegalLog g log) where
   -- ---- counts and chips

@@ -1,8 +1,8 @@
 -- Serves Core.antt.
 -- The full position is the position after the firings that were made.
-use Rattle.std.proofs.Common.{◌≡◌, ℕ, ◌+◌, ◌-◌, ◌*◌, ◌<◌, ◌≤◌, Bool, eqb, ltb, [], ◌∷◌, ◌++◌, length, sum, take, lt-ltb}
-use Rattle.std.proofs.Common.{le-ltb, replicate, option_to_list, refl, sym, ap, ◌∙◌, subst, arith, eqb-true, append-nil}
-use Rattle.std.proofs.Common.{◌≢◌}
+use Rattle.std.proofs.lemmas.Bool.Decides.{nat_tests}
+use Rattle.std.proofs.Common.{◌≡◌, ℕ, ◌+◌, ◌-◌, ◌*◌, ◌<◌, ◌≤◌, Bool, eqb, [], ◌∷◌, ◌++◌, length, sum, take, replicate}
+use Rattle.std.proofs.Common.{option_to_list, refl, sym, ap, ◌∙◌, subst, arith, eqb-true, append-nil, ◌≢◌}
 use Rattle.std.proofs.lemmas.List.{take-append-le}
 use Rattle.std.proofs.lemmas.List.Sums.{sum_by-append, sum_by-take-drop}
 use mathlib.Core.Logic.{dite}
@@ -10,7 +10,7 @@ use native.Mathlib.Decide.{dec_lt}
 use Rattle.chip_graph.specs.Multigraph.{degree, edge_at}
 use Rattle.chip_graph.specs.ChipGame.{IsGame}
 use Rattle.chip_part.specs.Setting.{Setting}
-use Rattle.chip_graph.proofs.SumLemmas.{cond_yes, cond_no, tested_ext, tested_add}
+use Rattle.chip_graph.proofs.SumLemmas.{cond_no, tested_ext, tested_add}
 use Rattle.chip_link.specs.Link.{sent_counts}
 use Rattle.chip_sequence.specs.Sequence.{position_after, IsFiringSequence, counts, IsWithin}
 use Rattle.chip_sequence.specs.Counted.{inflow, position_by_counts, IsBelowZero}
@@ -20,21 +20,19 @@ use Rattle.chip_part.specs.Edges.{root_edge, mult_of, over_ins, chips_of_firings
 use Rattle.chip_part.proofs.EdgeLemmas.{over_ins_graph, tail_graph}
 use Rattle.chip_part.proofs.RuleLemmas.{rules_met}
 use Rattle.chip_part.specs.Steps.{saw, fired_after}
-use Rattle.chip_part.proofs.PartLemmas.{at_other}
-use Rattle.chip_core.specs.Core.{Log, Event, Fire, Part, part_of, does, part_in, out_in, into_in, fired_by, IsLegalLog}
-use Rattle.chip_core.specs.Core.{tail_of, head_of, all_edges, graph_edges}
+use Rattle.chip_core.specs.Core.{Log, Event, Fire, part_of, part_in, out_in, into_in, fired_by, IsLegalLog, tail_of}
+use Rattle.chip_core.specs.Core.{head_of, all_edges, graph_edges}
 use Rattle.chip_core.specs.Messages.{counts_in_flight}
 use Rattle.chip_core.specs.Positions.{chips_given, held, full_position, firings, firings_of, LeadsTo}
 use Rattle.chip_core.specs.Laws.{gone_into}
 use Rattle.chip_core.proofs.LogLemmas.{part_kept, out_kept, edge_sound}
 use Rattle.chip_core.proofs.GivenLemmas.{started_grows}
-use Rattle.std.proofs.lemmas.Bool.{cond-true, cond-false}
 
 module _ (g : Setting) where
   -- ---- how often each vertex fired
 
   fired_more : (x : Event) (n : ℕ) → fired_after x n ≡ n + counts (firings_of x) (part_of g x)
-  fired_more (Fire v k) n = let a = counts-replicate k v v in let b = cond_yes v v k 0 refl in omega arith
+  fired_more (Fire v k) n = let a = counts-replicate k v v in grind (arith, nat_tests)
   fired_more _ n = omega arith
 
   none_elsewhere : (x : Event) (u : ℕ) → part_of g x ≢ u → counts (firings_of x) u ≡ 0
@@ -47,21 +45,15 @@ module _ (g : Setting) where
   counts_are (x ∷ log) u =
       let before = counts_are log u in
       let both = counts-append (firings log) (firings_of x.event) u in
-      let step = at_other (λ v (s : Part). s.fired ≡ fired_by g log v + counts (firings_of x.event) v) (part_of g x.event)
-      (λ v. does g x (part_in g log v)) (part_in g log) (fired_more x.event (fired_by g log (part_of g x.event)))
-      (λ v other. let none = none_elsewhere x.event v other in omega arith) u in
-      omega arith
+      let here = fired_more x.event (fired_by g log u) in let none = none_elsewhere x.event u in
+      grind (arith, nat_tests)
 
   pub gone_graph : (log : Log) (e : ℕ) → e < graph_edges g
       → gone_into g log e ≡ chips_of_firings g e (fired_by g log (tail_of g e))
-  gone_graph log e l = cond-true (ltb e (length g.game.graph.edges))
-      (chips_of_firings g e (fired_by g log (tail_of g e)))
-      (chips_given g log (e - graph_edges g)) (lt-ltb e (length g.game.graph.edges) l)
+  gone_graph log e l = grind (arith, nat_tests)
 
   pub gone_root : (log : Log) (e : ℕ) → graph_edges g ≤ e → gone_into g log e ≡ chips_given g log (e - graph_edges g)
-  gone_root log e l = cond-false (ltb e (length g.game.graph.edges))
-      (chips_of_firings g e (fired_by g log (tail_of g e)))
-      (chips_given g log (e - graph_edges g)) (le-ltb e (length g.game.graph.edges) l)
+  gone_root log e l = grind (arith, nat_tests)
 
   -- what ever went into the edges into v: what it was given, and what its neighbours' firings brought
   pub gone_inflow : (log : Log) (v : ℕ) → v < g.game.graph.vertices

@@ -1,14 +1,13 @@
 -- Serves Core.antt.
 -- What a reply leaves by which nothing was done, and runs one after the other.
-use Rattle.std.proofs.Common.{◌≡◌, ℕ, suc, true, false, List, [], ◌∷◌, ◌++◌, length, Option, Some, None, refl, sym, ap}
-use Rattle.std.proofs.Common.{true≢false}
+use Rattle.std.proofs.lemmas.Bool.Decides.{nat_tests}
+use Rattle.std.proofs.Common.{arith, ◌≡◌, ℕ, suc, true, false, List, [], ◌∷◌, ◌++◌, length, Option, Some, None, refl}
+use Rattle.std.proofs.Common.{sym, ap, true≢false}
 use Rattle.chip_part.specs.Setting.{Setting}
-use Rattle.chip_part.specs.Counting.{is_got, is_sent}
-use Rattle.chip_part.specs.declared.reply.Reply.TheVariants.{Got, Sent}
 use Rattle.chip_part.specs.Steps.{saw}
 use Rattle.chip_part.proofs.PartLemmas.{at_edge}
-use Rattle.chip_core.specs.Core.{Log, Event, Take, Clear, Claim, Seal, Feed, End, Rule, Reply, Part, unmet_rule}
-use Rattle.chip_core.specs.Core.{part_of, does, reply_of, part_in, sees, answer, step, replies_to, log_after}
+use Rattle.chip_core.specs.Core.{Log, Event, Seal, End, Rule, Reply, Part, unmet_rule, part_of, does, reply_of, part_in}
+use Rattle.chip_core.specs.Core.{sees, answer, step, replies_to, log_after}
 use Rattle.chip_core.specs.Work.{counts_as_work}
 use Rattle.chip_core.specs.Replies.{is_idle, DifferInNotes, IdleStepsLeave, RunsGoOn}
 use Rattle.chip_core.proofs.IdleLemmas.{bare, idle_does}
@@ -30,22 +29,10 @@ leaves s t same stop ended = record {
   ended = ended;
 }
 
-not_got : (r : Reply) → is_idle r ≡ true → is_got r ≡ false
-not_got (Got m) idle = absurd (true≢false (sym idle))
-not_got _ idle = refl
-
-not_sent : (r : Reply) → is_idle r ≡ true → is_sent r ≡ false
-not_sent (Sent m) idle = absurd (true≢false (sym idle))
-not_sent _ idle = refl
-
 module _ (g : Setting) where
   idle_uncounted : (x : Event) (seen : ℕ) (s : Part) → is_idle (reply_of g x seen s) ≡ true
       → counts_as_work g s (saw x seen) ≡ false
-  idle_uncounted (Take e) seen s idle = not_got _ idle
-  idle_uncounted (Clear e) seen s idle = refl
-  idle_uncounted (Claim e) seen s idle = not_sent _ idle
-  idle_uncounted (Feed e k) seen s idle = not_sent _ idle
-  idle_uncounted _ seen s idle = absurd (true≢false (sym idle))
+  idle_uncounted _ seen s idle = grind (arith, nat_tests)
 
   -- the part that acts
   acting_leaves : (x : Event) (seen : ℕ) (s : Part) → is_idle (reply_of g x seen s) ≡ true

@@ -1,19 +1,22 @@
 -- Serves Histories.antt, Closing.antt.
 -- What a whole turn of which no step counts tells of the vertex. Where every vertex made one, and the root settled all its
 -- edges, the root is closed.
-use Rattle.std.proofs.Common.{◌≡◌, ◌≢◌, ◌⊎◌, ℕ, ◌+◌, ◌<◌, ◌≤◌, Bool, true, false, not, ◌&&◌, cond, eqb, List}
-use Rattle.std.proofs.Common.{[], ◌∷◌, ◌++◌, length, Option, Some, None, is_some, Contains, refl, sym, ap, ◌∙◌}
-use Rattle.std.proofs.Common.{subst, arith, inl, inr, ⊎_elim, eqb-true, true≢false, eq-eqb, lt-ltb}
+use Rattle.std.proofs.lemmas.Bool.Decides.{nat_tests}
+use Rattle.std.proofs.lemmas.Bool.{eqb-false}
+use Rattle.std.proofs.Common.{rules, ◌≡◌, ◌≢◌, ◌⊎◌, ℕ, ◌+◌, ◌<◌, ◌≤◌, Bool, true, false, not, ◌&&◌, cond, eqb, List, []}
+use Rattle.std.proofs.Common.{◌∷◌, ◌++◌, length, Option, Some, None, is_some, Contains, refl, sym, ap, ◌∙◌, subst}
+use Rattle.std.proofs.Common.{arith, inl, inr, ⊎_elim, eqb-true, true≢false}
 use Rattle.std.proofs.lemmas.List.Elements.{Contains-append_left, Contains-append_right, Contains-push_cases}
+use Rattle.chip_graph.proofs.SumLemmas.{by_test}
 use Rattle.chip_part.specs.Setting.{Setting}
 use Rattle.chip_part.specs.Counting.{work_of}
-use Rattle.chip_part.specs.Part.{Part, is_running, refusals, may_ack, is_legal}
+use Rattle.chip_part.specs.Part.{Part, is_running, refusals, may_ack}
 use Rattle.chip_part.specs.Edges.{head_of, tail_of}
 use Rattle.chip_part.specs.Rules.{Event, Take, Ack, Fire, Clear, Claim, Put, Halt, Settle}
 use Rattle.chip_part.specs.Steps.{Step, does, saw}
 use Rattle.chip_part.specs.Turn.{Phase, nothing, either_phase, each_phase, one_step, seeing, ins_of, outs_of, may_fire}
-use Rattle.chip_part.specs.Turn.{batch_of, putting, sending, sending_all, after_clear_phase, after_claim_phase}
-use Rattle.chip_part.specs.Turn.{is_at_limit, acknowledging_parent, turn}
+use Rattle.chip_part.specs.Turn.{batch_of, putting, sending, sending_all, after_claim_phase, is_at_limit}
+use Rattle.chip_part.specs.Turn.{acknowledging_parent, turn}
 use Rattle.chip_core.specs.Histories.{part_by, done_by}
 use Rattle.chip_part.proofs.PhaseLemmas.{Spreads, of_takes, of_settles, of_firing, of_puts, of_sending_all, of_limit}
 use Rattle.chip_part.proofs.PhaseLemmas.{of_acks, of_turn}
@@ -21,11 +24,9 @@ use Rattle.chip_part.proofs.PickedLemmas.{among_new_outs, among_new_ins}
 use Rattle.chip_core.specs.Work.{counts_as_work, work_in}
 use Rattle.chip_core.proofs.IdleLemmas.{bare, idle_does, Alike, counts_here, idle_alike, one_more, work_grows}
 use Rattle.chip_core.proofs.IdleLemmas.{idle_stretch}
-use Rattle.std.proofs.lemmas.Bool.{not-false, and_from}
 use mathlib.Core.Logic.{dite}
 use native.Mathlib.Decide.{dec_lt}
 use Rattle.chip_graph.specs.ChipGame.{IsGame}
-use Rattle.chip_graph.proofs.SumLemmas.{by_test}
 use Rattle.chip_link.specs.Link.{claims_of}
 use Rattle.chip_part.proofs.RestingLemmas.{nothing_left}
 use Rattle.chip_core.specs.Core.{Log, Step, Event, Part, Take, Clear, Settle, part_of, part_in, out_in, into_in, sees}
@@ -33,8 +34,7 @@ use Rattle.chip_core.specs.Core.{does, IsLegalLog, IsClosed, tail_of, head_of, a
 use Rattle.chip_core.specs.Words.{acting_part}
 use Rattle.chip_core.specs.Closing.{HasEnd, RootHasPut, HasTurn, HasRound}
 use Rattle.chip_core.proofs.LogLemmas.{edge_counts, head_inside, tail_inside, in_pieces}
-use Rattle.chip_core.proofs.DueLemmas.{Quiet, quiet_closes, Works, take_works, settle_works, none_unput}
-use Rattle.chip_core.proofs.DueLemmas.{look_finds}
+use Rattle.chip_core.proofs.DueLemmas.{Quiet, quiet_closes, Works, take_works, settle_works, none_unput, look_finds}
 use Rattle.chip_core.proofs.ReachingLemmas.{part-append, part_own}
 use Rattle.chip_part.proofs.RuleLemmas.{is_none_of}
 use Rattle.chip_detect.proofs.ListLemmas.{contains_cases}
@@ -83,11 +83,7 @@ module _ (g : Setting) where
   module _ (v : ℕ) where
     makes_parent : (p : Option ℕ) → Makes (acknowledging_parent g v p)
     makes_parent None s ds t (none, same) = same ∙ sym (ap (part_by g s) none)
-    makes_parent (Some e) s ds t phase = by (not (eqb (may_ack g (head_of g e) s e) 0)) phase
-      where
-        by : (b : Bool) → either_phase b (one_step g v (Ack e)) nothing s ds t → t ≡ part_by g s ds
-        by true (seen, rest, is, (none, same)) = same ∙ sym (ap (part_by g s) (is ∙ ap (λ (l : List Step). saw (Ack e) seen ∷ l) none))
-        by false (none, same) = same ∙ sym (ap (part_by g s) none)
+    makes_parent (Some e) s ds t phase = grind (arith, nat_tests)
 
     makes : Spreads g v Makes
     makes = record {
@@ -140,8 +136,7 @@ module _ (g : Setting) where
     -- a choice of an operation that always counts
     not_chosen : (b : Bool) (x : Event) (s : Part) (ds : List Step) (t : Part)
         → either_phase b (one_step g v x) nothing s ds t → 0 < sure x → sure_in ds ≡ 0 → (b ≡ false) × (t ≡ s)
-    not_chosen true x s ds t (seen, rest, is, last) counts none = absurd (let a = ap sure_in is in omega arith)
-    not_chosen false x s ds t (empty, same) counts none = (refl, same)
+    not_chosen b x s ds t phase counts none = grind (arith, nat_tests)
 
     none_put : (es : List ℕ) (s : Part) (ds : List Step) (t : Part) → each_phase (putting g v) es s ds t
         → sure_in ds ≡ 0 → (t ≡ s) × ((e : ℕ) → Contains es e → is_some (s.out e).link.held ≡ false)
@@ -161,19 +156,18 @@ module _ (g : Setting) where
 
     claim_counts : (e : ℕ) (s : Part) (ds : List Step) (t : Part) → seeing g v (Claim e) (after_claim_phase g v e) s ds t
         → 0 < sure_in ds
-    claim_counts e s ds t (seen, rest, is, last) = let a = ap sure_in is in let b = either _ last in omega arith
-      where
-        either : (b : Bool) → either_phase b (one_step g v (Put e)) (one_step g v (Halt v)) (does g (saw (Claim e) seen) s) rest t
-            → 0 < sure_in rest
-        either true (n, more, now, z) = let a = ap sure_in now in omega arith
-        either false (n, more, now, z) = let a = ap sure_in now in omega arith
+    claim_counts e s ds t phase = grind (arith, nat_tests)
 
     one_sent : (e : ℕ) (s : Part) (ds : List Step) (t : Part) → sending g v e s ds t → sure_in ds ≡ 0
         → is_running s.halt ≡ true
         → Looked s ds e × (t.halt ≡ s.halt) × ((i : ℕ) → (t.out i).pending ≡ (s.out i).pending)
-    one_sent e s ds t ph none runs = either (not (eqb (s.out e).pending 0)) refl
-        (subst (λ (b : Bool). either_phase (b && not (eqb (s.out e).pending 0)) (seeing g v (Clear e) (after_clear_phase g v e))
-        nothing s ds t) runs ph)
+    one_sent e s ds t ph none runs = by_test (is_running s.halt && not (eqb (s.out e).pending 0))
+        (λ on. let made = rw on at ph in looked (eqb made.0 0) made.0 made.1 made.2 refl made.3)
+        (λ off. let gone = rw off at ph in (
+          inl (grind (arith, nat_tests)),
+          ap (λ (p : Part). p.halt) gone.1,
+          λ i. ap (λ (p : Part). (p.out i).pending) gone.1,
+        ))
       where
         looked : (b : Bool) (seen : ℕ) (rest : List Step) → ds ≡ saw (Clear e) seen ∷ rest → eqb seen 0 ≡ b
             → either_phase b (seeing g v (Claim e) (after_claim_phase g v e)) nothing (does g (saw (Clear e) seen) s) rest t
@@ -182,21 +176,7 @@ module _ (g : Setting) where
             let a = ap sure_in is in let b = claim_counts e (does g (saw (Clear e) seen) s) rest t last in
             absurd (omega arith)
         looked false seen rest is full (gone, same) = (
-          inr (
-            seen,
-            (λ z. true≢false (sym (Rattle.std.proofs.Common.eq-eqb seen 0 z) ∙ full)),
-            subst (λ (l : List Step). Contains l (saw (Clear e) seen)) (sym is) (0, omega arith, refl),
-          ),
-          ap (λ (p : Part). p.halt) same,
-          λ i. ap (λ (p : Part). (p.out i).pending) same,
-        )
-
-        either : (b : Bool) → not (eqb (s.out e).pending 0) ≡ b
-            → either_phase b (seeing g v (Clear e) (after_clear_phase g v e)) nothing s ds t
-            → Looked s ds e × (t.halt ≡ s.halt) × ((i : ℕ) → (t.out i).pending ≡ (s.out i).pending)
-        either true some (seen, rest, is, last) = looked (eqb seen 0) seen rest is refl last
-        either false idle (empty, same) = (
-          inl (eqb-true (s.out e).pending 0 (not-false _ idle)),
+          inr (seen, eqb-false seen 0 full, rw is (0, omega arith, refl)),
           ap (λ (p : Part). p.halt) same,
           λ i. ap (λ (p : Part). (p.out i).pending) same,
         )
@@ -236,14 +216,11 @@ module _ (g : Setting) where
 
     sends_of : (s : Part) (ds : List Step) (t : Part) → sending_all g v s ds t → sure_in ds ≡ 0 → is_running s.halt ≡ true
         → (e : ℕ) → Contains (outs_of g v) e → Looked s ds e
-    sends_of s ds t ph none runs e at = either (eqb (refusals g v s) 0)
-        (subst (λ (b : Bool). either_phase b (either_phase (eqb (refusals g v s) 0) (each_phase (sending g v) (outs_of g v))
-        (one_step g v (Halt v))) nothing s ds t) runs ph)
-      where
-        either : (b : Bool) → either_phase b (each_phase (sending g v) (outs_of g v)) (one_step g v (Halt v)) s ds t
-            → Looked s ds e
-        either true all = all_sent (outs_of g v) s ds t all none runs e at
-        either false (seen, rest, is, last) = absurd (let a = ap sure_in is in omega arith)
+    sends_of s ds t ph none runs e at =
+        let either = rw runs at ph in
+        by_test (eqb (refusals g v s) 0)
+        (λ open'. all_sent (outs_of g v) s ds t (rw open' at either) none runs e at)
+        (λ refused. let halt = rw refused at either in absurd (let a = ap sure_in halt.2 in omega arith))
 
     pub rested : (s : Part) (ds : List Step) (after : Part) → turn g v s ds after → work_of g s ds ≡ 0 → Rested ds after
     rested s ds after (
@@ -297,30 +274,21 @@ module _ (g : Setting) where
   work_own : (v : ℕ) (mid base : Log)
       → work_of g (part_in g base v) (done_by g v mid) + work_in g base ≤ work_in g (mid ++ base)
   work_own v [] base = omega arith
-  work_own v (x ∷ mid) base = either (eqb (part_of g x.event) v) (eqb-true (part_of g x.event) v) (work_own v mid base)
-    where
-      either : (b : Bool) → (b ≡ true → part_of g x.event ≡ v)
-          → work_of g (part_in g base v) (done_by g v mid) + work_in g base ≤ work_in g (mid ++ base)
-          → work_of g (part_in g base v) (cond b (done_by g v mid ++ x ∷ []) (done_by g v mid)) + work_in g base
-          ≤ work_in g (x ∷ mid ++ base)
-      either false at c = omega arith
-      either true at c =
-          let a = work-append g (done_by g v mid) (x ∷ []) (part_in g base v) in
-          let b : ◌≡◌ {A = ℕ} (cond (counts_as_work g (part_by g (part_in g base v) (done_by g v mid)) x) 1 0)
-          (cond (counts_here g (mid ++ base) x) 1 0) =
-          ap (λ (p : Part). cond (counts_as_work g p x) 1 0) (sym (part_own g v mid base)
-          ∙ ap (part_in g (mid ++ base)) (sym (at refl))) in
-          omega arith
+  work_own v (x ∷ mid) base =
+      let c = work_own v mid base in
+      let a = work-append g (done_by g v mid) (x ∷ []) (part_in g base v) in
+      by_test (eqb (part_of g x.event) v)
+      (λ on.
+      let b = ap (λ (p : Part). counts_as_work g p x) (sym (part_own g v mid base)
+      ∙ ap (part_in g (mid ++ base)) (sym (eqb-true (part_of g x.event) v on))) in grind (arith, nat_tests))
+      (λ off. grind (arith, nat_tests))
 
   pub own_in : (v : ℕ) (mid : Log) (x : Step) → Contains (done_by g v mid) x → Contains mid x
-  own_in v [] x = (λ has. let a = has.1 in absurd (omega arith))
-  own_in v (y ∷ mid) x = either (eqb (part_of g y.event) v) (own_in v mid x)
-    where
-      either : (b : Bool) → (Contains (done_by g v mid) x → Contains mid x)
-          → Contains (cond b (done_by g v mid ++ y ∷ []) (done_by g v mid)) x → Contains (y ∷ mid) x
-      either true rest has = ⊎_elim (λ m. Contains-append_right (y ∷ []) mid x (rest m)) (λ is. (0, omega arith, is))
-          (Contains-push_cases (done_by g v mid) y x has)
-      either false rest has = Contains-append_right (y ∷ []) mid x (rest has)
+  own_in v [] x has = let a = has.1 in absurd (omega arith)
+  own_in v (y ∷ mid) x has = by_test (eqb (part_of g y.event) v)
+      (λ on. ⊎_elim (λ m. Contains-append_right (y ∷ []) mid x (own_in v mid x m)) (λ is. (0, omega arith, is))
+      (Contains-push_cases (done_by g v mid) y x (rw on at has)))
+      (λ off. Contains-append_right (y ∷ []) mid x (own_in v mid x (rw off at has)))
 
   -- ---- the moment of a step in a stretch in which nothing counts
 
@@ -347,15 +315,9 @@ module _ (g : Setting) where
           alike = λ p. sym (idle_alike g y log uncounted p);
         },
       ))
-      (λ later. let found = moment ys before legal.0 (omega arith) x later in (
-        found.0,
-        record {
-          legal = found.1.legal;
-          saw_it = found.1.saw_it;
-          idle = found.1.idle;
-          alike = λ p. found.1.alike p ∙ sym (idle_alike g y log uncounted p);
-        },
-      ))
+      (λ later. let found = moment ys before legal.0 (omega arith) x later in let m = found.1 in
+      let alike : Alike g found.0 (y ∷ log) = λ p. m.alike p ∙ sym (idle_alike g y log uncounted p) in
+      (found.0, search (rules, arith)))
       (contains_cases y ys x has)
 
   module _ (game : IsGame g.game) (some_ring : 0 < g.ring) (before xs : Log) (round : HasRound g before xs) (legal : IsLegalLog g (xs ++ before)) (none : work_in g (xs ++ before) ≡ work_in g before) (put : RootHasPut g (xs ++ before)) where
@@ -450,19 +412,12 @@ module _ (g : Setting) where
           settle_works g game some_ring m ok e l (omega arith))))
           (λ all. omega arith));
       acked = λ e l. none_left (head_of g e) (head_inside g game e l) e l refl;
-      fired = λ v vertex runs idle. by_test (is_legal g v (part_in g after v))
-          (λ on.
-          let p : Part = part_in g after v in
+      fired = λ v vertex runs idle. (
           let unput = none_unput g game some_ring after legal all_put v in
-          let front = and_from _ _ (ap is_running runs) (eq-eqb _ _ idle) in
-          absurd (dite (dec_lt p.fired g.game.limit)
-          (λ below. true≢false (sym (and_from _ _ (and_from _ _ (and_from _ _ front (eq-eqb _ _ unput)) on)
-          (lt-ltb _ _ below)) ∙ sym (ap (may_fire g v) (same v vertex)) ∙ (rest v vertex).fires))
-          (λ past.
-          let full : p.fired ≡ g.game.limit = (let kept = (Rattle.chip_core.proofs.LogLemmas.part_kept g game after legal v).within in omega arith) in
-          true≢false (sym (and_from _ _ (and_from _ _ front on) (eq-eqb _ _ full))
-          ∙ sym (ap (is_at_limit g v) (same v vertex)) ∙ (rest v vertex).limit))))
-          (λ off. off);
+          let kept = (Rattle.chip_core.proofs.LogLemmas.part_kept g game after legal v).within in
+          let no_fire = sym (ap (may_fire g v) (same v vertex)) ∙ (rest v vertex).fires in
+          let no_limit = sym (ap (is_at_limit g v) (same v vertex)) ∙ (rest v vertex).limit in
+          grind (arith, nat_tests));
       sent = λ e l runs room. (let v : ℕ = tail_of g e in let vertex = tail_inside g game e l in
           ⊎_elim (λ idle. sym (ap (λ (p : Part). (p.out e).pending) (same v vertex)) ∙ idle)
           (λ looked.

@@ -1,24 +1,24 @@
 -- Serves Closing.antt.
 -- Schedules that ask for everything often enough close the root. Afterwards nothing counts, and but for seals the words
 -- stay as they are.
-use Rattle.std.proofs.Common.{◌≡◌, ◌≢◌, ℕ, ◌+◌, ◌<◌, ◌≤◌, cond, List, [], ◌∷◌, ◌++◌, length, Option, sym, ap, ◌∙◌}
-use Rattle.std.proofs.Common.{subst, arith, ⊎_elim, refl, ◌⊎◌, zero, suc, None, inl, inr, true≢false, append-nil}
+use Rattle.std.proofs.lemmas.Bool.Decides.{nat_tests}
+use Rattle.std.proofs.Common.{rules, ◌≡◌, ◌≢◌, ℕ, ◌+◌, ◌<◌, ◌≤◌, cond, List, [], ◌∷◌, ◌++◌, length, Option, sym, ap}
+use Rattle.std.proofs.Common.{◌∙◌, subst, arith, ⊎_elim, refl, ◌⊎◌, zero, suc, None, inl, inr, true≢false, append-nil}
 use Rattle.std.proofs.Common.{is_some, Contains, append_assoc}
 use Rattle.std.proofs.lemmas.List.Elements.{Contains-append_left, Contains-append_right}
 use Rattle.chip_graph.specs.ChipGame.{IsGame}
-use Rattle.chip_graph.proofs.SumLemmas.{cond_no, sum_below_ext}
-use Rattle.chip_link.specs.Link.{Tail, claims_of, Shows, after_clear, after_claim, after_put}
+use Rattle.chip_graph.proofs.SumLemmas.{sum_below_ext}
+use Rattle.chip_link.specs.Link.{Tail, claims_of, Shows}
 use Rattle.chip_part.specs.Setting.{Setting}
 use Rattle.chip_core.specs.Core.{Log, Step, Part, part_of, part_in, word_of_part, IsLegalLog, IsClosed, tail_of}
 use Rattle.chip_core.specs.Core.{head_of, stopper, all_edges, Event, Clear, Claim, Put, Feed, out_in, sees, step}
 use Rattle.chip_core.specs.Core.{log_after, graph_edges, unmet_rule, Take, Ack, Fire, Halt, Settle}
-use Rattle.chip_core.specs.Words.{acting_part}
-use Rattle.chip_core.specs.Positions.{events_in}
-use Rattle.chip_core.specs.Words.{of_edge, of_cell}
+use Rattle.chip_core.specs.Words.{acting_part, of_edge, of_cell}
+use Rattle.chip_core.specs.Positions.{events_in, chips_given, fed_of}
 use Rattle.chip_core.specs.Work.{work_in, refusals_in, is_refusal, steps_at_most, fed_so_far, AreFiringBounds}
 use Rattle.chip_core.specs.Closing.{StirsNothing, HasEnd, AsksForEverything, NothingIsTold, IsStretch, HasStretches}
 use Rattle.chip_core.specs.Closing.{RootHasPut, HasRound, HasRounds}
-use Rattle.chip_core.proofs.LogLemmas.{link_step, head_inside, tail_cases, legal_before, in_pieces, end_stays}
+use Rattle.chip_core.proofs.LogLemmas.{link_step, head_inside, tail_cases, legal_before, in_pieces, end_stays, met_here}
 use Rattle.chip_core.proofs.OrderLemmas.{all_counts}
 use Rattle.chip_core.proofs.ClosingLemmas.{still, still_closed, still_run, Rests, rested, at_rest}
 use Rattle.chip_core.proofs.IdleLemmas.{counts_here, work_grows}
@@ -31,15 +31,12 @@ use Rattle.chip_sequence.specs.Sequence.{IsWholePlay}
 use Rattle.chip_part.specs.Kept.{Met}
 use Rattle.chip_part.specs.Steps.{saw, link_after}
 use Rattle.chip_part.proofs.EdgeLemmas.{tail_root}
-use Rattle.chip_part.proofs.PartLemmas.{at_edge}
-use Rattle.chip_core.specs.Positions.{chips_given, fed_of}
 use Rattle.chip_core.proofs.GivenLemmas.{recorded_step, started_step}
 use Rattle.chip_core.proofs.ReachingLemmas.{step_legal, run_legal, run_from}
 use Rattle.chip_core.proofs.ReplyLemmas.{log_after-append}
 use Rattle.chip_core.proofs.DueLemmas.{tells_in, run_grows, by_rule, made, asked_closes}
 use Rattle.chip_core.proofs.RoundLemmas.{round_closes, take_made, settle_made}
 use Rattle.chip_part.proofs.RuleLemmas.{rules_met}
-use Rattle.chip_core.proofs.LogLemmas.{met_here}
 use Rattle.chip_detect.proofs.ListLemmas.{contains_cases}
 
 module _ (g : Setting) (game : IsGame g.game) (some_ring : 0 < g.ring) where
@@ -130,16 +127,9 @@ module _ (g : Setting) (game : IsGame g.game) (some_ring : 0 < g.ring) where
 
   put_stays : (log : Log) → HasEnd g log → RootHasPut g log → (x : Event) (seen : ℕ) → Met g x (part_in g log (part_of g x))
       → (e : ℕ) → graph_edges g ≤ e → e < all_edges g → (link_after x seen e (out_in g log e)).held ≡ None
-  put_stays log end put (Clear i) seen may e past l = at_edge
-      (λ j (t : Tail). graph_edges g ≤ j → j < all_edges g → t.held ≡ None) i (λ j. after_clear seen (out_in g log j).link)
-      (λ j. (out_in g log j).link) (λ past l. put i past l) (λ j past l. put j past l) e past l
-  put_stays log end put (Put i) seen may e past l = at_edge
-      (λ j (t : Tail). graph_edges g ≤ j → j < all_edges g → t.held ≡ None) i (λ j. after_put (out_in g log j).link)
-      (λ j. (out_in g log j).link) (λ past l. refl) (λ j past l. put j past l) e past l
-  put_stays log end put (Claim i) seen may e past l =
-      let own = may.0 in
-      ap (λ (t : Tail). t.held) (cond_no i e (after_claim (out_in g log e).pending seen (out_in g log e).link)
-      (out_in g log e).link (λ z. absurd (omega arith))) ∙ put e past l
+  put_stays log end put (Clear i) seen may e past l = let was = put e past l in grind (arith, nat_tests)
+  put_stays log end put (Put i) seen may e past l = let was = put e past l in grind (arith, nat_tests)
+  put_stays log end put (Claim i) seen may e past l = let own = may.0 in let was = put e past l in grind (arith, nat_tests)
   put_stays log end put (Feed i k) seen may e past l = absurd (true≢false (sym end
       ∙ ap (λ (p : ℕ). (part_in g log p).ended) (sym (tail_root g i may.0)) ∙ may.2))
   put_stays log end put _ seen may e past l = put e past l
@@ -164,12 +154,7 @@ module _ (g : Setting) (game : IsGame g.game) (some_ring : 0 < g.ring) where
   ends_same log end = record { end = end; fed = refl; given = refl; put = λ put. put }
 
   ends_then : (a b c : Log) → Ends a b → Ends b c → Ends a c
-  ends_then a b c ab bc = record {
-    end = bc.end;
-    fed = bc.fed ∙ ab.fed;
-    given = bc.given ∙ ab.given;
-    put = λ put. bc.put (ab.put put);
-  }
+  ends_then a b c ab bc = search (rules, arith, nat_tests)
 
   ends_run : (xs : List Event) (log : Log) → IsLegalLog g log → HasEnd g log → Ends log (log_after g log xs)
   ends_run [] log legal end = ends_same log end

@@ -1,6 +1,7 @@
 -- Serves Core.antt, Words.antt.
 -- What the operation of an event finds in its word is what the core says, and the words that it leaves show the log
 -- with that event.
+use Rattle.std.proofs.lemmas.Bool.Decides.{nat_tests}
 use Rattle.std.proofs.Common.{◌≡◌, ◌≢◌, ℕ, ◌+◌, ◌-◌, ◌%◌, ◌^◌, ◌<◌, true, false, cond, eqb, List, ◌∷◌, length, sum}
 use Rattle.std.proofs.Common.{Option, Some, None, option_to_list, is_some, refl, sym, ap, ◌∙◌, subst, arith, ⊎_elim}
 use Rattle.std.proofs.Common.{zero-add, bit_or}
@@ -8,8 +9,7 @@ use Rattle.std.proofs.lemmas.Nat.{mod_below}
 use mathlib.Core.Logic.{dite}
 use native.Mathlib.Decide.{ℕ_discrete}
 use Rattle.chip_graph.proofs.SumLemmas.{cond_yes, cond_no}
-use Rattle.chip_link.specs.Link.{Tail, claims_of, after_clear, after_claim, after_put, after_take, after_seal, Sound}
-use Rattle.chip_link.specs.Link.{Shows}
+use Rattle.chip_link.specs.Link.{Tail, claims_of, after_claim, after_put, after_take, after_seal, Sound, Shows}
 use Rattle.chip_link.specs.Words.{fired_word, word_after_exchange}
 use Rattle.chip_link.proofs.ShownLemmas.{clear_sees, claim_shows, put_shows, take_sees, take_shows, seal_shows}
 use Rattle.chip_link.proofs.SoundsLemmas.{one_held}
@@ -31,33 +31,6 @@ use Rattle.chip_core.specs.Words.{word_to_note, IsShown, acting_part, Operations
 use Rattle.chip_core.proofs.LogLemmas.{part_here, part_else, link_step, got_step, acked_step, stop_step, part_kept}
 use Rattle.chip_core.proofs.LogLemmas.{edge_sound, empty_hand}
 use Rattle.chip_core.proofs.NumberLemmas.{claims_most}
-
--- what a word is for, its edge or vertex, and its cell
-abbrev kind : Word → ℕ
-kind (of_edge e) = 0
-kind (of_acks e) = 1
-kind (of_cell e i) = 2
-kind (of_vertex v) = 3
-
-abbrev owner : Word → ℕ
-owner (of_edge e) = e
-owner (of_acks e) = e
-owner (of_cell e i) = e
-owner (of_vertex v) = v
-
-abbrev cell : Word → ℕ
-cell (of_cell e i) = i
-cell _ = 0
-
--- two words that differ in one of these are two
-pub other_kind : (p q : Word) → kind p ≢ kind q → p ≢ q
-other_kind p q ne same = ne (ap kind same)
-
-pub other_owner : (p q : Word) → owner p ≢ owner q → p ≢ q
-other_owner p q ne same = ne (ap owner same)
-
-pub other_cell : (p q : Word) → cell p ≢ cell q → p ≢ q
-other_cell p q ne same = ne (ap cell same)
 
 -- the same edge, read off other words
 reread : (ring word word' : ℕ) (cell cell' : ℕ → ℕ) (t : Tail) (got : List ℕ) (stop : Option ℕ) → 0 < ring
@@ -181,31 +154,23 @@ module _ (g : Setting) (game : IsGame g.game) (some_ring : 0 < g.ring) (log : Lo
     edges_after (Take a) none w e l = at_other (λ i (got : List ℕ). i < all_edges g
         → Shows g.ring (value' (of_edge i)) (λ j. value' (of_cell i j)) (out_in g log i).link got (stop_in g log i)) a
         (λ i. after_take (seen_by (Take a)) (into_in g log i).got) (λ i. (into_in g log i).got)
-        (λ l. reread g.ring _ _ _ _ _ _ _ some_ring (w.others (of_edge a) l (other_kind _ _ (λ z. omega arith)))
+        (λ l. reread g.ring _ _ _ _ _ _ _ some_ring (w.others (of_edge a) l (λ z. absurd (cc)))
         (λ j h. refl)
         (subst (λ (n : ℕ). Shows g.ring (value (of_edge a)) (λ j. value' (of_cell a j)) (out_in g log a).link
         (after_take n (into_in g log a).got) (stop_in g log a)) (finds (Take a) none)
         (take_shows g.ring some_ring (value (of_edge a)) (λ j. value (of_cell a j)) _ _ _ (sound a) (shown.edges a l)
-        (λ j. value' (of_cell a j)) w.here (λ j h other. w.others (of_cell a j) (l, h) (other_cell _ _ other)))))
-        (λ i other l. other_words (Take a) w i l (other_kind _ _ (λ z. omega arith)) (λ j. other_owner _ _ (λ z. other (sym z))))
+        (λ j. value' (of_cell a j)) w.here (λ j h other. w.others (of_cell a j) (l, h) (λ z. grind arith)))))
+        (λ i other l. other_words (Take a) w i l (λ z. absurd (cc)) (λ j z. grind arith))
         e l
     edges_after (Clear a) none w e l =
         let c : ℕ = claims_of (out_in g log a).link % g.ring in
         let cells : (i : ℕ) → i < g.ring → value' (of_cell e i) ≡ value (of_cell e i) = (λ i h. dite (ℕ_discrete e a)
         (λ same. dite (ℕ_discrete i c)
-        (λ it. (let at : of_cell e i ≡ of_cell a c = (λ k. of_cell (same k) (it k)) in ap value' at ∙ w.here
-        ∙ sym (ap value at)))
-        (λ ne. w.others (of_cell e i) (l, h) (other_cell _ _ ne)))
-        (λ ne. w.others (of_cell e i) (l, h) (other_owner _ _ ne))) in
-        let kept = same_edge e l (w.others (of_edge e) l (other_kind _ _ (λ z. omega arith))) cells in
-        dite (ℕ_discrete a e)
-        (λ same. subst (λ (u : Tail). Shows g.ring (value' (of_edge e))
-        (λ i. value' (of_cell e i)) u (into_in g log e).got (stop_in g log e))
-        (sym (cond_yes a e (after_clear (seen_by (Clear a)) (out_in g log e).link) (out_in g log e).link same))
-        (record { word_is = kept.word_is; ring_is = kept.ring_is }))
-        (λ other. subst (λ (u : Tail). Shows g.ring (value' (of_edge e))
-        (λ i. value' (of_cell e i)) u (into_in g log e).got (stop_in g log e))
-        (sym (cond_no a e (after_clear (seen_by (Clear a)) (out_in g log e).link) (out_in g log e).link other)) kept)
+        (λ it. let here = w.here in grind arith)
+        (λ ne. w.others (of_cell e i) (l, h) (λ z. grind arith)))
+        (λ ne. w.others (of_cell e i) (l, h) (λ z. grind arith))) in
+        let kept = same_edge e l (w.others (of_edge e) l (λ z. absurd (cc))) cells in
+        grind (arith, nat_tests)
     edges_after (Put a) none w e l = at_other (λ i (u : Tail). i < all_edges g
         → Shows g.ring (value' (of_edge i)) (λ j. value' (of_cell i j)) u (into_in g log i).got (stop_in g log i)) a
         (λ i. after_put (out_in g log i).link) (λ i. (out_in g log i).link)
@@ -219,12 +184,12 @@ module _ (g : Setting) (game : IsGame g.game) (some_ring : 0 < g.ring) (log : Lo
         let place : claims_of o.link - 1 ≡ length o.link.put = (let z = one_held o.link count one in omega arith) in
         let cell_is : length o.link.put % g.ring ≡ (claims_of o.link - 1) % g.ring =
         ap (λ (n : ℕ). n % g.ring) (sym place) in
-        reread g.ring _ _ _ _ _ _ _ some_ring (w.others (of_edge a) l (other_kind _ _ (λ z. omega arith))) (λ j h. refl)
+        reread g.ring _ _ _ _ _ _ _ some_ring (w.others (of_edge a) l (λ z. absurd (cc))) (λ j h. refl)
         (put_shows g.ring some_ring (value (of_edge a)) (λ j. value (of_cell a j)) _ _ _ (sound a)
         (shown.edges a l) count (λ j. value' (of_cell a j)) one
         (ap (λ (n : ℕ). value' (of_cell a n)) cell_is ∙ w.here ∙ value_is)
-        (λ j h other. w.others (of_cell a j) (l, h) (other_cell _ _ (λ z. other (z ∙ sym cell_is))))))
-        (λ i other l. other_words (Put a) w i l (other_kind _ _ (λ z. omega arith)) (λ j. other_owner _ _ (λ z. other (sym z))))
+        (λ j h other. w.others (of_cell a j) (l, h) (λ z. grind arith))))
+        (λ i other l. other_words (Put a) w i l (λ z. absurd (cc)) (λ j z. grind arith))
         e l
     edges_after (Seal a) none w e l = at_other (λ i (stop : Option ℕ). i < all_edges g
         → Shows g.ring (value' (of_edge i)) (λ j. value' (of_cell i j)) (out_in g log i).link (into_in g log i).got stop)
@@ -233,24 +198,24 @@ module _ (g : Setting) (game : IsGame g.game) (some_ring : 0 < g.ring) (log : Lo
         (λ l.
         let few = claims_most g game some_ring log legal a in
         reread g.ring _ _ _ _ _ _ _ some_ring w.here
-        (λ j h. w.others (of_cell a j) (l, h) (other_kind _ _ (λ z. omega arith)))
+        (λ j h. w.others (of_cell a j) (l, h) (λ z. absurd (cc)))
         (subst (λ (n : ℕ). Shows g.ring (bit_or (value (of_edge a)) (2 ^ 63))
         (λ j. value (of_cell a j)) (out_in g log a).link (into_in g log a).got (after_seal n (stop_in g log a)))
         (finds (Seal a) none)
         (seal_shows g.ring some_ring (value (of_edge a)) (λ j. value (of_cell a j)) _ _ _ (sound a) (shown.edges a l)
         (omega arith))))
-        (λ i other l. other_words (Seal a) w i l (other_owner _ _ (λ z. other (sym z))) (λ j. other_kind _ _ (λ z. omega arith)))
+        (λ i other l. other_words (Seal a) w i l (λ z. grind arith) (λ j z. absurd (cc)))
         e l
     edges_after (Claim a) none w e l = claim_after a (λ i. (out_in g log i).pending) (met_for (Claim a) none).2
         (seen_by (Claim a)) (finds (Claim a) none) w.here
-        (λ i m other. w.others (of_edge i) m (other_owner _ _ (λ z. other (sym z))))
-        (λ i m j h. w.others (of_cell i j) (m, h) (other_kind _ _ (λ z. omega arith))) e l
+        (λ i m other. w.others (of_edge i) m (λ z. grind arith))
+        (λ i m j h. w.others (of_cell i j) (m, h) (λ z. absurd (cc))) e l
     edges_after (Feed a k) none w e l = claim_after a (λ i. k) (met_for (Feed a k) none).5
         (seen_by (Feed a k)) (finds (Feed a k) none) w.here
-        (λ i m other. w.others (of_edge i) m (other_owner _ _ (λ z. other (sym z))))
-        (λ i m j h. w.others (of_cell i j) (m, h) (other_kind _ _ (λ z. omega arith))) e l
-    edges_after x none w e l = other_words x w e l (other_kind _ _ (λ z. omega arith))
-        (λ i. other_kind _ _ (λ z. omega arith))
+        (λ i m other. w.others (of_edge i) m (λ z. grind arith))
+        (λ i m j h. w.others (of_cell i j) (m, h) (λ z. absurd (cc))) e l
+    edges_after x none w e l = other_words x w e l (λ z. absurd (cc))
+        (λ i z. absurd (cc))
 
     acks_after : (x : Event) → unmet_rule g x (acting_part g log x) ≡ None → IsLeft g log x value value' → (e : ℕ)
         → e < all_edges g → value' (of_acks e) ≡ acked_after g x (part_in g log (head_of g e)) e (into_in g log e)
@@ -264,15 +229,15 @@ module _ (g : Setting) (game : IsGame g.game) (some_ring : 0 < g.ring) (log : Lo
         let few = claims_most g game some_ring log legal a in
         let behind = (sound a).behind in
         w.here ∙ omega arith)
-        (λ i other l. w.others (of_acks i) l (other_owner _ _ (λ z. other (sym z))) ∙ shown.acks i l)
+        (λ i other l. w.others (of_acks i) l (λ z. grind arith) ∙ shown.acks i l)
         e l
     acks_after (Settle a) none w e l = dite (ℕ_discrete e a)
         (λ same. ap (λ (i : ℕ). value' (of_acks i)) same ∙ w.here ∙ ap (λ (i : ℕ). value (of_acks i)) (sym same))
-        (λ other. w.others (of_acks e) l (other_owner _ _ other)) ∙ shown.acks e l
+        (λ other. w.others (of_acks e) l (λ z. grind arith)) ∙ shown.acks e l
     acks_after End none w e l = dite (ℕ_discrete e (root_edge g 0))
         (λ same. ap (λ (i : ℕ). value' (of_acks i)) same ∙ w.here ∙ ap (λ (i : ℕ). value (of_acks i)) (sym same))
-        (λ other. w.others (of_acks e) l (other_owner _ _ other)) ∙ shown.acks e l
-    acks_after _ none w e l = w.others (of_acks e) l (other_kind _ _ (λ z. omega arith)) ∙ shown.acks e l
+        (λ other. w.others (of_acks e) l (λ z. grind arith)) ∙ shown.acks e l
+    acks_after _ none w e l = w.others (of_acks e) l (λ z. absurd (cc)) ∙ shown.acks e l
 
     -- an event that leaves firings and halts
     word_stays : (x : Step) (v : ℕ)
@@ -293,7 +258,7 @@ module _ (g : Setting) (game : IsGame g.game) (some_ring : 0 < g.ring) (log : Lo
         (λ same. ap (λ (i : ℕ). value' (of_vertex i)) same ∙ is
         ∙ ap (λ (i : ℕ). word_of_part (does g (made_by x) (part_in g log i))) (sym same)
         ∙ sym (ap word_of_part (part_here g (made_by x) log v (by ∙ sym same))))
-        (λ other. w.others (of_vertex v) l (λ z. other_owner (of_vertex v) (of_vertex a) other (z ∙ at))
+        (λ other. w.others (of_vertex v) l (λ z. other (let y : v ≡ a = cc in y))
         ∙ shown.fired v l ∙ sym (ap word_of_part (part_else g (made_by x) log v (λ z. other (sym z ∙ by)))))
 
     fired_after : (x : Event) → unmet_rule g x (acting_part g log x) ≡ None → IsLeft g log x value value' → (v : ℕ)
@@ -324,9 +289,9 @@ module _ (g : Setting) (game : IsGame g.game) (some_ring : 0 < g.ring) (log : Lo
         v l
     fired_after (Read a) none w v l = dite (ℕ_discrete v a)
         (λ same. ap (λ (i : ℕ). value' (of_vertex i)) same ∙ w.here ∙ ap (λ (i : ℕ). value (of_vertex i)) (sym same))
-        (λ other. w.others (of_vertex v) l (other_owner _ _ other)) ∙ shown.fired v l
+        (λ other. w.others (of_vertex v) l (λ z. grind arith)) ∙ shown.fired v l
         ∙ sym (word_stays (made_by (Read a)) v refl)
-    fired_after x none w v l = w.others (of_vertex v) l (other_kind _ _ (λ z. omega arith)) ∙ shown.fired v l
+    fired_after x none w v l = w.others (of_vertex v) l (λ z. absurd (cc)) ∙ shown.fired v l
         ∙ sym (word_stays (made_by x) v refl)
 
     -- the words show the longer log

@@ -8,7 +8,7 @@ use Rattle.std.proofs.lemmas.List.Elements.{Contains-append_left, Contains-appen
 use mathlib.Core.Logic.{dite}
 use native.Mathlib.Decide.{ℕ_discrete, dec_lt}
 use Rattle.chip_graph.specs.ChipGame.{IsGame}
-use Rattle.chip_graph.proofs.SumLemmas.{cond_yes, cond_no, tested_none}
+use Rattle.chip_graph.proofs.SumLemmas.{cond_yes, tested_none}
 use Rattle.chip_link.specs.Link.{claims_of, sent_counts}
 use Rattle.chip_link.proofs.SoundsLemmas.{length-sent_counts}
 use Rattle.chip_part.specs.Setting.{Setting}
@@ -30,6 +30,7 @@ use Rattle.chip_core.proofs.DueLemmas.{parent_below}
 use Rattle.chip_core.proofs.RoundLemmas.{makes_turn, settles_all, own_in}
 use Rattle.chip_core.proofs.ClosingLemmas.{settled_up, AtRest, rested, same_up, rests_on}
 use Rattle.chip_core.proofs.ReachingLemmas.{part_own}
+use Rattle.std.proofs.lemmas.Bool.Decides.{nat_tests}
 use Rattle.chip_detect.proofs.ListLemmas.{place_in, few_places, contained, cases_option, none_some, contains_cases}
 
 no_messages : (e place : ℕ) (counts : List ℕ) → messages_from e place counts ≡ [] → length counts ≡ 0
@@ -48,12 +49,8 @@ module _ (g : Setting) where
         let inside = subst (λ (w : ℕ). w < g.game.graph.vertices) tree.2.1.head (head_inside g game tree.2.0 tree.2.1.is_edge) in
         let other : tail_of g e ≡ u → ⊥ = (λ z. ⊎_elim (λ r. absurd (omega arith))
         (λ c. tree.1 (subst (Contains us) z c)) (parent_below g log u us tree v e m is)) in
-        let a = cond_no (tail_of g e) u (suc (length us)) (place_in us (tail_of g e)) other in
-        let b = few_places us (tail_of g e) in
-        dite (ℕ_discrete v u)
-        (λ same. let c = cond_yes v u (suc (length us)) (place_in us v) same in omega arith)
-        (λ ne. let c = cond_no v u (suc (length us)) (place_in us v) ne in
-        let d = places_fall us tree.0 v e (⊎_elim (λ z. absurd (ne z)) (λ z. z) (contains_cases u us v m)) is in omega arith)
+        let b = few_places us (tail_of g e) in let m' = contains_cases u us v m in
+        grind (arith, nat_tests, places_fall us tree.0 v e)
 
     pub places_are_levels : (vs : List ℕ) → IsDetectionOrder g log vs → IsAtMostDeep g log (length vs)
     places_are_levels vs order = record {

@@ -1,14 +1,14 @@
 -- Serves Wasting.antt.
 -- New looks are few, so steps that advance are; and where none is due the root is closed.
-use Rattle.std.proofs.Common.{◌≡◌, ℕ, zero, suc, ◌+◌, ◌*◌, ◌<◌, ◌≤◌, ◌||◌, Bool, true, false, cond, eqb, []}
-use Rattle.std.proofs.Common.{◌∷◌, ◌++◌, length, refl, sym, ap, ◌∙◌, arith, true≢false, ⊎_elim}
+use Rattle.std.proofs.Common.{◌≡◌, ℕ, zero, suc, ◌+◌, ◌*◌, ◌<◌, ◌≤◌, ◌||◌, Bool, true, false, cond, eqb, [], ◌∷◌, ◌++◌}
+use Rattle.std.proofs.Common.{length, refl, sym, ap, ◌∙◌, arith, true≢false, ⊎_elim}
 use Rattle.std.proofs.lemmas.Bool.Decides.{nat_tests}
 use mathlib.Core.Logic.{dite}
 use native.Mathlib.Decide.{ℕ_discrete}
 use Rattle.chip_graph.specs.ChipGame.{IsGame}
 use Rattle.chip_graph.specs.Sums.{sum_below}
 use Rattle.chip_graph.specs.Multigraph.{edge_at}
-use Rattle.chip_graph.proofs.SumLemmas.{cond_yes, cond_no, sum_below_le, sum_below_add, sum_below_one, one_at_most}
+use Rattle.chip_graph.proofs.SumLemmas.{sum_below_le, sum_below_add, one_at_most}
 use Rattle.chip_sequence.proofs.EndLemmas.{least_action}
 use Rattle.chip_link.specs.Link.{Tail, claims_of}
 use Rattle.chip_link.proofs.SoundsLemmas.{none_held, length-sent_counts}
@@ -20,23 +20,18 @@ use Rattle.chip_core.specs.Core.{Log, Step, Event, Clear, Claim, Put, Feed, part
 use Rattle.chip_core.specs.Core.{IsClosed, outstanding, tail_of, graph_edges, sees}
 use Rattle.chip_core.specs.Positions.{chips_given, firings}
 use Rattle.chip_core.specs.Words.{acting_part}
-use Rattle.chip_core.specs.Work.{counts_as_work, is_refusal}
-use Rattle.chip_core.specs.Work.{AreFiringBounds}
+use Rattle.chip_core.specs.Work.{counts_as_work, is_refusal, AreFiringBounds}
 use Rattle.chip_core.specs.Closing.{HasEnd, Advances, is_new_look}
 use Rattle.chip_core.specs.Wasting.{AllAdvance, NoneIsDue, NoWasteCloses}
 use Rattle.chip_core.proofs.LogLemmas.{out_kept, edge_sound, link_step, met_here, tail_inside}
 use Rattle.chip_core.proofs.PositionLemmas.{counts_are, is_sequence, is_within}
 use Rattle.chip_core.proofs.DueLemmas.{never_stuck, look_finds, tells_in}
-use Rattle.chip_core.proofs.WorkLemmas.{refused_on, few_refusals}
+use Rattle.chip_core.proofs.WorkLemmas.{refused_on, few_refusals, one_term}
 use Rattle.chip_core.proofs.ScheduleLemmas.{ends_longer, bounds_stay, few_after}
 
 -- what new looks at an edge leave behind: each is followed by a claim, or a refusal, or is noted still
 abbrev looked : Tail → ℕ
 looked t = claims_of t + refused_on t + cond t.clear 1 0
-
-one_term : (n e more : ℕ) → e < n → sum_below n (λ i. cond (eqb e i) more 0) ≡ more
-one_term n e more l = sum_below_one n (λ i. cond (eqb e i) more 0) e l
-    (λ i m other. cond_no e i more 0 (λ z. other (sym z))) ∙ cond_yes e e more 0 refl
 
 some_of_three : (a b c : Bool) → (a || b || c) ≡ true → 1 ≤ cond a 1 0 + cond b 1 0 + cond c 1 0
 some_of_three a b c on = grind (arith, nat_tests)

@@ -1,83 +1,47 @@
 -- Serves Work.antt.
 -- How many steps of a legal log count as work, and how many of its claims are refused.
-use Rattle.std.proofs.Common.{◌≡◌, ℕ, zero, suc, ◌+◌, ◌-◌, ◌*◌, ◌<◌, ◌≤◌, Bool, true, false, cond, eqb, List, [], ◌∷◌}
-use Rattle.std.proofs.Common.{length, Option, Some, None, is_some, refl, sym, ap, ◌∙◌, arith}
-use Rattle.std.proofs.Common.{length-append, min, sum, ltb, ◌++◌}
+use Rattle.std.proofs.Common.{◌≡◌, ℕ, zero, suc, ◌+◌, ◌-◌, ◌*◌, ◌<◌, ◌≤◌, true, cond, eqb, List, [], ◌∷◌}
+use Rattle.std.proofs.Common.{length, None, is_some, refl, sym, ap, ◌∙◌, arith, length-append, min, sum}
 use Rattle.chip_graph.specs.ChipGame.{IsGame}
 use Rattle.chip_graph.specs.Sums.{sum_below}
 use Rattle.chip_graph.specs.Multigraph.{edge_at, IsDistance}
 use Rattle.chip_sequence.specs.Bound.{greatest_degree, firing_bound, IsGreatestDistance}
 use Rattle.chip_sequence.proofs.EndLemmas.{least_action, continued}
 use Rattle.chip_sequence.proofs.BoundLemmas.{bound_law, below_top}
-use Rattle.chip_graph.proofs.SumLemmas.{cond_yes, cond_no, sum_below_le, sum_below_ext}
-use Rattle.chip_graph.proofs.SumLemmas.{sum_below_add, sum_below_split, sum_below_scale, sum_below_one, sum_below_none}
-use Rattle.chip_graph.proofs.SumLemmas.{one_at_most, none_either}
-use Rattle.chip_link.specs.Link.{Tail, claims_of, after_clear, after_claim, after_put, after_take, sent_counts}
+use Rattle.chip_graph.proofs.SumLemmas.{cond_yes, cond_no, sum_below_le, sum_below_ext, sum_below_add, sum_below_split}
+use Rattle.chip_graph.proofs.SumLemmas.{sum_below_scale, sum_below_one, sum_below_none, one_at_most}
+use Rattle.chip_link.specs.Link.{Tail, claims_of, sent_counts}
 use Rattle.chip_link.proofs.SoundsLemmas.{none_held, one_held, length-sent_counts}
 use Rattle.chip_part.specs.Setting.{Setting}
-use Rattle.chip_part.specs.Counting.{is_got, is_sent}
-use Rattle.chip_part.specs.declared.reply.Reply.TheVariants.{Got, Sent, Empty, Sealed}
-use Rattle.chip_part.specs.declared.cause.Cause.{Cause}
-use Rattle.chip_part.specs.Part.{may_ack, first_put, cause}
+use Rattle.chip_part.specs.Part.{first_put}
 use Rattle.chip_part.specs.Edges.{start_of}
 use Rattle.chip_part.specs.Kept.{Met}
 use Rattle.chip_part.specs.Steps.{saw, link_after, settled_after, got_after, acked_after, fired_after, halt_after}
 use Rattle.chip_part.proofs.EdgeLemmas.{tail_graph, tail_root}
 use Rattle.chip_core.specs.Core.{Log, Step, Event, Take, Ack, Fire, Clear, Claim, Put, Halt, Settle, Feed, End, Part}
-use Rattle.chip_core.specs.Core.{part_of, part_in, out_in, into_in, IsLegalLog, tail_of, head_of, root, root_edge}
-use Rattle.chip_core.specs.Core.{all_edges, graph_edges, fired_by, does}
+use Rattle.chip_core.specs.Core.{part_of, part_in, out_in, into_in, IsLegalLog, tail_of, head_of, root_edge, all_edges}
+use Rattle.chip_core.specs.Core.{graph_edges, fired_by}
 use Rattle.chip_core.specs.Positions.{chips_given, played_game, firings, fed_of}
-use Rattle.chip_core.specs.Work.{counts_as_work, is_refused_claim, is_refusal, work_in, refusals_in, starters}
-use Rattle.chip_core.specs.Work.{steps_at_most, fires_at_most, AreFiringBounds}
+use Rattle.chip_core.specs.Work.{counts_as_work, is_refusal, work_in, refusals_in, starters, steps_at_most}
+use Rattle.chip_core.specs.Work.{fires_at_most, AreFiringBounds}
 use Rattle.chip_core.proofs.PositionLemmas.{counts_are, is_sequence, is_within}
 use Rattle.chip_core.proofs.NumberLemmas.{few_root_claims}
 use Rattle.chip_core.proofs.LogLemmas.{out_kept, edge_sound, edge_counts, link_step, settled_step, got_step, acked_step}
-use Rattle.chip_core.proofs.LogLemmas.{tail_inside}
+use Rattle.chip_core.proofs.LogLemmas.{tail_inside, met_here}
 use Rattle.chip_core.proofs.GivenLemmas.{recorded, recorded_step, given_sum, played_has_more, fed_to, root_sends}
 use Rattle.chip_core.proofs.IdleLemmas.{counts_here}
-use Rattle.chip_part.proofs.PartLemmas.{at_other}
-use Rattle.chip_core.specs.Messages.{Message}
-use Rattle.chip_core.proofs.LogLemmas.{met_here}
 use Rattle.chip_sequence.specs.Sequence.{IsFiringSequence, counts}
 use Rattle.chip_part.proofs.OpeningLemmas.{first_is}
 use Rattle.std.proofs.lemmas.Bool.Decides.{nat_tests}
-use Rattle.std.proofs.lemmas.Bool.{cond-false}
 
--- one thing is changed, and what is measured of it grows by so much
-grows_at : {A : Type 0} (size : ℕ → A → ℕ) (e more : ℕ) (new old : ℕ → A) → size e (old e) + more ≤ size e (new e)
-    → (i : ℕ) → size i (old i) + cond (eqb e i) more 0 ≤ size i (cond (eqb e i) (new i) (old i))
-grows_at size e more new old here = at_other (λ i a. size i (old i) + cond (eqb e i) more 0 ≤ size i a) e new old
-    (let a = cond_yes e e more 0 refl in omega arith) (λ i other. let a = cond_no e i more 0 other in omega arith)
-
-one_term : (n e more : ℕ) → e < n → sum_below n (λ i. cond (eqb e i) more 0) ≡ more
+-- a number that counts at one place
+pub one_term : (n e more : ℕ) → e < n → sum_below n (λ i. cond (eqb e i) more 0) ≡ more
 one_term n e more l = sum_below_one n (λ i. cond (eqb e i) more 0) e l
     (λ i m other. cond_no e i more 0 (λ z. other (sym z))) ∙ cond_yes e e more 0 refl
 
 -- a refusal that is noted, as a number
 abbrev pub refused_on : Tail → ℕ
 refused_on t = cond t.refused 1 0
-
--- what one step does, by what it tells
-take_grows : (b : Bool) (m : Message) (seen : ℕ) (got : List ℕ)
-    → length got + cond (is_got (cond b Empty (Got m))) 1 0 ≤ length (cond b got (got ++ seen ∷ []))
-take_grows true m seen got = omega arith
-take_grows false m seen got = let a = length-append got (seen ∷ []) in omega arith
-
-claim_grows : (b : Bool) (m : Message) (count : ℕ) (t : Tail) → t.held ≡ None
-    → length t.put + claims_of t + cond (is_sent (cond b (Sent m) Sealed)) 1 0
-    ≤ (let u : Tail = cond b (record t { held = Some count; clear = false }) (record t { clear = false; refused = true }) in
-    length u.put + claims_of u)
-claim_grows true m count t none = let a = none_held t none in omega arith
-claim_grows false m count t none = omega arith
-
-refusal_grows : (b : Bool) (e : ℕ) (m : Message) (count : ℕ) (t : Tail) → t.refused ≡ false
-    → refused_on t + cond (is_refused_claim (Claim e) (cond b (Sent m) Sealed)) 1 0
-    ≤ refused_on (cond b (record t { held = Some count; clear = false }) (record t { clear = false; refused = true }))
-refusal_grows true e m count t off = omega arith
-refusal_grows false e m count t off = let a : ◌≡◌ {A = ℕ} (refused_on t) 0 = cond-false t.refused 1 0 off in omega arith
-
-some_more : (n : ℕ) → cond (ltb 0 n) 1 0 ≤ n
-some_more n = grind (arith, nat_tests)
 
 module _ (g : Setting) where
   -- what was done on an edge, and by a vertex
@@ -130,67 +94,38 @@ module _ (g : Setting) where
     hand : (log : Log) → IsLegalLog g log → (e : ℕ) → (out_in g log e).link.clear ≡ true → (out_in g log e).link.held ≡ None
     hand log legal e clear = (edge_sound g game some_ring log legal e).quiet clear
 
-    link_work : ℕ → Tail → ℕ
-    link_work e t = length t.put + claims_of t
-
     -- no event takes anything back, and one that counts does more
     edge_more : (log : Log) → IsLegalLog g log → (x : Event) (seen : ℕ) → Met g x (part_in g log (part_of g x)) → (e : ℕ)
         → edge_work log e + cond (eqb (edge_of x) e) (on_edge x (counted log x seen)) 0 ≤ work_after log x seen e
-    unfolding link_work
     edge_more log legal (Take i) seen may e =
-        let a = grows_at (λ j (l : List ℕ). length l) i (counted log (Take i) seen) (λ j. after_take seen (into_in g log j).got)
-        (λ j. (into_in g log j).got) (take_grows (eqb seen 0) _ seen (into_in g log i).got) e in omega arith
-    edge_more log legal (Ack i) seen may e =
-        let some = may.2 in
-        let a = grows_at (λ j (n : ℕ). n) i 1 (λ j. (into_in g log j).acked + may_ack g (head_of g i) (part_in g log (head_of g j)) i)
-        (λ j. (into_in g log j).acked) (omega arith) e in omega arith
-    edge_more log legal (Settle i) seen may e =
-        let more = some_more (seen - (out_in g log i).settled) in
-        let a = grows_at (λ j (n : ℕ). n) i (counted log (Settle i) seen)
-        (λ j. (out_in g log j).settled + (seen - (out_in g log j).settled)) (λ j. (out_in g log j).settled) (omega arith) e in
-        omega arith
+        let a = length-append (into_in g log e).got (seen ∷ []) in grind (arith, nat_tests)
+    edge_more log legal (Ack i) seen may e = let some = may.2 in grind (arith, nat_tests)
+    edge_more log legal (Settle i) seen may e = grind (arith, nat_tests)
     edge_more log legal End seen may e =
-        let i : ℕ = root_edge g 0 in
-        let mine = ap (λ (p : ℕ). ((part_in g log p).out i).settled) (tail_root g i (omega arith)) in
-        let more = some_more (seen - ((part_in g log (root g)).out i).settled) in
-        let a = grows_at (λ j (n : ℕ). n) i (counted log End seen)
-        (λ j. (out_in g log j).settled + (seen - (out_in g log j).settled)) (λ j. (out_in g log j).settled) (omega arith) e in
-        omega arith
-    edge_more log legal (Clear i) seen may e =
-        let a = grows_at link_work i 0 (λ j. after_clear seen (out_in g log j).link) (λ j. (out_in g log j).link) (omega arith) e in
-        let b = none_either (eqb 0 e) in omega arith
+        let mine = ap (λ (p : ℕ). ((part_in g log p).out (root_edge g 0)).settled) (tail_root g (root_edge g 0) (omega arith)) in
+        grind (arith, nat_tests)
+    edge_more log legal (Clear i) seen may e = grind (arith, nat_tests)
     edge_more log legal (Claim i) seen may e =
-        let o = out_in g log i in
-        let a = grows_at link_work i (counted log (Claim i) seen) (λ j. after_claim (out_in g log j).pending seen (out_in g log j).link)
-        (λ j. (out_in g log j).link)
-        (claim_grows (eqb seen (claims_of o.link)) _ o.pending o.link (hand log legal i may.2)) e in omega arith
+        let none = none_held (out_in g log i).link (hand log legal i may.2) in grind (arith, nat_tests)
     edge_more log legal (Feed i k) seen may e =
-        let o = out_in g log i in
-        let a = grows_at link_work i (counted log (Feed i k) seen) (λ j. after_claim k seen (out_in g log j).link)
-        (λ j. (out_in g log j).link) (claim_grows (eqb seen (claims_of o.link)) _ k o.link (hand log legal i may.5)) e in omega arith
+        let none = none_held (out_in g log i).link (hand log legal i may.5) in grind (arith, nat_tests)
     edge_more log legal (Put i) seen may e =
         let t = (out_in g log i).link in
-        let long = length-sent_counts t in let held = one_held t may.1.0 may.1.1 in
-        let a = grows_at link_work i 1 (λ j. after_put (out_in g log j).link) (λ j. (out_in g log j).link) (omega arith) e in
-        omega arith
-    edge_more log legal x seen may e = let b = none_either (eqb (edge_of x) e) in omega arith
+        let long = length-sent_counts t in let held = one_held t may.1.0 may.1.1 in grind (arith, nat_tests)
+    edge_more log legal x seen may e = grind (arith, nat_tests)
 
     vertex_after : (log : Log) (x : Event) (seen : ℕ) (s : Part) → Met g x s
         → s.fired + cond (is_some s.halt) 1 0 + by_vertex x (counted log x seen)
         ≤ fired_after x s.fired + cond (is_some (halt_after g x s)) 1 0
-    vertex_after log (Halt v) seen s may =
-        let a : ◌≡◌ {A = ℕ} (cond (is_some s.halt) 1 0) 0 = ap (λ (h : Option Cause). cond (is_some h) 1 0) may.2 in
-        let b : ◌≡◌ {A = ℕ} (cond (is_some (cause g v s)) 1 0) 1 = ap (λ (h : Option Cause). cond (is_some h) 1 0) may.4.1 in
-        omega arith
+    vertex_after log (Halt v) seen s may = let some = may.4.1 in grind (arith, nat_tests)
     vertex_after log (Fire v k) seen s may = let some = may.5 in omega arith
     vertex_after log _ seen s may = omega arith
 
     vertex_more : (x : Step) (log : Log) → Met g x.event (part_in g log (part_of g x.event)) → (v : ℕ)
         → vertex_work log v + cond (eqb (part_of g x.event) v) (by_vertex x.event (counted log x.event x.seen)) 0
         ≤ vertex_work (x ∷ log) v
-    vertex_more x log may = grows_at (λ v (s : Part). s.fired + cond (is_some s.halt) 1 0) (part_of g x.event)
-        (by_vertex x.event (counted log x.event x.seen)) (λ v. does g x (part_in g log v)) (part_in g log)
-        (vertex_after log x.event x.seen (part_in g log (part_of g x.event)) may)
+    vertex_more x log may v =
+        let a = vertex_after log x.event x.seen (part_in g log (part_of g x.event)) may in grind (arith, nat_tests)
 
     -- ---- all that was done
 
@@ -231,11 +166,7 @@ module _ (g : Setting) where
 
     -- a root edge opens with one message where its vertex starts with chips
     first_length : (v : ℕ) → length (first_put g (root_edge g v)) ≡ cond (eqb (start_of g v) 0) 0 1
-    first_length v = ap length (first_is g v) ∙ long (eqb (start_of g v) 0)
-      where
-        long : (b : Bool) → length (cond b [] (start_of g v ∷ [])) ≡ cond b 0 1
-        long true = refl
-        long false = refl
+    first_length v = let first = first_is g v in grind (arith, nat_tests)
 
     work_fits : (log : Log) → IsLegalLog g log → work_in g log + 2 * starters g.game ≤ all_work log
     work_fits [] legal =
@@ -331,21 +262,10 @@ module _ (g : Setting) where
         → e < graph_edges g → refused_on (out_in g log e).link
         + cond (eqb (edge_of x) e) (cond (is_refusal g (part_in g log (part_of g x)) (saw x seen)) 1 0) 0
         ≤ refused_on (link_after x seen e (out_in g log e))
-    refused_more log legal (Clear i) seen may e l = let a = grows_at (λ j. refused_on) i 0 (λ j. after_clear seen (out_in g log j).link)
-        (λ j. (out_in g log j).link) (omega arith) e in let b = none_either (eqb 0 e) in omega arith
-    refused_more log legal (Put i) seen may e l = let a = grows_at (λ j. refused_on) i 0 (λ j. after_put (out_in g log j).link)
-        (λ j. (out_in g log j).link) (omega arith) e in let b = none_either (eqb i e) in omega arith
-    refused_more log legal (Claim i) seen may e l = grows_at (λ j. refused_on) i
-        (cond (is_refusal g (part_in g log (tail_of g i)) (saw (Claim i) seen)) 1 0)
-        (λ j. after_claim (out_in g log j).pending seen (out_in g log j).link) (λ j. (out_in g log j).link)
-        (refusal_grows (eqb seen (claims_of (out_in g log i).link)) i _ (out_in g log i).pending (out_in g log i).link
-        ((out_kept g game log legal i).clear_open may.0 may.2)) e
-    refused_more log legal (Feed i k) seen may e l =
-        let past = may.0 in
-        let a = ap refused_on (cond_no i e (after_claim k seen (out_in g log e).link) (out_in g log e).link
-        (λ z. absurd (omega arith))) in
-        let b = none_either (eqb i e) in omega arith
-    refused_more log legal x seen may e l = let b = none_either (eqb (edge_of x) e) in omega arith
+    refused_more log legal (Claim i) seen may e l =
+        let open' = (out_kept g game log legal i).clear_open may.0 may.2 in grind (arith, nat_tests)
+    refused_more log legal (Feed i k) seen may e l = let past = may.0 in grind (arith, nat_tests)
+    refused_more log legal x seen may e l = grind (arith, nat_tests)
 
     abbrev pub all_refused : Log → ℕ
     all_refused log = sum_below (graph_edges g) (λ e. refused_on (out_in g log e).link)

@@ -1,23 +1,23 @@
 -- Serves Ends.antt.
 -- The ends of a vertex's edges: what a search finds there, and what a write at the place that it found changes.
-use Rattle.std.proofs.lemmas.List.{take_more, take_more_set, drop-set-lt, map-append}
+use Rattle.std.proofs.lemmas.List.{take_more, take_more_set, drop-set-lt, map-append, length-map, get_or-map, map-set}
+use Rattle.std.proofs.lemmas.List.{set-get_or, take_all, take-append-le}
 use Rattle.std.proofs.Math.Seq.{drop-cons}
-use Rattle.std.proofs.Common.{◌≡◌, ℕ, suc, ◌+◌, ◌<◌, ◌≤◌, Bool, true, false, subst, cond, eqb, List, [], ◌∷◌, ◌++◌, length, take, drop}
+use Rattle.std.proofs.lemmas.Bool.Decides.{nat_tests}
+use Rattle.std.proofs.Common.{◌≡◌, ℕ, suc, ◌+◌, ◌<◌, ◌≤◌, subst, cond, eqb, List, [], ◌∷◌, ◌++◌, length, take, drop}
 use Rattle.std.proofs.Common.{map, get_or, set, Some, None, refl, sym, ap, ◌∙◌, arith}
 use mathlib.Core.Logic.{dite}
-use native.Mathlib.Decide.{ℕ_discrete, dec_lt}
-use Rattle.chip_graph.proofs.SumLemmas.{cond_yes, cond_no}
+use native.Mathlib.Decide.{dec_lt}
 use Rattle.chip_detect.specs.declared.slot.Slot.{Slot}
 use Rattle.chip_detect.specs.Slot.{IsSlotOf}
 use Rattle.chip_detect.proofs.LookupsLemmas.{ascends}
 use Rattle.chip_link.specs.declared.message.Message.{Message}
-use Rattle.chip_link.specs.Ends.{HeadState, TailState, may_clear, message_claimed, tail_after_claim, tail_after_clear}
+use Rattle.chip_link.specs.Ends.{HeadState, TailState, message_claimed, tail_after_claim, tail_after_clear}
 use Rattle.chip_link.specs.Ends.{head_after_take, new_head}
 use Rattle.chip_actor.specs.Ends.{on_edge, OutEnd, OutEnds, InEnds, no_out, out_on, in_on, AreApart, ChangesOut}
 use Rattle.chip_actor.specs.Ends.{ChangesIn, outs_of, ins_of, out_after_claim}
 use Rattle.chip_actor.proofs.LookupsLemmas.{on_edge_at, on_edge_changed}
 use Rattle.std.specs.List.Sorted.{IsStrictlyIncreasing}
-use Rattle.std.proofs.lemmas.List.{length-map, get_or-map, map-set, set-get_or, take_all, take-append-le}
 
 module _ {T : Type 0} (none : T) {edges : List ℕ} {ends : List T} (apart : AreApart edges ends) {slot : Slot}
     (at : IsSlotOf edges slot) {old : T} (was : old ≡ get_or ends slot.index old) where
@@ -114,48 +114,26 @@ module _ {ends : List HeadState} {now : InEnds} (same : ins_of ends ≡ now) (ap
       apart.ascending
 
 -- no step of a tail changes which edge it is an end of
-either_edge : (b : Bool) (t u : TailState) (e : ℕ) → t.edge ≡ e → u.edge ≡ e → (cond b t u).edge ≡ e
-either_edge true t u e here there = here
-either_edge false t u e here there = there
-
 pub clear_keeps : (cell : ℕ) (t : TailState) → (tail_after_clear cell t).edge ≡ t.edge
-clear_keeps cell t = either_edge (may_clear t) _ t t.edge refl refl
+clear_keeps cell t = grind (arith, nat_tests)
 
 pub claim_keeps : (word count : ℕ) (t : TailState) → (tail_after_claim word count t).edge ≡ t.edge
-claim_keeps word count t = either_edge (eqb word t.claims) _ _ t.edge refl refl
+claim_keeps word count t = grind (arith, nat_tests)
 
 -- nor does a take
 pub take_keeps : (cell : ℕ) (h : HeadState) → (head_after_take cell h).edge ≡ h.edge
-take_keeps cell h = either (eqb cell 0)
-  where
-    either : (b : Bool) → (cond b h (record h { taken = h.taken + 1 })).edge ≡ h.edge
-    either true = refl
-    either false = refl
-
--- an end with a claim, and with so much pending
-abbrev claiming : ℕ → OutEnd → ℕ → OutEnd
-claiming word o pending = record o { pending = pending; link = tail_after_claim word o.pending o.link }
+take_keeps cell h = grind (arith, nat_tests)
 
 -- a claim that is answered by a message sent all that was pending
 pub claim_taken : (word : ℕ) (o : OutEnd) (m : Message) → Some m ≡ message_claimed word o.pending o.link
     → (let n : OutEnd = record o { pending = 0; link = tail_after_claim word o.pending o.link } in n)
     ≡ out_after_claim word o
-claim_taken word o m sent = dite (ℕ_discrete word o.link.claims)
-    (λ hit. ap (claiming word o) (sym (cond_yes word o.link.claims 0 o.pending hit)))
-    (λ miss. absurd (not_sent (sent ∙ cond_no word o.link.claims _ None miss)))
-  where
-    not_sent : Some m ≡ None → ⊥
-    not_sent q = cc
+claim_taken word o m sent = grind (arith, nat_tests)
 
 -- one that is refused leaves it
 pub claim_refused : (word : ℕ) (o : OutEnd) → None ≡ message_claimed word o.pending o.link
     → (let n : OutEnd = record o { link = tail_after_claim word o.pending o.link } in n) ≡ out_after_claim word o
-claim_refused word o sent = dite (ℕ_discrete word o.link.claims)
-    (λ hit. absurd (not_none (sent ∙ cond_yes word o.link.claims _ None hit)))
-    (λ miss. ap (claiming word o) (sym (cond_no word o.link.claims 0 o.pending miss)))
-  where
-    not_none : {m : Message} → None ≡ Some m → ⊥
-    not_none q = cc
+claim_refused word o sent = grind (arith, nat_tests)
 
 -- one step of a loop that changes each element by f
 module _ {T : Type 0} (f : T → T) (old xs : List T) (i : ℕ) (d : T) (lengths : length xs ≡ length old)

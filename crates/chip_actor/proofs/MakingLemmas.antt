@@ -1,13 +1,12 @@
 -- Serves Ends.antt, Actor.antt.
 -- Each call that makes an event: what its parts ask, and what it comes to.
-use Rattle.std.proofs.Common.{◌≡◌, ◌≢◌, ℕ, zero, suc, ◌+◌, ◌-◌, ◌*◌, ◌<◌, ◌≤◌, ◌^◌, ◌%◌, Bool, true, false}
-use Rattle.std.proofs.Common.{cond, if◌then◌else◌, eqb, [], ◌∷◌, length, sum, Option, Some, None}
-use Rattle.std.proofs.Common.{IsTrue, option_to_list, refl, sym, ap, ◌∙◌, subst, arith, eq-eqb}
-use mathlib.Core.Logic.{dite}
-use native.Mathlib.Decide.{ℕ_discrete}
+use Rattle.std.proofs.lemmas.Bool.Decides.{nat_tests}
+use Rattle.std.proofs.Common.{◌≡◌, ◌≢◌, ℕ, zero, suc, ◌+◌, ◌-◌, ◌*◌, ◌<◌, ◌≤◌, ◌^◌, ◌%◌, Bool, cond, if◌then◌else◌, eqb}
+use Rattle.std.proofs.Common.{[], ◌∷◌, length, sum, Option, Some, None, IsTrue, option_to_list, refl, sym, ap, ◌∙◌}
+use Rattle.std.proofs.Common.{subst, arith, eq-eqb}
 use Rattle.std.specs.List.{Contains}
 use Rattle.chip_graph.specs.Sums.{sum_below}
-use Rattle.chip_graph.proofs.SumLemmas.{cond_yes, cond_no, by_test, tested_term, one_at_most}
+use Rattle.chip_graph.proofs.SumLemmas.{tested_term, one_at_most}
 use Rattle.chip_link.specs.declared.message.Message.{Message}
 use Rattle.chip_link.specs.Words.{claims_in}
 use Rattle.chip_link.specs.Ends.{TailState, HeadState, claim_words, put_of, tail_after_clear, message_claimed}
@@ -28,28 +27,21 @@ use Rattle.chip_part.specs.declared.reply.Reply.{Reply}
 use Rattle.chip_part.specs.Steps.{message_of, does, saw}
 use Rattle.chip_part.specs.declared.reply.Reply.TheVariants.{Done, Got, Sent, Empty, Full, Sealed}
 use Rattle.chip_actor.specs.declared.ends.outs.OutEnd.{OutEnd}
-use Rattle.chip_actor.specs.Ends.{OutEnds, InEnds, out_on, in_on, ChangesOut, ChangesOuts, ChangesIn}
-use Rattle.chip_actor.specs.Ends.{out_after_clear, out_after_claim, out_after_put, out_after_fire}
-use Rattle.chip_actor.specs.Actor.{Actor, StandsFor, SomePart, WhateverPart, is_passive_now}
+use Rattle.chip_actor.specs.Ends.{OutEnds, InEnds, out_on, in_on, ChangesOut, ChangesOuts, ChangesIn, out_after_clear}
+use Rattle.chip_actor.specs.Ends.{out_after_claim, out_after_put, out_after_fire}
+use Rattle.chip_actor.specs.Actor.{Actor, StandsFor, SomePart, WhateverPart, is_passive_now, Makes}
 use Rattle.chip_part.specs.Acting.{CanDo}
-use Rattle.chip_actor.specs.Actor.{Makes}
 use Rattle.chip_part.proofs.RuleLemmas.{rules_met}
-use Rattle.chip_actor.proofs.StandingLemmas.{out_inside, may_ack_is}
-use Rattle.chip_actor.proofs.StandingLemmas.{few_fired}
+use Rattle.chip_actor.proofs.StandingLemmas.{out_inside, may_ack_is, few_fired}
 use Rattle.chip_actor.proofs.SteppingLemmas.{takes, takes_none, settles, acknowledges, halts, clears, may_look, claims}
 use Rattle.chip_actor.proofs.SteppingLemmas.{is_refused, puts, fires}
-use Rattle.std.proofs.lemmas.Bool.{cond-true, cond-false}
 use Rattle.chip_part.proofs.TurnLemmas.{at_most_one}
 
 -- ---- a take
 
 -- a message came out of a cell that wasn't empty
 pub message_seen : (seen : ℕ) (h : HeadState) (m : Message) → Some m ≡ message_taken seen h → seen ≢ 0
-message_seen seen h m is none = absurd
-    (differ (is ∙ cond_yes seen 0 None (Some (record { edge = h.edge; place = h.taken; count = seen })) none))
-  where
-    differ : Some m ≡ None → ⊥
-    differ q = cc
+message_seen seen h m is none = grind (arith, nat_tests)
 
 pub take_made : (a : Actor) (e seen : ℕ) (is : InEnds) (b : Books) (m : Message)
     → ChangesIn a.ins is e (head_after_take seen) → Some m ≡ message_taken seen (in_on a.ins e) → Gets a.detect b e
@@ -58,32 +50,18 @@ pub take_made : (a : Actor) (e seen : ℕ) (is : InEnds) (b : Books) (m : Messag
 take_made a e seen is b m change message gets sound = λ g s stands can.
     let some = message_seen seen (in_on a.ins e) m message in
     let fits = can.2 some in
-    let sent : Some m ≡ Some (message_of e (length (s.into e).got) seen)
-    = message ∙ cond_no seen 0 None
-    (Some (record { edge = (in_on a.ins e).edge; place = (in_on a.ins e).taken; count = seen })) some
-    ∙ (λ j. Some (record { edge = (stands.ins e can.0 j).edge; place = (stands.ins e can.0 j).taken; count = seen }))
-    in
-    let is_message : m ≡ message_of e (length (s.into e).got) seen = cc in (
+    let here = stands.ins e can.0 in
+    let is_message : m ≡ message_of e (length (s.into e).got) seen = grind (arith, nat_tests) in (
       takes g s a stands e seen can.0 can.1 some fits.0 is change b gets sound,
-      ap Got is_message
-          ∙ sym (cond_no seen 0 Empty (Got (message_of e (length (s.into e).got) seen)) some),
+      grind (arith, nat_tests),
       refl,
     )
 
 pub take_empty : (a : Actor) (e seen : ℕ) (is : InEnds) → ChangesIn a.ins is e (head_after_take seen)
     → None ≡ message_taken seen (in_on a.ins e) → Makes a (record a { ins = is }) (Take e) seen Empty
 take_empty a e seen is change message = λ g s stands can.
-    let none : seen ≡ 0 = dite (ℕ_discrete seen 0) (λ z. z)
-    (λ n. absurd (differ (message
-    ∙ cond_no seen 0 None (Some (record { edge = (in_on a.ins e).edge; place = (in_on a.ins e).taken; count = seen }))
-    n))) in (
-      takes_none g s a stands e seen none is change,
-      sym (cond_yes seen 0 Empty (Got (message_of e (length (s.into e).got) seen)) none),
-      refl,
-    )
-  where
-    differ : {m : Message} → None ≡ Some m → ⊥
-    differ q = cc
+    let none : seen ≡ 0 = grind (arith, nat_tests) in
+    (takes_none g s a stands e seen none is change, grind (arith, nat_tests), refl)
 
 -- ---- a settle
 
@@ -137,14 +115,9 @@ clear_made a e seen os words is change = λ g s stands can.
     ∙ ap claim_words (Rattle.chip_link.proofs.StatesLemmas.tail_clears e g.ring link seen
     (may_look g s a stands e can.0 can.1)) in (
       clears g s a stands e seen can.0 can.1 os change,
-      ap clear_reply looked
-          ∙ by_cell (eqb seen 0) (claims_of link),
+      ap clear_reply looked ∙ grind (arith, nat_tests),
       refl,
     )
-  where
-    by_cell : (b : Bool) (n : ℕ) → clear_reply (cond b (Some (n, n + 1)) None) ≡ cond b (Done n) Full
-    by_cell true n = refl
-    by_cell false n = refl
 
 -- ---- a claim
 
@@ -152,9 +125,7 @@ clear_made a e seen os words is change = λ g s stands can.
 few_terms : (n : ℕ) (t : ℕ → Bool) (f : ℕ → ℕ) → ((e : ℕ) → f e ≤ 1) → sum_below n (λ e. cond (t e) (f e) 0) ≤ n
 few_terms zero t f ones = omega arith
 few_terms (suc n) t f ones =
-    let before = few_terms n t f ones in let here = ones n in
-    by_test (t n) (λ y. let a = cond-true (t n) (f n) 0 y in omega arith) (λ z. let a = cond-false (t n) (f n) 0 z in
-    omega arith)
+    let before = few_terms n t f ones in let here = ones n in grind (arith, nat_tests)
 
 pub record MayClaim (a : Actor) (e seen : ℕ) : Type 0 where
   pub clear : IsTrue (out_on a.outs e).link.clear
@@ -208,37 +179,23 @@ pub claim_made : (a : Actor) (e seen : ℕ) (os : OutEnds) (b : Books) (m : Mess
     (Sent m)
 claim_made a e seen os b m change message sends sound = λ g s stands can.
     let n : ℕ = claims_of (s.out e).link in
-    let sent = message ∙ (λ j. message_claimed seen (stands.outs e can.0 j).pending (stands.outs e can.0 j).link) in
-    let hit : seen ≡ n = dite (ℕ_discrete seen n) (λ z. z)
-    (λ z. absurd (differ (sent ∙ cond_no seen n (Some (message_of e n (s.out e).pending)) None z))) in
-    let same : Some m ≡ Some (message_of e n (s.out e).pending) = sent
-    ∙ cond_yes seen n (Some (message_of e n (s.out e).pending)) None hit in
-    let is_message : m ≡ message_of e n (s.out e).pending = cc in (
+    let here = stands.outs e can.0 in let hit : seen ≡ n = grind (arith, nat_tests) in
+    let is_message : m ≡ message_of e n (s.out e).pending = grind (arith, nat_tests) in (
       subst (λ (k : ℕ). StandsFor g (does g (saw (Claim e) seen) s)
           (record a { outs = os; detect = b; pending = a.pending - k; unput = a.unput + 1 }))
           (sym (ap (λ (x : Message). x.count) is_message))
           (claims g s a stands e seen can.0 can.1 os change hit b sends sound),
-      ap Sent is_message ∙ sym (cond_yes seen n (Sent (message_of e n (s.out e).pending)) Sealed hit),
+      grind (arith, nat_tests),
       refl,
     )
-  where
-    differ : Some m ≡ None → ⊥
-    differ q = cc
 
 pub claim_sealed : (a : Actor) (e seen : ℕ) (os : OutEnds) → ChangesOut a.outs os e (out_after_claim seen)
     → None ≡ message_claimed seen (out_on a.outs e).pending (out_on a.outs e).link
     → Makes a (record a { outs = os; refused = a.refused + 1 }) (Claim e) seen Sealed
 claim_sealed a e seen os change message = λ g s stands can.
     let n : ℕ = claims_of (s.out e).link in
-    let sent = message ∙ (λ j. message_claimed seen (stands.outs e can.0 j).pending (stands.outs e can.0 j).link) in
-    let miss : seen ≢ n = (λ z. differ (sent ∙ cond_yes seen n (Some (message_of e n (s.out e).pending)) None z)) in (
-      is_refused g s a stands e seen can.0 can.1 os change miss,
-      sym (cond_no seen n (Sent (message_of e n (s.out e).pending)) Sealed miss),
-      refl,
-    )
-  where
-    differ : {m : Message} → None ≡ Some m → ⊥
-    differ q = cc
+    let here = stands.outs e can.0 in let miss : seen ≢ n = (λ z. grind (arith, nat_tests)) in
+    (is_refused g s a stands e seen can.0 can.1 os change miss, grind (arith, nat_tests), refl)
 
 -- ---- a put
 
@@ -300,15 +257,4 @@ fire_made a k seen os change = λ g s stands can. (
 
 -- the message that a claim sent carries what was pending
 pub message_count : (word n : ℕ) (t : TailState) (m : Message) → Some m ≡ message_claimed word n t → m.count ≡ n
-message_count word n t m is = by_test (eqb word t.claims)
-    (λ y. counts (is ∙ cond-true (eqb word t.claims) (Some (record { edge = t.edge; place = t.claims; count = n })) None
-    y))
-    (λ z. absurd (differ (is ∙ cond-false (eqb word t.claims)
-    (Some (record { edge = t.edge; place = t.claims; count = n })) None z)))
-  where
-    counts : Some m ≡ Some (record { edge = t.edge; place = t.claims; count = n }) → m.count ≡ n
-    counts q = let same : m ≡ record { edge = t.edge; place = t.claims; count = n } = cc in
-        ap (λ (x : Message). x.count) same
-
-    differ : Some m ≡ None → ⊥
-    differ q = cc
+message_count word n t m is = grind (arith, nat_tests)

@@ -1,7 +1,8 @@
 -- Serves Medium.antt, Actor.antt.
 -- How a turn over a medium goes on, step by step.
-use Rattle.std.proofs.Common.{◌≡◌, ◌≢◌, ℕ, ◌+◌, ◌*◌, ◌^◌, ◌<◌, ◌≤◌, Bool, true, false, cond, List, [], ◌∷◌, ◌++◌}
-use Rattle.std.proofs.Common.{reverse, length, Some, None, refl, sym, ap, ◌∙◌, subst, add_assoc, arith}
+use Rattle.std.proofs.lemmas.Bool.Decides.{nat_tests}
+use Rattle.std.proofs.Common.{◌≡◌, ◌≢◌, ℕ, ◌+◌, ◌*◌, ◌^◌, ◌<◌, ◌≤◌, Bool, cond, List, [], ◌∷◌, ◌++◌, reverse, length}
+use Rattle.std.proofs.Common.{Some, None, refl, sym, ap, ◌∙◌, subst, add_assoc, arith}
 use Rattle.std.proofs.lemmas.List.{append_assoc, reverse-append}
 use Rattle.chip_part.specs.Setting.{Setting}
 use Rattle.chip_part.specs.declared.act.Act.{Act}
@@ -12,13 +13,12 @@ use Rattle.chip_part.specs.Rules.{Event, unmet_rule}
 use Rattle.chip_part.specs.declared.reply.Reply.{Reply}
 use Rattle.chip_part.specs.Steps.{Step, part_of, does, saw}
 use Rattle.chip_part.specs.Acting.{act_of, event_of, CanDo, IsDue}
-use Rattle.chip_actor.specs.Actor.{Makes}
+use Rattle.chip_actor.specs.Actor.{Makes, Actor, StandsFor, SomePart, WhateverPart}
 use Rattle.chip_part.specs.Turn.{turn, ins_of, outs_of}
 use Rattle.chip_part.specs.declared.cursor.Cursor.{Cursor}
 use Rattle.chip_part.specs.Cursor.{rest_of_turn, IsAt, GoesBy, most_left}
 use Rattle.chip_actor.specs.Turning.{DueAt, MayBeAt}
 use Rattle.chip_part.specs.Counting.{work_of, is_work}
-use Rattle.chip_actor.specs.Actor.{Actor, StandsFor, SomePart, WhateverPart}
 use Rattle.chip_actor.specs.Medium.{Holding, IsDueBy, MayServe, Serves, Meets, GoesOn, Moves, MakesTurnOver, AreOf}
 use Rattle.chip_part.proofs.CursorLemmas.{Passes, event_of_act, act_is_some}
 
@@ -174,8 +174,7 @@ meets_after {H} {K} {a} {b} {x} {y} (g, ds, s, held, stands, at) moves =
 
 -- a step counts for one at most
 pub one_few : (n : ℕ) (b : Bool) → n ≡ one_if b → n ≤ 1
-one_few n true is = omega arith
-one_few n false is = omega arith
+one_few n b is = grind (arith, nat_tests)
 
 -- what is due at a cursor, by the operation that its event needs
 pub due_at : {a : Actor} {x y : Cursor} {e : Event} {act : Act} → DueAt a x (Some (e, y))

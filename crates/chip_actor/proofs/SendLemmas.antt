@@ -1,10 +1,8 @@
 -- Serves Medium.antt, Actor.antt, Ends.antt.
 -- A send over a medium at one edge: what its calls ask, and how the turn goes on from each to the next.
-use Rattle.std.proofs.Common.{◌≡◌, ◌≢◌, ℕ, ◌+◌, ◌-◌, ◌^◌, ◌%◌, ◌<◌, ◌≤◌, Bool, true, false, ◌&&◌, cond, eqb, List}
-use Rattle.std.proofs.Common.{Option, length, slice_index}
-use Rattle.chip_graph.proofs.SumLemmas.{cond_yes, cond_no}
-use Rattle.std.proofs.Common.{Some, None, refl, sym, ap, ◌∙◌, subst, arith, length-set}
-use Rattle.std.proofs.lemmas.Bool.{false≢true, eqb-true, cond-false}
+use Rattle.std.proofs.lemmas.Bool.Decides.{nat_tests}
+use Rattle.std.proofs.Common.{◌≡◌, ◌≢◌, ℕ, ◌+◌, ◌-◌, ◌^◌, ◌<◌, ◌≤◌, Bool, true, false, ◌&&◌, eqb, List, Option, length}
+use Rattle.std.proofs.Common.{slice_index, Some, None, refl, sym, ap, ◌∙◌, subst, arith, length-set}
 use Rattle.std.proofs.lemmas.List.{get_or-set_same, set-set}
 use Rattle.chip_link.specs.declared.message.Message.{Message}
 use Rattle.chip_link.specs.Words.{claims_in}
@@ -18,18 +16,19 @@ use Rattle.chip_part.specs.Rules.{Claim}
 use Rattle.chip_part.specs.declared.act.Act.TheVariants as Do
 use Rattle.chip_part.specs.declared.cursor.Cursor.TheVariants as At
 use Rattle.chip_actor.specs.declared.ends.outs.OutEnd.{OutEnd}
-use Rattle.chip_actor.specs.Ends.{out_on, with_end, AreApart, ChangesOut}
-use Rattle.chip_actor.specs.Ends.{out_after_clear, out_after_claim, out_after_put}
+use Rattle.chip_actor.specs.Ends.{out_on, with_end, AreApart, ChangesOut, out_after_clear, out_after_claim}
+use Rattle.chip_actor.specs.Ends.{out_after_put}
 use Rattle.chip_actor.specs.Actor.{Actor, WhateverPart, Makes, with_sent}
 use Rattle.chip_part.specs.Part.{cause, is_by_limit}
 use Rattle.chip_part.specs.declared.reply.Reply.TheVariants.{Sent}
 use Rattle.chip_actor.specs.Medium.{Holding, MayServe, Serves, Meets, Moves}
 use Rattle.chip_actor.proofs.EndLemmas as ends
 use Rattle.chip_actor.proofs.SteppingLemmas.{may_look}
-use Rattle.chip_actor.proofs.MakingLemmas.{clear_made, MayClaim, may_claim, message_count, claim_made}
-use Rattle.chip_actor.proofs.MakingLemmas.{claim_sealed, put_made}
+use Rattle.chip_actor.proofs.MakingLemmas.{clear_made, MayClaim, may_claim, message_count, claim_made, claim_sealed}
+use Rattle.chip_actor.proofs.MakingLemmas.{put_made}
 use Rattle.chip_actor.specs.Turning.{MayBeAt}
-use Rattle.chip_actor.proofs.MediumLemmas.{Stands, DueBy, may_serve, can_do, moves_one, moves_on, meets_after, then_over}
+use Rattle.chip_actor.proofs.MediumLemmas.{Stands, DueBy, may_serve, can_do, moves_one, moves_on, meets_after}
+use Rattle.chip_actor.proofs.MediumLemmas.{then_over}
 use Rattle.chip_actor.proofs.TurnOverLemmas.{send_none, clear_by, claim_by, claim_none, store_by, stop_by}
 use Rattle.chip_actor.proofs.LoopLemmas.{FoundOut, out_at, out_in_books}
 
@@ -104,90 +103,57 @@ module _ {a : Actor} {index edge : ℕ} {end : OutEnd} {pending refused : ℕ} {
 
 -- what a look that counts tells
 looked_clear : (t : TailState) (seen : ℕ) → may_clear t ≡ true → (tail_after_clear seen t).clear ≡ eqb seen 0
-looked_clear t seen may = ap
-    (λ (b : Bool). (let u : TailState = cond b (record t { clear = eqb seen 0 }) t in u).clear) may
+looked_clear t seen may = grind (arith, nat_tests)
 
 -- the words of a claim are told by it
 no_words : (t : TailState) → t.clear ≡ false → None ≡ claim_words t
-no_words t off = sym (cond-false t.clear (Some (t.claims, t.claims + 1)) None off)
+no_words t off = grind (arith, nat_tests)
 
 -- a place that may be claimed: the look counts, and found the cell empty
 place_told : (t : TailState) (looked place : ℕ) → Some place ≡ place_for looked t
     → ((may_clear t && eqb looked 0) ≡ true) × (place ≡ t.claims)
-place_told t looked place is-place = by_test (may_clear t && eqb looked 0) is-place
-  where
-    by_test : (b : Bool) → Some place ≡ (let o : Option ℕ = cond b (Some t.claims) None in o)
-        → (b ≡ true) × (place ≡ t.claims)
-    by_test true is = (refl, cc)
-    by_test false is = absurd (cc)
+place_told t looked place is-place = grind (arith, nat_tests)
 
 -- without one the look doesn't count, or found the cell full
 no_place : (t : TailState) (looked : ℕ) → None ≡ place_for looked t → (may_clear t && eqb looked 0) ≡ false
-no_place t looked is-place = by_test (may_clear t && eqb looked 0) is-place
-  where
-    by_test : (b : Bool) → None ≡ (let o : Option ℕ = cond b (Some t.claims) None in o) → b ≡ false
-    by_test true is = absurd (cc)
-    by_test false is = refl
-
--- the look, by its two tests
-abbrev looked_by : Bool → Bool → TailState → TailState
-looked_by may empty t = cond may (record t { clear = empty }) t
-
-both_true : (m e : Bool) → (m && e) ≡ true → (m ≡ true) × (e ≡ true)
-both_true true e is = (refl, is)
-both_true false e is = absurd (false≢true is)
+no_place t looked is-place = grind (arith, nat_tests)
 
 -- after such a look it is clear
 place_clear : (t : TailState) (looked place : ℕ) → Some place ≡ place_for looked t
     → tail_after_clear looked t ≡ record t { clear = true }
-place_clear t looked place is-place =
-    let both = both_true (may_clear t) (eqb looked 0) (place_told t looked place is-place).0 in
-    λ i. looked_by (both.0 i) (both.1 i) t
+place_clear t looked place is-place = grind (arith, nat_tests)
 
 -- then the words of a claim follow
 place_words : (t : TailState) (looked place : ℕ) → Some place ≡ place_for looked t
     → Some (place, place + 1) ≡ claim_words (tail_after_clear looked t)
-place_words t looked place is-place =
-    ap (λ (n : ℕ). let o : Option (ℕ × ℕ) = Some (n, n + 1) in o) (place_told t looked place is-place).1
-    ∙ sym (ap claim_words (place_clear t looked place is-place))
+place_words t looked place is-place = let told = place_told t looked place is-place in grind (arith, nat_tests)
 
 -- a claim that saw this place sends a message
 place_message : (t : TailState) (looked place word count : ℕ) → Some place ≡ place_for looked t → word ≡ place
     → (m : Message) × (Some m ≡ message_claimed word count (tail_after_clear looked t))
 place_message t looked place word count is-place same =
-    let m : Message = record { edge = t.edge; place = t.claims; count = count } in (
-      m,
-      sym (ap (message_claimed word count) (place_clear t looked place is-place)
-          ∙ cond_yes word t.claims (Some m) None (same ∙ (place_told t looked place is-place).1)),
-    )
+    let told = place_told t looked place is-place in
+    (record { edge = t.edge; place = t.claims; count = count }, grind (arith, nat_tests))
 
 -- and one that saw another word is refused
 place_refused : (t : TailState) (looked place word count : ℕ) → Some place ≡ place_for looked t → word ≢ place
     → None ≡ message_claimed word count (tail_after_clear looked t)
 place_refused t looked place word count is-place other =
-    let m : Message = record { edge = t.edge; place = t.claims; count = count } in
-    sym (ap (message_claimed word count) (place_clear t looked place is-place)
-    ∙ cond_no word t.claims (Some m) None (λ z. other (z ∙ sym (place_told t looked place is-place).1)))
+    let told = place_told t looked place is-place in grind (arith, nat_tests)
 
 -- what was claimed is put into the cell that was looked at
 stored_where_looked : (t : TailState) (looked place word count : ℕ) → Some place ≡ place_for looked t → word ≡ place
     → put_of (tail_after_claim word count (tail_after_clear looked t)) ≡ Some (tail_cell t, count)
 stored_where_looked t looked place word count is-place same =
-    ap (λ (u : TailState). put_of (tail_after_claim word count u)) (place_clear t looked place is-place)
-    ∙ ap put_of (cond_yes word t.claims (record t { claims = t.claims + 1; held = Some count; clear = false })
-    (record t { clear = false; refused = true }) (same ∙ (place_told t looked place is-place).1))
-    ∙ (let z : (t.claims + 1) - 1 ≡ t.claims = omega arith in
-    ap (λ (n : ℕ). let o : Option (ℕ × ℕ) = Some (n % t.ring, count) in o) z)
+    let told = place_told t looked place is-place in let z : (t.claims + 1) - 1 ≡ t.claims = omega arith in
+    grind (arith, nat_tests)
 
 -- a whole send at once is what its three steps come to
 sent_is : (t v : TailState) (looked place word count : ℕ) → Some place ≡ place_for looked t → word ≡ place
     → ((k : ℕ) → v ≡ tail_after_put (tail_after_claim t.claims k (tail_after_clear 0 t)))
     → v ≡ tail_after_put (tail_after_claim word count (tail_after_clear looked t))
 sent_is t v looked place word count is-place same after =
-    let is = place_told t looked place is-place in
-    let empty : looked ≡ 0 = eqb-true looked 0 (both_true (may_clear t) (eqb looked 0) is.0).1 in
-    let here : word ≡ t.claims = same ∙ is.1 in
-    after count ∙ (λ i. tail_after_put (tail_after_claim (sym here i) count (tail_after_clear (sym empty i) t)))
+    let told = place_told t looked place is-place in let all = after count in grind (arith, nat_tests)
 
 -- ---- a whole send
 

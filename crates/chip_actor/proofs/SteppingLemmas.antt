@@ -1,10 +1,9 @@
 -- Serves Ends.antt, Actor.antt.
 -- An actor that makes an event stands for the part after it. Each lemma takes what the call changed in the actor's own
 -- numbers.
-use Rattle.std.proofs.Common.{◌≡◌, ◌≢◌, ℕ, zero, suc, ◌+◌, ◌-◌, ◌*◌, ◌<◌, ◌≤◌, ◌^◌, ◌%◌, Bool, true, false, not, ◌&&◌}
-use Rattle.std.proofs.Common.{cond, if◌then◌else◌, eqb, List, [], ◌∷◌, ◌++◌, length, sum, map, Option, Some, None}
-use Rattle.std.proofs.Common.{is_some, option_map, option_to_list, refl, sym, ap, ◌∙◌, subst, arith, eq-eqb, eqb-true}
-use Rattle.std.proofs.Common.{mul_comm, true≢false, rules}
+use Rattle.std.proofs.Common.{◌≡◌, ◌≢◌, ℕ, ◌+◌, ◌-◌, ◌*◌, ◌≤◌, ◌^◌, Bool, true, false, ◌&&◌, cond, if◌then◌else◌, eqb}
+use Rattle.std.proofs.Common.{length, Option, Some, None, option_to_list, refl, sym, ap, ◌∙◌, subst, arith, eq-eqb}
+use Rattle.std.proofs.Common.{eqb-true, mul_comm, rules}
 use Rattle.std.proofs.lemmas.Bool.Decides.{nat_tests}
 use mathlib.Core.Logic.{dite}
 use native.Mathlib.Decide.{ℕ_discrete}
@@ -16,7 +15,7 @@ use Rattle.chip_link.specs.Link.{Tail, claims_of, after_clear, after_claim, afte
 use Rattle.chip_link.specs.Link.{head_state}
 use Rattle.chip_link.proofs.StatesLemmas.{tail_clears, tail_claims, tail_puts, head_takes}
 use Rattle.chip_detect.specs.Tally.{edges_of, messages_on, answered_on}
-use Rattle.chip_detect.specs.Books.{Books, IsSound, in_edges, out_edges, got_of, acked_of, sent_of, settled_of}
+use Rattle.chip_detect.specs.Books.{Books, IsSound, settled_of}
 use Rattle.chip_detect.specs.Acknowledging.{is_parent, or_else}
 use Rattle.chip_detect.specs.Steps.{Gets, Acknowledges, Sends, Settles}
 use Rattle.chip_part.specs.Edges.{all_edges, tail_of, head_of, mult_of, over_outs}
@@ -26,8 +25,8 @@ use Rattle.chip_part.specs.Rules.{Event, Take, Ack, Fire, Clear, Claim, Put, Hal
 use Rattle.chip_part.specs.Steps.{part_of, does, link_after, pending_after, got_after, saw}
 use Rattle.chip_part.specs.Kept.{KeepsPart}
 use Rattle.chip_actor.specs.declared.ends.outs.OutEnd.{OutEnd}
-use Rattle.chip_actor.specs.Ends.{OutEnds, InEnds, in_on, ChangesOut, ChangesOuts, ChangesIn}
-use Rattle.chip_actor.specs.Ends.{out_after_clear, out_after_claim, out_after_put, out_after_fire}
+use Rattle.chip_actor.specs.Ends.{OutEnds, InEnds, in_on, ChangesOut, ChangesOuts, ChangesIn, out_after_clear}
+use Rattle.chip_actor.specs.Ends.{out_after_claim, out_after_put, out_after_fire}
 use Rattle.chip_graph.specs.Limits.{max_total}
 use Rattle.chip_actor.specs.Actor.{Actor, KnowsGame, KeepsBooks, StandsFor, out_end}
 use Rattle.chip_part.proofs.RuleLemmas.{rules_met, vertex_clear}
@@ -58,17 +57,7 @@ module _ (g : Setting) (s : Part) (a : Actor) (stands : StandsFor g s a) where
         refused = r;
       })
   knows_still chips fired halt os is b p u r outs ins books_outs books_ins =
-      let k = stands.knows in record {
-        setting = k.setting;
-        vertex = k.vertex;
-        is_sink = k.is_sink;
-        degree = k.degree;
-        limit = k.limit;
-        outs = outs ∙ k.outs;
-        ins = ins ∙ k.ins;
-        detect_outs = books_outs ∙ k.detect_outs;
-        detect_ins = books_ins ∙ k.detect_ins;
-      }
+      let k = stands.knows in search (rules, arith, nat_tests)
 
   kept_still : (x : Event) (seen : ℕ) → part_of g x ≡ a.vertex → unmet_rule g x s ≡ None
       → KeepsPart g a.vertex (does g (saw x seen) s)
@@ -191,9 +180,7 @@ module _ (g : Setting) (s : Part) (a : Actor) (stands : StandsFor g s a) where
       let hand = out.free_hand met.0 met.3 in
       let fewer = out.fewer_yet met.0 met.3 in
       let fired = Rattle.chip_actor.proofs.StandingLemmas.few_fired g s a stands in
-      Rattle.std.proofs.lemmas.Bool.and_from _ _
-      (Rattle.std.proofs.lemmas.Bool.and_from _ _ (ap Rattle.std.proofs.Common.is_none hand) (ap not met.2))
-      (Rattle.std.proofs.Common.lt-ltb _ _ (omega arith))
+      grind (arith, nat_tests)
 
   -- one edge out of the vertex is changed, and the others are as they were
   module _ (x : Event) (e seen : ℕ) (at : tail_of g e ≡ a.vertex) (mine : part_of g x ≡ a.vertex)
@@ -321,12 +308,8 @@ module _ (g : Setting) (s : Part) (a : Actor) (stands : StandsFor g s a) where
           parent = sends.parent ∙ stands.books.parent;
           got = λ i mine. (λ j. messages_on (sends.ins j) i) ∙ stands.books.got i mine;
           acked = λ i mine. (λ j. answered_on (sends.ins j) i) ∙ stands.books.acked i mine;
-          sent = λ i mine. sends.outs.messages i ∙ dite (ℕ_discrete e i)
-              (λ y. cond_yes e i _ _ y ∙ subst (λ (k : ℕ). tail_of g k ≡ a.vertex
-              → sent_of a.detect k + 1 ≡ claims_of (later.out k).link) y
-              (λ own. (let was = stands.books.sent e own in let new = ap claims_of link in omega arith)) mine)
-              (λ n. cond_no e i _ _ n ∙ stands.books.sent i mine
-              ∙ ap (λ (k : Out). claims_of k.link) (sym (claim_rest i n)));
+          sent = λ i mine. (let more = sends.outs.messages i in let was = stands.books.sent i mine in
+              let hand = empty_hand in grind (arith, nat_tests));
           settled = λ i mine. sends.outs.answered i ∙ stands.books.settled i mine;
         } (a.pending - here.pending) (a.unput + 1) a.refused (omega arith) (omega arith) (omega arith)
         (ap (λ (t : Tail). a.refused + cond t.refused 1 0) (sym link))

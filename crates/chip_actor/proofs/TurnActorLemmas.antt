@@ -1,17 +1,17 @@
 -- Serves Actor.antt, Ends.antt.
 -- What an actor finds in its own lists is what its part says.
-use Rattle.std.proofs.Common.{◌≡◌, ℕ, ◌<◌, Bool, true, false, not, cond, eqb, List, length, slice_index, Option, Some}
-use Rattle.std.proofs.Common.{None, is_some, option_to_list, option_map, refl, sym, ap, ◌∙◌, subst, arith}
+use Rattle.std.proofs.lemmas.Bool.Decides.{nat_tests}
+use Rattle.std.proofs.Common.{◌≡◌, ℕ, ◌<◌, Bool, false, not, cond, eqb, List, length, slice_index, Option, Some, None}
+use Rattle.std.proofs.Common.{is_some, option_to_list, option_map, sym, ap, ◌∙◌, subst, arith}
 use Rattle.chip_part.specs.Setting.{Setting}
 use Rattle.chip_link.specs.Ends.{claim_words, put_of}
 use Rattle.chip_detect.specs.Acknowledging as detector
 use Rattle.chip_part.specs.Edges.{tail_of, head_of}
 use Rattle.chip_part.specs.Part.{Part, may_ack}
 use Rattle.chip_actor.specs.declared.ends.outs.OutEnd.{OutEnd}
-use Rattle.chip_actor.specs.Ends.{out_on}
+use Rattle.chip_actor.specs.Ends.{out_on, IsFirstFrom}
 use Rattle.chip_actor.specs.Actor.{Actor, StandsFor, is_passive_now, out_end}
 use Rattle.chip_part.specs.Turn.{ins_of, outs_of}
-use Rattle.chip_actor.specs.Ends.{IsFirstFrom}
 use Rattle.chip_part.specs.Cursor.{out_at}
 use Rattle.chip_actor.proofs.StandingLemmas.{may_ack_is}
 use Rattle.chip_part.proofs.TurnStepsLemmas.{in_enters, out_leaves}
@@ -24,16 +24,13 @@ first_same t u xs same from (Some i) (le, lt, passes, none) =
     (le, lt, sym (same i lt) ∙ passes, λ k a b. sym (same k (omega arith)) ∙ none k a b)
 
 is_some_map : (o : Option ℕ) (f : ℕ → ℕ × ℕ) → is_some (option_map f o) ≡ is_some o
-is_some_map None f = refl
-is_some_map (Some x) f = refl
+is_some_map o f = grind (arith, nat_tests)
 
 is_some_where : (b : Bool) (x : ℕ × ℕ) → is_some (cond b (Some x) None) ≡ b
-is_some_where true x = refl
-is_some_where false x = refl
+is_some_where b x = grind (arith, nat_tests)
 
 no_length : (o : Option ℕ) → length (option_to_list o) ≡ 0 → is_some o ≡ false
-no_length None none = refl
-no_length (Some x) none = absurd (omega arith)
+no_length o none = grind (arith, nat_tests)
 
 module _ (g : Setting) (s : Part) (a : Actor) (stands : StandsFor g s a) where
   pub held_is : (e : ℕ) → tail_of g e ≡ a.vertex → is_some (put_of (out_on a.outs e).link) ≡ is_some (s.out e).link.held

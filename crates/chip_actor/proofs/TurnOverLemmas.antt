@@ -1,9 +1,9 @@
 -- Serves Actor.antt, Ends.antt, Medium.antt.
 -- Each phase of a turn over a medium: which operation is due, and where the turn passes on without one.
+use Rattle.std.proofs.lemmas.Bool.Decides.{nat_tests}
 use Rattle.std.proofs.Common.{◌≡◌, ◌≢◌, ℕ, ◌+◌, ◌-◌, ◌%◌, ◌<◌, ◌≤◌, Bool, true, false, not, ◌&&◌, eqb, List, [], length}
 use Rattle.std.proofs.Common.{sum, slice_index, Option, Some, None, is_some, is_none, option_map, option_to_list, refl}
-use Rattle.std.proofs.Common.{sym, ap, ◌∙◌, subst, arith, eq-eqb, ne_eqb, eqb-true}
-use Rattle.std.proofs.lemmas.Bool.{and_parts, cond-true}
+use Rattle.std.proofs.Common.{sym, ap, ◌∙◌, subst, arith, eq-eqb, ne_eqb}
 use Rattle.std.proofs.lemmas.List.Sums.{sum_by-cons}
 use Rattle.std.specs.List.{Contains}
 use Rattle.chip_part.specs.Setting.{Setting}
@@ -26,13 +26,15 @@ use Rattle.chip_actor.specs.Actor.{Actor, StandsFor, WhateverPart, is_passive_no
 use Rattle.chip_actor.specs.Medium.{Holding, Moves}
 use Rattle.chip_actor.proofs.StandingLemmas.{may_ack_is, books_in}
 use Rattle.chip_part.proofs.PartLemmas.{may_le}
-use Rattle.chip_part.proofs.TurnStepsLemmas.{take_due, takes_over, settle_due, settles_over, in_enters, out_leaves, fire_due}
-use Rattle.chip_part.proofs.TurnStepsLemmas.{no_fire_due, puts_over, puts_fit, refusal_none, sends_begin, send_due, sends_to}
-use Rattle.chip_part.proofs.TurnStepsLemmas.{sends_over, claim_due, claim_over, store_due, stop_due, no_limit_due, ack_due}
-use Rattle.chip_part.proofs.TurnStepsLemmas.{acks_to, acks_over, no_parent, parent_due, no_parent_due}
+use Rattle.chip_part.proofs.TurnStepsLemmas.{take_due, takes_over, settle_due, settles_over, in_enters, out_leaves}
+use Rattle.chip_part.proofs.TurnStepsLemmas.{fire_due, no_fire_due, puts_over, puts_fit, refusal_none, sends_begin}
+use Rattle.chip_part.proofs.TurnStepsLemmas.{send_due, sends_to, sends_over, claim_due, claim_over, store_due, stop_due}
+use Rattle.chip_part.proofs.TurnStepsLemmas.{no_limit_due, ack_due, acks_to, acks_over, no_parent, parent_due}
+use Rattle.chip_part.proofs.TurnStepsLemmas.{no_parent_due}
 use Rattle.chip_actor.proofs.TurnActorLemmas.{pending_is, held_at_place, clear_at_place, none_held}
 use Rattle.chip_actor.proofs.MediumLemmas.{Stands, DueBy, moves_past, then_over, turn_ends}
 use Rattle.chip_detect.proofs.ListLemmas.{not_some}
+use Rattle.std.proofs.lemmas.Bool.{cond-true}
 
 -- the edge at a slot of the actor's edges is the vertex's there
 module _ {g : Setting} {s : Part} {a : Actor} (stands : StandsFor g s a) {slot : Slot} where
@@ -116,24 +118,22 @@ no_fire {H} {a} may = moves_past (λ g s stands at. (
 -- ---- sends
 
 runs : (h : Option Cause) → is_none h ≡ true → h ≡ None
-runs None on = refl
-runs (Some c) on = absurd (cc)
+runs h on = grind (arith, nat_tests)
 
 -- nothing is left from before the turn, and the edges are gone through
 pub nothing_before : {H : Holding} {a : Actor} → (is_none a.halt && eqb a.unput 0 && eqb a.refused 0) ≡ true
     → Moves H a (At.Put 0) H a (At.Send 0) 0
 nothing_before {H} {a} may =
-    let p = and_parts _ _ may in
-    let q = and_parts _ _ p.0 in
-    let none-held : a.unput ≡ 0 = eqb-true _ _ q.1 in
-    let none-refused : a.refused ≡ 0 = eqb-true _ _ p.1 in
+    let none-held : a.unput ≡ 0 = grind (arith, nat_tests) in
+    let none-refused : a.refused ≡ 0 = grind (arith, nat_tests) in
+    let on : is_none a.halt ≡ true = grind (arith, nat_tests) in
     then_over {y = At.Refusal}
     (moves_past (λ g s stands at. let none = none_held g s a stands none-held in (
       puts_fit g a.vertex stands.knows.vertex s 0 at (λ k le within. none k within),
       puts_over g a.vertex stands.knows.vertex s 0 (λ k le within. none k within),
     )))
     (moves_past (λ g s stands at.
-    let running = runs s.halt (sym (ap is_none stands.halt) ∙ q.0) in
+    let running = runs s.halt (sym (ap is_none stands.halt) ∙ on) in
     let none : refusals g a.vertex s ≡ 0 = sym stands.refused ∙ none-refused in (
       sends_begin g a.vertex stands.knows.vertex s at running none,
       refusal_none g a.vertex stands.knows.vertex s running none,
@@ -146,10 +146,7 @@ at_index a is P = ap (λ (e : ℕ). P (out_on a.outs e)) (sym is.edge)
 
 stored_act : (edge n : ℕ) (h : Option ℕ) (w : ℕ × ℕ) → Some w ≡ option_map (λ (c : ℕ). (n, c)) h
     → Do.Put edge w.0 w.1 ≡ Do.Put edge n (sum (option_to_list h))
-stored_act edge n None w none = absurd (differ none)
-  where
-    differ : {w : ℕ × ℕ} → Some w ≡ None → ⊥
-    differ q = cc
+stored_act edge n None w none = absurd (grind (arith, nat_tests))
 stored_act edge n (Some c) w some =
     let one : w ≡ (n, c) = cc in
     let second : w.1 ≡ c = ap (λ (p : ℕ × ℕ). p.1) one in

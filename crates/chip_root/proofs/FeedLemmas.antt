@@ -1,19 +1,17 @@
 -- Serves Root.antt.
 -- The root's feeder: what it knows of the root edges, and how a look, a claim and a put there change it.
-use Rattle.std.proofs.Common.{◌≡◌, ◌≢◌, ℕ, zero, suc, ◌+◌, ◌-◌, ◌<◌, ◌≤◌, ◌^◌, Bool, true, false, not}
-use Rattle.std.proofs.Common.{cond, eqb}
-use Rattle.std.proofs.Common.{List, [], ◌∷◌, length, sum, get_or, set, slice_index, Option, Some, None}
-use Rattle.std.proofs.Common.{is_none}
-use Rattle.std.proofs.Common.{option_to_list, refl, sym, ap, ◌∙◌, subst, arith, eq-eqb, lt-ltb}
-use Rattle.std.proofs.Common.{length-set, get_or-set_same, get_or-set_other, true≢false, length-append, le-leb}
+use Rattle.std.proofs.lemmas.Bool.Decides.{nat_tests}
+use Rattle.std.proofs.Common.{rules, ◌≡◌, ◌≢◌, ℕ, ◌+◌, ◌-◌, ◌<◌, ◌≤◌, ◌^◌, true, false, cond, eqb, List, [], ◌∷◌}
+use Rattle.std.proofs.Common.{length, sum, get_or, set, slice_index, Option, Some, None, option_to_list, refl, sym, ap}
+use Rattle.std.proofs.Common.{◌∙◌, subst, arith, eq-eqb, length-set, get_or-set_same, get_or-set_other, length-append}
+use Rattle.std.proofs.Common.{le-leb}
 use Rattle.std.proofs.Math.Nat.{mod-eq_of_lt}
-use Rattle.std.proofs.lemmas.Bool.{and_from, leb-true}
+use Rattle.std.proofs.lemmas.Bool.{leb-true}
 use Rattle.std.proofs.lemmas.List.Sums.{sum_by-append}
 use mathlib.Core.Logic.{dite}
 use native.Mathlib.Decide.{ℕ_discrete}
 use Rattle.chip_graph.specs.Limits.{max_total}
-use Rattle.chip_graph.proofs.SumLemmas.{cond_yes, cond_no, sum_below_term}
-use Rattle.chip_graph.proofs.SumLemmas.{sum_below_le, sum_below_move, tested_move, none_either}
+use Rattle.chip_graph.proofs.SumLemmas.{cond_yes, cond_no, sum_below_term, sum_below_le, sum_below_move, tested_move}
 use Rattle.chip_link.specs.Ends.{TailState, new_tail, may_clear, claim_words, tail_after_clear, tail_after_claim}
 use Rattle.chip_link.specs.Ends.{tail_after_put}
 use Rattle.chip_link.specs.Link.{Tail, claims_of, sent_counts, tail_state, after_clear, after_claim, after_put}
@@ -21,16 +19,14 @@ use Rattle.chip_link.specs.Words.{claims_in}
 use Rattle.chip_link.proofs.StatesLemmas.{tail_clears, tail_claims, tail_puts}
 use Rattle.chip_graph.specs.ChipGame.{IsGame}
 use Rattle.chip_part.specs.Setting.{Setting}
-use Rattle.chip_part.specs.Edges.{graph_edges, all_edges, root_edge, tail_of, root, start_of}
+use Rattle.chip_part.specs.Edges.{graph_edges, all_edges, root_edge, tail_of, root}
 use Rattle.chip_part.specs.Part.{Part, opening_part, outstanding, deficit, all_fed}
 use Rattle.chip_part.specs.Rules.{Clear, Put, Settle, Feed, End}
-use Rattle.chip_part.specs.declared.reply.Reply.TheVariants.{Done, Full, Sealed}
+use Rattle.chip_part.specs.declared.reply.Reply.TheVariants.{Done, Sealed}
 use Rattle.chip_part.specs.declared.reply.Reply.{Reply}
 use Rattle.chip_part.specs.Steps.{does, reply_of, saw}
-use Rattle.chip_root.specs.Root.{Feeder, Feeds, KeepsTail, Root, RootStandsFor, SomeRoot, RootCanDo}
-use Rattle.chip_root.specs.Root.{RootMakes}
-use Rattle.chip_root.specs.Root.{tail_at, with_tail, after_feed, look_reply, feed_reply, IsOpeningFeeder}
-use Rattle.chip_root.specs.Root.{ended_root}
+use Rattle.chip_root.specs.Root.{Feeder, Feeds, KeepsTail, Root, RootStandsFor, SomeRoot, RootCanDo, RootMakes, tail_at}
+use Rattle.chip_root.specs.Root.{with_tail, after_feed, look_reply, feed_reply, IsOpeningFeeder, ended_root}
 use Rattle.chip_part.proofs.EdgeLemmas.{tail_root}
 use Rattle.chip_part.proofs.RuleLemmas.{rules_met, met_rules, root_clear}
 use Rattle.chip_part.proofs.OpeningLemmas.{first_sent, first_fed}
@@ -40,8 +36,7 @@ use Rattle.chip_root.proofs.RootLemmas.{first_claims, all_outstanding}
 
 -- a look with empty hands
 pub look_keeps : (t : Tail) (seen : ℕ) → KeepsTail t → t.held ≡ None → KeepsTail (after_clear seen t)
-look_keeps t seen kept none =
-    record { sealed_never = kept.sealed_never; counted = kept.counted; quiet = λ on. none }
+look_keeps t seen kept none = search (rules, arith, nat_tests)
 
 -- a store
 put_sum : (t : Tail) → sum (sent_counts (after_put t)) ≡ sum (sent_counts t)
@@ -51,11 +46,7 @@ pub put_claims : (t : Tail) → claims_of (after_put t) ≡ claims_of t
 put_claims t = let all = length-append t.put (option_to_list t.held) in omega arith
 
 pub put_keeps : (t : Tail) → KeepsTail t → KeepsTail (after_put t)
-put_keeps t kept = record {
-  sealed_never = kept.sealed_never;
-  counted = (let a = put_sum t in let b = put_claims t in let c = kept.counted in omega arith);
-  quiet = λ on. refl;
-}
+put_keeps t kept = let a = put_sum t in let b = put_claims t in let c = kept.counted in search (rules, arith, nat_tests)
 
 -- a claim that is taken
 module _ (t : Tail) (count : ℕ) (none : t.held ≡ None) where
@@ -72,16 +63,12 @@ module _ (t : Tail) (count : ℕ) (none : t.held ≡ None) where
   claim_sum =
       let now = sum_by-append (λ (x : ℕ). x) t.put (count ∷ []) in
       let was = sum_by-append (λ (x : ℕ). x) t.put (option_to_list t.held) in
-      let nothing : sum (option_to_list t.held) ≡ 0 = ap (λ (h : Option ℕ). sum (option_to_list h)) none in
       let one : sum (count ∷ []) ≡ 0 + count = refl in
-      omega arith
+      grind (arith, nat_tests)
 
   pub claim_keeps : KeepsTail t → 0 < count → KeepsTail claimed
-  claim_keeps kept some = record {
-    sealed_never = kept.sealed_never;
-    counted = (let a = claim_sum in let b = claim_claims in let c = kept.counted in omega arith);
-    quiet = λ on. absurd (true≢false (sym on));
-  }
+  claim_keeps kept some = let a = claim_sum in let b = claim_claims in let c = kept.counted in
+      search (rules, arith, nat_tests)
 
 -- ---- what is known of it
 
@@ -106,8 +93,7 @@ module _ (g : Setting) (s : Part) (f : Feeder) (feeds : Feeds g s f) (v : ℕ) (
       let here = feeds.given.1 v l in let all = feeds.fed in omega arith
 
   pub may_look : link.held ≡ None → may_clear (tail_state (root_edge g v) g.ring link) ≡ true
-  may_look none = let few = few_claims in
-      and_from _ _ (and_from _ _ (ap is_none none) (ap not (feeds.kept v l).sealed_never)) (lt-ltb _ _ (omega arith))
+  may_look none = let few = few_claims in let never = (feeds.kept v l).sealed_never in grind (arith, nat_tests)
 
 -- ---- one tail changes
 
@@ -145,16 +131,10 @@ module _ (g : Setting) (s s' : Part) (f f' : Feeder) (feeds : Feeds g s f) (v : 
       → ((u : ℕ) → u < g.game.graph.vertices
       → slice_index given u ≡ slice_index f.given u + cond (eqb v u) more 0)
       → (u : ℕ) → u < g.game.graph.vertices → slice_index given u ≡ sum (sent_counts (s'.out (root_edge g u)).link)
-  given_now given long each u m = dite (ℕ_discrete v u)
-      (λ same. subst (λ (w : ℕ). w < g.game.graph.vertices → slice_index given w
-      ≡ sum (sent_counts (s'.out (root_edge g w)).link)) same
-      (λ k.
-      let a = each v k in let b = cond_yes v v more 0 refl in let c = feeds.given.1 v k in
-      let d = ap (λ (t : Tail). sum (sent_counts t)) here in omega arith) m)
-      (λ other.
-      let a = each u m in let b = cond_no v u more 0 other in let c = feeds.given.1 u m in
-      let d = ap (λ (t : Tail). sum (sent_counts t)) (rest (root_edge g u) (apart u (λ z. other (sym z)))) in
-      omega arith)
+  given_now given long each u m =
+      let a = each u m in let c = feeds.given.1 u m in
+      dite (ℕ_discrete v u) (λ same. grind (arith, nat_tests))
+      (λ other. let d = rest (root_edge g u) (apart u (λ z. other (sym z))) in grind (arith, nat_tests))
 
   pub feeds_now : (state : TailState) → state ≡ tail_state (root_edge g v) g.ring t' → f'.tails ≡ set f.tails v state
       → length f'.given ≡ length f.given
@@ -180,17 +160,12 @@ module _ (g : Setting) (s s' : Part) (f f' : Feeder) (feeds : Feeds g s f) (v : 
             (λ n. get_or-set_other f.tails v u state d n ∙ feeds.tails u m d
             ∙ ap (tail_state (root_edge g u) g.ring) (sym (rest (root_edge g u) (apart u n))));
         given = (long ∙ feeds.given.0, given_now f'.given long each);
-        kept = λ u m. dite (ℕ_discrete u v)
-            (λ y. subst (λ (w : ℕ). KeepsTail (s'.out (root_edge g w)).link) (sym y) (subst KeepsTail (sym here) kept))
-            (λ n. subst KeepsTail (sym (rest (root_edge g u) (apart u n))) (feeds.kept u m));
+        kept = λ u m. dite (ℕ_discrete u v) (λ y. rw (y, here) kept)
+            (λ n. rw (rest (root_edge g u) (apart u n)) (feeds.kept u m));
         settled_few = λ u m.
-            let low = feeds.settled_few u m in
-            let still = settled (root_edge g u) in
-            dite (ℕ_discrete u v)
-            (λ y. subst (λ (w : ℕ). (s'.out (root_edge g w)).settled ≤ claims_of (s'.out (root_edge g w)).link) (sym y)
-            (let low = feeds.settled_few v l in let still = settled (root_edge g v) in let now = ap claims_of here in
-            omega arith))
-            (λ n. let now = ap claims_of (rest (root_edge g u) (apart u n)) in omega arith);
+            let low = feeds.settled_few u m in let still = settled (root_edge g u) in
+            dite (ℕ_discrete u v) (λ y. grind (arith, nat_tests))
+            (λ n. let now = rest (root_edge g u) (apart u n) in grind (arith, nat_tests));
       }
 
 -- ---- the events of a root that feeds
@@ -211,14 +186,9 @@ module _ (g : Setting) (s : Part) (r : Root) (stands : RootStandsFor g s r) (v :
   -- what is settled stays
   root_now : (s' : Part) → ((i : ℕ) → (s'.out i).settled ≡ (s.out i).settled) → (n : ℕ) → n ≡ deficit g (root g) s'
       → (f' : Feeder) → Feeds g s' f' → RootStandsFor g s' (record r { outstanding = n; feeder = f' })
-  root_now s' settled n counted f' feeds = record {
-    game = stands.game;
-    edges = stands.edges;
-    settled_each = stands.settled_each;
-    settled = λ u m. stands.settled u m ∙ sym (settled (root_edge g u));
-    outstanding = counted;
-    feeder = feeds;
-  }
+  root_now s' settled n counted f' feeds =
+      let still = λ (u : ℕ) (m : u < g.game.graph.vertices). stands.settled u m ∙ sym (settled (root_edge g u)) in
+      search (rules, arith, nat_tests)
 
   pub looked : (seen : ℕ) → tail.held ≡ None → (f' : Feeder) → f' ≡ with_tail v (tail_after_clear seen) f
       → RootStandsFor g (does g (saw (Clear edge) seen) s) (record r { feeder = f' })
@@ -237,7 +207,7 @@ module _ (g : Setting) (s : Part) (r : Root) (stands : RootStandsFor g s r) (v :
       (ap (tail_after_clear seen) (tail_is g s f feeds_here v l)
       ∙ tail_clears edge g.ring tail seen (may_look g s f feeds_here v l none))
       (ap (λ (x : Feeder). x.tails) is) (ap (λ (x : Feeder). length x.given) is)
-      (λ u m. (let a = ap (λ (x : Feeder). slice_index x.given u) is in let b = none_either (eqb v u) in omega arith))
+      (λ u m. (let a = ap (λ (x : Feeder). slice_index x.given u) is in grind (arith, nat_tests)))
       (let a = ap (λ (x : Feeder). x.fed) is in omega arith) (ap (λ (x : Feeder). x.ended) is)
       (look_keeps tail seen (feeds_here.kept v l) none) (let low = feeds_here.within in omega arith) (omega arith))
 
@@ -247,11 +217,7 @@ module _ (g : Setting) (s : Part) (r : Root) (stands : RootStandsFor g s r) (v :
       (λ j. look_reply (claim_words (tail_after_clear seen (tail_is g s f feeds_here v l j))))
       ∙ ap (λ (t : TailState). look_reply (claim_words t))
       (tail_clears edge g.ring tail seen (may_look g s f feeds_here v l none))
-      ∙ by_cell (eqb seen 0) (claims_of tail)
-    where
-      by_cell : (b : Bool) (n : ℕ) → look_reply (cond b (Some (n, n + 1)) None) ≡ cond b (Done n) Full
-      by_cell true n = refl
-      by_cell false n = refl
+      ∙ grind (arith, nat_tests)
 
   pub is_put : (f' : Feeder) → f' ≡ with_tail v tail_after_put f → (seen : ℕ)
       → RootStandsFor g (does g (saw (Put edge) seen) s) (record r { feeder = f' })
@@ -269,7 +235,7 @@ module _ (g : Setting) (s : Part) (r : Root) (stands : RootStandsFor g s r) (v :
       (tail_after_put (tail_at f v))
       (ap tail_after_put (tail_is g s f feeds_here v l) ∙ tail_puts edge g.ring tail)
       (ap (λ (x : Feeder). x.tails) is) (ap (λ (x : Feeder). length x.given) is)
-      (λ u m. (let a = ap (λ (x : Feeder). slice_index x.given u) is in let b = none_either (eqb v u) in omega arith))
+      (λ u m. (let a = ap (λ (x : Feeder). slice_index x.given u) is in grind (arith, nat_tests)))
       (let a = ap (λ (x : Feeder). x.fed) is in omega arith) (ap (λ (x : Feeder). x.ended) is)
       (put_keeps tail (feeds_here.kept v l)) (let low = feeds_here.within in omega arith) (omega arith))
 
@@ -295,14 +261,9 @@ module _ (g : Setting) (s : Part) (r : Root) (stands : RootStandsFor g s r) (v :
       ∙ ap (tail_state edge g.ring) (claim_is tail count none))
       (ap (λ (x : Feeder). x.tails) is)
       (ap (λ (x : Feeder). length x.given) is ∙ length-set f.given v (slice_index f.given v + count))
-      (λ u m. ap (λ (x : Feeder). slice_index x.given u) is ∙ dite (ℕ_discrete v u)
-      (λ y. (let inside = feeds_here.given.0 in
+      (λ u m. ap (λ (x : Feeder). slice_index x.given u) is ∙ (let inside = feeds_here.given.0 in
       let a = get_or-set_same f.given v (slice_index f.given v + count) 0 (omega arith) in
-      let b = cond_yes v u count 0 y in
-      let c = ap (λ (w : ℕ). get_or (set f.given v (slice_index f.given v + count)) w 0) (sym y) in
-      let d = ap (λ (w : ℕ). get_or f.given w 0) (sym y) in omega arith))
-      (λ n. (let a = get_or-set_other f.given v u (slice_index f.given v + count) 0 (λ z. n (sym z)) in
-      let b = cond_no v u count 0 n in omega arith)))
+      let b = get_or-set_other f.given v u (slice_index f.given v + count) 0 in grind (arith, nat_tests)))
       (ap (λ (x : Feeder). x.fed) is) (ap (λ (x : Feeder). x.ended) is)
       (claim_keeps tail count none (feeds_here.kept v l) some) few (omega arith))
 
@@ -420,7 +381,7 @@ module _ (g : Setting) (game : IsGame g.game) where
         let owed = all_outstanding g game in
         let low = sum_below_le g.game.graph.vertices (λ v. cond (eqb (slice_index g.game.start v) 0) 0 1)
         (λ v. sum (sent_counts ((opening_part g).out (root_edge g v)).link))
-        (λ v l. let sent = first_sent g v in let few = one_at_most (start_of g v) in omega arith) in
+        (λ v l. let sent = first_sent g v in grind (arith, nat_tests)) in
         omega arith;
     tails_each = opening.tails_each;
     tails = λ v l d. opening.tails v l d
@@ -438,20 +399,11 @@ module _ (g : Setting) (game : IsGame g.game) where
     );
     kept = λ v l. record {
       sealed_never = refl;
-      counted = (let sent = first_sent g v in let n = first_claims g v in let few = one_at_most (start_of g v) in
-          omega arith);
+      counted = (let sent = first_sent g v in let n = first_claims g v in grind (arith, nat_tests));
       quiet = λ on. refl;
     };
     settled_few = λ v l. omega arith;
   }
-    where
-      no_or_one : (b : Bool) → cond b 0 1 ≤ 1
-      no_or_one true = omega arith
-      no_or_one false = omega arith
-
-      one_at_most : (n : ℕ) → cond (eqb n 0) 0 1 ≤ n
-      one_at_most zero = omega arith
-      one_at_most (suc n) = let few = no_or_one (eqb (suc n) 0) in omega arith
 
 -- ---- the end
 
@@ -460,27 +412,10 @@ ended_part s = record s { ended = true }
 
 module _ (g : Setting) (s : Part) where
   still_feeds : (f : Feeder) → Feeds g s f → Feeds g (ended_part s) (record f { ended = true })
-  still_feeds f feeds = record {
-    ended = refl;
-    fed = feeds.fed;
-    within = feeds.within;
-    few_outstanding = feeds.few_outstanding;
-    tails_each = feeds.tails_each;
-    tails = feeds.tails;
-    given = feeds.given;
-    kept = feeds.kept;
-    settled_few = feeds.settled_few;
-  }
+  still_feeds f feeds = search (rules, arith, nat_tests)
 
   end_stands : (r : Root) → RootStandsFor g s r → RootStandsFor g (ended_part s) (ended_root r)
-  end_stands r stands = record {
-    game = stands.game;
-    edges = stands.edges;
-    settled_each = stands.settled_each;
-    settled = stands.settled;
-    outstanding = stands.outstanding;
-    feeder = still_feeds r.feeder stands.feeder;
-  }
+  end_stands r stands = let feeder = still_feeds r.feeder stands.feeder in search (rules, arith, nat_tests)
 
   -- then the first root edge may be settled
   end_can : (r : Root) → RootStandsFor g s r → (seen : ℕ) → RootCanDo g s End seen

@@ -1,45 +1,34 @@
 -- Serves Root.antt.
 -- The root: what is outstanding at the opening, and how a settle of a root edge changes it.
-use Rattle.std.proofs.Common.{◌≡◌, ℕ, ◌+◌, ◌-◌, ◌<◌, ◌≤◌, cond, eqb, ltb, List, [], ◌∷◌, length}
-use Rattle.std.proofs.Common.{get_or, set, replicate, slice_index, le-ltb, eq-eqb, refl, None}
-use Rattle.std.proofs.Common.{sym, ap, ◌∙◌, Bool, true, false}
-use Rattle.std.proofs.Common.{subst, arith, length-set, get_or-set_same, get_or-set_other}
+use Rattle.std.proofs.lemmas.Bool.Decides.{nat_tests}
+use Rattle.chip_part.proofs.OpeningLemmas.{first_is}
+use Rattle.std.proofs.Common.{rules, ◌≡◌, ℕ, ◌+◌, ◌-◌, ◌<◌, ◌≤◌, cond, eqb, List, length, set, replicate, slice_index}
+use Rattle.std.proofs.Common.{eq-eqb, refl, None, sym, ap, ◌∙◌, subst, arith, length-set, get_or-set_same}
+use Rattle.std.proofs.Common.{get_or-set_other}
 use Rattle.std.proofs.lemmas.List.{get_or-replicate, length-replicate}
-use Rattle.std.proofs.lemmas.Bool.{leb-true, cond-false}
+use Rattle.std.proofs.lemmas.Bool.{leb-true}
 use mathlib.Core.Logic.{dite}
 use native.Mathlib.Decide.{ℕ_discrete}
-use Rattle.chip_graph.proofs.SumLemmas.{tested_term, tested_move, cond_yes, cond_no}
-use Rattle.chip_graph.proofs.SumLemmas.{sum_below_ext, sum_below_none, sum_below_split}
+use Rattle.chip_graph.proofs.SumLemmas.{tested_term, tested_move, cond_yes, cond_no, sum_below_ext, sum_below_none}
+use Rattle.chip_graph.proofs.SumLemmas.{sum_below_split}
 use Rattle.chip_link.specs.Link.{claims_of}
 use Rattle.chip_graph.specs.ChipGame.{IsGame}
 use Rattle.chip_part.specs.Setting.{Setting}
 use Rattle.chip_part.specs.Edges.{graph_edges, all_edges, root_edge, start_of, tail_of, root}
-use Rattle.chip_part.specs.Part.{Part, opening_part, first_put, outstanding, deficit}
+use Rattle.chip_part.specs.Part.{Part, opening_part, outstanding, deficit}
 use Rattle.chip_part.specs.Rules.{Settle, unmet_rule}
 use Rattle.chip_part.specs.Steps.{Step, does, reply_of, saw}
 use Rattle.chip_part.specs.declared.reply.Reply.TheVariants.{Done}
-use Rattle.chip_root.specs.Root.{Root, Feeder, Feeds, RootStandsFor, SomeRoot, RootCanDo, RootMakes}
-use Rattle.chip_root.specs.Root.{RootSettles, with_chips}
+use Rattle.chip_root.specs.Root.{Root, Feeder, Feeds, RootStandsFor, SomeRoot, RootCanDo, RootMakes, RootSettles}
+use Rattle.chip_root.specs.Root.{with_chips}
 use Rattle.chip_part.proofs.EdgeLemmas.{tail_root, tail_graph}
 use Rattle.chip_part.proofs.RuleLemmas.{rules_met}
 
 -- ---- the opening
 
 module _ (g : Setting) where
-  -- one message lies on the root edge of a vertex that starts with chips
-  pub first_root : (v : ℕ) → first_put g (root_edge g v) ≡ cond (eqb (start_of g v) 0) [] (start_of g v ∷ [])
-  first_root v =
-      let past = le-ltb (root_edge g v) (graph_edges g) (omega arith) in
-      let at : root_edge g v - graph_edges g ≡ v = omega arith in
-      cond-false (ltb (root_edge g v) (graph_edges g)) [] _ past
-      ∙ ap (λ (u : ℕ). cond (eqb (start_of g u) 0) [] (start_of g u ∷ [])) at
-
   pub first_claims : (v : ℕ) → claims_of ((opening_part g).out (root_edge g v)).link ≡ cond (eqb (start_of g v) 0) 0 1
-  first_claims v = ap (λ (l : List ℕ). length l + 0) (first_root v) ∙ by_chips (eqb (start_of g v) 0) (start_of g v)
-    where
-      by_chips : (b : Bool) (n : ℕ) → length (cond b [] (n ∷ [])) + 0 ≡ cond b 0 1
-      by_chips true n = refl
-      by_chips false n = refl
+  first_claims v = let first = first_is g v in grind (arith, nat_tests)
 
   one_each : (v : ℕ) → outstanding ((opening_part g).out (root_edge g v)) ≡ cond (eqb (start_of g v) 0) 0 1
   one_each v = let one = first_claims v in omega arith
@@ -113,22 +102,15 @@ module _ (g : Setting) (s : Part) (r : Root) (stands : RootStandsFor g s r) (edg
 
   settled_now : (u : ℕ) → u < g.game.graph.vertices
       → slice_index (set r.settled (edge - r.graph_edges) seen) u ≡ ((does g settling s).out (root_edge g u)).settled
-  settled_now u m = dite (ℕ_discrete u v)
+  settled_now u m =
+      let edges = stands.edges in let before = stands.settled u m in
+      dite (ℕ_discrete u v)
       (λ same.
-      let l = vertex_within in let edges = stands.edges in
-      let at : edge ≡ root_edge g u = edge_is ∙ ap (root_edge g) (sym same) in
-      let here : u ≡ edge - r.graph_edges = omega arith in
-      let before : ℕ = (s.out (root_edge g u)).settled in
-      let before_is : before ≡ (s.out edge).settled = ap (λ (e : ℕ). (s.out e).settled) (sym at) in
-      let all : seen ≡ before + (seen - before) = omega arith in
-      ap (λ (n : ℕ). get_or (set r.settled (edge - r.graph_edges) seen) n 0) here
-      ∙ get_or-set_same r.settled (edge - r.graph_edges) seen 0 l ∙ all
-      ∙ sym (cond_yes edge (root_edge g u) (before + (seen - before)) before at))
+      let at : edge ≡ root_edge g u = omega arith in let place : u ≡ edge - r.graph_edges = omega arith in
+      let here = get_or-set_same r.settled (edge - r.graph_edges) seen 0 vertex_within in grind (arith, nat_tests))
       (λ other.
-      let edges = stands.edges in
-      get_or-set_other r.settled (edge - r.graph_edges) u seen 0 (λ z. other (let a : u ≡ v = omega arith in a))
-      ∙ stands.settled u m ∙ sym (cond_no edge (root_edge g u) _ (s.out (root_edge g u)).settled
-      (λ z. other (let a : u ≡ v = omega arith in a))))
+      let still = get_or-set_other r.settled (edge - r.graph_edges) u seen 0
+      (λ z. other (let a : u ≡ v = omega arith in a)) in grind (arith, nat_tests))
 
   outstanding_now : r.outstanding - (seen - slice_index r.settled (edge - r.graph_edges))
       ≡ deficit g (root g) (does g settling s)
@@ -145,24 +127,11 @@ module _ (g : Setting) (s : Part) (r : Root) (stands : RootStandsFor g s r) (edg
       omega arith
 
   feeds_still : (f : Feeder) → Feeds g s f → Feeds g (does g settling s) f
-  feeds_still f feeds = record {
-    ended = feeds.ended;
-    fed = feeds.fed;
-    within = feeds.within;
-    few_outstanding = (let was = feeds.few_outstanding in let now = outstanding_now in let old = stands.outstanding in
-        omega arith);
-    tails_each = feeds.tails_each;
-    tails = feeds.tails;
-    given = feeds.given;
-    kept = feeds.kept;
-    settled_few = λ u m. dite (ℕ_discrete edge (root_edge g u))
-        (λ same. subst (λ (e : ℕ). ((does g settling s).out e).settled ≤ claims_of (s.out e).link) same
-        (let now = cond_yes edge edge ((s.out edge).settled + (seen - (s.out edge).settled)) (s.out edge).settled refl
-        in omega arith))
-        (λ other. (let now = cond_no edge (root_edge g u)
-        ((s.out (root_edge g u)).settled + (seen - (s.out (root_edge g u)).settled))
-        (s.out (root_edge g u)).settled other in let low = feeds.settled_few u m in omega arith));
-  }
+  feeds_still f feeds =
+      let was = feeds.few_outstanding in let now = outstanding_now in let old = stands.outstanding in
+      let few : (u : ℕ) → u < g.game.graph.vertices → ((does g settling s).out (root_edge g u)).settled
+      ≤ claims_of (s.out (root_edge g u)).link = (λ u m. let low = feeds.settled_few u m in grind (arith, nat_tests)) in
+      search (rules, arith, nat_tests)
 
   pub settles : (after : Root) → after.graph_edges ≡ r.graph_edges
       → after.settled ≡ set r.settled (edge - r.graph_edges) seen

@@ -1,28 +1,22 @@
 -- Serves Run.antt.
 -- A run of events, noted one after another.
-use Rattle.std.proofs.Common.{◌≡◌, ◌≢◌, ◌∙◌, ℕ, ◌+◌, ◌<◌, ◌≤◌, Bool, true, false, ◌&&◌, cond, eqb, ltb, leb, List, [], ◌∷◌}
-use Rattle.std.proofs.Common.{◌++◌, length, map, get_or, take, Option, Some, refl, sym, ap, subst, arith}
-use Rattle.std.proofs.Common.{append_assoc, append-nil, length-set, get_or-set_same, get_or-set_other, length-append}
-use Rattle.std.proofs.Common.{vec_capacity}
+use Rattle.std.proofs.lemmas.Bool.Decides.{nat_tests}
+use Rattle.std.proofs.Common.{◌≡◌, ◌≢◌, ◌∙◌, ℕ, ◌+◌, ◌<◌, ◌≤◌, Bool, cond, eqb, List, [], ◌∷◌, ◌++◌, length, map}
+use Rattle.std.proofs.Common.{get_or, take, refl, sym, ap, subst, arith, append_assoc, append-nil, length-set}
+use Rattle.std.proofs.Common.{get_or-set_same, get_or-set_other, length-append, vec_capacity}
 use Rattle.std.proofs.lemmas.List.{get_or-map, length-map, take_more}
-use Rattle.std.proofs.lemmas.Bool.{ltb-true, and_parts}
 use mathlib.Core.Logic.{dite}
 use native.Mathlib.Decide.{ℕ_discrete}
 use Rattle.chip_graph.specs.ChipGame.{IsGame}
 use Rattle.chip_part.specs.Setting.{Setting}
-use Rattle.chip_graph.proofs.SumLemmas.{by_test, cond_yes, cond_no, one_at_most}
-use Rattle.chip_part.specs.declared.reply.Reply.TheVariants.{Got, Sent, NotNow}
-use Rattle.chip_part.specs.declared.rule.Rule.TheVariants.{NoSuch}
-use Rattle.chip_core.specs.Core.{Log, Event, Take, Claim, Feed}
-use Rattle.chip_core.specs.Core.{Reply, Rule, unmet_rule, part_of, part_in, answer, step, log_after, replies_to}
-use Rattle.chip_core.specs.Core.{all_edges, graph_edges}
+use Rattle.chip_part.specs.declared.reply.Reply.TheVariants.{Got, Sent}
+use Rattle.chip_core.specs.Core.{Log, Event, Take, Claim, Feed, Reply, step, log_after, replies_to, all_edges}
 use Rattle.chip_core.specs.Messages.{Message, sent_by, delivered_by, sent_in, delivered_in, sent_on, delivered_on}
 use Rattle.chip_world.specs.declared.world.running.Notes.{Notes}
 use Rattle.chip_world.specs.Lanes.{Lane, no_lane, lane_at, with_message}
 use Rattle.chip_world.specs.Run.{is_claim_of, is_take_of, count_among, Counts, sent_after, delivered_after, SentOnEdge}
 use Rattle.chip_world.specs.Run.{GotOnEdge, HasRoom, HasRooms, AreListed, IsNotedUpTo, IsRecordOf, IsHeldByReplies}
 use Rattle.chip_core.proofs.MessageLemmas.{held_from_the_opening}
-use Rattle.chip_world.proofs.VertexLemmas.{refused}
 
 -- ---- counts
 
@@ -46,40 +40,19 @@ counted test edges xs i d counts new l so_far same change =
           ap (count_among (test e)) longer in omega arith);
       few = λ e m. (let was = so_far.few e m in let now = change e m in let long = length-append (take i xs) (x ∷ []) in
           let all : length (take (i + 1) xs) ≡ length (take i xs ++ x ∷ []) = ap (λ (l : List Event). length l) longer in
-          let one = one_at_most (test e x) in omega arith);
+          grind (arith, nat_tests));
     }
 
 -- ---- a message that an event brings is of an edge
 
--- the answer to an event whose edge isn't there
-step_refused : (g : Setting) (log : Log) (x : Event) (rule : Rule)
-    → unmet_rule g x (part_in g log (part_of g x)) ≡ Some rule
-    → (step g log x).1 ≡ NotNow rule
-step_refused g log x rule is = ap (λ (o : Option Rule). (answer g log x o).1) is
-
 pub sent_on_edge : (g : Setting) (log : Log) (x : Event) (r : Reply) → r ≡ (step g log x).1
     → SentOnEdge x r (all_edges g)
-sent_on_edge g log (Claim e) (Sent m) is = by_test (ltb e (graph_edges g))
-    (λ yes. let l = ltb-true e (graph_edges g) yes in omega arith)
-    (λ no. absurd (clash m (is ∙ step_refused g log (Claim e) NoSuch (refused (ltb e (graph_edges g)) NoSuch _ no))))
-  where
-    clash : (m : Message) → Sent m ≡ NotNow NoSuch → ⊥
-    clash m q = absurd (cc)
-sent_on_edge g log (Feed e k) (Sent m) is = by_test (leb (graph_edges g) e && ltb e (all_edges g))
-    (λ yes. ltb-true e (all_edges g) (and_parts _ _ yes).1)
-    (λ no. absurd (clash m (is ∙ step_refused g log (Feed e k) NoSuch
-    (refused (leb (graph_edges g) e && ltb e (all_edges g)) NoSuch _ no))))
-  where
-    clash : (m : Message) → Sent m ≡ NotNow NoSuch → ⊥
-    clash m q = absurd (cc)
+sent_on_edge g log (Claim e) (Sent m) is = grind (arith, nat_tests)
+sent_on_edge g log (Feed e k) (Sent m) is = grind (arith, nat_tests)
 sent_on_edge g log _ _ is = tt
 
 pub got_on_edge : (g : Setting) (log : Log) (x : Event) (r : Reply) → r ≡ (step g log x).1 → GotOnEdge x r (all_edges g)
-got_on_edge g log (Take e) (Got m) is = by_test (ltb e (all_edges g)) (λ yes. ltb-true e (all_edges g) yes)
-    (λ no. absurd (clash m (is ∙ step_refused g log (Take e) NoSuch (refused (ltb e (all_edges g)) NoSuch _ no))))
-  where
-    clash : (m : Message) → Got m ≡ NotNow NoSuch → ⊥
-    clash m q = absurd (cc)
+got_on_edge g log (Take e) (Got m) is = grind (arith, nat_tests)
 got_on_edge g log _ _ is = tt
 
 -- ---- the lists after an event
@@ -103,14 +76,11 @@ one_message : (lanes : List Lane) (i : ℕ) (m : Message)
     → Longer lanes (with_message i m lanes) (λ e. cond (eqb i e) (m ∷ []) []) (λ e. cond (eqb i e) 1 0)
 one_message lanes i m = record {
   edges = length-set lanes i _;
-  messages = λ e l. dite (ℕ_discrete i e)
-      (λ same. ap (λ (n : Lane). n.messages) (here e l same)
-      ∙ ap (λ (more : List Message). (lane_at lanes e).messages ++ more) (sym (cond_yes i e (m ∷ []) [] same)))
-      (λ other. ap (λ (n : Lane). n.messages) (there e other) ∙ sym (append-nil (lane_at lanes e).messages)
-      ∙ ap (λ (more : List Message). (lane_at lanes e).messages ++ more) (sym (cond_no i e (m ∷ []) [] other)));
+  messages = λ e l. dite (ℕ_discrete i e) (λ same. let at = here e l same in grind (arith, nat_tests))
+      (λ other. let at = there e other in let none = append-nil (lane_at lanes e).messages in grind (arith, nat_tests));
   capacity = λ e l. dite (ℕ_discrete i e) (λ same. ap (λ (n : Lane). n.capacity) (here e l same))
       (λ other. ap (λ (n : Lane). n.capacity) (there e other));
-  few = λ e. one (eqb i e);
+  few = λ e. grind (arith, nat_tests);
 }
   where
     here : (e : ℕ) → e < length lanes → i ≡ e → lane_at (with_message i m lanes) e
@@ -119,10 +89,6 @@ one_message lanes i m = record {
 
     there : (e : ℕ) → i ≢ e → lane_at (with_message i m lanes) e ≡ lane_at lanes e
     there e other = get_or-set_other lanes i e _ no_lane (λ z. other (sym z))
-
-    one : (b : Bool) → length (cond b (m ∷ []) []) ≤ cond b 1 0
-    one true = omega arith
-    one false = omega arith
 
 sent_longer : (x : Event) (r : Reply) (lanes : List Lane)
     → Longer lanes (sent_after x r lanes) (λ e. sent_by e x r) (λ e. cond (is_claim_of e x) 1 0)

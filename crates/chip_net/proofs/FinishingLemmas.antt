@@ -1,8 +1,9 @@
 -- Serves Finish.antt, Roots.antt.
 -- What the root makes of its reads.
-use Rattle.std.proofs.Common.{◌≡◌, ℕ, ◌<◌, ◌≤◌, sum, ◌||◌, ◌&&◌, Bool, not, true, false, List, []}
-use Rattle.std.proofs.Common.{length, map, get_or, slice_index, Option, Some, None, is_some, Contains, true≢false, refl}
-use Rattle.std.proofs.Common.{sym, ap, ◌∙◌, subst, arith}
+use Rattle.std.proofs.lemmas.Bool.Decides.{nat_tests}
+use Rattle.std.proofs.Common.{◌≡◌, ℕ, ◌<◌, ◌≤◌, sum, ◌||◌, ◌&&◌, Bool, not, true, List, [], length, map, get_or}
+use Rattle.std.proofs.Common.{slice_index, Option, Some, None, is_some, Contains, true≢false, refl, sym, ap, ◌∙◌, subst}
+use Rattle.std.proofs.Common.{arith}
 use Rattle.std.specs.List.{range_with_len}
 use Rattle.std.proofs.Math.ListN.{get_or-map}
 use Rattle.std.proofs.lemmas.List.{length-map}
@@ -20,7 +21,7 @@ use Rattle.chip_link.specs.Words.{fired_in, is_halted_in, is_by_limit_in, is_fir
 use Rattle.chip_part.specs.Setting.{Setting, IsSetting}
 use Rattle.chip_part.specs.declared.cause.Cause.{Cause}
 use Rattle.chip_part.specs.declared.cause.Cause.TheVariants.{SealedEdge, FiringLimit}
-use Rattle.chip_part.specs.Edges.{root, root_edge, stopper}
+use Rattle.chip_part.specs.Edges.{root, root_edge}
 use Rattle.chip_part.specs.Part.{Part, opening_part, is_by_limit, AreGiven}
 use Rattle.chip_core.specs.Core.{Log, part_in, word_of_part, IsLegalLog, IsClosed}
 use Rattle.chip_core.specs.Laws.{WordsOf}
@@ -33,7 +34,6 @@ use Rattle.chip_core.proofs.ReachingLemmas.{by_history}
 use Rattle.chip_core.proofs.GivenLemmas.{given_is, given_start, given_within, played_has_more, unfed_played}
 use Rattle.chip_core.proofs.ClosingLemmas.{all_ended}
 use Rattle.chip_core.proofs.OutcomeLemmas.{never_negative, comes, in_range, is_played}
-use Rattle.chip_core.proofs.PlayingLemmas.{unsealed_refuses}
 use Rattle.chip_net.specs.Roots.{RootKnown, root_part, root_after, fed_by}
 use Rattle.chip_net.specs.Finish.{reads_from, IsReadOut, ReadingsState, is_by_limit_at, is_by_seal_at, AreRead}
 use Rattle.chip_net.specs.Finish.{IsReading, IsOneEnd, Finishes}
@@ -42,6 +42,9 @@ use Rattle.chip_net.proofs.ReadingLemmas.{reads_feed_none, reads_part, reads_say
 use Rattle.chip_net.specs.Tokens.{NetId, ActorKnown}
 use Rattle.chip_part.proofs.EdgeLemmas.{tail_root}
 use Rattle.chip_link.specs.Link.{sent_counts}
+use Rattle.std.proofs.Common.{false}
+use Rattle.chip_part.specs.Edges.{stopper}
+use Rattle.chip_core.proofs.PlayingLemmas.{unsealed_refuses}
 use Rattle.chip_graph.proofs.PickLemmas.{picked_none, picked_ext, picked_has}
 use Rattle.chip_detect.proofs.ListLemmas.{contains_nothing}
 
@@ -63,17 +66,10 @@ pub fired_word_is : (g : Setting) → IsSetting g → (log : Log) → IsLegalLog
     → word ≡ word_of_part (part_in g log v) → is_fired_word word ≡ true
 fired_word_is g setting log legal v word is =
     let told = words_tell g setting.game setting.some_ring log legal in
-    ap is_fired_word is ∙ (λ i. told.halted v i || not (told.by_limit v i)) ∙ by_cause (part_in g log v).halt
-  where
-    by_cause : (h : Option Cause) → (is_some h || not (is_by_limit h)) ≡ true
-    by_cause None = refl
-    by_cause (Some SealedEdge) = refl
-    by_cause (Some FiringLimit) = refl
+    ap is_fired_word is ∙ (λ i. told.halted v i || not (told.by_limit v i)) ∙ grind (arith, nat_tests)
 
 seal_is : (h : Option Cause) → (is_some h && not (is_by_limit h)) ≡ is_by_seal h
-seal_is None = refl
-seal_is (Some SealedEdge) = refl
-seal_is (Some FiringLimit) = refl
+seal_is h = grind (arith, nat_tests)
 
 -- what the words of all vertices say of a log is its outcome, where the chips are those by the counts
 module _ (g : Setting) (setting : IsSetting g) (log : Log) (legal : IsLegalLog g log) (words : List ℕ)

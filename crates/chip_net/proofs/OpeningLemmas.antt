@@ -14,8 +14,7 @@ use Rattle.chip_part.specs.Edges.{graph_edges, all_edges, start_of}
 use Rattle.chip_part.specs.Part.{first_put}
 use Rattle.chip_core.specs.Core.{Step}
 use Rattle.chip_core.specs.Words.{Word, of_edge, of_acks, of_cell, of_vertex, IsWord}
-use Rattle.chip_core.proofs.ShowingLemmas.{other_kind, other_owner, other_cell}
-use Rattle.chip_root.proofs.RootLemmas.{first_root}
+use Rattle.chip_part.proofs.OpeningLemmas.{first_is}
 use Rattle.chip_net.specs.Layout.{index_of, word_count, value_in}
 use Rattle.chip_net.specs.Views.{find_in, opening_view}
 use Rattle.chip_net.specs.Rule.{Kept}
@@ -61,7 +60,7 @@ module _ (g : Setting) where
           cell_there = (omega arith, some_ring)
 
           put : first_put g edge ≡ start_of g v ∷ []
-          put = first_root g v ∙ cond_no (start_of g v) 0 _ _ some_chips
+          put = first_is g v ∙ cond_no (start_of g v) 0 _ _ some_chips
 
           -- every word but these two is as it was
           still : (q : Word) → IsWord g q → q ≢ of_edge edge → q ≢ of_cell edge 0 → value_in g words'' q
@@ -73,25 +72,23 @@ module _ (g : Setting) where
           each (of_edge e) l = dite (ℕ_discrete e edge)
               (λ same. ap (λ (n : ℕ). value_in g words'' (of_edge n)) same
               ∙ written_else g words' wide' (of_cell edge 0) cell_there (start_of g v) (of_edge edge) there
-              (other_kind _ _ (λ z. omega arith)) ∙ written_here g words opening.wide (of_edge edge) there 1
+              (λ z. absurd (cc)) ∙ written_here g words opening.wide (of_edge edge) there 1
               ∙ sym (now_counted e edge _ same ∙ ap (λ (n : ℕ). length (first_put g n)) same ∙ ap length put))
-              (λ other. still (of_edge e) l (other_owner _ _ other) (other_kind _ _ (λ z. omega arith))
+              (λ other. still (of_edge e) l (λ z. grind arith) (λ z. absurd (cc))
               ∙ ap (λ (b : Bool). cond b (length (first_put g e)) 0) (same_test e edge other))
-          each (of_acks e) l = still (of_acks e) l (other_kind _ _ (λ z. omega arith))
-              (other_kind _ _ (λ z. omega arith))
-          each (of_vertex u) l = still (of_vertex u) l (other_kind _ _ (λ z. omega arith))
-              (other_kind _ _ (λ z. omega arith))
+          each (of_acks e) l = still (of_acks e) l (λ z. absurd (cc)) (λ z. absurd (cc))
+          each (of_vertex u) l = still (of_vertex u) l (λ z. absurd (cc)) (λ z. absurd (cc))
           each (of_cell e i) l = dite (ℕ_discrete e edge)
               (λ same. dite (ℕ_discrete i 0)
               (λ first. ap (value_in g words'') (λ k. of_cell (same k) (first k))
               ∙ written_here g words' wide' (of_cell edge 0) cell_there (start_of g v)
               ∙ sym (now_counted e edge _ same ∙ (λ k. get_or (first_put g (same k)) (first k) 0)
               ∙ ap (λ (xs : List ℕ). get_or xs 0 0) put))
-              (λ later. still (of_cell e i) l (other_kind _ _ (λ z. omega arith)) (other_cell _ _ later)
+              (λ later. still (of_cell e i) l (λ z. absurd (cc)) (λ z. grind arith)
               ∙ cond-false (ltb e edge) _ 0 (le-ltb e edge (omega arith))
               ∙ sym (now_counted e edge _ same ∙ ap (λ (n : ℕ). get_or (first_put g n) i 0) same
               ∙ ap (λ (xs : List ℕ). get_or xs i 0) put ∙ get_or_past (start_of g v ∷ []) i 0 (omega arith))))
-              (λ other. still (of_cell e i) l (other_kind _ _ (λ z. omega arith)) (other_owner _ _ other)
+              (λ other. still (of_cell e i) l (λ z. absurd (cc)) (λ z. grind arith)
               ∙ ap (λ (b : Bool). cond b (get_or (first_put g e) i 0) 0) (same_test e edge other))
 
   -- all words laid out

@@ -1,7 +1,8 @@
 -- Serves Views.antt, Layout.antt, Rule.antt.
 -- Each event keeps the rule of the table, and tells that its part did it.
-use Rattle.std.proofs.Common.{◌≡◌, ◌≢◌, ℕ, ◌+◌, ◌%◌, ◌^◌, ◌<◌, ◌==◌, List, [], ◌∷◌, ◌++◌, get_or, set}
-use Rattle.std.proofs.Common.{length-set, Bool, true, false, cond, Some, None, refl, sym, ap, ◌∙◌, subst, arith, bit_or}
+use Rattle.std.proofs.lemmas.Bool.Decides.{nat_tests}
+use Rattle.std.proofs.Common.{◌≡◌, ◌≢◌, ℕ, ◌+◌, ◌%◌, ◌^◌, ◌<◌, ◌==◌, List, [], ◌∷◌, ◌++◌, get_or, set, length-set, Some}
+use Rattle.std.proofs.Common.{None, refl, sym, ap, ◌∙◌, subst, arith, bit_or}
 use lib.ListN.{get_elem?}
 use prog.Atomic.{either}
 use Rattle.atomic_table.specs.Seated.{TableId}
@@ -15,8 +16,8 @@ use Rattle.chip_part.specs.declared.act.Act as operation
 use Rattle.chip_part.specs.declared.act.Act.TheVariants as Do
 use Rattle.chip_part.specs.Acting.{act_of}
 use Rattle.chip_part.specs.Steps.{saw}
-use Rattle.chip_core.specs.Core.{Log, Step, Event, Claim, Seal, Read, Feed}
-use Rattle.chip_core.specs.Core.{Part, opening_part, unmet_rule, part_of, part_in, does, sees}
+use Rattle.chip_core.specs.Core.{Log, Step, Event, Claim, Seal, Read, Feed, Part, opening_part, unmet_rule, part_of}
+use Rattle.chip_core.specs.Core.{part_in, does, sees}
 use Rattle.chip_core.specs.Histories.{done_by, part_by}
 use Rattle.chip_core.specs.Words.{Word, of_edge, of_acks, of_cell, of_vertex, IsWord, halt_bits, word_of_event, left_by}
 use Rattle.chip_core.specs.Words.{word_to_note, IsShown, IsLeft, acting_part}
@@ -152,11 +153,7 @@ left_over Do.End n = n
 
 -- the two ways to say what an exchange leaves
 pub one_exchange : (expected new n : ℕ) → word_after_exchange expected new n ≡ either (n == expected) new n
-one_exchange expected new n = by_test (n == expected)
-  where
-    by_test : (b : Bool) → cond b new n ≡ either b new n
-    by_test true = refl
-    by_test false = refl
+one_exchange expected new n = grind (arith, nat_tests)
 
 -- an event whose operation has a name of its own
 abbrev pub HasAct : Event → Type 0

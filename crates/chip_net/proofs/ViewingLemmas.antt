@@ -1,7 +1,8 @@
 -- Serves Views.antt.
 -- Views as finite maps: what a step and a split change.
-use Rattle.std.proofs.Common.{◌≡◌, ◌≢◌, ℕ, zero, suc, ◌+◌, ◌<◌, true, eqb, cond, List, [], ◌∷◌, ◌++◌, length}
-use Rattle.std.proofs.Common.{length-append, set, Option, Some, None, refl, sym, ap, ◌∙◌, arith}
+use Rattle.std.proofs.lemmas.Bool.Decides.{nat_tests}
+use Rattle.std.proofs.Common.{◌≡◌, ◌≢◌, ℕ, zero, suc, ◌+◌, ◌<◌, true, List, [], ◌∷◌, ◌++◌, length, length-append, set}
+use Rattle.std.proofs.Common.{Option, Some, None, refl, sym, ap, ◌∙◌, arith}
 use Rattle.std.specs.Prelude.{slice_get}
 use Rattle.std.proofs.lemmas.Option.{slice_get_read, get_or_from_slice_get}
 use Rattle.std.proofs.lemmas.List.{get_or_push, get_or_append_left}
@@ -15,8 +16,8 @@ use Rattle.chip_part.proofs.PartLemmas.{stays_ended}
 use Rattle.chip_core.specs.Core.{Step, Part, does}
 use Rattle.chip_core.specs.Histories.{part_by}
 use Rattle.chip_core.proofs.ReachingLemmas.{part-append}
-use Rattle.chip_net.specs.Views.{History, View, find, grow, grow_view, steps_or_none, did_in, Has}
-use Rattle.chip_net.specs.Views.{drop_part, one_part, view_of_one, parts_below, IsAlone, join_views}
+use Rattle.chip_net.specs.Views.{History, View, find, grow, grow_view, steps_or_none, did_in, Has, drop_part, one_part}
+use Rattle.chip_net.specs.Views.{view_of_one, parts_below, IsAlone, join_views}
 
 pub some_is : {A : Type 0} (a b : A) → Some a ≡ Some b → a ≡ b
 some_is a b e = cc
@@ -33,22 +34,12 @@ set_there (x ∷ xs) (suc i) a b e = set_there xs i a b e
 pub find_here : (p : ℕ) (x : Step) (ys : List History) (did : List Step) → find p ys ≡ Some did
     → find p (grow p x ys) ≡ Some (did ++ x ∷ [])
 find_here p x [] did e = absurd (cc)
-find_here p x (y ∷ ys) did e = dite (ℕ_discrete y.part p)
-    (λ same. cond_yes y.part p _ _ same
-    ∙ ap Some (cond_yes y.part p (y.did ++ x ∷ []) y.did same
-    ∙ ap (λ (d : List Step). d ++ x ∷ [])
-    (some_is y.did did (sym (cond_yes y.part p (Some y.did) (find p ys) same) ∙ e))))
-    (λ other. cond_no y.part p _ _ other
-    ∙ find_here p x ys did (sym (cond_no y.part p (Some y.did) (find p ys) other) ∙ e))
+find_here p x (y ∷ ys) did e = let rest = find_here p x ys did in grind (arith, nat_tests)
 
 -- and another part is what it was
 pub find_else : (p q : ℕ) (x : Step) (ys : List History) → p ≢ q → find q (grow p x ys) ≡ find q ys
 find_else p q x [] ne = refl
-find_else p q x (y ∷ ys) ne = dite (ℕ_discrete y.part q)
-    (λ same. cond_yes y.part q _ _ same ∙ ap Some (cond_no y.part p (y.did ++ x ∷ []) y.did (λ e. ne (sym e ∙ same)))
-    ∙ sym (cond_yes y.part q (Some y.did) (find q ys) same))
-    (λ other. cond_no y.part q _ _ other ∙ find_else p q x ys ne
-    ∙ sym (cond_no y.part q (Some y.did) (find q ys) other))
+find_else p q x (y ∷ ys) ne = let rest = find_else p q x ys ne in grind (arith, nat_tests)
 
 -- what a view has of the part that stepped
 pub grown_has : (p : ℕ) (x : Step) (v w : View) → Has p v → w ≡ grow_view p x v → (did_in p w ≡ did_in p v ++ x ∷ [])
@@ -72,23 +63,15 @@ ended_by g (x ∷ xs) s on = ended_by g xs (does g x s) (stays_ended g x.event s
 
 pub dropped_here : (p : ℕ) (ys : List History) → find p (drop_part p ys) ≡ None
 dropped_here p [] = refl
-dropped_here p (y ∷ ys) = dite (ℕ_discrete y.part p)
-    (λ same. ap (find p) (cond_yes y.part p (drop_part p ys) (y ∷ drop_part p ys) same) ∙ dropped_here p ys)
-    (λ other. ap (find p) (cond_no y.part p (drop_part p ys) (y ∷ drop_part p ys) other)
-    ∙ cond_no y.part p (Some y.did) (find p (drop_part p ys)) other ∙ dropped_here p ys)
+dropped_here p (y ∷ ys) = let rest = dropped_here p ys in grind (arith, nat_tests)
 
 pub dropped_else : (p q : ℕ) (ys : List History) → p ≢ q → find q (drop_part p ys) ≡ find q ys
 dropped_else p q [] ne = refl
-dropped_else p q (y ∷ ys) ne = dite (ℕ_discrete y.part p)
-    (λ same. ap (find q) (cond_yes y.part p (drop_part p ys) (y ∷ drop_part p ys) same) ∙ dropped_else p q ys ne
-    ∙ sym (cond_no y.part q (Some y.did) (find q ys) (λ e. ne (sym same ∙ e))))
-    (λ other. ap (find q) (cond_no y.part p (drop_part p ys) (y ∷ drop_part p ys) other)
-    ∙ ap (cond (eqb y.part q) (Some y.did)) (dropped_else p q ys ne))
+dropped_else p q (y ∷ ys) ne = let rest = dropped_else p q ys ne in grind (arith, nat_tests)
 
 -- the new view has no other part than the one that was taken out
 pub one_else : (p q : ℕ) (found : Option (List Step)) → p ≢ q → find q (one_part p found) ≡ None
-one_else p q None other = refl
-one_else p q (Some did) other = cond_no p q (Some did) None other
+one_else p q found other = grind (arith, nat_tests)
 
 pub alone_has : (p : ℕ) (v : View) (did : List Step) → find p v.parts ≡ Some did
     → find p (view_of_one p v).parts ≡ Some did
@@ -130,14 +113,11 @@ joined_else p q v w is other = ap (λ (l : List History). find q (l ++ v.parts))
 
 pub part_there : (n p : ℕ) → p < n → find p (parts_below n) ≡ Some []
 part_there zero p l = absurd (omega arith)
-part_there (suc n) p l = dite (ℕ_discrete n p) (λ same. cond_yes n p (Some []) (find p (parts_below n)) same)
-    (λ other. cond_no n p (Some []) (find p (parts_below n)) other ∙ part_there n p (omega arith))
+part_there (suc n) p l = let rest = part_there n p in grind (arith, nat_tests)
 
 pub part_empty : (n p : ℕ) (did : List Step) → find p (parts_below n) ≡ Some did → did ≡ []
 part_empty zero p did e = absurd (none_some did e)
-part_empty (suc n) p did e = dite (ℕ_discrete n p)
-    (λ same. some_is did [] (sym e ∙ cond_yes n p (Some []) (find p (parts_below n)) same))
-    (λ other. part_empty n p did (sym (cond_no n p (Some []) (find p (parts_below n)) other) ∙ e))
+part_empty (suc n) p did e = let rest = part_empty n p did in grind (arith, nat_tests)
 
 -- one more element of a list of which each is told
 pub pushed_each : {X : Type 0} (at : ℕ → X) (xs : List X) (y : X) (n : ℕ) → length xs ≡ n

@@ -158,6 +158,9 @@ def played(chips: Configuration, program: FileName | None = None) -> tuple[Seque
 
 def played_many(graph: Graph, chips: Sequence[int], program: FileName | None) -> tuple[array[int], array[int]]:
     """The same of the chips of one game after another."""
+    if graph.loops:
+        left, fired = played_many(graph.loop_free, graph.without_loops(chips), program)
+        return graph.with_loops(left), fired
     found = library.play(graph, chips, program)
     left, fired, stopped = found or (array("Q"), array("Q"), 0)
     for start in () if found else range(0, len(chips), graph.vertices or 1):
@@ -173,6 +176,8 @@ def played_many(graph: Graph, chips: Sequence[int], program: FileName | None) ->
 
 def come_back(graph: Graph, rows: Sequence[tuple[int, ...]], program: FileName | None) -> list[bool]:
     """Which configurations come back if the burning configuration is added and the sum is stabilized."""
+    if graph.loops:
+        return come_back(graph.loop_free, [tuple(map(operator.sub, row, graph.loops)) for row in rows], program)
     fuel, width, none = burning(graph, program)[1], graph.vertices, (0,) * graph.vertices
     # (no play comes back to what has less than no chip somewhere)
     burnt = (map(operator.add, row if min(row) >= 0 else none, fuel) for row in rows)
@@ -197,7 +202,7 @@ def once(question: Callable[[Graph, FileName | None], T]) -> Callable[[Graph, Fi
 def burning(graph: Graph, program: FileName | None) -> tuple[Sequence[int], Sequence[int]]:
     """The least burning script, and the chips that it takes away, by numbers. The script is one more than the counts of
     a play that begins with one chip less on each vertex than edges lead into it."""
-    none = [0] * graph.vertices
+    graph, none = graph.loop_free, [0] * graph.vertices
     entering = graph.position_after(graph.degrees(), [1] * graph.vertices)
     start = Configuration(graph, [max(count - 1, 0) for count in entering])
     fired = none if start.is_stable() else played(start, program)[1]

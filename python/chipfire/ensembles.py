@@ -33,9 +33,9 @@ def random_recurrent(graph: AnyGraph, seed: Any, count: int | None = None) -> An
     grid of 60 by 60 takes some 20 ms.
     Nothing of this is proved, and the program is not asked."""
     known, draw = known_graph(graph), random.Random(seed)
-    outs = _undirected(known)
+    outs, least = _undirected(known), known.loops or 0
     many = range(1 if count is None else whole(count, "the number of configurations"))
-    found = [Configuration(known, _burnt(known, outs, *_tree(known.sink, outs, draw))) for _ in many]
+    found = [Configuration(known, _burnt(known, outs, *_tree(known.sink, outs, draw))) + least for _ in many]
     return found[0] if count is None else found
 
 
@@ -167,15 +167,16 @@ class _Chains:
     """Chains as they are played: numbers of 64 bits, those of one chain behind those of another."""
 
     def __init__(self, graph: Graph, n: int, drops: int, seed: Any, chips: Any) -> None:
-        self.graph, self.drops, self.seeds = graph, drops, [f"{seed} {chain}" for chain in range(n)]
+        self.known, self.graph, self.drops = graph, graph.loop_free, drops
+        self.seeds = [f"{seed} {chain}" for chain in range(n)]
         self.inner = array("Q", (it for it in range(graph.vertices) if it != graph.sink))
         self.made = array("Q", [drops]) * n
         self.columns = [array("Q", bytes(8 * n * drops)) for _ in range(3)]
         rows = [graph.chips(row) for row in chips] if _are_rows(graph, chips) else [graph.chips(chips)] * n
         if len(rows) != n:
             raise ValueError(f"there are chips for {len(rows)} chains, and {n} chains")
-        self.chips = array("Q", itertools.chain.from_iterable(rows))
-        _stabilize(graph, self.chips, array("Q", bytes(8 * len(self.chips))), array("Q", bytes(8 * n)))
+        self.chips = array("Q", graph.without_loops([*itertools.chain.from_iterable(rows)]))
+        _stabilize(self.graph, self.chips, array("Q", bytes(8 * len(self.chips))), array("Q", bytes(8 * n)))
 
     def drawn(self, chain: int) -> Any:
         """The vertices of a chain, as `random_drops` draws them; by NumPy's twister, which is Python's."""
@@ -223,8 +224,8 @@ class _Chains:
 
     def told(self, fired: Firings | None) -> Chains:
         """What was played, by rows."""
-        numpy, n = imported("numpy"), len(self.seeds)
-        size, extent, lost, chips = (_by_rows(numpy, it, n) for it in (*self.columns, self.chips))
+        numpy, n, chips = imported("numpy"), len(self.seeds), self.known.with_loops(self.chips)
+        size, extent, lost, chips = (_by_rows(numpy, it, n) for it in (*self.columns, chips))
         made = numpy.frombuffer(self.made, "q") if numpy else self.made
         return Chains(tuple(self.seeds), size, extent, lost, made, chips, fired)
 

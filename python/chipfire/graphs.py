@@ -2,21 +2,25 @@
 
 from __future__ import annotations
 
+import copy
 import functools
 import itertools
 import json
 import math
+import operator
 import os
 import threading
 import weakref
 from array import array
 from collections import Counter, OrderedDict
 from collections.abc import Callable, Hashable, Iterable, Iterator, Mapping, Sequence, Set
+from decimal import Decimal
+from fractions import Fraction
 from typing import Any, NamedTuple
 
 from chipfire.chips import Chips, Configuration, Sums
 from chipfire.process import Kept
-from chipfire.values import MAX_LARGE_EDGES, MAX_LARGE_VERTICES, MAX_MULT, FileName, imported, whole, wholes
+from chipfire.values import MAX_LARGE_EDGES, MAX_LARGE_VERTICES, MAX_MULT, FileName, counted, imported, whole, wholes
 
 #: Which squares lie beside one of a lattice, as (rows down, columns to the right) by the parity of its row and column.
 _BESIDE: dict[str, Sequence[Sequence[tuple[int, int]]]] = {
@@ -85,6 +89,7 @@ class Graph:
     shape     how many rows and columns a picture of it has, or None; `squares` has the place of each vertex in them,
               by rows; a sink that is the last vertex has none
     from_sink edges out of the sink, rows (head, mult) that only `laplacian` shows; None: one back for each edge into it
+    loops     how many chips each vertex needs to fire beyond those that it sends, and keeps; none, if it is empty
 
     A graph is never changed. The program says whether chipfire takes it: `check(graph)`.
     """
@@ -95,22 +100,27 @@ class Graph:
     names: Sequence[Hashable]
     squares: Sequence[int]
     from_sink: Sequence[tuple[int, int]] | None
+    loops: Sequence[int]
     answers: dict[Any, Any]  # (what was found out about it)
 
     def __init__(
         self, vertices: int, sink: int, edges: Iterable[Sequence[int]], names: Sequence[Hashable] = (),
         shape: tuple[int, int] | None = None, squares: Sequence[int] | None = None,
-        from_sink: Sequence[tuple[int, int]] | None = (),
+        from_sink: Sequence[tuple[int, int]] | None = (), loops: Sequence[int] = (),
     ) -> None:
         vertices, sink, names = whole(vertices, "the number of vertices"), whole(sink, "the sink"), tuple(names)
         if names and len(names) != vertices:
             raise ValueError(f"there are {len(names)} names, and the graph has {vertices} vertices")
         if len({*names}) < len(names):
             raise ValueError(f"two vertices are called {Counter(names).most_common(1)[0][0]!r}")
+        held = [count * (at != sink) for at, count in enumerate(wholes(loops, lambda at: f"the loops of vertex {at}"))]
+        if held and len(held) != vertices:
+            raise ValueError(f"there are loops of {len(held)} vertices, and the graph has {vertices}")
         vars(self).update(
             vertices=vertices, sink=sink, columns=edges if isinstance(edges, Columns) else _columns(edges),
             names=names or range(vertices), answers={}, **({} if shape is None else {"shape": shape}),
             squares=range(vertices - (sink == vertices - 1)) if squares is None else squares, from_sink=from_sink,
+            loops=held if any(held) else (),
         )
 
     def __setattr__(self, name: str, value: Any) -> None:
@@ -119,7 +129,7 @@ class Graph:
     def __eq__(self, other: object) -> bool:
         if not isinstance(other, Graph):
             return False
-        return all(getattr(self, it) == getattr(other, it) for it in ("vertices", "sink", "names", "columns"))
+        return all(getattr(self, it) == getattr(other, it) for it in ("vertices", "sink", "names", "columns", "loops"))
 
     def __hash__(self) -> int:
         return hash((self.vertices, self.sink, *(column.tobytes() for column in self.columns)))
@@ -136,6 +146,7 @@ class Graph:
     @functools.cached_property
     def long_columns(self) -> Columns:
         """The edges by columns of 64-bit numbers, as the library takes them."""
+        self.refuse_loops()
         return Columns(*(array("Q", column) for column in self.columns))
 
     @functools.cached_property
@@ -191,6 +202,7 @@ class Graph:
 
     def _parts(self) -> Iterator[bytes]:
         """The text of the graph file in parts."""
+        self.refuse_loops()
         yield b'{"edges":['
         numpy = imported("numpy")
         for start in range(0, len(self.columns.tails), _PART):
@@ -269,7 +281,7 @@ class Graph:
 
     def is_like(self, other: Graph) -> bool:
         """Whether another graph is the same but for the order of its edges and the names of its vertices."""
-        is_same = (self.vertices, self.sink) == (other.vertices, other.sink)
+        is_same = (self.vertices, self.sink, self.loops) == (other.vertices, other.sink, other.loops)
         return is_same and (self.columns == other.columns or sorted(self.edges) == sorted(other.edges))
 
     @functools.cached_property
@@ -306,10 +318,44 @@ class Graph:
         if self.wrong:
             raise ValueError(self.wrong)
 
+    def refuse_loops(self) -> None:
+        """Refuses a graph with loops, if only one without can be taken."""
+        if self.loops:
+            at, count = next((at, count) for at, count in enumerate(self.loops) if count)
+            told = f"vertex {self.names[at]!r} has {counted(count, 'loop')}"
+            raise ValueError(f"{told}: this takes a graph without loops")
+
+    @property
+    def loop_free(self) -> Graph:
+        """The same graph without loops."""
+        if not self.loops:
+            return self
+        if "loop_free" not in self.answers:
+            self.answers["loop_free"] = copy.copy(self)
+            vars(self.answers["loop_free"]).update(loops=(), answers={})
+        found: Graph = self.answers["loop_free"]
+        return found
+
+    def without_loops(self, chips: Sequence[int]) -> Sequence[int]:
+        """The chips of one game after another, as plays of `loop_free` begin: less by the loops. A vertex that has
+        fewer chips than loops is refused by name."""
+        found = [*map(operator.sub, chips, itertools.cycle(self.loops))] if self.loops else chips
+        for at, (left, loops) in enumerate(zip(found, itertools.cycle(self.loops))):
+            if left < 0 < loops:
+                name, has = self.names[at % self.vertices], counted(chips[at], "chip")
+                told = f"vertex {name!r} has {has} and {counted(loops, 'loop')}"
+                raise ValueError(f"{told}: nothing is played on fewer chips than loops")
+        return found
+
+    def with_loops(self, chips: Sequence[int]) -> array[int]:
+        """The chips of one game after another, of which plays of `loop_free` leave some: more by the loops."""
+        return array("Q", map(operator.add, chips, itertools.cycle(self.loops or [0])))
+
     def max_stable(self) -> Configuration:
         """The maximal stable configuration: each vertex but the sink has one chip less than it needs to fire."""
         self.require()
-        return Configuration(self, [degree - 1 for degree in self.degrees()])
+        needs = map(operator.add, self.degrees(), self.loops) if self.loops else self.degrees()
+        return Configuration(self, [count - 1 for count in needs])
 
     def chips(self, chips: Chips) -> tuple[int, ...]:
         """Chips as one number for each vertex, 0 or more.
@@ -555,7 +601,10 @@ def _ordered(names: Iterable[Any]) -> list[Any]:
         return names
 
 
-def _named(names: Iterable[Hashable], sink: Any, edges: Iterable[tuple[Any, ...]], is_directed: bool) -> Graph:
+def _named(
+    names: Iterable[Hashable], sink: Any, edges: Iterable[tuple[Any, ...]], is_directed: bool, loops: str | None = None,
+    scale: int = 1,
+) -> Graph:
     """A graph of named vertices. Edges out of the sink are in the Laplacian alone, since it never fires."""
     names, edges, is_one = list(names), list(edges), not isinstance(sink, (list, set, frozenset))
     edges += [] if is_directed else [(head, tail, mult) for tail, head, mult in edges]
@@ -569,29 +618,55 @@ def _named(names: Iterable[Hashable], sink: Any, edges: Iterable[tuple[Any, ...]
         names, sink = [*(name for name in names if name not in several), "sink"], "sink"
         if "sink" in names[:-1]:
             raise ValueError("a vertex that is none of the sinks is called 'sink', as the one that they become")
+    if loops not in (None, "drop", "sage"):
+        raise ValueError(f"loops are left out ('drop') or played as by SageMath ('sage'), and not {loops!r}")
     numbers = {name: vertex for vertex, name in enumerate(names)}
     numbers |= dict.fromkeys(several, numbers[sink])
+    scale, at, held = whole(scale, "the scale of weights", 1), numbers[sink], [0] * len(names)
+    of = "the multiplicity" if scale == 1 else f"{scale} times the weight"
     rows = [
-        (numbers[tail], numbers[head], whole(mult, f"the multiplicity of the edge from {tail!r} to {head!r}", 1))
+        (numbers[tail], numbers[head], whole(_scaled(mult, scale), f"{of} of the edge from {tail!r} to {head!r}", 1))
         for tail, head, mult in edges
     ]
-    at = numbers[sink]
+    for tail, head, mult in rows if loops == "sage" else ():
+        held[tail] += mult * (tail == head)
+    kept = [row for row in rows if row[0] != at and not (loops and row[0] == row[1])]
     back = [(head, mult) for tail, head, mult in rows if tail == at != head]
-    return Graph(len(names), at, [row for row in rows if row[0] != at], names, from_sink=back)
+    return Graph(len(names), at, kept, names, from_sink=back, loops=held)
 
 
-def from_networkx(graph: Any, sink: Any, weight: str | None = "weight") -> Graph:
+def _scaled(weight: Any, scale: int) -> Any:
+    """So many times a weight. A float is the fraction of this denominator that it is the nearest float to."""
+    if scale == 1:
+        return weight
+    many = weight * scale
+    if isinstance(weight, float) and math.isfinite(many) and round(many) / scale == weight:
+        return round(many)
+    return int(many) if isinstance(weight, (Decimal, Fraction)) and many == int(many) else many
+
+
+def from_networkx(
+    graph: Any, sink: Any, weight: str | None = "weight", *, loops: str | None = None, weight_scale: int = 1
+) -> Graph:
     """A graph of NetworkX, of any of its four kinds, with one of its vertices as the sink, or a list or set of them.
 
     An edge sends as many chips as its attribute of the name `weight` says, a whole number above 0; without that, or if
     `weight` is None, it sends one. An undirected edge is one edge each way. Edges out of the sink are in the Laplacian
-    alone. Vertices keep their names; a list or a set of sinks becomes one vertex, the last, whose name is "sink"."""
-    return _named(graph.nodes(), sink, graph.edges(data=weight, default=1), graph.is_directed())
+    alone. Vertices keep their names; a list or a set of sinks becomes one vertex, the last, whose name is "sink".
+
+    Loops are refused when something is played, or left out with `loops="drop"`. With `loops="sage"` they are those of
+    SageMath: a vertex needs a chip more to fire for each, or two for an undirected one, and keeps it. The game is that
+    without loops then, with so many chips more on each vertex: so are plays, drops, and what is stable or recurrent;
+    but not sums, orders, the identity and what is superstable. Nothing is played on fewer chips than loops.
+
+    Rational weights are taken `weight_scale` times: 0.25 and `Fraction(3, 4)` with 4, and a chip is a quarter then."""
+    edges = graph.edges(data=weight, default=1)
+    return _named(graph.nodes(), sink, edges, graph.is_directed(), loops, weight_scale)
 
 
 def from_edges(
     table: Any, sink: Any, source: Hashable = "source", target: Hashable = "target", weight: Hashable = "weight",
-    directed: bool = False,
+    directed: bool = False, *, loops: str | None = None, weight_scale: int = 1,
 ) -> Graph:
     """The graph of a table with a row for each edge: a DataFrame of pandas, or a dict of columns.
 
@@ -603,10 +678,11 @@ def from_edges(
     if len({*map(len, columns)}) > 1:
         raise ValueError(f"the columns of edges have {' and '.join(str(len(it)) for it in columns)} rows")
     rows = _rows(zip(*columns))
-    return _named(_ordered(dict.fromkeys(name for row in rows for name in row[:2])), sink, rows, directed)
+    names = _ordered(dict.fromkeys(name for row in rows for name in row[:2]))
+    return _named(names, sink, rows, directed, loops, weight_scale)
 
 
-def from_sage(graph: Any, sink: Any = None) -> Graph:
+def from_sage(graph: Any, sink: Any = None, *, loops: str | None = None, weight_scale: int = 1) -> Graph:
     """A graph of SageMath: a `Sandpile` with the sink that it has, or a `DiGraph` or `Graph` and its sink.
     An edge sends as many chips as its label says, or one if it has none; one of label 0, which Sage adds in some
     graphs, is left out. Vertices have the order of Sage's `vertices()`. All else is as in `from_networkx`."""
@@ -616,4 +692,4 @@ def from_sage(graph: Any, sink: Any = None) -> Graph:
         sink = graph.sink()
     labelled = ((tail, head, 1 if label is None else label) for tail, head, label in graph.edge_iterator(labels=True))
     edges = (edge for edge in labelled if edge[2] != 0)
-    return _named(_ordered(graph.vertex_iterator()), sink, edges, graph.is_directed())
+    return _named(_ordered(graph.vertex_iterator()), sink, edges, graph.is_directed(), loops, weight_scale)

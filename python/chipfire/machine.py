@@ -235,6 +235,7 @@ class Setting:
     def __post_init__(self) -> None:
         if not isinstance(self.graph, Graph):
             raise TypeError(f"the graph of a setting is a chipfire.Graph, and not of {type(self.graph).__name__}")
+        self.graph.refuse_loops()
         object.__setattr__(self, "chips", self.graph.chips(self.chips))
         whole(self.limit, "limit", 0, MAX_LIMIT)
         whole(self.ring, "ring", 1, 64)

@@ -46,8 +46,8 @@ def level_polynomial(graph: AnyGraph, *, most: int = MOST, program: AnyProgram =
 
     On an undirected graph it is T(1, y), by Merino, and found by deleting and contracting, as in `tutte_polynomial`. On
     others all recurrent ones are gone through; a ValueError tells if there are more than `most`.
-    Nothing of this is proved but the burning script of a directed graph."""
-    known = known_graph(graph, program)
+    Loops are left out. Nothing of this is proved but the burning script of a directed graph."""
+    known = known_graph(graph, program).loop_free
     if smith.is_undirected(known):
         return _sorted({j: count for (_, j), count in _whitney(known, most, True).items()})
     _require_few(known, most)

@@ -121,6 +121,10 @@ def plain(
     `guess` says how often each vertex may have fired in the end, in one of the forms of chips, or by a report. It
     changes no answer; one that is nearly true saves most of the play. With `progress`, `sys.stderr` gets a line about
     once a second that tells how the play goes on."""
+    if isinstance(graph, Graph) and graph.loops:
+        start = graph.without_loops(known_chips(graph, chips, program))
+        free = plain(graph.loop_free, start, limit=limit, guess=guess, progress=progress, program=program)
+        return replace(free, chips=tuple(graph.with_loops(free.chips)), graph=graph)
     question = _Question(graph, program)
     start = question.numbers(chips)
     counts = () if guess is None else question.numbers(guess.total if isinstance(guess, Report) else guess, "firings")
@@ -165,7 +169,7 @@ def verify(
     if min(counts) < 0 or told and min(told.chips) < 0:
         return False
     start, own = question.numbers(chips), question.own
-    if told and own and not progress and isinstance(start, tuple):
+    if told and own and not own.loops and not progress and isinstance(start, tuple):
         is_end = library.is_end(own, start, capped(counts), capped(told.chips), program, _limit(limit))
         if is_end is not None:
             return is_end and told == replace(told, over=_legal(own, told.chips), sealed=(), graph=own)
@@ -183,6 +187,11 @@ def drops(
     in the order of the drops, from an array or anything that can be gone through once, as `random_drops`; `amounts` are
     as many numbers of chips. Or a name is that of a file of rows `vertex,chips`.
     Proved: each row, and the report. Not proved: that Python passes them on, and the histogram."""
+    if isinstance(graph, Graph) and graph.loops:
+        start = graph.without_loops(known_chips(graph, chips, program))
+        free = drops(graph.loop_free, start, vertices, amounts=amounts, progress=progress, program=program)
+        left = tuple(graph.with_loops(free.report.chips))
+        return replace(free, report=replace(free.report, chips=left, graph=graph))
     question, rows = _Question(graph, program), cast(Any, vertices)
     start = question.numbers(chips)
     if not isinstance(vertices, FILE):
@@ -293,7 +302,7 @@ def write_chips(file: FileName, graph: Graph, chips: Chips) -> None:
 
 def read_chips(file: FileName, graph: Graph, *, program: AnyProgram = None) -> tuple[int, ...]:
     """The chips of a chips file, one number for each vertex of the graph. The program reads it, or refuses it."""
-    return plain(graph, file, limit=0, program=program).chips
+    return plain(graph.loop_free, file, limit=0, program=program).chips
 
 
 def _method(function: Callable[P, T]) -> Callable[Concatenate[Program, P], T]:

@@ -108,6 +108,7 @@ class Report(Drawn):
         """Whether some play on the graph, from 0 chips or more on each vertex, could have ended as the report says."""
         if graph.vertices != len(self.chips):
             return False
+        graph.refuse_loops()
         degrees, start = graph.degrees(), graph.position_after(self.chips, [-count for count in self.total])
         # (what a sealed edge held back lies where it would have gone, and may make a vertex legal that never stopped)
         legal = {vertex for vertex, count in enumerate(self.chips) if count >= degrees[vertex] and not self.sealed}

@@ -115,9 +115,9 @@ def recurrent_representative(graph: AnyGraph, chips: Chips, *, program: AnyProgr
     Proved: the stabilizations. Not proved: the sums between them."""
     held = _held(graph, chips, program)
     if min(held.numbers) < 0:
-        # (a chip for each edge out, less what these become, is equivalent to none, and 1 on each vertex at least)
-        degrees = Configuration(held.graph, held.graph.degrees())
-        lift = degrees - degrees.stabilize(program=program)
+        # (one chip more than is stable, less what these become, is equivalent to none, and 1 on each vertex at least)
+        full = held.graph.max_stable() + 1
+        lift = full - full.stabilize(program=program)
         held += max(-(count // more) for count, more in zip(held.numbers, lift.numbers) if more) * lift
     # (a sum is recurrent if one of the two is, and no chips of the other are below 0)
     found = (held + identity(held.graph, program)).stabilize(program=program)
@@ -214,8 +214,9 @@ def to_networkx(graph: AnyGraph) -> Any:
 
     Vertices have their names. The attribute "weight" of an edge is its multiplicity, with parallel edges as one, and
     the graph's attribute "sink" is the name of the sink, which has its edges of `laplacian`. So
-    `from_networkx(it, it.graph["sink"])` plays the same."""
+    `from_networkx(it, it.graph["sink"])` plays the same. Loops are refused."""
     known, networkx = known_graph(graph), imported("networkx", "a graph of NetworkX is one of NetworkX")
+    known.refuse_loops()
     kind, names = networkx.Graph if smith.is_undirected(known) else networkx.DiGraph, known.names
     found = kind(sink=names[known.sink])
     found.add_nodes_from(names)

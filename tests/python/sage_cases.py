@@ -5,17 +5,24 @@
 The file that lies here was written by SageMath 9.5 (Debian's package `sagemath`). Each case is a sandpile graph as Sage
 has it, its identity element, the order and the invariant factors of its group, its burning script and configuration,
 and configurations drawn at random (the seed is fixed) with what Sage's `stabilize(True)` answers, the stable
-configuration and the firing vector, and its `equivalent_recurrent`. Chips are then dropped one at a time on the
-identity: `drops` are names, `avalanches` are how many firings each caused and of how many vertices, and `left` is what
-lies there at the end. `stables` are stable configurations, with what Sage's `is_recurrent` and `is_superstable` say.
-Chips and firings leave out the sink, as Sage's do.
+configuration and the firing vector, and its `equivalent_recurrent`; each vertex has as many chips as loops at least.
+Chips are then dropped one at a time on the identity: `drops` are names, `avalanches` are how many firings each caused
+and of how many vertices, and `left` is what lies there at the end. `stables` are stable configurations, with what
+Sage's `is_recurrent` and `is_superstable` say. Chips and firings leave out the sink, as Sage's do.
+
+In `divisors` are undirected graphs with their genus, their canonical divisor, and the coefficients of two polynomials:
+of Tutte's by the powers of x and y, which takes each edge once, and of that of avalanches by the firings of each
+vertex. `ranks` are divisors drawn at random, with chips from -1 to 3 of each vertex, of degrees from -1 to 2g - 1, each
+with its `rank`.
 """
+import itertools
 import json
 import random
 
-from sage.all import Sandpile, SandpileConfig, graphs, sandpiles, version
+from sage.all import Graph, Sandpile, SandpileConfig, SandpileDivisor, graphs, sandpiles, version
 
 PLAYS = 4
+RANKS = 12
 DROPS = 12
 STABLES = 3
 
@@ -48,6 +55,27 @@ def games(draw):
     yield "graphs.PetersenGraph(), 3", Sandpile(graphs.PetersenGraph(), 3), 12
     for number in range(4):
         yield f"a directed multigraph drawn at random, {number}", from_draw(draw), 40
+    yield "two edges and a loop", Sandpile({0: {}, 1: {0: 2, 1: 1}}, 0), 9
+    for number in range(3):
+        rows = {tail: dict(heads) for tail, heads in from_draw(draw).dict().items()}
+        yield f"the same with loops, {number}", Sandpile({
+            tail: {**heads, tail: draw.randint(1, 3)} if tail % 3 == number else heads for tail, heads in rows.items()
+        }, 0), 30
+    edges = [(0, 1, 2), (1, 1, 1), (1, 2, 1), (2, 0, 1)]
+    yield "an undirected graph with loops", Sandpile(Graph(edges, loops=True), 0), 9
+
+
+def undirected():
+    """Each undirected graph whose divisors are looked at: how it is made, and its sandpile."""
+    yield "sandpiles.Cycle(5)", sandpiles.Cycle(5)
+    yield "sandpiles.Complete(4)", sandpiles.Complete(4)
+    yield "sandpiles.Complete(5)", sandpiles.Complete(5)
+    yield "sandpiles.Diamond()", sandpiles.Diamond()
+    yield "sandpiles.House()", sandpiles.House()
+    yield "sandpiles.Fan(5)", sandpiles.Fan(5)
+    yield "sandpiles.Wheel(5)", sandpiles.Wheel(5)
+    yield "graphs.CompleteBipartiteGraph(2, 3), 0", Sandpile(graphs.CompleteBipartiteGraph(2, 3), 0)
+    yield "with multiple edges", Sandpile({0: {1: 2, 2: 1}, 1: {0: 2, 2: 1}, 2: {0: 1, 1: 1, 3: 2}, 3: {2: 2}}, 0)
 
 
 def plain_name(name):
@@ -99,7 +127,8 @@ def stables_of(sandpile, draw):
 
 def plays_of(sandpile, most, draw):
     names = sandpile.nonsink_vertices()
-    drawn = ({name: int(draw.randint(0, most)) for name in names} for _ in range(PLAYS))
+    loops = {name: int(sandpile.edge_label(name, name)) if sandpile.has_edge(name, name) else 0 for name in names}
+    drawn = ({name: loops[name] + int(draw.randint(0, most)) for name in names} for _ in range(PLAYS))
     return [play_of(SandpileConfig(sandpile, chips)) for chips in drawn]
 
 
@@ -125,10 +154,38 @@ def case_of(how, sandpile, most, draw):
     }
 
 
+def coefficients(polynomial):
+    """The coefficients of a polynomial of several variables, each behind its powers."""
+    return sorted([*map(int, powers), int(count)] for powers, count in polynomial.dict().items())
+
+
+def divisors_of(how, sandpile):
+    draw, names, genus = random.Random(how), sandpile.vertices(), int(sandpile.genus())
+    drawn = (draw.choices(range(-1, 4), k=len(names)) for _ in iter(int, 1))
+    kept = itertools.islice((chips for chips in drawn if -1 <= sum(chips) < 2 * genus), RANKS)
+    return {
+        "how": how,
+        "sink": plain_name(sandpile.sink()),
+        "names": [plain_name(name) for name in names],
+        "edges": [[plain_name(it) for it in edge] for edge in sandpile.edge_iterator(labels=True)],
+        "genus": genus,
+        "canonical": numbers(sandpile.canonical_divisor()),
+        "tutte": coefficients(sandpile.tutte_polynomial()),
+        "avalanches": coefficients(sandpile.avalanche_polynomial()),
+        "ranks": [[chips, int(SandpileDivisor(sandpile, dict(zip(names, chips))).rank())] for chips in kept],
+    }
+
+
+def lines(rows):
+    """Rows of JSON, each on a line."""
+    return ",\n".join(json.dumps(row, separators=(",", ":")) for row in rows)
+
+
 def main():
     draw = random.Random("chipfire")
-    cases = [json.dumps(case_of(*game, draw), separators=(",", ":")) for game in games(draw)]
-    print('{"from":"%s","cases":[\n%s\n]}' % (version(), ",\n".join(cases)))
+    cases = lines(case_of(*game, draw) for game in games(draw))
+    divisors = lines(divisors_of(*it) for it in undirected())
+    print('{"from":"%s","cases":[\n%s\n],"divisors":[\n%s\n]}' % (version(), cases, divisors))
 
 
 if __name__ == "__main__":

@@ -3,6 +3,7 @@ import functools
 import itertools
 
 import chipfire
+from test_sandpiles import STORED, name_of
 
 
 def is_connected(vertices, edges):
@@ -36,6 +37,15 @@ def undirected(vertices, edges, sink=0):
     """The graph with an edge each way for each pair."""
     rows = [row for u, v in edges for row in ((u, v), (v, u)) if row[0] != sink]
     return chipfire.Graph(vertices, sink, rows, from_sink=None)
+
+
+def graphs_of_sage():
+    """The undirected graphs of which sage_cases.json has divisors: what Sage says, and the graph."""
+    for stored in STORED["divisors"]:
+        numbers = {name_of(name): vertex for vertex, name in enumerate(stored["names"])}
+        at = numbers[name_of(stored["sink"])]
+        rows = [(numbers[name_of(tail)], numbers[name_of(head)], mult) for tail, head, mult in stored["edges"]]
+        yield stored, chipfire.Graph(len(numbers), at, [row for row in rows if row[0] != at], from_sink=None)
 
 
 def directed_graphs(most=3, mult=2):

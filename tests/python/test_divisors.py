@@ -8,7 +8,7 @@ import unittest
 import chipfire
 import model
 from chipfire import divisors
-from small_graphs import simple_graphs, undirected
+from small_graphs import graphs_of_sage, simple_graphs, undirected
 
 K4 = chipfire.complete(4)
 
@@ -91,6 +91,13 @@ class Ranks(unittest.TestCase):
                         ranks[key] = divisors.searched_rank(divisor)
                     both.append(ranks[key])
                 self.assertEqual(both[0] - both[1], sum(chips) - g + 1, (graph.edges, chips))
+
+    def test_ranks_are_those_of_sage(self):
+        for stored, graph in graphs_of_sage():
+            for chips, rank in stored["ranks"]:
+                self.assertEqual(chipfire.Divisor(graph, chips).rank(), rank, (stored["how"], chips))
+            self.assertEqual(chipfire.genus(graph), stored["genus"])
+            self.assertEqual(chipfire.canonical_divisor(graph).numbers, tuple(stored["canonical"]))
 
     def test_ranks_by_hand(self):
         # (on a tree all divisors of a degree are equivalent; on a cycle K is 0, and its rank 0; on a complete graph the

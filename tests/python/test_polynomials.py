@@ -6,7 +6,7 @@ import unittest
 
 import chipfire
 import model
-from small_graphs import directed_graphs, simple_graphs, undirected
+from small_graphs import directed_graphs, graphs_of_sage, simple_graphs, undirected
 from test_sandpiles import has
 
 
@@ -67,6 +67,15 @@ class Tutte(unittest.TestCase):
         four = {(3, 0): 1, (2, 0): 3, (1, 0): 2, (1, 1): 4, (0, 1): 2, (0, 2): 3, (0, 3): 1}
         self.assertEqual(chipfire.tutte_polynomial(chipfire.complete(4)), four)
         self.assertEqual(chipfire.level_polynomial(chipfire.complete(4)), {0: 6, 1: 6, 2: 3, 3: 1})
+
+    def test_polynomials_of_sage(self):
+        for stored, graph in graphs_of_sage():
+            found = [[*powers, count] for powers, count in chipfire.tutte_polynomial(graph).items()]
+            # (that of Sage takes edges once)
+            if {mult for _, _, mult in graph.edges} == {1}:
+                self.assertEqual(found, stored["tutte"], stored["how"])
+            found = chipfire.avalanche_polynomial(graph, multivariable=True)
+            self.assertEqual([[*powers, count] for powers, count in found.items()], stored["avalanches"], stored["how"])
 
     def test_values_that_count_trees_and_sets(self):
         for graph, edges in [(chipfire.grid(3, 2), 7 + 10), (chipfire.wheel(8), 14), (chipfire.complete(6), 15)]:

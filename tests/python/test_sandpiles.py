@@ -28,15 +28,17 @@ class Case:
         self.names = [name_of(name) for name in stored["names"]]
         self.edges = [(name_of(tail), name_of(head), mult) for tail, head, mult in stored["edges"]]
         numbers = {name: vertex for vertex, name in enumerate([*self.names, self.sink])}
-        rows = [(numbers[tail], numbers[head], mult) for tail, head, mult in self.edges]
-        self.graph = chipfire.Graph(len(numbers), numbers[self.sink], rows, tuple(numbers))
+        rows = [(numbers[tail], numbers[head], mult) for tail, head, mult in self.edges if tail != head]
+        loops = [sum(mult for tail, head, mult in self.edges if tail == head == name) for name in numbers]
+        self.graph = chipfire.Graph(len(numbers), numbers[self.sink], rows, tuple(numbers), loops=loops)
 
     def named(self, numbers):
         return dict(zip(self.names, numbers))
 
 
 with open(f"{HERE}/sage_cases.json", encoding="ascii") as stored_file:
-    CASES = [Case(stored) for stored in json.load(stored_file)["cases"]]
+    STORED = json.load(stored_file)
+CASES = [Case(stored) for stored in STORED["cases"]]
 
 
 class Sage(unittest.TestCase):
@@ -209,7 +211,7 @@ class LikeSage(unittest.TestCase):
     def test_vertices_have_the_order_that_sage_gives_them(self):
         for case in CASES:
             mixed = random.Random(1).sample(case.names, len(case.names))
-            graph = chipfire.from_sage(Sunk([*mixed, case.sink], case.edges))
+            graph = chipfire.from_sage(Sunk([*mixed, case.sink], case.edges), loops="sage")
             with self.subTest(case.how):
                 self.assertEqual([name for name in graph.names if name != case.sink], case.names)
                 self.assertEqual(list(graph.names), sorted(graph.names))

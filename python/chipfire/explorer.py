@@ -263,6 +263,7 @@ class _Search:
 
     def _play_again(self) -> None:
         """Plays random schedules of the search from the start, each on a game of its own."""
+        self.states.check()
         for name, value in _class_values(self.core).items():
             if self.class_values.get(name) != value:
                 raise ValueError(f"{name} stands in a class, and changed: keep it in an attribute of the game")

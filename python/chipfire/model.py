@@ -36,6 +36,10 @@ class NotNow(Exception):
 class Edge:
     """An edge with the chips of all its messages; those of the root have -1 as their tail."""
 
+    #: Attributes that it has for good: they do not stand in its `__dict__`.
+    HELD = ("number", "tail", "head", "mult")
+    __slots__ = (*HELD, "__dict__")
+
     def __init__(self, number: int, tail: int, head: int, mult: int) -> None:
         self.number, self.tail, self.head, self.mult = number, tail, head, mult
         self.sent: tuple[int, ...] = ()
@@ -62,8 +66,9 @@ class Core:
 
     #: Attributes that say nothing of what will happen, such as a count of polls: they are no part of the state.
     not_state: tuple[str, ...] = ()
-    #: Attributes that a game has for good.
-    HELD = ("vertices", "edges", "_ins", "_outs", "_degrees")
+    #: Attributes that a game has for good: they do not stand in its `__dict__`.
+    HELD = ("sink", "limit", "ring", "graph_edges", "vertices", "edges", "_ins", "_outs", "_degrees")
+    __slots__ = (*HELD, "__dict__")
 
     def __init__(
         self, graph: Mapping[str, Any], chips: Sequence[int], limit: int = 2**40, ring: int = 1, fed: bool = False
@@ -115,11 +120,11 @@ class Core:
         return done and not self.has_unput(v)
 
     def deficit(self, edges: Iterable[Edge]) -> int:
-        return sum(len(e.sent) - e.settled for e in edges)
+        return sum([len(e.sent) - e.settled for e in edges])
 
     def others_owed(self, e: Edge) -> int:
         """What the head of an edge owes on all others."""
-        return sum(it.delivered - it.acked for it in self.ins(e.head) if it is not e)
+        return sum([it.delivered - it.acked for it in self.ins(e.head) if it is not e])
 
     # The rule of the detector.
 
@@ -172,8 +177,8 @@ class Core:
         for v, vertex in enumerate(self.vertices):
             if v == self.sink or vertex.halt is not None or self.has_unput(v):
                 continue
-            if not self.is_pending(v):
-                most = min(vertex.chips // self.degree(v), self.limit - vertex.fired)
+            if vertex.chips >= self._degrees[v] and not self.is_pending(v):
+                most = min(vertex.chips // self._degrees[v], self.limit - vertex.fired)
                 found += [("fire", v, count) for count in range(1, most + 1)]
             if self.cause(v):
                 found.append(("halt", v, 0))
@@ -195,11 +200,11 @@ class Core:
 
     def cause(self, v: int) -> Union[str, None]:
         """What makes a vertex halt."""
-        if any(e.refused for e in self._outs[v]):
-            return "sealed"
-        if not self.is_pending(v) and self.is_legal(v) and self.vertices[v].fired == self.limit:
-            return "over"
-        return None
+        for e in self._outs[v]:
+            if e.refused:
+                return "sealed"
+        is_over = self.vertices[v].fired == self.limit and self.is_legal(v) and not self.is_pending(v)
+        return "over" if is_over else None
 
     def step(self, kind: str, at: int, count: int = 0) -> str:
         """Makes an event, if its rules are met, and returns the reply, as a line."""

@@ -8,7 +8,6 @@ from __future__ import annotations
 
 import copy
 import enum
-import operator
 from collections.abc import Callable, Iterator
 from fractions import Fraction
 from types import FunctionType, MethodType
@@ -16,8 +15,9 @@ from typing import Any
 
 from chipfire.model import Core
 
-#: What does not change, and is compared as it is.
-_FIXED = (int, float, complex, str, bytes, type(None), Fraction, enum.Enum, type)
+#: What does not change, and is compared as it is; the first of these are met most often.
+_PLAIN = {int, bool, str, type(None), float, Fraction}
+_FIXED = (*_PLAIN, complex, bytes, enum.Enum, type)
 #: What has no value of its own to compare.
 _CODE = (FunctionType, MethodType)
 
@@ -27,7 +27,8 @@ def frozen(value: Any, is_part: Callable[[int], Any]) -> Any:
 
     `is_part` names the parts of the game by their `id`, which are not gone into. A TypeError says what is not compared.
     """
-    if isinstance(value, _FIXED):
+    made = type(value)
+    if made in _PLAIN or isinstance(value, _FIXED):
         return value
     if (name := is_part(id(value))) is not None:
         return "part", name
@@ -37,18 +38,18 @@ def frozen(value: Any, is_part: Callable[[int], Any]) -> Any:
         items = [frozen(item, is_part) for item in value]
         if all(item is it for item, it in zip(items, value)):
             return value
-        return type(value), tuple(items) if isinstance(value, tuple) else frozenset(items)
+        return made, tuple(items) if isinstance(value, tuple) else frozenset(items)
     if isinstance(value, list):
-        return type(value), tuple(frozen(item, is_part) for item in value)
+        return made, tuple([frozen(item, is_part) for item in value])
     if isinstance(value, set):
-        return type(value), frozenset(frozen(item, is_part) for item in value)
+        return made, frozenset([frozen(item, is_part) for item in value])
     if isinstance(value, dict):
-        return type(value), frozenset((frozen(key, is_part), frozen(it, is_part)) for key, it in value.items())
-    made = value.__reduce_ex__(4)
-    if isinstance(made, str):
+        return made, frozenset([(frozen(key, is_part), frozen(it, is_part)) for key, it in value.items()])
+    reduced = value.__reduce_ex__(4)
+    if isinstance(reduced, str):
         return value
-    parts = [list(part) if isinstance(part, Iterator) else part for part in made[1:]]
-    return type(value), tuple(frozen(part, is_part) for part in parts)
+    parts = [list(part) if isinstance(part, Iterator) else part for part in reduced[1:]]
+    return made, tuple(frozen(part, is_part) for part in parts)
 
 
 class States:
@@ -59,63 +60,62 @@ class States:
 
     def __init__(self, core: Core, like: States | None = None) -> None:
         self.parts: list[Any] = [*core.edges, *core.vertices, core]
-        #: What the game holds for good, and what the detector leaves out.
-        self.held = {*core.HELD, *core.not_state}
+        #: What the detector leaves out; what the parts have for good; and what is not gone into, by its `id`.
+        self.left_out = {*core.not_state}
+        self.good = [(part, name, getattr(part, name)) for part in self.parts for name in getattr(part, "HELD", ())]
         self.kept: dict[int, Any] = {id(part): index for index, part in enumerate(self.parts)}
-        self.kept |= {id(vars(core)[name]): name for name in core.HELD}
-        self.same = {id(part): part for part in [*self.parts, *(vars(core)[name] for name in core.HELD)]}
-        #: Of each part the numbers of its values; and by number the values, whether none of them can be changed, and
-        #: whether they are as many as at the start.
+        self.kept |= {id(value): name for part, name, value in self.good if part is core}
+        self.same = {id(part): part for part in [*self.parts, *(value for _, _, value in self.good)]}
+        #: Of each part the numbers of its values; and by number the values that cannot be changed, the others, and
+        #: whether they are those of the start.
         self.numbers: list[dict[Any, int]] = like.numbers if like else [{} for _ in self.parts]
-        self.values: list[list[tuple[dict[str, Any], bool, bool]]] = like.values if like else [[] for _ in self.parts]
-        #: What reads the values of each part, and what knows their numbers.
-        self.held_values = [vars(part) for part in self.parts]
-        self.readers = [(numbers.get, vars(part).values()) for part, numbers in zip(self.parts[:-1], self.numbers)]
-        self.sizes: list[int] = like.sizes if like else self._sizes()
-        names = [name for name in vars(core) if name not in self.held]
-        self.rest = operator.itemgetter(*names)
+        self.values: list[list[tuple[dict[str, Any], dict[str, Any], bool]]] = (
+            like.values if like else [[] for _ in self.parts]
+        )
+        #: Where the values of each part stand, and their names at the start.
+        self.held = [vars(part) for part in self.parts]
+        self.names: list[list[str]] = like.names if like else [[*self._values(held)] for held in self.held]
+        #: What knows the numbers of a part, and its values as they are read; none of a part that is read with care.
+        self.readers: list[tuple[Any, Any]] = [(its.get, held.values()) for its, held in zip(self.numbers, self.held)]
         self.now: tuple[int, ...] = ()
-
-    def _sizes(self) -> list[int]:
-        """How many values stand in each part."""
-        sizes = [*map(len, self.held_values)]
-        sizes[-1] -= len(self.held_values[-1].keys() & self.held)
-        return sizes
 
     def noted(self) -> tuple[int, ...]:
         """The present state."""
         found: list[int | None]
         try:
             found = [number_of(tuple(values)) for number_of, values in self.readers]
-            found.append(self.numbers[-1].get(self.rest(self.held_values[-1])))
-            is_usual = self._sizes() == self.sizes
-        except (KeyError, TypeError):  # (an attribute is gone, or its value can be changed)
-            is_usual = False
-        if not is_usual or None in found:
-            found = [self._number(index) for index in range(len(self.parts))]
+        except TypeError:  # (some value can be changed)
+            found = [None for _ in self.parts]
+        if None in found:
+            found = [self._number(index) if number is None else number for index, number in enumerate(found)]
         self.now = tuple(found)  # type: ignore[arg-type]
         return self.now
 
+    def _values(self, held: dict[str, Any]) -> dict[str, Any]:
+        """The values of a part, but for those that the detector leaves out."""
+        return {name: value for name, value in held.items() if name not in self.left_out} if self.left_out else held
+
     def _number(self, index: int) -> int:
-        """The number of what stands in a part."""
-        part, numbers = self.parts[index], self.numbers[index]
-        values = vars(part)
-        if index == len(self.parts) - 1:
-            values = {name: value for name, value in values.items() if name not in self.held}
-        key = tuple(values.values())
-        is_usual = len(values) == self.sizes[index]
+        """The number of what stands in a part, which is read with care."""
+        part, numbers, values = self.parts[index], self.numbers[index], self._values(self.held[index])
+        is_usual = [*values] == self.names[index]
+        if not is_usual or len(values) != len(self.held[index]):
+            self.readers[index] = numbers.get, ()
         try:
-            if is_usual and key in numbers:
+            key: Any = tuple(values.values()) if is_usual else ("attributes", frozenset(values.items()))
+            if key in numbers:
                 return numbers[key]
-        except TypeError:  # (some value can be changed)
-            pass
+        except TypeError:
+            self.readers[index] = numbers.get, ()
         said = {name: self._frozen(part, name, value) for name, value in values.items()}
-        is_fixed = all(said[name] is value for name, value in values.items())
-        known: Any = key if is_fixed and is_usual else ("attributes", frozenset(said.items()))
-        if known not in numbers:
-            numbers[known] = len(self.values[index])
-            self.values[index].append((values.copy() if is_fixed else self._copied(values), is_fixed, is_usual))
-        return numbers[known]
+        plain = {name: value for name, value in values.items() if said[name] is value}
+        moving = {name: value for name, value in values.items() if name not in plain}
+        if moving:
+            key = "attributes", frozenset(said.items())
+        if key not in numbers:
+            numbers[key] = len(self.values[index])
+            self.values[index].append((plain, self._copied(moving), is_usual))
+        return numbers[key]
 
     def _frozen(self, part: Any, name: str, value: Any) -> Any:
         try:
@@ -129,25 +129,33 @@ class States:
         return said
 
     def _copied(self, values: dict[str, Any]) -> dict[str, Any]:
-        return copy.deepcopy(values, dict(self.same))
+        return copy.deepcopy(values, dict(self.same)) if values else values
 
     def load(self, state: tuple[int, ...]) -> None:
         """Makes the game that of a state that was noted."""
         if state == self.now:
             return
         for index in [index for index, number in enumerate(state) if number != self.now[index]]:
-            values, is_fixed, is_usual = self.values[index][state[index]]
-            held = self.held_values[index]
-            if not is_usual or self._sizes()[index] != self.sizes[index]:
-                for name in [name for name in held if name not in values and name not in self.held]:
+            plain, moving, is_usual = self.values[index][state[index]]
+            held = self.held[index]
+            if not is_usual or len(held) != len(self.names[index]):
+                for name in self._values(held).copy():  # (those of the start have to stand in their order)
                     del held[name]
-            held.update(values if is_fixed else self._copied(values))
+            held.update(plain)
+            if moving:
+                held.update(self._copied(moving))
         self.now = state
+
+    def check(self) -> None:
+        """Checks that each part still has what it has for good."""
+        for part, name, value in self.good:
+            if getattr(part, name) is not value:
+                raise ValueError(f"{type(part).__name__}.{name} changed, which a game has for good: keep yours elsewhere")
 
     def changed(self, before: tuple[int, ...]) -> list[str]:
         """The attributes in which the present state is another than one before."""
         found = []
         for index, (was, now) in enumerate(zip(before, self.now)):
-            old, new = self.values[index][was][0], self.values[index][now][0]
+            old, new = ({**plain, **moving} for plain, moving, _ in map(self.values[index].__getitem__, (was, now)))
             found += [name for name in {**old, **new} if name not in old or name not in new or old[name] != new[name]]
         return found

@@ -229,6 +229,27 @@ class AskedAndSaysSo(Asked):
     not_state = ("polls",)
 
 
+class ChangesTheLimit(model.Core):
+    """Changes what a game has for good."""
+
+    def on_take(self, e):
+        self.limit -= 1
+        super().on_take(e)
+
+
+class ComesAndGoes(model.Core):
+    """Has attributes that come and go, in any order, and a list: all of them follow from how many messages came."""
+
+    def on_take(self, e):
+        vertex, name = self.vertices[e.head], f"odd_{e.number}"
+        if hasattr(vertex, name):
+            delattr(vertex, name)
+        else:
+            setattr(vertex, name, True)
+        vertex.came = sorted([*getattr(vertex, "came", []), e.number])
+        super().on_take(e)
+
+
 class IgnoresTheEnd(model.Core):
     """A root that is fed, and closes whenever it waits for nothing."""
 
@@ -244,6 +265,7 @@ REFUSED = {
     Chance: "Chance does not do the same again",
     Clock: "Clock does not do the same again",
     WithALock: r"WithALock.lock, of type lock, cannot be compared.*not_state = \('lock',\)",
+    ChangesTheLimit: "ChangesTheLimit.limit changed, which a game has for good: keep yours elsewhere",
     Asked: "Asked changes polls when it is only asked what may happen",
 }
 
@@ -322,8 +344,11 @@ class Explorer(unittest.TestCase):
         for detector, reason in REFUSED.items():
             with self.subTest(detector.__name__), self.assertRaisesRegex(ValueError, reason):
                 chipfire.explore(TWO, detector)
-        found = chipfire.explore(FOUR, AskedAndSaysSo)
-        self.assertEqual((found.states, found.schedule, found.lost), (1405, None, None))
+
+    def test_what_follows_from_the_state_adds_none(self):
+        for detector in (AskedAndSaysSo, ComesAndGoes):
+            found = chipfire.explore(FOUR, detector)
+            self.assertEqual((found.states, found.schedule, found.lost), (1405, None, None))
 
     def test_where_the_root_can_never_be_closed(self):
         for setting in (TWO, FOUR, chipfire.Setting(chipfire.path(3), (0, 2, 0, 0))):
@@ -414,6 +439,7 @@ class Model(unittest.TestCase):
                 names = [(kind, at, 0) for kind in ("take", "ack", "settle", "clear", "claim", "put") for at in edges]
                 names += [("halt", at, 0) for at in vertices]
                 names += [("fire", at, count) for at in vertices for count in range(1, 40)]
+                game.noted()
                 wanted = {name for name in names if self.does_something(game, name)}
                 events = core.enabled()
                 self.assertEqual((set(events), len(events)), (wanted, len(wanted)))
@@ -423,10 +449,12 @@ class Model(unittest.TestCase):
 
     @staticmethod
     def does_something(game, event):
-        before = game.noted()
-        reply, after = game.parts[-1].step(*event), game.noted()
+        before = game.now
+        if game.parts[-1].step(*event).startswith("not-now"):
+            return False
+        after = game.noted()
         game.load(before)
-        return not reply.startswith("not-now") and after != before
+        return after != before
 
 
 class RandomSchedules(unittest.TestCase):

@@ -217,8 +217,10 @@ DETECTORS = {
 }
 
 
-def known_detector(name: str) -> Known:
-    """The detector of a name."""
+def known_detector(name: str | type[Core]) -> Known:
+    """The detector of a name; of a class, what its docstring says."""
+    if not isinstance(name, str):
+        return Known(name, (name.__doc__ or name.__name__).strip().partition("\n")[0].rstrip("."), _FOUR)
     if name not in DETECTORS:
         raise ValueError(f"there is no detector {name!r}, but {', '.join(DETECTORS)}")
     return DETECTORS[name]

@@ -9,9 +9,10 @@ from collections.abc import Iterable, Iterator, Sequence
 from dataclasses import dataclass
 from typing import Any
 
+from chipfire.graphs import Graph
 from chipfire.machine import Event, Schedule, Setting
 from chipfire.model import Core
-from chipfire.schedules import Detector, detector_name, opened
+from chipfire.schedules import Detector, Game, detector_name, opened
 from chipfire.states import States, frozen
 from chipfire.values import counted, whole
 
@@ -62,11 +63,11 @@ class Explored:
 
 
 def explore(
-    setting: Setting, detector: Detector = "right", *, most: int = 100_000, whole_sends: bool = True,
+    setting: Game, detector: Detector = "right", *, most: int = 100_000, whole_sends: bool = True,
     feeds: Iterable[Sequence[int]] = (), seals: Iterable[int] = (),
 ) -> Explored:
     """Goes through all schedules of a game, breadth first, until the root is closed and something is left. The game is
-    a `Setting`, the detector a name or a class; `chipfire.detectors` has both.
+    a `Setting` of chip-firing or a `Computation`, the detector a name or a class; `chipfire.detectors` has both.
 
     A firing of several at a time is one step, and so is a send (clear, claim, put), unless `whole_sends` is False.
 
@@ -78,10 +79,10 @@ def explore(
     Not tried are other chips, feeds and seals, other limits and rings than those of the setting, and messages that are
     lost, come twice, or overtake one another on an edge.
 
-    The state of a detector is all that stands in attributes of the game, its edges and its vertices, but for those that
-    its class names in `not_state`. An attribute that cannot be compared is a ValueError. So is a detector that does not
-    do the same again when a schedule is played once more on a game of its own, because its state stands elsewhere or
-    because it asks chance or the clock; the schedules found are tried so, and 200 random ones.
+    The state is all that stands in attributes of the game, its edges and its vertices, but for those that the class of
+    the detector names in `not_state`. An attribute that cannot be compared is a ValueError. So is a detector that does
+    not do the same again when a schedule is played once more on a game of its own, because its state stands elsewhere
+    or because it asks chance or the clock; the schedules found are tried so, and 200 random ones.
     """
     return _Search(setting, detector, most, whole_sends, feeds, seals).result()
 
@@ -90,13 +91,13 @@ class _Search:
     """A search over numbered states. A move is a step with its replies, and has a number too."""
 
     def __init__(
-        self, setting: Setting, detector: Detector, most: int, whole_sends: bool, feeds: Iterable[Sequence[int]],
+        self, setting: Game, detector: Detector, most: int, whole_sends: bool, feeds: Iterable[Sequence[int]],
         seals: Iterable[int],
     ) -> None:
         self.setting, self.detector, self.whole_sends = setting, detector, whole_sends
         self.most = whole(most, "most", 1)
         self.core: Core = opened(setting, detector)
-        self.class_values = _class_values(self.core)
+        self.shared = _shared(self.core, setting)
         self.feeds, self.seals = self._known_feeds(feeds), self._known_seals(seals)
         self.opening = self._messages(self.core)
         self.states = States(self.core)
@@ -123,7 +124,10 @@ class _Search:
         return found
 
     def _known_seals(self, seals: Iterable[int]) -> tuple[int, ...]:
-        return tuple(whole(at, "the edge of a seal", 0, self.core.graph_edges - 1) for at in seals)
+        found = tuple(whole(at, "the edge of a seal", 0, self.core.graph_edges - 1) for at in seals)
+        if found and not isinstance(self.setting, Setting):
+            raise ValueError("there are seals, and the game is not one of chip-firing")
+        return found
 
     @staticmethod
     def _messages(core: Core) -> int:
@@ -264,9 +268,9 @@ class _Search:
     def _play_again(self) -> None:
         """Plays random schedules of the search from the start, each on a game of its own."""
         self.states.check()
-        for name, value in _class_values(self.core).items():
-            if self.class_values.get(name) != value:
-                raise ValueError(f"{name} stands in a class, and changed: keep it in an attribute of the game")
+        for name, value in _shared(self.core, self.setting).items():
+            if self.shared.get(name) != value:
+                raise ValueError(f"{name}, and changed: keep it in an attribute of the game")
         draw, most = random.Random(0), 2 * len(self._way(len(self.order) - 1)) + 10
         for _ in range(REPLAYS):
             core = opened(self.setting, self.detector)
@@ -295,12 +299,13 @@ class _Search:
                 raise self._other(made, "state")
 
 
-def _class_values(core: Core) -> dict[str, Any]:
-    """What stands in the classes of a game, but for what cannot be compared."""
+def _shared(core: Core, setting: Game) -> dict[str, Any]:
+    """What all games share, in classes and in the setting, but for what cannot be compared."""
+    held = [(f"{made.__name__}.{{}} stands in a class", made) for made in type(core).__mro__]
     found = {}
-    for made in type(core).__mro__:
-        for name, value in vars(made).items():
-            if not name.startswith("__") and not callable(value):
+    for says, holder in [*held, (f"{type(setting).__name__}.{{}} stands in a computation", setting)]:
+        for name, value in vars(holder).items():
+            if not name.startswith("__") and not callable(value) and not isinstance(value, Graph):
                 with contextlib.suppress(TypeError, RecursionError):
-                    found[f"{made.__name__}.{name}"] = frozen(value, lambda _: None)
+                    found[says.format(name)] = frozen(value, lambda _: None)
     return found

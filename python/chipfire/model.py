@@ -25,6 +25,8 @@ RULES = {
     "NotClosed": 16, "Ended": 17, "TooMuch": 18,
 }
 
+#: The events that have a count.
+COUNTED = ("fire", "feed", "work")
 #: A kind of event, the edge or vertex that it is at, and a count.
 Event = tuple[str, int, int]
 
@@ -37,7 +39,7 @@ class Edge:
     """An edge with the chips of all its messages; those of the root have -1 as their tail."""
 
     #: Attributes that it has for good: they do not stand in its `__dict__`.
-    HELD = ("number", "tail", "head", "mult")
+    HELD: tuple[str, ...] = ("number", "tail", "head", "mult")
     __slots__ = (*HELD, "__dict__")
 
     def __init__(self, number: int, tail: int, head: int, mult: int) -> None:
@@ -67,7 +69,9 @@ class Core:
     #: Attributes that say nothing of what will happen, such as a count of polls: they are no part of the state.
     not_state: tuple[str, ...] = ()
     #: Attributes that a game has for good: they do not stand in its `__dict__`.
-    HELD = ("sink", "limit", "ring", "graph_edges", "vertices", "edges", "_ins", "_outs", "_degrees")
+    HELD: tuple[str, ...] = (
+        "sink", "limit", "ring", "graph_edges", "vertices", "edges", "_ins", "_outs", "_degrees",
+    )
     __slots__ = (*HELD, "__dict__")
 
     def __init__(
@@ -174,6 +178,11 @@ class Core:
                     found.append(("claim", number, 0))
             if e.put < sent:
                 found.append(("put", number, 0))
+        return [*found, *self.works(), *self.own_events()]
+
+    def works(self) -> list[Event]:
+        """The events in which vertices go on of themselves."""
+        found: list[Event] = []
         for v, vertex in enumerate(self.vertices):
             if v == self.sink or vertex.halt is not None or self.has_unput(v):
                 continue
@@ -182,7 +191,7 @@ class Core:
                 found += [("fire", v, count) for count in range(1, most + 1)]
             if self.cause(v):
                 found.append(("halt", v, 0))
-        return [*found, *self.own_events()]
+        return found
 
     def left(self) -> list[str]:
         """What is still to do, in words; nothing if the game is over."""
@@ -193,10 +202,13 @@ class Core:
                 found.append(f"edge {e.number} has {count} message" + "s" * (count > 1))
             if e.pending and self.vertices[e.tail].halt is None:
                 found.append(f"edge {e.number} has {e.pending} chip" + "s" * (e.pending > 1) + " pending")
-        for v, vertex in enumerate(self.vertices):
-            if vertex.halt is None and self.is_legal(v) and vertex.fired < self.limit:
-                found.append(f"vertex {v} can fire")
+        found += [f"vertex {v} {todo}" for v in range(len(self.vertices)) if (todo := self.at_work(v))]
         return found if self.ended else [*found, "the end of feeding is not noted"]
+
+    def at_work(self, v: int) -> str:
+        """What a vertex still does of itself, in words."""
+        vertex = self.vertices[v]
+        return "can fire" if vertex.halt is None and self.is_legal(v) and vertex.fired < self.limit else ""
 
     def cause(self, v: int) -> Union[str, None]:
         """What makes a vertex halt."""
@@ -209,7 +221,7 @@ class Core:
     def step(self, kind: str, at: int, count: int = 0) -> str:
         """Makes an event, if its rules are met, and returns the reply, as a line."""
         try:
-            made: str = getattr(self, kind)(at, count) if kind in ("fire", "feed") else getattr(self, kind)(at)
+            made: str = getattr(self, kind)(at, count) if kind in COUNTED else getattr(self, kind)(at)
         except NotNow as unmet:
             return f"not-now {RULES[unmet.args[0]]}"
         return made

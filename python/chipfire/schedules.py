@@ -1,7 +1,8 @@
 """Games of a detector on the model: random schedules, a shrinker, and logs for ShiViz.
 
-A detector is a name of `chipfire.detectors.DETECTORS` or a class of your own, made of `chipfire.model.Core`. Everything
-here is computed on that model and is not proved.
+A game is a `Setting` of chip-firing, or a `Computation` of another kind. A detector is a name of
+`chipfire.detectors.DETECTORS` or a class of your own, made of `chipfire.model.Core`. Everything here is computed on
+that model and is not proved.
 """
 
 from __future__ import annotations
@@ -9,17 +10,23 @@ from __future__ import annotations
 import random
 from collections import deque
 from collections.abc import Callable, Iterable, Sequence
+from dataclasses import dataclass
 from typing import Any, Union
 
+from chipfire.computations import Computation
 from chipfire.detectors import known_detector
-from chipfire.machine import Event, Schedule, Setting
+from chipfire.machine import Event, Reply, Schedule, Setting
 from chipfire.model import Core
 from chipfire.values import whole
 
+#: Chip-firing, or another computation.
+Game = Union[Setting, Computation]
 #: A name of DETECTORS, or a class.
 Detector = Union[str, type[Core]]
 #: The events of the machine; a detector of another kind has more.
 EVENTS = ("take", "ack", "fire", "clear", "claim", "put", "halt", "settle", "seal", "read", "feed", "end")
+#: The event of a computation in which a vertex goes on.
+WORK = "work"
 
 
 def detector_name(detector: Detector) -> str:
@@ -27,11 +34,14 @@ def detector_name(detector: Detector) -> str:
     return detector if isinstance(detector, str) else detector.__name__
 
 
-def opened(setting: Setting, detector: Detector = "right") -> Any:
+def opened(setting: Game, detector: Detector = "right") -> Any:
     """A game at its start, on the model: a `Core` of the detector's class."""
+    make = known_detector(detector).make
+    if isinstance(setting, Computation):
+        return setting.opened(make)
     if not isinstance(setting, Setting):
-        raise TypeError(f"a game is a chipfire.Setting of graph and chips, and not of {type(setting).__name__}")
-    make = known_detector(detector).make if isinstance(detector, str) else detector
+        known = "a chipfire.Setting of graph and chips, or a Computation"
+        raise TypeError(f"a game is {known}, and not of {type(setting).__name__}")
     graph = {"vertices": setting.graph.vertices, "sink": setting.graph.sink, "edges": setting.graph.edges}
     return make(graph, setting.chips, setting.limit, setting.ring, setting.fed)
 
@@ -41,7 +51,7 @@ def is_early(core: Core) -> bool:
     return core.is_closed() and bool(core.left())
 
 
-def random_schedule(setting: Setting, seed: Any, detector: Detector = "right", *, most: int = 100_000) -> Schedule:
+def random_schedule(setting: Game, seed: Any, detector: Detector = "right", *, most: int = 100_000) -> Schedule:
     """A schedule in which each event does something, drawn until the root is closed; the same seed draws the same.
 
     With the right detector each such schedule closes the root. With another it may end because nothing can happen any
@@ -61,7 +71,34 @@ def random_schedule(setting: Setting, seed: Any, detector: Detector = "right", *
     return made
 
 
-def played(setting: Setting, detector: Detector, events: Iterable[Sequence[Any]]) -> Any:
+@dataclass(frozen=True)
+class Play:
+    """A run that the model alone played, with any detector: what it answers is not proved.
+
+    replies      a reply for each event
+    root_closed  whether the detector says in the end that all is over
+    left         what is left then, in words
+    """
+
+    game: Game
+    detector: Detector
+    schedule: Schedule
+    replies: tuple[Reply, ...]
+    root_closed: bool
+    left: tuple[str, ...]
+
+
+def play(setting: Game, events: Iterable[Sequence[Any]], detector: Detector = "right") -> Play:
+    """Plays a schedule on the model. `page` makes a page of it."""
+    core, schedule = opened(setting, detector), Schedule(events)
+    replies = []
+    for event in schedule:
+        kind, *numbers = core.step(*event).split() or ["done"]
+        replies.append(Reply(kind, tuple(int(word) for word in numbers if word.isdecimal())))
+    return Play(setting, detector, schedule, tuple(replies), core.is_closed(), tuple(core.left()))
+
+
+def played(setting: Game, detector: Detector, events: Iterable[Sequence[Any]]) -> Any:
     """The game after a schedule, on the model."""
     core = opened(setting, detector)
     for event in events:
@@ -70,7 +107,7 @@ def played(setting: Setting, detector: Detector, events: Iterable[Sequence[Any]]
 
 
 def shrink(
-    setting: Setting, detector: Detector, events: Iterable[Sequence[Any]], is_bad: Callable[[Core], bool] = is_early
+    setting: Game, detector: Detector, events: Iterable[Sequence[Any]], is_bad: Callable[[Core], bool] = is_early
 ) -> Schedule:
     """A schedule after which the game is still bad, and no longer so if any one of its events is left out.
 
@@ -92,7 +129,7 @@ def shrink(
     return Schedule(kept)
 
 
-def shiviz(setting: Setting, events: Iterable[Sequence[Any]], detector: Detector = "right") -> str:
+def shiviz(setting: Game, events: Iterable[Sequence[Any]], detector: Detector = "right") -> str:
     """A log that ShiViz draws: of each event two lines, the part with its vector clock, and what happened.
 
     Events of a detector's own, such as those of a token, are a ValueError: their clocks are not known. ShiViz reads the
@@ -104,7 +141,7 @@ def shiviz(setting: Setting, events: Iterable[Sequence[Any]], detector: Detector
     messages: dict[int, deque[dict[str, int]]] = {e.number: deque([{}] * e.put) for e in core.edges}
     answers: dict[int, dict[str, int]] = {}
     for event in events:
-        if event[0] not in EVENTS:
+        if event[0] not in (*EVENTS, WORK):
             raise ValueError(f"{event[0]} is an event of {detector_name(detector)}: what it carries is not known")
         kind, at, reply = event[0], event[1], core.step(*event)
         if reply.startswith("not-now") or reply in ("empty", "full"):
@@ -129,4 +166,4 @@ def _host(core: Core, kind: str, at: int) -> str:
         return str(core.edges[at].head)
     if kind in ("clear", "claim", "put", "settle") and core.edges[at].tail >= 0:
         return str(core.edges[at].tail)
-    return str(at) if kind in ("fire", "halt") else "root"
+    return str(at) if kind in ("fire", "halt", WORK) else "root"

@@ -150,7 +150,8 @@ class States:
         """Checks that each part still has what it has for good."""
         for part, name, value in self.good:
             if getattr(part, name) is not value:
-                raise ValueError(f"{type(part).__name__}.{name} changed, which a game has for good: keep yours elsewhere")
+                of = type(part).__name__
+                raise ValueError(f"{of}.{name} changed, which a game has for good: keep yours elsewhere")
 
     def changed(self, before: tuple[int, ...]) -> list[str]:
         """The attributes in which the present state is another than one before."""

@@ -85,6 +85,100 @@ class Game:
         return owed if rule(is_passive, deficit, others) else owed - 1
 
 
+class Messages:
+    """A game of another computation. A state is a tuple of seven: what each vertex knows, its parent, and of each edge,
+    those of the root last, all that was to be sent, and how many are put, taken, acknowledged and settled.
+
+    `react(known, load, outs)` answers what a vertex knows after a message and what it is to send; `work(known, outs)`
+    the same for each way in which it may go on of itself, which it does once all is put. The root has sent `starts`.
+    """
+
+    def __init__(self, edges, begins, starts, react, work):
+        self.tails = [tail for tail, _ in edges] + [None] * len(begins)
+        self.heads = [head for _, head in edges] + list(range(len(begins)))
+        self.all, self.react, self.work = range(len(self.tails)), react, work
+        self.outs = [tuple(it for it in self.all if self.tails[it] == at) for at in range(len(begins))]
+        sent = ((),) * len(edges) + tuple((starts[at],) if at in starts else () for at in range(len(begins)))
+        zeros = (0,) * len(self.tails)
+        self.start = (begins, (None,) * len(begins), sent, tuple(map(len, sent)), zeros, zeros, zeros)
+
+    def is_over(self, state):
+        at_work = any(map(self.ways, state[0], self.outs))
+        return not at_work and all(len(state[2][it]) == state[4][it] for it in self.all)
+
+    def ways(self, known, outs):
+        return list(self.work(known, outs))
+
+    def is_closed(self, state):
+        return all(len(state[2][it]) == state[6][it] for it in self.all if self.tails[it] is None)
+
+    def has_unput(self, state, at):
+        return any(len(state[2][it]) > state[3][it] for it in self.outs[at])
+
+    def changed(self, state, at, known, sends):
+        """The state after a vertex knows other things, and is to send."""
+        sent = list(state[2])
+        for it, load in sends:
+            sent[it] += (load,)
+        return (with_at(state[0], at, known), state[1], tuple(sent), *state[3:])
+
+    def after(self, state, rule, _only_once):
+        known, parents, sent, put, taken, acked, settled = state
+        for it in self.all:
+            head = self.heads[it]
+            if put[it] < len(sent[it]):
+                yield (*state[:3], with_at(put, it, put[it] + 1), *state[4:])
+            if taken[it] < put[it]:
+                engaged = with_at(parents, head, it) if parents[head] is None else parents
+                got = (known, engaged, sent, put, with_at(taken, it, taken[it] + 1), acked, settled)
+                yield self.changed(got, head, *self.react(known[head], sent[it][taken[it]], self.outs[head]))
+            if settled[it] < acked[it]:
+                yield (*state[:6], with_at(settled, it, acked[it]))
+            count = self.may_acknowledge(state, it, rule)
+            if count:
+                seen = with_at(acked, it, acked[it] + count)
+                is_free = parents[head] == it and seen[it] == taken[it]
+                yield (known, with_at(parents, head, None) if is_free else parents, *state[2:5], seen, settled)
+        for at, outs in enumerate(self.outs):
+            if not self.has_unput(state, at):
+                for way in self.ways(known[at], outs):
+                    yield self.changed(state, at, *way)
+
+    def may_acknowledge(self, state, it, rule):
+        known, parents, sent, _, taken, acked, settled = state
+        head, owed = self.heads[it], taken[it] - acked[it]
+        if not owed or parents[head] != it:
+            return owed
+        deficit = sum(len(sent[edge]) - settled[edge] for edge in self.outs[head])
+        others = sum(taken[edge] - acked[edge] for edge in self.all if self.heads[edge] == head and edge != it)
+        is_passive = not self.ways(known[head], self.outs[head]) and not self.has_unput(state, head)
+        return owed if rule(is_passive, deficit, others) else owed - 1
+
+
+def flooding(edges, vertices, starts):
+    """What is known is whether a vertex is marked."""
+    def react(known, _, outs):
+        return True, [] if known else [(out, 0) for out in outs]
+
+    return Messages(edges, (False,) * vertices, dict.fromkeys(starts, 0), react, lambda known, outs: ())
+
+
+def stealing(edges, vertices, depth):
+    """What is known are the tasks of a vertex, the newest last, and how many are done."""
+    def react(known, load, _=()):
+        tasks, done = known
+        return ((*tasks, load - 1, load - 1), done) if load else (tasks, done + 1), []
+
+    def work(known, outs):
+        tasks, done = known
+        if tasks:
+            yield react((tasks[:-1], done), tasks[-1])
+        for out in outs if len(tasks) > 1 else ():
+            yield (tasks[1:], done), [(out, tasks[0])]
+
+    return Messages(edges, (((), 0),) * vertices, {0: depth}, react, work)
+
+
 def with_at(values, at, value):
     return (*values[:at], value, *values[at + 1 :])
 

@@ -3,6 +3,7 @@
     python -m chipfire page GRAPH CHIPS SCHEDULE >run.html
     python -m chipfire page GRAPH CHIPS TRACE >run.html
     python -m chipfire wrong NAME [GRAPH CHIPS] >wrong.html
+    python -m chipfire wrong FILE.py:CLASS [GRAPH CHIPS] >wrong.html
     python -m chipfire explore NAME [GRAPH CHIPS]
     python -m chipfire explore FILE.py:CLASS [GRAPH CHIPS]
     python -m chipfire judge GRAPH CHIPS LOG
@@ -77,7 +78,7 @@ def _detector(name: str) -> Detector:
 def _wrong(asked: argparse.Namespace) -> str:
     setting = _setting(asked.game, asked) if asked.game else None
     places = asked.positions and _positions(asked.positions)
-    return wrong_page_text(asked.name, setting, title=asked.title, positions=places, program=asked.program)
+    return wrong_page_text(_detector(asked.name), setting, title=asked.title, positions=places, program=asked.program)
 
 
 def _explore(asked: argparse.Namespace) -> tuple[str, int]:
@@ -116,7 +117,7 @@ def _add_pages(commands: Any) -> list[argparse.ArgumentParser]:
     page.set_defaults(make=_page)
     says = "writes a page of the shortest schedule on which a wrong detector says too early that all is over"
     wrong = commands.add_parser("wrong", help=says, description=f"{says}, beside the right one")
-    wrong.add_argument("name", metavar="NAME", help=f"the detector: {', '.join(DETECTORS)}")
+    wrong.add_argument("name", metavar="DETECTOR", help=f"FILE.py:CLASS, or one of {', '.join(DETECTORS)}")
     wrong.add_argument("game", metavar="GRAPH CHIPS", nargs="*", help="another game than that of the detector")
     wrong.set_defaults(make=_wrong)
     for command in (page, wrong):

@@ -9,9 +9,10 @@ from __future__ import annotations
 
 from typing import Any, Union
 
-from chipfire.machine import Board, Books, Event, Reply, Setting
+from chipfire.computations import Computed
+from chipfire.machine import Board, Books, Event, Reply
 from chipfire.reports import Report
-from chipfire.schedules import Detector, opened
+from chipfire.schedules import Detector, Game, opened
 
 #: One fact that an event changed: "root", "vertices" or "edges", the number there, the fact's name, its new value.
 Change = tuple[str, int, str, Any]
@@ -29,7 +30,7 @@ class Disagreement(Exception):
 class Ledger:
     """The state of a game, event by event."""
 
-    def __init__(self, setting: Setting, detector: Detector = "right") -> None:
+    def __init__(self, setting: Game, detector: Detector = "right") -> None:
         self.core = opened(setting, detector)
         self.facts: State = {
             "root": [self._root(0)],
@@ -60,12 +61,16 @@ class Ledger:
         taken, acknowledged and settled, and how many acknowledgements its head owes."""
         its = self.core.edges[edge]
         return {
-            "pending": its.pending, "claimed": sum(its.sent[its.put :]),
-            "cells": [(place, its.sent[place]) for place in range(its.delivered, its.put)],
+            "pending": its.pending, "claimed": self._carried(its.sent[its.put :]),
+            "cells": [(at, self._carried(its.sent[at : at + 1])) for at in range(its.delivered, its.put)],
             "clear": its.clear, "refused": its.refused, "sealed": its.sealed, "sent": len(its.sent),
             "taken": its.delivered, "acknowledged": its.acked, "settled": its.settled,
             "owed": its.delivered - its.acked,
         }
+
+    def _carried(self, loads: tuple[Any, ...]) -> Any:
+        """What messages carry in all."""
+        return sum(loads)
 
     def note(self, event: Event, reply: Reply) -> list[Change]:
         """Makes an event that has this reply, and returns what it changed."""
@@ -110,3 +115,29 @@ class Ledger:
     def _agree(what: str, told: Any, known: Any) -> None:
         if told != known:
             raise Disagreement(f"{what}: the program tells {told}, and the model {known}")
+
+
+class ModelLedger(Ledger):
+    """The same of a run that the model alone plays. Loads and states of other computations are words, and so is what a
+    detector of another kind keeps: they are facts of the root."""
+
+    def _root(self, _: int) -> dict[str, Any]:
+        kept = [f"{name} {value}" for name, value in vars(self.core).items() if name != "ended"]
+        return {**super()._root(0), **({"own": "; ".join(kept)} if kept else {})}
+
+    def _vertices(self, vertex: int) -> dict[str, Any]:
+        facts, core = super()._vertices(vertex), self.core
+        return {**facts, "chips": core.computation.show(core.vertices[vertex])} if isinstance(core, Computed) else facts
+
+    def _carried(self, loads: tuple[Any, ...]) -> Any:
+        return ", ".join(map(str, loads)) if isinstance(self.core, Computed) else sum(loads)
+
+    def note(self, event: Event, reply: Reply) -> list[Change]:
+        """Makes an event, and returns what it changed."""
+        self.core.step(*event)
+        changes = []
+        for kind, rows in self.facts.items():
+            for index, before in enumerate(rows):
+                rows[index] = getattr(self, f"_{kind}")(index)
+                changes += [(kind, index, name, it) for name, it in rows[index].items() if before.get(name) != it]
+        return changes

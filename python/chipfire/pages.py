@@ -1,6 +1,7 @@
 """A page that shows a run of the machine event by event: one file of HTML, which asks for nothing else.
 
-`page(simulation, file)` writes it, `recorded(graph, chips, trace)` makes a simulation of a run that was recorded.
+`page(simulation, file)` writes it, `recorded(graph, chips, trace)` makes a simulation of a run that was recorded, and
+`play` plays on the model alone, which nothing is compared with then.
 Replies and books are the program's. What stands where is the model's, and so are the events of rounds and of recorded
 runs that nobody wrote down: a `Ledger` compares each reply, the books after each event, and the report at the end. The
 page simulates nothing: it gets the facts that each event changed.
@@ -17,13 +18,14 @@ from dataclasses import replace
 from typing import Any
 
 from chipfire.chips import Chips
+from chipfire.detectors import known_detector
 from chipfire.layout import Point, places_of
-from chipfire.ledger import Disagreement, Ledger
+from chipfire.ledger import Disagreement, Ledger, ModelLedger
 from chipfire.machine import WORDS, Event, Reply, Schedule, Setting, Simulation, TraceRow, read_trace
 from chipfire.model import Core
 from chipfire.program import AnyGraph, AnyProgram, known_chips, known_graph, replay, simulate
-from chipfire.schedules import opened, played
-from chipfire.sentences import Sentences
+from chipfire.schedules import Game, Play, opened, played
+from chipfire.sentences import ModelSentences, Sentences
 from chipfire.values import FILE, MAX_LIMIT, FileName, counted, own_text, write
 
 #: The sizes of rings that are tried for a trace, which does not tell its own.
@@ -32,13 +34,14 @@ _SAYS: dict[str, str] = WORDS["pages"]
 
 
 def page(
-    simulation: Simulation, file: FileName, *, title: str = "A run of chipfire",
+    simulation: Simulation | Play, file: FileName, *, title: str = "A run of chipfire",
     positions: Mapping[Any, Point] | None = None, program: AnyProgram = None,
 ) -> None:
     """Writes a page on which a run can be watched, event by event.
 
     simulation  what `simulate` or `recorded` answered; the program is asked once more, with books, and with the events
-                of the rounds spelled out, if rounds of turns followed the schedule
+                of the rounds spelled out, if rounds of turns followed the schedule; or what `play` answered, for which
+                nothing is asked
     positions   where the vertices stand, by names: (to the right, down); else a grid is drawn as one, and other graphs
                 by the distances of their vertices, the same graph always alike
     program     the program to ask, if not the one that is found
@@ -47,10 +50,14 @@ def page(
 
 
 def page_text(
-    simulation: Simulation, *, title: str = "A run of chipfire", positions: Mapping[Any, Point] | None = None,
+    simulation: Simulation | Play, *, title: str = "A run of chipfire", positions: Mapping[Any, Point] | None = None,
     program: AnyProgram = None,
 ) -> str:
     """The text of the page that `page` writes."""
+    if isinstance(simulation, Play):
+        words = Words(simulation.game, ModelSentences(simulation.game))
+        data = model_data(simulation, words, positions) | {"words": list(words.numbers)}
+        return filled(title, data, model_parts(simulation), "run-model.html", "drawing.html")
     told = spelled_out(simulation, program)
     ledger, words = Ledger(told.game), Words(told.game)
     steps = [words.step(ledger, *row) for row in compared(told, ledger)]
@@ -62,6 +69,33 @@ def page_text(
     data = page_data(told, positions)
     data |= {"steps": steps, "words": list(words.numbers), "end": {"text": _end(told, ledger), "isWrong": False}}
     return filled(title, data, parts, "run-proved.html", "drawing.html")
+
+
+def model_data(told: Play, words: Words, positions: Mapping[Any, Point] | None) -> dict[str, Any]:
+    """What the page of a run shows that the model alone played."""
+    ledger, game = ModelLedger(told.game, told.detector), told.game
+    start, roots = ledger.state(), ledger.core.outs(-1)
+    shown = game if isinstance(game, Setting) else Setting(game.graph, tuple(int(e.put > 0) for e in roots))
+    data = page_data(Simulation(told.replies, None, (), tuple(told.schedule), setting=shown), positions)
+    if shown is not game:  # (what is called a sink is a vertex as any other)
+        data |= {it: WORDS["computation"][it] for it in ("titles", "hidden", "opening")}
+        data |= {"edges": [(*edge[:2], 1) for edge in data["edges"]]}
+        data |= {} if data["places"]["frame"] else {"sink": -1}
+    steps = [words.step(ledger, *row) for row in zip(told.schedule, told.replies)]
+    for index, note in told.schedule.notes.items():
+        steps[index]["note"] = note
+    left = " and ".join(it.replace(" can ", " can still ").replace(" is ", " is still ") for it in told.left)
+    end = _SAYS["closed"] if told.root_closed else "The root is open."
+    end = f"The root is closed; {left}." if told.root_closed and left else end
+    return {**data, "start": start, "steps": steps, "end": {"text": end, "isWrong": told.root_closed and bool(left)}}
+
+
+def model_parts(told: Play) -> dict[str, str]:
+    """What such a page says of the detector and the computation."""
+    known, game = known_detector(told.detector), type(told.game)
+    names = [f"{made.__module__}.{made.__qualname__}" for made in (known.make, game)]
+    parts = {"says": known.says, "kind": names[0], "game": "chip-firing" if game is Setting else names[1]}
+    return {name: html.escape(text) for name, text in parts.items()}
 
 
 def filled(title: str, data: Mapping[str, Any], parts: Mapping[str, str], proved: str, drawings: str) -> str:
@@ -226,8 +260,8 @@ def compared(told: Simulation, ledger: Ledger) -> Iterator[tuple[Event, Reply]]:
 class Words:
     """The sentences of a page, each once, by numbers."""
 
-    def __init__(self, setting: Setting) -> None:
-        self.sentences = Sentences(setting.graph)
+    def __init__(self, setting: Game, sentences: Sentences | None = None) -> None:
+        self.sentences = sentences or Sentences(setting.graph)
         self.numbers: dict[str, int] = {}
 
     def number(self, text: str) -> int:

@@ -6,8 +6,9 @@ from typing import Any
 
 from chipfire.graphs import Graph
 from chipfire.ledger import Change
-from chipfire.machine import WORDS, Event, Reply
+from chipfire.machine import WORDS, Event, Reply, Setting
 from chipfire.model import Core
+from chipfire.schedules import EVENTS, WORK, Game
 from chipfire.values import counted
 
 _COUNTED = ("chip", "firing", "message", "acknowledgement")
@@ -91,6 +92,10 @@ class Sentences:
             found += [waits["owed"].format(at=other.number, **_numbers(owed))] if owed and other.number != edge else []
         return "; ".join(found)
 
+    def load(self, load: Any) -> str:
+        """What a message carries."""
+        return counted(load, "chip")
+
     def change(self, change: Change) -> str:
         """What one fact has become."""
         kind, index, name, value = change
@@ -100,7 +105,36 @@ class Sentences:
         if name == "parent" and value is not None:
             words["tail"] = self.ends(value)[0]
         if name == "cells":
-            words["cells"] = " and ".join(f"{counted(count, 'chip')} at place {place}" for place, count in value)
+            words["cells"] = " and ".join(f"{self.load(load)} at place {place}" for place, load in value)
             value = list(value)
         said = (known.get(f"{key} {value}") or known[key]).format(**words)
         return said if kind == "root" else f"{self.vertex(index) if kind == 'vertices' else f'edge {index}'}: {said}"
+
+
+class ModelSentences(Sentences):
+    """The words for a run that the model alone plays: also of other computations, and of a detector's own events."""
+
+    def __init__(self, game: Game) -> None:
+        super().__init__(game.graph)
+        self.is_firing = isinstance(game, Setting)
+        if not self.is_firing:
+            own = WORDS["computation"].items()
+            self.words = {**WORDS, **{name: {**WORDS[name], **said} for name, said in own if name in WORDS}}
+
+    def vertex(self, vertex: int) -> str:
+        return super().vertex(vertex) if self.is_firing else f"vertex {self.graph.names[vertex]}"
+
+    def load(self, load: Any) -> str:
+        return super().load(load) if self.is_firing else str(load)
+
+    def event(self, event: Event, reply: Reply | None = None) -> str:
+        if event.kind in EVENTS:
+            return super().event(event, reply)
+        if event.kind == WORK:
+            return f"Vertex {self.graph.names[event.at]} goes on, in way {event.count}."
+        return f"The detector's own event {event.kind} {event.at}."
+
+    def reply(self, event: Event, reply: Reply, core: Core | None = None) -> str:
+        if event.kind in EVENTS or reply.numbers:
+            return super().reply(event, reply, core)
+        return "Done." if reply.is_done else "Refused. Nothing was done."

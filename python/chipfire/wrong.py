@@ -8,49 +8,58 @@ from typing import Any
 from chipfire.detectors import known_detector
 from chipfire.explorer import explore
 from chipfire.layout import Point
-from chipfire.ledger import Ledger
-from chipfire.machine import Setting, Simulation
-from chipfire.pages import Words, asked, compared, filled, page_data
+from chipfire.ledger import Ledger, ModelLedger
+from chipfire.machine import Schedule, Setting
+from chipfire.pages import Words, asked, compared, filled, model_data, model_parts
 from chipfire.program import AnyProgram
-from chipfire.schedules import EVENTS, opened
+from chipfire.schedules import EVENTS, WORK, Detector, Game, detector_name, play
+from chipfire.sentences import ModelSentences
 from chipfire.values import FileName, counted, write
 
+
 def wrong_page(
-    name: str, file: FileName, setting: Setting | None = None, *, title: str | None = None,
+    detector: Detector, file: FileName, setting: Game | None = None, *, title: str | None = None,
     positions: Mapping[Any, Point] | None = None, program: AnyProgram = None,
 ) -> None:
     """Writes a page of the shortest schedule after which a wrong detector says too early that all is over.
 
-    name     one of `chipfire.detectors.DETECTORS`
-    setting  the game to search, if not the one that stands there
+    detector  one of `chipfire.detectors.DETECTORS`, or a class
+    setting   the game to search, if not the one that stands there: a `Setting` or a `Computation`
     """
-    write(file, wrong_page_text(name, setting, title=title, positions=positions, program=program))
+    write(file, wrong_page_text(detector, setting, title=title, positions=positions, program=program))
 
 
 def wrong_page_text(
-    name: str, setting: Setting | None = None, *, title: str | None = None,
+    detector: Detector, setting: Game | None = None, *, title: str | None = None,
     positions: Mapping[Any, Point] | None = None, program: AnyProgram = None,
 ) -> str:
     """The text of the page that `wrong_page` writes."""
-    setting = setting or known_detector(name).game
-    found = explore(setting, name)
+    name, setting = detector_name(detector), setting or known_detector(detector).game
+    found = explore(setting, detector)
     if found.schedule is None and not found.is_whole:
         raise ValueError(f"{name}: {found}")
     if found.schedule is None:
         states = counted(found.states, "state")
         raise ValueError(f"{name} closes the root too early in no schedule of this game, which has {states}")
-    if any(event.kind not in EVENTS for event in found.schedule):
-        raise ValueError(f"{name} has events of its own, which no page shows; chipfire.explore tells the schedule")
-    right = asked(setting, found.schedule, program)
-    words, core, held, ledger = Words(setting), opened(setting, name), Ledger(setting, name), Ledger(setting)
-    told = Simulation.parse("\n".join([*(core.step(*event) for event in found.schedule), "root open"]))
-    steps = [words.step(held, *row) for row in zip(found.schedule, told.replies)]
-    beside = [words.step(ledger, *row) for row in compared(right, ledger)]
-    ledger.close(right.report)
-    left = " and ".join(it.replace(" can ", " can still ") for it in found.left)
-    data = page_data(right, positions)
-    data |= {"steps": steps, "beside": {"steps": beside}, "words": list(words.numbers)}
-    data["end"] = {"text": f"The root is closed; {left}.", "isWrong": True}
-    known = known_detector(name)
-    parts = {"says": known.says, "kind": known.make.__name__, "states": counted(found.states, "state")}
-    return filled(title or f"A wrong detector: {name}", data, parts, "run-wrong.html", "two-drawings.html")
+    told, words = play(setting, found.schedule, detector), Words(setting, ModelSentences(setting))
+    data = model_data(told, words, positions)
+    beside = _beside(setting, found.schedule, words, program)
+    data |= {"beside": {"steps": beside}, "words": list(words.numbers)}
+    parts = {**model_parts(told), "states": counted(found.states, "state")}
+    proved = "run-wrong.html" if isinstance(setting, Setting) else "run-wrong-model.html"
+    return filled(title or f"A wrong detector: {name}", data, parts, proved, "two-drawings.html")
+
+
+def _beside(setting: Game, schedule: Schedule, words: Words, program: AnyProgram) -> list[dict[str, Any]]:
+    """The steps of the right detector, which the program plays if it can. The other's own events are none of it."""
+    shared = Schedule(event for event in schedule if event.kind in (*EVENTS, WORK))
+    if isinstance(setting, Setting):
+        right, ledger = asked(setting, shared, program), Ledger(setting)
+        made = [words.step(ledger, *row) for row in compared(right, ledger)]
+        ledger.close(right.report)
+    else:
+        ledger = ModelLedger(setting)
+        made = [words.step(ledger, *row) for row in zip(shared, play(setting, shared).replies)]
+    said, left = words.number("This is an event of the other detector."), iter(made)
+    own = {"done": True, "isOwn": True, "event": said, "reply": said, "changes": []}
+    return [next(left) if kind in (*EVENTS, WORK) else {"kind": kind, "at": at, **own} for kind, at, _ in schedule]

@@ -591,8 +591,7 @@ class WrongDetectors(unittest.TestCase):
 
     def test_what_is_not_wrong_has_no_page(self):
         for name, said in [("right", "in no schedule of this game, which has 1,405 states"),
-                           ("hasty", "no detector 'hasty'"), ("any-order", "in no schedule"),
-                           ("safra-colourless", "events of its own")]:
+                           ("hasty", "no detector 'hasty'"), ("any-order", "in no schedule")]:
             with self.assertRaisesRegex(ValueError, said):
                 wrong.wrong_page_text(name)
         # (the sink alone, with no chips: there is nothing to get wrong)

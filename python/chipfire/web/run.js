@@ -545,7 +545,7 @@ function eventWords(step) {
 
 const SPACE = { column: 120, row: 30, head: 40, above: 13, below: 5 };
 const ofStep = run.steps.map(({ kind, at: place }) => {
-    if (kind === "fire" || kind === "halt") return place;
+    if (kind === "fire" || kind === "halt" || kind === "work") return place;
     if (kind === "take" || kind === "ack") return run.edges[place]?.[1] ?? null;
     if (kind === "read" || kind === "end") return null;
     return run.edges[place]?.[0] ?? null;
@@ -622,7 +622,7 @@ function showDiagram() {
     const dots = stops.slice(Math.max(first, 1), end + 1).map((step) => {
         const { kind, done, note } = run.steps[step - 1];
         const centre = { x: x(ofStep[step - 1]), y: row(step) };
-        const said = done ? (kind === "fire" || kind === "halt" || kind === "seal" ? kind : "") : `${kind}: refused`;
+        const said = done ? (["fire", "halt", "seal", "work"].includes(kind) ? kind : "") : `${kind}: refused`;
         const dot = shape("circle", { cx: centre.x, cy: centre.y, r: 5 });
         const label = word(said, centre.x + 12, centre.y, 13, "said");
         const title = shape("title", {}, `${step}. ${eventWords(step)}${note ? ` ${note}` : ""}`);
@@ -667,6 +667,11 @@ const COLUMNS = {
         ["claim refused", flag("refused"), "refused"],
     ],
 };
+if ("own" in run.start.root[0]) COLUMNS.root.push(["detector", (facts) => facts.own, "own"]);
+for (const columns of Object.values(COLUMNS)) {
+    const kept = columns.filter(([title]) => !run.hidden?.includes(title));
+    columns.splice(0, columns.length, ...kept.map(([title, text, fact = title]) => [run.titles?.[title] ?? title, text, fact]));
+}
 const vertexName = (vertex) => {
     const name = run.names[vertex];
     return vertex === run.sink && name !== "sink" ? `${name} (sink)` : name;
@@ -793,7 +798,8 @@ function showEnd() {
 function showBeside() {
     const step = at > 0 && asked === null ? run.beside.steps[at - 1] : null;
     byId("reply-beside").textContent = step ? run.words[step.reply] : "";
-    const differs = run.steps.findIndex(({ reply }, index) => reply !== run.beside.steps[index].reply);
+    const { steps } = run.beside;
+    const differs = run.steps.findIndex(({ reply }, index) => !steps[index].isOwn && reply !== steps[index].reply);
     byId("reply-beside").className = step && differs === at - 1 ? "differs" : "";
 }
 

@@ -205,8 +205,9 @@ The first line of each file is, without spaces,
     vertex,fired               of a guess
     event,at,count             of a schedule
     vertex,kind,edge,count     of a trace
-An empty file has none. Perhaps the files are in another order: `--help` after the command
-shows it.
+A fourth column of a schedule, note, is read by the Python package alone: leave it out, as
+write_schedule(.., notes=False) does. An empty file has no header. Perhaps the files are in
+another order: `--help` after the command shows it.
 ");
 
 static ROW: Explanation = row!(24 Row ROW: "row i has not as many fields as the header", "\

@@ -41,7 +41,7 @@ def opened(setting: Game, detector: Detector = "right") -> Any:
         return setting.opened(make)
     if not isinstance(setting, Setting):
         known = "a chipfire.Setting of graph and chips, or a Computation"
-        raise TypeError(f"a game is {known}, and not of {type(setting).__name__}")
+        raise TypeError(f"a game is {known}, and no {type(setting).__name__}")
     graph = {"vertices": setting.graph.vertices, "sink": setting.graph.sink, "edges": setting.graph.edges}
     return make(graph, setting.chips, setting.limit, setting.ring, setting.fed)
 

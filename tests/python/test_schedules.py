@@ -420,7 +420,7 @@ class Explorer(unittest.TestCase):
                 chipfire.explore(FOUR, **options)
         with self.assertRaisesRegex(ValueError, "edge 1 is none of the root's, which are 4 to 6"):
             chipfire.explore(chipfire.Setting(TRIANGLE, (0, 0, 0), fed=True), feeds=((1, 2),))
-        with self.assertRaisesRegex(TypeError, "a game is a chipfire.Setting of graph and chips, and not of Graph"):
+        with self.assertRaisesRegex(TypeError, "a game is a chipfire.Setting of graph and chips, or a .*, and no Graph"):
             chipfire.explore(TRIANGLE, (4, 0, 0))
         with self.assertRaisesRegex(ValueError, "no detector 'hasty', but right, at-once"):
             chipfire.explore(FOUR, "hasty")

@@ -247,6 +247,8 @@ def page_data(told: Simulation, positions: Mapping[Any, Point] | None) -> dict[s
         "places": vars(places_of(graph, started, positions)),
         "start": Ledger(setting).state(),
         "opening": _SAYS["opening"].format(chips=counted(sum(setting.chips), "chip")),
+        "answers": WORDS["answers"],
+        "reasons": list(WORDS["reasons"].values()),
     }
 
 
@@ -274,8 +276,12 @@ class Words:
         step["event"] = self.number(says.event(event, reply))
         step["reply"] = self.number(says.reply(event, reply, ledger.core))
         if question is not None:
+            # (of a wrong detector too it is asked what the rule allows)
             is_vain = reply.kind in ("empty", "full") or event.kind == "settle" and reply.numbers == (0,)
-            step |= {"ask": self.number(question), "yes": reply.is_done and not is_vain}
+            is_ack, why = event.kind == "ack" and event.at < len(ledger.core.edges), says.reasons(event, ledger.core)
+            step |= {"ask": self.number(question), "yes": not why if is_ack else reply.is_done and not is_vain}
+            if why:
+                step["why"] = sorted({[*WORDS["reasons"]].index(reason) for reason, _ in why})
         if event.kind == "put" and reply.is_done:
             step["send"] = self.number(says.send(event, reply.numbers[0]))
         changes = ledger.note(event, reply)

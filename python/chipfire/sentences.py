@@ -50,6 +50,16 @@ class Sentences:
         asked = self.words["asks"].get(event.kind)
         return asked and self._said(asked, event)
 
+    def reasons(self, event: Event, core: Core) -> list[tuple[str, str]]:
+        """Why the rule of the right detector forbids an acknowledgement: the names of the reasons, with their words."""
+        if event.kind != "ack" or event.at >= len(core.edges):
+            return []
+        edge = core.edges[event.at]
+        if edge.delivered == edge.acked:
+            return [("nothing", self.words["reasons"]["nothing"])]
+        is_last = core.vertices[edge.head].parent == event.at and edge.delivered == edge.acked + 1
+        return self._waits(event.at, core) if is_last else []
+
     def send(self, event: Event, chips: int) -> str:
         """What a put is, together with the clear and the claim before it."""
         return self._said(self.words["send"]["put"], event._replace(count=chips)) + "."
@@ -70,27 +80,29 @@ class Sentences:
         """What the reply to an event was; with the game before it, also why exactly it was refused."""
         kind = event.kind if reply.kind == "done" else reply.kind
         last = reply.numbers[-1] if reply.numbers else 0
-        why = self._why_engaged(event.at, core) if core is not None and reply.name == "Engaged" else ""
+        why = "; ".join(it for _, it in self.reasons(event, core)) if core and reply.name == "Engaged" else ""
         place = str([*reply.numbers, 0][0])
         words = {"number": str(last), "why": why or str(reply.why), "place": place, **_numbers(last)}
         if event.kind in ("settle", "end"):
             words["acknowledgements"] = counted(last, "new acknowledgement")
         return self.words["replies"][f"halt {last}" if kind == "halt" else kind].format(**words)
 
-    def _why_engaged(self, edge: int, core: Core) -> str:
+    def _waits(self, edge: int, core: Core) -> list[tuple[str, str]]:
         """What a vertex has still to do, or to wait for, before it may acknowledge the message that engaged it."""
         vertex, waits = core.edges[edge].head, self.words["waits"]
         outs, runs = core.outs(vertex), core.vertices[vertex].halt is None
         pending, deficit = sum(out.pending for out in outs) if runs else 0, core.deficit(outs)
         heads = dict.fromkeys(self.ends(out.number)[1] for out in outs if len(out.sent) > out.settled)
-        found = [waits["chips"]] if runs and not pending and core.is_legal(vertex) else []
-        found += [waits["pending"].format(**_numbers(pending))] if pending else []
-        found += [waits["claimed"]] if core.has_unput(vertex) else []
-        found += [waits["deficit"].format(heads=" and ".join(heads), **_numbers(deficit))] if deficit else []
+        found = [("work", waits["chips"])] if runs and not pending and core.is_legal(vertex) else []
+        found += [("work", waits["pending"].format(**_numbers(pending)))] if pending else []
+        found += [("work", waits["claimed"])] if core.has_unput(vertex) else []
+        if deficit:
+            found.append(("deficit", waits["deficit"].format(heads=" and ".join(heads), **_numbers(deficit))))
         for other in core.ins(vertex):
             owed = other.delivered - other.acked
-            found += [waits["owed"].format(at=other.number, **_numbers(owed))] if owed and other.number != edge else []
-        return "; ".join(found)
+            if owed and other.number != edge:
+                found.append(("owed", waits["owed"].format(at=other.number, **_numbers(owed))))
+        return found
 
     def load(self, load: Any) -> str:
         """What a message carries."""

@@ -12,7 +12,8 @@ import tempfile
 
 NAMES = ("chromium", "chromium-browser", "google-chrome", "google-chrome-stable")
 KEYS = {"ArrowLeft": 37, "ArrowRight": 39, "ArrowUp": 38, "ArrowDown": 40, "Home": 36, "End": 35, "PageDown": 34,
-        "PageUp": 33, " ": 32, "Tab": 9, "[": 219, "]": 221, "?": 191, "p": 80, "s": 83, "d": 68, "y": 89, "n": 78}
+        "PageUp": 33, " ": 32, "Tab": 9, "[": 219, "]": 221, "?": 191, "1": 49, "2": 50,
+        **{letter: ord(letter.upper()) for letter in "adnprsy"}}
 
 
 def found():
@@ -85,8 +86,8 @@ class Browser:
         self.wait("document.readyState === 'complete' && location.protocol === 'file:'")
 
     def wait(self, condition):
-        """Waits until a condition of the page holds, ten seconds at most."""
-        asked = f"new Promise((done, fail) => {{ const until = Date.now() + 10000; const look = () => ({condition}) " \
+        """Waits until a condition of the page holds, a minute at most."""
+        asked = f"new Promise((done, fail) => {{ const until = Date.now() + 60000; const look = () => ({condition}) " \
                 "? done(true) : Date.now() > until ? fail(Error('it never held')) : setTimeout(look, 20); look(); })"
         self.value(asked)
 

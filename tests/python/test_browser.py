@@ -47,6 +47,7 @@ REPLY = "document.getElementById('reply').textContent"
 PLAY = "document.getElementById('play').textContent"
 END = "(({hidden, className, textContent}) => [hidden, className, textContent])(document.getElementById('end'))"
 SCORE = "document.getElementById('score').textContent"
+REASONS = "[...document.querySelectorAll('#reasons button')].map((it) => it.textContent)"
 #: The labels, boxes and vertices of the drawing that lie on each other by more than a hair.
 OVERLAPS = """(() => {
     const all = [...document.querySelectorAll("#drawing :is(.tag, .name, .number, .message, .claimed, .pending, .body)")];
@@ -402,37 +403,90 @@ class Screens(InBrowser):
 class Lessons(InBrowser):
     """What a class does with a page."""
 
+    def says(self, *wanted):
+        """Compares the event, the reply, the score and where the page is."""
+        self.assertEqual(tuple(map(self.browser.value, (EVENT, REPLY, SCORE, AT))), wanted)
+
     def test_predicting(self):
         self.open(detector("deficit"))
         self.browser.press("p")
         self.browser.press("ArrowRight")
-        self.assertEqual(self.browser.value(EVENT), "1. Is there a message from the root that vertex 0 can take (edge 4)?")
-        self.assertEqual(self.browser.value(f"{REPLY} + {AT}"), "0")
+        asked = "1. Is there a message from the root that vertex 0 can take (edge 4)?"
+        self.says(asked, "", "Right: 0 of 0; forbidden: 0 of 0; why: 0 of 0", 0)
         self.browser.press("y")
-        self.assertEqual(self.browser.value(f"{REPLY} + {AT}"), "Right. Got the message with place 0: 4 chips.1")
-        self.assertEqual(self.browser.value(SCORE), "1 of 1 predicted right")
+        self.says("1. Vertex 0 takes the next message from the root (edge 4).",
+                  "Right: there is one. Got the message with place 0: 4 chips.",
+                  "Right: 1 of 1; forbidden: 0 of 0; why: 0 of 0", 1)
         self.browser.value("goTo(8)")
         self.assertFalse(self.browser.value("document.getElementById('event-9') !== null"))
         self.browser.press("PageDown")
         self.assertEqual(self.browser.value(EVENT), "9. May vertex 0 acknowledge to the root (edge 4)?")
         self.picture("predict")
         self.browser.click("#yes")
-        said = ("No, it is no. Refused, by rule 15: it still waits for 2 acknowledgements (from vertex 1 and the sink 2). "
-                "Nothing was done.")
-        self.assertEqual(self.browser.value(REPLY), said)
-        self.assertEqual(self.browser.value(SCORE), "1 of 2 predicted right")
+        self.says("9. May vertex 0 acknowledge to the root (edge 4)?", "Wrong: it may not. Why?",
+                  "Right: 1 of 2; forbidden: 0 of 1; why: 0 of 0", 8)
+        self.assertEqual(self.browser.value(REASONS), ["it is not passive (1)", "it waits for acknowledgements (2)",
+                                                       "it owes one on another edge (3)", "it owes nothing on this edge (4)"])
+        self.picture("why")
+        self.browser.press("2")
+        refused = ("Refused, by rule 15: it still waits for 2 acknowledgements (from vertex 1 and the sink 2). "
+                   "Nothing was done.")
+        score = "Right: 1 of 2; forbidden: 0 of 1; why: 1 of 1"
+        event = "9. Vertex 0 tries to acknowledge to the root (edge 4)."
+        self.says(event, f"Right: it waits for acknowledgements. {refused}", score, 9)
         # Whoever asks once more goes on without an answer; a second answer to the same event counts no more.
         self.browser.press("ArrowRight")
         self.browser.press("ArrowRight")
-        self.assertEqual(self.browser.value(f"{SCORE} + {AT}"), "1 of 2 predicted right10")
+        self.assertEqual(self.browser.value(f"{SCORE} + {AT}"), f"{score}10")
         self.browser.value("goTo(8)")
-        self.browser.press("ArrowRight")
-        self.browser.press("n")
-        self.assertEqual(self.browser.value(SCORE), "1 of 2 predicted right")
+        for key in ("ArrowRight", "n", "1"):
+            self.browser.press(key)
+        self.says(event, f"Wrong: it waits for acknowledgements. {refused}", score, 9)
+        self.browser.press("r")
+        self.assertEqual(self.browser.value(SCORE), "Right: 0 of 0; forbidden: 0 of 0; why: 0 of 0")
         self.browser.press("p")
         self.browser.wait("document.getElementById('event-10') !== null")
-        self.assertTrue(self.browser.value("document.getElementById('score').hidden"))
+        hidden = "['score', 'acks', 'reset', 'answers', 'reasons'].every((name) => document.getElementById(name).hidden)"
+        self.assertTrue(self.browser.value(hidden))
         self.assertEqual(self.browser.complaints(), [])
+
+    def test_predicting_acknowledgements_alone(self):
+        told = self.open(detector("deficit"))
+        self.browser.press("p")
+        self.browser.press("a")
+        asked = []
+        for _ in range(2 * len(told.schedule)):
+            self.browser.press("ArrowRight")
+            asked.append(self.browser.value("asked"))
+        acks = [step for step, event in enumerate(told.schedule, 1) if event.kind == "ack"]
+        self.assertEqual([step for step in asked if step], acks)
+
+    def test_predicting_what_a_wrong_detector_does(self):
+        # The question is what the rule allows, and the answer that it does not is right, whatever this detector does.
+        chipfire.wrong_page("at-once", f"{self.folder}/wrong.html")
+        for key, said in [("n", "Right"), ("y", "Wrong")]:
+            self.browser.go(f"file://{self.folder}/wrong.html#1")
+            self.browser.press("p")
+            self.browser.press("ArrowRight")
+            self.assertEqual(self.browser.value(EVENT), "2. May vertex 0 acknowledge to the root (edge 4)?")
+            self.browser.press(key)
+            self.assertEqual(self.browser.value(REPLY), f"{said}: it may not. Why?")
+            self.browser.press("1")
+            self.assertEqual(self.browser.value(REPLY), "Right: it is not passive. This detector does it all the same. "
+                                                        "Done: 1 message acknowledged.")
+            count = int(said == "Right")
+            score = f"Right: {count} of 1; forbidden: {count} of 1; why: 1 of 1"
+            self.assertEqual(self.browser.value(SCORE), score)
+
+    def test_the_focus_stays_on_a_control(self):
+        self.open(detector("deficit"))
+        self.browser.value("goTo(8)")
+        self.browser.press("p")
+        self.browser.press("ArrowRight")
+        for button, left in [("document.getElementById('no')", "it is not passive (1)"),
+                             ("document.querySelector('#reasons button')", "Forward\u00a0>")]:
+            self.browser.value(f"{button}.focus(); document.activeElement.click()")
+            self.assertEqual(self.browser.value("document.activeElement.textContent"), left)
 
     def test_playing_stops_at_a_question(self):
         self.open(detector("deficit"))

@@ -523,6 +523,29 @@ class Pages(unittest.TestCase):
         kinds = {step["kind"] for step in data["steps"] if "ask" not in step}
         self.assertEqual(kinds, {"claim", "put"})
 
+    def test_the_answer_to_an_acknowledgement_is_the_programs(self):
+        forbidden = set()
+        games = [(random_game(random.Random(seed), fed=False), random.Random(seed)) for seed in range(20)]
+        runs = [asked(setting, random_events(numbers, setting.graph, 250)) for setting, numbers in games]
+        for told in [*runs, detector("engaging-message-last")]:
+            setting, data = told.setting, data_of(chipfire.pages.page_text(told))
+            for event, reply, step in zip(told.schedule, told.replies, data["steps"]):
+                self.assertEqual(step["done"], reply.is_done)
+                if event.kind == "ack" and event.at < len(setting.graph.edges) + setting.graph.vertices:
+                    self.assertEqual((step["yes"], "why" in step), (reply.is_done, not reply.is_done))
+                    named = {data["reasons"][it] for it in step.get("why", [])}
+                    self.assertEqual(named == {"it owes nothing on this edge"}, reply.name == "NothingOwed")
+                    forbidden |= named
+        self.assertEqual(forbidden, {*data["reasons"]})
+
+    def test_a_wrong_detector_is_asked_what_the_rule_allows(self):
+        for name, step, why in [("at-once", 1, "it is not passive"), ("without-passive", 1, "it is not passive"),
+                                ("without-deficit", 8, "it waits for acknowledgements")]:
+            data = data_of(wrong.wrong_page_text(name))
+            found = data["steps"][step]
+            self.assertEqual((found["yes"], found["done"]), (False, True))
+            self.assertEqual([data["reasons"][it] for it in found["why"]], [why])
+
     def test_the_end_is_said(self):
         said = {name: data_of(chipfire.pages.page_text(detector(name)))["end"]["text"] for name in DETECTOR}
         self.assertEqual(said["deficit"], "The root is closed: all is over.")

@@ -712,34 +712,69 @@ function showRow(kind, index) {
     });
 }
 
-// --- Predicting: the reply is asked for before it is shown
+// --- Predicting: the reply is asked for before it is shown, and of a forbidden acknowledgement the reason
 
+// What the rule allows or forbids; the other questions are about what is there.
+const MAY = ["fire", "halt", "read", "ack"];
 let isPredicting = false;
+let isAcksOnly = false;
 let asked = null;
+let isWhy = false;
 let verdict = "";
+// The first answer to each event: whether it and the reason were right, and whether the event is forbidden.
 const answered = new Map();
 
 // The event that comes next, if there is something to predict of it.
 function nextQuestion() {
     const step = stops[stopOf(at) + 1];
-    return isPredicting && step === at + 1 && run.steps[at].ask !== undefined ? step : null;
+    if (!isPredicting || step !== at + 1 || run.steps[at].ask === undefined) return null;
+    return isAcksOnly && run.steps[at].kind !== "ack" ? null : step;
 }
 
-function answer(says) {
-    if (asked === null) return;
-    const { yes } = run.steps[asked - 1];
-    if (!answered.has(asked)) answered.set(asked, says === yes);
-    verdict = says === yes ? "Right. " : `No, it is ${yes ? "yes" : "no"}. `;
+function answer(isYes) {
+    if (asked === null || isWhy) return;
+    const { kind, yes, why } = run.steps[asked - 1];
+    const isRight = isYes === yes;
+    if (!answered.has(asked)) answered.set(asked, { isRight, isForbidden: !yes && MAY.includes(kind) });
+    verdict = `${isRight ? "Right" : "Wrong"}: ${run.answers[kind][yes ? 0 : 1]}. `;
+    if (why) isWhy = true;
+    if (why) show();
+    else tell();
+}
+
+function answerWhy(reason) {
+    const { why } = run.steps[asked - 1];
+    const isRight = why.includes(reason);
+    answered.get(asked).isReason ??= isRight;
+    verdict = `${isRight ? "Right" : "Wrong"}: ${why.map((it) => run.reasons[it]).join(", and ")}. `;
+    tell();
+}
+
+// Goes to the event that was asked about. A wrong detector may do what the rule forbids.
+function tell() {
+    const { kind, yes, done } = run.steps[asked - 1];
+    if (kind === "ack" && yes !== done) verdict += done ? "This detector does it all the same. " : "This detector does not. ";
     const step = asked;
-    asked = null;
+    forget();
     goTo(step);
 }
 
+function reset() {
+    answered.clear();
+    showQuestion();
+}
+
 function showQuestion() {
-    byId("answers").hidden = asked === null;
-    byId("score").hidden = !isPredicting;
-    const right = [...answered.values()].filter(Boolean).length;
-    byId("score").textContent = `${right} of ${answered.size} predicted right`;
+    const hadFocus = document.activeElement?.closest("#answers, #reasons");
+    byId("answers").hidden = asked === null || isWhy;
+    byId("reasons").hidden = !isWhy;
+    for (const name of ["acks", "reset", "score"]) byId(name).hidden = !isPredicting;
+    if (hadFocus) (isWhy ? byId("reasons").firstElementChild : byId("forward")).focus();
+    const all = [...answered.values()];
+    const [forbidden, reasons] = [all.filter((it) => it.isForbidden), all.filter((it) => "isReason" in it)];
+    const counts = [[all, "isRight", ""], [forbidden, "isRight", "forbidden: "], [reasons, "isReason", "why: "]].map(
+        ([found, name, said]) => `${said}${found.filter((it) => it[name]).length} of ${found.length}`);
+    byId("score").textContent = `Right: ${counts.join("; ")}`;
 }
 
 // --- Showing one state
@@ -777,7 +812,7 @@ function showWords(from) {
     byId("reply").textContent = step ? verdict + run.words[step.reply] : run.opening;
     if (asked !== null) {
         byId("event").textContent = `${asked}. ${run.words[run.steps[asked - 1].ask]}`;
-        byId("reply").textContent = "";
+        byId("reply").textContent = isWhy ? `${verdict}Why?` : "";
     }
     byId("note").textContent = (asked === null && step?.note) || "";
     showEnd();
@@ -812,6 +847,7 @@ function showControls() {
     for (const name of ["forward", "last"]) byId(name).disabled = at === last;
     byId("play").textContent = playing === null ? "Play" : "Pause";
     byId("predict").setAttribute("aria-pressed", isPredicting);
+    byId("acks").setAttribute("aria-pressed", isAcksOnly);
     byId("coarse").setAttribute("aria-pressed", isCoarse);
     byId("view").setAttribute("aria-pressed", byId("picture").dataset.view === "diagram");
     selectEvent();
@@ -886,13 +922,20 @@ function play() {
 
 function leap(step) {
     if (playing !== null) pause();
-    asked = null;
+    forget();
+    verdict = "";
     goTo(step);
+}
+
+function forget() {
+    asked = null;
+    isWhy = false;
 }
 
 // One stop on; who predicts is asked first, and goes on without an answer if asked once more.
 function forward() {
     const question = asked === null ? nextQuestion() : null;
+    forget();
     asked = question;
     if (question !== null) show();
     else goTo(stops[Math.min(stopOf(at) + 1, stops.length - 1)]);
@@ -913,7 +956,10 @@ function treeChange(way) {
 function toggle(what) {
     if (what === "predict") {
         isPredicting = !isPredicting;
-        asked = null;
+        forget();
+    } else if (what === "acks") {
+        isAcksOnly = !isAcksOnly;
+        forget();
     } else if (what === "coarse") {
         isCoarse = !isCoarse;
         makeStops();
@@ -943,6 +989,8 @@ const KEYS = {
     "]": () => leap(treeChange(1)),
     "[": () => leap(treeChange(-1)),
     p: () => toggle("predict"),
+    a: () => toggle("acks"),
+    r: reset,
     s: () => toggle("coarse"),
     d: () => toggle("view"),
     y: () => answer(true),
@@ -952,7 +1000,7 @@ const KEYS = {
 const LIST_KEYS = { ArrowDown: KEYS.ArrowRight, ArrowUp: KEYS.ArrowLeft };
 const BUTTONS = {
     first: "Home", back: "ArrowLeft", forward: "ArrowRight", last: "End", play: " ", predict: "p", coarse: "s", view: "d",
-    "tree-back": "[", "tree-on": "]", help: "?", yes: "y", no: "n",
+    "tree-back": "[", "tree-on": "]", help: "?", yes: "y", no: "n", acks: "a", reset: "r",
 };
 
 function onKey(press) {
@@ -960,7 +1008,8 @@ function onKey(press) {
     // (the slider has its own keys, but for the space bar, which plays wherever the focus is)
     if (press.key !== " " && press.target.closest("input, select, textarea")) return;
     const isInList = press.target.id === "events";
-    const action = KEYS[press.key] ?? (isInList ? LIST_KEYS[press.key] : undefined);
+    const reason = isWhy ? byId("reasons").children[press.key - 1] : undefined;
+    const action = reason ? () => reason.click() : KEYS[press.key] ?? (isInList ? LIST_KEYS[press.key] : undefined);
     if (action) {
         press.preventDefault();
         action();
@@ -972,6 +1021,11 @@ function listen() {
     // (a button that has the focus would be pressed by the space bar as it is let go)
     document.addEventListener("keyup", (press) => {
         if (press.key === " " && press.target.closest("main, header")) press.preventDefault();
+    });
+    run.reasons.forEach((reason, index) => {
+        const button = element("button", { type: "button" }, `${reason} (${index + 1})`);
+        button.addEventListener("click", () => answerWhy(index));
+        byId("reasons").append(button);
     });
     const slider = byId("slider");
     slider.max = last;

@@ -36,10 +36,10 @@ The usual words of sandpiles are found under these names:
     many series of drops       chains(graph, n, drops, seed), from random_recurrent(graph, seed); power_law(sizes)
 
 `image` and `show` draw reports and configurations, `frames` draws plays. `page` makes a page for the browser on which
-one watches a run of the distributed machine, event by event, and `wrong_page` one on which a wrong detector fails;
-`chipfire.machine` has the words of the machine (schedules, replies, books, traces). `explore`, `judge`,
-`play` and `random_schedule` compute in Python, on the small model of `chipfire.model`, and but for `judge` also on a
-`Computation` of another kind: `chipfire.computations` has some.
+one watches a run of the distributed machine, event by event, `wrong_page` one on which a wrong detector fails, and
+`choice_page` one on which one picks each event; `chipfire.machine` has the words of the machine (schedules, replies,
+books, traces). `explore`, `judge`, `play` and `random_schedule` compute in Python, on the small model of
+`chipfire.model`, and but for `judge` also on a `Computation` of another kind: `chipfire.computations` has some.
 
 A graph, chips, a schedule, a trace or a report may be the name of its file. `Graph.chips` tells in which forms chips
 come, and `Report.picture` what can be drawn. A vertex has a number from 0 on, and may have a name. Sequences and arrays
@@ -50,6 +50,7 @@ go by numbers, dicts and Series of pandas by names. Numbers of chips and firings
 from chipfire import library as library, machine
 from chipfire.animation import Frames, frames, frames_by_chips
 from chipfire.chips import CHIPS_HEADER as CHIPS_HEADER, Chips, Configuration
+from chipfire.choosing import choice_page
 from chipfire.computations import Computation
 from chipfire.divisors import Divisor, canonical_divisor, genus
 from chipfire.dropped import Drops
@@ -99,12 +100,12 @@ __all__ = [
     "Avalanche", "Chains", "Check", "Chips", "Computation", "Configuration", "Divisor", "Drops", "Fault", "Firings",
     "Frames", "Graph", "Group", "PALETTES", "Picture", "PowerLaw", "Program", "ProgramNotFound", "Report", "TraceCut",
     "add", "are_recurrent", "avalanche", "avalanche_polynomial", "avalanches", "aztec", "burning_configuration",
-    "burning_script", "canonical_divisor", "chains", "check", "complete", "cycle", "drops", "explain", "explore",
-    "frames", "frames_by_chips", "from_edges", "from_networkx", "from_sage", "genus", "grid", "grid_for", "identity",
-    "invariant_factors", "is_recurrent", "is_stable", "is_superstable", "judge", "laplacian", "level_polynomial",
-    "machine", "order", "page", "path", "plain", "play", "plot_sizes", "power_law", "random_drops", "random_recurrent",
-    "random_schedule", "read_chips", "recorded", "recurrent_representative", "recurrents", "reduced_laplacian",
-    "region", "replay", "resume", "run", "shiviz", "shrink", "simulate", "stabilize", "stabilize_many",
-    "superstable_representative", "superstables", "to_networkx", "to_scipy", "torus", "tutte_polynomial", "verify",
-    "wheel", "write_chips", "wrong_page",
+    "burning_script", "canonical_divisor", "chains", "check", "choice_page", "complete", "cycle", "drops", "explain",
+    "explore", "frames", "frames_by_chips", "from_edges", "from_networkx", "from_sage", "genus", "grid", "grid_for",
+    "identity", "invariant_factors", "is_recurrent", "is_stable", "is_superstable", "judge", "laplacian",
+    "level_polynomial", "machine", "order", "page", "path", "plain", "play", "plot_sizes", "power_law", "random_drops",
+    "random_recurrent", "random_schedule", "read_chips", "recorded", "recurrent_representative", "recurrents",
+    "reduced_laplacian", "region", "replay", "resume", "run", "shiviz", "shrink", "simulate", "stabilize",
+    "stabilize_many", "superstable_representative", "superstables", "to_networkx", "to_scipy", "torus",
+    "tutte_polynomial", "verify", "wheel", "write_chips", "wrong_page",
 ]

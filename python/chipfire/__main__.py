@@ -4,6 +4,8 @@
     python -m chipfire page GRAPH CHIPS TRACE >run.html
     python -m chipfire wrong NAME [GRAPH CHIPS] >wrong.html
     python -m chipfire wrong FILE.py:CLASS [GRAPH CHIPS] >wrong.html
+    python -m chipfire choose NAME [GRAPH CHIPS] >choose.html
+    python -m chipfire choose FILE.py:CLASS [GRAPH CHIPS] >choose.html
     python -m chipfire explore NAME [GRAPH CHIPS]
     python -m chipfire explore FILE.py:CLASS [GRAPH CHIPS]
     python -m chipfire judge GRAPH CHIPS LOG
@@ -20,6 +22,7 @@ import runpy
 import sys
 from typing import Any
 
+from chipfire.choosing import choice_page_text
 from chipfire.detectors import DETECTORS, known_detector
 from chipfire.explorer import explore
 from chipfire.judging import judge
@@ -81,6 +84,12 @@ def _wrong(asked: argparse.Namespace) -> str:
     return wrong_page_text(_detector(asked.name), setting, title=asked.title, positions=places, program=asked.program)
 
 
+def _choose(asked: argparse.Namespace) -> str:
+    setting = _setting(asked.game, asked) if asked.game else None
+    places = asked.positions and _positions(asked.positions)
+    return choice_page_text(_detector(asked.name), setting, title=asked.title, positions=places)
+
+
 def _explore(asked: argparse.Namespace) -> tuple[str, int]:
     """What is found, with the shortest schedule, and the status."""
     detector, known = _detector(asked.name), known_detector(asked.name if asked.name in DETECTORS else "right").game
@@ -120,10 +129,15 @@ def _add_pages(commands: Any) -> list[argparse.ArgumentParser]:
     wrong.add_argument("name", metavar="DETECTOR", help=f"FILE.py:CLASS, or one of {', '.join(DETECTORS)}")
     wrong.add_argument("game", metavar="GRAPH CHIPS", nargs="*", help="another game than that of the detector")
     wrong.set_defaults(make=_wrong)
-    for command in (page, wrong):
+    says = "writes a page on which one picks each event among those that may happen"
+    choose = commands.add_parser("choose", help=says, description=f"{says}, on a game of at most 2,000 states")
+    choose.add_argument("name", metavar="DETECTOR", help=f"FILE.py:CLASS, or one of {', '.join(DETECTORS)}")
+    choose.add_argument("game", metavar="GRAPH CHIPS", nargs="*", help="another game than that of the detector")
+    choose.set_defaults(make=_choose)
+    for command in (page, wrong, choose):
         command.add_argument("--title", metavar="TEXT", help="what stands above the page")
         command.add_argument("--positions", metavar="FILE", help="where the vertices stand: rows vertex,right,down")
-    return [page, wrong]
+    return [page, wrong, choose]
 
 
 def _add_verdicts(commands: Any) -> list[argparse.ArgumentParser]:

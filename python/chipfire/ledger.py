@@ -32,13 +32,18 @@ class Ledger:
 
     def __init__(self, setting: Game, detector: Detector = "right") -> None:
         self.core = opened(setting, detector)
-        self.facts: State = {
+        self.facts: State = {}
+        #: The books of the engaged vertices.
+        self._books: dict[int, Books] = {}
+        self.look()
+
+    def look(self) -> None:
+        """Takes all facts from the game, which somebody else has changed."""
+        self.facts = {
             "root": [self._root(0)],
             "vertices": list(map(self._vertices, range(len(self.core.vertices)))),
             "edges": list(map(self._edges, range(len(self.core.edges)))),
         }
-        #: The books of the engaged vertices.
-        self._books: dict[int, Books] = {}
 
     def state(self) -> State:
         """All facts, as they stand now."""

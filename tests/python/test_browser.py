@@ -5,6 +5,7 @@ the rest come from `chipfire.model`. Where no Chromium is installed these tests 
 variable CHIPFIRE_PICTURES names a folder, pictures of the pages are left there to look at.
 """
 import os
+import random
 import subprocess
 import tempfile
 import unittest
@@ -12,7 +13,7 @@ import unittest
 import browser
 import chipfire
 from chipfire.schedules import opened
-from test_pages import EXAMPLES, DETECTOR, detector
+from test_pages import DETECTOR, EXAMPLES, TRIANGLE, detector
 
 #: Reads off the page what its tables and its drawing show.
 SHOWN = """(() => {
@@ -341,6 +342,101 @@ class Controls(InBrowser):
         self.open(detector("deficit"))
         self.browser.go(f"file://{self.folder}/run.html#7")
         self.at(7)
+
+
+class Choices(InBrowser):
+    """Pages on which one picks each event."""
+
+    #: What the page says now: the events that may happen, the last event with its reply, and the last word.
+    NOW = """(() => ({
+        possible: [...document.querySelectorAll("#possible button")].map((it) => it.textContent),
+        picked: [...document.querySelectorAll("#possible button")].findIndex((it) => it.ariaPressed === "true"),
+        event: document.getElementById("event").textContent, reply: document.getElementById("reply").textContent,
+        end: document.getElementById("end").textContent,
+    }))()"""
+
+    def open(self, name, **options):
+        self.browser.resize(1280, 900)
+        chipfire.choice_page(name, f"{self.folder}/choices.html", **options)
+        self.browser.go(f"file://{self.folder}/choices.html")
+
+    @staticmethod
+    def events_of(event):
+        """What one pick is: a send is three events."""
+        kinds = ("clear", "claim", "put") if event[0] == "clear" else (event[0],)
+        return [chipfire.Event(kind, event[1], event[2]) for kind in kinds]
+
+    def possible(self, core, words):
+        """What may happen, in words."""
+        for kind, at, count in core.enabled():
+            if kind == "clear":
+                yield words.send(chipfire.Event("put", at), core.edges[at].pending)
+            else:
+                yield words.event(chipfire.Event(kind, at, count))
+
+    def pick(self, core, words, place, done):
+        """Picks an event, and compares what the page says with the model."""
+        before = self.browser.value(self.NOW)
+        said = list(self.possible(core, words))
+        self.assertEqual(before["possible"], said)
+        events = self.events_of(core.enabled()[place])
+        made = self.browser.value(f"document.querySelectorAll('#possible button')[{place}].click(), {self.NOW}")
+        *_, reply = [core.step(*event) for event in events]
+        kind, *numbers = reply.split()
+        told = words.reply(events[-1], chipfire.Reply(kind, tuple(map(int, numbers))))
+        self.assertEqual((made["event"], made["reply"]), (f"{done + len(events)}. {said[place]}", told))
+        return done + len(events)
+
+    def test_random_paths(self):
+        ways = set()
+        for name, paths in [("right", 30), ("without-deficit", 10), ("at-once", 10)]:
+            setting = chipfire.Setting(TRIANGLE, (4 if name == "right" else 3, 0, 0))
+            self.open(name, setting=setting)
+            words = chipfire.sentences.Sentences(setting.graph)
+            for seed in range(paths):
+                self.browser.value("leap(0)")
+                draw, core, done, picks = random.Random(f"{name} {seed}"), opened(setting, name), 0, []
+                while core.enabled():
+                    picks.append(draw.randrange(len(core.enabled())))
+                    done = self.pick(core, words, picks[-1], done)
+                now = self.browser.value(self.NOW)
+                self.assertEqual((now["possible"], self.browser.value("at")), ([], done))
+                self.assertEqual(now["end"], "The root is closed: all is over." if core.is_closed() else
+                                 "The root is open, and nothing can happen any more.")
+                self.shown(core, done)
+                ways.add((name, *picks))
+            self.assertEqual(self.browser.complaints(), [])
+        self.assertEqual(len(ways), 50)
+
+    def test_what_was_possible_before_is_shown_and_can_be_picked_instead(self):
+        self.open("right")
+        for key in "121":
+            self.browser.press(key)
+        self.assertEqual(self.browser.value("at"), 5)
+        self.browser.press("ArrowLeft")
+        self.assertEqual(self.browser.value(AT), 2)
+        now = self.browser.value(self.NOW)
+        self.assertEqual((now["possible"], now["picked"]), (["Vertex 0 sends 2 chips to vertex 1 (edge 0).",
+                                                             "Vertex 0 sends 2 chips to the sink 2 (edge 1)."], 0))
+        self.picture("choices")
+        self.browser.click("#possible li:nth-child(2) button")
+        self.assertEqual(self.browser.value(EVENT), "5. Vertex 0 sends 2 chips to the sink 2 (edge 1).")
+        self.browser.press("ArrowLeft")
+        self.assertEqual(self.browser.value(self.NOW)["picked"], 1)
+        self.browser.press("ArrowRight")
+        self.assertEqual(self.browser.value("[AT, last]".replace("AT", AT)), [5, 5])
+        # (the slider stands at starts and ends of sends alone)
+        self.assertEqual(self.browser.value("[leap(4), at, leap(3), at]"), [None, 2, None, 5])
+        self.browser.value("document.querySelector('#possible button').focus(); document.activeElement.click()")
+        self.assertEqual(self.browser.value("document.activeElement.closest('#possible') !== null"), True)
+
+    def test_a_root_that_is_closed_too_early(self):
+        self.open("at-once", setting=chipfire.Setting(TRIANGLE, (3, 0, 0)))
+        for said in ("Vertex 0 takes", "Vertex 0 acknowledges", "The root looks"):
+            self.browser.value(f"[...document.querySelectorAll('#possible button')].find("
+                               f"(it) => it.textContent.startsWith('{said}')).click()")
+        self.assertEqual(self.browser.value(END), [False, "wrong", "The root is closed; vertex 0 can still fire."])
+        self.assertEqual(self.browser.value(self.NOW)["possible"], ["Vertex 0 fires once."])
 
 
 class Screens(InBrowser):

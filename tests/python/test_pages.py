@@ -15,7 +15,7 @@ import tempfile
 import unittest
 
 import chipfire
-from chipfire import layout, ledger, sentences, wrong
+from chipfire import choosing, layout, ledger, sentences, wrong
 
 HERE = os.path.dirname(os.path.realpath(__file__))
 ROOT = os.path.dirname(os.path.dirname(HERE))
@@ -622,6 +622,35 @@ class WrongDetectors(unittest.TestCase):
             wrong.wrong_page_text("at-once", chipfire.Setting(chipfire.Graph(1, 0, ()), (0,)))
 
 
+class Choices(unittest.TestCase):
+    """Pages with all states of a game."""
+
+    def test_all_states_and_moves(self):
+        data = data_of(choosing.choice_page_text("right"))
+        found = data["choices"]
+        self.assertEqual([len(found[name]) for name in ("moves", "ends")], [1405, 1405])
+        self.assertEqual({target for moves in found["moves"] for _, target in moves}, {*range(1, 1405)})
+        ends = [(not moves, end and end["text"]) for moves, end in zip(found["moves"], found["ends"])]
+        self.assertEqual({*ends}, {(False, None), (True, "The root is closed: all is over.")})
+
+    def test_an_end_that_is_missed(self):
+        class Never(chipfire.model.Core):
+            def may_let_go(self, e):
+                return False
+
+        text = choosing.choice_page_text(Never, chipfire.Setting(TRIANGLE, (2, 0, 0)))
+        ends = [end for end in data_of(text)["choices"]["ends"] if end]
+        self.assertEqual({(end["text"], end["isWrong"]) for end in ends},
+                         {("The root is open, and nothing can happen any more.", True)})
+        self.assertIn("the class <code>Never</code>", text)
+
+    def test_what_has_no_page(self):
+        for name, setting, said in [("right", chipfire.Setting(TRIANGLE, (6, 0, 0)), "more than 2,000 states"),
+                                    ("safra", None, "events of its own"), ("hasty", None, "no detector 'hasty'")]:
+            with self.assertRaisesRegex(ValueError, said):
+                choosing.choice_page_text(name, setting)
+
+
 class CommandLine(unittest.TestCase):
     def ask(self, *words):
         return subprocess.run([sys.executable, "-m", "chipfire", *words], capture_output=True, encoding="utf-8")
@@ -671,6 +700,20 @@ class CommandLine(unittest.TestCase):
             ran = self.ask("wrong", *words)
             self.assertEqual((ran.returncode, ran.stdout), (1, ""))
             self.assertIn(said, ran.stderr)
+
+    def test_a_page_of_choices(self):
+        ran = self.ask("choose", "right", "--title", "Pick")
+        self.assertEqual((ran.returncode, ran.stderr), (0, ""))
+        self.assertEqual(ran.stdout, choosing.choice_page_text("right", title="Pick"))
+        with tempfile.TemporaryDirectory(prefix="chipfire-python-") as folder:
+            with open(f"{folder}/mine.py", "w", encoding="utf-8") as file:
+                file.write("from chipfire.model import Core\n\nclass Mine(Core):\n    pass\n")
+            game = [f"{EXAMPLES}/detector/two-edges.json", f"{EXAMPLES}/detector/two-chips.csv"]
+            ran = self.ask("choose", f"{folder}/mine.py:Mine", *game)
+        self.assertEqual(len(data_of(ran.stdout)["choices"]["moves"]), 30)
+        ran = self.ask("choose", "at-once")
+        self.assertEqual((ran.returncode, ran.stdout), (1, ""))
+        self.assertIn("more than 2,000 states", ran.stderr)
 
     def test_what_is_wrong_is_one_line(self):
         files = [f"{EXAMPLES}/triangle/{name}" for name in ("graph.json", "chips.csv")]

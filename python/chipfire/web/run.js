@@ -4,7 +4,7 @@
 
 const run = JSON.parse(document.getElementById("run").textContent);
 const SVG = "http://www.w3.org/2000/svg";
-const last = run.steps.length;
+let last = run.steps.length;
 const byId = (name) => document.getElementById(name);
 let at = 0;
 let playing = null;
@@ -14,19 +14,25 @@ let playing = null;
 class Game {
     constructor(start, steps) {
         this.state = start;
-        this.steps = steps;
-        this.at = steps.length;
+        this.steps = [];
+        this.at = 0;
         this.changed = new Map();
         // The parts of the game that the page does not show as they are: at first all of them.
         this.stale = new Set(Object.entries(start).flatMap(([kind, parts]) => parts.map((_, i) => `${kind} ${i}`)));
         // What each fact was before a step, so that the step can be taken back.
-        this.before = steps.map((step) => step.changes.map(([kind, index, name, value]) => {
-            const facts = this.state[kind][index];
-            const old = facts[name];
-            facts[name] = value;
-            return old;
-        }));
+        this.before = [];
+        this.goOn(steps);
         this.goTo(0);
+    }
+
+    // Takes these steps from the present state, in place of all that followed it.
+    goOn(steps) {
+        this.steps.length = this.before.length = this.at;
+        for (const step of steps) {
+            this.before.push(step.changes.map(([kind, index, name]) => this.state[kind][index][name]));
+            this.steps.push(step);
+            this.goTo(this.steps.length);
+        }
     }
 
     goTo(wanted) {
@@ -75,6 +81,7 @@ class Game {
 
 // (the page of a wrong detector has the right one beside it, on the same events)
 const game = new Game(structuredClone(run.start), run.steps);
+run.steps = game.steps;
 const beside = run.beside && new Game(structuredClone(run.start), run.beside.steps);
 
 // --- Making elements
@@ -544,13 +551,14 @@ function eventWords(step) {
 // --- The space-time diagram: a column for each part, time goes down
 
 const SPACE = { column: 120, row: 30, head: 40, above: 13, below: 5 };
-const ofStep = run.steps.map(({ kind, at: place }) => {
+// The part that makes an event.
+function partOf({ kind, at: place }) {
     if (kind === "fire" || kind === "halt" || kind === "work") return place;
     if (kind === "take" || kind === "ack") return run.edges[place]?.[1] ?? null;
     if (kind === "read" || kind === "end") return null;
     return run.edges[place]?.[0] ?? null;
-});
-const story = tellStory();
+}
+let story = tellStory();
 
 // Which messages and acknowledgements went from which event to which, and from when to when each vertex was engaged.
 function tellStory() {
@@ -621,7 +629,7 @@ function showDiagram() {
         }));
     const dots = stops.slice(Math.max(first, 1), end + 1).map((step) => {
         const { kind, done, note } = run.steps[step - 1];
-        const centre = { x: x(ofStep[step - 1]), y: row(step) };
+        const centre = { x: x(partOf(run.steps[step - 1])), y: row(step) };
         const said = done ? (["fire", "halt", "seal", "work"].includes(kind) ? kind : "") : `${kind}: refused`;
         const dot = shape("circle", { cx: centre.x, cy: centre.y, r: 5 });
         const label = word(said, centre.x + 12, centre.y, 13, "said");
@@ -777,11 +785,47 @@ function showQuestion() {
     byId("score").textContent = `Right: ${counts.join("; ")}`;
 }
 
+// --- Choosing: the page has all states of its game, and whoever reads it picks each event among those that may happen
+
+// The state after each event at which no send is under way, and which move was picked there.
+const reached = new Map([[0, 0]]);
+const picked = new Map();
+
+function choose(move) {
+    const [steps, state] = run.choices.moves[reached.get(at)][move];
+    for (const known of [reached, picked]) for (const step of known.keys()) if (step > at) known.delete(step);
+    picked.set(at, move);
+    game.goOn(steps.map((step) => run.choices.steps[step]));
+    last = game.steps.length;
+    reached.set(last, state);
+    story = tellStory();
+    makeStops();
+    leap(last);
+}
+
+// The events that may happen now; that which was picked looks pressed.
+function showChoices() {
+    const hadFocus = document.activeElement?.closest("#possible");
+    const choices = run.choices.moves[reached.get(at)].map(([steps], move) => {
+        const { send, event } = run.choices.steps[steps.at(-1)];
+        const isPicked = picked.get(at) === move && at < last;
+        const button = element("button", { type: "button", "aria-pressed": isPicked }, run.words[send ?? event]);
+        button.addEventListener("click", () => choose(move));
+        return element("li", {}, button);
+    });
+    byId("possible").replaceChildren(...choices);
+    byId("how-many").textContent = choices.length;
+    if (hadFocus) (byId("possible").querySelector("button") ?? byId("events")).focus();
+}
+
 // --- Showing one state
 
 // Goes to the state after so many events.
 function goTo(step) {
-    at = Math.max(0, Math.min(step, last));
+    const wanted = Math.max(0, Math.min(step, last));
+    const stop = stopOf(wanted);
+    // (with whole sends one goes on to the end of a send, or back to its start)
+    at = isCoarse && stops[stop] > wanted && wanted < at ? stops[stop - 1] : isCoarse ? stops[stop] : wanted;
     game.goTo(at);
     beside?.goTo(at);
     show();
@@ -796,6 +840,7 @@ function show() {
     fit();
     showDiagram();
     showQuestion();
+    if (run.choices) showChoices();
     showControls();
 }
 
@@ -823,10 +868,10 @@ function showWords(from) {
 
 // The last word, in large letters: red if the root is closed and something is left.
 function showEnd() {
-    const isEnd = at === last && asked === null;
-    byId("end").hidden = !isEnd;
-    byId("end").className = run.end.isWrong ? "wrong" : "";
-    byId("end").textContent = isEnd ? run.end.text : "";
+    const end = run.choices ? run.choices.ends[reached.get(at)] : at === last && asked === null ? run.end : null;
+    byId("end").hidden = !end;
+    byId("end").className = end?.isWrong ? "wrong" : "";
+    byId("end").textContent = end?.text ?? "";
 }
 
 // What the right detector answers to the same event, and whether another than the wrong one has answered so far.
@@ -840,6 +885,7 @@ function showBeside() {
 
 function showControls() {
     const slider = byId("slider");
+    slider.max = last;
     slider.value = at;
     slider.setAttribute("aria-valuetext", `event ${at} of ${last}`);
     byId("counter").textContent = `event ${at} of ${last}`;
@@ -954,6 +1000,7 @@ function treeChange(way) {
 }
 
 function toggle(what) {
+    if (byId(what).hidden) return;
     if (what === "predict") {
         isPredicting = !isPredicting;
         forget();
@@ -963,7 +1010,6 @@ function toggle(what) {
     } else if (what === "coarse") {
         isCoarse = !isCoarse;
         makeStops();
-        at = stops[stopOf(at)];
     } else {
         const picture = byId("picture");
         picture.dataset.view = picture.dataset.view === "diagram" ? "graph" : "diagram";
@@ -1008,8 +1054,8 @@ function onKey(press) {
     // (the slider has its own keys, but for the space bar, which plays wherever the focus is)
     if (press.key !== " " && press.target.closest("input, select, textarea")) return;
     const isInList = press.target.id === "events";
-    const reason = isWhy ? byId("reasons").children[press.key - 1] : undefined;
-    const action = reason ? () => reason.click() : KEYS[press.key] ?? (isInList ? LIST_KEYS[press.key] : undefined);
+    const numbered = (isWhy ? byId("reasons") : byId("possible")).querySelectorAll("button")[press.key - 1];
+    const action = numbered ? () => numbered.click() : KEYS[press.key] ?? (isInList ? LIST_KEYS[press.key] : undefined);
     if (action) {
         press.preventDefault();
         action();
@@ -1028,7 +1074,6 @@ function listen() {
         byId("reasons").append(button);
     });
     const slider = byId("slider");
-    slider.max = last;
     slider.addEventListener("input", () => leap(Number(slider.value)));
     byId("pace").addEventListener("change", () => {
         if (playing !== null) {
@@ -1052,6 +1097,10 @@ function listen() {
     window.addEventListener("hashchange", () => leap(Number(location.hash.slice(1)) || 0));
 }
 
+// (a state in the middle of a send has no choices)
+isCoarse = Boolean(run.choices);
+for (const name of ["predict", "coarse"]) byId(name).hidden = isCoarse;
+byId("choices").hidden = !isCoarse;
 makeStops();
 makeTable("root", [0]);
 makeTable("vertices", run.names.map((_, vertex) => vertex));

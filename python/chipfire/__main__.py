@@ -30,7 +30,7 @@ from chipfire.layout import Point
 from chipfire.ledger import Disagreement
 from chipfire.machine import SCHEDULE_HEADER, TRACE_HEADER, Setting
 from chipfire.model import Core
-from chipfire.pages import page_text, recorded
+from chipfire.pages import page_text, recorded, refuse_more
 from chipfire.program import known_chips, known_graph, simulate
 from chipfire.schedules import Detector
 from chipfire.values import MAX_LIMIT, begins, read_rows, rows_text
@@ -45,6 +45,7 @@ def _positions(file: str) -> dict[int, Point]:
 def _page(asked: argparse.Namespace) -> str:
     game = (asked.graph, asked.chips, asked.events)
     options = {"limit": asked.limit, "ring": asked.ring, "program": asked.program}
+    refuse_more(asked.events)
     if not begins(asked.events, TRACE_HEADER):
         told = simulate(*game, rounds=asked.rounds, fed=asked.fed, books=True, **options)
     elif asked.rounds is None and not asked.fed:

@@ -61,7 +61,7 @@ class _Choices:
         self.steps: dict[str, int] = {}
 
     def data(self) -> dict[str, Any]:
-        """Of each state its moves (the numbers of their steps, and where they lead), and its last word, if it has one."""
+        """Of each state its moves (the numbers of their steps, and where they lead), and its last word, if any."""
         moves, ends = [], []
         for state in self.states:
             self.known.load(state)

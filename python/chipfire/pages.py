@@ -10,6 +10,7 @@ page simulates nothing: it gets the facts that each event changed.
 from __future__ import annotations
 
 import html
+import itertools
 import json
 import string
 from collections import deque
@@ -30,6 +31,8 @@ from chipfire.values import FILE, MAX_LIMIT, FileName, counted, own_text, write
 
 #: The sizes of rings that are tried for a trace, which does not tell its own.
 RINGS = (1, 2, 4, 8, 16, 32, 64)
+#: How many rows of a schedule or a trace a page shows at most, and how many events of rounds.
+MOST_ROWS = 10_000
 _SAYS: dict[str, str] = WORDS["pages"]
 
 
@@ -58,6 +61,8 @@ def page_text(
         words = Words(simulation.game, ModelSentences(simulation.game))
         data = model_data(simulation, words, positions) | {"words": list(words.numbers)}
         return filled(title, data, model_parts(simulation), "run-model.html", "drawing.html")
+    if not simulation.made_up:  # (the rows of a recorded run are counted already)
+        refuse_more(simulation.schedule)
     told = spelled_out(simulation, program)
     ledger, words = Ledger(told.game), Words(told.game)
     steps = [words.step(ledger, *row) for row in compared(told, ledger)]
@@ -98,6 +103,17 @@ def model_parts(told: Play) -> dict[str, str]:
     return {name: html.escape(text) for name, text in parts.items()}
 
 
+def refuse_more(rows: Sequence[Any] | FileName) -> None:
+    """Refuses a schedule or a trace that is too long for a page, before it is played."""
+    if isinstance(rows, FILE):
+        with open(rows, encoding="utf-8") as file:
+            count = sum(1 for _ in itertools.islice(file, MOST_ROWS + 2)) - 1
+    else:
+        count = len(rows)
+    if count > MOST_ROWS:
+        raise ValueError(f"a page shows at most {MOST_ROWS:,} rows of a schedule or a trace, and here are more")
+
+
 def filled(title: str, data: Mapping[str, Any], parts: Mapping[str, str], proved: str, drawings: str) -> str:
     """The page of a run: what it says about proofs and its drawings come from files of the folder web, with parts."""
     # (in a script of HTML no text may look like a tag)
@@ -126,7 +142,10 @@ def recorded(
     such events are made up, as early as they can be. Rows that do not fit together the program refuses (fault 70). The
     ring is that of the run; if it is not told, the least of 1, 2, 4 and so on that plays all rows.
     """
+    if isinstance(trace, FILE):
+        refuse_more(trace)
     rows = read_trace(trace) if isinstance(trace, FILE) else [TraceRow(*row) for row in trace]
+    refuse_more(rows)
     known = known_graph(graph, program)
     start = known_chips(known, chips, program)
     replay(known, start, rows, limit=limit, program=program)
@@ -157,8 +176,12 @@ class _Spelled(Core):
 def spell_rounds(setting: Setting, schedule: Sequence[Event], rounds: int) -> tuple[Event, ...]:
     """A schedule, and after it the events of so many rounds of turns, or of those until the root is closed."""
     core = played(setting, _Spelled, schedule)
-    core.events = Schedule()
-    core.drive(rounds)
+    core.events, before = Schedule(), -1
+    while rounds and len(core.events) > before:
+        before, rounds = len(core.events), rounds - 1
+        core.drive(1)
+        if len(core.events) > MOST_ROWS:
+            raise ValueError(f"a page shows at most {MOST_ROWS:,} events of rounds, and here are more")
     return (*schedule, *core.events)
 
 
@@ -238,13 +261,15 @@ def page_data(told: Simulation, positions: Mapping[Any, Point] | None) -> dict[s
     setting, graph, events = told.game, told.game.graph, zip(told.schedule, told.replies)
     fed = {event.at - len(graph.edges) for event, reply in events if event.kind == "feed" and reply.is_done}
     started = sorted(fed | {vertex for vertex, count in enumerate(setting.chips) if count})
+    places = places_of(graph, started, positions)
     return {
         "names": [str(name) for name in graph.names],
         "sink": graph.sink,
         "edges": [*graph.edges, *((None, vertex, 1) for vertex in range(graph.vertices))],
         "graphEdges": len(graph.edges),
         "rootEdges": [graph.root_edge(vertex) for vertex in started],
-        "places": vars(places_of(graph, started, positions)),
+        "places": vars(places),
+        "mayTurn": positions is None and places.frame is None,
         "start": Ledger(setting).state(),
         "opening": _SAYS["opening"].format(chips=counted(sum(setting.chips), "chip")),
         "answers": WORDS["answers"],

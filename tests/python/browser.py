@@ -117,6 +117,16 @@ class Browser:
         size = {"width": width, "height": height, "deviceScaleFactor": 1, "mobile": is_phone}
         self.ask("Emulation.setDeviceMetricsOverride", **size)
 
+    def media(self, theme="", forced=""):
+        """Gives the page a theme, "dark" or "light", and forced colours, if "active"."""
+        features = {"prefers-color-scheme": theme, "forced-colors": forced}
+        self.ask("Emulation.setEmulatedMedia", features=[{"name": key, "value": it} for key, it in features.items()])
+
+    def names(self):
+        """The roles and names of what a screen reader tells of the page."""
+        nodes = self.ask("Accessibility.getFullAXTree")["nodes"]
+        return [(it["role"]["value"], it.get("name", {}).get("value", "")) for it in nodes if not it["ignored"]]
+
     def picture(self, file, whole=False):
         """Writes what the screen shows as a PNG file, or the whole page."""
         data = self.ask("Page.captureScreenshot", format="png", captureBeyondViewport=whole)["data"]

@@ -6,6 +6,7 @@ variable CHIPFIRE_PICTURES names a folder, pictures of the pages are left there 
 """
 import os
 import random
+import re
 import subprocess
 import tempfile
 import unittest
@@ -484,16 +485,237 @@ class Screens(InBrowser):
              "tree-on", "help", "events"],
         )
 
+    def test_the_address_names_a_whole_event(self):
+        self.open(detector("deficit"))
+        self.browser.go(f"file://{self.folder}/run.html#9.7")
+        self.assertEqual(self.browser.value(COUNTER), "event 9 of 32")
+
+    def test_tables_and_controls_have_names(self):
+        self.open(detector("deficit"))
+        self.browser.press("p")
+        self.browser.press("ArrowRight")
+        roles = ("button", "table", "slider", "listbox", "combobox", "image", "toolbar", "region")
+        told = [(role, name) for role, name in self.browser.names() if role in roles]
+        self.assertEqual([it for it in told if not re.search("[A-Za-z]{2}", it[1])], [])
+        self.assertLessEqual({("table", "Root"), ("table", "Vertices"), ("table", "Edges"), ("button", "To the start"),
+                              ("button", "To the end"), ("button", "All keys")}, {*told})
+
+
+class Legible(InBrowser):
+    """The pages of a lecture, on a projector, on a low screen and on a phone, in the light, in the dark and in forced
+    colours."""
+
+    SIZES = {"large": ((1400, 900), False), "low": ((1366, 600), False), "phone": ((390, 844), True)}
+    THEMES = {"light": {}, "dark": {"theme": "dark"}, "forced": {"forced": "active"}}
+    RUNS = ("small-run", "engaged-twice", "deficit")
+    WRONG = ("at-once", "without-deficit")
+    #: The least height of the letters that are drawn, and of all others.
+    LETTERS = """(() => {
+        const seen = [...document.querySelectorAll("svg text")].filter((it) => it.textContent && it.checkVisibility());
+        const drawn = seen.map((it) => parseFloat(getComputedStyle(it).fontSize) * Math.abs(it.getScreenCTM().a));
+        const others = [...document.querySelectorAll("main *, header *")].filter((it) => !it.closest("svg"));
+        return [Math.min(...drawn), Math.min(...others.map((it) => parseFloat(getComputedStyle(it).fontSize)))];
+    })()"""
+    #: The contrast of each text to what lies under it, if it is below 4.5.
+    FAINT = """(() => {
+        const canvas = new OffscreenCanvas(1, 1).getContext("2d", { willReadFrequently: true });
+        const light = (colour) => {
+            canvas.fillStyle = colour;
+            canvas.fillRect(0, 0, 1, 1);
+            const [r, g, b] = [...canvas.getImageData(0, 0, 1, 1).data].map((it) => it / 255).map(
+                (it) => (it <= 0.04045 ? it / 12.92 : ((it + 0.055) / 1.055) ** 2.4));
+            return 0.2126 * r + 0.7152 * g + 0.0722 * b;
+        };
+        const shown = (colour) => colour && colour !== "none" && !/^rgba.*, 0\\)$/.test(colour);
+        const under = (it) => {
+            const group = it.closest("svg") && it.parentElement.tagName === "g" ? it.parentElement : null;
+            const shape = group && (group.querySelector(":scope > .body") ?? group.querySelector(":scope > rect"));
+            if (shape && !it.classList.contains("number") && !/name|halt|deficit/.test(it.getAttribute("class"))) {
+                const { fill } = getComputedStyle(shape);
+                if (shown(fill)) return fill;
+            }
+            for (let node = it; node; node = node.parentElement) {
+                const { backgroundColor } = getComputedStyle(node);
+                if (shown(backgroundColor)) return backgroundColor;
+            }
+            return "white";
+        };
+        const own = (it) => [...it.childNodes].some((node) => node.nodeType === Node.TEXT_NODE && node.data.trim());
+        const all = [...document.querySelectorAll("header *, main *")].filter(
+            (it) => own(it) && it.checkVisibility() && !it.disabled && !it.closest(".later, option, title"));
+        return all.map((it) => {
+            const style = getComputedStyle(it);
+            const [a, b] = [light(it.closest("svg") ? style.fill : style.color), light(under(it))].sort((a, b) => b - a);
+            return [it.textContent, it.getAttribute("class"), Math.round(10 * (a + 0.05) / (b + 0.05)) / 10];
+        }).filter(([, , contrast]) => contrast < 4.5);
+    })()"""
+
+    def tearDown(self):
+        self.browser.media()
+
+    def pages(self, wrong=True):
+        """Opens each page of the lecture on each screen."""
+        for screen, (size, is_phone) in self.SIZES.items():
+            for name in self.RUNS + self.WRONG * wrong:
+                if name in self.RUNS:
+                    self.open(detector(name), size, is_phone)
+                else:
+                    self.browser.resize(*size, is_phone=is_phone)
+                    chipfire.wrong_page(name, f"{self.folder}/run.html")
+                    self.browser.go(f"file://{self.folder}/run.html")
+                yield screen, name
+
+    def test_all_letters_can_be_read(self):
+        for screen, name in self.pages():
+            for step in (0, 3, 9, 14, 99):
+                self.browser.value(f"goTo({step})")
+                drawn, others = self.browser.value(self.LETTERS)
+                self.assertGreaterEqual(drawn, 9, (screen, name, step))
+                self.assertGreaterEqual(others, 12, (screen, name, step))
+            width = self.browser.value("[document.documentElement.scrollWidth, innerWidth]")
+            self.assertLessEqual(width[0], width[1])
+            self.picture(f"{name}-{screen}")
+            self.browser.press("d")
+            self.assertGreaterEqual(self.browser.value(self.LETTERS)[0], 9, (screen, name))
+            self.assertEqual(self.browser.complaints(), [])
+
+    def test_no_label_lies_on_another(self):
+        for screen, name in self.pages():
+            for step in range(self.browser.value("last") + 1):
+                self.browser.value(f"goTo({step})")
+                self.assertEqual(self.browser.value(OVERLAPS), [], (screen, name, step))
+
+    def test_contrast(self):
+        for theme, media in self.THEMES.items():
+            for name in ("deficit", "without-deficit", "grid"):
+                with self.subTest(theme=theme, name=name):
+                    self.browser.media(**media)
+                    self.browser.resize(1400, 900)
+                    if name == "without-deficit":
+                        chipfire.wrong_page(name, f"{self.folder}/run.html")
+                        self.browser.go(f"file://{self.folder}/run.html")
+                    else:
+                        grid = chipfire.simulate(chipfire.grid(4, 4), {5: 20}, [], rounds=9)
+                        self.open(detector(name) if name == "deficit" else grid, (1400, 900))
+                    for step in (9, 99):
+                        self.browser.value(f"goTo({step})")
+                        self.assertEqual(self.browser.value(self.FAINT), [])
+                        self.picture(f"{name}-{theme}-{step}")
+                    self.browser.press("d")
+                    self.assertEqual(self.browser.value(self.FAINT), [])
+                    self.picture(f"{name}-{theme}-diagram")
+
+    def test_the_focus_is_seen(self):
+        for theme, media in self.THEMES.items():
+            self.browser.media(**media)
+            self.open(detector("deficit"), (1400, 900))
+            reached = set()
+            for _ in range(15):
+                self.browser.press("Tab")
+                name, style, width = self.browser.value(
+                    "(({id}, {outlineStyle, outlineWidth}) => [id, outlineStyle, parseFloat(outlineWidth)])"
+                    "(document.activeElement, getComputedStyle(document.activeElement))")
+                reached.add(name)
+                if name:
+                    self.assertEqual((style, width >= 2), ("solid", True), (theme, name))
+            self.assertGreaterEqual(len(reached), 12)
+
+    def test_what_is_pressed_or_selected_is_seen_in_each_theme(self):
+        colours = "[...document.querySelectorAll('#predict, #coarse, #event-3, #event-2')].map(" \
+                  "(it) => getComputedStyle(it).backgroundColor)"
+        for theme, media in self.THEMES.items():
+            self.browser.media(**media)
+            self.open(detector("deficit"), (1400, 900))
+            self.browser.value("goTo(3)")
+            self.browser.press("p")
+            pressed, other, *rows = self.browser.value(colours)
+            self.assertNotEqual(pressed, other, theme)
+            self.assertNotEqual(*rows, theme)
+
     def test_colours_differ_in_light_alone(self):
         # Relative luminance and contrast, as the WCAG define them; 3 is what they ask of what is no text.
-        self.open(detector("deficit"))
-        names = self.browser.value(
-            "['--paper', '--engaged', '--changed', '--ink'].map("
-            "(name) => getComputedStyle(document.documentElement).getPropertyValue(name).trim())"
-        )
-        paper, engaged, changed, ink = map(luminance, names)
-        for lighter, darker in [(paper, engaged), (paper, changed), (changed, engaged), (paper, ink)]:
-            self.assertGreaterEqual((lighter + 0.05) / (darker + 0.05), 3)
+        for theme in ("light", "dark"):
+            self.browser.media(theme)
+            self.open(detector("deficit"))
+            names = self.browser.value(
+                "['--paper', '--engaged', '--changed', '--ink', '--band'].map("
+                "(name) => getComputedStyle(document.documentElement).getPropertyValue(name).trim())"
+            )
+            paper, engaged, changed, ink, band = map(luminance, names)
+            for one, other in [(paper, engaged), (paper, changed), (changed, engaged), (paper, ink), (paper, band)]:
+                self.assertGreaterEqual((max(one, other) + 0.05) / (min(one, other) + 0.05), 3)
+
+    def test_both_detectors_are_seen_by_a_swipe(self):
+        self.browser.resize(390, 844, is_phone=True)
+        chipfire.wrong_page("at-once", f"{self.folder}/wrong.html")
+        self.browser.go(f"file://{self.folder}/wrong.html#2")
+        sides = "['drawing', 'drawing-beside'].map((name) => document.getElementById(name).getBoundingClientRect())" \
+                ".map(({left, right, top, bottom}) => left >= 0 && right <= innerWidth && top >= 0 && bottom <= innerHeight)"
+        self.assertEqual(self.browser.value(sides), [True, False])
+        self.browser.value("document.getElementById('pair').scrollLeft = 400")
+        self.assertEqual(self.browser.value(sides), [False, True])
+
+    def test_no_line_leads_through_a_vertex(self):
+        through = """(() => {
+            const found = [];
+            for (const [edge, { group }] of drawings[0].edges) {
+                const line = group.querySelector(".line");
+                const points = [...Array(60).keys()].map((i) => line.getPointAtLength((line.getTotalLength() * i) / 59));
+                run.names.forEach((name, vertex) => {
+                    if (run.edges[edge].slice(0, 2).includes(vertex) || isFramed(vertex)) return;
+                    const { x, y } = placeOf(vertex);
+                    if (points.some((it) => Math.hypot(it.x - x, it.y - y) < radius)) found.push([edge, name]);
+                });
+            }
+            return found;
+        })()"""
+        over = """[...document.querySelectorAll("#drawing :is(.message, .claimed, .pending, .tag)")].filter((it) => {
+            const a = it.getBoundingClientRect();
+            return [...document.querySelectorAll("#drawing .vertex .chips")].some((node) => {
+                const b = node.getBoundingClientRect();
+                return Math.min(a.right, b.right) > Math.max(a.left, b.left) + 1
+                    && Math.min(a.bottom, b.bottom) > Math.max(a.top, b.top) + 1;
+            });
+        }).length"""
+        for graph in (chipfire.complete(6), chipfire.complete(7), chipfire.wheel(9), chipfire.torus(4, 4), chipfire.cycle(15)):
+            told = self.open(chipfire.simulate(graph, {1: 4 * len(graph.edges) // 3}, [], rounds=9, limit=2), (1400, 900))
+            self.assertGreater(len(graph.edges), 20)
+            self.assertEqual(self.browser.value(through), [])
+            for step in range(0, len(told.schedule), 1 + len(told.schedule) // 40):
+                self.browser.value(f"goTo({step})")
+                self.assertEqual(self.browser.value(over), 0, step)
+            self.picture(f"lines-{len(graph.edges)}")
+
+    def test_a_band_ends_now(self):
+        self.open(detector("deficit"), (1400, 900))
+        self.browser.press("d")
+        bands = "[...document.querySelectorAll('.band:not(.later)')].map((it) => it.getBoundingClientRect().bottom)"
+        now = "document.querySelector('.now').getBoundingClientRect().bottom"
+        for step in range(1, 33):
+            self.browser.value(f"goTo({step})")
+            self.assertTrue(all(bottom <= self.browser.value(now) + 1 for bottom in self.browser.value(bands)), step)
+
+    def test_messages_that_are_not_taken_are_seen_in_the_diagram(self):
+        chipfire.wrong_page("without-deficit", f"{self.folder}/wrong.html")
+        self.browser.resize(1400, 900)
+        self.browser.go(f"file://{self.folder}/wrong.html#10")
+        self.browser.press("d")
+        self.assertTrue(self.browser.value("document.getElementById('reply-beside').checkVisibility()"))
+        boxes = "[...document.querySelectorAll('#diagram .flight')].map((it) => [it.textContent, it.getBBox().height > 20])"
+        self.assertEqual(self.browser.value(boxes), [["2", True], ["2", True]])
+        for step, count in [(0, 1), (1, 0), (5, 1), (8, 2)]:
+            self.browser.value(f"goTo({step})")
+            self.assertEqual(len(self.browser.value(boxes)), count, step)
+
+    def test_the_diagram_of_a_large_graph_shows_the_parts_of_the_window(self):
+        told = self.open(chipfire.simulate(chipfire.grid(8, 8), {27: 40}, [], rounds=100), (1400, 900))
+        self.browser.press("d")
+        parts = "[...document.querySelectorAll('#diagram .life')].length"
+        for step in range(0, len(told.schedule), 40):
+            self.browser.value(f"goTo({step})")
+            self.assertLessEqual(self.browser.value(parts), 20)
+            self.assertGreaterEqual(self.browser.value(self.LETTERS)[0], 9, step)
+            self.assertTrue(self.browser.value("document.querySelectorAll('.dot').length > 5"))
 
 
 class Lessons(InBrowser):
@@ -641,8 +863,8 @@ class Lessons(InBrowser):
         self.browser.press("d")
         for step in (0, 14, 32):
             self.browser.value(f"goTo({step})")
-            hidden = "['drawing', 'diagram'].map((name) => getComputedStyle(document.getElementById(name)).display)"
-            self.assertEqual(self.browser.value(hidden), ["none", "block"])
+            seen = "['drawing', 'diagram'].map((name) => document.getElementById(name).checkVisibility())"
+            self.assertEqual(self.browser.value(seen), [False, True])
             self.picture(f"diagram-{step}")
         # All messages, acknowledgements and spells of engagement, found once more from the replies.
         story = self.browser.value("story")
@@ -677,24 +899,28 @@ class Lessons(InBrowser):
         self.assertEqual(self.browser.complaints(), [])
 
     def test_a_vertex_can_be_dragged(self):
-        self.open(detector("deficit"))
+        before = chipfire.layout.places_of(chipfire.Graph.read(f"{EXAMPLES}/triangle/graph.json"), [0]).vertices
         place = "(() => {{ const box = document.querySelector('{}').getBoundingClientRect(); " \
                 "return [box.x + box.width / 2, box.y + box.height / 2]; }})()".format('[data-vertex="1"] .body')
-        x, y = self.browser.value(place)
-        for kind, right in [("mousePressed", 0), ("mouseMoved", 40), ("mouseMoved", 80), ("mouseReleased", 80)]:
-            self.browser.ask("Input.dispatchMouseEvent", type=kind, x=x + right, y=y - right, button="left", clickCount=1)
-        before = chipfire.layout.places_of(chipfire.Graph.read(f"{EXAMPLES}/triangle/graph.json"), [0]).vertices
-        rows = self.browser.value("document.getElementById('positions').textContent").splitlines()
-        self.assertEqual(rows[0], "vertex,right,down")
-        places = [tuple(map(float, row.split(",")[1:])) for row in rows[1:]]
-        self.assertGreater(places[1][0], before[1][0] + 0.2)
-        self.assertLess(places[1][1], before[1][1] - 0.2)
-        for vertex in (0, 2):
-            self.assertAlmostEqual(places[vertex][0], before[vertex][0], places=2)
-        self.browser.press("ArrowRight")
-        self.assertEqual(self.browser.value(AT), 1)
-        self.picture("dragged")
-        self.assertEqual(self.browser.complaints(), [])
+        for size, is_turned in [((1400, 900), False), ((1366, 600), True)]:
+            self.open(detector("deficit"), size)
+            self.assertEqual(self.browser.value("isTurned"), is_turned)
+            x, y = self.browser.value(place)
+            for kind, right in [("mousePressed", 0), ("mouseMoved", 40), ("mouseMoved", 80), ("mouseReleased", 80)]:
+                where = {"x": x + right, "y": y - right}
+                self.browser.ask("Input.dispatchMouseEvent", type=kind, button="left", clickCount=1, **where)
+            rows = self.browser.value("document.getElementById('positions').textContent").splitlines()
+            self.assertEqual(rows[0], "vertex,right,down")
+            places = [tuple(map(float, row.split(",")[1:])) for row in rows[1:]]
+            # (a drawing on its side has to the right what is down)
+            self.assertGreater(places[1][is_turned], before[1][is_turned] + 0.2)
+            self.assertLess(places[1][not is_turned], before[1][not is_turned] - 0.2)
+            for vertex in (0, 2):
+                self.assertAlmostEqual(places[vertex][0], before[vertex][0], places=2)
+            self.browser.press("ArrowRight")
+            self.assertEqual(self.browser.value(AT), 1)
+            self.picture("dragged")
+            self.assertEqual(self.browser.complaints(), [])
 
     def test_notes_are_shown_at_their_event(self):
         graph, chips, _ = DETECTOR["deficit"]

@@ -12,6 +12,7 @@ import re
 import subprocess
 import sys
 import tempfile
+import time
 import unittest
 
 import chipfire
@@ -458,6 +459,24 @@ class Pages(unittest.TestCase):
         )
         with self.assertRaisesRegex(ValueError, "does not know what was asked"):
             chipfire.pages.page_text(chipfire.Simulation((), None))
+
+    def test_more_rows_than_a_page_shows_are_refused_at_once(self):
+        said = "a page shows at most 10,000 "
+        with self.assertRaisesRegex(ValueError, f"{said}rows of a schedule or a trace"):
+            chipfire.pages.page_text(chipfire.simulate(TRIANGLE, {0: 4}, [("settle", 4)] * 10_001))
+        self.assertEqual(len(data_of(chipfire.pages.page_text(
+            chipfire.simulate(TRIANGLE, {0: 4}, [("settle", 4)] * 10_000)))["steps"]), 10_000)
+        with self.assertRaisesRegex(ValueError, f"{said}events of rounds"):
+            chipfire.pages.page_text(chipfire.simulate(chipfire.grid(20, 20), {190: 2000}, [], rounds=10_000))
+        with self.assertRaisesRegex(ValueError, f"{said}rows"):
+            chipfire.recorded(TRIANGLE, {0: 4}, [(0, "take", 4, 4)] * 10_001)
+        with open(f"{self.folder}/trace.csv", "w", encoding="utf-8") as file:
+            file.write("vertex,kind,edge,count\n")
+            file.writelines(["0,take,4,4\n"] * 2_000_000)
+        began = time.process_time()
+        with self.assertRaisesRegex(ValueError, f"{said}rows"):
+            chipfire.recorded(TRIANGLE, {0: 4}, f"{self.folder}/trace.csv")
+        self.assertLess(time.process_time() - began, 1)
 
     def test_a_page_stands_alone(self):
         text = chipfire.pages.page_text(detector("deficit"))

@@ -18,7 +18,7 @@ class Game {
         this.at = 0;
         this.changed = new Map();
         // The parts of the game that the page does not show as they are: at first all of them.
-        this.stale = new Set(Object.entries(start).flatMap(([kind, parts]) => parts.map((_, i) => `${kind} ${i}`)));
+        this.stale = allParts();
         // What each fact was before a step, so that the step can be taken back.
         this.before = [];
         this.goOn(steps);
@@ -108,14 +108,22 @@ function word(text, x, y, size, name = "") {
 
 const shownEdges = [...Array(run.graphEdges).keys()].concat(run.rootEdges);
 const isRoomy = run.names.length <= 12 && shownEdges.length <= 20;
+// (among more vertices there is no way round)
+const isSmall = run.names.length <= 100 && shownEdges.length <= 1000;
 const radius = isRoomy ? 36 : 29;
 const size = isRoomy
     ? { chips: 26, name: 16, box: 18, note: 15, root: 18 }
     : { chips: 24, name: 14, box: 16, note: 13, root: 24 };
-const scale = (isRoomy ? 230 : 112) / nearest([...run.places.vertices, run.places.root]);
-const point = ([x, y]) => ({ x: x * scale, y: y * scale });
-const frame = run.places.frame && run.places.frame.map(point);
-const isFramed = (vertex) => frame !== null && vertex === run.sink;
+// The smallest label, and the least height of a letter that can be read, in pixels of the screen.
+const SMALLEST = isRoomy ? 0.8 * size.note : size.note;
+const LEGIBLE = 9;
+// How far apart neighbours are drawn at most and at least. On small screens they are nearer, so that words are larger.
+const APART = isRoomy ? [230, 195, 165, 140, 120] : [112];
+let scale = 1;
+// Whether the drawing lies on its side, to the right what else is down.
+let isTurned = false;
+const point = ([x, y]) => (isTurned ? { x: y * scale, y: x * scale } : { x: x * scale, y: y * scale });
+const isFramed = (vertex) => run.places.frame !== null && vertex === run.sink;
 const placeOf = (vertex) => point(vertex === null ? run.places.root : run.places.vertices[vertex]);
 
 // The least distance of two places: neighbours in the order from left to right suffice if many stand in rows.
@@ -133,7 +141,7 @@ function nearest(places) {
 
 // Where an edge from a point meets the frame that stands for the sink: its nearest side, or corner.
 function onFrame(from) {
-    const [upper, lower] = frame;
+    const [upper, lower] = run.places.frame.map(point);
     const x = from.x - upper.x <= lower.x - from.x ? upper.x : lower.x;
     const y = from.y - upper.y <= lower.y - from.y ? upper.y : lower.y;
     const across = Math.abs(from.x - x);
@@ -184,18 +192,19 @@ function wayOf(edge, bend) {
 
 // The way of an edge that is bent as little as it has to be so that it leads round the vertices between its ends.
 function wayRound(edge, bend) {
-    const ends = run.edges[edge];
+    const ends = run.edges[edge].slice(0, 2);
     const isOfRoot = ends[0] === null;
-    if (!isRoomy && !isOfRoot) return wayOf(edge, bend);
+    if (!isSmall && !isOfRoot) return wayOf(edge, bend);
     const all = [...run.names.keys()];
     const others = all.filter((it) => !ends.includes(it) && !isFramed(it)).map(placeOf);
     if (!isOfRoot) others.push(placeOf(null));
     const crossed = (way) => {
-        const points = [0.1, 0.2, 0.3, 0.4, 0.5, 0.6, 0.7, 0.8, 0.9].map(way.on);
+        const points = [...Array(19).keys()].map((i) => way.on((i + 1) / 20));
         const isNear = (it) => others.some((other) => Math.hypot(it.x - other.x, it.y - other.y) < 1.35 * radius);
         return points.filter(isNear);
     };
-    const ways = [0, 1, -1, 2, -2, 3, -3, 4, -4].map((more) => wayOf(edge, bend + more));
+    if (!crossed(wayOf(edge, bend)).length) return wayOf(edge, bend);
+    const ways = [0, 1, -1, 2, -2, 3, -3, 4, -4, 5, -5, 6, -6].map((more) => wayOf(edge, bend + more));
     return ways.reduce((best, way) => (crossed(way).length < crossed(best).length ? way : best));
 }
 
@@ -254,7 +263,6 @@ class Drawing {
     constructor(game, drawing) {
         this.game = game;
         this.drawing = drawing;
-        this.draw();
     }
 
     draw() {
@@ -262,7 +270,7 @@ class Drawing {
         this.vertices = [];
         this.fixed = [];
         this.drawing.replaceChildren();
-        if (frame) this.vertices[run.sink] = this.drawFrame();
+        if (run.places.frame) this.vertices[run.sink] = this.drawFrame();
         const bent = bends();
         for (const edge of shownEdges) this.drawEdge(edge, wayRound(edge, bent.get(edge)));
         this.drawRoot();
@@ -275,7 +283,15 @@ class Drawing {
         this.drawing.append(this.marks);
         const { x, y, width, height } = this.drawing.getBBox();
         const edge = 1.4 * radius;
-        this.drawing.setAttribute("viewBox", [x - edge, y - edge, width + 2 * edge, height + 2 * edge].join(" "));
+        this.size = { width: width + 2 * edge, height: height + 2 * edge };
+        this.drawing.setAttribute("viewBox", [x - edge, y - edge, this.size.width, this.size.height].join(" "));
+        keepLegible(this.drawing, this.size, SMALLEST);
+    }
+
+    // How high the smallest letters are on the screen.
+    letters() {
+        const { width, height } = this.drawing.getBoundingClientRect();
+        return SMALLEST * Math.min(width / this.size.width, height / this.size.height);
     }
 
     drawEdge(edge, way) {
@@ -336,7 +352,7 @@ class Drawing {
 
     // A grid's sink: the frame round the squares, with its chips beside it.
     drawFrame() {
-        const [upper, lower] = frame;
+        const [upper, lower] = run.places.frame.map(point);
         const box = { x: upper.x, y: upper.y, width: lower.x - upper.x, height: lower.y - upper.y, rx: 10 };
         const y = lower.y + size.chips;
         const middle = (upper.x + lower.x) / 2;
@@ -409,7 +425,9 @@ class Drawing {
         if (facts.sealed) names.push("sealed");
         if (this.game.hasChanged("edges", edge)) names.push("changed");
         group.setAttribute("class", names.join(" "));
-        if (!isRoomy) marks.replaceChildren(...this.boxesOf(facts, way, []), ...this.tagsOf(facts, way, []));
+        if (isRoomy) return;
+        const taken = isSmall ? [...this.fixed] : [];
+        marks.replaceChildren(...this.boxesOf(facts, way, taken), ...this.tagsOf(facts, way, taken));
     }
 
     // The marks of all edges: first the boxes on them, then what finds room beside.
@@ -430,7 +448,7 @@ class Drawing {
         if (!boxes.length) return [];
         const widths = boxes.map(([, text]) => size.box * (0.75 + 0.65 * text.length));
         const all = { width: widths.reduce((sum, width) => sum + width + 3, -3), height: 1.4 * size.box };
-        const middles = isRoomy ? [0.5, 0.56, 0.44, 0.62, 0.38] : [0.47];
+        const middles = isRoomy ? [0.5, 0.56, 0.44, 0.62, 0.38] : [0.47, 0.4, 0.55, 0.33, 0.62];
         const room = roomFor(all, middles.map(way.on), taken);
         let x = room.x - all.width / 2;
         return boxes.map(([name, text, place], index) => {
@@ -445,12 +463,12 @@ class Drawing {
     tagsOf(facts, way, taken) {
         const unseen = facts.acknowledged - facts.settled;
         const tags = [];
-        if (facts.owed) tags.push([isRoomy ? `owes ${facts.owed}` : `!${facts.owed}`, [0.8, 0.74, 0.86, 0.68], "owes"]);
-        if (unseen) tags.push([isRoomy ? `◁ ack ${unseen}` : `◁${unseen}`, [0.22, 0.28, 0.16, 0.34], "answer"]);
+        if (facts.owed) tags.push([isRoomy ? `owes ${facts.owed}` : `!${facts.owed}`, [0.8, 0.74, 0.86, 0.68, 0.62], "owes"]);
+        if (unseen) tags.push([isRoomy ? `◁ ack ${unseen}` : `◁${unseen}`, [0.22, 0.28, 0.16, 0.34, 0.4], "answer"]);
         if (facts.sealed) tags.push([facts.refused ? "sealed, refused" : "sealed", [0.6, 0.5, 0.4], "seal"]);
         return tags.map(([text, points, name]) => {
             const box = { width: textWidth(text, size.note), height: size.note * 1.3 };
-            const places = isRoomy ? besideEdge(way, points, box) : [way.on(points[0])];
+            const places = isRoomy ? besideEdge(way, points, box) : points.map(way.on);
             return tag(text, roomFor(box, places, taken), name);
         });
     }
@@ -472,6 +490,33 @@ function tag(text, { x, y, width, height }, name) {
 const drawings = [new Drawing(game, byId("drawing"))];
 if (beside) drawings.push(new Drawing(beside, byId("drawing-beside")));
 
+const isNarrow = () => matchMedia("(max-width: 50rem)").matches;
+
+// On a phone a drawing is never so small that it cannot be read: what has no room is scrolled to.
+function keepLegible(drawing, { width, height }, smallest) {
+    const least = isNarrow() ? LEGIBLE / smallest : 0;
+    drawing.style.minWidth = `${Math.ceil(width * least)}px`;
+    drawing.style.minHeight = least ? `${Math.ceil(height * least)}px` : "";
+}
+
+// Draws for this screen: as usual if that can be read with ease, else on the side or nearer, where letters are largest.
+function layOut() {
+    const [first] = drawings;
+    if (byId("picture").dataset.view === "diagram") return;
+    const unit = nearest([...run.places.vertices, run.places.root]);
+    const tries = APART.flatMap((apart) => (run.mayTurn ? [false, true] : [false]).map((turned) => [turned, apart / unit]));
+    let best = null;
+    for (const [turned, apart] of isSmall ? tries : tries.slice(0, 1)) {
+        [isTurned, scale] = [turned, apart];
+        first.draw();
+        const letters = first.letters();
+        if (best === null || letters > best.letters + 0.1) best = { letters, turned, apart };
+        if (letters >= LEGIBLE + (isNarrow() || apart * unit < APART[0] ? 0.1 : 2)) break;
+    }
+    [isTurned, scale] = [best.turned, best.apart];
+    drawAll();
+}
+
 // --- Dragging: a vertex goes where it is put, in both drawings, and the page says what to write into --positions
 
 let dragged = null;
@@ -485,10 +530,11 @@ function onDrag(drawing) {
         drawing.setPointerCapture(press.pointerId);
         drawing.onpointermove = (move) => {
             const { x, y } = new DOMPoint(move.clientX, move.clientY).matrixTransform(drawing.getScreenCTM().inverse());
-            const place = [x / scale, y / scale];
+            const place = isTurned ? [y / scale, x / scale] : [x / scale, y / scale];
             if (dragged === null) run.places.root = place;
             else run.places.vertices[dragged] = place;
-            drawAnew();
+            drawAll();
+            showPositions();
         };
     });
     for (const end of ["pointerup", "pointercancel"]) {
@@ -498,14 +544,19 @@ function onDrag(drawing) {
     }
 }
 
-function drawAnew() {
+function allParts() {
+    return new Set(Object.entries(run.start).flatMap(([kind, parts]) => parts.map((_, i) => `${kind} ${i}`)));
+}
+
+function drawAll() {
     for (const it of drawings) {
         it.draw();
-        it.game.stale = new Set(
-            [["root", 1], ["vertices", run.names.length], ["edges", run.edges.length]].flatMap(([kind, count]) =>
-                [...Array(count).keys()].map((index) => `${kind} ${index}`)));
+        it.game.stale = allParts();
         it.show(stopBefore(at));
     }
+}
+
+function showPositions() {
     const rows = run.names.map((name, vertex) => {
         const place = run.places.vertices[vertex].map((it) => it.toFixed(2));
         return [name, ...place].join(",");
@@ -550,7 +601,7 @@ function eventWords(step) {
 
 // --- The space-time diagram: a column for each part, time goes down
 
-const SPACE = { column: 120, row: 30, head: 40, above: 13, below: 5 };
+const SPACE = { column: 120, row: 30, head: 40, above: 13, below: 5, most: 12, words: 13 };
 // The part that makes an event.
 function partOf({ kind, at: place }) {
     if (kind === "fire" || kind === "halt" || kind === "work") return place;
@@ -594,52 +645,94 @@ function tellStory() {
     return told;
 }
 
+// What the diagram shows: the events round the present one, from first to end, and the parts that have a column. Among
+// many these are the parts of the events.
+function windowOf(now) {
+    const first = Math.max(0, now - SPACE.above);
+    const end = Math.min(stops.length - 1, isPredicting ? now : Math.max(now + SPACE.below, first + SPACE.above + SPACE.below));
+    const all = [null, ...run.names.keys()];
+    const busy = new Set(stops.slice(Math.max(first, 1), end + 1).map((step) => partOf(run.steps[step - 1])));
+    const columns = all.length <= SPACE.most ? all : all.filter((part) => part === null || busy.has(part));
+    const x = (part) => SPACE.column * (columns.indexOf(part) + 0.5);
+    const row = (step) => SPACE.head + SPACE.row * (stopOf(step) - first + 0.7);
+    const isSeen = ({ from, to }) => stopOf(from) <= end && (to === undefined || stopOf(to) >= first);
+    return { first, end, columns, x, row, isSeen, bottom: row(stops[end]) + SPACE.row * 0.6, now: row(at) };
+}
+
 function showDiagram() {
     const diagram = byId("diagram");
     if (byId("picture").dataset.view !== "diagram") return;
-    const now = stopOf(at);
-    const first = Math.max(0, now - SPACE.above);
-    const end = Math.min(stops.length - 1, isPredicting ? now : Math.max(now + SPACE.below, first + SPACE.above + SPACE.below));
-    const columns = [null, ...run.names.keys()];
-    const x = (part) => SPACE.column * (columns.indexOf(part) + 0.5);
-    const row = (step) => SPACE.head + SPACE.row * (stopOf(step) - first + 0.7);
-    const bottom = row(stops[end]) + SPACE.row * 0.6;
-    const isSeen = ({ from, to }) => stopOf(from) <= end && (to === undefined || stopOf(to) >= first);
-    const until = ({ to }) => (to === undefined || stopOf(to) > end ? bottom : row(to));
-    const later = (step) => (step > at ? " later" : "");
-    const bands = story.bands.filter(isSeen).map((it) => shape("rect", {
-        x: x(it.vertex) - 11, y: Math.max(row(it.from), SPACE.head), width: 22, class: `band${later(it.from)}`,
-        height: Math.max(0, until(it) - Math.max(row(it.from), SPACE.head)),
-    }));
+    const seen = windowOf(stopOf(at));
+    const { columns, x, bottom } = seen;
     const lines = columns.map(x).map((x) => shape("line", { x1: x, y1: SPACE.head, x2: x, y2: bottom, class: "life" }));
     const titleOf = (part) => (part === null ? "root" : vertexTitle(part));
     const heads = columns.map((part) => word(titleOf(part), x(part), SPACE.head / 2, 16, "name beside"));
-    const arrows = [["answers", "answer-way", 1, 0], ["messages", "way", 0, 1]].flatMap(([kind, name, from, to]) =>
-        story[kind].filter(isSeen).map((it) => {
-            const ends = run.edges[it.edge];
-            const start = { x: x(ends[from]), y: Math.max(row(it.from), SPACE.head) };
-            const arrived = it.to !== undefined && stopOf(it.to) <= end;
-            const stop = { x: x(ends[to]), y: until(it) };
-            const stub = arrived ? stop : towards(start, { x: stop.x, y: Math.max(stop.y, start.y + 1) }, 30);
-            const middle = { x: (start.x + stub.x) / 2, y: (start.y + stub.y) / 2 - 8 };
-            const text = kind === "messages" ? [word(it.chips, middle.x, middle.y, 13, "number")] : [];
-            const line = shape("line", { x1: start.x, y1: start.y, x2: stub.x, y2: stub.y, class: "line" });
-            const way = shape("path", { d: arrowAt(stub, start, 11), class: "arrow" });
-            return shape("g", { class: name + later(it.to ?? it.from) }, line, way, ...text);
+    const bands = story.bands.filter((it) => seen.isSeen(it) && columns.includes(it.vertex)).flatMap((it) => bandOf(it, seen));
+    const arrows = [["answers", 1, 0], ["messages", 0, 1]].flatMap(([kind, from, to]) =>
+        story[kind].filter(seen.isSeen).flatMap((it) => {
+            const [tail, head] = [run.edges[it.edge][from], run.edges[it.edge][to]];
+            return columns.includes(tail) || columns.includes(head) ? arrowOf(it, kind, tail, head, seen) : [];
         }));
-    const dots = stops.slice(Math.max(first, 1), end + 1).map((step) => {
-        const { kind, done, note } = run.steps[step - 1];
-        const centre = { x: x(partOf(run.steps[step - 1])), y: row(step) };
-        const said = done ? (["fire", "halt", "seal", "work"].includes(kind) ? kind : "") : `${kind}: refused`;
-        const dot = shape("circle", { cx: centre.x, cy: centre.y, r: 5 });
-        const label = word(said, centre.x + 12, centre.y, 13, "said");
-        const title = shape("title", {}, `${step}. ${eventWords(step)}${note ? ` ${note}` : ""}`);
-        return shape("g", { class: `dot${done ? "" : " refused"}${later(step)}`, "data-step": step }, title, dot, label);
-    });
-    const width = SPACE.column * columns.length;
-    const bar = shape("line", { x1: 0, y1: row(at), x2: width, y2: row(at), class: "now" });
+    const dots = stops.slice(Math.max(seen.first, 1), seen.end + 1).map((step) => dotOf(step, seen));
+    const size = { width: SPACE.column * columns.length, height: bottom + 6 };
+    const bar = shape("line", { x1: 0, y1: seen.now, x2: size.width, y2: seen.now, class: "now" });
     diagram.replaceChildren(...bands, ...lines, bar, ...arrows, ...dots, ...heads);
-    diagram.setAttribute("viewBox", `0 0 ${width} ${bottom + 6}`);
+    diagram.setAttribute("viewBox", `0 0 ${size.width} ${size.height}`);
+    keepLegible(diagram, size, SPACE.words);
+}
+
+const laterIf = (isLater) => (isLater ? " later" : "");
+
+// A spell of engagement: up to now, and pale what comes then.
+function bandOf({ vertex, from, to }, { x, row, bottom, now }) {
+    const top = Math.max(row(from), SPACE.head);
+    const until = to === undefined ? (at === last ? now : bottom) : Math.min(row(to), bottom);
+    return [[top, Math.min(until, now), false], [Math.max(top, now), until, true]]
+        .filter(([above, below]) => below > above)
+        .map(([above, below, isLater]) => shape("rect", {
+            x: x(vertex) - 11, y: above, width: 22, height: below - above, class: `band${laterIf(isLater)}`,
+        }));
+}
+
+// A message, or an acknowledgement, from one part to another. What is still on its way now ends in a box or a point.
+function arrowOf({ edge, from, to, chips }, kind, tail, head, { x, row, columns, end, now }) {
+    const isMessage = kind === "messages";
+    const hasArrived = to !== undefined && stopOf(to) <= end;
+    const start = { x: x(tail), y: Math.max(row(from), SPACE.head) };
+    // (what nobody takes comes near to its head now)
+    const stop = { x: x(head), y: hasArrived ? row(to) : start.y + Math.max(1.2 * (now - start.y), 2 * SPACE.row) };
+    // (a part without a column is named where the arrow is cut)
+    if (!columns.includes(tail)) Object.assign(start, { x: stop.x + 0.45 * SPACE.column, y: stop.y - SPACE.row });
+    if (!columns.includes(head)) Object.assign(stop, { x: start.x + 0.45 * SPACE.column, y: start.y + SPACE.row });
+    const other = columns.includes(tail) ? (columns.includes(head) ? null : head) : tail;
+    const isOnWay = columns.includes(tail) && from <= at && (to === undefined || to > at);
+    const isLater = (columns.includes(tail) ? from : to ?? from) > at;
+    const part = Math.min(0.85, Math.max(0.3, (now - start.y) / (stop.y - start.y)));
+    const here = { x: start.x + part * (stop.x - start.x), y: start.y + part * (stop.y - start.y) };
+    const line = (a, b, later) => shape("g", { class: (isMessage ? "way" : "answer-way") + laterIf(later) },
+        shape("line", { x1: a.x, y1: a.y, x2: b.x, y2: b.y, class: "line" }),
+        shape("path", { d: arrowAt(b, a, 11), class: "arrow" }));
+    const middle = { x: (start.x + stop.x) / 2, y: (start.y + stop.y) / 2 - 8 };
+    const made = isOnWay ? [...(hasArrived ? [line(here, stop, true)] : []), line(start, here, false)] : [line(start, stop, isLater)];
+    if (isMessage && isOnWay) made.push(boxOf("flight", chips.toLocaleString("en"), null, here.x, here.y, textWidth(chips, size.box)));
+    else if (isMessage) made.push(shape("g", { class: laterIf(isLater) }, word(chips, middle.x, middle.y, SPACE.words, "number")));
+    if (other !== null) {
+        const cut = other === head ? stop : start;
+        const said = `${other === head ? "to" : "from"} ${other === null ? "root" : run.names[other]}`;
+        made.push(word(said, cut.x + 6, cut.y, SPACE.words, "said"));
+    }
+    return made.map((it) => filled(it, { "data-edge": edge }, []));
+}
+
+function dotOf(step, { x, row }) {
+    const { kind, done, note } = run.steps[step - 1];
+    const centre = { x: x(partOf(run.steps[step - 1])), y: row(step) };
+    const said = done ? (["fire", "halt", "seal", "work"].includes(kind) ? kind : "") : `${kind}: refused`;
+    const dot = shape("circle", { cx: centre.x, cy: centre.y, r: 5 });
+    const label = word(said, centre.x + 12, centre.y, SPACE.words, "said");
+    const title = shape("title", {}, `${step}. ${eventWords(step)}${note ? ` ${note}` : ""}`);
+    const names = `dot${done ? "" : " refused"}${laterIf(step > at)}`;
+    return shape("g", { class: names, "data-step": step }, title, dot, label);
 }
 
 // --- The tables: the same in words
@@ -838,6 +931,7 @@ function show() {
     for (const [kind, index] of parts) showRow(kind, index);
     showWords(from);
     fit();
+    follow();
     showDiagram();
     showQuestion();
     if (run.choices) showChoices();
@@ -849,6 +943,18 @@ function fit() {
     const top = byId(byId("picture").dataset.view === "diagram" ? "diagram" : "drawing").getBoundingClientRect().top;
     const room = window.innerHeight - top - window.scrollY - 8;
     document.documentElement.style.setProperty("--room", `${Math.round(room)}px`);
+}
+
+// Scrolls each drawing that is larger than its window to the part that made the event.
+function follow() {
+    const part = at > 0 ? partOf(run.steps[at - 1]) : null;
+    for (const { drawing, root, vertices } of drawings) {
+        const room = drawing.parentElement;
+        const [seen, box] = [room, (part === null ? root : vertices[part]).group].map((it) => it.getBoundingClientRect());
+        if (box.left < seen.left || box.right > seen.right) {
+            room.scrollLeft += (box.left + box.right - seen.left - seen.right) / 2;
+        }
+    }
 }
 
 function showWords(from) {
@@ -1013,6 +1119,8 @@ function toggle(what) {
     } else {
         const picture = byId("picture");
         picture.dataset.view = picture.dataset.view === "diagram" ? "graph" : "diagram";
+        fit();
+        layOut();
     }
     goTo(at);
 }
@@ -1082,8 +1190,11 @@ function listen() {
         }
     });
     list.addEventListener("scroll", showEvents);
-    window.addEventListener("resize", showEvents);
-    window.addEventListener("resize", fit);
+    window.addEventListener("resize", () => {
+        showEvents();
+        fit();
+        layOut();
+    });
     list.addEventListener("click", (click) => {
         const row = click.target.closest("li");
         if (row) leap(Number(row.id.slice("event-".length)));
@@ -1094,8 +1205,10 @@ function listen() {
     });
     for (const it of drawings) onDrag(it.drawing);
     document.addEventListener("keydown", onKey);
-    window.addEventListener("hashchange", () => leap(Number(location.hash.slice(1)) || 0));
+    window.addEventListener("hashchange", () => leap(eventOfAddress()));
 }
+
+const eventOfAddress = () => Math.trunc(Number(location.hash.slice(1))) || 0;
 
 // (a state in the middle of a send has no choices)
 isCoarse = Boolean(run.choices);
@@ -1105,5 +1218,8 @@ makeStops();
 makeTable("root", [0]);
 makeTable("vertices", run.names.map((_, vertex) => vertex));
 makeTable("edges", shownEdges);
+fit();
+layOut();
+game.stale = allParts();
 listen();
-goTo(Number(location.hash.slice(1)) || 0);
+goTo(eventOfAddress());

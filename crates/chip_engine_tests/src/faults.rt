@@ -89,6 +89,18 @@ const FILE_TEXTS: &[&(FileFault, &str)] = &[
     &(FileFault::Vertex(0), "row 0 names no vertex"),
     &(FileFault::Repeated(2), "row 2 names a vertex again"),
     &(FileFault::Kind(5), "row 5 has no such kind"),
+    &(
+        FileFault::End(4),
+        "row 4 is at an end of a stream that another process has",
+    ),
+    &(
+        FileFault::Passive(6),
+        "row 6 sends while its process is passive",
+    ),
+    &(
+        FileFault::Woken(7),
+        "row 7 begins active, and is not the first of its process",
+    ),
     &(FileFault::Total, "there are more than 1099511627776 chips"),
     &(FileFault::Read, "a read failed"),
     &(

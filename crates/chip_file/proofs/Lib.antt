@@ -6,5 +6,6 @@ mod RowLemmas
 mod RecordLemmas
 mod ReadLemmas
 mod TraceLemmas
+mod LogLemmas
 mod FieldLemmas
 mod Worked

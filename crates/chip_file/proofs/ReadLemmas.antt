@@ -1,12 +1,13 @@
--- Serves Answer.antt, Source.antt, GraphText.antt, ChipsText.antt, ScheduleText.antt, TraceText.antt.
+-- Serves Answer.antt, Source.antt, GraphText.antt, ChipsText.antt, ScheduleText.antt, TraceText.antt,
+-- LogText.antt.
 -- What the reads of an input take of it; and that no text is at fault for its source.
 use Rattle.std.proofs.Common.{◌≡◌, ℕ, ◌⊎◌, Bool, true, false, List, [], ◌∷◌, ◌++◌, length, Option, None, Some, Result, Ok}
-use Rattle.std.proofs.Common.{Err, refl, sym, subst, inl, inr, ◌+◌, ◌≤◌, take, arith, length-append}
+use Rattle.std.proofs.Common.{Err, refl, sym, subst, inl, inr, ◌+◌, ◌≤◌, take, arith, length-append, map}
 use Rattle.std.proofs.KnownBytes.{Consumes-trans, Consumes-kept}
 use Rattle.std.proofs.lemmas.Grind.{common_steps}
 use Rattle.std.specs.Io.{ReadsAtMost}
 use Rattle.std.specs.Io.KnownBytes.{Consumes, ReadConsumes}
-use Rattle.std.specs.Prelude.{◌==◌, nat_le, ◌&&◌, is_some, sum, IfSome}
+use Rattle.std.specs.Prelude.{◌==◌, nat_le, nat_lt, ◌&&◌, is_some, sum, IfSome}
 use Rattle.std.specs.Global.{Vec}
 use Rattle.std.specs.Result.{IsErrAnd}
 use Rattle.chip_graph.specs.Limits.{SizeLimits, max_total}
@@ -29,6 +30,11 @@ use Rattle.chip_file.specs.GraphText.{IsGraphTextFault}
 use Rattle.chip_file.specs.Kinds.{kind_at}
 use Rattle.chip_file.specs.Numbers.{number_at, number_in}
 use Rattle.chip_file.specs.TraceText.{trace_text_fault, trace_row_fault}
+use Rattle.chip_file.specs.LogText.{log_text_fault, log_row_fault, lone_row_fault, placed_fault, holder, may_hold, may_begin}
+use Rattle.chip_file.specs.LogText.{log_row_in, log_kinds, most_processes, most_channels, channels_to}
+use Rattle.chip_log.specs.declared.row.LogRow.{LogRow}
+use Rattle.chip_log.specs.Log.{steps_of, is_active}
+use Rattle.chip_log.specs.Order.{may_send}
 
 -- a read into a buffer takes no more than the buffer has room for, above what was taken before it
 pub taken_more : {E : Type 0} (most : ℕ) (a b c : Option (List ℕ)) (done buf : List ℕ) (r : Result ℕ E)
@@ -104,6 +110,29 @@ schedule_of_text_alone G text = records_of_text _ (by_index (event_fault G)) (re
 pub trace_of_text_alone : (G : Multigraph) (text : List ℕ) → IsOfText (trace_text_fault G text)
 trace_of_text_alone G text = records_of_text _ (by_index (trace_row_fault G)) (records_of text)
     (λ before row. trace_row_alone G (length before) row)
+
+lone_row_alone : (limits : SizeLimits) (index : ℕ) (row : Row) → IsOfText (lone_row_fault limits index row)
+lone_row_alone limits index row =
+    first_of_text _ _ (unless_of_text (length row == 3) (fault.Row index) refl)
+    (first_of_text _ _ (unless_of_text (is_some (kind_at log_kinds 1 row)) (fault.Kind index) refl)
+    (first_of_text _ _
+    (unless_of_text (is_some (number_at 0 row) && is_some (number_at 2 row)) (fault.Number index) refl)
+    (unless_of_text (nat_lt (number_in 0 row) (most_processes limits)
+    && nat_le (channels_to (log_row_in row).step) (most_channels limits)) (fault.Vertex index) refl)))
+
+placed_alone : (index : ℕ) (log : List LogRow) (x : LogRow) → IsOfText (placed_fault index log x)
+placed_alone index log x =
+    first_of_text _ _ (unless_of_text (may_hold (holder x.step log) x.process) (fault.End index) refl)
+    (first_of_text _ _ (unless_of_text (may_send (is_active log log x.process) x.step) (fault.Passive index) refl)
+    (unless_of_text (may_begin (steps_of x.process log) x.step) (fault.Woken index) refl))
+
+log_row_alone : (limits : SizeLimits) (before : List Row) (row : Row) → IsOfText (log_row_fault limits before row)
+log_row_alone limits before row =
+    first_of_text _ _ (lone_row_alone limits (length before) row)
+    (placed_alone (length before) (map log_row_in before) (log_row_in row))
+
+pub log_of_text_alone : (limits : SizeLimits) (text : List ℕ) → IsOfText (log_text_fault limits text)
+log_of_text_alone limits text = records_of_text _ (log_row_fault limits) (records_of text) (log_row_alone limits)
 
 pub graph_of_text_alone : (limits : SizeLimits) (text : List ℕ) (f : FileFault) → IsGraphTextFault limits text f
     → is_of_source f ≡ false

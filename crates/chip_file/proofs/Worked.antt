@@ -1,14 +1,19 @@
--- Serves GraphText.antt, ChipsText.antt, DropsText.antt, GuessText.antt, ScheduleText.antt.
+-- Serves GraphText.antt, ChipsText.antt, DropsText.antt, GuessText.antt, ScheduleText.antt, TraceText.antt,
+-- LogText.antt.
 -- Worked texts, computed on the definitions.
-use Rattle.std.proofs.Common.{◌≡◌, ℕ, List, [], ◌∷◌, take, codes, None, Some, refl}
+use Rattle.std.proofs.Common.{◌≡◌, ℕ, List, [], ◌∷◌, take, codes, None, Some, refl, true, false}
 use Rattle.std.specs.Str.{is_utf8, chars}
 use Rattle.serde_json.proofs.OnLiterals.{serde_json_on_literals}
 use Rattle.csv.proofs.OnLiterals.{csv_on_literals}
 use Rattle.csv.specs.Records.{field_at}
 use Rattle.chip_graph.specs.declared.edge.Edge.{Edge}
+use Rattle.chip_graph.specs.Limits.{standard}
 use Rattle.chip_graph.specs.Multigraph.{Multigraph}
 use Rattle.chip_link.specs.declared.event.Event.TheVariants as event
 use Rattle.chip_link.specs.declared.trace.TraceRow.TheVariants as row
+use Rattle.chip_log.specs.declared.row.LogRow.{LogRow}
+use Rattle.chip_log.specs.declared.row.Step.{Step}
+use Rattle.chip_log.specs.declared.row.Step.TheVariants as step
 use Rattle.chip_file.specs.declared.fault.FileFault.TheVariants as fault
 use Rattle.chip_json.specs.GraphFile.{json_of}
 use Rattle.chip_file.specs.GraphText.{file_of_text, graph_of_text}
@@ -17,6 +22,7 @@ use Rattle.chip_file.specs.DropsText.{drops_of_text, drops_text_fault}
 use Rattle.chip_file.specs.GuessText.{guess_of_text, guess_text_fault}
 use Rattle.chip_file.specs.ScheduleText.{schedule_of_text, schedule_text_fault}
 use Rattle.chip_file.specs.TraceText.{traces_of_text, trace_text_fault}
+use Rattle.chip_file.specs.LogText.{log_of_text, log_text_fault, stream}
 
 abbrev edge : ℕ → ℕ → ℕ → Edge
 edge tail head mult = record { tail = tail; head = head; mult = mult }
@@ -111,3 +117,28 @@ traces :
     × (trace_text_fault triangle_graph (codes "vertex,kind,edge,count\n3,fire,0,1\n") ≡ Some (fault.Vertex 0))
 unfolding csv_on_literals field_at
 traces = (refl, refl, refl, refl, refl, refl)
+
+abbrev did : ℕ → Step → LogRow
+did process step = record { process = process; step = step }
+
+-- the log of a detector of two processes, which have not their least numbers; and nothing logged; and
+-- the refusals of a log's rows: each before those after it
+logs :
+    (log_of_text standard (codes "process,kind,channel\n2,active,9\n2,send,3\n0,receive,3\n2,passive,9\n0,tell,5\n2,hear,5\n2,over,9\n")
+    ≡ Some (
+      did 2 step.Active ∷ did 2 (step.Out (stream false 3)) ∷ did 0 (step.In (stream false 3)) ∷ did 2 step.Passive
+          ∷ did 0 (step.Out (stream true 5)) ∷ did 2 (step.In (stream true 5)) ∷ did 2 step.Over ∷ [],
+      record { processes = 3; channels = 6 },
+    ))
+    × (log_of_text standard (codes "process,kind,channel") ≡ Some ([], record { processes = 0; channels = 0 }))
+    × (log_text_fault standard (codes "process,kind\n0,over\n") ≡ Some fault.Header)
+    × (log_text_fault standard (codes "process,kind,channel\nx,claim\n") ≡ Some (fault.Row 0))
+    × (log_text_fault standard (codes "process,kind,channel\nx,claim,0\n") ≡ Some (fault.Kind 0))
+    × (log_text_fault standard (codes "process,kind,channel\n8192,send,\n") ≡ Some (fault.Number 0))
+    × (log_text_fault standard (codes "process,kind,channel\n8191,tell,131071\n8192,over,0\n") ≡ Some (fault.Vertex 1))
+    × (log_text_fault standard (codes "process,kind,channel\n0,tell,131072\n") ≡ Some (fault.Vertex 0))
+    × (log_text_fault standard (codes "process,kind,channel\n0,active,0\n0,send,1\n1,send,1\n") ≡ Some (fault.End 2))
+    × (log_text_fault standard (codes "process,kind,channel\n0,hear,1\n0,tell,1\n0,send,1\n") ≡ Some (fault.Passive 2))
+    × (log_text_fault standard (codes "process,kind,channel\n0,over,0\n0,active,0\n") ≡ Some (fault.Woken 1))
+unfolding csv_on_literals field_at
+logs = (refl, refl, refl, refl, refl, refl, refl, refl, refl, refl, refl)

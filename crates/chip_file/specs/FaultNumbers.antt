@@ -22,6 +22,9 @@ file_fault_number (file.Repeated row) = 27
 file_fault_number (file.Kind row) = 28
 file_fault_number file.Read = 29
 file_fault_number file.TooLong = 30
+file_fault_number (file.End row) = 31
+file_fault_number (file.Passive row) = 32
+file_fault_number (file.Woken row) = 33
 file_fault_number file.NoMemory = 90
 
 -- the row that a fault of a file names, or what its fault of a graph does
@@ -32,4 +35,7 @@ file_fault_place (file.Number row) = Some row
 file_fault_place (file.Vertex row) = Some row
 file_fault_place (file.Repeated row) = Some row
 file_fault_place (file.Kind row) = Some row
+file_fault_place (file.End row) = Some row
+file_fault_place (file.Passive row) = Some row
+file_fault_place (file.Woken row) = Some row
 file_fault_place _ = None

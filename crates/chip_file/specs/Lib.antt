@@ -16,3 +16,5 @@ pub mod GuessText
 pub mod Kinds
 pub mod TraceText
 pub mod ScheduleText
+pub mod LogText
+pub mod LogSoFar

@@ -30,6 +30,12 @@ pub enum FileFault {
     Repeated(u64),
     #[error("row {0} has no such kind")]
     Kind(u64),
+    #[error("row {0} is at an end of a stream that another process has")]
+    End(u64),
+    #[error("row {0} sends while its process is passive")]
+    Passive(u64),
+    #[error("row {0} begins active, and is not the first of its process")]
+    Woken(u64),
     #[error("there are more than 1099511627776 chips")]
     Total,
     #[error("a read failed")]
@@ -62,6 +68,9 @@ impl FileFault {
             FileFault::Kind(_) => 28,
             FileFault::Read => 29,
             FileFault::TooLong => 30,
+            FileFault::End(_) => 31,
+            FileFault::Passive(_) => 32,
+            FileFault::Woken(_) => 33,
             FileFault::NoMemory => 90,
         }
     }
@@ -76,7 +85,10 @@ impl FileFault {
             | FileFault::Number(row)
             | FileFault::Vertex(row)
             | FileFault::Repeated(row)
-            | FileFault::Kind(row) => Some(*row),
+            | FileFault::Kind(row)
+            | FileFault::End(row)
+            | FileFault::Passive(row)
+            | FileFault::Woken(row) => Some(*row),
             _ => None,
         }
     }

@@ -1,9 +1,10 @@
-//! Readers of the files that chipfire takes: graphs as JSON; chips, drops, guesses, schedules and traces as rows of CSV.
+//! Readers of the files that chipfire takes: graphs as JSON; chips, drops, guesses, logs, schedules and traces as rows of
+//! CSV.
 //!
 //! `read_source` takes the whole of an input, and a function from bytes then answers what they mean, or the first thing
 //! wrong with them. What a text means is a definition: of a graph over the value that `serde_json` reads
 //! (`specs/GraphText.antt`), of rows over the records that `csv` gives (`specs/ChipsText.antt`, `specs/DropsText.antt`,
-//! `specs/GuessText.antt`, `specs/ScheduleText.antt`, `specs/TraceText.antt`). Contracts speak of readers that tell their
+//! `specs/GuessText.antt`, `specs/LogText.antt`, `specs/ScheduleText.antt`, `specs/TraceText.antt`). Contracts speak of readers that tell their
 //! bytes, as a slice does. `docs/FORMATS.md` shows the files.
 #![tactic(auto)]
 
@@ -12,6 +13,7 @@ pub use drops::drops_of_text;
 pub use fault::FileFault;
 pub use graph::{graph_of_source, graph_of_text, read_graph_within};
 pub use guess::guess_of_text;
+pub use log::{Log, log_of_source, log_of_text, read_log_within};
 pub use schedule::{read_schedule_within, schedule_of_source, schedule_of_text};
 pub use source::{LastRead, Source};
 pub use standard::{read_chips, read_graph, read_schedule, read_trace, read_whole};
@@ -24,6 +26,7 @@ mod fault;
 mod graph;
 mod guess;
 mod kind;
+mod log;
 mod number;
 mod rows;
 mod schedule;

@@ -4,7 +4,7 @@ ghost use Rattle.chip_file.specs.Source.{IsFresh};
 
 use chip_file::{
     FileFault, LastRead, Source, chips_of_source, chips_of_text, drops_of_text, graph_of_source,
-    graph_of_text, guess_of_text, read_chips, read_chips_within, read_graph, read_graph_within,
+    graph_of_text, guess_of_text, log_of_source, read_chips, read_chips_within, read_graph, read_graph_within,
     read_schedule_within, read_source, read_trace_within, read_whole, read_whole_within,
     schedule_of_source, schedule_of_text, trace_of_source, trace_of_text,
 };
@@ -413,11 +413,12 @@ fn tells(source: &Source<'_, Slow<'_>>, bytes: usize, last: LastRead) -> bool {
 }
 
 /// A text of each kind, for the triangle.
-const TEXTS: [&str; 4] = [
+const TEXTS: [&str; 5] = [
     TRIANGLE,
     "vertex,chips\n2,3\n",
     "event,at,count\nend,0,0\n",
     "vertex,kind,edge,count\n0,fire,0,1\n",
+    "process,kind,channel\n0,over,0\n",
 ];
 
 /// What reading a source as this kind of text answers: none, or its fault.
@@ -437,7 +438,8 @@ fn fault_of_source(
         0 => graph_of_source(alloc, limits, source).err(),
         1 => chips_of_source(alloc, limits, source, 3).err(),
         2 => schedule_of_source(alloc, limits, source, &graph).err(),
-        _ => trace_of_source(alloc, limits, source, &graph).err(),
+        3 => trace_of_source(alloc, limits, source, &graph).err(),
+        _ => log_of_source(alloc, limits, source).err(),
     }
 }
 

@@ -6,6 +6,8 @@ mod file;
 #[cfg(test)]
 mod largest;
 #[cfg(test)]
+mod logs;
+#[cfg(test)]
 mod report;
 #[cfg(test)]
 mod runs;

@@ -1,0 +1,444 @@
+-- Serves LogText.antt, LogSoFar.antt.
+-- How one row after another gives a log, and what holds of it.
+use Rattle.std.proofs.Common.{◌≡◌, ◌≢◌, ℕ, zero, suc, ◌+◌, ◌*◌, ◌≤◌, ◌<◌, max, Bool, true, false, cond, List, [], ◌∷◌}
+use Rattle.std.proofs.Common.{◌++◌, length, map, Option, None, Some, refl, ap, sym, ◌∙◌, subst, arith, append-nil, All}
+use Rattle.std.specs.Prelude.{◌==◌, ◌&&◌, not, is_some, unwrap_or, slice_index_or, if◌then◌else◌}
+use Rattle.std.proofs.lemmas.Bool.{eqb-true}
+use Rattle.std.proofs.lemmas.List.{map_push, length-map}
+use Rattle.std.proofs.lemmas.List.Elements.{All-nil, All-cons}
+use Rattle.std.proofs.lemmas.Bool.Decides.{nat_tests}
+use Rattle.std.proofs.lemmas.Grind.{common_steps}
+use Rattle.csv.specs.declared.parser.Config.{Config}
+use Rattle.csv.specs.declared.parser.State.{State}
+use Rattle.csv.specs.declared.parser.State.TheVariants as st
+use Rattle.csv.specs.Machine.{Read, next_record}
+use Rattle.csv.specs.Reading.{records_from, records_next, strip_bom, is_bom, default_config}
+use Rattle.chip_graph.specs.Limits.{SizeLimits}
+use Rattle.chip_graph.specs.Faults.{first_of_faults, fault_unless}
+use Rattle.chip_log.specs.declared.past.Sizes.{Sizes}
+use Rattle.chip_log.specs.declared.row.LogRow.{LogRow}
+use Rattle.chip_log.specs.declared.row.Stream.{Stream}
+use Rattle.chip_log.specs.declared.row.Step.{Step}
+use Rattle.chip_log.specs.declared.row.Step.TheVariants.{Out, In, Passive, Active, Over}
+use Rattle.chip_log.specs.Log.{steps_of, same_stream, sends, gets, active_after, begins_active, is_active}
+use Rattle.chip_log.specs.Order.{AreSent, IsWellFormed, may_send}
+use Rattle.chip_log.specs.Past.{Fits, FitsRow}
+use Rattle.chip_log.proofs.CountLemmas.{steps_of-append, sends-append, gets-append, active_after-append, same_stream_is}
+use Rattle.chip_file.specs.declared.fault.FileFault.{FileFault}
+use Rattle.chip_file.specs.declared.log.LogSoFar.{LogSoFar}
+use Rattle.chip_file.specs.Rows.{Row, records_of, rows_under_header}
+use Rattle.chip_file.specs.LogText.{channels_to, processes_of, channels_of, sizes_of, same_end, holder, may_hold}
+use Rattle.chip_file.specs.LogText.{may_begin, lone_row_fault, placed_fault, log_row_fault, log_row_in}
+use Rattle.chip_file.specs.LogSoFar.{Notes, end_number, activity, active_behind, AreHolders, AreActive, IsPlaced, IsSound}
+use Rattle.chip_file.specs.LogSoFar.{IsSoFar}
+
+-- ---- what a row without a fault does
+
+unless_none : (b : Bool) (f : FileFault) → fault_unless b f ≡ None → b ≡ true
+unless_none true f e = refl
+unless_none false f e = cc e
+
+first_none : (first later : Option FileFault) → first_of_faults first later ≡ None → (first ≡ None) × (later ≡ None)
+first_none None later e = (refl, e)
+first_none (Some f) later e = cc e
+
+pub is_placed : (index : ℕ) (log : List LogRow) (x : LogRow) → placed_fault index log x ≡ None → IsPlaced log x
+is_placed index log x e =
+    let first = first_none _ _ e in
+    let rest = first_none _ _ first.1 in
+    record { holds = unless_none _ _ first.0; sends = unless_none _ _ rest.0; begins = unless_none _ _ rest.1 }
+
+-- ---- sizes
+
+pub processes_of-push : (log : List LogRow) (x : LogRow)
+    → processes_of (log ++ x ∷ []) ≡ max (processes_of log) (x.process + 1)
+processes_of-push [] x = omega arith
+processes_of-push (y ∷ log) x = let more = processes_of-push log x in omega arith
+
+pub channels_of-push : (log : List LogRow) (x : LogRow)
+    → channels_of (log ++ x ∷ []) ≡ max (channels_of log) (channels_to x.step)
+channels_of-push [] x = omega arith
+channels_of-push (y ∷ log) x = let more = channels_of-push log x in omega arith
+
+same_sizes : (a : Sizes) (p c : ℕ) → a.processes ≡ p → a.channels ≡ c → a ≡ record { processes = p; channels = c }
+same_sizes a p c processes channels = rw (← processes, ← channels) refl
+
+fits_step : (sizes : Sizes) (p : ℕ) (step : Step) → p + 1 ≤ sizes.processes → channels_to step ≤ sizes.channels
+    → FitsRow sizes (record { process = p; step = step })
+fits_step sizes p (Out s) low few = record { process = omega arith; channel = omega arith }
+fits_step sizes p (In s) low few = record { process = omega arith; channel = omega arith }
+fits_step sizes p Passive low few = record { process = omega arith; channel = tt }
+fits_step sizes p Active low few = record { process = omega arith; channel = tt }
+fits_step sizes p Over low few = record { process = omega arith; channel = tt }
+
+fits_within : (sizes : Sizes) (log : List LogRow) → processes_of log ≤ sizes.processes → channels_of log ≤ sizes.channels
+    → Fits sizes log
+fits_within sizes [] low few = All-nil (FitsRow sizes)
+fits_within sizes (x ∷ log) low few =
+    All-cons (FitsRow sizes) x log (fits_step sizes x.process x.step (omega arith) (omega arith))
+    (fits_within sizes log (omega arith) (omega arith))
+
+-- ---- ends of streams
+
+same_end_is : (a b : Step) → same_end a b ≡ true → a ≡ b
+same_end_is (Out s) (Out t) e = ap Out (same_stream_is s t e)
+same_end_is (In s) (In t) e = ap In (same_stream_is s t e)
+same_end_is (Out s) (In t) e = cc e
+same_end_is (Out s) Passive e = cc e
+same_end_is (Out s) Active e = cc e
+same_end_is (Out s) Over e = cc e
+same_end_is (In s) (Out t) e = cc e
+same_end_is (In s) Passive e = cc e
+same_end_is (In s) Active e = cc e
+same_end_is (In s) Over e = cc e
+same_end_is Passive b e = cc e
+same_end_is Active b e = cc e
+same_end_is Over b e = cc e
+
+push_by : (b : Bool) (p : ℕ) (a more last : Option ℕ) → more ≡ (if is_some a then a else last)
+    → (if b then Some p else more) ≡ (if is_some (if b then Some p else a) then (if b then Some p else a) else last)
+push_by true p a more last h = refl
+push_by false p a more last h = h
+
+pub holder-push : (step : Step) (log : List LogRow) (x : LogRow)
+    → holder step (log ++ x ∷ []) ≡ (if is_some (holder step log) then holder step log
+    else (if same_end step x.step then Some x.process else None))
+holder-push step [] x = refl
+holder-push step (y ∷ log) x = push_by (same_end step y.step) y.process (holder step log)
+    (holder step (log ++ x ∷ [])) _ (holder-push step log x)
+
+-- the numbers of two ends are equal if they are one
+same_number : (c d : ℕ) (a b : Bool)
+    → (4 * d + (if b then 1 else 0) == 4 * c + (if a then 1 else 0)) ≡ (c == d && (if a then b else not b))
+same_number c d true true = grind (arith, nat_tests)
+same_number c d true false = grind (arith, nat_tests)
+same_number c d false true = grind (arith, nat_tests)
+same_number c d false false = grind (arith, nat_tests)
+
+same_number_in : (c d : ℕ) (a b : Bool)
+    → (4 * d + (if b then 3 else 2) == 4 * c + (if a then 3 else 2)) ≡ (c == d && (if a then b else not b))
+same_number_in c d true true = grind (arith, nat_tests)
+same_number_in c d true false = grind (arith, nat_tests)
+same_number_in c d false true = grind (arith, nat_tests)
+same_number_in c d false false = grind (arith, nat_tests)
+
+other_number : (c d : ℕ) (a b : Bool) → (4 * d + (if b then 3 else 2) == 4 * c + (if a then 1 else 0)) ≡ false
+other_number c d true true = grind (arith, nat_tests)
+other_number c d true false = grind (arith, nat_tests)
+other_number c d false true = grind (arith, nat_tests)
+other_number c d false false = grind (arith, nat_tests)
+
+other_number_in : (c d : ℕ) (a b : Bool) → (4 * d + (if b then 1 else 0) == 4 * c + (if a then 3 else 2)) ≡ false
+other_number_in c d true true = grind (arith, nat_tests)
+other_number_in c d true false = grind (arith, nat_tests)
+other_number_in c d false true = grind (arith, nat_tests)
+other_number_in c d false false = grind (arith, nat_tests)
+
+number_is : (x y : ℕ) → Some x ≡ Some y → y ≡ x
+number_is x y e = cc e
+
+number_of_end : (a b : Step) (e f : ℕ) → end_number a ≡ Some e → end_number b ≡ Some f → (f == e) ≡ same_end a b
+number_of_end (Out s) (Out t) e f g h =
+    rw (number_is _ _ g, number_is _ _ h) (same_number s.channel t.channel s.is_control t.is_control)
+number_of_end (Out s) (In t) e f g h =
+    rw (number_is _ _ g, number_is _ _ h) (other_number s.channel t.channel s.is_control t.is_control)
+number_of_end (In s) (Out t) e f g h =
+    rw (number_is _ _ g, number_is _ _ h) (other_number_in s.channel t.channel s.is_control t.is_control)
+number_of_end (In s) (In t) e f g h =
+    rw (number_is _ _ g, number_is _ _ h) (same_number_in s.channel t.channel s.is_control t.is_control)
+number_of_end (Out s) Passive e f g h = cc h
+number_of_end (Out s) Active e f g h = cc h
+number_of_end (Out s) Over e f g h = cc h
+number_of_end (In s) Passive e f g h = cc h
+number_of_end (In s) Active e f g h = cc h
+number_of_end (In s) Over e f g h = cc h
+number_of_end Passive b e f g h = cc g
+number_of_end Active b e f g h = cc g
+number_of_end Over b e f g h = cc g
+
+no_end : (a b : Step) → end_number b ≡ None → same_end a b ≡ false
+no_end (Out s) (Out t) h = cc h
+no_end (Out s) (In t) h = cc h
+no_end (In s) (Out t) h = cc h
+no_end (In s) (In t) h = cc h
+no_end (Out s) Passive h = refl
+no_end (Out s) Active h = refl
+no_end (Out s) Over h = refl
+no_end (In s) Passive h = refl
+no_end (In s) Active h = refl
+no_end (In s) Over h = refl
+no_end Passive b h = refl
+no_end Active b h = refl
+no_end Over b h = refl
+
+pub no_holder : (step : Step) (log : List LogRow) → end_number step ≡ None → holder step log ≡ None
+no_holder step [] none = refl
+no_holder (Out s) (x ∷ log) none = cc none
+no_holder (In s) (x ∷ log) none = cc none
+no_holder Passive (x ∷ log) none = no_holder Passive log refl
+no_holder Active (x ∷ log) none = no_holder Active log refl
+no_holder Over (x ∷ log) none = no_holder Over log refl
+
+-- who has an end behind one more row, where that is no fault
+abbrev IsHeld : Bool → ℕ → Option ℕ → Type 0
+IsHeld b p h = b ≡ true → may_hold h p ≡ true
+
+held_by : (b : Bool) (p : ℕ) (h : Option ℕ) → IsHeld b p h
+    → (if b then Some p else h) ≡ (if is_some h then h else (if b then Some p else None))
+held_by true p None free = refl
+held_by true p (Some q) free = ap Some (sym (eqb-true q p (free refl)))
+held_by false p None free = refl
+held_by false p (Some q) free = refl
+
+is_held : (log : List LogRow) (x : LogRow) (step : Step) → may_hold (holder x.step log) x.process ≡ true
+    → IsHeld (same_end step x.step) x.process (holder step log)
+is_held log x step free same = rw (same_end_is step x.step same) free
+
+pub holders_noted : (log : List LogRow) (x : LogRow) (end : ℕ) (old new : List (Option ℕ)) → AreHolders log old
+    → end_number x.step ≡ Some end → Notes end x.process old new → may_hold (holder x.step log) x.process ≡ true
+    → AreHolders (log ++ x ∷ []) new
+holders_noted log x end old new are at noted free step e is =
+    noted e ∙ rw (number_of_end step x.step e end is at, are step e is)
+    (held_by (same_end step x.step) x.process (holder step log) (is_held log x step free))
+    ∙ sym (holder-push step log x)
+
+none_by : (b : Bool) (p : ℕ) (h : Option ℕ) → b ≡ false → h ≡ (if is_some h then h else (if b then Some p else None))
+none_by true p h e = cc e
+none_by false p None e = refl
+none_by false p (Some q) e = refl
+
+pub holders_kept : (log : List LogRow) (x : LogRow) (old : List (Option ℕ)) → AreHolders log old → end_number x.step ≡ None
+    → AreHolders (log ++ x ∷ []) old
+holders_kept log x old are none step e is =
+    are step e is ∙ none_by (same_end step x.step) x.process (holder step log) (no_end step x.step none)
+    ∙ sym (holder-push step log x)
+
+-- ---- activity
+
+begins_more : (first : Step) (xs ys : List Step) → begins_active (first ∷ xs) ≡ begins_active (first ∷ ys)
+begins_more (Out s) xs ys = refl
+begins_more (In s) xs ys = refl
+begins_more Passive xs ys = refl
+begins_more Active xs ys = refl
+begins_more Over xs ys = refl
+
+pub active_known : (steps : List Step) → unwrap_or (activity steps) false ≡ active_after (begins_active steps) steps
+active_known [] = refl
+active_known (step ∷ steps) = refl
+
+first_behind : (step : Step) → activity (step ∷ []) ≡ Some (active_behind None step)
+first_behind (Out s) = refl
+first_behind (In s) = refl
+first_behind Passive = refl
+first_behind Active = refl
+first_behind Over = refl
+
+later_behind : (was : Bool) (first step : Step) (rest : List Step) → may_begin (first ∷ rest) step ≡ true
+    → active_after was (step ∷ []) ≡ active_behind (Some was) step
+later_behind was first (Out s) rest may = refl
+later_behind was first (In s) rest may = refl
+later_behind was first Passive rest may = refl
+later_behind was first Active rest may = cc may
+later_behind was first Over rest may = refl
+
+activity-push : (steps : List Step) (step : Step) → may_begin steps step ≡ true
+    → activity (steps ++ step ∷ []) ≡ Some (active_behind (activity steps) step)
+activity-push [] step may = first_behind step
+activity-push (first ∷ rest) step may =
+    let began = begins_active (first ∷ rest) in
+    ap (λ b. Some (active_after b (first ∷ (rest ++ step ∷ [])))) (begins_more first (rest ++ step ∷ []) rest)
+    ∙ ap Some (active_after-append began (first ∷ rest) (step ∷ [])
+    ∙ later_behind (active_after began (first ∷ rest)) first step rest may)
+
+active_by : (b : Bool) (was : Bool) (step : Step) (steps : List Step) (h : Option Bool) → h ≡ activity steps
+    → (b ≡ true → Some was ≡ activity (steps ++ step ∷ []))
+    → (if b then Some was else h) ≡ activity (steps ++ (if b then step ∷ [] else []))
+active_by true was step steps h same now = now refl
+active_by false was step steps h same now = rw append-nil same
+
+pub active_noted : (log : List LogRow) (x : LogRow) (now : Bool) (old new : List (Option Bool)) → AreActive log old
+    → may_begin (steps_of x.process log) x.step ≡ true
+    → now ≡ active_behind (slice_index_or old x.process None) x.step → Notes x.process now old new
+    → AreActive (log ++ x ∷ []) new
+active_noted log x now old new are may behind noted p =
+    noted p ∙ active_by (x.process == p) now x.step (steps_of p log) _ (are p)
+    (λ own. rw (← eqb-true x.process p own, behind, are x.process)
+    (sym (activity-push (steps_of x.process log) x.step may)))
+    ∙ ap activity (sym (steps_of-append p log (x ∷ [])))
+
+-- ---- what holds of the rows
+
+held_before : (end : Step) (log : List LogRow) (x : LogRow) (p : ℕ) → holder end log ≡ Some p
+    → holder end (log ++ x ∷ []) ≡ Some p
+held_before end log x p e = rw (holder-push end log x, e) refl
+
+-- a row at an end has it
+held_now : (end : Step) (log : List LogRow) (x : LogRow) → may_hold (holder x.step log) x.process ≡ true
+    → same_end end x.step ≡ true → holder end (log ++ x ∷ []) ≡ Some x.process
+held_now end log x free same =
+    (rw same at (holder-push end log x))
+    ∙ sym (rw same at (held_by (same_end end x.step) x.process (holder end log) (is_held log x end free)))
+
+-- counts of the messages at an end, of a process that does not have it
+abbrev IsUnused : Step → (List Step → ℕ) → List LogRow → Type 0
+IsUnused end count log = (p : ℕ) → (holder end log ≡ Some p → ⊥) → count (steps_of p log) ≡ 0
+
+unused_by : (own at_end : Bool) (count : List Step → ℕ) (steps : List Step) (step : Step) → count steps ≡ 0
+    → count (steps ++ step ∷ []) ≡ count steps + (if at_end then 1 else 0) → (own ≡ true → at_end ≡ true → ⊥)
+    → count (steps ++ (if own then step ∷ [] else [])) ≡ 0
+unused_by true true count steps step none more never = absurd (never refl refl)
+unused_by true false count steps step none more never = omega arith
+unused_by false at_end count steps step none more never = rw append-nil none
+
+unused_push : (end : Step) (count : List Step → ℕ) (log : List LogRow) (x : LogRow)
+    → ((steps : List Step) → count (steps ++ x.step ∷ []) ≡ count steps + (if same_end end x.step then 1 else 0))
+    → may_hold (holder x.step log) x.process ≡ true → IsUnused end count log → IsUnused end count (log ++ x ∷ [])
+unused_push end count log x more free unused p other =
+    ap count (steps_of-append p log (x ∷ []))
+    ∙ unused_by (x.process == p) (same_end end x.step) count (steps_of p log) x.step
+    (unused p (λ e. other (held_before end log x p e))) (more (steps_of p log))
+    (λ own same. other (held_now end log x free same ∙ ap Some (eqb-true x.process p own)))
+
+sends_more : (s : Stream) (step : Step) (steps : List Step)
+    → sends s (steps ++ step ∷ []) ≡ sends s steps + (if same_end (Out s) step then 1 else 0)
+sends_more s step steps = let a = sends-append s steps (step ∷ []) in omega arith
+
+gets_more : (s : Stream) (step : Step) (steps : List Step)
+    → gets s (steps ++ step ∷ []) ≡ gets s steps + (if same_end (In s) step then 1 else 0)
+gets_more s step steps = let a = gets-append s steps (step ∷ []) in omega arith
+
+AreSent-push : (b : Bool) (steps : List Step) (step : Step) → AreSent b steps
+    → may_send (active_after b steps) step ≡ true → AreSent b (steps ++ step ∷ [])
+AreSent-push b [] step sent may = (may, tt)
+AreSent-push b (first ∷ steps) step sent may = (
+  sent.0,
+  AreSent-push (active_after b (first ∷ [])) steps step sent.1
+      (rw (active_after-append b (first ∷ []) steps) at may),
+)
+
+first_sent : (step : Step) → may_send false step ≡ true → may_send (begins_active (step ∷ [])) step ≡ true
+first_sent (Out s) may = may
+first_sent (In s) may = refl
+first_sent Passive may = refl
+first_sent Active may = refl
+first_sent Over may = refl
+
+sent_more : (steps : List Step) (step : Step) → AreSent (begins_active steps) steps
+    → may_send (active_after (begins_active steps) steps) step ≡ true
+    → AreSent (begins_active (steps ++ step ∷ [])) (steps ++ step ∷ [])
+sent_more [] step sent may = (first_sent step may, tt)
+sent_more (first ∷ rest) step sent may =
+    subst (λ (b : Bool). AreSent b ((first ∷ rest) ++ step ∷ [])) (begins_more first rest (rest ++ step ∷ []))
+    (AreSent-push (begins_active (first ∷ rest)) (first ∷ rest) step sent may)
+
+sent_by : (own : Bool) (steps : List Step) (step : Step) → AreSent (begins_active steps) steps
+    → (own ≡ true → may_send (active_after (begins_active steps) steps) step ≡ true)
+    → AreSent (begins_active (steps ++ (if own then step ∷ [] else []))) (steps ++ (if own then step ∷ [] else []))
+sent_by true steps step sent may = sent_more steps step sent (may refl)
+sent_by false steps step sent may = rw append-nil sent
+
+pub sound_none : IsSound []
+sound_none = record { sends = λ s p other. refl; gets = λ s p other. refl; sent = λ p. tt }
+
+pub sound_push : (log : List LogRow) (x : LogRow) → IsSound log → IsPlaced log x → IsSound (log ++ x ∷ [])
+sound_push log x sound placed = record {
+  sends = λ s. unused_push (Out s) (sends s) log x (sends_more s x.step) placed.holds (sound.sends s);
+  gets = λ s. unused_push (In s) (gets s) log x (gets_more s x.step) placed.holds (sound.gets s);
+  sent = λ p. rw (steps_of-append p log (x ∷ [])) (sent_by (x.process == p) (steps_of p log) x.step (sound.sent p)
+      (λ own. rw (← eqb-true x.process p own) placed.sends));
+}
+
+-- ---- one more row
+
+pub none_so_far : (s : LogSoFar) → s.log.rows.items ≡ [] → s.log.sizes ≡ record { processes = 0; channels = 0 }
+    → s.holders.items ≡ [] → s.active.items ≡ [] → IsSoFar [] s
+none_so_far s rows sizes holders active = record {
+  rows = rows;
+  sizes = sizes;
+  holders = λ step e is. rw holders refl;
+  active = λ p. rw active refl;
+  sound = sound_none;
+}
+
+pub one_more : (log : List LogRow) (x : LogRow) (old new : LogSoFar) → IsSoFar log old → IsPlaced log x
+    → new.log.rows.items ≡ old.log.rows.items ++ x ∷ []
+    → new.log.sizes.processes ≡ max old.log.sizes.processes (x.process + 1)
+    → new.log.sizes.channels ≡ max old.log.sizes.channels (channels_to x.step)
+    → AreHolders (log ++ x ∷ []) new.holders.items → AreActive (log ++ x ∷ []) new.active.items
+    → IsSoFar (log ++ x ∷ []) new
+one_more log x old new is placed rows processes channels holders active = record {
+  rows = rows ∙ ap (λ xs. xs ++ x ∷ []) is.rows;
+  sizes = same_sizes _ _ _
+      (processes ∙ ap (λ (z : Sizes). max z.processes (x.process + 1)) is.sizes ∙ sym (processes_of-push log x))
+      (channels ∙ ap (λ (z : Sizes). max z.channels (channels_to x.step)) is.sizes ∙ sym (channels_of-push log x));
+  holders = holders;
+  active = active;
+  sound = sound_push log x is.sound placed;
+}
+
+first_of : (first later : Option FileFault) → first ≡ None → later ≡ None → first_of_faults first later ≡ None
+first_of None later e h = h
+first_of (Some f) later e h = cc e
+
+pub visited : (limits : SizeLimits) (index : ℕ) (before : List Row) (row : Row) (x : LogRow) (new : LogSoFar)
+    → length before ≡ index → lone_row_fault limits index row ≡ None → x ≡ log_row_in row
+    → placed_fault index (map log_row_in before) x ≡ None → IsSoFar (map log_row_in before ++ x ∷ []) new
+    → (log_row_fault limits before row ≡ None) × IsSoFar (map log_row_in (before ++ row ∷ [])) new
+visited limits index before row x new counted alone same placed is = (
+  rw counted (first_of (lone_row_fault limits index row) (placed_fault index (map log_row_in before) (log_row_in row)) alone
+      (rw same at placed)),
+  rw (map_push log_row_in before row) (rw same at is),
+)
+
+-- what the reader promises of a log
+pub well_formed : (log : List LogRow) (s : LogSoFar) → IsSoFar log s → IsWellFormed s.log.sizes s.log.rows.items
+well_formed log s is =
+    rw (is.rows, is.sizes) (record {
+      ends = record {
+        sender = λ s. unwrap_or (holder (Out s) log) 0;
+        receiver = λ s. unwrap_or (holder (In s) log) 0;
+        sends = λ s p other. is.sound.sends s p (λ e. other (sym (ap (λ q. unwrap_or q 0) e)));
+        gets = λ s p other. is.sound.gets s p (λ e. other (sym (ap (λ q. unwrap_or q 0) e)));
+      };
+      sent = is.sound.sent;
+      fits = fits_within (sizes_of log) log (omega arith) (omega arith);
+    })
+
+-- ---- a text has fewer rows than bytes
+
+next_few : (more : State → List ℕ → List Row) (o : Option Read) (n : ℕ)
+    → ((s : State) (xs : List ℕ) → length (more s xs) ≤ n) → length (records_next more o) ≤ n + 1
+next_few more None n few = omega arith
+next_few more (Some p) n few = let rest = few p.1 p.2 in omega arith
+
+turns_few : (cfg : Config) (n : ℕ) (s : State) (xs : List ℕ) → length (records_from cfg n s xs) ≤ n
+unfolding records_from
+turns_few cfg zero s xs = omega arith
+turns_few cfg (suc n) s xs =
+    let few = next_few (records_from cfg n) (next_record cfg s [] [] xs) n (turns_few cfg n) in omega arith
+
+strip_by : (b : Bool) (x y z : ℕ) (rest : List ℕ)
+    → length (if b then rest else x ∷ y ∷ z ∷ rest) ≤ length (x ∷ y ∷ z ∷ rest)
+strip_by true x y z rest = omega arith
+strip_by false x y z rest = omega arith
+
+strip_few : (text : List ℕ) → length (strip_bom text) ≤ length text
+unfolding strip_bom
+strip_few [] = omega arith
+strip_few (a ∷ []) = omega arith
+strip_few (a ∷ b ∷ []) = omega arith
+strip_few (a ∷ b ∷ c ∷ rest) = strip_by (is_bom a b c) a b c rest
+
+under_few : (records : List Row) (n : ℕ) → length records ≤ n + 1 → length (rows_under_header records) ≤ n
+under_few [] n few = omega arith
+under_few (row ∷ rows) n few = omega arith
+
+rows_few : (text : List ℕ) → length (rows_under_header (records_of text)) ≤ length text
+rows_few text =
+    let few = under_few (records_of text) (length (strip_bom text))
+    (turns_few default_config (length (strip_bom text) + 1) st.StartRecord (strip_bom text)) in
+    let less = strip_few text in omega arith
+
+pub log_few : (text : List ℕ) (log : List LogRow) → log ≡ map log_row_in (rows_under_header (records_of text))
+    → length log ≤ length text
+log_few text log e = rw (e, length-map) (rows_few text)

@@ -1,0 +1,63 @@
+-- What is known of the rows of a log so far.
+use Rattle.std.specs.Prelude.{◌≡◌, ℕ, ◌+◌, ◌*◌, ◌==◌, Bool, if◌then◌else◌, List, [], ◌∷◌, slice_index_or}
+use Rattle.std.specs.Prelude.{Option, None, Some, unwrap_or, true, false}
+use Rattle.chip_log.specs.declared.row.LogRow.{LogRow}
+use Rattle.chip_log.specs.declared.row.Step.{Step}
+use Rattle.chip_log.specs.declared.row.Step.TheVariants as step
+use Rattle.chip_log.specs.declared.row.Stream.{Stream}
+use Rattle.chip_log.specs.Log.{steps_of, sends, gets, active_after, begins_active, is_active}
+use Rattle.chip_log.specs.Order.{AreSent, may_send}
+use Rattle.chip_file.specs.declared.log.LogSoFar.{LogSoFar}
+use Rattle.chip_file.specs.LogText.{holder, may_hold, may_begin, sizes_of}
+
+-- a list of numbers or marks, of which one is changed or new
+abbrev pub Notes : {T : Type 0} → ℕ → T → List (Option T) → List (Option T) → Type 0
+Notes place value old new =
+    (i : ℕ) → slice_index_or new i None ≡ (if place == i then Some value else slice_index_or old i None)
+
+-- the number of the end of a stream at which a step is
+abbrev pub end_number : Step → Option ℕ
+end_number (step.Out s) = Some (4 * s.channel + (if s.is_control then 1 else 0))
+end_number (step.In s) = Some (4 * s.channel + (if s.is_control then 3 else 2))
+end_number _ = None
+
+-- whether a process is active after its steps, if it has any
+abbrev pub activity : List Step → Option Bool
+activity [] = None
+activity (step ∷ steps) = Some (active_after (begins_active (step ∷ steps)) (step ∷ steps))
+
+-- whether a process is active behind one more step
+abbrev pub active_behind : Option Bool → Step → Bool
+active_behind was (step.In s) = if s.is_control then unwrap_or was false else true
+active_behind was step.Passive = false
+active_behind None step.Active = true
+active_behind was _ = unwrap_or was false
+
+-- of each end the process that has it, by the number of the end
+abbrev pub AreHolders : List LogRow → List (Option ℕ) → Type 0
+AreHolders log holders =
+    (step : Step) (e : ℕ) → end_number step ≡ Some e → slice_index_or holders e None ≡ holder step log
+
+-- of each process with a row whether it is active
+abbrev pub AreActive : List LogRow → List (Option Bool) → Type 0
+AreActive log active = (p : ℕ) → slice_index_or active p None ≡ activity (steps_of p log)
+
+-- a row without a fault by the rows above it
+pub record IsPlaced (log : List LogRow) (x : LogRow) : Type 0 where
+  pub holds : may_hold (holder x.step log) x.process ≡ true
+  pub sends : may_send (is_active log log x.process) x.step ≡ true
+  pub begins : may_begin (steps_of x.process log) x.step ≡ true
+
+-- what holds of the rows of a log below each other: each stream has its ends, and basic messages are sent while active
+pub record IsSound (log : List LogRow) : Type 0 where
+  pub sends : (s : Stream) (p : ℕ) → (holder (step.Out s) log ≡ Some p → ⊥) → sends s (steps_of p log) ≡ 0
+  pub gets : (s : Stream) (p : ℕ) → (holder (step.In s) log ≡ Some p → ⊥) → gets s (steps_of p log) ≡ 0
+  pub sent : (p : ℕ) → AreSent (begins_active (steps_of p log)) (steps_of p log)
+
+-- what is known of these rows
+pub record IsSoFar (log : List LogRow) (s : LogSoFar) : Type 0 where
+  pub rows : s.log.rows.items ≡ log
+  pub sizes : s.log.sizes ≡ sizes_of log
+  pub holders : AreHolders log s.holders.items
+  pub active : AreActive log s.active.items
+  pub sound : IsSound log

@@ -67,9 +67,7 @@ fits_step : (sizes : Sizes) (p : ℕ) (step : Step) → p + 1 ≤ sizes.processe
     → FitsRow sizes (record { process = p; step = step })
 fits_step sizes p (Out s) low few = record { process = omega arith; channel = omega arith }
 fits_step sizes p (In s) low few = record { process = omega arith; channel = omega arith }
-fits_step sizes p Passive low few = record { process = omega arith; channel = tt }
-fits_step sizes p Active low few = record { process = omega arith; channel = tt }
-fits_step sizes p Over low few = record { process = omega arith; channel = tt }
+fits_step sizes p step low few = record { process = omega arith; channel = tt }
 
 fits_within : (sizes : Sizes) (log : List LogRow) → processes_of log ≤ sizes.processes → channels_of log ≤ sizes.channels
     → Fits sizes log
@@ -83,17 +81,7 @@ fits_within sizes (x ∷ log) low few =
 same_end_is : (a b : Step) → same_end a b ≡ true → a ≡ b
 same_end_is (Out s) (Out t) e = ap Out (same_stream_is s t e)
 same_end_is (In s) (In t) e = ap In (same_stream_is s t e)
-same_end_is (Out s) (In t) e = cc e
-same_end_is (Out s) Passive e = cc e
-same_end_is (Out s) Active e = cc e
-same_end_is (Out s) Over e = cc e
-same_end_is (In s) (Out t) e = cc e
-same_end_is (In s) Passive e = cc e
-same_end_is (In s) Active e = cc e
-same_end_is (In s) Over e = cc e
-same_end_is Passive b e = cc e
-same_end_is Active b e = cc e
-same_end_is Over b e = cc e
+same_end_is a b e = cc e
 
 push_by : (b : Bool) (p : ℕ) (a more last : Option ℕ) → more ≡ (if is_some a then a else last)
     → (if b then Some p else more) ≡ (if is_some (if b then Some p else a) then (if b then Some p else a) else last)
@@ -110,29 +98,21 @@ holder-push step (y ∷ log) x = push_by (same_end step y.step) y.process (holde
 -- the numbers of two ends are equal if they are one
 same_number : (c d : ℕ) (a b : Bool)
     → (4 * d + (if b then 1 else 0) == 4 * c + (if a then 1 else 0)) ≡ (c == d && (if a then b else not b))
-same_number c d true true = grind (arith, nat_tests)
-same_number c d true false = grind (arith, nat_tests)
-same_number c d false true = grind (arith, nat_tests)
-same_number c d false false = grind (arith, nat_tests)
+same_number c d true b = grind (arith, nat_tests)
+same_number c d false b = grind (arith, nat_tests)
 
 same_number_in : (c d : ℕ) (a b : Bool)
     → (4 * d + (if b then 3 else 2) == 4 * c + (if a then 3 else 2)) ≡ (c == d && (if a then b else not b))
-same_number_in c d true true = grind (arith, nat_tests)
-same_number_in c d true false = grind (arith, nat_tests)
-same_number_in c d false true = grind (arith, nat_tests)
-same_number_in c d false false = grind (arith, nat_tests)
+same_number_in c d true b = grind (arith, nat_tests)
+same_number_in c d false b = grind (arith, nat_tests)
 
 other_number : (c d : ℕ) (a b : Bool) → (4 * d + (if b then 3 else 2) == 4 * c + (if a then 1 else 0)) ≡ false
-other_number c d true true = grind (arith, nat_tests)
-other_number c d true false = grind (arith, nat_tests)
-other_number c d false true = grind (arith, nat_tests)
-other_number c d false false = grind (arith, nat_tests)
+other_number c d true b = grind (arith, nat_tests)
+other_number c d false b = grind (arith, nat_tests)
 
 other_number_in : (c d : ℕ) (a b : Bool) → (4 * d + (if b then 1 else 0) == 4 * c + (if a then 3 else 2)) ≡ false
-other_number_in c d true true = grind (arith, nat_tests)
-other_number_in c d true false = grind (arith, nat_tests)
-other_number_in c d false true = grind (arith, nat_tests)
-other_number_in c d false false = grind (arith, nat_tests)
+other_number_in c d true b = grind (arith, nat_tests)
+other_number_in c d false b = grind (arith, nat_tests)
 
 number_is : (x y : ℕ) → Some x ≡ Some y → y ≡ x
 number_is x y e = cc e
@@ -146,38 +126,20 @@ number_of_end (In s) (Out t) e f g h =
     rw (number_is _ _ g, number_is _ _ h) (other_number_in s.channel t.channel s.is_control t.is_control)
 number_of_end (In s) (In t) e f g h =
     rw (number_is _ _ g, number_is _ _ h) (same_number_in s.channel t.channel s.is_control t.is_control)
-number_of_end (Out s) Passive e f g h = cc h
-number_of_end (Out s) Active e f g h = cc h
-number_of_end (Out s) Over e f g h = cc h
-number_of_end (In s) Passive e f g h = cc h
-number_of_end (In s) Active e f g h = cc h
-number_of_end (In s) Over e f g h = cc h
-number_of_end Passive b e f g h = cc g
-number_of_end Active b e f g h = cc g
-number_of_end Over b e f g h = cc g
+number_of_end a b e f g h = cc (g, h)
 
 no_end : (a b : Step) → end_number b ≡ None → same_end a b ≡ false
 no_end (Out s) (Out t) h = cc h
 no_end (Out s) (In t) h = cc h
 no_end (In s) (Out t) h = cc h
 no_end (In s) (In t) h = cc h
-no_end (Out s) Passive h = refl
-no_end (Out s) Active h = refl
-no_end (Out s) Over h = refl
-no_end (In s) Passive h = refl
-no_end (In s) Active h = refl
-no_end (In s) Over h = refl
-no_end Passive b h = refl
-no_end Active b h = refl
-no_end Over b h = refl
+no_end a b h = refl
 
 pub no_holder : (step : Step) (log : List LogRow) → end_number step ≡ None → holder step log ≡ None
 no_holder step [] none = refl
 no_holder (Out s) (x ∷ log) none = cc none
 no_holder (In s) (x ∷ log) none = cc none
-no_holder Passive (x ∷ log) none = no_holder Passive log refl
-no_holder Active (x ∷ log) none = no_holder Active log refl
-no_holder Over (x ∷ log) none = no_holder Over log refl
+no_holder step (x ∷ log) none = no_holder step log none
 
 -- who has an end behind one more row, where that is no fault
 abbrev IsHeld : Bool → ℕ → Option ℕ → Type 0
@@ -203,9 +165,9 @@ holders_noted log x end old new are at noted free step e is =
     ∙ sym (holder-push step log x)
 
 none_by : (b : Bool) (p : ℕ) (h : Option ℕ) → b ≡ false → h ≡ (if is_some h then h else (if b then Some p else None))
-none_by true p h e = cc e
 none_by false p None e = refl
 none_by false p (Some q) e = refl
+none_by true p h e = cc e
 
 pub holders_kept : (log : List LogRow) (x : LogRow) (old : List (Option ℕ)) → AreHolders log old → end_number x.step ≡ None
     → AreHolders (log ++ x ∷ []) old
@@ -217,10 +179,7 @@ holders_kept log x old are none step e is =
 
 begins_more : (first : Step) (xs ys : List Step) → begins_active (first ∷ xs) ≡ begins_active (first ∷ ys)
 begins_more (Out s) xs ys = refl
-begins_more (In s) xs ys = refl
-begins_more Passive xs ys = refl
-begins_more Active xs ys = refl
-begins_more Over xs ys = refl
+begins_more first xs ys = refl
 
 pub active_known : (steps : List Step) → unwrap_or (activity steps) false ≡ active_after (begins_active steps) steps
 active_known [] = refl
@@ -228,18 +187,12 @@ active_known (step ∷ steps) = refl
 
 first_behind : (step : Step) → activity (step ∷ []) ≡ Some (active_behind None step)
 first_behind (Out s) = refl
-first_behind (In s) = refl
-first_behind Passive = refl
-first_behind Active = refl
-first_behind Over = refl
+first_behind step = refl
 
 later_behind : (was : Bool) (first step : Step) (rest : List Step) → may_begin (first ∷ rest) step ≡ true
     → active_after was (step ∷ []) ≡ active_behind (Some was) step
-later_behind was first (Out s) rest may = refl
-later_behind was first (In s) rest may = refl
-later_behind was first Passive rest may = refl
 later_behind was first Active rest may = cc may
-later_behind was first Over rest may = refl
+later_behind was first step rest may = refl
 
 activity-push : (steps : List Step) (step : Step) → may_begin steps step ≡ true
     → activity (steps ++ step ∷ []) ≡ Some (active_behind (activity steps) step)
@@ -318,10 +271,7 @@ AreSent-push b (first ∷ steps) step sent may = (
 
 first_sent : (step : Step) → may_send false step ≡ true → may_send (begins_active (step ∷ [])) step ≡ true
 first_sent (Out s) may = may
-first_sent (In s) may = refl
-first_sent Passive may = refl
-first_sent Active may = refl
-first_sent Over may = refl
+first_sent step may = refl
 
 sent_more : (steps : List Step) (step : Step) → AreSent (begins_active steps) steps
     → may_send (active_after (begins_active steps) steps) step ≡ true

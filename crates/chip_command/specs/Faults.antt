@@ -1,6 +1,8 @@
 -- The faults of libraries among those of commands.
 use Rattle.chip_file.specs.declared.fault.FileFault.{FileFault}
 use Rattle.chip_file.specs.declared.fault.FileFault.TheVariants as file
+use Rattle.chip_log.specs.declared.fault.OrderFault.{OrderFault}
+use Rattle.chip_log.specs.declared.fault.OrderFault.TheVariants as order
 use Rattle.chip_sequence.specs.declared.resumed.ResumeFault.{ResumeFault}
 use Rattle.chip_sequence.specs.declared.resumed.ResumeFault.TheVariants as resume
 use Rattle.chip_report.specs.declared.fault.ReportFault.{ReportFault}
@@ -21,6 +23,11 @@ fault_of_file fault = File fault
 abbrev pub fault_of_replay : ReplayFault → Fault
 fault_of_replay (replay.Stuck vertex row) = Stuck vertex row
 fault_of_replay replay.NoMemory = NoMemory
+
+-- the fault of the rows of a log that do not fit together
+abbrev pub fault_of_order : OrderFault → Fault
+fault_of_order (order.Stuck process row) = Stuck process row
+fault_of_order order.NoMemory = NoMemory
 
 -- the fault of recorded runs that were not written
 abbrev pub fault_of_trace : TraceFault → Fault

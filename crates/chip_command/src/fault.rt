@@ -4,6 +4,7 @@ use crate::status::Status;
 use crate::table::name_of;
 use chip_file::FileFault;
 use chip_graph::GameFault;
+use chip_log::OrderFault;
 use chip_report::{ReportFault, WriteFault};
 use chip_sequence::ResumeFault;
 use chip_trace::{ReplayFault, TraceFault};
@@ -36,7 +37,8 @@ pub enum Fault {
     Doubled(u64),
     /// A thread could not be started.
     Spawn,
-    /// The recorded runs of a trace do not fit together, and this row of this vertex is to blame.
+    /// The recorded runs of a trace, or the rows of a log, do not fit together, and this row of this vertex, or of this
+    /// process, is to blame.
     Stuck { vertex: u64, row: u64 },
     /// The file of `--trace` or `--report` could not be written to its end.
     WriteFile,
@@ -113,6 +115,23 @@ impl From<ReplayFault> for Fault {
         match fault {
             ReplayFault::Stuck { vertex, row } => Fault::Stuck { vertex, row },
             ReplayFault::NoMemory => Fault::NoMemory,
+        }
+    }
+}
+
+impl From<OrderFault> for Fault {
+    ghost use Rattle.std.specs.Prelude.{◌≡◌};
+    ghost use Rattle.chip_command.specs.Faults.{fault_of_order};
+
+    ghost from_gives = { λ order fault. fault ≡ fault_of_order order };
+
+    fn from(fault: OrderFault) -> Fault {
+        match fault {
+            OrderFault::Stuck { process, row } => Fault::Stuck {
+                vertex: u64::from(process),
+                row,
+            },
+            OrderFault::NoMemory => Fault::NoMemory,
         }
     }
 }

@@ -49,11 +49,12 @@ i is a drop, from 0 on.
 ",
     };
 
-    /// A vertex, and a row among its own in a trace, from 0.
-    pub const TRACE_ROW: Place = Place {
+    /// A vertex or a process, and a row among its own in a trace or a log, from 0.
+    pub const OWN_ROW: Place = Place {
         letters: " v i",
         reading: "\
-v is a vertex, and i one of its rows in the file, from 0 on.
+v is a vertex of a trace, or a process of a log, and i one of its rows in the file, from 0
+on.
 ",
     };
 
@@ -205,14 +206,15 @@ The first line of each file is, without spaces,
     vertex,fired               of a guess
     event,at,count             of a schedule
     vertex,kind,edge,count     of a trace
+    process,kind,channel       of a log
 A fourth column of a schedule, note, is read by the Python package alone: leave it out, as
 write_schedule(.., notes=False) does. An empty file has no header. Perhaps the files are in
 another order: `--help` after the command shows it.
 ");
 
 static ROW: Explanation = row!(24 Row ROW: "row i has not as many fields as the header", "\
-A row of chips, drops or a guess has two fields, of a schedule three, of a trace four.
-Commas stand between them, and none at the end.
+A row of chips, drops or a guess has two fields, of a schedule or a log three, of a trace
+four. Commas stand between them, and none at the end.
 ");
 
 static NUMBER: Explanation = row!(25 Number ROW: "a field of row i is no number", "\
@@ -221,10 +223,12 @@ or an exponent. A field that is not used, as the count of a take, must be a numb
 ");
 
 static VERTEX: Explanation = row!(26 Vertex ROW:
-    "row i names a vertex or an edge that does not exist", "\
+    "row i names a vertex, an edge, a process or a channel that does not exist", "\
 A vertex is a number from 0 to below \"vertices\" of the graph file. In a schedule and a trace
 an edge is a number too: edges of the graph come first, from 0 on, and then a root edge for
-each vertex. With m edges, m + v brings vertex v its first chips.
+each vertex. With m edges, m + v brings vertex v its first chips. A log has processes from 0
+to 8191 and channels from 0 to 131071. With `--large` a command takes those up to 4194303
+and 16777215.
 ");
 
 static REPEATED: Explanation = row!(27 Repeated ROW:
@@ -235,8 +239,8 @@ without a row has 0.
 
 static KIND: Explanation = row!(28 Kind ROW: "row i has an unknown kind", "\
 The event of a schedule is take, ack, fire, clear, claim, put, halt, settle, seal, read,
-feed or end. The kind of a trace is take or fire. Write them in small letters, without
-spaces.
+feed or end. The kind of a trace is take or fire, and that of a log send, receive, tell,
+hear, passive, active or over. Write them in small letters, without spaces.
 ");
 
 static READ: Explanation = row!(29 Read NOWHERE: "a file could be opened, but not read", "\
@@ -247,6 +251,25 @@ read: try again, or copy the file.
 static TOO_LONG: Explanation = row!(30 TooLong NOWHERE: "a file has more than 16777216 bytes", "\
 That is 16 MiB. The largest graph fits if it is written without spaces. With `--large` each
 command reads up to 268435456 bytes (256 MiB) of each file.
+");
+
+static END: Explanation = row!(31 End ROW:
+    "another process has the end of a stream at which row i is", "\
+The basic messages of a channel, which are sent and received, are a stream, and its control
+messages, which are told and heard, are another. One process puts messages into a stream,
+and one takes them out. If several send to one process, number a channel for each pair.
+");
+
+static PASSIVE: Explanation = row!(32 Passive ROW: "row i sends, and its process is passive", "\
+A process is active from a receive to its next passive. If it works from its beginning on,
+its first row is active. Write send before the message is sent, and receive when it came.
+Messages that passive processes send are told and heard.
+");
+
+static WOKEN: Explanation = row!(33 Woken ROW:
+    "row i says active, and is not the first row of its process", "\
+A process begins active, or only a basic message makes it active. Log what woke it as a
+send and a receive. If the row begins another computation, give that a log of its own.
 ");
 
 static NOT_LEGAL: Explanation = row!(40 NotLegal NOWHERE: "a vertex may not fire this often", "\
@@ -352,12 +375,13 @@ The system allows no more threads, or has no memory for one. Try fewer by `--wor
 others have ended, and no report was written.
 ");
 
-static STUCK: Explanation = row!(70 Stuck TRACE_ROW:
-    "the rows of a trace fit together in no order", "\
+static STUCK: Explanation = row!(70 Stuck OWN_ROW:
+    "the rows of a trace or a log fit together in no order", "\
 In each order some row does not fit: it takes a message that was not sent or that had
 another count, or it fires chips that are not there. Look first at row i of v;
 docs/TRACES.md says how. Perhaps the trace was cut, or is of other chips, another graph or
-another limit.
+another limit. Row i of a log gets a message that was not sent before: perhaps the log of
+the sender was cut, the message came twice, or it is a row too early.
 ");
 
 static NO_MEMORY: Explanation = row!(90 NoMemory NOWHERE: "memory ran out", "\
@@ -385,7 +409,7 @@ report was written, or the file of `--report`, and all rows were.
 ");
 
 /// All faults, by their numbers.
-pub fn explanations() -> [&'static Explanation; 47] {
+pub fn explanations() -> [&'static Explanation; 50] {
     [
         &VERTICES,
         &SINK,
@@ -411,6 +435,9 @@ pub fn explanations() -> [&'static Explanation; 47] {
         &KIND,
         &READ,
         &TOO_LONG,
+        &END,
+        &PASSIVE,
+        &WOKEN,
         &NOT_LEGAL,
         &NEGATIVE,
         &NOT_CLOSED,

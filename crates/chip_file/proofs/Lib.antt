@@ -7,5 +7,6 @@ mod RecordLemmas
 mod ReadLemmas
 mod TraceLemmas
 mod LogLemmas
+mod MixLemmas
 mod FieldLemmas
 mod Worked

@@ -1,7 +1,7 @@
 -- Serves LogText.antt, LogSoFar.antt.
 -- How one row after another gives a log, and what holds of it.
 use Rattle.std.proofs.Common.{◌≡◌, ◌≢◌, ℕ, zero, suc, ◌+◌, ◌*◌, ◌≤◌, ◌<◌, max, Bool, true, false, cond, List, [], ◌∷◌}
-use Rattle.std.proofs.Common.{◌++◌, length, map, Option, None, Some, refl, ap, sym, ◌∙◌, subst, arith, append-nil, All}
+use Rattle.std.proofs.Common.{◌++◌, length, map, Option, None, Some, refl, ap, sym, ◌∙◌, subst, arith, append-nil, append_assoc}
 use Rattle.std.specs.Prelude.{◌==◌, ◌&&◌, not, is_some, unwrap_or, slice_index_or, if◌then◌else◌}
 use Rattle.std.proofs.lemmas.Bool.{eqb-true}
 use Rattle.std.proofs.lemmas.List.{map_push, length-map}
@@ -23,14 +23,15 @@ use Rattle.chip_log.specs.declared.row.Step.TheVariants.{Out, In, Passive, Activ
 use Rattle.chip_log.specs.Log.{steps_of, same_stream, sends, gets, active_after, begins_active, is_active}
 use Rattle.chip_log.specs.Order.{AreSent, IsWellFormed, may_send}
 use Rattle.chip_log.specs.Past.{Fits, FitsRow}
-use Rattle.chip_log.proofs.CountLemmas.{steps_of-append, sends-append, gets-append, active_after-append, same_stream_is}
+use Rattle.chip_log.proofs.CountLemmas.{steps_of-append, active_after-append, same_stream_is}
+use Rattle.chip_log.proofs.MetLemmas.{count_no}
 use Rattle.chip_file.specs.declared.fault.FileFault.{FileFault}
 use Rattle.chip_file.specs.declared.log.LogSoFar.{LogSoFar}
 use Rattle.chip_file.specs.Rows.{Row, records_of, rows_under_header}
 use Rattle.chip_file.specs.LogText.{channels_to, processes_of, channels_of, sizes_of, same_end, holder, may_hold}
 use Rattle.chip_file.specs.LogText.{may_begin, lone_row_fault, placed_fault, log_row_fault, log_row_in}
-use Rattle.chip_file.specs.LogSoFar.{Notes, end_number, activity, active_behind, AreHolders, AreActive, IsPlaced, IsSound}
-use Rattle.chip_file.specs.LogSoFar.{IsSoFar}
+use Rattle.chip_file.specs.LogSoFar.{Notes, end_number, activity, active_behind, AreHolders, AreActive, IsPlaced, uses}
+use Rattle.chip_file.specs.LogSoFar.{MayMake, AreMade, IsSound, IsSoFar}
 
 -- ---- what a row without a fault does
 
@@ -38,7 +39,7 @@ unless_none : (b : Bool) (f : FileFault) → fault_unless b f ≡ None → b ≡
 unless_none true f e = refl
 unless_none false f e = cc e
 
-first_none : (first later : Option FileFault) → first_of_faults first later ≡ None → (first ≡ None) × (later ≡ None)
+pub first_none : (first later : Option FileFault) → first_of_faults first later ≡ None → (first ≡ None) × (later ≡ None)
 first_none None later e = (refl, e)
 first_none (Some f) later e = cc e
 
@@ -232,70 +233,43 @@ held_now end log x free same =
     (rw same at (holder-push end log x))
     ∙ sym (rw same at (held_by (same_end end x.step) x.process (holder end log) (is_held log x end free)))
 
--- counts of the messages at an end, of a process that does not have it
-abbrev IsUnused : Step → (List Step → ℕ) → List LogRow → Type 0
-IsUnused end count log = (p : ℕ) → (holder end log ≡ Some p → ⊥) → count (steps_of p log) ≡ 0
+pub uses-append : (end : Step) (xs ys : List Step) → uses end (xs ++ ys) ≡ uses end xs + uses end ys
+uses-append end [] ys = omega arith
+uses-append end (x ∷ xs) ys = let a = uses-append end xs ys in omega arith
 
-unused_by : (own at_end : Bool) (count : List Step → ℕ) (steps : List Step) (step : Step) → count steps ≡ 0
-    → count (steps ++ step ∷ []) ≡ count steps + (if at_end then 1 else 0) → (own ≡ true → at_end ≡ true → ⊥)
-    → count (steps ++ (if own then step ∷ [] else [])) ≡ 0
-unused_by true true count steps step none more never = absurd (never refl refl)
-unused_by true false count steps step none more never = omega arith
-unused_by false at_end count steps step none more never = rw append-nil none
+unused_by : (own at_end : Bool) (end step : Step) (steps : List Step) → at_end ≡ same_end end step → uses end steps ≡ 0
+    → (own ≡ true → at_end ≡ true → ⊥) → uses end (steps ++ (if own then step ∷ [] else [])) ≡ 0
+unused_by true true end step steps at none never = absurd (never refl refl)
+unused_by true false end step steps at none never =
+    let all = uses-append end steps (step ∷ []) in
+    let no = count_no (same_end end step) (sym at) in omega arith
+unused_by false at_end end step steps at none never = rw append-nil none
 
-unused_push : (end : Step) (count : List Step → ℕ) (log : List LogRow) (x : LogRow)
-    → ((steps : List Step) → count (steps ++ x.step ∷ []) ≡ count steps + (if same_end end x.step then 1 else 0))
-    → may_hold (holder x.step log) x.process ≡ true → IsUnused end count log → IsUnused end count (log ++ x ∷ [])
-unused_push end count log x more free unused p other =
-    ap count (steps_of-append p log (x ∷ []))
-    ∙ unused_by (x.process == p) (same_end end x.step) count (steps_of p log) x.step
-    (unused p (λ e. other (held_before end log x p e))) (more (steps_of p log))
-    (λ own same. other (held_now end log x free same ∙ ap Some (eqb-true x.process p own)))
-
-sends_more : (s : Stream) (step : Step) (steps : List Step)
-    → sends s (steps ++ step ∷ []) ≡ sends s steps + (if same_end (Out s) step then 1 else 0)
-sends_more s step steps = let a = sends-append s steps (step ∷ []) in omega arith
-
-gets_more : (s : Stream) (step : Step) (steps : List Step)
-    → gets s (steps ++ step ∷ []) ≡ gets s steps + (if same_end (In s) step then 1 else 0)
-gets_more s step steps = let a = gets-append s steps (step ∷ []) in omega arith
-
-AreSent-push : (b : Bool) (steps : List Step) (step : Step) → AreSent b steps
-    → may_send (active_after b steps) step ≡ true → AreSent b (steps ++ step ∷ [])
-AreSent-push b [] step sent may = (may, tt)
-AreSent-push b (first ∷ steps) step sent may = (
-  sent.0,
-  AreSent-push (active_after b (first ∷ [])) steps step sent.1
-      (rw (active_after-append b (first ∷ []) steps) at may),
+made_push : (before steps : List Step) (step : Step) → AreMade before steps → MayMake (before ++ steps) step
+    → AreMade before (steps ++ step ∷ [])
+made_push before [] step made may = (rw append-nil at may, tt)
+made_push before (first ∷ steps) step made may = (
+  made.0,
+  made_push (before ++ first ∷ []) steps step made.1
+      (subst (λ (xs : List Step). MayMake xs step) (sym (append_assoc before (first ∷ []) steps)) may),
 )
 
-first_sent : (step : Step) → may_send false step ≡ true → may_send (begins_active (step ∷ [])) step ≡ true
-first_sent (Out s) may = may
-first_sent step may = refl
-
-sent_more : (steps : List Step) (step : Step) → AreSent (begins_active steps) steps
-    → may_send (active_after (begins_active steps) steps) step ≡ true
-    → AreSent (begins_active (steps ++ step ∷ [])) (steps ++ step ∷ [])
-sent_more [] step sent may = (first_sent step may, tt)
-sent_more (first ∷ rest) step sent may =
-    subst (λ (b : Bool). AreSent b ((first ∷ rest) ++ step ∷ [])) (begins_more first rest (rest ++ step ∷ []))
-    (AreSent-push (begins_active (first ∷ rest)) (first ∷ rest) step sent may)
-
-sent_by : (own : Bool) (steps : List Step) (step : Step) → AreSent (begins_active steps) steps
-    → (own ≡ true → may_send (active_after (begins_active steps) steps) step ≡ true)
-    → AreSent (begins_active (steps ++ (if own then step ∷ [] else []))) (steps ++ (if own then step ∷ [] else []))
-sent_by true steps step sent may = sent_more steps step sent (may refl)
-sent_by false steps step sent may = rw append-nil sent
+made_by : (own : Bool) (steps : List Step) (step : Step) → AreMade [] steps → (own ≡ true → MayMake steps step)
+    → AreMade [] (steps ++ (if own then step ∷ [] else []))
+made_by true steps step made may = made_push [] steps step made (may refl)
+made_by false steps step made may = rw append-nil made
 
 pub sound_none : IsSound []
-sound_none = record { sends = λ s p other. refl; gets = λ s p other. refl; sent = λ p. tt }
+sound_none = record { unused = λ end p other. refl; made = λ p. tt }
 
 pub sound_push : (log : List LogRow) (x : LogRow) → IsSound log → IsPlaced log x → IsSound (log ++ x ∷ [])
 sound_push log x sound placed = record {
-  sends = λ s. unused_push (Out s) (sends s) log x (sends_more s x.step) placed.holds (sound.sends s);
-  gets = λ s. unused_push (In s) (gets s) log x (gets_more s x.step) placed.holds (sound.gets s);
-  sent = λ p. rw (steps_of-append p log (x ∷ [])) (sent_by (x.process == p) (steps_of p log) x.step (sound.sent p)
-      (λ own. rw (← eqb-true x.process p own) placed.sends));
+  unused = λ end p other. ap (uses end) (steps_of-append p log (x ∷ []))
+      ∙ unused_by (x.process == p) (same_end end x.step) end x.step (steps_of p log) refl
+      (sound.unused end p (λ e. other (held_before end log x p e)))
+      (λ own same. other (held_now end log x placed.holds same ∙ ap Some (eqb-true x.process p own)));
+  made = λ p. rw (steps_of-append p log (x ∷ [])) (made_by (x.process == p) (steps_of p log) x.step (sound.made p)
+      (λ own. rw (← eqb-true x.process p own) (placed.sends, placed.begins)));
 }
 
 -- ---- one more row
@@ -326,7 +300,7 @@ one_more log x old new is placed rows processes channels holders active = record
   sound = sound_push log x is.sound placed;
 }
 
-first_of : (first later : Option FileFault) → first ≡ None → later ≡ None → first_of_faults first later ≡ None
+pub first_of : (first later : Option FileFault) → first ≡ None → later ≡ None → first_of_faults first later ≡ None
 first_of None later e h = h
 first_of (Some f) later e h = cc e
 
@@ -340,17 +314,52 @@ visited limits index before row x new counted alone same placed is = (
   rw (map_push log_row_in before row) (rw same at is),
 )
 
--- what the reader promises of a log
+-- ---- what the reader promises of a log
+
+sends_uses : (s : Stream) (steps : List Step) → sends s steps ≡ uses (Out s) steps
+sends_uses s [] = refl
+sends_uses s (step ∷ steps) = ap (λ n. (if same_end (Out s) step then 1 else 0) + n) (sends_uses s steps)
+
+gets_uses : (s : Stream) (steps : List Step) → gets s steps ≡ uses (In s) steps
+gets_uses s [] = refl
+gets_uses s (step ∷ steps) = ap (λ n. (if same_end (In s) step then 1 else 0) + n) (gets_uses s steps)
+
+first_sent : (first : Step) (rest : List Step) → may_send false first ≡ true
+    → may_send (begins_active (first ∷ rest)) first ≡ true
+first_sent (Out s) rest may = may
+first_sent first rest may = refl
+
+later_sent : (first : Step) (before steps : List Step) → AreMade (first ∷ before) steps
+    → AreSent (active_after (begins_active (first ∷ before)) (first ∷ before)) steps
+later_sent first before [] made = tt
+later_sent first before (step ∷ steps) made = (
+  made.0.0,
+  subst (λ (b : Bool). AreSent b steps)
+      (ap (λ b. active_after b (first ∷ (before ++ step ∷ []))) (begins_more first (before ++ step ∷ []) before)
+      ∙ active_after-append (begins_active (first ∷ before)) (first ∷ before) (step ∷ []))
+      (later_sent first (before ++ step ∷ []) steps made.1),
+)
+
+made_sent : (steps : List Step) → AreMade [] steps → AreSent (begins_active steps) steps
+made_sent [] made = tt
+made_sent (first ∷ rest) made = (
+  first_sent first rest made.0.0,
+  subst (λ (b : Bool). AreSent (active_after b (first ∷ [])) rest)
+      (begins_more first [] rest) (later_sent first [] rest made.1),
+)
+
 pub well_formed : (log : List LogRow) (s : LogSoFar) → IsSoFar log s → IsWellFormed s.log.sizes s.log.rows.items
 well_formed log s is =
     rw (is.rows, is.sizes) (record {
       ends = record {
         sender = λ s. unwrap_or (holder (Out s) log) 0;
         receiver = λ s. unwrap_or (holder (In s) log) 0;
-        sends = λ s p other. is.sound.sends s p (λ e. other (sym (ap (λ q. unwrap_or q 0) e)));
-        gets = λ s p other. is.sound.gets s p (λ e. other (sym (ap (λ q. unwrap_or q 0) e)));
+        sends = λ s p other. sends_uses s (steps_of p log)
+            ∙ is.sound.unused (Out s) p (λ e. other (sym (ap (λ q. unwrap_or q 0) e)));
+        gets = λ s p other. gets_uses s (steps_of p log)
+            ∙ is.sound.unused (In s) p (λ e. other (sym (ap (λ q. unwrap_or q 0) e)));
       };
-      sent = is.sound.sent;
+      sent = λ p. made_sent (steps_of p log) (is.sound.made p);
       fits = fits_within (sizes_of log) log (omega arith) (omega arith);
     })
 

@@ -18,3 +18,4 @@ pub mod TraceText
 pub mod ScheduleText
 pub mod LogText
 pub mod LogSoFar
+pub mod LogLaws

@@ -1,14 +1,13 @@
 -- What is known of the rows of a log so far.
-use Rattle.std.specs.Prelude.{◌≡◌, ℕ, ◌+◌, ◌*◌, ◌==◌, Bool, if◌then◌else◌, List, [], ◌∷◌, slice_index_or}
+use Rattle.std.specs.Prelude.{◌≡◌, ℕ, ◌+◌, ◌*◌, ◌==◌, Bool, if◌then◌else◌, List, [], ◌∷◌, ◌++◌, slice_index_or}
 use Rattle.std.specs.Prelude.{Option, None, Some, unwrap_or, true, false}
 use Rattle.chip_log.specs.declared.row.LogRow.{LogRow}
 use Rattle.chip_log.specs.declared.row.Step.{Step}
 use Rattle.chip_log.specs.declared.row.Step.TheVariants as step
-use Rattle.chip_log.specs.declared.row.Stream.{Stream}
-use Rattle.chip_log.specs.Log.{steps_of, sends, gets, active_after, begins_active, is_active}
-use Rattle.chip_log.specs.Order.{AreSent, may_send}
+use Rattle.chip_log.specs.Log.{steps_of, active_after, begins_active, is_active}
+use Rattle.chip_log.specs.Order.{may_send}
 use Rattle.chip_file.specs.declared.log.LogSoFar.{LogSoFar}
-use Rattle.chip_file.specs.LogText.{holder, may_hold, may_begin, sizes_of}
+use Rattle.chip_file.specs.LogText.{same_end, holder, may_hold, may_begin, sizes_of}
 
 -- a list of numbers or marks, of which one is changed or new
 abbrev pub Notes : {T : Type 0} → ℕ → T → List (Option T) → List (Option T) → Type 0
@@ -48,11 +47,24 @@ pub record IsPlaced (log : List LogRow) (x : LogRow) : Type 0 where
   pub sends : may_send (is_active log log x.process) x.step ≡ true
   pub begins : may_begin (steps_of x.process log) x.step ≡ true
 
--- what holds of the rows of a log below each other: each stream has its ends, and basic messages are sent while active
+-- how many steps are at an end of a stream
+abbrev pub uses : Step → List Step → ℕ
+uses end [] = 0
+uses end (step ∷ steps) = (if same_end end step then 1 else 0) + uses end steps
+
+-- a step of a process may be behind its own steps before
+abbrev pub MayMake : List Step → Step → Type 0
+MayMake before step = (may_send (active_after (begins_active before) before) step ≡ true) × (may_begin before step ≡ true)
+
+-- each of these steps may be, below those before
+abbrev pub AreMade : List Step → List Step → Type 0
+AreMade before [] = Unit {0}
+AreMade before (step ∷ steps) = MayMake before step × AreMade (before ++ step ∷ []) steps
+
+-- what holds of rows without a fault: at each end is only the process that has it, and each makes its steps where it may
 pub record IsSound (log : List LogRow) : Type 0 where
-  pub sends : (s : Stream) (p : ℕ) → (holder (step.Out s) log ≡ Some p → ⊥) → sends s (steps_of p log) ≡ 0
-  pub gets : (s : Stream) (p : ℕ) → (holder (step.In s) log ≡ Some p → ⊥) → gets s (steps_of p log) ≡ 0
-  pub sent : (p : ℕ) → AreSent (begins_active (steps_of p log)) (steps_of p log)
+  pub unused : (end : Step) (p : ℕ) → (holder end log ≡ Some p → ⊥) → uses end (steps_of p log) ≡ 0
+  pub made : (p : ℕ) → AreMade [] (steps_of p log)
 
 -- what is known of these rows
 pub record IsSoFar (log : List LogRow) (s : LogSoFar) : Type 0 where

@@ -26,6 +26,7 @@ mod fault;
 mod graph;
 mod guess;
 mod kind;
+pub mod laws;
 mod log;
 mod number;
 mod rows;

@@ -5,9 +5,10 @@ ghost use Rattle.chip_arguments.specs.Places.{HasPlace, places, places_of};
 ghost use Rattle.chip_arguments.specs.Progress.{asks_progress};
 
 use crate::commands::{
-    Argument, ArgumentRow, BOOKS, CHIPS, COMPLETE, CommandRow, DEALT, DROPS, FAULT_NUMBER, FED,
-    FEED, GRAPH, GUESS, LARGE, LIMIT, PROGRESS, REPORT, RING, ROUNDS, RULE_NUMBER, SCHEDULE, TRACE,
-    TRACE_FILE, TRACE_ROWS, TURNS, WORKERS, WRITTEN_REPORT, commands,
+    Argument, ArgumentRow, BOOKS, CHIPS, CLAIM_PROGRESS, COMPLETE, CommandRow, DEALT, DROPS,
+    FAULT_NUMBER, FED, FEED, GRAPH, GUESS, LARGE, LARGE_LOG, LIMIT, LOG, PAST, PROGRESS, REPORT,
+    RING, ROUNDS, RULE_NUMBER, SCHEDULE, TRACE, TRACE_FILE, TRACE_ROWS, TURNS, WORKERS,
+    WRITTEN_REPORT, commands,
 };
 use crate::fault::ArgumentsFault;
 use crate::help_texts as texts;
@@ -115,6 +116,16 @@ pub struct VerifyArguments<'a> {
     pub report: FileArgument<'a>,
 }
 
+/// A log to judge.
+#[derive(Clone, Copy)]
+pub struct JudgeArguments<'a> {
+    pub log: FileArgument<'a>,
+    /// Whether to list the past of each early claim.
+    pub past: bool,
+    pub large: bool,
+    pub progress: bool,
+}
+
 /// What the arguments ask for.
 #[derive(Drop)]
 pub enum Request<'a> {
@@ -129,6 +140,7 @@ pub enum Request<'a> {
     /// Its start is a report.
     Resume(GameArguments<'a>),
     Verify(VerifyArguments<'a>),
+    Judge(JudgeArguments<'a>),
     /// The number of a fault, if one is named.
     Explain(Option<u64>),
     /// The number of a rule, if one is named.
@@ -146,6 +158,7 @@ impl Request<'_> {
             Request::Run(asked) => asked.game.progress,
             Request::Resume(asked) => asked.progress,
             Request::Verify(asked) => asked.game.progress,
+            Request::Judge(asked) => asked.progress,
             _ => false,
         }
     }
@@ -204,6 +217,7 @@ impl<'m, 'a> Found<'m, 'a> {
             "replay" => self.replay(),
             "resume" => self.resume(),
             "verify" => self.verify(),
+            "judge" => self.judge(),
             _ => self.explanation(),
         }
     }
@@ -272,6 +286,15 @@ impl<'m, 'a> Found<'m, 'a> {
         Some(Request::Verify(VerifyArguments {
             game: self.game(CHIPS),
             report: self.file(REPORT),
+        }))
+    }
+
+    fn judge(&self) -> Option<Request<'a>> {
+        Some(Request::Judge(JudgeArguments {
+            log: self.file(LOG),
+            past: self.matches.get_flag(PAST.name),
+            large: self.matches.get_flag(LARGE_LOG.name),
+            progress: self.matches.get_flag(CLAIM_PROGRESS.name),
         }))
     }
 

@@ -67,6 +67,12 @@ pub const TRACE_FILE: &ArgumentRow = &ArgumentRow {
     is: Argument::File,
 };
 
+pub const LOG: &ArgumentRow = &ArgumentRow {
+    name: "LOG",
+    help: "What each process did: rows process,kind,channel",
+    is: Argument::File,
+};
+
 pub const REPORT: &ArgumentRow = &ArgumentRow {
     name: "REPORT",
     help: "A report that chipfire wrote, of version 1 or 2",
@@ -94,6 +100,18 @@ pub const LIMIT: &ArgumentRow = &ArgumentRow {
 pub const LARGE: &ArgumentRow = &ArgumentRow {
     name: "large",
     help: "Allows 2^21 vertices, 2^23 edges, 2^28 bytes a file [default: 4096, 65536, 16777216]",
+    is: Argument::Flag,
+};
+
+pub const LARGE_LOG: &ArgumentRow = &ArgumentRow {
+    name: "large",
+    help: "Allows 2^22 processes, 2^24 channels, 2^28 bytes [default: 8192, 131072, 16777216]",
+    is: Argument::Flag,
+};
+
+pub const PAST: &ArgumentRow = &ArgumentRow {
+    name: "past",
+    help: "Lists behind each early claim how many rows of each process were before it",
     is: Argument::Flag,
 };
 
@@ -178,6 +196,12 @@ pub const TRACE_ROWS: &ArgumentRow = &ArgumentRow {
 pub const PROGRESS: &ArgumentRow = &ArgumentRow {
     name: "progress",
     help: "Writes to standard error how far the play is, at most once a second",
+    is: Argument::Flag,
+};
+
+pub const CLAIM_PROGRESS: &ArgumentRow = &ArgumentRow {
+    name: "progress",
+    help: "Writes to standard error which claim is judged, at most once a second",
     is: Argument::Flag,
 };
 
@@ -315,6 +339,26 @@ Example: chipfire verify graph.json chips.csv report.json",
     arguments: &[GRAPH, CHIPS, REPORT, LIMIT, LARGE, PROGRESS],
 };
 
+static JUDGE: CommandRow = CommandRow {
+    name: "judge",
+    about: "Says whether the claims in a log of a distributed program, that all is over, are right",
+    after_help: "\
+The log is of any program whose processes send messages and detect when their computation is
+over. A row of the kind `over` claims that. The claim is early exactly if in some order of the
+rows that fits, when it is made or behind it, a message is on its way or a process is active.
+Else it is right. The line of an early claim says what is left when it is made, in the order
+with the fewest rows before it. `end missed` says that all is over and no claim was made.
+
+The rows of each process are in its order, and may be mixed with those of others. The answer
+does not depend on how they are mixed.
+
+Exit status: 0 a claim is right, and none is early; 2 a claim is early; 3 no claim is right,
+and none is early; 1 a fault, which `chipfire explain N` explains: 70 if the rows do not fit.
+
+Example: (echo process,kind,channel; cat process-*.rows) | chipfire judge -",
+    arguments: &[LOG, PAST, LARGE_LOG, CLAIM_PROGRESS],
+};
+
 static EXPLAIN: CommandRow = CommandRow {
     name: "explain",
     about: "Explains a fault or a rule by its number, or lists all",
@@ -328,7 +372,7 @@ Example: chipfire explain 21",
 };
 
 /// The commands, in the order in which the help lists them.
-pub fn commands() -> [&'static CommandRow; 9] {
+pub fn commands() -> [&'static CommandRow; 10] {
     [
         &CHECK,
         &PLAIN,
@@ -338,6 +382,7 @@ pub fn commands() -> [&'static CommandRow; 9] {
         &REPLAY,
         &RESUME,
         &VERIFY,
+        &JUDGE,
         &EXPLAIN,
     ]
 }

@@ -4,8 +4,9 @@
 #![tactic(auto)]
 
 pub use arguments::{
-    AvalancheArguments, CheckArguments, FileArgument, GameArguments, PlainArguments,
-    ReplayArguments, Request, RunArguments, SimulationArguments, VerifyArguments, parse,
+    AvalancheArguments, CheckArguments, FileArgument, GameArguments, JudgeArguments,
+    PlainArguments, ReplayArguments, Request, RunArguments, SimulationArguments, VerifyArguments,
+    parse,
 };
 pub use fault::ArgumentsFault;
 

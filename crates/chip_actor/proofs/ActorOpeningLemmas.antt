@@ -1,26 +1,12 @@
 -- Serves Ends.antt.
 -- A new actor stands for the opening of its vertex.
-use Rattle.std.proofs.Common.{◌≡◌, ℕ, zero, suc, get_or, ◌+◌, ◌<◌, false, eqb, List, [], ◌∷◌, length, map, None, refl}
-use Rattle.std.proofs.Common.{sym, ap, ◌∙◌, subst, arith}
-use mathlib.Core.Logic.{dite}
-use native.Mathlib.Decide.{ℕ_discrete}
-use Rattle.std.specs.List.{Contains}
-use Rattle.std.specs.List.Sorted.{IsStrictlyIncreasing}
-use Rattle.std.proofs.lemmas.List.{get_or_default}
-use Rattle.chip_graph.specs.Multigraph.{edges_out, degree}
-use Rattle.chip_part.specs.Setting.{Setting, IsSetting}
-use Rattle.chip_graph.proofs.SumLemmas.{cond_yes, cond_no, tested_none}
-use Rattle.chip_link.specs.Ends.{HeadState, new_head}
-use Rattle.chip_detect.specs.Books.{Books, IsSound, IsFresh}
-use Rattle.chip_detect.proofs.FreshLemmas.{stand_in_order}
-use Rattle.chip_part.specs.Edges.{all_edges, tail_of}
-use Rattle.chip_part.specs.Part.{opening_part, first_put}
-use Rattle.chip_actor.specs.declared.ends.outs.OutEnd.{OutEnd}
-use Rattle.chip_actor.specs.Ends.{OutEnds, InEnds, on_edge, no_out, fresh_out, IsFreshOuts, IsFreshIns}
-use Rattle.chip_actor.specs.Actor.{Actor, StandsFor}
-use Rattle.chip_part.proofs.OpeningLemmas.{opening_keeps, first_few}
-use Rattle.chip_part.proofs.PickedLemmas.{outs_rise, ins_rise}
-use Rattle.chip_part.proofs.PickedLemmas.{among_new_outs, among_new_ins}
+use Rattle.chip_actor.proofs.Names.{◌≡◌, ℕ, zero, suc, get_or, ◌+◌, ◌<◌, false, eqb, List, [], ◌∷◌, length, map, None}
+use Rattle.chip_actor.proofs.Names.{refl, sym, ap, ◌∙◌, subst, arith, dite, ℕ_discrete, Contains, IsStrictlyIncreasing}
+use Rattle.chip_actor.proofs.Names.{get_or_default, edges_out, degree, Setting, IsSetting, cond_yes, cond_no}
+use Rattle.chip_actor.proofs.Names.{tested_none, HeadState, new_head, Books, IsSound, IsFresh, stand_in_order}
+use Rattle.chip_actor.proofs.Names.{all_edges, tail_of, opening_part, first_put, OutEnd, OutEnds, InEnds, on_edge}
+use Rattle.chip_actor.proofs.Names.{no_out, fresh_out, IsFreshOuts, IsFreshIns, Actor, StandsFor, opening_keeps}
+use Rattle.chip_actor.proofs.Names.{first_few, outs_rise, ins_rise, among_new_outs, among_new_ins}
 
 -- an end that was made from its number
 made_end : {T : Type 0} (none : T) (f : ℕ → T) (xs : List ℕ) (e : ℕ) → Contains xs e

@@ -1,23 +1,14 @@
 -- Serves Ends.antt.
 -- The ends of a vertex's edges: what a search finds there, and what a write at the place that it found changes.
-use Rattle.std.proofs.lemmas.List.{take_more, take_more_set, drop-set-lt, map-append, length-map, get_or-map, map-set}
-use Rattle.std.proofs.lemmas.List.{set-get_or, take_all, take-append-le}
-use Rattle.std.proofs.Math.Seq.{drop-cons}
-use Rattle.std.proofs.lemmas.Bool.Decides.{nat_tests}
-use Rattle.std.proofs.Common.{◌≡◌, ℕ, suc, ◌+◌, ◌<◌, ◌≤◌, subst, cond, eqb, List, [], ◌∷◌, ◌++◌, length, take, drop}
-use Rattle.std.proofs.Common.{map, get_or, set, Some, None, refl, sym, ap, ◌∙◌, arith}
-use mathlib.Core.Logic.{dite}
-use native.Mathlib.Decide.{dec_lt}
-use Rattle.chip_detect.specs.declared.slot.Slot.{Slot}
-use Rattle.chip_detect.specs.Slot.{IsSlotOf}
-use Rattle.chip_detect.proofs.LookupsLemmas.{ascends}
-use Rattle.chip_link.specs.declared.message.Message.{Message}
-use Rattle.chip_link.specs.Ends.{HeadState, TailState, message_claimed, tail_after_claim, tail_after_clear}
-use Rattle.chip_link.specs.Ends.{head_after_take, new_head}
-use Rattle.chip_actor.specs.Ends.{on_edge, OutEnd, OutEnds, InEnds, no_out, out_on, in_on, AreApart, ChangesOut}
-use Rattle.chip_actor.specs.Ends.{ChangesIn, outs_of, ins_of, out_after_claim}
+use Rattle.chip_actor.proofs.Names.{take_more, take_more_set, drop-set-lt, map-append, length-map, get_or-map, map-set}
+use Rattle.chip_actor.proofs.Names.{set-get_or, take_all, take-append-le, drop-cons, nat_tests, ◌≡◌, ℕ, suc, ◌+◌, ◌<◌}
+use Rattle.chip_actor.proofs.Names.{◌≤◌, subst, cond, eqb, List, [], ◌∷◌, ◌++◌, length, take, drop, map, get_or, set}
+use Rattle.chip_actor.proofs.Names.{Some, None, refl, sym, ap, ◌∙◌, arith, dite, dec_lt, Slot, IsSlotOf, ascends}
+use Rattle.chip_actor.proofs.Names.{Message, HeadState, TailState, message_claimed, tail_after_claim, tail_after_clear}
+use Rattle.chip_actor.proofs.Names.{head_after_take, new_head, on_edge, OutEnd, OutEnds, InEnds, no_out, out_on, in_on}
+use Rattle.chip_actor.proofs.Names.{AreApart, ChangesOut, ChangesIn, outs_of, ins_of, out_after_claim}
+use Rattle.chip_actor.proofs.Names.{IsStrictlyIncreasing}
 use Rattle.chip_actor.proofs.LookupsLemmas.{on_edge_at, on_edge_changed}
-use Rattle.std.specs.List.Sorted.{IsStrictlyIncreasing}
 
 module _ {T : Type 0} (none : T) {edges : List ℕ} {ends : List T} (apart : AreApart edges ends) {slot : Slot}
     (at : IsSlotOf edges slot) {old : T} (was : old ≡ get_or ends slot.index old) where

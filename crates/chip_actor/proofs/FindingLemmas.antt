@@ -1,15 +1,7 @@
 -- Serves Found.antt, Medium.antt.
 -- An event whose rules are met is due.
-use Rattle.std.proofs.Common.{◌≡◌, None, sym, ap, ◌∙◌}
-use Rattle.chip_part.specs.Setting.{Setting}
-use Rattle.chip_part.specs.declared.act.Act.{Act}
-use Rattle.chip_part.specs.Part.{Part}
-use Rattle.chip_part.specs.Rules.{Event, unmet_rule}
-use Rattle.chip_part.specs.Steps.{part_of}
-use Rattle.chip_part.specs.Acting.{act_of, event_of}
-use Rattle.chip_part.proofs.CursorLemmas.{event_of_act}
-use Rattle.chip_actor.specs.Actor.{Actor, StandsFor}
-use Rattle.chip_actor.specs.Medium.{IsDueBy}
+use Rattle.chip_actor.proofs.Names.{◌≡◌, None, sym, ap, ◌∙◌, Setting, Act, Part, Event, unmet_rule, part_of, act_of}
+use Rattle.chip_actor.proofs.Names.{event_of, event_of_act, Actor, StandsFor, IsDueBy}
 
 pub is_due : (g : Setting) (s : Part) (a : Actor) → StandsFor g s a → (act : Act) (x : Event) → part_of g x ≡ a.vertex
     → unmet_rule g x s ≡ None → act ≡ act_of g x s → (event_of a.vertex act ≡ x) × IsDueBy g a.vertex s act

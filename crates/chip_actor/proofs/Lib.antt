@@ -1,3 +1,4 @@
+mod Names
 pub mod LookupsLemmas
 pub mod EndLemmas
 pub mod StandingLemmas

@@ -1,14 +1,8 @@
 -- Serves Ends.antt.
 -- What stands beside the numbers of edges, looked up by a number.
-use Rattle.std.proofs.lemmas.Bool.Decides.{nat_tests}
-use Rattle.std.proofs.Common.{◌≡◌, ℕ, zero, suc, ◌<◌, cond, eqb, List, [], ◌∷◌, length, map, get_or, set, refl, sym}
-use Rattle.std.proofs.Common.{◌∙◌, arith}
-use Rattle.std.specs.List.{Contains}
-use Rattle.std.specs.List.Sorted.{IsStrictlyIncreasing}
-use Rattle.std.proofs.lemmas.List.{get_or_default}
-use Rattle.chip_graph.proofs.SumLemmas.{cond_yes}
-use Rattle.chip_detect.proofs.LookupsLemmas.{Ascends, ascends, ascends_tail, not_in_front}
-use Rattle.chip_actor.specs.Ends.{on_edge}
+use Rattle.chip_actor.proofs.Names.{nat_tests, ◌≡◌, ℕ, zero, suc, ◌<◌, cond, eqb, List, [], ◌∷◌, length, map, get_or}
+use Rattle.chip_actor.proofs.Names.{set, refl, sym, ◌∙◌, arith, Contains, IsStrictlyIncreasing, get_or_default}
+use Rattle.chip_actor.proofs.Names.{cond_yes, Ascends, ascends, ascends_tail, not_in_front, on_edge}
 
 -- the end at a place
 pub on_edge_at : {T : Type 0} (none : T) (xs : List ℕ) (ts : List T) (i : ℕ) (d : T) → Ascends xs

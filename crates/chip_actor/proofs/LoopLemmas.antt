@@ -1,25 +1,19 @@
 -- Serves Medium.antt, Actor.antt, Ends.antt.
 -- What the loops of a turn do at one edge: what the calls there ask, and how the turn goes on.
-use Rattle.std.proofs.Common.{◌≡◌, ◌≢◌, ℕ, ◌+◌, ◌-◌, ◌^◌, ◌<◌, ◌≤◌, Bool, true, false, cond, eqb, ltb, List, length, get_or, set}
-use Rattle.std.proofs.Common.{Some, None, refl, sym, ap, ◌∙◌, subst, arith, lt-ltb}
-use Rattle.chip_link.specs.declared.message.Message.{Message}
-use Rattle.chip_link.specs.Ends.{HeadState, head_cell, head_after_take, message_taken}
-use Rattle.chip_detect.specs.Tally.{message_limit}
-use Rattle.chip_detect.specs.Books.{Books, IsSound, in_edges, out_edges, got_of, sent_of, settled_of}
-use Rattle.chip_detect.specs.Acknowledging as detector
-use Rattle.chip_detect.specs.Steps.{Gets, Acknowledges, Settles}
-use Rattle.chip_detect.specs.Slot.{IsSlotOf}
-use Rattle.chip_part.specs.declared.act.Act.TheVariants as Do
-use Rattle.chip_part.specs.declared.cursor.Cursor.TheVariants as At
-use Rattle.chip_actor.specs.declared.ends.outs.OutEnd.{OutEnd}
-use Rattle.chip_actor.specs.Ends.{OutEnds, InEnds, out_on, in_on, AreApart, ChangesIn}
-use Rattle.chip_actor.specs.Actor.{Actor, is_passive_now}
-use Rattle.chip_actor.specs.Medium.{Holding, MayServe, Serves, Meets, Moves}
-use Rattle.chip_actor.proofs.EndLemmas as ends
+use Rattle.chip_actor.proofs.Names.{◌≡◌, ◌≢◌, ℕ, ◌+◌, ◌-◌, ◌^◌, ◌<◌, ◌≤◌, Bool, true, false, cond, eqb, ltb, List}
+use Rattle.chip_actor.proofs.Names.{length, get_or, set, Some, None, refl, sym, ap, ◌∙◌, subst, arith, lt-ltb, Message}
+use Rattle.chip_actor.proofs.Names.{HeadState, head_cell, head_after_take, message_taken, message_limit, Books, IsSound}
+use Rattle.chip_actor.proofs.Names.{in_edges, out_edges, got_of, sent_of, settled_of, Gets, Acknowledges, Settles}
+use Rattle.chip_actor.proofs.Names.{IsSlotOf, OutEnd, OutEnds, InEnds, out_on, in_on, AreApart, ChangesIn, Actor}
+use Rattle.chip_actor.proofs.Names.{is_passive_now, Holding, MayServe, Serves, Meets, Moves}
 use Rattle.chip_actor.proofs.StandingLemmas.{books_ins, books_outs, few_got}
 use Rattle.chip_actor.proofs.MakingLemmas.{settle_made, ack_made, message_seen, take_made, take_empty}
 use Rattle.chip_actor.proofs.MediumLemmas.{Stands, DueBy, may_serve, can_do, moves_one, one_if}
 use Rattle.chip_actor.proofs.TurnOverLemmas.{in_mine, out_mine, settle_by, ack_by, ack_none, take_by}
+use Rattle.chip_detect.specs.Acknowledging as detector
+use Rattle.chip_part.specs.declared.act.Act.TheVariants as Do
+use Rattle.chip_part.specs.declared.cursor.Cursor.TheVariants as At
+use Rattle.chip_actor.proofs.EndLemmas as ends
 
 -- an end out of the vertex as a loop over the ends finds it, and the number that it tells
 pub record FoundOut (a : Actor) (os : OutEnds) (index edge : ℕ) (end : OutEnd) : Type 0 where

@@ -1,41 +1,22 @@
 -- Serves Ends.antt, Actor.antt.
 -- Each call that makes an event: what its parts ask, and what it comes to.
-use Rattle.std.proofs.lemmas.Bool.Decides.{nat_tests}
-use Rattle.std.proofs.Common.{◌≡◌, ◌≢◌, ℕ, zero, suc, ◌+◌, ◌-◌, ◌*◌, ◌<◌, ◌≤◌, ◌^◌, ◌%◌, Bool, cond, if◌then◌else◌, eqb}
-use Rattle.std.proofs.Common.{[], ◌∷◌, length, sum, Option, Some, None, IsTrue, option_to_list, refl, sym, ap, ◌∙◌}
-use Rattle.std.proofs.Common.{subst, arith, eq-eqb}
-use Rattle.std.specs.List.{Contains}
-use Rattle.chip_graph.specs.Sums.{sum_below}
-use Rattle.chip_graph.proofs.SumLemmas.{tested_term, one_at_most}
-use Rattle.chip_link.specs.declared.message.Message.{Message}
-use Rattle.chip_link.specs.Words.{claims_in}
-use Rattle.chip_link.specs.Ends.{TailState, HeadState, claim_words, put_of, tail_after_clear, message_claimed}
-use Rattle.chip_link.specs.Ends.{message_taken, head_after_take}
-use Rattle.chip_link.specs.Link.{Tail, claims_of}
-use Rattle.chip_detect.specs.Tally.{message_limit}
-use Rattle.chip_detect.specs.Books.{Books, IsSound, sent_of, settled_of}
-use Rattle.chip_detect.specs.Books as books
-use Rattle.chip_detect.specs.Acknowledging as detector
-use Rattle.chip_detect.specs.Steps.{Gets, Acknowledges, Sends, Settles}
-use Rattle.chip_detect.proofs.SoundnessLemmas.{parent_goes_with_all}
-use Rattle.chip_detect.proofs.AllowedLemmas.{within_owed}
-use Rattle.chip_part.specs.Edges.{all_edges, tail_of, mult_of}
-use Rattle.chip_part.specs.declared.cause.Cause.{Cause}
-use Rattle.chip_part.specs.Part.{cause}
-use Rattle.chip_part.specs.Rules.{Take, Ack, Fire, Clear, Claim, Put, Halt, Settle}
-use Rattle.chip_part.specs.declared.reply.Reply.{Reply}
-use Rattle.chip_part.specs.Steps.{message_of, does, saw}
-use Rattle.chip_part.specs.declared.reply.Reply.TheVariants.{Done, Got, Sent, Empty, Full, Sealed}
-use Rattle.chip_actor.specs.declared.ends.outs.OutEnd.{OutEnd}
-use Rattle.chip_actor.specs.Ends.{OutEnds, InEnds, out_on, in_on, ChangesOut, ChangesOuts, ChangesIn, out_after_clear}
-use Rattle.chip_actor.specs.Ends.{out_after_claim, out_after_put, out_after_fire}
-use Rattle.chip_actor.specs.Actor.{Actor, StandsFor, SomePart, WhateverPart, is_passive_now, Makes}
-use Rattle.chip_part.specs.Acting.{CanDo}
-use Rattle.chip_part.proofs.RuleLemmas.{rules_met}
+use Rattle.chip_actor.proofs.Names.{nat_tests, ◌≡◌, ◌≢◌, ℕ, zero, suc, ◌+◌, ◌-◌, ◌*◌, ◌<◌, ◌≤◌, ◌^◌, ◌%◌, Bool, cond}
+use Rattle.chip_actor.proofs.Names.{if◌then◌else◌, eqb, [], ◌∷◌, length, sum, Option, Some, None, IsTrue}
+use Rattle.chip_actor.proofs.Names.{option_to_list, refl, sym, ap, ◌∙◌, subst, arith, eq-eqb, Contains, sum_below}
+use Rattle.chip_actor.proofs.Names.{tested_term, one_at_most, Message, claims_in, TailState, HeadState, claim_words}
+use Rattle.chip_actor.proofs.Names.{put_of, tail_after_clear, message_claimed, message_taken, head_after_take, Tail}
+use Rattle.chip_actor.proofs.Names.{claims_of, message_limit, Books, IsSound, sent_of, settled_of, Gets, Acknowledges}
+use Rattle.chip_actor.proofs.Names.{Sends, Settles, parent_goes_with_all, within_owed, all_edges, tail_of, mult_of}
+use Rattle.chip_actor.proofs.Names.{Cause, cause, Take, Ack, Fire, Clear, Claim, Put, Halt, Settle, Reply, message_of}
+use Rattle.chip_actor.proofs.Names.{does, saw, Done, Got, Sent, Empty, Full, Sealed, OutEnd, OutEnds, InEnds, out_on}
+use Rattle.chip_actor.proofs.Names.{in_on, ChangesOut, ChangesOuts, ChangesIn, out_after_clear, out_after_claim}
+use Rattle.chip_actor.proofs.Names.{out_after_put, out_after_fire, Actor, StandsFor, SomePart, WhateverPart}
+use Rattle.chip_actor.proofs.Names.{is_passive_now, Makes, CanDo, rules_met, at_most_one}
 use Rattle.chip_actor.proofs.StandingLemmas.{out_inside, may_ack_is, few_fired}
 use Rattle.chip_actor.proofs.SteppingLemmas.{takes, takes_none, settles, acknowledges, halts, clears, may_look, claims}
 use Rattle.chip_actor.proofs.SteppingLemmas.{is_refused, puts, fires}
-use Rattle.chip_part.proofs.TurnLemmas.{at_most_one}
+use Rattle.chip_detect.specs.Books as books
+use Rattle.chip_detect.specs.Acknowledging as detector
 
 -- ---- a take
 

@@ -1,26 +1,15 @@
 -- Serves Medium.antt, Actor.antt.
 -- How a turn over a medium goes on, step by step.
-use Rattle.std.proofs.lemmas.Bool.Decides.{nat_tests}
-use Rattle.std.proofs.Common.{◌≡◌, ◌≢◌, ℕ, ◌+◌, ◌*◌, ◌^◌, ◌<◌, ◌≤◌, Bool, cond, List, [], ◌∷◌, ◌++◌, reverse, length}
-use Rattle.std.proofs.Common.{Some, None, refl, sym, ap, ◌∙◌, subst, add_assoc, arith}
-use Rattle.std.proofs.lemmas.List.{append_assoc, reverse-append}
-use Rattle.chip_part.specs.Setting.{Setting}
-use Rattle.chip_part.specs.declared.act.Act.{Act}
+use Rattle.chip_actor.proofs.Names.{nat_tests, ◌≡◌, ◌≢◌, ℕ, ◌+◌, ◌*◌, ◌^◌, ◌<◌, ◌≤◌, Bool, cond, List, [], ◌∷◌, ◌++◌}
+use Rattle.chip_actor.proofs.Names.{reverse, length, Some, None, refl, sym, ap, ◌∙◌, subst, add_assoc, arith}
+use Rattle.chip_actor.proofs.Names.{append_assoc, reverse-append, Setting, Act, Part, Event, unmet_rule, Reply, Step}
+use Rattle.chip_actor.proofs.Names.{part_of, does, saw, act_of, event_of, CanDo, IsDue, Makes, Actor, StandsFor}
+use Rattle.chip_actor.proofs.Names.{SomePart, WhateverPart, turn, Cursor, rest_of_turn, IsAt, GoesBy, most_left, DueAt}
+use Rattle.chip_actor.proofs.Names.{MayBeAt, work_of, is_work, Holding, IsDueBy, MayServe, Serves, Meets, GoesOn, Moves}
+use Rattle.chip_actor.proofs.Names.{MakesTurnOver, AreOf, Passes, event_of_act, act_is_some}
+use Rattle.chip_part.specs.Turn.{ins_of, outs_of}
 use Rattle.chip_part.specs.declared.cursor.Cursor.TheVariants as At
 use Rattle.chip_part.specs.declared.act.Act.TheVariants as Do
-use Rattle.chip_part.specs.Part.{Part}
-use Rattle.chip_part.specs.Rules.{Event, unmet_rule}
-use Rattle.chip_part.specs.declared.reply.Reply.{Reply}
-use Rattle.chip_part.specs.Steps.{Step, part_of, does, saw}
-use Rattle.chip_part.specs.Acting.{act_of, event_of, CanDo, IsDue}
-use Rattle.chip_actor.specs.Actor.{Makes, Actor, StandsFor, SomePart, WhateverPart}
-use Rattle.chip_part.specs.Turn.{turn, ins_of, outs_of}
-use Rattle.chip_part.specs.declared.cursor.Cursor.{Cursor}
-use Rattle.chip_part.specs.Cursor.{rest_of_turn, IsAt, GoesBy, most_left}
-use Rattle.chip_actor.specs.Turning.{DueAt, MayBeAt}
-use Rattle.chip_part.specs.Counting.{work_of, is_work}
-use Rattle.chip_actor.specs.Medium.{Holding, IsDueBy, MayServe, Serves, Meets, GoesOn, Moves, MakesTurnOver, AreOf}
-use Rattle.chip_part.proofs.CursorLemmas.{Passes, event_of_act, act_is_some}
 
 -- the latest first, of two lists one after another
 reversed_more : (xs ys ds : List Step) → reverse (xs ++ ys) ++ ds ≡ reverse ys ++ (reverse xs ++ ds)

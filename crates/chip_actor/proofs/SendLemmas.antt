@@ -1,36 +1,23 @@
 -- Serves Medium.antt, Actor.antt, Ends.antt.
 -- A send over a medium at one edge: what its calls ask, and how the turn goes on from each to the next.
-use Rattle.std.proofs.lemmas.Bool.Decides.{nat_tests}
-use Rattle.std.proofs.Common.{◌≡◌, ◌≢◌, ℕ, ◌+◌, ◌-◌, ◌^◌, ◌<◌, ◌≤◌, Bool, true, false, ◌&&◌, eqb, List, Option, length}
-use Rattle.std.proofs.Common.{slice_index, Some, None, refl, sym, ap, ◌∙◌, subst, arith, length-set}
-use Rattle.std.proofs.lemmas.List.{get_or-set_same, set-set}
-use Rattle.chip_link.specs.declared.message.Message.{Message}
-use Rattle.chip_link.specs.Words.{claims_in}
-use Rattle.chip_link.specs.Ends.{TailState, tail_cell, may_clear, tail_after_clear, claim_words, tail_after_claim}
-use Rattle.chip_link.specs.Ends.{message_claimed, put_of, tail_after_put, place_for}
-use Rattle.chip_detect.specs.Tally.{message_limit}
-use Rattle.chip_detect.specs.Books.{Books, IsSound, out_edges, sent_of}
-use Rattle.chip_detect.specs.Steps.{Sends}
-use Rattle.chip_detect.specs.Slot.{IsSlotOf}
-use Rattle.chip_part.specs.Rules.{Claim}
-use Rattle.chip_part.specs.declared.act.Act.TheVariants as Do
-use Rattle.chip_part.specs.declared.cursor.Cursor.TheVariants as At
-use Rattle.chip_actor.specs.declared.ends.outs.OutEnd.{OutEnd}
-use Rattle.chip_actor.specs.Ends.{out_on, with_end, AreApart, ChangesOut, out_after_clear, out_after_claim}
-use Rattle.chip_actor.specs.Ends.{out_after_put}
-use Rattle.chip_actor.specs.Actor.{Actor, WhateverPart, Makes, with_sent}
-use Rattle.chip_part.specs.Part.{cause, is_by_limit}
-use Rattle.chip_part.specs.declared.reply.Reply.TheVariants.{Sent}
-use Rattle.chip_actor.specs.Medium.{Holding, MayServe, Serves, Meets, Moves}
-use Rattle.chip_actor.proofs.EndLemmas as ends
+use Rattle.chip_actor.proofs.Names.{nat_tests, ◌≡◌, ◌≢◌, ℕ, ◌+◌, ◌-◌, ◌^◌, ◌<◌, ◌≤◌, Bool, true, false, ◌&&◌, eqb, List}
+use Rattle.chip_actor.proofs.Names.{Option, length, slice_index, Some, None, refl, sym, ap, ◌∙◌, subst, arith}
+use Rattle.chip_actor.proofs.Names.{length-set, get_or-set_same, set-set, Message, claims_in, TailState, tail_cell}
+use Rattle.chip_actor.proofs.Names.{may_clear, tail_after_clear, claim_words, tail_after_claim, message_claimed, put_of}
+use Rattle.chip_actor.proofs.Names.{tail_after_put, place_for, message_limit, Books, IsSound, out_edges, sent_of, Sends}
+use Rattle.chip_actor.proofs.Names.{IsSlotOf, Claim, OutEnd, out_on, with_end, AreApart, ChangesOut, out_after_clear}
+use Rattle.chip_actor.proofs.Names.{out_after_claim, out_after_put, Actor, WhateverPart, Makes, with_sent, cause}
+use Rattle.chip_actor.proofs.Names.{is_by_limit, Sent, Holding, MayServe, Serves, Meets, Moves, MayBeAt}
 use Rattle.chip_actor.proofs.SteppingLemmas.{may_look}
 use Rattle.chip_actor.proofs.MakingLemmas.{clear_made, MayClaim, may_claim, message_count, claim_made, claim_sealed}
 use Rattle.chip_actor.proofs.MakingLemmas.{put_made}
-use Rattle.chip_actor.specs.Turning.{MayBeAt}
 use Rattle.chip_actor.proofs.MediumLemmas.{Stands, DueBy, may_serve, can_do, moves_one, moves_on, meets_after}
 use Rattle.chip_actor.proofs.MediumLemmas.{then_over}
 use Rattle.chip_actor.proofs.TurnOverLemmas.{send_none, clear_by, claim_by, claim_none, store_by, stop_by}
 use Rattle.chip_actor.proofs.LoopLemmas.{FoundOut, out_at, out_in_books}
+use Rattle.chip_part.specs.declared.act.Act.TheVariants as Do
+use Rattle.chip_part.specs.declared.cursor.Cursor.TheVariants as At
+use Rattle.chip_actor.proofs.EndLemmas as ends
 
 -- the actor with another end at an index
 abbrev pub sending : Actor → ℕ → OutEnd → ℕ → ℕ → Books → Actor

@@ -1,29 +1,16 @@
 -- Serves Actor.antt.
 -- What an actor that stands for a part knows of it.
-use Rattle.std.proofs.lemmas.Bool.Decides.{nat_tests}
-use Rattle.std.proofs.Common.{◌≡◌, ℕ, ◌+◌, ◌-◌, ◌<◌, ◌≤◌, ◌^◌, Bool, true, not, ◌&&◌, ◌||◌, eqb, leb, List, [], ◌∷◌}
-use Rattle.std.proofs.Common.{◌++◌, length, Option, is_some, is_none, sym, ap, ◌∙◌, subst, arith}
-use mathlib.Core.Logic.{dite}
-use native.Mathlib.Decide.{dec_lt}
-use Rattle.std.specs.List.{Contains, sum_by}
-use Rattle.std.proofs.lemmas.List.Sums.{sum_by-append}
-use Rattle.chip_graph.specs.Multigraph.{edge_at, edges_out, edges_in, sum_in}
-use Rattle.chip_part.specs.Setting.{Setting}
-use Rattle.chip_graph.proofs.SumLemmas.{tested_ext, picked_sum}
-use Rattle.chip_detect.specs.Books.{in_edges, out_edges}
+use Rattle.chip_actor.proofs.Names.{nat_tests, ◌≡◌, ℕ, ◌+◌, ◌-◌, ◌<◌, ◌≤◌, ◌^◌, Bool, true, not, ◌&&◌, ◌||◌, eqb, leb}
+use Rattle.chip_actor.proofs.Names.{List, [], ◌∷◌, ◌++◌, length, Option, is_some, is_none, sym, ap, ◌∙◌, subst, arith}
+use Rattle.chip_actor.proofs.Names.{dite, dec_lt, Contains, sum_by, sum_by-append, edge_at, edges_out, edges_in, sum_in}
+use Rattle.chip_actor.proofs.Names.{Setting, tested_ext, picked_sum, in_edges, out_edges, acknowledgeable_count}
+use Rattle.chip_actor.proofs.Names.{message_limit, graph_edges, all_edges, root_edge, tail_of, head_of, Cause, Part}
+use Rattle.chip_actor.proofs.Names.{owed, outstanding, deficit, all_owed, is_legal, is_passive, may_ack, Actor}
+use Rattle.chip_actor.proofs.Names.{StandsFor, is_legal_now, is_passive_now, tail_graph, head_graph, head_root}
+use Rattle.chip_actor.proofs.Names.{over_outs_graph, over_ins_graph, tail_inside, picked_passes, among_new_outs}
+use Rattle.chip_actor.proofs.Names.{among_new_ins, All-contains, All-picked}
 use Rattle.chip_detect.specs.Books as books
-use Rattle.chip_detect.specs.Acknowledging.{acknowledgeable_count}
 use Rattle.chip_detect.specs.Acknowledging as detector
-use Rattle.chip_detect.specs.Tally.{message_limit}
-use Rattle.chip_part.specs.Edges.{graph_edges, all_edges, root_edge, tail_of, head_of}
-use Rattle.chip_part.specs.declared.cause.Cause.{Cause}
-use Rattle.chip_part.specs.Part.{Part, owed, outstanding, deficit, all_owed, is_legal, is_passive, may_ack}
-use Rattle.chip_actor.specs.Actor.{Actor, StandsFor, is_legal_now, is_passive_now}
-use Rattle.chip_part.proofs.EdgeLemmas.{tail_graph, head_graph, head_root, over_outs_graph, over_ins_graph}
-use Rattle.chip_part.proofs.PartLemmas.{tail_inside}
-use Rattle.chip_part.proofs.PickedLemmas.{picked_passes, among_new_outs, among_new_ins}
-use Rattle.std.proofs.lemmas.List.Elements.{All-contains}
-use Rattle.chip_graph.proofs.PickLemmas.{All-picked}
 
 -- a vertex that isn't running is halted
 not_running : (h : Option Cause) → is_some h ≡ not (is_none h)

@@ -1,37 +1,20 @@
 -- Serves Ends.antt, Actor.antt.
 -- An actor that makes an event stands for the part after it. Each lemma takes what the call changed in the actor's own
 -- numbers.
-use Rattle.std.proofs.Common.{◌≡◌, ◌≢◌, ℕ, ◌+◌, ◌-◌, ◌*◌, ◌≤◌, ◌^◌, Bool, true, false, ◌&&◌, cond, if◌then◌else◌, eqb}
-use Rattle.std.proofs.Common.{length, Option, Some, None, option_to_list, refl, sym, ap, ◌∙◌, subst, arith, eq-eqb}
-use Rattle.std.proofs.Common.{eqb-true, mul_comm, rules}
-use Rattle.std.proofs.lemmas.Bool.Decides.{nat_tests}
-use mathlib.Core.Logic.{dite}
-use native.Mathlib.Decide.{ℕ_discrete}
-use Rattle.chip_graph.specs.Multigraph.{degree}
-use Rattle.chip_part.specs.Setting.{Setting}
-use Rattle.chip_graph.proofs.SumLemmas.{cond_yes, cond_no, tested_ext, tested_scale, tested_move, tested_term}
-use Rattle.chip_link.specs.Ends.{may_clear, head_after_take}
-use Rattle.chip_link.specs.Link.{Tail, claims_of, after_clear, after_claim, after_put, after_take, tail_state}
-use Rattle.chip_link.specs.Link.{head_state}
-use Rattle.chip_link.proofs.StatesLemmas.{tail_clears, tail_claims, tail_puts, head_takes}
-use Rattle.chip_detect.specs.Tally.{edges_of, messages_on, answered_on}
-use Rattle.chip_detect.specs.Books.{Books, IsSound, settled_of}
-use Rattle.chip_detect.specs.Acknowledging.{is_parent, or_else}
-use Rattle.chip_detect.specs.Steps.{Gets, Acknowledges, Sends, Settles}
-use Rattle.chip_part.specs.Edges.{all_edges, tail_of, head_of, mult_of, over_outs}
-use Rattle.chip_part.specs.declared.cause.Cause.{Cause}
-use Rattle.chip_part.specs.Part.{Part, Out, Into, may_ack, cause}
-use Rattle.chip_part.specs.Rules.{Event, Take, Ack, Fire, Clear, Claim, Put, Halt, Settle, unmet_rule}
-use Rattle.chip_part.specs.Steps.{part_of, does, link_after, pending_after, got_after, saw}
-use Rattle.chip_part.specs.Kept.{KeepsPart}
-use Rattle.chip_actor.specs.declared.ends.outs.OutEnd.{OutEnd}
-use Rattle.chip_actor.specs.Ends.{OutEnds, InEnds, in_on, ChangesOut, ChangesOuts, ChangesIn, out_after_clear}
-use Rattle.chip_actor.specs.Ends.{out_after_claim, out_after_put, out_after_fire}
-use Rattle.chip_graph.specs.Limits.{max_total}
-use Rattle.chip_actor.specs.Actor.{Actor, KnowsGame, KeepsBooks, StandsFor, out_end}
-use Rattle.chip_part.proofs.RuleLemmas.{rules_met, vertex_clear}
-use Rattle.chip_part.proofs.PartLemmas.{events_keep, idle_take, took_some}
-use Rattle.chip_part.proofs.EdgeLemmas.{over_outs_graph}
+use Rattle.chip_actor.proofs.Names.{◌≡◌, ◌≢◌, ℕ, ◌+◌, ◌-◌, ◌*◌, ◌≤◌, ◌^◌, Bool, true, false, ◌&&◌, cond, if◌then◌else◌}
+use Rattle.chip_actor.proofs.Names.{eqb, length, Option, Some, None, option_to_list, refl, sym, ap, ◌∙◌, subst, arith}
+use Rattle.chip_actor.proofs.Names.{eq-eqb, eqb-true, mul_comm, rules, nat_tests, dite, ℕ_discrete, degree, Setting}
+use Rattle.chip_actor.proofs.Names.{cond_yes, cond_no, tested_ext, tested_scale, tested_move, tested_term, may_clear}
+use Rattle.chip_actor.proofs.Names.{head_after_take, Tail, claims_of, after_clear, after_claim, after_put, after_take}
+use Rattle.chip_actor.proofs.Names.{tail_state, head_state, tail_clears, tail_claims, tail_puts, head_takes, edges_of}
+use Rattle.chip_actor.proofs.Names.{messages_on, answered_on, Books, IsSound, settled_of, is_parent, or_else, Gets}
+use Rattle.chip_actor.proofs.Names.{Acknowledges, Sends, Settles, all_edges, tail_of, head_of, mult_of, over_outs}
+use Rattle.chip_actor.proofs.Names.{Cause, Part, Out, Into, may_ack, cause, Event, Take, Ack, Fire, Clear, Claim, Put}
+use Rattle.chip_actor.proofs.Names.{Halt, Settle, unmet_rule, part_of, does, link_after, pending_after, got_after, saw}
+use Rattle.chip_actor.proofs.Names.{KeepsPart, OutEnd, OutEnds, InEnds, in_on, ChangesOut, ChangesOuts, ChangesIn}
+use Rattle.chip_actor.proofs.Names.{out_after_clear, out_after_claim, out_after_put, out_after_fire, max_total, Actor}
+use Rattle.chip_actor.proofs.Names.{KnowsGame, KeepsBooks, StandsFor, out_end, rules_met, vertex_clear, events_keep}
+use Rattle.chip_actor.proofs.Names.{idle_take, took_some, over_outs_graph}
 
 -- how many messages are claimed and not put on an edge, and whether its claim was refused
 abbrev held_count : Out → ℕ

@@ -1,20 +1,13 @@
 -- Serves Actor.antt, Ends.antt.
 -- What an actor finds in its own lists is what its part says.
-use Rattle.std.proofs.lemmas.Bool.Decides.{nat_tests}
-use Rattle.std.proofs.Common.{◌≡◌, ℕ, ◌<◌, Bool, false, not, cond, eqb, List, length, slice_index, Option, Some, None}
-use Rattle.std.proofs.Common.{is_some, option_to_list, option_map, sym, ap, ◌∙◌, subst, arith}
-use Rattle.chip_part.specs.Setting.{Setting}
-use Rattle.chip_link.specs.Ends.{claim_words, put_of}
-use Rattle.chip_detect.specs.Acknowledging as detector
-use Rattle.chip_part.specs.Edges.{tail_of, head_of}
-use Rattle.chip_part.specs.Part.{Part, may_ack}
-use Rattle.chip_actor.specs.declared.ends.outs.OutEnd.{OutEnd}
-use Rattle.chip_actor.specs.Ends.{out_on, IsFirstFrom}
-use Rattle.chip_actor.specs.Actor.{Actor, StandsFor, is_passive_now, out_end}
+use Rattle.chip_actor.proofs.Names.{nat_tests, ◌≡◌, ℕ, ◌<◌, Bool, false, not, cond, eqb, List, length, slice_index}
+use Rattle.chip_actor.proofs.Names.{Option, Some, None, is_some, option_to_list, option_map, sym, ap, ◌∙◌, subst, arith}
+use Rattle.chip_actor.proofs.Names.{Setting, claim_words, put_of, tail_of, head_of, Part, may_ack, OutEnd, out_on}
+use Rattle.chip_actor.proofs.Names.{IsFirstFrom, Actor, StandsFor, is_passive_now, out_end, out_at, in_enters}
+use Rattle.chip_actor.proofs.Names.{out_leaves}
 use Rattle.chip_part.specs.Turn.{ins_of, outs_of}
-use Rattle.chip_part.specs.Cursor.{out_at}
 use Rattle.chip_actor.proofs.StandingLemmas.{may_ack_is}
-use Rattle.chip_part.proofs.TurnStepsLemmas.{in_enters, out_leaves}
+use Rattle.chip_detect.specs.Acknowledging as detector
 
 -- by an equal test the first place is the same
 first_same : (t u : ℕ → Bool) (xs : List ℕ) → ((k : ℕ) → k < length xs → t (slice_index xs k) ≡ u (slice_index xs k))

@@ -1,40 +1,24 @@
 -- Serves Actor.antt, Ends.antt, Medium.antt.
 -- Each phase of a turn over a medium: which operation is due, and where the turn passes on without one.
-use Rattle.std.proofs.lemmas.Bool.Decides.{nat_tests}
-use Rattle.std.proofs.Common.{◌≡◌, ◌≢◌, ℕ, ◌+◌, ◌-◌, ◌%◌, ◌<◌, ◌≤◌, Bool, true, false, not, ◌&&◌, eqb, List, [], length}
-use Rattle.std.proofs.Common.{sum, slice_index, Option, Some, None, is_some, is_none, option_map, option_to_list, refl}
-use Rattle.std.proofs.Common.{sym, ap, ◌∙◌, subst, arith, eq-eqb, ne_eqb}
-use Rattle.std.proofs.lemmas.List.Sums.{sum_by-cons}
-use Rattle.std.specs.List.{Contains}
-use Rattle.chip_part.specs.Setting.{Setting}
-use Rattle.chip_link.specs.Link.{claims_of}
-use Rattle.chip_link.specs.Ends.{head_cell, tail_cell, claim_words, put_of}
-use Rattle.chip_detect.specs.Acknowledging as detector
-use Rattle.chip_detect.specs.declared.slot.Slot.{Slot}
-use Rattle.chip_detect.specs.Slot.{IsSlotOf}
-use Rattle.chip_part.specs.declared.act.Act.TheVariants as Do
-use Rattle.chip_part.specs.declared.cursor.Cursor.TheVariants as At
-use Rattle.chip_part.specs.Edges.{tail_of, head_of}
-use Rattle.chip_actor.specs.declared.ends.outs.OutEnd.{OutEnd}
-use Rattle.chip_actor.specs.Ends.{out_on, in_on}
-use Rattle.chip_part.specs.declared.cause.Cause.{Cause}
-use Rattle.chip_part.specs.Part.{Part, cause, is_by_limit, may_ack, refusals}
-use Rattle.chip_part.specs.Rules.{Take, Ack, Fire, Clear, Claim, Put, Settle}
-use Rattle.chip_part.specs.Turn.{ins_of, outs_of, may_fire, batch_of, is_at_limit}
-use Rattle.chip_part.specs.Cursor.{GoesBy, out_at}
-use Rattle.chip_actor.specs.Actor.{Actor, StandsFor, WhateverPart, is_passive_now}
-use Rattle.chip_actor.specs.Medium.{Holding, Moves}
+use Rattle.chip_actor.proofs.Names.{nat_tests, ◌≡◌, ◌≢◌, ℕ, ◌+◌, ◌-◌, ◌%◌, ◌<◌, ◌≤◌, Bool, true, false, not, ◌&&◌, eqb}
+use Rattle.chip_actor.proofs.Names.{List, [], length, sum, slice_index, Option, Some, None, is_some, is_none}
+use Rattle.chip_actor.proofs.Names.{option_map, option_to_list, refl, sym, ap, ◌∙◌, subst, arith, eq-eqb, ne_eqb}
+use Rattle.chip_actor.proofs.Names.{sum_by-cons, Contains, Setting, claims_of, head_cell, tail_cell, claim_words}
+use Rattle.chip_actor.proofs.Names.{put_of, Slot, IsSlotOf, tail_of, head_of, OutEnd, out_on, in_on, Cause, Part, cause}
+use Rattle.chip_actor.proofs.Names.{is_by_limit, may_ack, refusals, Take, Ack, Fire, Clear, Claim, Put, Settle}
+use Rattle.chip_actor.proofs.Names.{may_fire, batch_of, is_at_limit, GoesBy, out_at, Actor, StandsFor, WhateverPart}
+use Rattle.chip_actor.proofs.Names.{is_passive_now, Holding, Moves, may_le, take_due, takes_over, settle_due}
+use Rattle.chip_actor.proofs.Names.{settles_over, in_enters, out_leaves, fire_due, no_fire_due, puts_over, puts_fit}
+use Rattle.chip_actor.proofs.Names.{refusal_none, sends_begin, send_due, sends_to, sends_over, claim_due, claim_over}
+use Rattle.chip_actor.proofs.Names.{store_due, stop_due, no_limit_due, ack_due, acks_to, acks_over, no_parent}
+use Rattle.chip_actor.proofs.Names.{parent_due, no_parent_due, not_some, cond-true}
+use Rattle.chip_part.specs.Turn.{ins_of, outs_of}
 use Rattle.chip_actor.proofs.StandingLemmas.{may_ack_is, books_in}
-use Rattle.chip_part.proofs.PartLemmas.{may_le}
-use Rattle.chip_part.proofs.TurnStepsLemmas.{take_due, takes_over, settle_due, settles_over, in_enters, out_leaves}
-use Rattle.chip_part.proofs.TurnStepsLemmas.{fire_due, no_fire_due, puts_over, puts_fit, refusal_none, sends_begin}
-use Rattle.chip_part.proofs.TurnStepsLemmas.{send_due, sends_to, sends_over, claim_due, claim_over, store_due, stop_due}
-use Rattle.chip_part.proofs.TurnStepsLemmas.{no_limit_due, ack_due, acks_to, acks_over, no_parent, parent_due}
-use Rattle.chip_part.proofs.TurnStepsLemmas.{no_parent_due}
 use Rattle.chip_actor.proofs.TurnActorLemmas.{pending_is, held_at_place, clear_at_place, none_held}
 use Rattle.chip_actor.proofs.MediumLemmas.{Stands, DueBy, moves_past, then_over, turn_ends}
-use Rattle.chip_detect.proofs.ListLemmas.{not_some}
-use Rattle.std.proofs.lemmas.Bool.{cond-true}
+use Rattle.chip_detect.specs.Acknowledging as detector
+use Rattle.chip_part.specs.declared.act.Act.TheVariants as Do
+use Rattle.chip_part.specs.declared.cursor.Cursor.TheVariants as At
 
 -- the edge at a slot of the actor's edges is the vertex's there
 module _ {g : Setting} {s : Part} {a : Actor} (stands : StandsFor g s a) {slot : Slot} where

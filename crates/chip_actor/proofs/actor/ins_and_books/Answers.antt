@@ -1,11 +1,8 @@
-use Rattle.std.proofs.Common.{◌≡◌, ◌∙◌, ◌++◌, ◌+◌, ℕ, List, [], ◌∷◌, length, map, ap, sym, subst, arith, eqb, length-append}
-use Rattle.std.specs.List.Sorted.{IsStrictlyIncreasing}
-use Rattle.chip_graph.specs.Multigraph.{Multigraph, edge_at, edges_in, edges_out}
-use Rattle.chip_link.specs.Ends.{new_head}
-use Rattle.chip_detect.specs.Books.{IsFresh}
-use Rattle.chip_part.proofs.PickedLemmas.{ins_rise, length-picked}
-use Rattle.chip_actor.proofs.actor.ins_and_books.Goals as goal
+use Rattle.chip_actor.proofs.Names.{◌≡◌, ◌∙◌, ◌++◌, ◌+◌, ℕ, List, [], ◌∷◌, length, map, ap, sym, subst, arith, eqb}
+use Rattle.chip_actor.proofs.Names.{length-append, IsStrictlyIncreasing, Multigraph, edge_at, edges_in, edges_out}
+use Rattle.chip_actor.proofs.Names.{new_head, IsFresh, ins_rise, length-picked}
 use Rattle.chip_actor.proofs.actor.ins_and_books.Goals.{In_ok-push}
+use Rattle.chip_actor.proofs.actor.ins_and_books.Goals as goal
 
 -- the numbers of the edges into the vertex, its root edge last
 listed : (c : In_ok-push) → c.push.new.self.items

@@ -1,17 +1,13 @@
-use Rattle.std.proofs.Common.{◌≡◌, ◌∙◌, ◌≤◌, List, length, sym, ap, subst, arith}
-use Rattle.chip_link.specs.Ends.{HeadState}
-use Rattle.chip_detect.specs.Acknowledging as detector
-use Rattle.chip_part.specs.declared.cursor.Cursor.TheVariants as At
-use Rattle.chip_detect.specs.Books.{Books}
-use Rattle.chip_actor.specs.Ends.{InEnds}
-use Rattle.chip_actor.specs.Actor.{Actor, is_passive_now}
-use Rattle.chip_actor.specs.Medium.{Moves}
+use Rattle.chip_actor.proofs.Names.{◌≡◌, ◌∙◌, ◌≤◌, List, length, sym, ap, subst, arith, HeadState, Books, InEnds, Actor}
+use Rattle.chip_actor.proofs.Names.{is_passive_now, Moves}
 use Rattle.chip_actor.proofs.MediumLemmas.{moves_none, moves_on, meets_after, then_over}
 use Rattle.chip_actor.proofs.TurnOverLemmas.{acks_end}
 use Rattle.chip_actor.proofs.LoopLemmas.{FoundIn, in_in_books, ack_asks, ack_past, ack_moves}
-use Rattle.chip_actor.proofs.actor.ActorState.ack_all.Goals as goal
 use Rattle.chip_actor.proofs.actor.ActorState.ack_all.Goals.{After-edge-edge, After-may_ack_at-count}
 use Rattle.chip_actor.proofs.actor.ActorState.ack_all.Given.{Over}
+use Rattle.chip_detect.specs.Acknowledging as detector
+use Rattle.chip_part.specs.declared.cursor.Cursor.TheVariants as At
+use Rattle.chip_actor.proofs.actor.ActorState.ack_all.Goals as goal
 
 pub loop-index-init : goal.loop-index-init
 loop-index-init g c = record {

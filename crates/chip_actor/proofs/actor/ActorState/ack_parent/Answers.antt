@@ -1,14 +1,12 @@
-use Rattle.std.proofs.Common.{◌≡◌, ◌≢◌, ◌∙◌, Some, refl, sym, ap, subst}
-use Rattle.std.specs.List.{Contains}
+use Rattle.chip_actor.proofs.Names.{◌≡◌, ◌≢◌, ◌∙◌, Some, refl, sym, ap, subst, Contains, Actor, is_passive_now}
+use Rattle.chip_actor.proofs.MediumLemmas.{DueBy, may_serve, can_do, moves_one}
+use Rattle.chip_actor.proofs.TurnOverLemmas.{parent_among, no_parent_left, parent_by, parent_none}
+use Rattle.chip_actor.proofs.actor.ActorState.ack_parent.Goals.{In-Some, After-may_ack_at-more}
+use Rattle.chip_actor.proofs.actor.ActorState.ack_parent.Given.{Over}
 use Rattle.chip_detect.specs.Acknowledging as detector
 use Rattle.chip_part.specs.declared.act.Act.TheVariants as Do
 use Rattle.chip_part.specs.declared.cursor.Cursor.TheVariants as At
-use Rattle.chip_actor.specs.Actor.{Actor, is_passive_now}
-use Rattle.chip_actor.proofs.MediumLemmas.{DueBy, may_serve, can_do, moves_one}
-use Rattle.chip_actor.proofs.TurnOverLemmas.{parent_among, no_parent_left, parent_by, parent_none}
 use Rattle.chip_actor.proofs.actor.ActorState.ack_parent.Goals as goal
-use Rattle.chip_actor.proofs.actor.ActorState.ack_parent.Goals.{In-Some, After-may_ack_at-more}
-use Rattle.chip_actor.proofs.actor.ActorState.ack_parent.Given.{Over}
 
 pub returns-in_default-clause-moves : goal.returns-in_default-clause-moves
 returns-in_default-clause-moves g c = no_parent_left

@@ -1,11 +1,7 @@
-use Rattle.std.proofs.Common.{◌≡◌, ◌∙◌, sym, ap, true, not, eqb, ltb, lt-ltb, None}
-use Rattle.chip_detect.specs.Books as books
-use Rattle.chip_part.specs.declared.rule.Rule.TheVariants.{NoSuch, NothingOwed, Engaged}
-use Rattle.chip_part.specs.Edges.{all_edges, head_of}
-use Rattle.chip_part.specs.Part.{owed, may_ack}
-use Rattle.chip_part.specs.Rules.{need}
-use Rattle.chip_actor.specs.Actor.{Actor}
+use Rattle.chip_actor.proofs.Names.{◌≡◌, ◌∙◌, sym, ap, true, not, eqb, ltb, lt-ltb, None, NoSuch, NothingOwed, Engaged}
+use Rattle.chip_actor.proofs.Names.{all_edges, head_of, owed, may_ack, need, Actor}
 use Rattle.chip_actor.proofs.StandingLemmas.{owed_is, may_ack_is, in_inside}
+use Rattle.chip_detect.specs.Books as books
 use Rattle.chip_actor.proofs.actor.ActorState.ack_rule.Goals as goal
 
 pub returns : goal.returns

@@ -1,6 +1,4 @@
-use Rattle.std.proofs.Common.{◌∙◌, sym, ap}
-use Rattle.chip_actor.specs.Actor.{Actor, is_passive_now}
-use Rattle.chip_actor.specs.contracts.actor.ActorState.{the_view}
+use Rattle.chip_actor.proofs.Names.{◌∙◌, sym, ap, Actor, is_passive_now, the_view}
 use Rattle.chip_actor.proofs.MakingLemmas.{ack_made}
 use Rattle.chip_detect.specs.Acknowledging.{may_ack}
 use Rattle.chip_actor.proofs.actor.ActorState.acknowledge.Goals as goal

@@ -1,8 +1,4 @@
-use Rattle.std.proofs.Common.{◌≡◌, ◌∙◌, sym, ap, subst, None}
-use Rattle.chip_part.specs.Rules.{Event, unmet_rule}
-use Rattle.chip_part.specs.Steps.{part_of}
-use Rattle.chip_part.specs.Acting.{act_of}
-use Rattle.chip_actor.specs.Actor.{SomePart}
+use Rattle.chip_actor.proofs.Names.{◌≡◌, ◌∙◌, sym, ap, subst, None, Event, unmet_rule, part_of, act_of, SomePart}
 use Rattle.chip_actor.proofs.actor.ActorState.act.Goals as goal
 
 pub act_at-requires-clause-due : goal.act_at-requires-clause-due

@@ -1,10 +1,6 @@
-use Rattle.std.proofs.Common.{◌∙◌, sym, ap}
-use Rattle.chip_part.specs.declared.act.Act.TheVariants as Do
-use Rattle.chip_part.specs.Part.{is_by_limit}
-use Rattle.chip_part.specs.Steps.{part_of}
-use Rattle.chip_part.specs.Acting.{act_of}
-use Rattle.chip_actor.specs.Found.{Found, event_found}
+use Rattle.chip_actor.proofs.Names.{◌∙◌, sym, ap, is_by_limit, part_of, act_of, Found, event_found}
 use Rattle.chip_actor.proofs.StandingLemmas.{may_ack_is}
+use Rattle.chip_part.specs.declared.act.Act.TheVariants as Do
 use Rattle.chip_actor.proofs.actor.ActorState.act_at.Goals as goal
 
 pub returns-in-Ack : goal.returns-in-Ack

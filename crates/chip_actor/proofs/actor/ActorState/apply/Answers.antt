@@ -1,10 +1,6 @@
-use Rattle.std.proofs.Common.{◌≡◌, ◌∙◌, ap, sym, subst}
-use Rattle.chip_part.specs.Rules.{Event}
-use Rattle.chip_part.specs.Steps.{part_of}
-use Rattle.chip_part.specs.Acting.{CanDo, event_of}
-use Rattle.chip_actor.specs.Actor.{Actor, Makes, SomePart}
-use Rattle.chip_actor.proofs.actor.ActorState.apply.Goals as goal
+use Rattle.chip_actor.proofs.Names.{◌≡◌, ◌∙◌, ap, sym, subst, Event, part_of, CanDo, event_of, Actor, Makes, SomePart}
 use Rattle.chip_actor.proofs.actor.ActorState.apply.Goals.{After-event_of-event}
+use Rattle.chip_actor.proofs.actor.ActorState.apply.Goals as goal
 
 -- the event is that of the operation
 asked : (c : After-event_of-event) → c.event_of-event.result ≡ event_of c.args.self.now.vertex c.args.observed.act

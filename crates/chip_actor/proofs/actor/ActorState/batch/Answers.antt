@@ -1,6 +1,4 @@
-use Rattle.std.proofs.Common.{◌∙◌, ◌-◌, ◌/◌, min, ap, arith}
-use Rattle.chip_actor.specs.Actor.{Actor}
-use Rattle.chip_part.proofs.TurnStepsLemmas.{may_fire_pays}
+use Rattle.chip_actor.proofs.Names.{◌∙◌, ◌-◌, ◌/◌, min, ap, arith, Actor, may_fire_pays}
 use Rattle.chip_actor.proofs.actor.ActorState.batch.Goals as goal
 
 -- where it may fire it isn't the sink, and has edges out of it

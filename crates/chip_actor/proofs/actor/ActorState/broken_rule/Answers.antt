@@ -1,7 +1,4 @@
-use Rattle.std.proofs.Common.{◌∙◌, sym, ap}
-use Rattle.chip_part.specs.Rules.{unmet_rule}
-use Rattle.chip_part.specs.Steps.{part_of}
-use Rattle.chip_actor.specs.Found.{Found, event_found}
+use Rattle.chip_actor.proofs.Names.{◌∙◌, sym, ap, unmet_rule, part_of, Found, event_found}
 use Rattle.chip_actor.proofs.actor.ActorState.broken_rule.Goals as goal
 
 -- each arm asks its own event

@@ -1,9 +1,4 @@
-use Rattle.std.proofs.Common.{◌∙◌, sym, subst, arith}
-use Rattle.chip_part.specs.Rules.{Claim}
-use Rattle.chip_actor.specs.Actor.{Actor, SomePart}
-use Rattle.chip_part.specs.Acting.{CanDo}
-use Rattle.chip_actor.specs.contracts.actor.ActorState.{the_view}
-use Rattle.chip_actor.specs.Ends.{out_on}
+use Rattle.chip_actor.proofs.Names.{◌∙◌, sym, subst, arith, Claim, Actor, SomePart, CanDo, the_view, out_on}
 use Rattle.chip_actor.proofs.MakingLemmas.{may_claim, message_count, claim_sealed, claim_made}
 use Rattle.chip_actor.proofs.actor.ActorState.claim.Goals as goal
 

@@ -1,9 +1,5 @@
-use Rattle.std.proofs.Common.{ℕ, subst}
-use Rattle.chip_part.specs.Rules.{Clear}
-use Rattle.chip_actor.specs.Actor.{Makes}
-use Rattle.chip_actor.specs.contracts.actor.ActorState.{the_view}
+use Rattle.chip_actor.proofs.Names.{ℕ, subst, Clear, Makes, the_view, Option}
 use Rattle.chip_actor.proofs.MakingLemmas.{clear_made, clear_reply}
-use Rattle.std.proofs.Common.{Option}
 use Rattle.chip_actor.proofs.actor.ActorState.clear.Goals as goal
 
 pub returns-in_default : goal.returns-in_default

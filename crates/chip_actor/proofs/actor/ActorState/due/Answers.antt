@@ -1,6 +1,4 @@
-use Rattle.std.proofs.Common.{sym, subst}
-use Rattle.chip_part.specs.declared.cursor.Cursor.{Cursor}
-use Rattle.chip_actor.specs.Turning.{DueAt}
+use Rattle.chip_actor.proofs.Names.{sym, subst, Cursor, DueAt}
 use Rattle.chip_actor.proofs.actor.ActorState.due.Goals as goal
 
 -- each arm is at its own cursor

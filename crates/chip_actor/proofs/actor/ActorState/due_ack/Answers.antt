@@ -1,11 +1,7 @@
-use Rattle.std.proofs.Common.{◌∙◌, ℕ, ◌+◌, List, Some, None, sym, ap, subst, get_or}
-use Rattle.chip_part.specs.declared.cursor.Cursor.TheVariants as At
-use Rattle.chip_part.specs.Rules.{Ack}
-use Rattle.chip_actor.specs.Actor.{Actor}
-use Rattle.chip_part.specs.Cursor.{GoesBy}
-use Rattle.chip_part.proofs.TurnStepsLemmas.{ack_due, acks_over}
+use Rattle.chip_actor.proofs.Names.{◌∙◌, ℕ, ◌+◌, List, Some, None, sym, ap, subst, get_or, Ack, Actor, GoesBy, ack_due}
+use Rattle.chip_actor.proofs.Names.{acks_over, passes_due}
 use Rattle.chip_actor.proofs.TurnActorLemmas.{first_owed}
-use Rattle.chip_part.proofs.CursorLemmas.{passes_due}
+use Rattle.chip_part.specs.declared.cursor.Cursor.TheVariants as At
 use Rattle.chip_actor.proofs.actor.ActorState.due_ack.Goals as goal
 
 pub returns-in-Some : goal.returns-in-Some

@@ -1,13 +1,7 @@
-use Rattle.std.proofs.Common.{◌∙◌, ℕ, ◌+◌, List, is_some, sym, ap, subst, get_or}
-use Rattle.chip_link.specs.Ends.{claim_words}
-use Rattle.chip_part.specs.declared.cursor.Cursor.TheVariants as At
-use Rattle.chip_part.specs.Rules.{Claim}
-use Rattle.chip_actor.specs.Actor.{Actor}
-use Rattle.chip_actor.specs.declared.ends.outs.OutEnd.{OutEnd}
-use Rattle.chip_part.specs.Cursor.{GoesBy}
-use Rattle.chip_part.proofs.TurnStepsLemmas.{claim_due, claim_over}
+use Rattle.chip_actor.proofs.Names.{◌∙◌, ℕ, ◌+◌, List, is_some, sym, ap, subst, get_or, claim_words, Claim, Actor}
+use Rattle.chip_actor.proofs.Names.{OutEnd, GoesBy, claim_due, claim_over, passes_due}
 use Rattle.chip_actor.proofs.TurnActorLemmas.{clear_at_place}
-use Rattle.chip_part.proofs.CursorLemmas.{passes_due}
+use Rattle.chip_part.specs.declared.cursor.Cursor.TheVariants as At
 use Rattle.chip_actor.proofs.actor.ActorState.due_claim.Goals as goal
 
 pub returns-then-is_some : goal.returns-then-is_some

@@ -1,10 +1,5 @@
-use Rattle.std.proofs.Common.{◌∙◌, ℕ, sym, subst, arith}
+use Rattle.chip_actor.proofs.Names.{◌∙◌, ℕ, sym, subst, arith, Fire, Actor, GoesBy, fire_due, no_fire_due, passes_due}
 use Rattle.chip_part.specs.declared.cursor.Cursor.TheVariants as At
-use Rattle.chip_part.specs.Rules.{Fire}
-use Rattle.chip_actor.specs.Actor.{Actor}
-use Rattle.chip_part.specs.Cursor.{GoesBy}
-use Rattle.chip_part.proofs.TurnStepsLemmas.{fire_due, no_fire_due}
-use Rattle.chip_part.proofs.CursorLemmas.{passes_due}
 use Rattle.chip_actor.proofs.actor.ActorState.due_fire.Goals as goal
 
 pub batch-k-requires : goal.batch-k-requires

@@ -1,10 +1,5 @@
-use Rattle.std.proofs.Common.{◌∙◌, sym, subst, ℕ}
+use Rattle.chip_actor.proofs.Names.{◌∙◌, sym, subst, ℕ, Halt, Actor, GoesBy, limit_due, no_limit_due, passes_due}
 use Rattle.chip_part.specs.declared.cursor.Cursor.TheVariants as At
-use Rattle.chip_part.specs.Rules.{Halt}
-use Rattle.chip_actor.specs.Actor.{Actor}
-use Rattle.chip_part.specs.Cursor.{GoesBy}
-use Rattle.chip_part.proofs.TurnStepsLemmas.{limit_due, no_limit_due}
-use Rattle.chip_part.proofs.CursorLemmas.{passes_due}
 use Rattle.chip_actor.proofs.actor.ActorState.due_limit.Goals as goal
 
 pub returns-then-is_at_limit : goal.returns-then-is_at_limit

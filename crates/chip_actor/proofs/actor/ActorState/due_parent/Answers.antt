@@ -1,12 +1,7 @@
-use Rattle.std.proofs.Common.{◌≡◌, ◌∙◌, ℕ, Some, not, sym, ap, subst, ne_eqb}
-use Rattle.std.specs.List.{Contains}
-use Rattle.chip_detect.specs.Acknowledging as detector
-use Rattle.chip_detect.specs.Books.{in_edges}
-use Rattle.chip_actor.specs.Actor.{Actor}
-use Rattle.chip_part.specs.Edges.{head_of}
-use Rattle.chip_part.specs.Part.{may_ack}
+use Rattle.chip_actor.proofs.Names.{◌≡◌, ◌∙◌, ℕ, Some, not, sym, ap, subst, ne_eqb, Contains, in_edges, Actor, head_of}
+use Rattle.chip_actor.proofs.Names.{may_ack, parent_due, no_parent_due}
 use Rattle.chip_actor.proofs.StandingLemmas.{books_in, may_ack_is}
-use Rattle.chip_part.proofs.TurnStepsLemmas.{parent_due, no_parent_due}
+use Rattle.chip_detect.specs.Acknowledging as detector
 use Rattle.chip_actor.proofs.actor.ActorState.due_parent.Goals as goal
 
 pub may_ack-requires : goal.may_ack-requires

@@ -1,11 +1,7 @@
-use Rattle.std.proofs.Common.{◌∙◌, ℕ, ◌+◌, List, Some, None, sym, ap, subst, get_or}
-use Rattle.chip_part.specs.declared.cursor.Cursor.TheVariants as At
-use Rattle.chip_part.specs.Rules.{Put}
-use Rattle.chip_actor.specs.Actor.{Actor}
-use Rattle.chip_part.specs.Cursor.{GoesBy}
-use Rattle.chip_part.proofs.TurnStepsLemmas.{put_due, puts_over, puts_fit}
+use Rattle.chip_actor.proofs.Names.{◌∙◌, ℕ, ◌+◌, List, Some, None, sym, ap, subst, get_or, Put, Actor, GoesBy, put_due}
+use Rattle.chip_actor.proofs.Names.{puts_over, puts_fit, passes_due}
 use Rattle.chip_actor.proofs.TurnActorLemmas.{first_held, none_held}
-use Rattle.chip_part.proofs.CursorLemmas.{passes_due}
+use Rattle.chip_part.specs.declared.cursor.Cursor.TheVariants as At
 use Rattle.chip_actor.proofs.actor.ActorState.due_put.Goals as goal
 
 pub due_refusal-requires-in-None : goal.due_refusal-requires-in-None

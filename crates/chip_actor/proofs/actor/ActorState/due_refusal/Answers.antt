@@ -1,13 +1,7 @@
-use Rattle.std.proofs.Common.{◌≡◌, ◌∙◌, ℕ, Option, Some, None, true, false, is_some, is_none, refl, sym, ap, subst}
-use Rattle.std.proofs.Common.{arith}
+use Rattle.chip_actor.proofs.Names.{◌≡◌, ◌∙◌, ℕ, Option, Some, None, true, false, is_some, is_none, refl, sym, ap}
+use Rattle.chip_actor.proofs.Names.{subst, arith, Cause, refusals, Halt, Actor, GoesBy, refusal_due, refusal_over}
+use Rattle.chip_actor.proofs.Names.{refusal_none, sends_begin, passes_due}
 use Rattle.chip_part.specs.declared.cursor.Cursor.TheVariants as At
-use Rattle.chip_part.specs.declared.cause.Cause.{Cause}
-use Rattle.chip_part.specs.Part.{refusals}
-use Rattle.chip_part.specs.Rules.{Halt}
-use Rattle.chip_actor.specs.Actor.{Actor}
-use Rattle.chip_part.specs.Cursor.{GoesBy}
-use Rattle.chip_part.proofs.TurnStepsLemmas.{refusal_due, refusal_over, refusal_none, sends_begin}
-use Rattle.chip_part.proofs.CursorLemmas.{passes_due}
 use Rattle.chip_actor.proofs.actor.ActorState.due_refusal.Goals as goal
 
 halted : (h : Option Cause) → is_some h ≡ true → is_none h ≡ false

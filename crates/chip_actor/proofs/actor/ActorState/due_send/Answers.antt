@@ -1,11 +1,7 @@
-use Rattle.std.proofs.Common.{◌∙◌, ℕ, List, Some, None, sym, ap, subst, get_or}
-use Rattle.chip_part.specs.declared.cursor.Cursor.TheVariants as At
-use Rattle.chip_part.specs.Rules.{Clear}
-use Rattle.chip_actor.specs.Actor.{Actor}
-use Rattle.chip_part.specs.Cursor.{GoesBy}
-use Rattle.chip_part.proofs.TurnStepsLemmas.{send_due, sends_over}
+use Rattle.chip_actor.proofs.Names.{◌∙◌, ℕ, List, Some, None, sym, ap, subst, get_or, Clear, Actor, GoesBy, send_due}
+use Rattle.chip_actor.proofs.Names.{sends_over, passes_due}
 use Rattle.chip_actor.proofs.TurnActorLemmas.{first_pending, none_pending}
-use Rattle.chip_part.proofs.CursorLemmas.{passes_due}
+use Rattle.chip_part.specs.declared.cursor.Cursor.TheVariants as At
 use Rattle.chip_actor.proofs.actor.ActorState.due_send.Goals as goal
 
 pub returns-in-Some : goal.returns-in-Some

@@ -1,12 +1,7 @@
-use Rattle.std.proofs.Common.{◌∙◌, ℕ, ◌+◌, ◌<◌, ◌≤◌, List, sym, ap, subst, length, get_or, arith}
-use Rattle.std.proofs.lemmas.List.{get_or-map, length-map}
+use Rattle.chip_actor.proofs.Names.{◌∙◌, ℕ, ◌+◌, ◌<◌, ◌≤◌, List, sym, ap, subst, length, get_or, arith, get_or-map}
+use Rattle.chip_actor.proofs.Names.{length-map, Settle, OutEnd, no_out, Actor, GoesBy, settle_due, settles_over}
+use Rattle.chip_actor.proofs.Names.{passes_due}
 use Rattle.chip_part.specs.declared.cursor.Cursor.TheVariants as At
-use Rattle.chip_part.specs.Rules.{Settle}
-use Rattle.chip_actor.specs.Ends.{OutEnd, no_out}
-use Rattle.chip_actor.specs.Actor.{Actor}
-use Rattle.chip_part.specs.Cursor.{GoesBy}
-use Rattle.chip_part.proofs.TurnStepsLemmas.{settle_due, settles_over}
-use Rattle.chip_part.proofs.CursorLemmas.{passes_due}
 use Rattle.chip_actor.proofs.actor.ActorState.due_settle.Goals as goal
 
 pub returns-in-Some : goal.returns-in-Some

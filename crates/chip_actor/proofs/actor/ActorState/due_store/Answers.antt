@@ -1,12 +1,7 @@
-use Rattle.std.proofs.Common.{◌∙◌, ℕ, ◌+◌, List, is_some, sym, ap, subst, get_or}
-use Rattle.chip_part.specs.declared.cursor.Cursor.TheVariants as At
-use Rattle.chip_link.specs.Ends.{put_of}
-use Rattle.chip_part.specs.Rules.{Put, Halt}
-use Rattle.chip_actor.specs.Actor.{Actor}
-use Rattle.chip_actor.specs.declared.ends.outs.OutEnd.{OutEnd}
-use Rattle.chip_part.specs.Cursor.{GoesBy}
-use Rattle.chip_part.proofs.TurnStepsLemmas.{store_due, stop_due}
+use Rattle.chip_actor.proofs.Names.{◌∙◌, ℕ, ◌+◌, List, is_some, sym, ap, subst, get_or, put_of, Put, Halt, Actor}
+use Rattle.chip_actor.proofs.Names.{OutEnd, GoesBy, store_due, stop_due}
 use Rattle.chip_actor.proofs.TurnActorLemmas.{held_at_place}
+use Rattle.chip_part.specs.declared.cursor.Cursor.TheVariants as At
 use Rattle.chip_actor.proofs.actor.ActorState.due_store.Goals as goal
 
 pub returns-then-is_some : goal.returns-then-is_some

@@ -1,8 +1,4 @@
-use Rattle.std.proofs.Common.{◌∙◌, ℕ, sym, ap, subst}
-use Rattle.std.specs.List.{Contains}
-use Rattle.chip_part.specs.Rules.{Fire, Halt}
-use Rattle.chip_part.specs.Steps.{part_of}
-use Rattle.chip_actor.specs.Actor.{Actor}
+use Rattle.chip_actor.proofs.Names.{◌∙◌, ℕ, sym, ap, subst, Contains, Fire, Halt, part_of, Actor}
 use Rattle.chip_actor.proofs.StandingLemmas.{among_ins, among_outs}
 use Rattle.chip_actor.proofs.actor.ActorState.find.Goals as goal
 

@@ -1,13 +1,9 @@
-use Rattle.std.proofs.Common.{Option, ap, ◌∙◌, sym, subst, arith}
-use Rattle.chip_part.specs.Rules.{Event}
-use Rattle.chip_part.specs.declared.cursor.Cursor.{Cursor}
-use Rattle.chip_actor.specs.Turning.{DueAt}
-use Rattle.chip_actor.specs.Medium.{Meets}
+use Rattle.chip_actor.proofs.Names.{Option, ap, ◌∙◌, sym, subst, arith, Event, Cursor, DueAt, Meets}
 use Rattle.chip_actor.proofs.MediumLemmas.{DueBy, due_at, may_serve, can_apply, moves_one, one_if, moves_none, moves_on}
 use Rattle.chip_actor.proofs.MediumLemmas.{meets_after, then_over, fewer_since, few_left, turn_ends, not_end}
-use Rattle.chip_actor.proofs.actor.ActorState.finish.Goals as goal
 use Rattle.chip_actor.proofs.actor.ActorState.finish.Goals.{At-loop-event, After-act-act}
 use Rattle.chip_actor.proofs.actor.ActorState.finish.Given.{Over}
+use Rattle.chip_actor.proofs.actor.ActorState.finish.Goals as goal
 
 pub loop-event-init : goal.loop-event-init
 loop-event-init g c = record { few = omega arith; moved = moves_none }

@@ -1,6 +1,4 @@
-use Rattle.std.proofs.Common.{◌+◌, ◌≤◌, length}
-use Rattle.chip_part.specs.Cursor.{most_left}
-use Rattle.chip_actor.specs.Medium.{Moves}
+use Rattle.chip_actor.proofs.Names.{◌+◌, ◌≤◌, length, most_left, Moves}
 use Rattle.chip_actor.proofs.actor.ActorState.finish.Given as goal
 
 abbrev pub invariant-loop-event : goal.invariant-loop-event

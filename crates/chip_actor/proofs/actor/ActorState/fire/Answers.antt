@@ -1,8 +1,4 @@
-use Rattle.std.proofs.Common.{sym, subst}
-use Rattle.chip_part.specs.Rules.{Fire}
-use Rattle.chip_actor.specs.Actor.{Actor, SomePart}
-use Rattle.chip_part.specs.Acting.{CanDo}
-use Rattle.chip_actor.specs.contracts.actor.ActorState.{the_view}
+use Rattle.chip_actor.proofs.Names.{sym, subst, Fire, Actor, SomePart, CanDo, the_view}
 use Rattle.chip_actor.proofs.MakingLemmas.{fire_fits, fire_made}
 use Rattle.chip_actor.proofs.actor.ActorState.fire.Goals as goal
 

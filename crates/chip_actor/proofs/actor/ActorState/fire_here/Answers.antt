@@ -1,11 +1,11 @@
-use Rattle.std.proofs.Common.{◌∙◌, refl, sym}
-use Rattle.chip_part.specs.declared.act.Act.TheVariants as Do
-use Rattle.chip_part.specs.declared.cursor.Cursor.TheVariants as At
+use Rattle.chip_actor.proofs.Names.{◌∙◌, refl, sym}
 use Rattle.chip_actor.proofs.MediumLemmas.{DueBy, may_serve, can_do, moves_one}
 use Rattle.chip_actor.proofs.TurnOverLemmas.{fire_by, no_fire}
-use Rattle.chip_actor.proofs.actor.ActorState.fire_here.Goals as goal
 use Rattle.chip_actor.proofs.actor.ActorState.fire_here.Goals.{After-batch-k}
 use Rattle.chip_actor.proofs.actor.ActorState.fire_here.Given.{Over}
+use Rattle.chip_part.specs.declared.act.Act.TheVariants as Do
+use Rattle.chip_part.specs.declared.cursor.Cursor.TheVariants as At
+use Rattle.chip_actor.proofs.actor.ActorState.fire_here.Goals as goal
 
 pub returns-clause-moves : goal.returns-clause-moves
 returns-clause-moves g c = no_fire (λ h s stands. sym c.if-may_fire.false ∙ c.may_fire.ensures h s stands)

@@ -1,9 +1,5 @@
-use Rattle.std.proofs.Common.{◌≡◌, ◌∙◌, Bool, true, false, sym, ap, not, eqb, lt-ltb, Option, Some, None, is_some}
-use Rattle.std.proofs.Common.{is_none, refl}
-use Rattle.chip_part.specs.declared.rule.Rule.TheVariants.{NoSuch, Sink, Halted, Unput, NoCause}
-use Rattle.chip_part.specs.declared.cause.Cause.{Cause}
-use Rattle.chip_part.specs.Rules.{need}
-use Rattle.chip_actor.specs.Actor.{Actor}
+use Rattle.chip_actor.proofs.Names.{◌≡◌, ◌∙◌, Bool, true, false, sym, ap, not, eqb, lt-ltb, Option, Some, None, is_some}
+use Rattle.chip_actor.proofs.Names.{is_none, refl, NoSuch, Sink, Halted, Unput, NoCause, Cause, need, Actor}
 use Rattle.chip_actor.proofs.actor.ActorState.halt_rule.Goals as goal
 
 none_of : (h : Option Cause) (b : Bool) → is_some h ≡ not b → b ≡ is_none h

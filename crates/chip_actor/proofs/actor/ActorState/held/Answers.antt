@@ -1,6 +1,4 @@
-use Rattle.std.proofs.Common.{sym, subst}
-use Rattle.std.specs.List.{Contains}
-use Rattle.chip_actor.specs.Actor.{Actor}
+use Rattle.chip_actor.proofs.Names.{sym, subst, Contains, Actor}
 use Rattle.chip_actor.proofs.StandingLemmas.{among_outs}
 use Rattle.chip_actor.proofs.actor.ActorState.held.Goals as goal
 

@@ -1,8 +1,4 @@
-use Rattle.std.proofs.Common.{◌∙◌, sym, ap, Option, Ok}
-use Rattle.chip_part.specs.declared.rule.Rule.{Rule}
-use Rattle.chip_part.specs.Rules.{Event, unmet_rule}
-use Rattle.chip_part.specs.Steps.{part_of}
-use Rattle.chip_part.specs.Acting.{act_of, verdict}
+use Rattle.chip_actor.proofs.Names.{◌∙◌, sym, ap, Option, Ok, Rule, Event, unmet_rule, part_of, act_of, verdict}
 use Rattle.chip_actor.proofs.actor.ActorState.may.Goals as goal
 
 pub act_at-requires-clause-due : goal.act_at-requires-clause-due

@@ -1,9 +1,5 @@
-use Rattle.std.proofs.Common.{◌∙◌, ℕ, ap, subst, eqb, None}
-use Rattle.chip_graph.specs.Multigraph.{Multigraph, edges_out, degree}
-use Rattle.chip_detect.specs.Books.{IsFresh}
-use Rattle.chip_part.specs.Setting.{setting_with}
-use Rattle.chip_actor.specs.Ends.{IsFreshOuts, IsFreshIns}
-use Rattle.chip_actor.specs.Actor.{Actor}
+use Rattle.chip_actor.proofs.Names.{◌∙◌, ℕ, ap, subst, eqb, None, Multigraph, edges_out, degree, IsFresh, setting_with}
+use Rattle.chip_actor.proofs.Names.{IsFreshOuts, IsFreshIns, Actor}
 use Rattle.chip_actor.proofs.ActorOpeningLemmas.{opens}
 use Rattle.chip_actor.proofs.actor.ActorState.new.Goals as goal
 

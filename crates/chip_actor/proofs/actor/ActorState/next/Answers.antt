@@ -1,5 +1,4 @@
-use Rattle.std.proofs.Common.{◌∙◌, sym, refl}
-use Rattle.chip_part.proofs.CursorLemmas.{is_next, is_over, act_is_some}
+use Rattle.chip_actor.proofs.Names.{◌∙◌, sym, refl, is_next, is_over, act_is_some}
 use Rattle.chip_actor.proofs.actor.ActorState.next.Goals as goal
 
 pub act-requires : goal.act-requires

@@ -1,6 +1,4 @@
-use Rattle.std.proofs.Common.{sym, subst}
-use Rattle.chip_actor.specs.Actor.{Makes}
-use Rattle.chip_actor.specs.Found.{Found, event_found}
+use Rattle.chip_actor.proofs.Names.{sym, subst, Makes, Found, event_found}
 use Rattle.chip_actor.proofs.actor.ActorState.note.Goals as goal
 
 pub returns-in-Ack : goal.returns-in-Ack

@@ -1,8 +1,4 @@
-use Rattle.std.proofs.Common.{◌∙◌, sym, subst, arith}
-use Rattle.chip_part.specs.Rules.{Put}
-use Rattle.chip_actor.specs.Actor.{Actor, SomePart}
-use Rattle.chip_part.specs.Acting.{CanDo}
-use Rattle.chip_actor.specs.contracts.actor.ActorState.{the_view}
+use Rattle.chip_actor.proofs.Names.{◌∙◌, sym, subst, arith, Put, Actor, SomePart, CanDo, the_view}
 use Rattle.chip_actor.proofs.MakingLemmas.{some_unput, put_made}
 use Rattle.chip_actor.proofs.actor.ActorState.put.Goals as goal
 

@@ -1,18 +1,13 @@
-use Rattle.std.proofs.Common.{◌≡◌, ◌∙◌, ◌<◌, ℕ, Option, Some, None, MatchOption, IfSome, slice_index, length, refl, sym, ap}
-use Rattle.std.proofs.Common.{subst}
-use Rattle.chip_link.specs.Ends.{put_of}
-use Rattle.chip_part.specs.declared.act.Act.TheVariants as Do
-use Rattle.chip_part.specs.declared.cursor.Cursor.TheVariants as At
-use Rattle.chip_part.specs.Part.{is_by_limit}
-use Rattle.chip_actor.specs.Ends.{out_on}
-use Rattle.chip_actor.specs.Actor.{Actor, with_sent}
-use Rattle.chip_actor.specs.Medium.{Meets, Moves}
-use Rattle.chip_actor.specs.contracts.actor.ActorState.{the_view}
+use Rattle.chip_actor.proofs.Names.{◌≡◌, ◌∙◌, ◌<◌, ℕ, Option, Some, None, MatchOption, IfSome, slice_index, length}
+use Rattle.chip_actor.proofs.Names.{refl, sym, ap, subst, put_of, is_by_limit, out_on, Actor, with_sent, Meets, Moves}
+use Rattle.chip_actor.proofs.Names.{the_view}
 use Rattle.chip_actor.proofs.MediumLemmas.{DueBy, may_serve, can_do, moves_one, moves_on, meets_after}
 use Rattle.chip_actor.proofs.SendLemmas.{stop_due}
-use Rattle.chip_actor.proofs.actor.ActorState.send_all.Goals as goal
 use Rattle.chip_actor.proofs.actor.ActorState.send_all.Goals.{After-send_all-sent, After-is_by_limit}
 use Rattle.chip_actor.proofs.actor.ActorState.send_all.Given.{Over}
+use Rattle.chip_part.specs.declared.act.Act.TheVariants as Do
+use Rattle.chip_part.specs.declared.cursor.Cursor.TheVariants as At
+use Rattle.chip_actor.proofs.actor.ActorState.send_all.Goals as goal
 
 pub send_all-sent-requires : goal.send_all-sent-requires
 send_all-sent-requires g c = (

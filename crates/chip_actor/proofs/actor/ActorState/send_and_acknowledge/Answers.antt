@@ -1,12 +1,10 @@
-use Rattle.std.proofs.Common.{◌∙◌, is_some, sym, ap}
-use Rattle.chip_part.specs.declared.cursor.Cursor.TheVariants as At
-use Rattle.chip_actor.specs.Actor.{Actor}
-use Rattle.chip_actor.specs.Medium.{Moves}
+use Rattle.chip_actor.proofs.Names.{◌∙◌, is_some, sym, ap, Actor, Moves}
 use Rattle.chip_actor.proofs.MediumLemmas.{moves_on, meets_after, then_over, over_then}
 use Rattle.chip_actor.proofs.TurnOverLemmas.{nothing_before, no_limit, nothing_owed}
-use Rattle.chip_actor.proofs.actor.ActorState.send_and_acknowledge.Goals as goal
 use Rattle.chip_actor.proofs.actor.ActorState.send_and_acknowledge.Goals.{After-send_all-sent}
 use Rattle.chip_actor.proofs.actor.ActorState.send_and_acknowledge.Given.{Over}
+use Rattle.chip_part.specs.declared.cursor.Cursor.TheVariants as At
+use Rattle.chip_actor.proofs.actor.ActorState.send_and_acknowledge.Goals as goal
 
 pub send_all-sent-requires : goal.send_all-sent-requires
 send_all-sent-requires g c = meets_after c.requires (nothing_before {H = g.M.Medium.holds c.args.medium.now}

@@ -1,4 +1,4 @@
-use Rattle.chip_actor.specs.contracts.actor.ActorState.{the_view}
+use Rattle.chip_actor.proofs.Names.{the_view}
 use Rattle.chip_actor.proofs.MakingLemmas.{settle_made}
 use Rattle.chip_actor.proofs.actor.ActorState.settle.Goals as goal
 

@@ -1,17 +1,13 @@
-use Rattle.std.proofs.Common.{◌∙◌, ◌+◌, ◌≤◌, ◌<◌, ℕ, List, length, sym, ap, subst, arith}
-use Rattle.chip_part.specs.declared.cursor.Cursor.TheVariants as At
-use Rattle.chip_detect.specs.Books.{Books}
-use Rattle.chip_actor.specs.declared.ends.outs.OutEnd.{OutEnd}
-use Rattle.chip_actor.specs.Ends.{OutEnds}
-use Rattle.chip_actor.specs.Actor.{Actor}
-use Rattle.chip_actor.specs.Medium.{Moves}
+use Rattle.chip_actor.proofs.Names.{◌∙◌, ◌+◌, ◌≤◌, ◌<◌, ℕ, List, length, sym, ap, subst, arith, Books, OutEnd, OutEnds}
+use Rattle.chip_actor.proofs.Names.{Actor, Moves}
 use Rattle.chip_actor.proofs.MediumLemmas.{moves_none, moves_on, meets_after, then_over}
 use Rattle.chip_actor.proofs.TurnOverLemmas.{settles_end}
 use Rattle.chip_actor.proofs.LoopLemmas.{FoundOut, out_in_books, settle_asks, settle_fits, settle_moves, settle_past}
 use Rattle.chip_actor.proofs.LoopLemmas.{counts_more}
-use Rattle.chip_actor.proofs.actor.ActorState.settle_all.Goals as goal
 use Rattle.chip_actor.proofs.actor.ActorState.settle_all.Goals.{After-edge-edge}
 use Rattle.chip_actor.proofs.actor.ActorState.settle_all.Given.{Over}
+use Rattle.chip_part.specs.declared.cursor.Cursor.TheVariants as At
+use Rattle.chip_actor.proofs.actor.ActorState.settle_all.Goals as goal
 
 pub loop-index-init : goal.loop-index-init
 loop-index-init g c = record {

@@ -1,6 +1,5 @@
-use Rattle.std.proofs.Common.{◌≤◌}
+use Rattle.chip_actor.proofs.Names.{◌≤◌, Moves}
 use Rattle.chip_part.specs.declared.cursor.Cursor.TheVariants as At
-use Rattle.chip_actor.specs.Medium.{Moves}
 use Rattle.chip_actor.proofs.actor.ActorState.settle_all.Given as goal
 
 abbrev pub invariant-loop-index : goal.invariant-loop-index

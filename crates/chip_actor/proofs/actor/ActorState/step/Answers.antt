@@ -1,11 +1,5 @@
-use Rattle.std.proofs.Common.{◌∷◌, ◌∙◌, ℕ, Option, refl, sym, ap, subst}
-use Rattle.chip_part.specs.declared.rule.Rule.{Rule}
-use Rattle.chip_part.specs.declared.reply.Reply.TheVariants.{NotNow}
-use Rattle.chip_part.specs.Rules.{Event, unmet_rule}
-use Rattle.chip_part.specs.Steps.{part_of, does, saw}
-use Rattle.chip_part.specs.Acting.{FitsSeen}
-use Rattle.chip_part.proofs.CursorLemmas.{act_is_some}
-use Rattle.chip_actor.specs.Found.{event_found, IsAnswered}
+use Rattle.chip_actor.proofs.Names.{◌∷◌, ◌∙◌, ℕ, Option, refl, sym, ap, subst, Rule, NotNow, Event, unmet_rule, part_of}
+use Rattle.chip_actor.proofs.Names.{does, saw, FitsSeen, act_is_some, event_found, IsAnswered}
 use Rattle.chip_actor.proofs.FindingLemmas.{is_due}
 use Rattle.chip_actor.proofs.actor.ActorState.step.Goals as goal
 

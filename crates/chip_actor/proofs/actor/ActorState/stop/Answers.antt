@@ -1,8 +1,4 @@
-use Rattle.std.proofs.Common.{◌≡◌, sym, subst}
-use Rattle.chip_graph.proofs.SumLemmas.{cond_yes, cond_no}
-use Rattle.chip_part.specs.Part.{cause}
-use Rattle.chip_actor.specs.Actor.{Actor, WhateverPart}
-use Rattle.chip_actor.specs.contracts.actor.ActorState.{the_view}
+use Rattle.chip_actor.proofs.Names.{◌≡◌, sym, subst, cond_yes, cond_no, cause, Actor, WhateverPart, the_view}
 use Rattle.chip_actor.proofs.MakingLemmas.{halt_made}
 use Rattle.chip_actor.proofs.actor.ActorState.stop.Goals as goal
 

@@ -1,5 +1,4 @@
-use Rattle.std.proofs.Common.{◌∙◌, sym}
-use Rattle.chip_actor.specs.contracts.actor.ActorState.{the_view}
+use Rattle.chip_actor.proofs.Names.{◌∙◌, sym, the_view}
 use Rattle.chip_actor.proofs.MakingLemmas.{take_made, take_empty}
 use Rattle.chip_actor.proofs.actor.ActorState.take.Goals as goal
 

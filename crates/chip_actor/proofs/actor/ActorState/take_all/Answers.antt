@@ -1,8 +1,5 @@
-use Rattle.std.proofs.Common.{sym, subst}
+use Rattle.chip_actor.proofs.Names.{sym, subst, Actor, Meets, Moves, the_view}
 use Rattle.chip_part.specs.declared.cursor.Cursor.TheVariants as At
-use Rattle.chip_actor.specs.Actor.{Actor}
-use Rattle.chip_actor.specs.Medium.{Meets, Moves}
-use Rattle.chip_actor.specs.contracts.actor.ActorState.{the_view}
 use Rattle.chip_actor.proofs.actor.ActorState.take_all.Goals as goal
 
 pub take_all-requires : goal.take_all-requires

@@ -1,7 +1,4 @@
-use Rattle.std.proofs.Common.{◌∙◌, sym, ap, get_or, length, arith}
-use Rattle.std.proofs.lemmas.List.{get_or-map}
-use Rattle.chip_link.specs.Ends.{HeadState}
-use Rattle.chip_actor.specs.Ends.{InEnds}
+use Rattle.chip_actor.proofs.Names.{◌∙◌, sym, ap, get_or, length, arith, get_or-map, HeadState, InEnds}
 use Rattle.chip_actor.proofs.EndLemmas.{in_there}
 use Rattle.chip_actor.proofs.ends.ins.Ins.at.Goals as goal
 

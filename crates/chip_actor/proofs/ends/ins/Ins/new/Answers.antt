@@ -1,9 +1,7 @@
-use Rattle.std.proofs.Common.{◌≡◌, ◌∙◌, map, refl, ap}
-use Rattle.std.proofs.lemmas.List.{take_all}
-use Rattle.chip_link.specs.Ends.{HeadState, new_head}
+use Rattle.chip_actor.proofs.Names.{◌≡◌, ◌∙◌, map, refl, ap, take_all, HeadState, new_head}
 use Rattle.chip_actor.proofs.EndLemmas.{made_numbers, named_apart}
-use Rattle.chip_actor.proofs.ends.ins.Ins.new.Goals as goal
 use Rattle.chip_actor.proofs.ends.ins.Ins.new.Goals.{After-loop-edge}
+use Rattle.chip_actor.proofs.ends.ins.Ins.new.Goals as goal
 
 -- each number has its end
 made : (c : After-loop-edge) → c.loop-edge.ends.items ≡ map (λ e. new_head e c.args.ring) c.args.numbers.now

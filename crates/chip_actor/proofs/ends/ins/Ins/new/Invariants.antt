@@ -1,5 +1,4 @@
-use Rattle.std.proofs.Common.{◌≡◌, map, take}
-use Rattle.chip_link.specs.Ends.{new_head}
+use Rattle.chip_actor.proofs.Names.{◌≡◌, map, take, new_head}
 use Rattle.chip_actor.proofs.ends.ins.Ins.new.Given as goal
 
 abbrev pub invariant-loop-edge : goal.invariant-loop-edge

@@ -1,12 +1,7 @@
-use Rattle.std.proofs.Common.{ℕ, List, Result, IfOk, sym, subst, rules}
-use Rattle.std.specs.List.{Contains}
-use Rattle.std.proofs.lemmas.List.Sorted.{answers_always}
-use Rattle.chip_detect.specs.Slot.{IsSlotOf}
-use Rattle.chip_detect.proofs.IndicesLemmas.{FoundAt, searched}
-use Rattle.chip_link.specs.Ends.{HeadState, new_head}
-use Rattle.chip_actor.specs.Ends.{InEnds, AreApart, ins_of}
-use Rattle.chip_actor.proofs.ends.ins.Ins.slot_of.Goals as goal
+use Rattle.chip_actor.proofs.Names.{ℕ, List, Result, IfOk, sym, subst, rules, Contains, answers_always, IsSlotOf}
+use Rattle.chip_actor.proofs.Names.{FoundAt, searched, HeadState, new_head, InEnds, AreApart, ins_of}
 use Rattle.chip_actor.proofs.ends.ins.Ins.slot_of.Goals.{After-binary_search_by_key}
+use Rattle.chip_actor.proofs.ends.ins.Ins.slot_of.Goals as goal
 
 -- the edge has an end, so the search succeeds, at its slot
 found : (c : After-binary_search_by_key) → FoundAt (ins_of c.deref.result.now).edges c.args.edge c.binary_search_by_key.result

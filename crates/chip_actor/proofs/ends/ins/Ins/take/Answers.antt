@@ -1,9 +1,8 @@
-use Rattle.std.proofs.Common.{◌≡◌, ◌<◌, ◌^◌, ◌∙◌, ap, sym, subst}
-use Rattle.chip_link.specs.Ends.{HeadState, message_taken, head_after_take}
-use Rattle.chip_actor.specs.Ends.{in_on}
+use Rattle.chip_actor.proofs.Names.{◌≡◌, ◌<◌, ◌^◌, ◌∙◌, ap, sym, subst, HeadState, message_taken, head_after_take}
+use Rattle.chip_actor.proofs.Names.{in_on}
 use Rattle.chip_actor.proofs.EndLemmas.{found_in, written_in, apart_in, take_keeps}
-use Rattle.chip_actor.proofs.ends.ins.Ins.take.Goals as goal
 use Rattle.chip_actor.proofs.ends.ins.Ins.take.Goals.{After-index_mut-end, After-taken}
+use Rattle.chip_actor.proofs.ends.ins.Ins.take.Goals as goal
 
 -- the end that was found is the edge's
 is : (c : After-index_mut-end) → c.index_mut-end.result.now ≡ in_on c.args.self.now c.args.slot.edge

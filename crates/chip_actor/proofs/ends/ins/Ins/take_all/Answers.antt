@@ -1,18 +1,14 @@
-use Rattle.std.proofs.Common.{◌≡◌, ◌∙◌, ◌≤◌, ◌<◌, ◌^◌, List, length, set, Option, None, Some, sym, ap, subst, arith}
-use Rattle.chip_link.specs.declared.message.Message.{Message}
-use Rattle.chip_link.specs.Ends.{HeadState, head_cell, head_after_take, message_taken}
-use Rattle.chip_part.specs.declared.cursor.Cursor.TheVariants as At
-use Rattle.std.specs.Vec.{with_items}
-use Rattle.chip_actor.specs.Ends.{InEnds, ins_of}
-use Rattle.chip_actor.specs.Actor.{Actor, with_taken}
-use Rattle.chip_actor.specs.Medium.{Meets, Moves}
+use Rattle.chip_actor.proofs.Names.{◌≡◌, ◌∙◌, ◌≤◌, ◌<◌, ◌^◌, List, length, set, Option, None, Some, sym, ap, subst}
+use Rattle.chip_actor.proofs.Names.{arith, Message, HeadState, head_cell, head_after_take, message_taken, with_items}
+use Rattle.chip_actor.proofs.Names.{InEnds, ins_of, Actor, with_taken, Meets, Moves}
 use Rattle.chip_actor.proofs.EndLemmas.{filled, named_apart, same_numbers, take_keeps}
 use Rattle.chip_actor.proofs.MediumLemmas.{moves_none, moves_on, meets_after, then_over}
 use Rattle.chip_actor.proofs.TurnOverLemmas.{takes_end}
 use Rattle.chip_actor.proofs.LoopLemmas.{FoundIn, in_in_books, take_asks, take_few, take_nothing, take_fits, take_moves}
-use Rattle.chip_actor.proofs.ends.ins.Ins.take_all.Goals as goal
 use Rattle.chip_actor.proofs.ends.ins.Ins.take_all.Goals.{At-loop-index, After-cell-cell, After-taken}
 use Rattle.chip_actor.proofs.ends.ins.Ins.take_all.Given.{Over}
+use Rattle.chip_part.specs.declared.cursor.Cursor.TheVariants as At
+use Rattle.chip_actor.proofs.ends.ins.Ins.take_all.Goals as goal
 
 pub loop-index-init : goal.loop-index-init
 loop-index-init g c = record {

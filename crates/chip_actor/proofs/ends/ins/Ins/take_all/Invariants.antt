@@ -1,8 +1,5 @@
-use Rattle.std.proofs.Common.{◌≡◌, ◌≤◌}
+use Rattle.chip_actor.proofs.Names.{◌≡◌, ◌≤◌, ins_of, Actor, with_taken, Meets, Moves}
 use Rattle.chip_part.specs.declared.cursor.Cursor.TheVariants as At
-use Rattle.chip_actor.specs.Ends.{ins_of}
-use Rattle.chip_actor.specs.Actor.{Actor, with_taken}
-use Rattle.chip_actor.specs.Medium.{Meets, Moves}
 use Rattle.chip_actor.proofs.ends.ins.Ins.take_all.Given as goal
 
 abbrev pub invariant-loop-index : goal.invariant-loop-index

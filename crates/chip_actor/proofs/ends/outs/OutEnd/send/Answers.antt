@@ -1,15 +1,12 @@
-use Rattle.std.proofs.Common.{◌≡◌, ◌<◌, ◌∙◌, Some, length, sym, ap, arith}
-use Rattle.chip_link.specs.Ends.{TailState, place_for, tail_after_clear, tail_after_claim}
-use Rattle.chip_part.specs.declared.cursor.Cursor.TheVariants as At
-use Rattle.chip_actor.specs.Ends.{AreApart}
-use Rattle.chip_actor.specs.Actor.{Actor}
-use Rattle.chip_actor.specs.Medium.{Meets}
-use Rattle.chip_actor.proofs.SendLemmas.{sending, Looks, sends_nothing, asks_clear, sees_full, asks_claim, slot_in_books}
-use Rattle.chip_actor.proofs.SendLemmas.{fits_claim, has_room, is_refused, asks_put, is_sent}
+use Rattle.chip_actor.proofs.Names.{◌≡◌, ◌<◌, ◌∙◌, Some, length, sym, ap, arith, TailState, place_for, tail_after_clear}
+use Rattle.chip_actor.proofs.Names.{tail_after_claim, AreApart, Actor, Meets}
+use Rattle.chip_actor.proofs.SendLemmas.{sending, Looks, sends_nothing, asks_clear, sees_full, asks_claim}
+use Rattle.chip_actor.proofs.SendLemmas.{slot_in_books, fits_claim, has_room, is_refused, asks_put, is_sent}
 use Rattle.chip_actor.proofs.EndLemmas.{clear_keeps, claim_keeps}
-use Rattle.chip_actor.proofs.ends.outs.OutEnd.send.Goals as goal
 use Rattle.chip_actor.proofs.ends.outs.OutEnd.send.Goals.{After-cell-cell, In-Some}
 use Rattle.chip_actor.proofs.ends.outs.OutEnd.send.Given.{Over}
+use Rattle.chip_part.specs.declared.cursor.Cursor.TheVariants as At
+use Rattle.chip_actor.proofs.ends.outs.OutEnd.send.Goals as goal
 
 pub returns-then-self-eq0-clause-moves : goal.returns-then-self-eq0-clause-moves
 returns-then-self-eq0-clause-moves g c = λ a apart below meets.

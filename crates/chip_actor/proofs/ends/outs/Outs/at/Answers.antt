@@ -1,6 +1,4 @@
-use Rattle.std.proofs.Common.{◌∙◌, sym, ap, get_or, length, arith}
-use Rattle.std.proofs.lemmas.List.{get_or-map}
-use Rattle.chip_actor.specs.Ends.{OutEnd, OutEnds}
+use Rattle.chip_actor.proofs.Names.{◌∙◌, sym, ap, get_or, length, arith, get_or-map, OutEnd, OutEnds}
 use Rattle.chip_actor.proofs.EndLemmas.{out_there}
 use Rattle.chip_actor.proofs.ends.outs.Outs.at.Goals as goal
 

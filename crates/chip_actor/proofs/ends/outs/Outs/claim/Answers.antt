@@ -1,10 +1,8 @@
-use Rattle.std.proofs.Common.{◌≡◌, ◌∙◌, ap, sym, subst, ◌^◌, ◌≤◌, IsTrue, set}
-use Rattle.chip_link.specs.Words.{claims_in}
-use Rattle.chip_link.specs.Ends.{TailState, message_claimed}
-use Rattle.chip_actor.specs.Ends.{OutEnd, outs_of, out_on, out_after_claim, ChangesOut}
+use Rattle.chip_actor.proofs.Names.{◌≡◌, ◌∙◌, ap, sym, subst, ◌^◌, ◌≤◌, IsTrue, set, claims_in, TailState}
+use Rattle.chip_actor.proofs.Names.{message_claimed, OutEnd, outs_of, out_on, out_after_claim, ChangesOut}
 use Rattle.chip_actor.proofs.EndLemmas.{written_out, apart_out, found_out, claim_keeps, claim_taken, claim_refused}
-use Rattle.chip_actor.proofs.ends.outs.Outs.claim.Goals as goal
 use Rattle.chip_actor.proofs.ends.outs.Outs.claim.Goals.{After-index_mut-out}
+use Rattle.chip_actor.proofs.ends.outs.Outs.claim.Goals as goal
 
 -- the end that was found is the edge's
 is : (c : After-index_mut-out) → c.index_mut-out.result.now ≡ out_on c.args.self.now c.args.slot.edge

@@ -1,9 +1,7 @@
-use Rattle.std.proofs.Common.{◌≡◌, ◌∙◌, ap}
-use Rattle.chip_link.specs.Ends.{TailState, claim_words, tail_after_clear}
-use Rattle.chip_actor.specs.Ends.{OutEnd, out_after_clear}
+use Rattle.chip_actor.proofs.Names.{◌≡◌, ◌∙◌, ap, TailState, claim_words, tail_after_clear, OutEnd, out_after_clear}
 use Rattle.chip_actor.proofs.EndLemmas.{written_out, apart_out, found_out, clear_keeps}
-use Rattle.chip_actor.proofs.ends.outs.Outs.clear.Goals as goal
 use Rattle.chip_actor.proofs.ends.outs.Outs.clear.Goals.{After-cleared-is_clear}
+use Rattle.chip_actor.proofs.ends.outs.Outs.clear.Goals as goal
 
 pub returns-clause-words : goal.returns-clause-words
 returns-clause-words c =

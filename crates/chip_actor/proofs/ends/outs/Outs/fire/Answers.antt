@@ -1,14 +1,10 @@
-use Rattle.std.proofs.Common.{◌≡◌, ℕ, ◌*◌, ◌<◌, ◌≤◌, map, refl, ◌^◌, arith, ap, sym, length, length-set}
-use Rattle.std.proofs.Common.{get_or, ◌∙◌, subst, List, [], ◌∷◌}
-use Rattle.chip_actor.specs.Ends.{OutEnd, OutEnds, outs_of, on_edge, no_out, out_on, out_after_fire}
-use Rattle.std.specs.List.{Contains}
-use Rattle.std.specs.Vec.{with_items}
-use Rattle.std.proofs.lemmas.List.{get_or_default, take_all}
-use Rattle.chip_detect.proofs.LookupsLemmas.{ascends}
+use Rattle.chip_actor.proofs.Names.{◌≡◌, ℕ, ◌*◌, ◌<◌, ◌≤◌, map, refl, ◌^◌, arith, ap, sym, length, length-set, get_or}
+use Rattle.chip_actor.proofs.Names.{◌∙◌, subst, List, [], ◌∷◌, OutEnd, OutEnds, outs_of, on_edge, no_out, out_on}
+use Rattle.chip_actor.proofs.Names.{out_after_fire, Contains, with_items, get_or_default, take_all, ascends}
 use Rattle.chip_actor.proofs.LookupsLemmas.{on_edge_at, on_edge_map}
 use Rattle.chip_actor.proofs.EndLemmas.{reads_old, done_more, rest_less, filled, named_apart}
-use Rattle.chip_actor.proofs.ends.outs.Outs.fire.Goals as goal
 use Rattle.chip_actor.proofs.ends.outs.Outs.fire.Goals.{After-loop-out}
+use Rattle.chip_actor.proofs.ends.outs.Outs.fire.Goals as goal
 
 -- what stands there is what stood there before the loop
 pub overflow_mul-out : goal.overflow_mul-out

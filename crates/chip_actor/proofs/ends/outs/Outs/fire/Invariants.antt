@@ -1,5 +1,4 @@
-use Rattle.std.proofs.Common.{◌≡◌, length, map, take, drop}
-use Rattle.chip_actor.specs.Ends.{out_after_fire}
+use Rattle.chip_actor.proofs.Names.{◌≡◌, length, map, take, drop, out_after_fire}
 use Rattle.chip_actor.proofs.ends.outs.Outs.fire.Given as goal
 
 abbrev pub invariant-loop-out : goal.invariant-loop-out

@@ -1,12 +1,8 @@
-use Rattle.std.proofs.Common.{◌≡◌, ◌∙◌, ◌<◌, ℕ, List, length, map, arith, refl, sym, ap, subst}
-use Rattle.std.proofs.lemmas.List.{take_all}
-use Rattle.std.specs.List.{All}
-use Rattle.chip_actor.specs.Ends.{OutEnd, fresh_out}
-use Rattle.chip_part.proofs.PickedLemmas.{outs_rise, outs_below}
-use Rattle.chip_graph.specs.Multigraph.{edges_out}
+use Rattle.chip_actor.proofs.Names.{◌≡◌, ◌∙◌, ◌<◌, ℕ, List, length, map, arith, refl, sym, ap, subst, take_all, All}
+use Rattle.chip_actor.proofs.Names.{OutEnd, fresh_out, outs_rise, outs_below, edges_out}
 use Rattle.chip_actor.proofs.EndLemmas.{made_numbers, named_apart}
-use Rattle.chip_actor.proofs.ends.outs.Outs.new.Goals as goal
 use Rattle.chip_actor.proofs.ends.outs.Outs.new.Goals.{After-loop-edge}
+use Rattle.chip_actor.proofs.ends.outs.Outs.new.Goals as goal
 
 pub offset_bounds-rows-edge : goal.offset_bounds-rows-edge
 offset_bounds-rows-edge c =

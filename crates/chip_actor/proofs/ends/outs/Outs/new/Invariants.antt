@@ -1,5 +1,4 @@
-use Rattle.std.proofs.Common.{◌≡◌, map, take}
-use Rattle.chip_actor.specs.Ends.{fresh_out}
+use Rattle.chip_actor.proofs.Names.{◌≡◌, map, take, fresh_out}
 use Rattle.chip_actor.proofs.ends.outs.Outs.new.Given as goal
 
 abbrev pub invariant-loop-edge : goal.invariant-loop-edge

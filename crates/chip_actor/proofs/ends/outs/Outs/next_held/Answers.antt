@@ -1,9 +1,8 @@
-use Rattle.std.proofs.Common.{◌≡◌, ◌∙◌, ℕ, ◌<◌, false, is_some, sym, ap, arith, length, get_or, subst}
-use Rattle.chip_link.specs.Ends.{put_of}
-use Rattle.chip_actor.specs.Ends.{OutEnd, OutEnds, out_on}
+use Rattle.chip_actor.proofs.Names.{◌≡◌, ◌∙◌, ℕ, ◌<◌, false, is_some, sym, ap, arith, length, get_or, subst, put_of}
+use Rattle.chip_actor.proofs.Names.{OutEnd, OutEnds, out_on}
 use Rattle.chip_actor.proofs.EndLemmas.{out_there, from_more}
-use Rattle.chip_actor.proofs.ends.outs.Outs.next_held.Goals as goal
 use Rattle.chip_actor.proofs.ends.outs.Outs.next_held.Goals.{After-is_some}
+use Rattle.chip_actor.proofs.ends.outs.Outs.next_held.Goals as goal
 
 -- the place is one of the list, and what the test tells there
 within : (c : After-is_some) → c.loop-next.next < length c.args.self.now.edges

@@ -1,6 +1,4 @@
-use Rattle.std.proofs.Common.{◌≡◌, ℕ, ◌<◌, ◌≤◌, false, slice_index, is_some}
-use Rattle.chip_link.specs.Ends.{put_of}
-use Rattle.chip_actor.specs.Ends.{out_on}
+use Rattle.chip_actor.proofs.Names.{◌≡◌, ℕ, ◌<◌, ◌≤◌, false, slice_index, is_some, put_of, out_on}
 use Rattle.chip_actor.proofs.ends.outs.Outs.next_held.Given as goal
 
 abbrev pub invariant-loop-next : goal.invariant-loop-next

@@ -1,8 +1,8 @@
-use Rattle.std.proofs.Common.{◌≡◌, ◌∙◌, ℕ, ◌<◌, false, not, eqb, sym, ap, arith, length, get_or, subst, ne_eqb, eq-eqb}
-use Rattle.chip_actor.specs.Ends.{OutEnd, OutEnds, out_on}
+use Rattle.chip_actor.proofs.Names.{◌≡◌, ◌∙◌, ℕ, ◌<◌, false, not, eqb, sym, ap, arith, length, get_or, subst, ne_eqb}
+use Rattle.chip_actor.proofs.Names.{eq-eqb, OutEnd, OutEnds, out_on}
 use Rattle.chip_actor.proofs.EndLemmas.{out_there, from_more}
-use Rattle.chip_actor.proofs.ends.outs.Outs.next_pending.Goals as goal
 use Rattle.chip_actor.proofs.ends.outs.Outs.next_pending.Goals.{After-index}
+use Rattle.chip_actor.proofs.ends.outs.Outs.next_pending.Goals as goal
 
 -- the place is one of the list, and what the test tells there
 within : (c : After-index) → c.loop-next.next < length c.args.self.now.edges

@@ -1,5 +1,4 @@
-use Rattle.std.proofs.Common.{◌≡◌, ℕ, ◌<◌, ◌≤◌, false, slice_index, not, ◌==◌}
-use Rattle.chip_actor.specs.Ends.{out_on}
+use Rattle.chip_actor.proofs.Names.{◌≡◌, ℕ, ◌<◌, ◌≤◌, false, slice_index, not, ◌==◌, out_on}
 use Rattle.chip_actor.proofs.ends.outs.Outs.next_pending.Given as goal
 
 abbrev pub invariant-loop-next : goal.invariant-loop-next

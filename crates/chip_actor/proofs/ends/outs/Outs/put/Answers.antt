@@ -1,6 +1,4 @@
-use Rattle.std.proofs.Common.{◌∙◌, ap}
-use Rattle.chip_link.specs.Ends.{TailState, put_of}
-use Rattle.chip_actor.specs.Ends.{OutEnd, out_after_put}
+use Rattle.chip_actor.proofs.Names.{◌∙◌, ap, TailState, put_of, OutEnd, out_after_put}
 use Rattle.chip_actor.proofs.EndLemmas.{written_out, apart_out, found_out}
 use Rattle.chip_actor.proofs.ends.outs.Outs.put.Goals as goal
 

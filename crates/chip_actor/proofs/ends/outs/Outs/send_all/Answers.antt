@@ -1,18 +1,13 @@
-use Rattle.std.proofs.Common.{◌≡◌, ◌∙◌, ◌≤◌, ◌<◌, List, length, get_or, set, slice_index, None, refl, sym, ap}
-use Rattle.std.proofs.Common.{subst, arith, length-set}
-use Rattle.std.proofs.lemmas.List.{get_or-set_same, set-get_or}
-use Rattle.std.specs.Vec.{with_items}
-use Rattle.chip_link.specs.Ends.{put_of}
-use Rattle.chip_part.specs.declared.cursor.Cursor.TheVariants as At
-use Rattle.chip_actor.specs.Ends.{OutEnd, OutEnds, AreApart, outs_of, out_on, with_end}
-use Rattle.chip_actor.specs.Actor.{Actor, with_sent}
-use Rattle.chip_actor.specs.Medium.{Meets, Moves}
+use Rattle.chip_actor.proofs.Names.{◌≡◌, ◌∙◌, ◌≤◌, ◌<◌, List, length, get_or, set, slice_index, None, refl, sym, ap}
+use Rattle.chip_actor.proofs.Names.{subst, arith, length-set, get_or-set_same, set-get_or, with_items, put_of, OutEnd}
+use Rattle.chip_actor.proofs.Names.{OutEnds, AreApart, outs_of, out_on, with_end, Actor, with_sent, Meets, Moves}
 use Rattle.chip_actor.proofs.EndLemmas.{filled, named_apart, out_there, same_numbers}
 use Rattle.chip_actor.proofs.MediumLemmas.{moves_none, moves_on, meets_after, then_over}
 use Rattle.chip_actor.proofs.TurnOverLemmas.{sends_end}
-use Rattle.chip_actor.proofs.ends.outs.Outs.send_all.Goals as goal
 use Rattle.chip_actor.proofs.ends.outs.Outs.send_all.Goals.{At-loop-index, After-send}
 use Rattle.chip_actor.proofs.ends.outs.Outs.send_all.Given.{Over}
+use Rattle.chip_part.specs.declared.cursor.Cursor.TheVariants as At
+use Rattle.chip_actor.proofs.ends.outs.Outs.send_all.Goals as goal
 
 pub loop-index-init : goal.loop-index-init
 loop-index-init g c = record {

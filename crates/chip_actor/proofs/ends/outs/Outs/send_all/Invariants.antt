@@ -1,8 +1,5 @@
-use Rattle.std.proofs.Common.{◌≡◌, ◌*◌, ◌≤◌}
+use Rattle.chip_actor.proofs.Names.{◌≡◌, ◌*◌, ◌≤◌, outs_of, Actor, with_sent, Meets, Moves}
 use Rattle.chip_part.specs.declared.cursor.Cursor.TheVariants as At
-use Rattle.chip_actor.specs.Ends.{outs_of}
-use Rattle.chip_actor.specs.Actor.{Actor, with_sent}
-use Rattle.chip_actor.specs.Medium.{Meets, Moves}
 use Rattle.chip_actor.proofs.ends.outs.Outs.send_all.Given as goal
 
 abbrev pub invariant-loop-index : goal.invariant-loop-index

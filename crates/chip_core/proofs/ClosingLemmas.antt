@@ -1,44 +1,24 @@
 -- Serves Core.antt, Soon.antt.
 -- Where every vertex is passive and all that was claimed is taken, steps only settle and acknowledge. Where the root is
 -- closed nothing changes any more, everything is delivered, and chips and counts are those of every end.
-use Rattle.std.proofs.lemmas.Bool.Decides.{nat_tests}
-use Rattle.chip_part.specs.Part.{pending_of, owed, is_passive, is_legal}
-use Rattle.std.proofs.Common.{◌≡◌, ℕ, ◌<◌, ◌≤◌, true, false, eqb, ◌∷◌, length, get_or, Option, None, option_to_list}
-use Rattle.std.proofs.Common.{refl, sym, ap, ◌∙◌, arith, ⊎_elim, true≢false, ◌≢◌, ◌+◌, ◌-◌, Bool, cond, List, []}
-use Rattle.std.proofs.Common.{sum, Some}
-use Rattle.std.proofs.lemmas.List.{get_or_past, drop_all}
-use mathlib.Core.Logic.{dite}
-use native.Mathlib.Decide.{dec_lt}
-use Rattle.chip_graph.specs.ChipGame.{IsGame}
-use Rattle.chip_graph.proofs.SumLemmas.{tested_none}
-use Rattle.chip_link.specs.Link.{claims_of, sent_counts}
-use Rattle.chip_part.specs.Setting.{Setting}
-use Rattle.chip_part.specs.Kept.{IsNeutral}
-use Rattle.chip_part.specs.Steps.{saw}
-use Rattle.chip_part.proofs.EdgeLemmas.{tail_root}
-use Rattle.chip_part.proofs.PartLemmas.{at_edge, idle_take, no_fire, no_pending, no_halt, passive_parts, out_zero}
-use Rattle.chip_part.proofs.PartLemmas.{none_halt}
-use Rattle.chip_part.proofs.RuleLemmas.{rules_met}
-use Rattle.chip_core.specs.Core.{Log, Step, Event, Part, Take, Ack, Fire, Clear, Claim, Put, Halt, Settle, Seal, Read}
-use Rattle.chip_core.specs.Core.{Feed, End, part_of, does, part_in, out_in, into_in, IsLegalLog, outstanding, tail_of}
-use Rattle.chip_core.specs.Core.{head_of, root, all_edges, graph_edges, Rule, unmet_rule, sees, is_by_limit, answer}
-use Rattle.chip_core.specs.Core.{step, log_after, IsClosed, stopper, root_edge}
+use Rattle.chip_core.proofs.Names.{nat_tests, pending_of, owed, is_passive, is_legal, ◌≡◌, ℕ, ◌<◌, ◌≤◌, true, false}
+use Rattle.chip_core.proofs.Names.{eqb, ◌∷◌, length, get_or, Option, None, option_to_list, refl, sym, ap, ◌∙◌, arith}
+use Rattle.chip_core.proofs.Names.{⊎_elim, true≢false, ◌≢◌, ◌+◌, ◌-◌, Bool, cond, List, [], sum, Some, get_or_past}
+use Rattle.chip_core.proofs.Names.{drop_all, dite, dec_lt, IsGame, tested_none, claims_of, sent_counts, Setting}
+use Rattle.chip_core.proofs.Names.{IsNeutral, saw, tail_root, at_edge, idle_take, no_fire, no_pending, no_halt}
+use Rattle.chip_core.proofs.Names.{passive_parts, out_zero, none_halt, rules_met, Log, Step, Event, Part, Take, Ack}
+use Rattle.chip_core.proofs.Names.{Fire, Clear, Claim, Put, Halt, Settle, Seal, Read, Feed, End, part_of, does, part_in}
+use Rattle.chip_core.proofs.Names.{out_in, into_in, IsLegalLog, outstanding, tail_of, head_of, root, all_edges}
+use Rattle.chip_core.proofs.Names.{graph_edges, Rule, unmet_rule, sees, is_by_limit, answer, step, log_after, IsClosed}
+use Rattle.chip_core.proofs.Names.{stopper, root_edge, filter_below, length-sent_counts, IsLegal, legal_vertices}
+use Rattle.chip_core.proofs.Names.{position_after, IsFiringSequence, HasEnded, HasEndedWithin, IsWholePlay, one_end}
+use Rattle.chip_core.proofs.Names.{same_ends, SealedEdge, FiringLimit, over_ins, counts_in_flight, messages_from}
+use Rattle.chip_core.proofs.Names.{in_flight, chips_given, held, chips_at, firings, AgreesWith, NoneHalted}
+use Rattle.chip_core.proofs.Names.{NoneHaltedBySeal, picked_ext}
 use Rattle.chip_core.proofs.LogLemmas.{part_kept, edge_counts, tail_inside, end_stays, tail_cases}
-use Rattle.chip_graph.specs.Sums.{filter_below}
-use Rattle.chip_link.proofs.SoundsLemmas.{length-sent_counts}
-use Rattle.chip_sequence.specs.Firing.{IsLegal, legal_vertices}
-use Rattle.chip_sequence.specs.Sequence.{position_after, IsFiringSequence, HasEnded, HasEndedWithin, IsWholePlay}
-use Rattle.chip_sequence.proofs.EndLemmas.{one_end}
-use Rattle.chip_sequence.proofs.BoundLemmas.{same_ends}
-use Rattle.chip_part.specs.declared.cause.Cause.TheVariants.{SealedEdge, FiringLimit}
-use Rattle.chip_part.specs.Edges.{over_ins}
-use Rattle.chip_core.specs.Messages.{counts_in_flight, messages_from, in_flight}
-use Rattle.chip_core.specs.Positions.{chips_given, held, chips_at, firings, AgreesWith}
-use Rattle.chip_core.specs.Headline.{NoneHalted, NoneHaltedBySeal}
 use Rattle.chip_core.proofs.OrderLemmas.{all_neutral, all_counts}
 use Rattle.chip_core.proofs.PositionLemmas.{counts_are, leads_to, is_sequence, is_within}
 use Rattle.chip_core.proofs.ReachingLemmas.{step_legal}
-use Rattle.chip_graph.proofs.PickLemmas.{picked_ext}
 
 -- a part as if it owed nothing and waited for nothing
 abbrev pub settled_up : Part → Part

@@ -1,43 +1,28 @@
 -- Serves Detection.antt, Closing.antt.
 -- Where the end is noted and nobody has anything to do the root is closed; so until then there is something to do, and where
 -- everything is asked for in vain it is closed.
-use Rattle.std.proofs.lemmas.Bool.Decides.{nat_tests}
-use Rattle.std.proofs.Common.{rules, ◌≡◌, ◌≢◌, ◌⊎◌, ℕ, ◌+◌, ◌<◌, ◌≤◌, true, false, not, ◌&&◌, ◌||◌, eqb, List, [], ◌∷◌}
-use Rattle.std.proofs.Common.{length, Option, Some, None, option_to_list, Contains, refl, sym, ap, ◌∙◌, subst, arith}
-use Rattle.std.proofs.Common.{inl, inr, ⊎_elim, eqb-true, eq-eqb, zero, suc, Bool, cond, ltb, is_some, ltb-true, lt-ltb}
-use Rattle.std.proofs.Common.{◌++◌, append-nil, append_assoc}
-use Rattle.std.proofs.lemmas.Bool.{ltb-false, eqb-false, not-true, and_parts}
-use Rattle.chip_graph.specs.ChipGame.{IsGame}
-use Rattle.chip_graph.proofs.SumLemmas.{tested_none, cond_yes, cond_no, by_test, tested_term}
-use Rattle.chip_link.specs.Link.{claims_of, Tail, after_clear}
-use Rattle.chip_link.proofs.SoundsLemmas.{none_held}
-use Rattle.chip_part.specs.Setting.{Setting}
-use Rattle.chip_part.specs.declared.cause.Cause.{Cause}
-use Rattle.chip_part.specs.Part.{Part, is_running, owed, may_ack, deficit, pending_of, unput_count, is_passive}
-use Rattle.chip_part.specs.Part.{is_legal, refusals, cause}
-use Rattle.chip_part.proofs.PartLemmas.{tail_inside as own_edge, in_zero, may_le}
-use Rattle.chip_part.proofs.RestingLemmas.{rests, idle_little}
-use Rattle.chip_core.specs.Core.{Log, Out, part_in, out_in, into_in, IsLegalLog, IsSettled, IsClosed, outstanding}
-use Rattle.chip_core.specs.Core.{tail_of, head_of, root, all_edges, graph_edges, Event, Part, Take, Ack, Fire, Clear}
-use Rattle.chip_core.specs.Core.{Claim, Put, Halt, Settle, unmet_rule, fired_by, sees, Rule, Feed, answer, step}
-use Rattle.chip_core.specs.Core.{log_after}
-use Rattle.chip_core.specs.Detection.{IsTree, IsDetectionOrder}
-use Rattle.chip_core.specs.Closing.{HasEnd, is_new_look, Advances, AsksFor, AsksForEverything}
+use Rattle.chip_core.proofs.Names.{nat_tests, rules, ◌≡◌, ◌≢◌, ◌⊎◌, ℕ, ◌+◌, ◌<◌, ◌≤◌, true, false, not, ◌&&◌, ◌||◌, eqb}
+use Rattle.chip_core.proofs.Names.{List, [], ◌∷◌, length, Option, Some, None, option_to_list, Contains, refl, sym, ap}
+use Rattle.chip_core.proofs.Names.{◌∙◌, subst, arith, inl, inr, ⊎_elim, eqb-true, eq-eqb, zero, suc, Bool, cond, ltb}
+use Rattle.chip_core.proofs.Names.{is_some, ltb-true, lt-ltb, ◌++◌, append-nil, append_assoc, ltb-false, eqb-false}
+use Rattle.chip_core.proofs.Names.{not-true, and_parts, IsGame, tested_none, cond_yes, cond_no, by_test, tested_term}
+use Rattle.chip_core.proofs.Names.{claims_of, Tail, after_clear, none_held, Setting, Cause, Part, is_running, owed}
+use Rattle.chip_core.proofs.Names.{may_ack, deficit, pending_of, unput_count, is_passive, is_legal, refusals, cause}
+use Rattle.chip_core.proofs.Names.{tail_inside as own_edge, in_zero, may_le, rests, idle_little, Log, Out, part_in}
+use Rattle.chip_core.proofs.Names.{out_in, into_in, IsLegalLog, IsSettled, IsClosed, outstanding, tail_of, head_of}
+use Rattle.chip_core.proofs.Names.{root, all_edges, graph_edges, Event, Part, Take, Ack, Fire, Clear, Claim, Put, Halt}
+use Rattle.chip_core.proofs.Names.{Settle, unmet_rule, fired_by, sees, Rule, Feed, answer, step, log_after, IsTree}
+use Rattle.chip_core.proofs.Names.{IsDetectionOrder, HasEnd, is_new_look, Advances, AsksFor, AsksForEverything, dite}
+use Rattle.chip_core.proofs.Names.{ℕ_discrete, dec_lt, SealedEdge, FiringLimit, saw, link_after, tail_graph, met_rules}
+use Rattle.chip_core.proofs.Names.{running, rules_met, some_of, is_none_of, acting_part, counts_as_work, is_refusal}
+use Rattle.chip_core.proofs.Names.{work_in, refusals_in, contains_later, contains_nothing, contained, none_some}
+use Rattle.chip_core.proofs.Names.{contains_cases}
 use Rattle.chip_core.proofs.LogLemmas.{part_kept, head_inside, edge_counts, tail_inside, link_step}
 use Rattle.chip_core.proofs.OrderLemmas.{detection_order}
-use mathlib.Core.Logic.{dite}
-use native.Mathlib.Decide.{ℕ_discrete, dec_lt}
-use Rattle.chip_part.specs.declared.cause.Cause.TheVariants.{SealedEdge, FiringLimit}
-use Rattle.chip_part.specs.Steps.{saw, link_after}
-use Rattle.chip_part.proofs.EdgeLemmas.{tail_graph}
-use Rattle.chip_part.proofs.RuleLemmas.{met_rules, running, rules_met, some_of, is_none_of}
-use Rattle.chip_core.specs.Words.{acting_part}
-use Rattle.chip_core.specs.Work.{counts_as_work, is_refusal, work_in, refusals_in}
 use Rattle.chip_core.proofs.NumberLemmas.{empty_is}
 use Rattle.chip_core.proofs.ReachingLemmas.{step_legal, run_legal}
 use Rattle.chip_core.proofs.ReplyLemmas.{log_after-append}
 use Rattle.chip_core.proofs.IdleLemmas.{bare, Alike, idle_alike}
-use Rattle.chip_detect.proofs.ListLemmas.{contains_later, contains_nothing, contained, none_some, contains_cases}
 
 -- a vertex with nothing to do is passive
 idle_passive : (g : Setting) (v : ℕ) (s : Part) → unput_count g v s ≡ 0 → (s.halt ≡ None → pending_of g v s ≡ 0)

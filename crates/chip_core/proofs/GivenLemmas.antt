@@ -1,34 +1,16 @@
 -- Serves Core.antt.
 -- What was given to each vertex: all that was sent on its root edge, at the opening and by feeding.
-use Rattle.std.proofs.lemmas.Bool.Decides.{nat_tests}
-use Rattle.std.proofs.Common.{◌≡◌, ◌≢◌, ℕ, ◌+◌, ◌-◌, ◌<◌, ◌≤◌, true, false, cond, eqb, List, [], ◌∷◌, ◌++◌, sum}
-use Rattle.std.proofs.Common.{slice_index, Option, None, refl, sym, ap, ◌∙◌, arith, append-nil, append_assoc}
-use Rattle.std.proofs.Common.{true≢false}
-use Rattle.std.proofs.lemmas.List.{get_or_past, ext_get_or}
-use Rattle.std.proofs.lemmas.List.FromFn.{fill_by_all, get_or-map-range_with_len, length-map-range_with_len}
-use Rattle.std.proofs.lemmas.List.Sums.{sum_by-cons, sum_by-append}
-use mathlib.Core.Logic.{dite}
-use native.Mathlib.Decide.{dec_lt}
-use Rattle.chip_graph.specs.ChipGame.{IsGame}
-use Rattle.chip_graph.specs.Limits.{max_total}
-use Rattle.chip_graph.specs.Sums.{sum_below}
-use Rattle.chip_graph.specs.More.{brought_to, all_brought, HasMore}
-use Rattle.chip_graph.proofs.SumLemmas.{cond_no, sum_below_ext, sum_by_place, sum_below_one, sum_below_add}
-use Rattle.chip_graph.proofs.SumLemmas.{sum_below_none}
-use Rattle.chip_link.specs.Words.{edge_word}
-use Rattle.chip_link.specs.Link.{Tail, sent_counts, claims_of, after_claim}
-use Rattle.chip_part.specs.Setting.{Setting}
-use Rattle.chip_part.specs.Edges.{start_of}
-use Rattle.chip_part.specs.Part.{Part, all_fed, AreGiven}
-use Rattle.chip_part.specs.Steps.{link_after, stop_after}
-use Rattle.chip_part.specs.Kept.{Met, opening_tail}
-use Rattle.chip_part.proofs.EdgeLemmas.{tail_root}
-use Rattle.chip_part.proofs.OpeningLemmas.{first_sent, first_fed}
-use Rattle.chip_core.specs.Core.{Log, Step, Event, Clear, Claim, Put, Seal, Feed, part_of, part_in, out_in, stop_in}
-use Rattle.chip_core.specs.Core.{sees, IsLegalLog, tail_of, root, root_edge, graph_edges}
-use Rattle.chip_core.specs.Positions.{chips_given, played_game, fed_of, fed_in}
-use Rattle.chip_core.specs.Histories.{done_by}
-use Rattle.chip_core.specs.Laws.{GivenByTheRecord}
+use Rattle.chip_core.proofs.Names.{nat_tests, ◌≡◌, ◌≢◌, ℕ, ◌+◌, ◌-◌, ◌<◌, ◌≤◌, true, false, cond, eqb, List, [], ◌∷◌}
+use Rattle.chip_core.proofs.Names.{◌++◌, sum, slice_index, Option, None, refl, sym, ap, ◌∙◌, arith, append-nil}
+use Rattle.chip_core.proofs.Names.{append_assoc, true≢false, get_or_past, ext_get_or, fill_by_all}
+use Rattle.chip_core.proofs.Names.{get_or-map-range_with_len, length-map-range_with_len, sum_by-cons, sum_by-append}
+use Rattle.chip_core.proofs.Names.{dite, dec_lt, IsGame, max_total, sum_below, brought_to, all_brought, HasMore}
+use Rattle.chip_core.proofs.Names.{cond_no, sum_below_ext, sum_by_place, sum_below_one, sum_below_add, sum_below_none}
+use Rattle.chip_core.proofs.Names.{edge_word, Tail, sent_counts, claims_of, after_claim, Setting, start_of, Part}
+use Rattle.chip_core.proofs.Names.{all_fed, AreGiven, link_after, stop_after, Met, opening_tail, tail_root, first_sent}
+use Rattle.chip_core.proofs.Names.{first_fed, Log, Step, Event, Clear, Claim, Put, Seal, Feed, part_of, part_in, out_in}
+use Rattle.chip_core.proofs.Names.{stop_in, sees, IsLegalLog, tail_of, root, root_edge, graph_edges, chips_given}
+use Rattle.chip_core.proofs.Names.{played_game, fed_of, fed_in, done_by, GivenByTheRecord}
 use Rattle.chip_core.proofs.LogLemmas.{link_step, stop_step, part_kept, out_kept, edge_sound, met_here}
 
 module _ (g : Setting) where

@@ -1,11 +1,7 @@
 -- Serves Core.antt, Messages.antt, Headline.antt.
 -- The core theorem.
-use Rattle.std.proofs.Common.{◌≡◌, ℕ, ◌<◌, ◌++◌, List, sym, ap, ◌∙◌, append-nil}
-use Rattle.chip_graph.specs.ChipGame.{IsGame}
-use Rattle.chip_part.specs.Setting.{Setting}
-use Rattle.chip_core.specs.Core.{Log, Event, IsLegalLog, log_after, IsClosed, all_edges}
-use Rattle.chip_core.specs.Messages.{Message, sent_on, delivered_on}
-use Rattle.chip_core.specs.Headline.{Headline}
+use Rattle.chip_core.proofs.Names.{◌≡◌, ℕ, ◌<◌, ◌++◌, List, sym, ap, ◌∙◌, append-nil, IsGame, Setting, Log, Event}
+use Rattle.chip_core.proofs.Names.{IsLegalLog, log_after, IsClosed, all_edges, Message, sent_on, delivered_on, Headline}
 use Rattle.chip_core.proofs.OrderLemmas.{detection_order}
 use Rattle.chip_core.proofs.PositionLemmas.{leads_to, none_below, by_counts, held_is}
 use Rattle.chip_core.proofs.ReachingLemmas.{run_legal}

@@ -1,23 +1,11 @@
 -- Serves Work.antt, Core.antt.
 -- A step that doesn't count leaves all parts but for their notes, the seals and the end.
-use Rattle.std.proofs.lemmas.Bool.Decides.{nat_tests}
-use Rattle.std.proofs.Common.{◌≡◌, ◌≢◌, ℕ, ◌+◌, ◌-◌, ◌≤◌, Bool, true, false, cond, eqb, ltb, [], ◌∷◌, ◌++◌, None, refl}
-use Rattle.std.proofs.Common.{sym, ap, ◌∙◌, arith, true≢false}
-use mathlib.Core.Logic.{dite}
-use native.Mathlib.Decide.{ℕ_discrete}
-use Rattle.chip_graph.proofs.SumLemmas.{cond_yes, cond_no}
-use Rattle.chip_link.specs.Link.{Tail, claims_of, after_clear, after_claim}
-use Rattle.chip_part.specs.Setting.{Setting}
-use Rattle.chip_part.specs.Counting.{is_got, is_sent}
-use Rattle.chip_part.specs.declared.reply.Reply.TheVariants.{Got, Sent, Empty, Sealed}
-use Rattle.chip_part.specs.Steps.{message_of, saw}
-use Rattle.chip_part.proofs.PartLemmas.{at_edge, idle_take}
-use Rattle.chip_core.specs.Core.{Log, Step, Event, Take, Clear, Claim, Settle, Seal, Read, Feed, End, Part, part_of}
-use Rattle.chip_core.specs.Core.{does, part_in, root_edge}
-use Rattle.chip_core.specs.Words.{acting_part}
-use Rattle.chip_core.specs.Work.{counts_as_work, work_in}
-use Rattle.std.proofs.lemmas.Bool.{ltb-false}
-use Rattle.chip_core.specs.Messages.{Message}
+use Rattle.chip_core.proofs.Names.{nat_tests, ◌≡◌, ◌≢◌, ℕ, ◌+◌, ◌-◌, ◌≤◌, Bool, true, false, cond, eqb, ltb, [], ◌∷◌}
+use Rattle.chip_core.proofs.Names.{◌++◌, None, refl, sym, ap, ◌∙◌, arith, true≢false, dite, ℕ_discrete, cond_yes}
+use Rattle.chip_core.proofs.Names.{cond_no, Tail, claims_of, after_clear, after_claim, Setting, is_got, is_sent, Got}
+use Rattle.chip_core.proofs.Names.{Sent, Empty, Sealed, message_of, saw, at_edge, idle_take, Log, Step, Event, Take}
+use Rattle.chip_core.proofs.Names.{Clear, Claim, Settle, Seal, Read, Feed, End, Part, part_of, does, part_in, root_edge}
+use Rattle.chip_core.proofs.Names.{acting_part, counts_as_work, work_in, ltb-false, Message}
 
 -- what a tail sent, without its notes
 abbrev pub bare_link : Tail → Tail

@@ -1,3 +1,4 @@
+mod Names
 pub mod LogLemmas
 pub mod OrderLemmas
 pub mod GivenLemmas

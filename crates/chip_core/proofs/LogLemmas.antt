@@ -1,31 +1,17 @@
 -- Serves Core.antt.
 -- The parts and the edges in a legal log: what every one of them keeps, whatever was done.
-use Rattle.std.proofs.lemmas.Bool.Decides.{nat_tests}
-use Rattle.std.proofs.Common.{◌≡◌, ◌≢◌, ◌⊎◌, ℕ, ◌+◌, ◌-◌, ◌<◌, ◌≤◌, Bool, true, false, cond, eqb, List, [], ◌∷◌, ◌++◌}
-use Rattle.std.proofs.Common.{length, append_assoc, Option, None, refl, sym, ap, ◌∙◌, subst, arith, inl, inr, ⊎_elim}
-use Rattle.std.proofs.Common.{pos_of_ne-zero, ltb}
-use mathlib.Core.Logic.{dite}
-use native.Mathlib.Decide.{ℕ_discrete, dec_lt}
-use Rattle.chip_graph.specs.ChipGame.{IsGame}
-use Rattle.chip_part.specs.Setting.{Setting}
-use Rattle.chip_graph.proofs.SumLemmas.{cond_yes, cond_no}
-use Rattle.chip_link.specs.Link.{Tail, claims_of, after_clear, after_claim, after_put, after_take, after_seal, Sound}
-use Rattle.chip_link.proofs.SoundsLemmas.{clear_sound, claim_sound, put_sound, take_sound, seal_sound, fresh_sound}
-use Rattle.chip_link.proofs.SoundsLemmas.{first_sound}
-use Rattle.chip_part.specs.Edges.{start_of}
-use Rattle.chip_part.specs.Part.{first_put}
-use Rattle.chip_part.specs.Steps.{link_after, settled_after, got_after, acked_after, stop_after}
-use Rattle.chip_part.specs.Kept.{Met, KeepsOut, KeepsPart}
-use Rattle.chip_part.proofs.EdgeLemmas.{tail_graph, tail_root, head_graph, head_root}
-use Rattle.chip_part.proofs.RuleLemmas.{rules_met}
-use Rattle.chip_part.proofs.PartLemmas.{at_edge}
+use Rattle.chip_core.proofs.Names.{nat_tests, ◌≡◌, ◌≢◌, ◌⊎◌, ℕ, ◌+◌, ◌-◌, ◌<◌, ◌≤◌, Bool, true, false, cond, eqb, List}
+use Rattle.chip_core.proofs.Names.{[], ◌∷◌, ◌++◌, length, append_assoc, Option, None, refl, sym, ap, ◌∙◌, subst, arith}
+use Rattle.chip_core.proofs.Names.{inl, inr, ⊎_elim, pos_of_ne-zero, ltb, dite, ℕ_discrete, dec_lt, IsGame, Setting}
+use Rattle.chip_core.proofs.Names.{cond_yes, cond_no, Tail, claims_of, after_clear, after_claim, after_put, after_take}
+use Rattle.chip_core.proofs.Names.{after_seal, Sound, clear_sound, claim_sound, put_sound, take_sound, seal_sound}
+use Rattle.chip_core.proofs.Names.{fresh_sound, first_sound, start_of, first_put, link_after, settled_after, got_after}
+use Rattle.chip_core.proofs.Names.{acked_after, stop_after, Met, KeepsOut, KeepsPart, tail_graph, tail_root, head_graph}
+use Rattle.chip_core.proofs.Names.{head_root, rules_met, at_edge, opening_keeps, Log, Step, Event, Take, Ack, Clear}
+use Rattle.chip_core.proofs.Names.{Claim, Put, Settle, Seal, Feed, End, Part, Out, Into, part_of, does, part_in, out_in}
+use Rattle.chip_core.proofs.Names.{into_in, stop_in, sees, IsLegalLog, tail_of, head_of, root, stopper, all_edges}
+use Rattle.chip_core.proofs.Names.{graph_edges, at_most_one, eqb-false}
 use Rattle.chip_part.proofs.PartLemmas as part_lemmas
-use Rattle.chip_part.proofs.OpeningLemmas.{opening_keeps}
-use Rattle.chip_core.specs.Core.{Log, Step, Event, Take, Ack, Clear, Claim, Put, Settle, Seal, Feed, End, Part, Out}
-use Rattle.chip_core.specs.Core.{Into, part_of, does, part_in, out_in, into_in, stop_in, sees, IsLegalLog, tail_of}
-use Rattle.chip_core.specs.Core.{head_of, root, stopper, all_edges, graph_edges}
-use Rattle.chip_part.proofs.TurnLemmas.{at_most_one}
-use Rattle.std.proofs.lemmas.Bool.{eqb-false}
 
 pub in_pieces : (front round back xs before : Log) → xs ≡ back ++ (round ++ front)
     → xs ++ before ≡ back ++ (round ++ (front ++ before))

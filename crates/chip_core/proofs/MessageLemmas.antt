@@ -1,34 +1,19 @@
 -- Serves Core.antt, Messages.antt.
 -- The messages that are read off the replies are those of the parts; nothing is sent on a sealed edge.
-use Rattle.std.proofs.lemmas.Bool.Decides.{nat_tests}
-use Rattle.std.proofs.Common.{◌≡◌, ℕ, ◌+◌, ◌*◌, ◌<◌, ◌≤◌, ◌||◌, Bool, true, false, cond, eqb, List, [], ◌∷◌, ◌++◌}
-use Rattle.std.proofs.Common.{length, sum, take, drop, option_to_list, Option, Some, None, refl, sym, ap, ◌∙◌, subst}
-use Rattle.std.proofs.Common.{arith, true≢false, append_assoc, append-nil, length-append}
-use Rattle.std.proofs.lemmas.Bool.{or_right, cond-true, cond-false}
-use Rattle.std.proofs.lemmas.List.{take-append-le, take-append-drop, drop_at, append_cancel_left, nil_from_length}
-use Rattle.std.proofs.lemmas.List.Sums.{sum_by-cons, sum_by-append}
-use Rattle.std.specs.List.{slice_get}
-use Rattle.chip_graph.specs.ChipGame.{IsGame}
-use Rattle.chip_part.specs.Setting.{Setting}
-use Rattle.chip_graph.proofs.SumLemmas.{by_test}
-use Rattle.chip_link.specs.Link.{Tail, sent_counts, claims_of, after_claim}
-use Rattle.chip_link.specs.Laws.{IsPrefix}
-use Rattle.chip_link.proofs.NumberingLemmas.{numbered, numbered-append, length-numbered, numbered_at}
-use Rattle.chip_link.proofs.SoundsLemmas.{length-sent_counts}
-use Rattle.chip_part.specs.declared.reply.Reply.TheVariants.{NotNow}
-use Rattle.chip_part.specs.Edges.{mult_of, start_of, root_edge}
-use Rattle.chip_part.specs.Part.{first_put}
-use Rattle.chip_part.specs.Steps.{message_of, link_after, got_after, saw}
-use Rattle.chip_part.proofs.RuleLemmas.{rules_met}
-use Rattle.chip_part.proofs.OpeningLemmas.{first_few, first_sent}
-use Rattle.chip_core.specs.Core.{Log, Event, Take, Clear, Claim, Put, Seal, Feed, Rule, unmet_rule, part_of, reply_of}
-use Rattle.chip_core.specs.Core.{part_in, out_in, into_in, fired_by, sees, IsLegalLog, answer, step, log_after}
-use Rattle.chip_core.specs.Core.{replies_to, tail_of, graph_edges}
-use Rattle.chip_core.specs.Messages.{Message, sent_by, delivered_by, is_seal_of, sent_in, sent_after_seal, is_seal}
-use Rattle.chip_core.specs.Messages.{was_sealed, messages_from, counts_in_flight, in_flight, sent_on, delivered_on}
-use Rattle.chip_core.specs.Messages.{AreInOrderFrom, chips_in}
-use Rattle.chip_core.specs.Positions.{chips_given, held}
-use Rattle.chip_core.specs.Laws.{OpeningMessages, InOrderFromTheOpening}
+use Rattle.chip_core.proofs.Names.{nat_tests, ◌≡◌, ℕ, ◌+◌, ◌*◌, ◌<◌, ◌≤◌, ◌||◌, Bool, true, false, cond, eqb, List, []}
+use Rattle.chip_core.proofs.Names.{◌∷◌, ◌++◌, length, sum, take, drop, option_to_list, Option, Some, None, refl, sym}
+use Rattle.chip_core.proofs.Names.{ap, ◌∙◌, subst, arith, true≢false, append_assoc, append-nil, length-append, or_right}
+use Rattle.chip_core.proofs.Names.{cond-true, cond-false, take-append-le, take-append-drop, drop_at, append_cancel_left}
+use Rattle.chip_core.proofs.Names.{nil_from_length, sum_by-cons, sum_by-append, slice_get, IsGame, Setting, by_test}
+use Rattle.chip_core.proofs.Names.{Tail, sent_counts, claims_of, after_claim, IsPrefix, numbered, numbered-append}
+use Rattle.chip_core.proofs.Names.{length-numbered, numbered_at, length-sent_counts, NotNow, mult_of, start_of}
+use Rattle.chip_core.proofs.Names.{root_edge, first_put, message_of, link_after, got_after, saw, rules_met, first_few}
+use Rattle.chip_core.proofs.Names.{first_sent, Log, Event, Take, Clear, Claim, Put, Seal, Feed, Rule, unmet_rule}
+use Rattle.chip_core.proofs.Names.{part_of, reply_of, part_in, out_in, into_in, fired_by, sees, IsLegalLog, answer}
+use Rattle.chip_core.proofs.Names.{step, log_after, replies_to, tail_of, graph_edges, Message, sent_by, delivered_by}
+use Rattle.chip_core.proofs.Names.{is_seal_of, sent_in, sent_after_seal, is_seal, was_sealed, messages_from}
+use Rattle.chip_core.proofs.Names.{counts_in_flight, in_flight, sent_on, delivered_on, AreInOrderFrom, chips_in}
+use Rattle.chip_core.proofs.Names.{chips_given, held, OpeningMessages, InOrderFromTheOpening}
 use Rattle.chip_core.proofs.LogLemmas.{edge_sound, link_step, got_step}
 use Rattle.chip_core.proofs.PositionLemmas.{held_is}
 use Rattle.chip_core.proofs.NumberLemmas.{seals_stand}

@@ -1,35 +1,19 @@
 -- Serves Core.antt, Laws.antt.
 -- The numbers of a legal log, the cells and words that its events see, and that these keep within the limits.
-use Rattle.std.proofs.lemmas.Bool.Decides.{nat_tests}
-use Rattle.std.proofs.Common.{◌≡◌, ◌≢◌, ◌↔◌, ℕ, suc, ◌+◌, ◌-◌, ◌^◌, ◌<◌, ◌≤◌, ◌||◌, Bool, true, false, eqb, List, []}
-use Rattle.std.proofs.Common.{◌∷◌, length, sum, drop, get_or, Option, Some, None, option_to_list, is_some, refl, sym}
-use Rattle.std.proofs.Common.{ap, ◌∙◌, subst, arith, eq-eqb, leb-true, true≢false}
-use Rattle.std.proofs.lemmas.List.{get_or_past, get_or_append_left, get_or-drop, length-drop}
-use Rattle.std.proofs.lemmas.List.Sums.{sum_by-cons, sum_by-append, get_or-le-sum_by}
-use mathlib.Core.Logic.{dite}
-use native.Mathlib.Decide.{dec_lt}
-use Rattle.chip_graph.specs.Limits.{max_total}
-use Rattle.chip_graph.specs.ChipGame.{IsGame}
-use Rattle.chip_part.specs.Setting.{Setting}
-use Rattle.chip_graph.proofs.SumLemmas.{sum_below_term, tested_term}
-use Rattle.chip_link.specs.Words.{edge_word}
-use Rattle.chip_link.specs.WordLaws.{ReadsAs, ReadsAsFired}
-use Rattle.chip_link.specs.Link.{claims_of, sent_counts, IsSealedAt}
-use Rattle.chip_link.proofs.SoundsLemmas.{none_held, length-sent_counts}
-use Rattle.chip_link.proofs.WordLawsLemmas.{edge_word_reads, fired_word_reads}
-use Rattle.chip_sequence.specs.Sequence.{position_after}
-use Rattle.chip_sequence.proofs.BoundLemmas.{chips_are_kept}
-use Rattle.chip_part.specs.Steps.{stop_after}
-use Rattle.chip_part.specs.Acting.{FitsSeen, is_of_root, FitsRoot}
-use Rattle.chip_part.proofs.EdgeLemmas.{tail_root}
-use Rattle.chip_part.proofs.RuleLemmas.{rules_met}
-use Rattle.chip_core.specs.Core.{root, Log, Event, Take, Clear, Claim, Put, Settle, Seal, Read, Feed, End, unmet_rule}
-use Rattle.chip_core.specs.Core.{part_of, part_in, out_in, into_in, stop_in, fired_by, word_of_part, sees, is_by_limit}
-use Rattle.chip_core.specs.Core.{IsLegalLog, tail_of, head_of, root_edge, all_edges, graph_edges}
-use Rattle.chip_core.specs.Messages.{counts_in_flight, is_seal, was_sealed}
-use Rattle.chip_core.specs.Positions.{chips_given, played_game, full_position, firings}
-use Rattle.chip_core.specs.Laws.{CountsOf, NumbersOf, CellsOf, WordsOf, WordsTell, SealsStand, UnfedIsTheStart}
-use Rattle.chip_core.specs.Laws.{FeedsAreSent}
+use Rattle.chip_core.proofs.Names.{nat_tests, ◌≡◌, ◌≢◌, ◌↔◌, ℕ, suc, ◌+◌, ◌-◌, ◌^◌, ◌<◌, ◌≤◌, ◌||◌, Bool, true, false}
+use Rattle.chip_core.proofs.Names.{eqb, List, [], ◌∷◌, length, sum, drop, get_or, Option, Some, None, option_to_list}
+use Rattle.chip_core.proofs.Names.{is_some, refl, sym, ap, ◌∙◌, subst, arith, eq-eqb, leb-true, true≢false, get_or_past}
+use Rattle.chip_core.proofs.Names.{get_or_append_left, get_or-drop, length-drop, sum_by-cons, sum_by-append}
+use Rattle.chip_core.proofs.Names.{get_or-le-sum_by, dite, dec_lt, max_total, IsGame, Setting, sum_below_term}
+use Rattle.chip_core.proofs.Names.{tested_term, edge_word, ReadsAs, ReadsAsFired, claims_of, sent_counts, IsSealedAt}
+use Rattle.chip_core.proofs.Names.{none_held, length-sent_counts, edge_word_reads, fired_word_reads, position_after}
+use Rattle.chip_core.proofs.Names.{chips_are_kept, stop_after, FitsSeen, is_of_root, FitsRoot, tail_root, rules_met}
+use Rattle.chip_core.proofs.Names.{root, Log, Event, Take, Clear, Claim, Put, Settle, Seal, Read, Feed, End, unmet_rule}
+use Rattle.chip_core.proofs.Names.{part_of, part_in, out_in, into_in, stop_in, fired_by, word_of_part, sees}
+use Rattle.chip_core.proofs.Names.{is_by_limit, IsLegalLog, tail_of, head_of, root_edge, all_edges, graph_edges}
+use Rattle.chip_core.proofs.Names.{counts_in_flight, is_seal, was_sealed, chips_given, played_game, full_position}
+use Rattle.chip_core.proofs.Names.{firings, CountsOf, NumbersOf, CellsOf, WordsOf, WordsTell, SealsStand}
+use Rattle.chip_core.proofs.Names.{UnfedIsTheStart, FeedsAreSent}
 use Rattle.chip_core.proofs.LogLemmas.{part_kept, out_kept, edge_sound, edge_counts, stop_step, head_inside, empty_hand}
 use Rattle.chip_core.proofs.GivenLemmas.{given_sum, given_within, started_outside, never_sealed, feed_sees}
 use Rattle.chip_core.proofs.GivenLemmas.{unfed_played, unfed_started, unfed_closes}

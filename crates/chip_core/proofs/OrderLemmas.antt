@@ -1,26 +1,14 @@
 -- Serves Core.antt.
 -- A detection order exists in every legal log, and what it says where the root is closed.
-use Rattle.std.proofs.Common.{eqb-true, ◌≡◌, ◌≢◌, ◌⊎◌, ℕ, ◌-◌, ◌<◌, ◌&&◌, cond, eqb, List, [], ◌∷◌, length, get_or}
-use Rattle.std.proofs.Common.{Option, Some, None, Contains, refl, sym, ap, ◌∙◌, subst, arith, inl, inr, ⊎_elim}
-use Rattle.std.proofs.lemmas.List.{get_or_past}
-use mathlib.Core.Logic.{dite}
-use native.Mathlib.Decide.{ℕ_discrete, dec_lt}
-use Rattle.chip_graph.specs.ChipGame.{IsGame}
-use Rattle.chip_part.specs.Setting.{Setting}
-use Rattle.chip_graph.proofs.SumLemmas.{cond_yes, cond_no, by_test}
-use Rattle.chip_detect.specs.Acknowledging.{is_parent, or_else}
-use Rattle.chip_part.specs.Part.{owed, may_ack}
-use Rattle.chip_part.specs.Steps.{parent_after, saw}
-use Rattle.chip_part.specs.Kept.{IsNeutral}
-use Rattle.chip_part.proofs.RuleLemmas.{rules_met}
-use Rattle.chip_part.proofs.PartLemmas.{at_edge, out_zero}
-use Rattle.chip_core.specs.Core.{Log, Step, Event, Take, Ack, Part, part_of, does, part_in, out_in, into_in, IsLegalLog}
-use Rattle.chip_core.specs.Core.{IsSettled, outstanding, all_edges, tail_of, head_of, root}
-use Rattle.chip_core.specs.Detection.{IsTree, IsDetectionOrder}
+use Rattle.chip_core.proofs.Names.{eqb-true, ◌≡◌, ◌≢◌, ◌⊎◌, ℕ, ◌-◌, ◌<◌, ◌&&◌, cond, eqb, List, [], ◌∷◌, length, get_or}
+use Rattle.chip_core.proofs.Names.{Option, Some, None, Contains, refl, sym, ap, ◌∙◌, subst, arith, inl, inr, ⊎_elim}
+use Rattle.chip_core.proofs.Names.{get_or_past, dite, ℕ_discrete, dec_lt, IsGame, Setting, cond_yes, cond_no, by_test}
+use Rattle.chip_core.proofs.Names.{is_parent, or_else, owed, may_ack, parent_after, saw, IsNeutral, rules_met, at_edge}
+use Rattle.chip_core.proofs.Names.{out_zero, Log, Step, Event, Take, Ack, Part, part_of, does, part_in, out_in, into_in}
+use Rattle.chip_core.proofs.Names.{IsLegalLog, IsSettled, outstanding, all_edges, tail_of, head_of, root, IsTree}
+use Rattle.chip_core.proofs.Names.{IsDetectionOrder, contains_first, contains_later, contains_nothing, contained}
+use Rattle.chip_core.proofs.Names.{cases_option, none_some, contains_cases, cond-true, cond-false}
 use Rattle.chip_core.proofs.LogLemmas.{part_here, part_else, part_kept, edge_counts, head_inside, tail_cases}
-use Rattle.chip_detect.proofs.ListLemmas.{contains_first, contains_later, contains_nothing, contained, cases_option}
-use Rattle.chip_detect.proofs.ListLemmas.{none_some, contains_cases}
-use Rattle.std.proofs.lemmas.Bool.{cond-true, cond-false}
 
 -- ---- lists of vertices
 

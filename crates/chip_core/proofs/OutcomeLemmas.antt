@@ -1,37 +1,18 @@
 -- Serves Core.antt, Outcomes.antt, Positions.antt.
 -- What the outcome of a closed log tells: a report takes it, a firing sequence leads to it, and where no seal halted a
 -- vertex every player comes to it.
-use Rattle.std.proofs.lemmas.Bool.Decides.{nat_tests}
-use Rattle.std.proofs.Common.{◌≡◌, ℕ, ◌^◌, ◌<◌, ◌≤◌, true, false, not, ◌&&◌, eqb, leb, List, All, Contains, length}
-use Rattle.std.proofs.Common.{slice_index, Option, Some, sym, ap, ◌∙◌, subst, arith, true≢false}
-use Rattle.std.specs.List.Sorted.{IsStrictlyIncreasing}
-use Rattle.std.proofs.lemmas.List.{get_or_past}
-use Rattle.std.proofs.lemmas.List.Elements.{All-from_get_or}
-use Rattle.std.proofs.lemmas.List.Sums.{get_or-le-sum_by}
-use mathlib.Core.Logic.{dite}
-use native.Mathlib.Decide.{dec_lt}
-use Rattle.chip_graph.specs.Multigraph.{degree}
-use Rattle.chip_graph.specs.ChipGame.{IsGame}
-use Rattle.chip_part.specs.Setting.{Setting}
-use Rattle.chip_graph.proofs.PickLemmas.{All-picked, picked_none, picked_ext, picked_ascends, Contains-picked}
-use Rattle.chip_sequence.specs.declared.outcome.Outcome.{Outcome}
-use Rattle.chip_sequence.specs.Outcomes.{IsOutcome}
-use Rattle.chip_sequence.specs.Play.{IsPlayed}
-use Rattle.chip_sequence.specs.Firing.{legal_vertices}
-use Rattle.chip_sequence.specs.Sequence.{position_after, counts, IsWholePlay}
-use Rattle.chip_sequence.specs.Counted.{position_by_counts, IsBelowZero}
-use Rattle.chip_sequence.proofs.FiringLemmas.{counts_outside}
-use Rattle.chip_sequence.proofs.EndLemmas.{one_end}
-use Rattle.chip_part.specs.declared.cause.Cause.{Cause}
-use Rattle.chip_part.specs.declared.cause.Cause.TheVariants.{SealedEdge}
-use Rattle.chip_core.specs.Core.{Log, part_in, fired_by, is_by_limit, IsLegalLog, IsClosed}
-use Rattle.chip_core.specs.Positions.{chips_given, played_game, chips_at, firings}
-use Rattle.chip_core.specs.Headline.{NoneHaltedBySeal}
+use Rattle.chip_core.proofs.Names.{nat_tests, ◌≡◌, ℕ, ◌^◌, ◌<◌, ◌≤◌, true, false, not, ◌&&◌, eqb, leb, List, All}
+use Rattle.chip_core.proofs.Names.{Contains, length, slice_index, Option, Some, sym, ap, ◌∙◌, subst, arith, true≢false}
+use Rattle.chip_core.proofs.Names.{IsStrictlyIncreasing, get_or_past, All-from_get_or, get_or-le-sum_by, dite, dec_lt}
+use Rattle.chip_core.proofs.Names.{degree, IsGame, Setting, All-picked, picked_none, picked_ext, picked_ascends}
+use Rattle.chip_core.proofs.Names.{Contains-picked, Outcome, IsOutcome, IsPlayed, legal_vertices, position_after}
+use Rattle.chip_core.proofs.Names.{counts, IsWholePlay, position_by_counts, IsBelowZero, counts_outside, one_end, Cause}
+use Rattle.chip_core.proofs.Names.{SealedEdge, Log, part_in, fired_by, is_by_limit, IsLegalLog, IsClosed, chips_given}
+use Rattle.chip_core.proofs.Names.{played_game, chips_at, firings, NoneHaltedBySeal, is_by_seal, AreFired, IsOutcomeOf}
+use Rattle.chip_core.proofs.Names.{ComesTo, OutcomesTell, inflow_outside}
 use Rattle.chip_core.proofs.GivenLemmas.{started_outside, given_is, given_within}
 use Rattle.chip_core.proofs.PositionLemmas.{counts_are, is_sequence, is_within, none_below, by_counts}
 use Rattle.chip_core.proofs.ClosingLemmas.{played, agrees_within, over}
-use Rattle.chip_core.specs.Outcomes.{is_by_seal, AreFired, IsOutcomeOf, ComesTo, OutcomesTell}
-use Rattle.chip_sequence.proofs.CertificateLemmas.{inflow_outside}
 
 -- a halt has one cause
 one_cause : (h : Option Cause) → is_by_limit h ≡ true → is_by_seal h ≡ true → ⊥

@@ -1,20 +1,12 @@
 -- Serves Playing.antt.
 -- If nothing is sealed, fair schedules play the game.
-use Rattle.std.proofs.Common.{◌≡◌, ℕ, Bool, false, cond, eqb, eqb-true, [], ◌∷◌, Option, Some}
-use Rattle.std.proofs.Common.{None, refl, sym, ap, ◌∙◌, arith, ◌<◌, ◌++◌, true≢false}
-use Rattle.std.proofs.lemmas.Bool.Decides.{nat_tests}
-use Rattle.chip_graph.specs.ChipGame.{IsGame}
-use Rattle.chip_graph.proofs.SumLemmas.{tested_none}
-use Rattle.chip_link.specs.Link.{Tail, after_claim, word_of}
-use Rattle.chip_part.specs.Setting.{Setting}
-use Rattle.chip_part.specs.Part.{refusals, cause}
-use Rattle.chip_part.specs.Steps.{link_after, halt_after, stop_after}
-use Rattle.chip_part.proofs.PartLemmas.{at_edge}
-use Rattle.chip_part.proofs.RuleLemmas.{is_none_of}
-use Rattle.chip_core.specs.Core.{Log, Event, Clear, Claim, Put, Halt, Feed, Seal, Part, part_of, part_in, does, out_in}
-use Rattle.chip_core.specs.Core.{stop_in, sees, IsLegalLog, IsClosed, tail_of, all_edges, log_after}
-use Rattle.chip_core.specs.Outcomes.{is_by_seal}
-use Rattle.chip_core.specs.Playing.{SealsNone, PlaysOut, UnsealedHaltsNone, FairSchedulesPlay, FairRoundsPlay}
+use Rattle.chip_core.proofs.Names.{◌≡◌, ℕ, Bool, false, cond, eqb, eqb-true, [], ◌∷◌, Option, Some, None, refl, sym, ap}
+use Rattle.chip_core.proofs.Names.{◌∙◌, arith, ◌<◌, ◌++◌, true≢false, nat_tests, IsGame, tested_none, Tail, after_claim}
+use Rattle.chip_core.proofs.Names.{word_of, Setting, refusals, cause, link_after, halt_after, stop_after, at_edge}
+use Rattle.chip_core.proofs.Names.{is_none_of, Log, Event, Clear, Claim, Put, Halt, Feed, Seal, Part, part_of, part_in}
+use Rattle.chip_core.proofs.Names.{does, out_in, stop_in, sees, IsLegalLog, IsClosed, tail_of, all_edges, log_after}
+use Rattle.chip_core.proofs.Names.{is_by_seal, SealsNone, PlaysOut, UnsealedHaltsNone, FairSchedulesPlay}
+use Rattle.chip_core.proofs.Names.{FairRoundsPlay}
 use Rattle.chip_core.proofs.LogLemmas.{link_step, stop_step}
 use Rattle.chip_core.proofs.NumberLemmas.{seals_stand}
 use Rattle.chip_core.proofs.ReachingLemmas.{run_legal}

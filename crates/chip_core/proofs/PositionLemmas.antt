@@ -1,30 +1,16 @@
 -- Serves Core.antt.
 -- The full position is the position after the firings that were made.
-use Rattle.std.proofs.lemmas.Bool.Decides.{nat_tests}
-use Rattle.std.proofs.Common.{◌≡◌, ℕ, ◌+◌, ◌-◌, ◌*◌, ◌<◌, ◌≤◌, Bool, eqb, [], ◌∷◌, ◌++◌, length, sum, take, replicate}
-use Rattle.std.proofs.Common.{option_to_list, refl, sym, ap, ◌∙◌, subst, arith, eqb-true, append-nil, ◌≢◌}
-use Rattle.std.proofs.lemmas.List.{take-append-le}
-use Rattle.std.proofs.lemmas.List.Sums.{sum_by-append, sum_by-take-drop}
-use mathlib.Core.Logic.{dite}
-use native.Mathlib.Decide.{dec_lt}
-use Rattle.chip_graph.specs.Multigraph.{degree, edge_at}
-use Rattle.chip_graph.specs.ChipGame.{IsGame}
-use Rattle.chip_part.specs.Setting.{Setting}
-use Rattle.chip_graph.proofs.SumLemmas.{cond_no, tested_ext, tested_add}
-use Rattle.chip_link.specs.Link.{sent_counts}
-use Rattle.chip_sequence.specs.Sequence.{position_after, IsFiringSequence, counts, IsWithin}
-use Rattle.chip_sequence.specs.Counted.{inflow, position_by_counts, IsBelowZero}
-use Rattle.chip_sequence.proofs.FiringLemmas.{counts-append, counts-replicate, inflow_ext, position_is, sequence-append}
-use Rattle.chip_sequence.proofs.FiringLemmas.{batch, position_by_counts_law, more_chips}
-use Rattle.chip_part.specs.Edges.{root_edge, mult_of, over_ins, chips_of_firings}
-use Rattle.chip_part.proofs.EdgeLemmas.{over_ins_graph, tail_graph}
-use Rattle.chip_part.proofs.RuleLemmas.{rules_met}
-use Rattle.chip_part.specs.Steps.{saw, fired_after}
-use Rattle.chip_core.specs.Core.{Log, Event, Fire, part_of, part_in, out_in, into_in, fired_by, IsLegalLog, tail_of}
-use Rattle.chip_core.specs.Core.{head_of, all_edges, graph_edges}
-use Rattle.chip_core.specs.Messages.{counts_in_flight}
-use Rattle.chip_core.specs.Positions.{chips_given, held, full_position, firings, firings_of, LeadsTo}
-use Rattle.chip_core.specs.Laws.{gone_into}
+use Rattle.chip_core.proofs.Names.{nat_tests, ◌≡◌, ℕ, ◌+◌, ◌-◌, ◌*◌, ◌<◌, ◌≤◌, Bool, eqb, [], ◌∷◌, ◌++◌, length, sum}
+use Rattle.chip_core.proofs.Names.{take, replicate, option_to_list, refl, sym, ap, ◌∙◌, subst, arith, eqb-true}
+use Rattle.chip_core.proofs.Names.{append-nil, ◌≢◌, take-append-le, sum_by-append, sum_by-take-drop, dite, dec_lt}
+use Rattle.chip_core.proofs.Names.{degree, edge_at, IsGame, Setting, cond_no, tested_ext, tested_add, sent_counts}
+use Rattle.chip_core.proofs.Names.{position_after, IsFiringSequence, counts, IsWithin, inflow, position_by_counts}
+use Rattle.chip_core.proofs.Names.{IsBelowZero, counts-append, counts-replicate, inflow_ext, position_is}
+use Rattle.chip_core.proofs.Names.{sequence-append, batch, position_by_counts_law, more_chips, root_edge, mult_of}
+use Rattle.chip_core.proofs.Names.{over_ins, chips_of_firings, over_ins_graph, tail_graph, rules_met, saw, fired_after}
+use Rattle.chip_core.proofs.Names.{Log, Event, Fire, part_of, part_in, out_in, into_in, fired_by, IsLegalLog, tail_of}
+use Rattle.chip_core.proofs.Names.{head_of, all_edges, graph_edges, counts_in_flight, chips_given, held, full_position}
+use Rattle.chip_core.proofs.Names.{firings, firings_of, LeadsTo, gone_into}
 use Rattle.chip_core.proofs.LogLemmas.{part_kept, out_kept, edge_sound}
 use Rattle.chip_core.proofs.GivenLemmas.{started_grows}
 

@@ -1,13 +1,10 @@
 -- Serves Core.antt, Reached.antt.
 -- The reached worlds are those that the legal logs leave.
-use Rattle.std.proofs.Common.{◌≡◌, ℕ, List, [], ◌∷◌, ◌++◌, None, refl, sym, ap, ◌∙◌, subst}
-use Rattle.chip_graph.proofs.SumLemmas.{cond_yes, cond_no}
-use Rattle.chip_part.specs.Setting.{Setting}
-use Rattle.chip_core.specs.Core.{Log, Step, Part, opening_part, unmet_rule, part_of, part_in, IsLegalLog, seen_of}
-use Rattle.chip_core.specs.Histories.{done_by, part_by}
-use Rattle.chip_core.specs.Reached.{parts_by, IsOneMore, IsReached, at_opening, one_more, ReachedByLegalLogs}
+use Rattle.chip_core.proofs.Names.{◌≡◌, ℕ, List, [], ◌∷◌, ◌++◌, None, refl, sym, ap, ◌∙◌, subst, cond_yes, cond_no}
+use Rattle.chip_core.proofs.Names.{Setting, Log, Step, Part, opening_part, unmet_rule, part_of, part_in, IsLegalLog}
+use Rattle.chip_core.proofs.Names.{seen_of, done_by, part_by, parts_by, IsOneMore, IsReached, at_opening, one_more}
+use Rattle.chip_core.proofs.Names.{ReachedByLegalLogs, at_other}
 use Rattle.chip_core.proofs.ReachingLemmas.{by_history}
-use Rattle.chip_part.proofs.PartLemmas.{at_other}
 
 module _ (g : Setting) where
   -- by these records the parts are those of the log

@@ -1,14 +1,9 @@
 -- Serves Core.antt.
 -- Every run leaves a legal log, every legal log is that of a run, and a part is what its own events make of it.
-use Rattle.std.proofs.Common.{◌≡◌, ℕ, List, [], ◌∷◌, ◌++◌, Option, Some, None, refl, sym, ap, ◌∙◌, append-nil, Bool}
-use Rattle.std.proofs.Common.{true, false, cond, eqb, subst}
-use Rattle.chip_part.specs.Setting.{Setting}
-use Rattle.chip_part.specs.Steps.{saw}
-use Rattle.chip_core.specs.Core.{Log, Step, Event, Rule, Part, opening_part, unmet_rule, part_of, does, part_in}
-use Rattle.chip_core.specs.Core.{IsLegalLog, answer, step, log_after}
-use Rattle.chip_core.specs.Positions.{events_in}
-use Rattle.chip_core.specs.Histories.{done_by, part_by}
-use Rattle.chip_core.specs.Laws.{PartsByTheirOwnEvents, LegalLogsAreRuns}
+use Rattle.chip_core.proofs.Names.{◌≡◌, ℕ, List, [], ◌∷◌, ◌++◌, Option, Some, None, refl, sym, ap, ◌∙◌, append-nil}
+use Rattle.chip_core.proofs.Names.{Bool, true, false, cond, eqb, subst, Setting, saw, Log, Step, Event, Rule, Part}
+use Rattle.chip_core.proofs.Names.{opening_part, unmet_rule, part_of, does, part_in, IsLegalLog, answer, step}
+use Rattle.chip_core.proofs.Names.{log_after, events_in, done_by, part_by, PartsByTheirOwnEvents, LegalLogsAreRuns}
 
 module _ (g : Setting) where
   pub part-append : (xs ys : List Step) (s : Part) → part_by g s (xs ++ ys) ≡ part_by g (part_by g s xs) ys

@@ -1,17 +1,10 @@
 -- Serves Core.antt.
 -- Every read that was made saw the fired word that stands at the end, and the root is closed there.
-use Rattle.std.proofs.Common.{◌≡◌, ◌↔◌, ℕ, ◌<◌, [], ◌∷◌, true, None, Contains, sym, ap, ◌∙◌, arith, ⊎_elim, eqb}
-use Rattle.std.proofs.Common.{eqb-true}
-use Rattle.chip_graph.specs.ChipGame.{IsGame}
-use Rattle.chip_part.specs.Setting.{Setting}
-use Rattle.chip_graph.proofs.SumLemmas.{tested_none}
-use Rattle.chip_part.specs.Part.{deficit}
-use Rattle.chip_part.proofs.RuleLemmas.{rules_met}
-use Rattle.chip_part.proofs.PartLemmas.{out_zero}
-use Rattle.chip_core.specs.Core.{Log, Step, Event, Read, unmet_rule, part_of, part_in, sees, word_of_part, IsLegalLog}
-use Rattle.chip_core.specs.Core.{IsSettled, IsClosed, outstanding, tail_of, root, all_edges}
+use Rattle.chip_core.proofs.Names.{◌≡◌, ◌↔◌, ℕ, ◌<◌, [], ◌∷◌, true, None, Contains, sym, ap, ◌∙◌, arith, ⊎_elim, eqb}
+use Rattle.chip_core.proofs.Names.{eqb-true, IsGame, Setting, tested_none, deficit, rules_met, out_zero, Log, Step}
+use Rattle.chip_core.proofs.Names.{Event, Read, unmet_rule, part_of, part_in, sees, word_of_part, IsLegalLog, IsSettled}
+use Rattle.chip_core.proofs.Names.{IsClosed, outstanding, tail_of, root, all_edges, contains_cases}
 use Rattle.chip_core.proofs.ClosingLemmas.{still, still_closed}
-use Rattle.chip_detect.proofs.ListLemmas.{contains_cases}
 
 -- the two ways to say that all that the root sent is settled
 pub settled_is : (g : Setting) (log : Log) → (deficit g (root g) (part_in g log (root g)) ≡ 0) ↔ IsSettled g log

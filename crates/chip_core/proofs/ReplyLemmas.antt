@@ -1,15 +1,10 @@
 -- Serves Core.antt.
 -- What a reply leaves by which nothing was done, and runs one after the other.
-use Rattle.std.proofs.lemmas.Bool.Decides.{nat_tests}
-use Rattle.std.proofs.Common.{arith, ◌≡◌, ℕ, suc, true, false, List, [], ◌∷◌, ◌++◌, length, Option, Some, None, refl}
-use Rattle.std.proofs.Common.{sym, ap, true≢false}
-use Rattle.chip_part.specs.Setting.{Setting}
-use Rattle.chip_part.specs.Steps.{saw}
-use Rattle.chip_part.proofs.PartLemmas.{at_edge}
-use Rattle.chip_core.specs.Core.{Log, Event, Seal, End, Rule, Reply, Part, unmet_rule, part_of, does, reply_of, part_in}
-use Rattle.chip_core.specs.Core.{sees, answer, step, replies_to, log_after}
-use Rattle.chip_core.specs.Work.{counts_as_work}
-use Rattle.chip_core.specs.Replies.{is_idle, DifferInNotes, IdleStepsLeave, RunsGoOn}
+use Rattle.chip_core.proofs.Names.{nat_tests, arith, ◌≡◌, ℕ, suc, true, false, List, [], ◌∷◌, ◌++◌, length, Option}
+use Rattle.chip_core.proofs.Names.{Some, None, refl, sym, ap, true≢false, Setting, saw, at_edge, Log, Event, Seal, End}
+use Rattle.chip_core.proofs.Names.{Rule, Reply, Part, unmet_rule, part_of, does, reply_of, part_in, sees, answer, step}
+use Rattle.chip_core.proofs.Names.{replies_to, log_after, counts_as_work, is_idle, DifferInNotes, IdleStepsLeave}
+use Rattle.chip_core.proofs.Names.{RunsGoOn}
 use Rattle.chip_core.proofs.IdleLemmas.{bare, idle_does}
 
 -- parts that are the same but for their notes, their seals and the end differ in their notes alone, where these stand

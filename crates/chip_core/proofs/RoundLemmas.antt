@@ -1,43 +1,25 @@
 -- Serves Histories.antt, Closing.antt.
 -- What a whole turn of which no step counts tells of the vertex. Where every vertex made one, and the root settled all its
 -- edges, the root is closed.
-use Rattle.std.proofs.lemmas.Bool.Decides.{nat_tests}
-use Rattle.std.proofs.lemmas.Bool.{eqb-false}
-use Rattle.std.proofs.Common.{rules, ◌≡◌, ◌≢◌, ◌⊎◌, ℕ, ◌+◌, ◌<◌, ◌≤◌, Bool, true, false, not, ◌&&◌, cond, eqb, List, []}
-use Rattle.std.proofs.Common.{◌∷◌, ◌++◌, length, Option, Some, None, is_some, Contains, refl, sym, ap, ◌∙◌, subst}
-use Rattle.std.proofs.Common.{arith, inl, inr, ⊎_elim, eqb-true, true≢false}
-use Rattle.std.proofs.lemmas.List.Elements.{Contains-append_left, Contains-append_right, Contains-push_cases}
-use Rattle.chip_graph.proofs.SumLemmas.{by_test}
-use Rattle.chip_part.specs.Setting.{Setting}
-use Rattle.chip_part.specs.Counting.{work_of}
-use Rattle.chip_part.specs.Part.{Part, is_running, refusals, may_ack}
-use Rattle.chip_part.specs.Edges.{head_of, tail_of}
-use Rattle.chip_part.specs.Rules.{Event, Take, Ack, Fire, Clear, Claim, Put, Halt, Settle}
-use Rattle.chip_part.specs.Steps.{Step, does, saw}
-use Rattle.chip_part.specs.Turn.{Phase, nothing, either_phase, each_phase, one_step, seeing, ins_of, outs_of, may_fire}
-use Rattle.chip_part.specs.Turn.{batch_of, putting, sending, sending_all, after_claim_phase, is_at_limit}
-use Rattle.chip_part.specs.Turn.{acknowledging_parent, turn}
-use Rattle.chip_core.specs.Histories.{part_by, done_by}
-use Rattle.chip_part.proofs.PhaseLemmas.{Spreads, of_takes, of_settles, of_firing, of_puts, of_sending_all, of_limit}
-use Rattle.chip_part.proofs.PhaseLemmas.{of_acks, of_turn}
-use Rattle.chip_part.proofs.PickedLemmas.{among_new_outs, among_new_ins}
-use Rattle.chip_core.specs.Work.{counts_as_work, work_in}
+use Rattle.chip_core.proofs.Names.{nat_tests, eqb-false, rules, ◌≡◌, ◌≢◌, ◌⊎◌, ℕ, ◌+◌, ◌<◌, ◌≤◌, Bool, true, false, not}
+use Rattle.chip_core.proofs.Names.{◌&&◌, cond, eqb, List, [], ◌∷◌, ◌++◌, length, Option, Some, None, is_some, Contains}
+use Rattle.chip_core.proofs.Names.{refl, sym, ap, ◌∙◌, subst, arith, inl, inr, ⊎_elim, eqb-true, true≢false}
+use Rattle.chip_core.proofs.Names.{Contains-append_left, Contains-append_right, Contains-push_cases, by_test, Setting}
+use Rattle.chip_core.proofs.Names.{work_of, Part, is_running, refusals, may_ack, head_of, tail_of, Event, Take, Ack}
+use Rattle.chip_core.proofs.Names.{Fire, Clear, Claim, Put, Halt, Settle, Step, does, saw, Phase, nothing, either_phase}
+use Rattle.chip_core.proofs.Names.{each_phase, one_step, seeing, ins_of, outs_of, may_fire, batch_of, putting, sending}
+use Rattle.chip_core.proofs.Names.{sending_all, after_claim_phase, is_at_limit, acknowledging_parent, turn, part_by}
+use Rattle.chip_core.proofs.Names.{done_by, Spreads, of_takes, of_settles, of_firing, of_puts, of_sending_all, of_limit}
+use Rattle.chip_core.proofs.Names.{of_acks, of_turn, among_new_outs, among_new_ins, counts_as_work, work_in, dite}
+use Rattle.chip_core.proofs.Names.{dec_lt, IsGame, claims_of, nothing_left, Log, Step, Event, Part, Take, Clear, Settle}
+use Rattle.chip_core.proofs.Names.{part_of, part_in, out_in, into_in, sees, does, IsLegalLog, IsClosed, tail_of}
+use Rattle.chip_core.proofs.Names.{head_of, all_edges, graph_edges, acting_part, HasEnd, RootHasPut, HasTurn, HasRound}
+use Rattle.chip_core.proofs.Names.{is_none_of, contains_cases}
 use Rattle.chip_core.proofs.IdleLemmas.{bare, idle_does, Alike, counts_here, idle_alike, one_more, work_grows}
 use Rattle.chip_core.proofs.IdleLemmas.{idle_stretch}
-use mathlib.Core.Logic.{dite}
-use native.Mathlib.Decide.{dec_lt}
-use Rattle.chip_graph.specs.ChipGame.{IsGame}
-use Rattle.chip_link.specs.Link.{claims_of}
-use Rattle.chip_part.proofs.RestingLemmas.{nothing_left}
-use Rattle.chip_core.specs.Core.{Log, Step, Event, Part, Take, Clear, Settle, part_of, part_in, out_in, into_in, sees}
-use Rattle.chip_core.specs.Core.{does, IsLegalLog, IsClosed, tail_of, head_of, all_edges, graph_edges}
-use Rattle.chip_core.specs.Words.{acting_part}
-use Rattle.chip_core.specs.Closing.{HasEnd, RootHasPut, HasTurn, HasRound}
 use Rattle.chip_core.proofs.LogLemmas.{edge_counts, head_inside, tail_inside, in_pieces}
 use Rattle.chip_core.proofs.DueLemmas.{Quiet, quiet_closes, Works, take_works, settle_works, none_unput, look_finds}
 use Rattle.chip_core.proofs.ReachingLemmas.{part-append, part_own}
-use Rattle.chip_part.proofs.RuleLemmas.{is_none_of}
-use Rattle.chip_detect.proofs.ListLemmas.{contains_cases}
 
 -- how many of these count whatever they saw
 abbrev sure : Event → ℕ

@@ -1,43 +1,29 @@
 -- Serves Closing.antt.
 -- Schedules that ask for everything often enough close the root. Afterwards nothing counts, and but for seals the words
 -- stay as they are.
-use Rattle.std.proofs.lemmas.Bool.Decides.{nat_tests}
-use Rattle.std.proofs.Common.{rules, ◌≡◌, ◌≢◌, ℕ, ◌+◌, ◌<◌, ◌≤◌, cond, List, [], ◌∷◌, ◌++◌, length, Option, sym, ap}
-use Rattle.std.proofs.Common.{◌∙◌, subst, arith, ⊎_elim, refl, ◌⊎◌, zero, suc, None, inl, inr, true≢false, append-nil}
-use Rattle.std.proofs.Common.{is_some, Contains, append_assoc}
-use Rattle.std.proofs.lemmas.List.Elements.{Contains-append_left, Contains-append_right}
-use Rattle.chip_graph.specs.ChipGame.{IsGame}
-use Rattle.chip_graph.proofs.SumLemmas.{sum_below_ext}
-use Rattle.chip_link.specs.Link.{Tail, claims_of, Shows}
-use Rattle.chip_part.specs.Setting.{Setting}
-use Rattle.chip_core.specs.Core.{Log, Step, Part, part_of, part_in, word_of_part, IsLegalLog, IsClosed, tail_of}
-use Rattle.chip_core.specs.Core.{head_of, stopper, all_edges, Event, Clear, Claim, Put, Feed, out_in, sees, step}
-use Rattle.chip_core.specs.Core.{log_after, graph_edges, unmet_rule, Take, Ack, Fire, Halt, Settle}
-use Rattle.chip_core.specs.Words.{acting_part, of_edge, of_cell}
-use Rattle.chip_core.specs.Positions.{events_in, chips_given, fed_of}
-use Rattle.chip_core.specs.Work.{work_in, refusals_in, is_refusal, steps_at_most, fed_so_far, AreFiringBounds}
-use Rattle.chip_core.specs.Closing.{StirsNothing, HasEnd, AsksForEverything, NothingIsTold, IsStretch, HasStretches}
-use Rattle.chip_core.specs.Closing.{RootHasPut, HasRound, HasRounds}
+use Rattle.chip_core.proofs.Names.{nat_tests, rules, ◌≡◌, ◌≢◌, ℕ, ◌+◌, ◌<◌, ◌≤◌, cond, List, [], ◌∷◌, ◌++◌, length}
+use Rattle.chip_core.proofs.Names.{Option, sym, ap, ◌∙◌, subst, arith, ⊎_elim, refl, ◌⊎◌, zero, suc, None, inl, inr}
+use Rattle.chip_core.proofs.Names.{true≢false, append-nil, is_some, Contains, append_assoc, Contains-append_left}
+use Rattle.chip_core.proofs.Names.{Contains-append_right, IsGame, sum_below_ext, Tail, claims_of, Shows, Setting, Log}
+use Rattle.chip_core.proofs.Names.{Step, Part, part_of, part_in, word_of_part, IsLegalLog, IsClosed, tail_of, head_of}
+use Rattle.chip_core.proofs.Names.{stopper, all_edges, Event, Clear, Claim, Put, Feed, out_in, sees, step, log_after}
+use Rattle.chip_core.proofs.Names.{graph_edges, unmet_rule, Take, Ack, Fire, Halt, Settle, acting_part, of_edge}
+use Rattle.chip_core.proofs.Names.{of_cell, events_in, chips_given, fed_of, work_in, refusals_in, is_refusal}
+use Rattle.chip_core.proofs.Names.{steps_at_most, fed_so_far, AreFiringBounds, StirsNothing, HasEnd, AsksForEverything}
+use Rattle.chip_core.proofs.Names.{NothingIsTold, IsStretch, HasStretches, RootHasPut, HasRound, HasRounds, dite}
+use Rattle.chip_core.proofs.Names.{ℕ_discrete, brought_to, IsWholePlay, Met, saw, link_after, tail_root, rules_met}
+use Rattle.chip_core.proofs.Names.{contains_cases}
 use Rattle.chip_core.proofs.LogLemmas.{link_step, head_inside, tail_cases, legal_before, in_pieces, end_stays, met_here}
 use Rattle.chip_core.proofs.OrderLemmas.{all_counts}
 use Rattle.chip_core.proofs.ClosingLemmas.{still, still_closed, still_run, Rests, rested, at_rest}
 use Rattle.chip_core.proofs.IdleLemmas.{counts_here, work_grows}
 use Rattle.chip_core.proofs.WorkLemmas.{edge_work, vertex_work, refused_on, work_step, refusal_step, few_steps}
 use Rattle.chip_core.proofs.WorkLemmas.{few_refusals}
-use mathlib.Core.Logic.{dite}
-use native.Mathlib.Decide.{ℕ_discrete}
-use Rattle.chip_graph.specs.More.{brought_to}
-use Rattle.chip_sequence.specs.Sequence.{IsWholePlay}
-use Rattle.chip_part.specs.Kept.{Met}
-use Rattle.chip_part.specs.Steps.{saw, link_after}
-use Rattle.chip_part.proofs.EdgeLemmas.{tail_root}
 use Rattle.chip_core.proofs.GivenLemmas.{recorded_step, started_step}
 use Rattle.chip_core.proofs.ReachingLemmas.{step_legal, run_legal, run_from}
 use Rattle.chip_core.proofs.ReplyLemmas.{log_after-append}
 use Rattle.chip_core.proofs.DueLemmas.{tells_in, run_grows, by_rule, made, asked_closes}
 use Rattle.chip_core.proofs.RoundLemmas.{round_closes, take_made, settle_made}
-use Rattle.chip_part.proofs.RuleLemmas.{rules_met}
-use Rattle.chip_detect.proofs.ListLemmas.{contains_cases}
 
 module _ (g : Setting) (game : IsGame g.game) (some_ring : 0 < g.ring) where
   -- two logs leave the same parts but for the stopper's

@@ -1,33 +1,20 @@
 -- Serves Core.antt, Words.antt.
 -- What the operation of an event finds in its word is what the core says, and the words that it leaves show the log
 -- with that event.
-use Rattle.std.proofs.lemmas.Bool.Decides.{nat_tests}
-use Rattle.std.proofs.Common.{◌≡◌, ◌≢◌, ℕ, ◌+◌, ◌-◌, ◌%◌, ◌^◌, ◌<◌, true, false, cond, eqb, List, ◌∷◌, length, sum}
-use Rattle.std.proofs.Common.{Option, Some, None, option_to_list, is_some, refl, sym, ap, ◌∙◌, subst, arith, ⊎_elim}
-use Rattle.std.proofs.Common.{zero-add, bit_or}
-use Rattle.std.proofs.lemmas.Nat.{mod_below}
-use mathlib.Core.Logic.{dite}
-use native.Mathlib.Decide.{ℕ_discrete}
-use Rattle.chip_graph.proofs.SumLemmas.{cond_yes, cond_no}
-use Rattle.chip_link.specs.Link.{Tail, claims_of, after_claim, after_put, after_take, after_seal, Sound, Shows}
-use Rattle.chip_link.specs.Words.{fired_word, word_after_exchange}
-use Rattle.chip_link.proofs.ShownLemmas.{clear_sees, claim_shows, put_shows, take_sees, take_shows, seal_shows}
-use Rattle.chip_link.proofs.SoundsLemmas.{one_held}
-use Rattle.chip_link.proofs.WordLawsLemmas.{halts_word, halts_by_limit}
-use Rattle.chip_graph.specs.ChipGame.{IsGame}
-use Rattle.chip_part.specs.Setting.{Setting}
-use Rattle.chip_part.specs.declared.cause.Cause.{Cause}
-use Rattle.chip_part.specs.Part.{may_ack, cause, is_by_limit}
-use Rattle.chip_part.specs.declared.cause.Cause.TheVariants.{SealedEdge, FiringLimit}
-use Rattle.chip_part.specs.Kept.{Met}
-use Rattle.chip_part.specs.Steps.{link_after, got_after, acked_after, stop_after, saw}
-use Rattle.chip_part.proofs.PartLemmas.{at_edge, at_other, may_le}
-use Rattle.chip_part.proofs.RuleLemmas.{rules_met}
-use Rattle.chip_core.specs.Core.{Log, Step, Event, Take, Ack, Fire, Clear, Claim, Put, Halt, Settle, Seal, Read, Feed}
-use Rattle.chip_core.specs.Core.{End, Part, Out, unmet_rule, part_of, does, part_in, out_in, into_in, stop_in}
-use Rattle.chip_core.specs.Core.{word_of_part, sees, IsLegalLog, tail_of, head_of, root_edge, all_edges}
-use Rattle.chip_core.specs.Words.{Word, of_edge, of_acks, of_cell, of_vertex, IsWord, halt_bits, word_of_event}
-use Rattle.chip_core.specs.Words.{word_to_note, IsShown, acting_part, OperationsFind, IsLeft, WordsGoOn}
+use Rattle.chip_core.proofs.Names.{nat_tests, ◌≡◌, ◌≢◌, ℕ, ◌+◌, ◌-◌, ◌%◌, ◌^◌, ◌<◌, true, false, cond, eqb, List, ◌∷◌}
+use Rattle.chip_core.proofs.Names.{length, sum, Option, Some, None, option_to_list, is_some, refl, sym, ap, ◌∙◌, subst}
+use Rattle.chip_core.proofs.Names.{arith, ⊎_elim, zero-add, bit_or, mod_below, dite, ℕ_discrete, cond_yes, cond_no}
+use Rattle.chip_core.proofs.Names.{Tail, claims_of, after_claim, after_put, after_take, after_seal, Sound, Shows}
+use Rattle.chip_core.proofs.Names.{fired_word, word_after_exchange, clear_sees, claim_shows, put_shows, take_sees}
+use Rattle.chip_core.proofs.Names.{take_shows, seal_shows, one_held, halts_word, halts_by_limit, IsGame, Setting, Cause}
+use Rattle.chip_core.proofs.Names.{may_ack, cause, is_by_limit, SealedEdge, FiringLimit, Met, link_after, got_after}
+use Rattle.chip_core.proofs.Names.{acked_after, stop_after, saw, at_edge, at_other, may_le, rules_met, Log, Step, Event}
+use Rattle.chip_core.proofs.Names.{Take, Ack, Fire, Clear, Claim, Put, Halt, Settle, Seal, Read, Feed, End, Part, Out}
+use Rattle.chip_core.proofs.Names.{unmet_rule, part_of, does, part_in, out_in, into_in, stop_in, word_of_part, sees}
+use Rattle.chip_core.proofs.Names.{IsLegalLog, tail_of, head_of, root_edge, all_edges, Word, of_edge, of_cell}
+use Rattle.chip_core.proofs.Names.{of_vertex, IsWord, halt_bits, word_of_event, word_to_note, IsShown, acting_part}
+use Rattle.chip_core.proofs.Names.{OperationsFind, IsLeft, WordsGoOn}
+use Rattle.chip_core.specs.Words.{of_acks}
 use Rattle.chip_core.proofs.LogLemmas.{part_here, part_else, link_step, got_step, acked_step, stop_step, part_kept}
 use Rattle.chip_core.proofs.LogLemmas.{edge_sound, empty_hand}
 use Rattle.chip_core.proofs.NumberLemmas.{claims_most}

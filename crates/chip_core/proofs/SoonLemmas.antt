@@ -1,37 +1,23 @@
 -- Serves Soon.antt, Detection.antt.
 -- Soon after the end each round takes the lowest level off the tree, until the root is closed.
-use Rattle.std.proofs.Common.{◌≡◌, ◌⊎◌, ℕ, zero, suc, ◌+◌, ◌-◌, ◌<◌, ◌≤◌, eqb, List, [], ◌∷◌, ◌++◌, length, Some}
-use Rattle.std.proofs.Common.{None, Contains, refl, sym, ap, ◌∙◌, subst, arith, inl, inr, ⊎_elim, eqb-true}
-use Rattle.std.proofs.Common.{pos_of_ne-zero, append_assoc}
-use Rattle.std.proofs.lemmas.List.{length-drop}
-use Rattle.std.proofs.lemmas.List.Elements.{Contains-append_left, Contains-append_right}
-use mathlib.Core.Logic.{dite}
-use native.Mathlib.Decide.{ℕ_discrete, dec_lt}
-use Rattle.chip_graph.specs.ChipGame.{IsGame}
-use Rattle.chip_graph.proofs.SumLemmas.{cond_yes, tested_none}
-use Rattle.chip_link.specs.Link.{claims_of, sent_counts}
-use Rattle.chip_link.proofs.SoundsLemmas.{length-sent_counts}
-use Rattle.chip_part.specs.Setting.{Setting}
-use Rattle.chip_part.specs.Part.{owed, may_ack, deficit}
-use Rattle.chip_part.specs.Steps.{saw, settled_after}
-use Rattle.chip_part.proofs.PartLemmas.{in_zero, at_edge}
-use Rattle.chip_part.proofs.RuleLemmas.{rules_met}
-use Rattle.chip_part.proofs.RestingLemmas.{rests, was_parent, idle_little, nothing_left}
-use Rattle.chip_core.specs.Core.{Log, Step, Event, Part, Take, Ack, Settle, part_of, does, part_in, out_in, into_in}
-use Rattle.chip_core.specs.Core.{sees, IsLegalLog, IsClosed, outstanding, tail_of, head_of, all_edges, graph_edges}
-use Rattle.chip_core.specs.Messages.{Message, messages_from, counts_in_flight}
-use Rattle.chip_core.specs.Detection.{IsTree, IsDetectionOrder}
-use Rattle.chip_core.specs.Histories.{done_by}
-use Rattle.chip_core.specs.Closing.{HasTurn, HasRounds}
-use Rattle.chip_core.specs.Soon.{HasTerminated, IsAtMostDeep, HasRoundInOrder, DepthCloses, DepthClosesLater, DepthIsCounted}
+use Rattle.chip_core.proofs.Names.{◌≡◌, ◌⊎◌, ℕ, zero, suc, ◌+◌, ◌-◌, ◌<◌, ◌≤◌, eqb, List, [], ◌∷◌, ◌++◌, length, Some}
+use Rattle.chip_core.proofs.Names.{None, Contains, refl, sym, ap, ◌∙◌, subst, arith, inl, inr, ⊎_elim, eqb-true}
+use Rattle.chip_core.proofs.Names.{pos_of_ne-zero, append_assoc, length-drop, Contains-append_left}
+use Rattle.chip_core.proofs.Names.{Contains-append_right, dite, ℕ_discrete, dec_lt, IsGame, cond_yes, tested_none}
+use Rattle.chip_core.proofs.Names.{claims_of, sent_counts, length-sent_counts, Setting, owed, may_ack, deficit, saw}
+use Rattle.chip_core.proofs.Names.{settled_after, in_zero, at_edge, rules_met, rests, was_parent, idle_little}
+use Rattle.chip_core.proofs.Names.{nothing_left, Log, Step, Event, Part, Take, Ack, Settle, part_of, does, part_in}
+use Rattle.chip_core.proofs.Names.{out_in, into_in, sees, IsLegalLog, IsClosed, outstanding, tail_of, head_of}
+use Rattle.chip_core.proofs.Names.{all_edges, graph_edges, Message, messages_from, counts_in_flight, IsTree}
+use Rattle.chip_core.proofs.Names.{IsDetectionOrder, done_by, HasTurn, HasRounds, HasTerminated, IsAtMostDeep}
+use Rattle.chip_core.proofs.Names.{HasRoundInOrder, DepthCloses, DepthClosesLater, DepthIsCounted, nat_tests, place_in}
+use Rattle.chip_core.proofs.Names.{few_places, contained, cases_option, none_some, contains_cases}
 use Rattle.chip_core.proofs.LogLemmas.{part_kept, settled_step, acked_step, head_inside, tail_inside, acked_grows}
 use Rattle.chip_core.proofs.LogLemmas.{settled_grows, legal_before, in_pieces}
 use Rattle.chip_core.proofs.DueLemmas.{parent_below}
 use Rattle.chip_core.proofs.RoundLemmas.{makes_turn, settles_all, own_in}
 use Rattle.chip_core.proofs.ClosingLemmas.{settled_up, AtRest, rested, same_up, rests_on}
 use Rattle.chip_core.proofs.ReachingLemmas.{part_own}
-use Rattle.std.proofs.lemmas.Bool.Decides.{nat_tests}
-use Rattle.chip_detect.proofs.ListLemmas.{place_in, few_places, contained, cases_option, none_some, contains_cases}
 
 no_messages : (e place : ℕ) (counts : List ℕ) → messages_from e place counts ≡ [] → length counts ≡ 0
 no_messages e place [] is = refl

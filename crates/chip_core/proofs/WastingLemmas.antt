@@ -1,28 +1,13 @@
 -- Serves Wasting.antt.
 -- New looks are few, so steps that advance are; and where none is due the root is closed.
-use Rattle.std.proofs.Common.{◌≡◌, ℕ, zero, suc, ◌+◌, ◌*◌, ◌<◌, ◌≤◌, ◌||◌, Bool, true, false, cond, eqb, [], ◌∷◌, ◌++◌}
-use Rattle.std.proofs.Common.{length, refl, sym, ap, ◌∙◌, arith, true≢false, ⊎_elim}
-use Rattle.std.proofs.lemmas.Bool.Decides.{nat_tests}
-use mathlib.Core.Logic.{dite}
-use native.Mathlib.Decide.{ℕ_discrete}
-use Rattle.chip_graph.specs.ChipGame.{IsGame}
-use Rattle.chip_graph.specs.Sums.{sum_below}
-use Rattle.chip_graph.specs.Multigraph.{edge_at}
-use Rattle.chip_graph.proofs.SumLemmas.{sum_below_le, sum_below_add, one_at_most}
-use Rattle.chip_sequence.proofs.EndLemmas.{least_action}
-use Rattle.chip_link.specs.Link.{Tail, claims_of}
-use Rattle.chip_link.proofs.SoundsLemmas.{none_held, length-sent_counts}
-use Rattle.chip_part.specs.Setting.{Setting}
-use Rattle.chip_part.specs.Kept.{Met}
-use Rattle.chip_part.specs.Steps.{saw, link_after}
-use Rattle.chip_part.proofs.EdgeLemmas.{tail_graph, tail_root}
-use Rattle.chip_core.specs.Core.{Log, Step, Event, Clear, Claim, Put, Feed, part_of, part_in, out_in, IsLegalLog}
-use Rattle.chip_core.specs.Core.{IsClosed, outstanding, tail_of, graph_edges, sees}
-use Rattle.chip_core.specs.Positions.{chips_given, firings}
-use Rattle.chip_core.specs.Words.{acting_part}
-use Rattle.chip_core.specs.Work.{counts_as_work, is_refusal, AreFiringBounds}
-use Rattle.chip_core.specs.Closing.{HasEnd, Advances, is_new_look}
-use Rattle.chip_core.specs.Wasting.{AllAdvance, NoneIsDue, NoWasteCloses}
+use Rattle.chip_core.proofs.Names.{◌≡◌, ℕ, zero, suc, ◌+◌, ◌*◌, ◌<◌, ◌≤◌, ◌||◌, Bool, true, false, cond, eqb, [], ◌∷◌}
+use Rattle.chip_core.proofs.Names.{◌++◌, length, refl, sym, ap, ◌∙◌, arith, true≢false, ⊎_elim, nat_tests, dite}
+use Rattle.chip_core.proofs.Names.{ℕ_discrete, IsGame, sum_below, edge_at, sum_below_le, sum_below_add, one_at_most}
+use Rattle.chip_core.proofs.Names.{least_action, Tail, claims_of, none_held, length-sent_counts, Setting, Met, saw}
+use Rattle.chip_core.proofs.Names.{link_after, tail_graph, tail_root, Log, Step, Event, Clear, Claim, Put, Feed}
+use Rattle.chip_core.proofs.Names.{part_of, part_in, out_in, IsLegalLog, IsClosed, outstanding, tail_of, graph_edges}
+use Rattle.chip_core.proofs.Names.{sees, chips_given, firings, acting_part, counts_as_work, is_refusal, AreFiringBounds}
+use Rattle.chip_core.proofs.Names.{HasEnd, Advances, is_new_look, AllAdvance, NoneIsDue, NoWasteCloses}
 use Rattle.chip_core.proofs.LogLemmas.{out_kept, edge_sound, link_step, met_here, tail_inside}
 use Rattle.chip_core.proofs.PositionLemmas.{counts_are, is_sequence, is_within}
 use Rattle.chip_core.proofs.DueLemmas.{never_stuck, look_finds, tells_in}

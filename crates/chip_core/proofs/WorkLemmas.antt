@@ -1,38 +1,24 @@
 -- Serves Work.antt.
 -- How many steps of a legal log count as work, and how many of its claims are refused.
-use Rattle.std.proofs.Common.{◌≡◌, ℕ, zero, suc, ◌+◌, ◌-◌, ◌*◌, ◌<◌, ◌≤◌, true, cond, eqb, List, [], ◌∷◌}
-use Rattle.std.proofs.Common.{length, None, is_some, refl, sym, ap, ◌∙◌, arith, length-append, min, sum}
-use Rattle.chip_graph.specs.ChipGame.{IsGame}
-use Rattle.chip_graph.specs.Sums.{sum_below}
-use Rattle.chip_graph.specs.Multigraph.{edge_at, IsDistance}
-use Rattle.chip_sequence.specs.Bound.{greatest_degree, firing_bound, IsGreatestDistance}
-use Rattle.chip_sequence.proofs.EndLemmas.{least_action, continued}
-use Rattle.chip_sequence.proofs.BoundLemmas.{bound_law, below_top}
-use Rattle.chip_graph.proofs.SumLemmas.{cond_yes, cond_no, sum_below_le, sum_below_ext, sum_below_add, sum_below_split}
-use Rattle.chip_graph.proofs.SumLemmas.{sum_below_scale, sum_below_one, sum_below_none, one_at_most}
-use Rattle.chip_link.specs.Link.{Tail, claims_of, sent_counts}
-use Rattle.chip_link.proofs.SoundsLemmas.{none_held, one_held, length-sent_counts}
-use Rattle.chip_part.specs.Setting.{Setting}
-use Rattle.chip_part.specs.Part.{first_put}
-use Rattle.chip_part.specs.Edges.{start_of}
-use Rattle.chip_part.specs.Kept.{Met}
-use Rattle.chip_part.specs.Steps.{saw, link_after, settled_after, got_after, acked_after, fired_after, halt_after}
-use Rattle.chip_part.proofs.EdgeLemmas.{tail_graph, tail_root}
-use Rattle.chip_core.specs.Core.{Log, Step, Event, Take, Ack, Fire, Clear, Claim, Put, Halt, Settle, Feed, End, Part}
-use Rattle.chip_core.specs.Core.{part_of, part_in, out_in, into_in, IsLegalLog, tail_of, head_of, root_edge, all_edges}
-use Rattle.chip_core.specs.Core.{graph_edges, fired_by}
-use Rattle.chip_core.specs.Positions.{chips_given, played_game, firings, fed_of}
-use Rattle.chip_core.specs.Work.{counts_as_work, is_refusal, work_in, refusals_in, starters, steps_at_most}
-use Rattle.chip_core.specs.Work.{fires_at_most, AreFiringBounds}
+use Rattle.chip_core.proofs.Names.{◌≡◌, ℕ, zero, suc, ◌+◌, ◌-◌, ◌*◌, ◌<◌, ◌≤◌, true, cond, eqb, List, [], ◌∷◌, length}
+use Rattle.chip_core.proofs.Names.{None, is_some, refl, sym, ap, ◌∙◌, arith, length-append, min, sum, IsGame, sum_below}
+use Rattle.chip_core.proofs.Names.{edge_at, IsDistance, greatest_degree, firing_bound, IsGreatestDistance, least_action}
+use Rattle.chip_core.proofs.Names.{continued, bound_law, below_top, cond_yes, cond_no, sum_below_le, sum_below_ext}
+use Rattle.chip_core.proofs.Names.{sum_below_add, sum_below_split, sum_below_scale, sum_below_one, sum_below_none}
+use Rattle.chip_core.proofs.Names.{one_at_most, Tail, claims_of, sent_counts, none_held, one_held, length-sent_counts}
+use Rattle.chip_core.proofs.Names.{Setting, first_put, start_of, Met, saw, link_after, settled_after, got_after}
+use Rattle.chip_core.proofs.Names.{acked_after, fired_after, halt_after, tail_graph, tail_root, Log, Step, Event, Take}
+use Rattle.chip_core.proofs.Names.{Ack, Fire, Clear, Claim, Put, Halt, Settle, Feed, End, Part, part_of, part_in}
+use Rattle.chip_core.proofs.Names.{out_in, into_in, IsLegalLog, tail_of, head_of, root_edge, all_edges, graph_edges}
+use Rattle.chip_core.proofs.Names.{fired_by, chips_given, played_game, firings, fed_of, counts_as_work, is_refusal}
+use Rattle.chip_core.proofs.Names.{work_in, refusals_in, starters, steps_at_most, fires_at_most, AreFiringBounds}
+use Rattle.chip_core.proofs.Names.{IsFiringSequence, counts, first_is, nat_tests}
 use Rattle.chip_core.proofs.PositionLemmas.{counts_are, is_sequence, is_within}
 use Rattle.chip_core.proofs.NumberLemmas.{few_root_claims}
 use Rattle.chip_core.proofs.LogLemmas.{out_kept, edge_sound, edge_counts, link_step, settled_step, got_step, acked_step}
 use Rattle.chip_core.proofs.LogLemmas.{tail_inside, met_here}
 use Rattle.chip_core.proofs.GivenLemmas.{recorded, recorded_step, given_sum, played_has_more, fed_to, root_sends}
 use Rattle.chip_core.proofs.IdleLemmas.{counts_here}
-use Rattle.chip_sequence.specs.Sequence.{IsFiringSequence, counts}
-use Rattle.chip_part.proofs.OpeningLemmas.{first_is}
-use Rattle.std.proofs.lemmas.Bool.Decides.{nat_tests}
 
 -- a number that counts at one place
 pub one_term : (n e more : ℕ) → e < n → sum_below n (λ i. cond (eqb e i) more 0) ≡ more

@@ -1,27 +1,18 @@
 -- Serves Worked.antt, WorkedClosing.antt, WorkedSoon.antt.
 -- The worked runs: a detection order member by member, a game within the limits, the sink asked backwards, and the
 -- triangle at rest.
-use Rattle.std.proofs.Common.{◌≡◌, ℕ, zero, suc, ◌<◌, [], ◌∷◌, get_or, Contains, refl, arith, inl, inr, ◌++◌, ◌≤◌, true}
-use Rattle.std.proofs.Common.{Some, subst, true≢false, sym, ◌≢◌, List, ◌^◌, length, sum, ⊎_elim}
-use Rattle.chip_core.specs.Worked.{TwoEngaged, whole_schedule, WholeSchedule, limit_of_two, stopped_by_limit}
-use Rattle.chip_core.specs.Worked.{StoppedByLimit, played_on, StoppedBySeal, fed_triangle, fed_schedule, ClosedByTheEnd}
-use Rattle.chip_graph.specs.Multigraph.{edge_at, IsEdge, IsGraph, ReachesSink}
-use Rattle.chip_part.specs.Setting.{Setting}
-use Rattle.chip_core.specs.Core.{End, Take, Ack, Settle, Fire, log_after, Log, part_in, tail_of}
+use Rattle.chip_core.proofs.Names.{◌≡◌, ℕ, zero, suc, ◌<◌, [], ◌∷◌, get_or, Contains, refl, arith, inl, inr, ◌++◌, ◌≤◌}
+use Rattle.chip_core.proofs.Names.{true, Some, subst, true≢false, sym, ◌≢◌, List, ◌^◌, length, sum, ⊎_elim, TwoEngaged}
+use Rattle.chip_core.proofs.Names.{whole_schedule, WholeSchedule, limit_of_two, stopped_by_limit, StoppedByLimit}
+use Rattle.chip_core.proofs.Names.{played_on, StoppedBySeal, fed_triangle, fed_schedule, ClosedByTheEnd, edge_at}
+use Rattle.chip_core.proofs.Names.{IsEdge, IsGraph, ReachesSink, Setting, End, Take, Ack, Settle, Fire, log_after, Log}
+use Rattle.chip_core.proofs.Names.{part_in, tail_of, four_chips, sent_back, PairCloses, ThreeSteps, TrianglePlays}
+use Rattle.chip_core.proofs.Names.{sink_alone, backwards, ThreeStretches, FiveStretches, BatchesAsk, AsksForEverything}
+use Rattle.chip_core.proofs.Names.{is_passive, in_flight, same_edge, max_total, max_limit, IsGame, none-some}
+use Rattle.chip_core.proofs.Names.{contains_nothing}
 use Rattle.chip_core.proofs.ReadLemmas.{settled_is, closed_is}
-use Rattle.chip_core.specs.WorkedSoon.{four_chips, sent_back, PairCloses}
 use Rattle.chip_core.proofs.PlayingLemmas.{plays_out}
 use Rattle.chip_core.proofs.ReachingLemmas.{run_legal}
-use Rattle.chip_core.specs.WorkedClosing.{ThreeSteps, TrianglePlays}
-use Rattle.chip_core.specs.WorkedClosing.{sink_alone, backwards, ThreeStretches, FiveStretches, BatchesAsk}
-use Rattle.chip_core.specs.Closing.{AsksForEverything}
-use Rattle.chip_part.specs.Part.{is_passive}
-use Rattle.chip_core.specs.Messages.{in_flight}
-use Rattle.chip_part.proofs.RestingLemmas.{same_edge}
-use Rattle.chip_graph.specs.Limits.{max_total, max_limit}
-use Rattle.chip_graph.specs.ChipGame.{IsGame}
-use Rattle.chip_link.proofs.SoundsLemmas.{none-some}
-use Rattle.chip_detect.proofs.ListLemmas.{contains_nothing}
 
 -- a list of one vertex has no other
 only_one : (u v : ℕ) → u < v → Contains (u ∷ []) v → ⊥

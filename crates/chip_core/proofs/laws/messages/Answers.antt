@@ -1,4 +1,5 @@
-use Rattle.chip_core.proofs.MessageLemmas.{sent_stands, opening_messages, in_order_from_the_opening, held_from_the_opening}
+use Rattle.chip_core.proofs.MessageLemmas.{sent_stands, opening_messages, in_order_from_the_opening}
+use Rattle.chip_core.proofs.MessageLemmas.{held_from_the_opening}
 use Rattle.chip_core.proofs.laws.messages.Goals as goal
 
 pub returns : goal.returns

@@ -1,6 +1,6 @@
-use Rattle.chip_core.proofs.DueLemmas as due
 use Rattle.chip_core.proofs.DueLemmas.{asked_closes}
 use Rattle.chip_core.proofs.RoundLemmas.{round_closes}
+use Rattle.chip_core.proofs.DueLemmas as due
 use Rattle.chip_core.proofs.laws.never_stuck.Goals as goal
 
 pub returns : goal.returns

@@ -1,4 +1,4 @@
-use Rattle.std.proofs.Common.{refl}
+use Rattle.chip_core.proofs.Names.{refl}
 use Rattle.chip_core.proofs.WorkedLemmas.{three_stretches, five_stretches, batches_ask, three_steps, triangle_plays}
 use Rattle.chip_core.proofs.laws.worked_closing.Goals as goal
 

@@ -1,4 +1,4 @@
-use Rattle.std.proofs.Common.{refl}
+use Rattle.chip_core.proofs.Names.{refl}
 use Rattle.chip_core.proofs.WorkedLemmas.{pair_closes}
 use Rattle.chip_core.proofs.laws.worked_ends.Goals as goal
 

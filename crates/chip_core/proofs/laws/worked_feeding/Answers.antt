@@ -1,4 +1,4 @@
-use Rattle.std.proofs.Common.{refl}
+use Rattle.chip_core.proofs.Names.{refl}
 use Rattle.chip_core.proofs.WorkedLemmas.{by_the_end}
 use Rattle.chip_core.proofs.laws.worked_feeding.Goals as goal
 

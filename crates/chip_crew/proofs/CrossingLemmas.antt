@@ -1,18 +1,11 @@
 -- Serves no definition, but what the kit asks of values that go to other threads.
 -- What the threads of a crew share, and what goes to them and back.
-use mir.Syntax.{Lifetime}
-use base.Fml.{Lft}
-use denote.Ref.{NamedLft}
-use denote.RattleType.{RattleType}
-use denote.Param.Send.{IsSend, IsSync, sendable, shr_send}
-use denote.Param.SendFields.{declared_send}
-use Rattle.std.proofs.Crossing.{crosses, frees, send, sync}
+use Rattle.chip_crew.proofs.Names.{Lifetime, Lft, NamedLft, RattleType, IsSend, IsSync, sendable, shr_send}
+use Rattle.chip_crew.proofs.Names.{declared_send, crosses, frees, send, sync, actor_send, net_crosses, Ghosts}
 use Rattle.atomic_table.proofs.shared.Seat.TheSendSync as seat
 use Rattle.crossbeam_queue.proofs.array_queue.Slotted.TheSendSync as queue
-use Rattle.chip_net.proofs.CrossingLemmas.{actor_send, net_crosses}
 use Rattle.chip_crew.proofs.shared.Shared.TheSendSync as sharing
 use Rattle.chip_crew.specs.declared.plan.Gate as gate
-use Rattle.chip_crew.specs.declared.queue.Crew.{Ghosts}
 use Rattle.chip_crew.specs.contracts.leader.Leader as leader
 use Rattle.chip_crew.specs.contracts.shared.Shared as shared
 use Rattle.chip_crew.specs.contracts.worker.Share as share

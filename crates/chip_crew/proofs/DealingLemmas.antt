@@ -1,25 +1,13 @@
 -- Serves Dealing.antt, Rounds.antt.
 -- Where the run of a worker begins and ends, and what its turns leave of it.
-use Rattle.std.proofs.Common.{◌^◌, ◌≡◌, ℕ, zero, suc, ◌+◌, ◌*◌, ◌%◌, ◌<◌, ◌≤◌, ◌-◌, ◌==◌, max, List, length, Option}
-use Rattle.std.proofs.Common.{Some}
-use Rattle.std.proofs.Common.{None, take, get_or, set, length-take, refl, sym, ap, ◌∙◌, subst, arith, add-one, zero-add}
-use Rattle.std.specs.Prelude.{slice_get}
-use Rattle.std.proofs.lemmas.Nat.{mul-le}
-use Rattle.std.proofs.Math.Nat.{mod-add-mod, mod-eq_of_lt}
-use Rattle.std.proofs.lemmas.List.{length-set}
-use mathlib.Core.Logic.{dite}
-use native.Mathlib.Decide.{ℕ_discrete, dec_lt}
-use Rattle.std.proofs.lemmas.Option.{slice_get_read, slice_get_past, slice_get_within, get_or_from_slice_get}
-use Rattle.std.proofs.lemmas.List.Sums.{sum_by-set}
-use Rattle.chip_graph.specs.Multigraph.{Multigraph, edge_at}
-use Rattle.chip_part.proofs.PickedLemmas.{length-picked}
-use Rattle.chip_net.specs.Tokens.{ActorKnown, MakesTurn}
-use Rattle.chip_net.specs.declared.actor.Turn.{Turn}
-use Rattle.chip_crew.specs.Crew.{CrewId, Turned, IsOurs, IsAt, AreFrom, turns_of, all_turns}
-use Rattle.chip_crew.specs.Dealing.{ends_at, ends_before, IsCut, IsFirstOf, AreOf}
-use Rattle.chip_crew.specs.Rounds.{TurnsThere, TurnsAt, RoundsMade}
-use Rattle.chip_crew.specs.Handed.{HasDealt}
-use Rattle.chip_crew.specs.Asked.{Asked, passes}
+use Rattle.chip_crew.proofs.Names.{◌^◌, ◌≡◌, ℕ, zero, suc, ◌+◌, ◌*◌, ◌%◌, ◌<◌, ◌≤◌, ◌-◌, ◌==◌, max, List, length}
+use Rattle.chip_crew.proofs.Names.{Option, Some, None, take, get_or, set, length-take, refl, sym, ap, ◌∙◌, subst, arith}
+use Rattle.chip_crew.proofs.Names.{add-one, zero-add, slice_get, mul-le, mod-add-mod, mod-eq_of_lt, length-set, dite}
+use Rattle.chip_crew.proofs.Names.{ℕ_discrete, dec_lt, slice_get_read, slice_get_past, slice_get_within}
+use Rattle.chip_crew.proofs.Names.{get_or_from_slice_get, sum_by-set, Multigraph, edge_at, length-picked, ActorKnown}
+use Rattle.chip_crew.proofs.Names.{MakesTurn, Turn, CrewId, Turned, IsOurs, IsAt, AreFrom, turns_of, all_turns, ends_at}
+use Rattle.chip_crew.proofs.Names.{ends_before, IsCut, IsFirstOf, AreOf, TurnsThere, TurnsAt, RoundsMade, HasDealt}
+use Rattle.chip_crew.proofs.Names.{Asked, passes}
 use Rattle.chip_crew.proofs.TurnLemmas.{turn_counts}
 use Rattle.chip_crew.proofs.RunLemmas.{from_at, from_set, from_take, from_all}
 

@@ -1,9 +1,7 @@
 -- Serves Duties.antt.
 -- What a worker does beside its turns, round by round.
-use Rattle.std.proofs.Common.{◌≡◌, ℕ, zero, suc, ◌+◌, ◌%◌, ◌<◌, ◌==◌, true, false, Bool, refl, sym, ap, ◌∙◌, subst, arith}
-use Rattle.std.proofs.Common.{add-one, eq-eqb, ne_eqb}
-use Rattle.std.proofs.Math.Nat.{add-mod_right}
-use Rattle.chip_crew.specs.Duties.{BeginsEach, EndsIf, Serves}
+use Rattle.chip_crew.proofs.Names.{◌≡◌, ℕ, zero, suc, ◌+◌, ◌%◌, ◌<◌, ◌==◌, true, false, Bool, refl, sym, ap, ◌∙◌, subst}
+use Rattle.chip_crew.proofs.Names.{arith, add-one, eq-eqb, ne_eqb, add-mod_right, BeginsEach, EndsIf, Serves}
 use Rattle.chip_crew.proofs.DealingLemmas.{place_is}
 
 -- with a whole round more there are whole rounds

@@ -1,22 +1,12 @@
 -- Serves Feeding.antt.
 -- What feeds, polls and the end leave of the root: what was fed, what may be fed still, and whether the end is noted.
-use Rattle.std.proofs.Common.{◌≡◌, ◌==◌, ℕ, zero, suc, ◌+◌, ◌-◌, ◌%◌, ◌<◌, Bool, true, false, List, [], ◌∷◌, ◌++◌}
-use Rattle.std.proofs.Common.{Some, None, All, sum, refl, sym, ap, ◌∙◌, subst, arith, append_assoc, ⊎_elim}
-use Rattle.std.proofs.lemmas.List.Elements.{All-tail}
-use Rattle.std.proofs.lemmas.List.Sums.{sum_by-append}
-use Rattle.chip_graph.specs.More.{all_brought}
-use Rattle.chip_part.specs.Setting.{Setting}
-use Rattle.chip_part.specs.Steps.{does, saw}
-use Rattle.chip_core.specs.Core.{Step, Event, Clear, Settle, End, Part, opening_part, root_edge, graph_edges}
-use Rattle.chip_core.specs.Histories.{part_by}
-use Rattle.chip_core.specs.Positions.{fed_of, fed_in}
-use Rattle.chip_net.specs.Tokens.{NetId}
-use Rattle.chip_net.specs.declared.poll.RootState.{RootState}
-use Rattle.chip_net.specs.Roots.{RootKnown, root_part, root_after, has_ended, fed_by, Feeds, LooksInVain}
-use Rattle.chip_net.specs.Roots.{feed_steps, settles_from, IsPolling, Ends}
-use Rattle.chip_net.proofs.ViewingLemmas.{part_append}
-use Rattle.chip_crew.specs.Feeding.{Left, pairs, MayFeed, MayFeedLeft, FeedsNext, EndsAfter, FeedsOnce, PollsIf, IsLed}
-use Rattle.chip_crew.specs.Sealing.{events_of}
+use Rattle.chip_crew.proofs.Names.{◌≡◌, ◌==◌, ℕ, zero, suc, ◌+◌, ◌-◌, ◌%◌, ◌<◌, Bool, true, false, List, [], ◌∷◌, ◌++◌}
+use Rattle.chip_crew.proofs.Names.{Some, None, All, sum, refl, sym, ap, ◌∙◌, subst, arith, append_assoc, ⊎_elim}
+use Rattle.chip_crew.proofs.Names.{All-tail, sum_by-append, all_brought, Setting, does, saw, Step, Event, Clear, Settle}
+use Rattle.chip_crew.proofs.Names.{End, Part, opening_part, root_edge, graph_edges, part_by, fed_of, fed_in, NetId}
+use Rattle.chip_crew.proofs.Names.{RootState, RootKnown, root_part, root_after, has_ended, fed_by, Feeds, LooksInVain}
+use Rattle.chip_crew.proofs.Names.{feed_steps, settles_from, IsPolling, Ends, part_append, Left, pairs, MayFeed}
+use Rattle.chip_crew.proofs.Names.{MayFeedLeft, FeedsNext, EndsAfter, FeedsOnce, PollsIf, IsLed, events_of}
 
 -- ---- settles
 

@@ -1,39 +1,20 @@
 -- Serves Finished.antt, Feeding.antt, Plans.antt.
 -- What is known of a crew is known of the game that it played.
-use Rattle.std.proofs.Common.{◌≡◌, ◌⊎◌, ⊎_elim, ◌+◌, ◌<◌, ◌≤◌, ℕ, true, false, not, List, [], ◌++◌, All, sum, Option}
-use Rattle.std.proofs.Common.{Some, None}
-use Rattle.std.proofs.Common.{is_some, refl, sym, ◌∙◌, ap, subst, arith, ltb, leb, ltb-true}
-use Rattle.std.proofs.lemmas.Bool.{and_parts, leb-true}
-use Rattle.std.proofs.lemmas.List.Sums.{AllPass-from_list_all}
-use Rattle.chip_graph.specs.ChipGame.{ChipGame}
-use Rattle.chip_graph.specs.Limits.{max_total}
-use Rattle.chip_graph.specs.More.{HasMore, all_brought}
-use Rattle.chip_sequence.specs.declared.outcome.Outcome.{Outcome}
-use Rattle.chip_part.specs.Setting.{Setting, setting_with}
-use Rattle.chip_core.specs.Core.{Step}
-use Rattle.chip_net.specs.Tokens.{NetId}
-use Rattle.chip_net.specs.Roots.{RootKnown, new_root, has_ended, fed_by, IsOver}
-use Rattle.chip_crew.specs.Plans.{is_plan, is_count, names_edge, are_feeds, max_workers, max_turns, max_trace_rows}
-use Rattle.chip_link.specs.Rings.{max_ring}
-use Rattle.std.specs.Option.{option_copied}
-use Rattle.chip_crew.specs.Asked.{Asked, SomeShut, root_of}
-use Rattle.chip_crew.specs.Leading.{HasLed}
-use Rattle.chip_crew.specs.Sealing.{HasBack, HasSealed, TakesBack, KnowsSeals}
-use Rattle.chip_crew.specs.declared.plan.SealAt.{SealAt}
-use Rattle.chip_crew.specs.Crew.{CrewId}
-use Rattle.chip_crew.specs.Feeding.{Left, pairs, IsLed, MayFeed, MayFeedLeft}
-use Rattle.chip_crew.specs.Ending.{EndsWell, StaysOpen, EndsLed, StaysUnfinished}
-use Rattle.chip_crew.specs.Finished.{CanPlay, IsCrewFor, HasFinished, IsWhole, IsFinished, IsStopped, IsFaultOf}
-use Rattle.chip_crew.specs.declared.plan.Sharing.{Sharing}
-use Rattle.chip_crew.specs.declared.leader.Leader.{Leader}
-use Rattle.chip_crew.specs.declared.plan.Plan.{Plan}
-use Rattle.chip_crew.specs.declared.play.Finished.{Finished}
-use Rattle.chip_crew.specs.declared.fault.CrewFault.{CrewFault}
-use Rattle.chip_crew.specs.declared.fault.CrewFault.TheVariants as fault
+use Rattle.chip_crew.proofs.Names.{◌≡◌, ◌⊎◌, ⊎_elim, ◌+◌, ◌<◌, ◌≤◌, ℕ, true, false, not, List, [], ◌++◌, All, sum}
+use Rattle.chip_crew.proofs.Names.{Option, Some, None, is_some, refl, sym, ◌∙◌, ap, subst, arith, ltb, leb, ltb-true}
+use Rattle.chip_crew.proofs.Names.{and_parts, leb-true, AllPass-from_list_all, ChipGame, max_total, HasMore}
+use Rattle.chip_crew.proofs.Names.{all_brought, Outcome, Setting, setting_with, Step, NetId, RootKnown, new_root}
+use Rattle.chip_crew.proofs.Names.{has_ended, fed_by, IsOver, is_plan, is_count, names_edge, are_feeds, max_workers}
+use Rattle.chip_crew.proofs.Names.{max_turns, max_trace_rows, max_ring, option_copied, Asked, SomeShut, root_of, HasLed}
+use Rattle.chip_crew.proofs.Names.{HasBack, HasSealed, TakesBack, KnowsSeals, SealAt, CrewId, Left, pairs, IsLed}
+use Rattle.chip_crew.proofs.Names.{MayFeed, MayFeedLeft, EndsWell, StaysOpen, EndsLed, StaysUnfinished, CanPlay}
+use Rattle.chip_crew.proofs.Names.{IsCrewFor, HasFinished, IsWhole, IsFinished, IsStopped, IsFaultOf, Sharing, Leader}
+use Rattle.chip_crew.proofs.Names.{Plan, Finished, CrewFault}
 use Rattle.chip_crew.proofs.FeedLemmas.{Adds, GoesOn, poll_adds, led_goes_on, over_has_fed}
 use Rattle.chip_crew.proofs.OverLemmas.{over_polled}
 use Rattle.chip_crew.proofs.LeadingLemmas.{led_by}
 use Rattle.chip_crew.proofs.SealingLemmas.{IsSame, takes_back, back_same, knows_seals}
+use Rattle.chip_crew.specs.declared.fault.CrewFault.TheVariants as fault
 
 -- the root of a net that opens to be fed may feed what the plan says
 pub may_begin : (game : ChipGame) (feeds : Left) (plan : Plan) (net : NetId) (root : RootKnown)

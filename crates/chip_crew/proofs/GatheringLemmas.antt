@@ -1,22 +1,12 @@
 -- Serves Gathering.antt.
 -- What the calling thread gathers from the queue are the actors of all vertices, and sorted they are in order.
-use Rattle.std.proofs.Common.{◌≡◌, ℕ, suc, ◌+◌, ◌*◌, ◌<◌, ◌≤◌, List, [], ◌∷◌, ◌++◌, length, map, get_or, All}
-use Rattle.std.proofs.Common.{refl, sym, ap, ◌∙◌, subst, arith}
-use Rattle.std.specs.Global.{Vec}
-use Rattle.std.specs.Vec.{vec_capacity}
-use Rattle.std.specs.List.Sorted.{IsPermutation, IsNonDecreasingBy}
-use Rattle.std.proofs.lemmas.List.{length-map, map-append}
-use Rattle.std.proofs.lemmas.List.Elements.{All-head, All-tail, All-append}
-use Rattle.std.proofs.lemmas.List.Sorted.{All-permutation, sum_by-IsPermutation}
-use Rattle.std.proofs.lemmas.List.Sums.{sum_by-cons, sum_by-append, sum_by-le, get_or-le-sum_by}
-use Rattle.chip_graph.proofs.SumLemmas.{cond_yes, cond_no}
-use Rattle.chip_net.specs.Tokens.{ActorKnown}
-use Rattle.chip_crew.specs.Asked.{Asked}
-use Rattle.chip_crew.specs.Crew.{CrewId, IsOurs, AreFrom, AreActors, turns_of, all_turns}
-use Rattle.chip_crew.specs.Ledger.{got_turns, gave_turns}
-use Rattle.chip_crew.specs.Places.{times, actors_of, AreAllThere}
-use Rattle.chip_crew.specs.Gathering.{AreGathered, IsGatheringFor}
-use Rattle.chip_crew.specs.declared.queue.Ledger.{Ledger}
+use Rattle.chip_crew.proofs.Names.{◌≡◌, ℕ, suc, ◌+◌, ◌*◌, ◌<◌, ◌≤◌, List, [], ◌∷◌, ◌++◌, length, map, get_or, All, refl}
+use Rattle.chip_crew.proofs.Names.{sym, ap, ◌∙◌, subst, arith, Vec, vec_capacity, IsPermutation, IsNonDecreasingBy}
+use Rattle.chip_crew.proofs.Names.{length-map, map-append, All-head, All-tail, All-append, All-permutation}
+use Rattle.chip_crew.proofs.Names.{sum_by-IsPermutation, sum_by-cons, sum_by-append, sum_by-le, get_or-le-sum_by}
+use Rattle.chip_crew.proofs.Names.{cond_yes, cond_no, ActorKnown, Asked, CrewId, IsOurs, AreFrom, AreActors, turns_of}
+use Rattle.chip_crew.proofs.Names.{all_turns, got_turns, gave_turns, times, actors_of, AreAllThere, AreGathered}
+use Rattle.chip_crew.proofs.Names.{IsGatheringFor, Ledger}
 use Rattle.chip_crew.proofs.PlacesLemmas.{is_it, is_of}
 use Rattle.chip_crew.proofs.RunLemmas.{in_order}
 

@@ -1,17 +1,9 @@
 -- Serves Leading.antt.
 -- What worker 0 does beside its turns is to lead the root, and to seal.
-use Rattle.std.proofs.Common.{◌≡◌, ℕ, zero, suc, ◌%◌, ◌==◌, Bool, true, false, Option, Some, None}
-use Rattle.std.proofs.Common.{sym, ap, ◌∙◌, subst, add-one}
-use Rattle.std.specs.Option.{option_copied}
-use Rattle.chip_net.specs.Tokens.{NetId}
-use Rattle.chip_net.specs.Roots.{RootKnown, StopperKnown, IsPolling, IsOver}
-use Rattle.chip_crew.specs.Asked.{Asked, root_of}
-use Rattle.chip_crew.specs.Feeding.{Left, FeedsOnce, PollsIf, IsLed}
-use Rattle.chip_crew.specs.Sealing.{SealsBefore, HasSealed, MaySeal}
-use Rattle.chip_crew.specs.Duties.{EndsIf, Serves}
-use Rattle.chip_crew.specs.Leading.{CanLead, IsLeader, LeadsTurn, LeadsRound}
-use Rattle.chip_crew.specs.declared.leader.Leader.{Leader}
-use Rattle.chip_crew.specs.declared.plan.SealAt.{SealAt}
+use Rattle.chip_crew.proofs.Names.{◌≡◌, ℕ, zero, suc, ◌%◌, ◌==◌, Bool, true, false, Option, Some, None, sym, ap, ◌∙◌}
+use Rattle.chip_crew.proofs.Names.{subst, add-one, option_copied, NetId, RootKnown, StopperKnown, IsPolling, IsOver}
+use Rattle.chip_crew.proofs.Names.{Asked, root_of, Left, FeedsOnce, PollsIf, IsLed, SealsBefore, HasSealed, MaySeal}
+use Rattle.chip_crew.proofs.Names.{EndsIf, Serves, CanLead, IsLeader, LeadsTurn, LeadsRound, Leader, SealAt}
 use Rattle.chip_crew.proofs.FeedLemmas.{poll_goes_on}
 use Rattle.chip_crew.proofs.SealingLemmas.{sealed_next}
 

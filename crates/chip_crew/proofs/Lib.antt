@@ -1,3 +1,4 @@
+mod Names
 pub mod PlacesLemmas
 pub mod TurnLemmas
 pub mod QueueingLemmas

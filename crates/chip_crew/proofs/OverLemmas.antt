@@ -1,19 +1,10 @@
 -- Serves Ending.antt, Leading.antt.
 -- A root that is over stays so, since a settle never raises what is outstanding.
-use Rattle.std.proofs.Common.{◌==◌, ℕ, ◌+◌, ◌-◌, ◌≤◌, Bool, true, false, if◌then◌else◌, List, [], ◌∷◌, sym, ap, ◌∙◌}
-use Rattle.std.proofs.Common.{subst, arith}
-use Rattle.chip_graph.proofs.SumLemmas.{tested_le}
-use Rattle.chip_link.specs.Link.{claims_of}
-use Rattle.chip_part.specs.Setting.{Setting}
-use Rattle.chip_part.specs.Edges.{all_edges, tail_of, root}
-use Rattle.chip_part.specs.Part.{Part, deficit, outstanding}
-use Rattle.chip_part.specs.Steps.{does, saw}
-use Rattle.chip_core.specs.Core.{Event, Step, Settle, opening_part}
-use Rattle.chip_core.specs.Histories.{part_by}
-use Rattle.chip_net.specs.Roots.{RootKnown, root_part, root_deficit, IsPolling, IsOver}
-use Rattle.chip_net.proofs.ViewingLemmas.{part_append}
-use Rattle.chip_crew.specs.Feeding.{Left, MayFeedLeft, FeedsOnce}
-use Rattle.chip_crew.specs.Sealing.{events_of}
+use Rattle.chip_crew.proofs.Names.{◌==◌, ℕ, ◌+◌, ◌-◌, ◌≤◌, Bool, true, false, if◌then◌else◌, List, [], ◌∷◌, sym, ap}
+use Rattle.chip_crew.proofs.Names.{◌∙◌, subst, arith, tested_le, claims_of, Setting, all_edges, tail_of, root, Part}
+use Rattle.chip_crew.proofs.Names.{deficit, outstanding, does, saw, Event, Step, Settle, opening_part, part_by}
+use Rattle.chip_crew.proofs.Names.{RootKnown, root_part, root_deficit, IsPolling, IsOver, part_append, Left}
+use Rattle.chip_crew.proofs.Names.{MayFeedLeft, FeedsOnce, events_of}
 use Rattle.chip_crew.proofs.FeedLemmas.{IsSettle, AreSettles, are_settles, poll_adds, over_has_fed}
 
 module _ (g : Setting) (v : ℕ) where

@@ -1,11 +1,8 @@
 -- Serves Crew.antt.
 -- The actors of a net that opens are the crew's, and stay so.
-use Rattle.std.proofs.lemmas.List.Sums.{sum_by-le}
-use Rattle.std.proofs.lemmas.Option.{same_Some, slice_get_within, get_or_from_slice_get}
-use Rattle.std.proofs.Common.{◌≡◌, ◌+◌, ◌<◌, ℕ, List, length, Some, ◌∙◌, refl, sym, subst, arith, ap}
-use Rattle.std.specs.Prelude.{slice_get}
-use Rattle.chip_net.specs.Tokens.{ActorKnown, newcomer, NetId}
-use Rattle.chip_crew.specs.Crew.{CrewId, IsAt, AreFrom, turns_of, all_turns}
+use Rattle.chip_crew.proofs.Names.{sum_by-le, same_Some, slice_get_within, get_or_from_slice_get, ◌≡◌, ◌+◌, ◌<◌, ℕ}
+use Rattle.chip_crew.proofs.Names.{List, length, Some, ◌∙◌, refl, sym, subst, arith, ap, slice_get, ActorKnown}
+use Rattle.chip_crew.proofs.Names.{newcomer, NetId, CrewId, IsAt, AreFrom, turns_of, all_turns}
 use Rattle.chip_crew.proofs.RunLemmas.{from_each}
 
 pub ours_by : (crew : CrewId) (n : ℕ) (actors : List ActorKnown) → crew.net.setting.game.graph.vertices ≡ n

@@ -1,24 +1,14 @@
 -- Serves Places.antt, Ledger.antt.
 -- What is done at the queue keeps its rule, and what the rule tells.
-use Rattle.std.proofs.Common.{◌≡◌, ◌==◌, ◌+◌, ◌<◌, ◌≤◌, ℕ, zero, suc, cond, List, [], ◌∷◌, ◌++◌, refl, sym, ap, ◌∙◌}
-use Rattle.std.proofs.Common.{length, map, set, drop, All, sum_by, subst, arith, length-append, add-one}
-use Rattle.std.specs.List.{range_with_len}
-use Rattle.std.proofs.lemmas.List.Sums.{sum_by-cons, sum_by-append, sum_by_push, sum_by-take-drop}
-use Rattle.std.proofs.lemmas.List.Elements.{All-push, All-head, All-tail, All-set, All-cons, All-nil, All-drop}
-use Rattle.std.proofs.lemmas.List.FromFn.{length-range_with_len}
-use mathlib.Core.Logic.{dite}
-use mathlib.Core.Option.{some, some-injective, some-ne-none}
-use native.Mathlib.Decide.{ℕ_discrete}
-use lib.ListN.{get_elem?}
-use Rattle.crossbeam_queue.proofs.Lists.{set_else, drop_at}
-use Rattle.crossbeam_queue.specs.Fifo.{Pushes, Pops, Forks, Merges, Learns, Held}
-use Rattle.chip_graph.proofs.SumLemmas.{cond_yes, cond_no}
-use Rattle.chip_net.specs.Tokens.{ActorKnown}
-use Rattle.chip_crew.specs.declared.queue.Ledger.{Ledger}
-use Rattle.chip_crew.specs.Crew.{CrewId, IsOurs, AreFrom, turns_of}
-use Rattle.chip_crew.specs.Ledger.{first_ledger, new_ledger, with_fewer, both_ledgers, no_ledger, with_taken}
-use Rattle.chip_crew.specs.Ledger.{with_put, got_turns, gave_turns}
-use Rattle.chip_crew.specs.Places.{times, HasNothing, AreShared, AreAllThere, HaveRoom}
+use Rattle.chip_crew.proofs.Names.{◌≡◌, ◌==◌, ◌+◌, ◌<◌, ◌≤◌, ℕ, zero, suc, cond, List, [], ◌∷◌, ◌++◌, refl, sym, ap}
+use Rattle.chip_crew.proofs.Names.{◌∙◌, length, map, set, drop, All, sum_by, subst, arith, length-append, add-one}
+use Rattle.chip_crew.proofs.Names.{range_with_len, sum_by-cons, sum_by-append, sum_by_push, sum_by-take-drop, All-push}
+use Rattle.chip_crew.proofs.Names.{All-head, All-tail, All-set, All-cons, All-nil, All-drop, length-range_with_len}
+use Rattle.chip_crew.proofs.Names.{dite, some, some-injective, some-ne-none, ℕ_discrete, get_elem?, set_else, drop_at}
+use Rattle.chip_crew.proofs.Names.{Pushes, Pops, Forks, Merges, Learns, Held, cond_yes, cond_no, ActorKnown, Ledger}
+use Rattle.chip_crew.proofs.Names.{CrewId, IsOurs, AreFrom, turns_of, first_ledger, new_ledger, with_fewer}
+use Rattle.chip_crew.proofs.Names.{both_ledgers, no_ledger, with_taken, with_put, got_turns, gave_turns, times}
+use Rattle.chip_crew.proofs.Names.{HasNothing, AreShared, AreAllThere, HaveRoom}
 
 -- ---- what is counted
 

@@ -1,13 +1,8 @@
 -- Serves Ledger.antt.
 -- The ledger of a worker has its turns, and what it has is what it kept.
-use Rattle.std.proofs.Common.{◌+◌, ◌++◌, ◌∷◌, [], ℕ, zero, suc, drop, List, Option, Some, None, ◌≤◌, refl, sym, ap, ◌∙◌}
-use Rattle.std.proofs.Common.{subst, arith}
-use Rattle.std.proofs.lemmas.List.Sums.{sum_by_push}
-use Rattle.chip_net.specs.Tokens.{ActorKnown}
-use Rattle.chip_crew.specs.declared.queue.Ledger.{Ledger}
-use Rattle.chip_crew.specs.Crew.{turns_of}
-use Rattle.chip_crew.specs.Ledger.{HasJust, IsNext, EndsTurn, TurnsMade, got_turns, gave_turns}
-use Rattle.chip_crew.specs.Ledger.{kept_turns}
+use Rattle.chip_crew.proofs.Names.{◌+◌, ◌++◌, ◌∷◌, [], ℕ, zero, suc, drop, List, Option, Some, None, ◌≤◌, refl, sym, ap}
+use Rattle.chip_crew.proofs.Names.{◌∙◌, subst, arith, sum_by_push, ActorKnown, Ledger, turns_of, HasJust, IsNext}
+use Rattle.chip_crew.proofs.Names.{EndsTurn, TurnsMade, got_turns, gave_turns, kept_turns}
 use Rattle.chip_crew.proofs.TurnLemmas.{turn_counts}
 
 -- after so many turns a worker has the actor that it kept, and no other, and in its hands no more turns were made

@@ -1,11 +1,8 @@
 -- Serves Crew.antt.
 -- Lists whose elements fit numbers that grow by one.
-use Rattle.std.proofs.lemmas.Option.{same_Some, none-some}
-use Rattle.std.proofs.Common.{◌≡◌, ℕ, zero, suc, ◌+◌, List, [], ◌∷◌, ◌++◌, length, take, drop, set, All, Some}
-use Rattle.std.proofs.Common.{refl, sym, ◌∙◌, subst, arith, add-one}
-use Rattle.std.specs.Prelude.{slice_get}
-use Rattle.chip_net.specs.Tokens.{ActorKnown}
-use Rattle.chip_crew.specs.Crew.{CrewId, IsAt, EachFrom, AreFrom, AreInOrder}
+use Rattle.chip_crew.proofs.Names.{same_Some, none-some, ◌≡◌, ℕ, zero, suc, ◌+◌, List, [], ◌∷◌, ◌++◌, length, take}
+use Rattle.chip_crew.proofs.Names.{drop, set, All, Some, refl, sym, ◌∙◌, subst, arith, add-one, slice_get, ActorKnown}
+use Rattle.chip_crew.proofs.Names.{CrewId, IsAt, EachFrom, AreFrom, AreInOrder}
 
 module _ {X : Type 0} (P : ℕ → X → Type 0) where
   at_number : (n m : ℕ) (x : X) → n ≡ m → P n x → P m x

@@ -1,20 +1,10 @@
 -- Serves Sealing.antt.
 -- What is sealed from turn to turn, and what the root knows that has the stopper back.
-use Rattle.std.proofs.Common.{◌≡◌, ◌==◌, ℕ, ◌+◌, ◌<◌, true, if◌then◌else◌, List, [], ◌∷◌, ◌++◌, length, Option}
-use Rattle.std.proofs.Common.{Some}
-use Rattle.std.proofs.Common.{None, is_some, refl, sym, ap, ◌∙◌, subst, arith, le-ltb}
-use Rattle.std.proofs.lemmas.Bool.{ltb-true, cond-false}
-use Rattle.std.proofs.lemmas.Bool.Decides.{nat_tests}
-use Rattle.std.specs.Prelude.{nat_lt}
-use Rattle.std.specs.Option.{option_zip}
-use Rattle.chip_graph.specs.ChipGame.{ChipGame}
-use Rattle.chip_core.specs.Core.{Event, Seal, Step}
-use Rattle.chip_net.specs.Roots.{RootKnown, StopperKnown, new_stopper}
-use Rattle.chip_crew.specs.Crew.{CrewId}
-use Rattle.chip_crew.specs.Plans.{names_edge}
-use Rattle.chip_crew.specs.declared.plan.SealAt.{SealAt}
-use Rattle.chip_crew.specs.Sealing.{seals_by, SealsBefore, HasSealed, HasBack, TakesBack, KnowsSeals}
-use Rattle.chip_crew.specs.Sealing.{MaySeal}
+use Rattle.chip_crew.proofs.Names.{◌≡◌, ◌==◌, ℕ, ◌+◌, ◌<◌, true, if◌then◌else◌, List, [], ◌∷◌, ◌++◌, length, Option}
+use Rattle.chip_crew.proofs.Names.{Some, None, is_some, refl, sym, ap, ◌∙◌, subst, arith, le-ltb, ltb-true, cond-false}
+use Rattle.chip_crew.proofs.Names.{nat_tests, nat_lt, option_zip, ChipGame, Event, Seal, Step, RootKnown, StopperKnown}
+use Rattle.chip_crew.proofs.Names.{new_stopper, CrewId, names_edge, SealAt, seals_by, SealsBefore, HasSealed, HasBack}
+use Rattle.chip_crew.proofs.Names.{TakesBack, KnowsSeals, MaySeal}
 
 -- ---- turn by turn
 

@@ -1,15 +1,10 @@
 -- Serves Handed.antt.
 -- What a worker has of the actors, from turn to turn.
-use Rattle.std.proofs.Common.{◌≡◌, ℕ, ◌+◌, ◌<◌, ◌≤◌, max, length, Bool, false, refl, sym, subst, arith}
-use Rattle.chip_net.specs.Tokens.{NetId}
-use Rattle.chip_crew.specs.Asked.{Asked, ShutFor}
-use Rattle.chip_crew.specs.Dealing.{IsRoundBy, IsRound, IsFirstOf}
-use Rattle.chip_crew.specs.Duties.{Serves}
-use Rattle.chip_crew.specs.Handed.{HasMade, HasWorked, round_of, queue_of}
-use Rattle.chip_crew.specs.declared.plan.Sharing.{Sharing}
-use Rattle.chip_crew.specs.declared.worker.Share.{Share}
-use Rattle.chip_crew.specs.declared.worker.Share.TheVariants as share
+use Rattle.chip_crew.proofs.Names.{◌≡◌, ℕ, ◌+◌, ◌<◌, ◌≤◌, max, length, Bool, false, refl, sym, subst, arith, NetId}
+use Rattle.chip_crew.proofs.Names.{Asked, ShutFor, IsRoundBy, IsRound, IsFirstOf, Serves, HasMade, HasWorked, round_of}
+use Rattle.chip_crew.proofs.Names.{queue_of, Sharing, Share}
 use Rattle.chip_crew.proofs.DealingLemmas.{cut_first}
+use Rattle.chip_crew.specs.declared.worker.Share.TheVariants as share
 
 -- so many turns make a round of worker 0
 pub first_round : {B : Type 0} (asked : Asked) (turns : ℕ) (h : Share B) → HasMade asked 0 turns h

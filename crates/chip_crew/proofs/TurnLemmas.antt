@@ -1,25 +1,13 @@
 -- Serves Crew.antt.
 -- A turn takes once from the root edge of its vertex.
-use Rattle.std.proofs.Common.{◌≡◌, ◌==◌, ℕ, suc, ◌<◌, Bool, true, false, cond, All, List, [], ◌∷◌, ◌++◌, sum_by, Option}
-use Rattle.std.proofs.Common.{Some}
-use Rattle.std.proofs.Common.{None, refl, ap, ◌∙◌, arith, ne_eqb}
-use Rattle.std.proofs.lemmas.List.Elements.{All-head, All-tail}
-use Rattle.std.proofs.lemmas.List.Sums.{sum_by-cons, sum_by-append}
-use Rattle.chip_graph.proofs.PickLemmas.{All-picked}
-use Rattle.chip_graph.proofs.SumLemmas.{cond_yes}
-use Rattle.chip_graph.specs.Multigraph.{edge_at, edges_in}
-use Rattle.chip_part.specs.Setting.{Setting}
-use Rattle.chip_part.specs.Cursor.{from_settling}
-use Rattle.chip_part.specs.Edges.{graph_edges, root_edge}
-use Rattle.chip_part.specs.Part.{Part, is_running}
-use Rattle.chip_part.specs.Rules.{Event, Take, Ack, Fire, Clear, Claim, Put, Halt, Settle}
-use Rattle.chip_part.specs.Steps.{Step, saw}
-use Rattle.chip_part.specs.Turn.{Phase, nothing, either_phase, where_phase, and_then, each_phase, one_step, seeing, ins_of}
-use Rattle.chip_part.specs.Turn.{outs_of, may_fire, batch_of, sending, acknowledging, acknowledging_parent, turn}
-use Rattle.chip_net.specs.Tokens.{ActorKnown, MakesTurn, part_known}
-use Rattle.chip_net.specs.declared.actor.Turn.{Turn}
-use Rattle.chip_crew.specs.Crew.{is_root_take, turns_of}
-use Rattle.std.proofs.lemmas.Bool.{cond-false}
+use Rattle.chip_crew.proofs.Names.{◌≡◌, ◌==◌, ℕ, suc, ◌<◌, Bool, true, false, cond, All, List, [], ◌∷◌, ◌++◌, sum_by}
+use Rattle.chip_crew.proofs.Names.{Option, Some, None, refl, ap, ◌∙◌, arith, ne_eqb, All-head, All-tail, sum_by-cons}
+use Rattle.chip_crew.proofs.Names.{sum_by-append, All-picked, cond_yes, edge_at, edges_in, Setting, from_settling}
+use Rattle.chip_crew.proofs.Names.{graph_edges, root_edge, Part, is_running, Event, Take, Ack, Fire, Clear, Claim, Put}
+use Rattle.chip_crew.proofs.Names.{Halt, Settle, Step, saw, Phase, nothing, either_phase, where_phase, and_then}
+use Rattle.chip_crew.proofs.Names.{each_phase, one_step, seeing, ins_of, outs_of, may_fire, batch_of, sending}
+use Rattle.chip_crew.proofs.Names.{acknowledging, acknowledging_parent, turn, ActorKnown, MakesTurn, part_known, Turn}
+use Rattle.chip_crew.proofs.Names.{is_root_take, turns_of, cond-false}
 
 module _ (g : Setting) (v : ℕ) where
   abbrev take_count : Step → ℕ

@@ -1,5 +1,4 @@
-use Rattle.std.proofs.Common.{◌^◌, ◌+◌, ◌≡◌, ◌*◌, ◌≤◌}
-use Rattle.chip_crew.specs.Dealing.{ends_before}
+use Rattle.chip_crew.proofs.Names.{◌^◌, ◌+◌, ◌≡◌, ◌*◌, ◌≤◌, ends_before}
 use Rattle.chip_crew.proofs.dealing.all_ends.Given as goal
 
 abbrev pub invariant-loop-vertex : goal.invariant-loop-vertex

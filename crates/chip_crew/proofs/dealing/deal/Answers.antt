@@ -1,13 +1,9 @@
-use Rattle.std.proofs.Common.{rules, ◌≡◌, ◌+◌, ◌-◌, ◌*◌, ℕ, None, length, length-drop, drop, refl, sym, ap, subst}
-use Rattle.std.proofs.Common.{arith}
-use Rattle.chip_graph.specs.Multigraph.{Multigraph}
-use Rattle.chip_crew.specs.Crew.{IsAt, AreFrom, turns_of, all_turns}
-use Rattle.chip_crew.specs.Dealing.{IsCut}
-use Rattle.chip_crew.specs.Handed.{IsReady}
-use Rattle.chip_crew.specs.declared.worker.Share.TheVariants as share
+use Rattle.chip_crew.proofs.Names.{rules, ◌≡◌, ◌+◌, ◌-◌, ◌*◌, ℕ, None, length, length-drop, drop, refl, sym, ap, subst}
+use Rattle.chip_crew.proofs.Names.{arith, Multigraph, IsAt, AreFrom, turns_of, all_turns, IsCut, IsReady}
+use Rattle.chip_crew.proofs.Names.{sum_by-take-drop}
 use Rattle.chip_crew.proofs.RunLemmas.{from_push, from_drop}
-use Rattle.std.proofs.lemmas.List.Sums.{sum_by-take-drop}
 use Rattle.chip_crew.proofs.DealingLemmas.{are_of, cut_next}
+use Rattle.chip_crew.specs.declared.worker.Share.TheVariants as share
 use Rattle.chip_crew.proofs.dealing.deal.Goals as goal
 
 pub loop-worker-preserved : goal.loop-worker-preserved

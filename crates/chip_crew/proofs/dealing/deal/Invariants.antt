@@ -1,8 +1,5 @@
-use Rattle.std.proofs.Common.{◌≡◌, ◌+◌, ◌*◌, ◌^◌, ◌≤◌, None, length}
-use Rattle.std.specs.Vec.{vec_capacity}
-use Rattle.chip_crew.specs.Crew.{AreFrom, all_turns}
-use Rattle.chip_crew.specs.Dealing.{IsCut, ends_before}
-use Rattle.chip_crew.specs.Handed.{AreReady}
+use Rattle.chip_crew.proofs.Names.{◌≡◌, ◌+◌, ◌*◌, ◌^◌, ◌≤◌, None, length, vec_capacity, AreFrom, all_turns, IsCut}
+use Rattle.chip_crew.proofs.Names.{ends_before, AreReady}
 use Rattle.chip_crew.proofs.dealing.deal.Given as goal
 
 abbrev pub invariant-loop-worker : goal.invariant-loop-worker

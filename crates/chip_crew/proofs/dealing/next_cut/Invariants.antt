@@ -1,5 +1,4 @@
-use Rattle.std.proofs.Common.{◌^◌, ◌+◌, ◌≡◌, ◌*◌, ◌<◌, ◌≤◌, ℕ}
-use Rattle.chip_crew.specs.Dealing.{ends_before}
+use Rattle.chip_crew.proofs.Names.{◌^◌, ◌+◌, ◌≡◌, ◌*◌, ◌<◌, ◌≤◌, ℕ, ends_before}
 use Rattle.chip_crew.proofs.dealing.next_cut.Given as goal
 
 abbrev pub invariant-loop-vertex : goal.invariant-loop-vertex

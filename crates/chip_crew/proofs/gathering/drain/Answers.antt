@@ -1,14 +1,6 @@
-use Rattle.std.proofs.lemmas.List.{length-map}
-use Rattle.std.proofs.lemmas.List.Sums.{sum_by_push}
-use Rattle.std.proofs.lemmas.List.Elements.{All-cons, All-nil}
-use Rattle.std.proofs.Common.{◌≡◌, ◌<◌, ◌∷◌, [], ◌∙◌, length, length-append, ap, rules, arith}
-use Rattle.crossbeam_queue.specs.Fifo.{Held}
-use Rattle.crossbeam_queue.specs.Passes.{view}
-use Rattle.chip_net.specs.Tokens.{ActorKnown}
-use Rattle.chip_crew.specs.Crew.{IsOurs, turns_of}
-use Rattle.chip_crew.specs.Ledger.{with_taken, got_turns, gave_turns}
-use Rattle.chip_crew.specs.Places.{AreAllThere}
-use Rattle.chip_crew.specs.declared.queue.Ledger.{Ledger}
+use Rattle.chip_crew.proofs.Names.{length-map, sum_by_push, All-cons, All-nil, ◌≡◌, ◌<◌, ◌∷◌, [], ◌∙◌, length}
+use Rattle.chip_crew.proofs.Names.{length-append, ap, rules, arith, Held, view, ActorKnown, IsOurs, turns_of}
+use Rattle.chip_crew.proofs.Names.{with_taken, got_turns, gave_turns, AreAllThere, Ledger}
 use Rattle.chip_crew.proofs.PlacesLemmas.{takes, all_there, none_queued}
 use Rattle.chip_crew.proofs.GatheringLemmas.{gathers_more, gathered}
 use Rattle.chip_crew.proofs.gathering.drain.Goals as goal

@@ -1,6 +1,4 @@
-use Rattle.std.proofs.Common.{◌-◌, length}
-use Rattle.crossbeam_queue.specs.Passes.{view, IsPassOf}
-use Rattle.chip_crew.specs.Gathering.{IsGatheringFor}
+use Rattle.chip_crew.proofs.Names.{◌-◌, length, view, IsPassOf, IsGatheringFor}
 use Rattle.chip_crew.proofs.gathering.drain.Given as goal
 
 abbrev pub invariant-loop-actor : goal.invariant-loop-actor

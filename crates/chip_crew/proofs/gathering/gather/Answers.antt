@@ -1,8 +1,5 @@
-use Rattle.std.proofs.Common.{length, subst, rules, arith}
-use Rattle.std.proofs.lemmas.List.Sorted.{IsNonDecreasingBy-from_sort_by_key, sum_by-IsPermutation}
-use Rattle.chip_net.specs.Tokens.{ActorKnown}
-use Rattle.chip_crew.specs.Crew.{turns_of}
-use Rattle.chip_crew.specs.Gathering.{AreBack}
+use Rattle.chip_crew.proofs.Names.{length, subst, rules, arith, IsNonDecreasingBy-from_sort_by_key}
+use Rattle.chip_crew.proofs.Names.{sum_by-IsPermutation, ActorKnown, turns_of, AreBack}
 use Rattle.chip_crew.proofs.DealingLemmas.{cut_last}
 use Rattle.chip_crew.proofs.RunLemmas.{in_order}
 use Rattle.chip_crew.proofs.GatheringLemmas.{sorted_actors}

@@ -1,19 +1,8 @@
-use Rattle.std.proofs.lemmas.List.{length-map}
-use Rattle.std.proofs.lemmas.List.Sums.{sum_by-append}
-use Rattle.std.proofs.lemmas.List.Elements.{All-cons, All-nil}
-use Rattle.std.proofs.Common.{◌≡◌, ◌+◌, ◌++◌, ◌∷◌, ◌≤◌, ◌∙◌, ℕ, List, [], length, length-append, Option, None, sym, ap}
-use Rattle.std.proofs.Common.{rules, arith}
-use Rattle.std.proofs.Common.{All, append-nil, option_to_list}
-use Rattle.std.specs.Global.{Vec}
-use Rattle.std.specs.Vec.{vec_capacity}
-use Rattle.crossbeam_queue.specs.Passes.{view}
-use Rattle.chip_net.specs.Tokens.{ActorKnown}
-use Rattle.chip_crew.specs.Asked.{Asked}
-use Rattle.chip_crew.specs.Crew.{IsOurs, turns_of, all_turns}
-use Rattle.chip_crew.specs.declared.queue.Ledger.{Ledger}
-use Rattle.chip_crew.specs.Gathering.{IsGatheringFor}
-use Rattle.chip_crew.specs.Ledger.{both_ledgers, vertex_of, got_turns, gave_turns, kept_turns, HasJust}
-use Rattle.chip_crew.specs.Places.{HaveRoom}
+use Rattle.chip_crew.proofs.Names.{length-map, sum_by-append, All-cons, All-nil, ◌≡◌, ◌+◌, ◌++◌, ◌∷◌, ◌≤◌, ◌∙◌, ℕ, List}
+use Rattle.chip_crew.proofs.Names.{[], length, length-append, Option, None, sym, ap, rules, arith, All, append-nil}
+use Rattle.chip_crew.proofs.Names.{option_to_list, Vec, vec_capacity, view, ActorKnown, Asked, IsOurs, turns_of}
+use Rattle.chip_crew.proofs.Names.{all_turns, Ledger, IsGatheringFor, both_ledgers, vertex_of, got_turns, gave_turns}
+use Rattle.chip_crew.proofs.Names.{kept_turns, HasJust, HaveRoom}
 use Rattle.chip_crew.proofs.GatheringLemmas.{gathers_more, vertices_of}
 use Rattle.chip_crew.proofs.PlacesLemmas.{merges, have_room}
 use Rattle.chip_crew.proofs.gathering.join_pass.Goals as goal

@@ -1,9 +1,5 @@
-use Rattle.std.proofs.Common.{◌≡◌, ◌∙◌, ◌<◌, ◌&&◌, ℕ, Bool, true, false, length, refl, sym, ap, subst, rules, arith}
-use Rattle.chip_crew.specs.Asked.{Asked, ShutFor, SomeShut}
-use Rattle.chip_crew.specs.Crew.{EachFrom}
-use Rattle.chip_crew.specs.Gathering.{queue_for}
-use Rattle.chip_crew.specs.Joining.{IsWorker}
-use Rattle.chip_crew.specs.Leading.{HasLed}
+use Rattle.chip_crew.proofs.Names.{◌≡◌, ◌∙◌, ◌<◌, ◌&&◌, ℕ, Bool, true, false, length, refl, sym, ap, subst, rules}
+use Rattle.chip_crew.proofs.Names.{arith, Asked, ShutFor, SomeShut, EachFrom, queue_for, IsWorker, HasLed}
 use Rattle.chip_crew.proofs.RunLemmas.{from_tail}
 use Rattle.chip_crew.proofs.ShareLemmas.{first_round}
 use Rattle.chip_crew.proofs.joining.join_all.Goals as goal

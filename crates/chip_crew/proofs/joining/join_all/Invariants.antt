@@ -1,8 +1,4 @@
-use Rattle.std.proofs.Common.{◌≡◌, ◌+◌, false, length}
-use Rattle.chip_crew.specs.Asked.{SomeShut}
-use Rattle.chip_crew.specs.Crew.{EachFrom}
-use Rattle.chip_crew.specs.Gathering.{AreBack, queue_for}
-use Rattle.chip_crew.specs.Joining.{IsWorker}
+use Rattle.chip_crew.proofs.Names.{◌≡◌, ◌+◌, false, length, SomeShut, EachFrom, AreBack, queue_for, IsWorker}
 use Rattle.chip_crew.proofs.joining.join_all.Given as goal
 
 abbrev pub invariant-loop-started : goal.invariant-loop-started

@@ -1,7 +1,4 @@
-use denote.Param.{param}
-use denote.Param.Send.{sendable}
-use denote.Ref.{NamedLft}
-use Rattle.std.proofs.Crossing.{crosses}
+use Rattle.chip_crew.proofs.Names.{param, sendable, NamedLft, crosses}
 use Rattle.chip_crew.proofs.CrossingLemmas.{worker_send, result_send}
 use Rattle.chip_crew.proofs.joining.start.Goals as goal
 

@@ -1,9 +1,5 @@
-use denote.Param.Send.{sendable}
-use Rattle.std.proofs.Common.{◌≡◌, ◌∙◌, ◌+◌, ℕ, length, sym, subst, rules, arith}
-use Rattle.std.proofs.Crossing.{crosses}
-use Rattle.chip_crew.specs.Crew.{EachFrom}
-use Rattle.chip_crew.specs.Handed.{IsReady}
-use Rattle.chip_crew.specs.Joining.{IsWorker, queue_of_all}
+use Rattle.chip_crew.proofs.Names.{sendable, ◌≡◌, ◌∙◌, ◌+◌, ℕ, length, sym, subst, rules, arith, crosses, EachFrom}
+use Rattle.chip_crew.proofs.Names.{IsReady, IsWorker, queue_of_all}
 use Rattle.chip_crew.proofs.CrossingLemmas.{leader_send}
 use Rattle.chip_crew.proofs.RunLemmas.{from_push, from_tail}
 use Rattle.chip_crew.proofs.joining.start_all.Goals as goal

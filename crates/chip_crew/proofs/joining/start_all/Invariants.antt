@@ -1,8 +1,4 @@
-use Rattle.std.proofs.Common.{◌≡◌, ◌+◌, ◌≤◌, length}
-use Rattle.std.specs.Vec.{vec_capacity}
-use Rattle.chip_crew.specs.Crew.{EachFrom}
-use Rattle.chip_crew.specs.Handed.{IsReady}
-use Rattle.chip_crew.specs.Joining.{IsWorker, queue_of_all}
+use Rattle.chip_crew.proofs.Names.{◌≡◌, ◌+◌, ◌≤◌, length, vec_capacity, EachFrom, IsReady, IsWorker, queue_of_all}
 use Rattle.chip_crew.proofs.joining.start_all.Given as goal
 
 abbrev pub invariant-loop-share : goal.invariant-loop-share

@@ -1,9 +1,5 @@
-use Rattle.std.proofs.Common.{Option, Some, List, [], ◌∷◌, ◌++◌, refl, sym, ap, ◌∙◌, subst, append-nil}
-use Rattle.chip_graph.proofs.SumLemmas.{cond_no}
-use Rattle.chip_core.specs.Core.{Event, Seal}
-use Rattle.chip_net.specs.Roots.{StopperKnown}
-use Rattle.chip_crew.specs.declared.plan.SealAt.{SealAt}
-use Rattle.chip_crew.specs.Sealing.{SealsBefore, events_of}
+use Rattle.chip_crew.proofs.Names.{Option, Some, List, [], ◌∷◌, ◌++◌, refl, sym, ap, ◌∙◌, subst, append-nil, cond_no}
+use Rattle.chip_crew.proofs.Names.{Event, Seal, StopperKnown, SealAt, SealsBefore, events_of}
 use Rattle.chip_crew.proofs.leader.seal_before.Goals as goal
 
 pub returns-else-at-turn : goal.returns-else-at-turn

@@ -1,11 +1,5 @@
-use Rattle.std.proofs.Common.{◌∙◌, List, sym, subst, ◌≤◌, ◌*◌}
-use Rattle.std.proofs.lemmas.Option.{IfSome_then}
-use Rattle.chip_net.specs.Tokens.{ActorKnown}
-use Rattle.chip_net.specs.Roots.{RootKnown}
-use Rattle.chip_net.proofs.FinishingLemmas.{one_run}
-use Rattle.chip_net.specs.Meeting.{IsRun}
-use Rattle.chip_crew.specs.Crew.{AreActors, all_turns}
-use Rattle.chip_crew.specs.Ending.{EndsLed}
+use Rattle.chip_crew.proofs.Names.{◌∙◌, List, sym, subst, ◌≤◌, ◌*◌, IfSome_then, ActorKnown, RootKnown, one_run, IsRun}
+use Rattle.chip_crew.proofs.Names.{AreActors, all_turns, EndsLed}
 use Rattle.chip_crew.proofs.FinishingLemmas.{ends_led, stays_led}
 use Rattle.chip_crew.proofs.play.end_play.Goals as goal
 

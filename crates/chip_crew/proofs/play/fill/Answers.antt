@@ -1,11 +1,6 @@
-use Rattle.std.proofs.lemmas.List.Sums.{sum_by-cons, sum_by_push}
-use Rattle.std.proofs.Common.{◌≡◌, ◌∙◌, All, map, drop, sym, ap, subst, rules, arith}
-use Rattle.std.proofs.lemmas.List.Elements.{All-head, All-tail}
-use Rattle.crossbeam_queue.specs.Passes.{view}
-use Rattle.chip_net.specs.Tokens.{ActorKnown}
-use Rattle.chip_crew.specs.declared.queue.Ledger.{Ledger}
-use Rattle.chip_crew.specs.Ledger.{with_put, got_turns, gave_turns}
-use Rattle.chip_crew.specs.Crew.{IsOurs, turns_of, all_turns}
+use Rattle.chip_crew.proofs.Names.{sum_by-cons, sum_by_push, ◌≡◌, ◌∙◌, All, map, drop, sym, ap, subst, rules, arith}
+use Rattle.chip_crew.proofs.Names.{All-head, All-tail, view, ActorKnown, Ledger, with_put, got_turns, gave_turns}
+use Rattle.chip_crew.proofs.Names.{IsOurs, turns_of, all_turns}
 use Rattle.chip_crew.proofs.PlacesLemmas.{puts, have_room}
 use Rattle.chip_crew.proofs.play.fill.Goals as goal
 

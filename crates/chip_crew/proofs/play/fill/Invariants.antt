@@ -1,7 +1,4 @@
-use Rattle.chip_crew.specs.Ledger.{got_turns, gave_turns}
-use Rattle.std.proofs.Common.{◌≡◌, All, map}
-use Rattle.crossbeam_queue.specs.Passes.{view, IsPassOf}
-use Rattle.chip_crew.specs.Crew.{IsOurs, all_turns}
+use Rattle.chip_crew.proofs.Names.{got_turns, gave_turns, ◌≡◌, All, map, view, IsPassOf, IsOurs, all_turns}
 use Rattle.chip_crew.proofs.play.fill.Given as goal
 
 abbrev pub invariant-loop-actor : goal.invariant-loop-actor

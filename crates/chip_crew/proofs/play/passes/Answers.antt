@@ -1,18 +1,10 @@
-use Rattle.chip_crew.specs.Places.{HasNothing}
-use Rattle.std.proofs.Common.{All}
-use Rattle.std.proofs.Common.{◌≡◌, ◌<◌, List, [], ◌∷◌, length, rules, None, Some, ◌∙◌, refl, sym, ap, subst, arith, Option}
-use Rattle.atomic_table.specs.Seated.{TableId}
-use Rattle.chip_crew.specs.Handed.{AreReady, IsReady}
-use Rattle.std.proofs.lemmas.List.Elements.{All-nil}
-use Rattle.chip_crew.specs.Crew.{IsOurs, all_turns}
-use Rattle.chip_crew.specs.Asked.{Asked}
-use Rattle.chip_crew.specs.Joining.{queue_of_all}
-use Rattle.chip_crew.specs.declared.queue.Ledger.{Ledger}
-use Rattle.chip_crew.specs.declared.worker.Share.{Share}
-use Rattle.chip_crew.specs.declared.worker.Share.TheVariants as share
+use Rattle.chip_crew.proofs.Names.{HasNothing, All, ◌≡◌, ◌<◌, List, [], ◌∷◌, length, rules, None, Some, ◌∙◌, refl, sym}
+use Rattle.chip_crew.proofs.Names.{ap, subst, arith, Option, TableId, AreReady, IsReady, All-nil, IsOurs, all_turns}
+use Rattle.chip_crew.proofs.Names.{Asked, queue_of_all, Ledger, Share}
 use Rattle.chip_crew.proofs.GatheringLemmas.{vertices_of}
 use Rattle.chip_crew.proofs.PlacesLemmas.{forks}
 use Rattle.chip_crew.proofs.RunLemmas.{from_push}
+use Rattle.chip_crew.specs.declared.worker.Share.TheVariants as share
 use Rattle.chip_crew.proofs.play.passes.Goals as goal
 
 pub another-requires-clause-rule : goal.another-requires-clause-rule

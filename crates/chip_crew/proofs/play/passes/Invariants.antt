@@ -1,8 +1,4 @@
-use Rattle.chip_crew.specs.Places.{HasNothing}
-use Rattle.std.proofs.Common.{◌≡◌, ◌≤◌, ◌+◌, Some, length}
-use Rattle.std.specs.Vec.{vec_capacity}
-use Rattle.crossbeam_queue.specs.Passes.{view, IsPassOf}
-use Rattle.chip_crew.specs.Handed.{AreReady}
+use Rattle.chip_crew.proofs.Names.{HasNothing, ◌≡◌, ◌≤◌, ◌+◌, Some, length, vec_capacity, view, IsPassOf, AreReady}
 use Rattle.chip_crew.proofs.play.passes.Given as goal
 
 abbrev pub invariant-loop : goal.invariant-loop

@@ -1,10 +1,6 @@
-use Rattle.std.proofs.Common.{◌≡◌, ◌∙◌, sym, ap, rules}
-use Rattle.crossbeam_queue.specs.Passes.{view}
-use Rattle.chip_crew.specs.declared.queue.Ledger.{Ledger}
-use Rattle.std.specs.List.{range_with_len}
-use Rattle.chip_crew.specs.Ledger.{first_ledger, got_turns, gave_turns}
+use Rattle.chip_crew.proofs.Names.{◌≡◌, ◌∙◌, sym, ap, rules, view, Ledger, range_with_len, first_ledger, got_turns}
+use Rattle.chip_crew.proofs.Names.{gave_turns, IsAt, IsOurs}
 use Rattle.chip_crew.proofs.PlacesLemmas.{begins, numbers_are}
-use Rattle.chip_crew.specs.Crew.{IsAt, IsOurs}
 use Rattle.chip_crew.proofs.RunLemmas.{from_all}
 use Rattle.chip_crew.proofs.play.play_shared.Goals as goal
 

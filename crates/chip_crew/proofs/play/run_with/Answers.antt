@@ -1,12 +1,6 @@
-use Rattle.std.proofs.Common.{◌≡◌, ◌∙◌, refl, ap, rules, Bool, List, [], ℕ, Option, Some, None, Bor, ◌<◌}
-use Rattle.std.proofs.Common.{if◌then◌else◌, subst}
-use Rattle.std.proofs.lemmas.Result.{MatchResult-weaker}
-use Rattle.std.specs.Prelude.{is_some}
-use Rattle.std.specs.Option.{option_copied, option_zip}
-use Rattle.chip_part.specs.Setting.{Setting, setting_with}
-use Rattle.chip_net.specs.Roots.{RootKnown, new_root, new_stopper}
-use Rattle.chip_crew.specs.Asked.{Asked, asked_of}
-use Rattle.chip_crew.specs.Finished.{IsCrewFor}
+use Rattle.chip_crew.proofs.Names.{◌≡◌, ◌∙◌, refl, ap, rules, Bool, List, [], ℕ, Option, Some, None, Bor, ◌<◌}
+use Rattle.chip_crew.proofs.Names.{if◌then◌else◌, subst, MatchResult-weaker, is_some, option_copied, option_zip}
+use Rattle.chip_crew.proofs.Names.{Setting, setting_with, RootKnown, new_root, new_stopper, Asked, asked_of, IsCrewFor}
 use Rattle.chip_crew.proofs.OwningLemmas.{ours_by, new_turns}
 use Rattle.chip_crew.proofs.FinishingLemmas.{may_begin, plan_fits, finished_by, stopped_by}
 use Rattle.chip_crew.proofs.SealingLemmas.{none_sealed, may_seal}

@@ -1,5 +1,4 @@
-use Rattle.std.specs.Option.{option_copied}
-use Rattle.chip_crew.specs.Asked.{asked_of}
+use Rattle.chip_crew.proofs.Names.{option_copied, asked_of}
 use Rattle.chip_crew.proofs.play.run_with.Given as goal
 
 -- what the crew of this net is asked

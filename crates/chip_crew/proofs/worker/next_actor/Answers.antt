@@ -1,4 +1,4 @@
-use Rattle.std.proofs.Common.{arith}
+use Rattle.chip_crew.proofs.Names.{arith}
 use Rattle.chip_crew.proofs.PlacesLemmas.{takes}
 use Rattle.chip_crew.proofs.worker.next_actor.Goals as goal
 

@@ -1,8 +1,5 @@
-use Rattle.std.proofs.Common.{◌≡◌, ◌∷◌, [], ◌∙◌, Option, IfSome, Result, Ok, Err, MatchResult, sym, ap, subst, rules}
-use Rattle.std.specs.Result.{result_err}
-use Rattle.chip_net.specs.Tokens.{ActorKnown}
-use Rattle.chip_crew.specs.Ledger.{vertex_of}
-use Rattle.chip_crew.specs.Crew.{CrewId, IsOurs}
+use Rattle.chip_crew.proofs.Names.{◌≡◌, ◌∷◌, [], ◌∙◌, Option, IfSome, Result, Ok, Err, MatchResult, sym, ap, subst}
+use Rattle.chip_crew.proofs.Names.{rules, result_err, ActorKnown, vertex_of, CrewId, IsOurs}
 use Rattle.chip_crew.proofs.PlacesLemmas.{puts}
 use Rattle.chip_crew.proofs.DealingLemmas.{still_ours}
 use Rattle.chip_crew.proofs.worker.turn_by_queue.Goals as goal

@@ -1,21 +1,12 @@
-use Rattle.std.proofs.Common.{◌≡◌, ◌+◌, ◌∙◌, ◌++◌, ◌&&◌, ℕ, List, Some, refl, sym, ap, subst, arith, rules}
-use Rattle.std.proofs.lemmas.List.Sums.{sum_by-append}
-use Rattle.std.specs.Vec.{vec_capacity}
-use Rattle.atomic_table.specs.Seated.{TableId}
-use Rattle.crossbeam_queue.specs.Passes.{view}
-use Rattle.chip_crew.specs.Asked.{passes}
-use Rattle.chip_crew.specs.Crew.{CrewId, IsAt, AreFrom, turns_of, all_turns}
-use Rattle.chip_crew.specs.Dealing.{IsFirstOf, AreOf}
-use Rattle.std.proofs.Common.{◌≤◌, length, length-append, add-one}
-use Rattle.chip_net.specs.Tokens.{ActorKnown}
-use Rattle.chip_crew.specs.declared.gathering.Collected.{Collected}
-use Rattle.chip_crew.specs.Gathering.{AreBack, IsGatheringFor, IsRow, Collects, queue_for}
-use Rattle.chip_crew.specs.Handed.{HasMade}
+use Rattle.chip_crew.proofs.Names.{◌≡◌, ◌+◌, ◌∙◌, ◌++◌, ◌&&◌, ℕ, List, Some, refl, sym, ap, subst, arith, rules}
+use Rattle.chip_crew.proofs.Names.{sum_by-append, vec_capacity, TableId, view, passes, CrewId, IsAt, AreFrom, turns_of}
+use Rattle.chip_crew.proofs.Names.{all_turns, IsFirstOf, AreOf, ◌≤◌, length, length-append, add-one, ActorKnown}
+use Rattle.chip_crew.proofs.Names.{Collected, AreBack, IsGatheringFor, IsRow, Collects, queue_for, HasMade}
 use Rattle.chip_crew.proofs.DealingLemmas.{rounds_turns, cut_same}
 use Rattle.chip_crew.proofs.RunLemmas.{from_append}
 use Rattle.chip_crew.proofs.QueueingLemmas.{are_made}
-use Rattle.chip_crew.proofs.gathering.Collected.take.Goals as goal
 use Rattle.chip_crew.proofs.gathering.Collected.take.Goals.{in-Queue+in-Queue-back, in-Dealt+in-Dealt-back+in-Ok}
+use Rattle.chip_crew.proofs.gathering.Collected.take.Goals as goal
 
 -- the run of the next worker comes behind those that are there
 row_longer : (crew : CrewId) (worker : ℕ) (row actors : List ActorKnown) (room more : ℕ) → IsRow crew worker row room

@@ -1,10 +1,5 @@
-use Rattle.std.proofs.Common.{◌≡◌, ◌+◌, ◌≤◌, ℕ, true, false, refl, ap, subst, arith, eq-eqb, ne_eqb}
-use Rattle.chip_net.specs.Tokens.{NetId}
-use Rattle.chip_crew.specs.Asked.{Asked}
-use Rattle.chip_crew.specs.Duties.{Serves}
-use Rattle.chip_crew.specs.Leading.{CanLead, HasLed, LeadsTurn, LeadsRound}
-use Rattle.chip_crew.specs.declared.leader.Leader.{Leader}
-use Rattle.chip_crew.specs.declared.plan.Plan.{Plan}
+use Rattle.chip_crew.proofs.Names.{◌≡◌, ◌+◌, ◌≤◌, ℕ, true, false, refl, ap, subst, arith, eq-eqb, ne_eqb, NetId, Asked}
+use Rattle.chip_crew.proofs.Names.{Serves, CanLead, HasLed, LeadsTurn, LeadsRound, Leader, Plan}
 use Rattle.chip_crew.proofs.DutiesLemmas.{serves_turn}
 use Rattle.chip_crew.proofs.leader.Leader.go_on.Goals as goal
 

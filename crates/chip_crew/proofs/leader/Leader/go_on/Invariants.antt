@@ -1,5 +1,4 @@
-use Rattle.std.proofs.Common.{◌-◌}
-use Rattle.chip_crew.specs.Leading.{HasLed}
+use Rattle.chip_crew.proofs.Names.{◌-◌, HasLed}
 use Rattle.chip_crew.proofs.leader.Leader.go_on.Given as goal
 
 abbrev pub invariant-loop-turns : goal.invariant-loop-turns

@@ -1,4 +1,4 @@
-use Rattle.std.specs.Option.{option_copied}
+use Rattle.chip_crew.proofs.Names.{option_copied}
 use Rattle.chip_crew.proofs.FeedLemmas.{once_goes_on}
 use Rattle.chip_crew.proofs.LeadingLemmas.{seal_stays}
 use Rattle.chip_crew.proofs.OverLemmas.{over_fed}

@@ -1,4 +1,4 @@
-use Rattle.std.proofs.Common.{◌≡◌, ◌∙◌, true, false, sym}
+use Rattle.chip_crew.proofs.Names.{◌≡◌, ◌∙◌, true, false, sym}
 use Rattle.chip_crew.proofs.LeadingLemmas.{can_still}
 use Rattle.chip_crew.proofs.OverLemmas.{over_polled}
 use Rattle.chip_crew.proofs.leader.LeaderDuties.end_round.Goals as goal

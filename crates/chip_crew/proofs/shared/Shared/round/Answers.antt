@@ -1,9 +1,5 @@
-use Rattle.std.proofs.Common.{ℕ, Option, sym, subst, add-one}
-use Rattle.chip_net.specs.Tokens.{ActorKnown}
-use Rattle.crossbeam_queue.specs.Passes.{view}
-use Rattle.chip_crew.specs.Asked.{passes}
-use Rattle.chip_crew.specs.Ledger.{HasJust, MakesOneTurn, TurnsMade}
-use Rattle.chip_crew.specs.Handed.{HasMade}
+use Rattle.chip_crew.proofs.Names.{ℕ, Option, sym, subst, add-one, ActorKnown, view, passes, HasJust, MakesOneTurn}
+use Rattle.chip_crew.proofs.Names.{TurnsMade, HasMade}
 use Rattle.chip_crew.proofs.QueueingLemmas.{are_made}
 use Rattle.chip_crew.proofs.shared.Shared.round.Goals as goal
 

@@ -1,12 +1,8 @@
-use Rattle.std.proofs.Common.{◌≡◌, ◌∙◌, ◌+◌, ◌%◌, ◌<◌, ℕ, List, length, max, sym, subst, rules, arith, add-one}
-use Rattle.std.proofs.lemmas.List.{length-set}
-use Rattle.std.specs.Global.{Vec}
-use Rattle.chip_net.specs.Tokens.{ActorKnown}
-use Rattle.chip_crew.specs.Handed.{HasDealt}
+use Rattle.chip_crew.proofs.Names.{◌≡◌, ◌∙◌, ◌+◌, ◌%◌, ◌<◌, ℕ, List, length, max, sym, subst, rules, arith, add-one}
+use Rattle.chip_crew.proofs.Names.{length-set, Vec, ActorKnown, HasDealt, BeginsEach}
 use Rattle.chip_crew.proofs.DealingLemmas.{turn_at, none_at, dealt_net, dealt_turn}
-use Rattle.chip_crew.specs.Duties.{BeginsEach}
-use Rattle.chip_crew.proofs.shared.Shared.turn_each.Goals as goal
 use Rattle.chip_crew.proofs.shared.Shared.turn_each.Goals.{in-Some, in_default}
+use Rattle.chip_crew.proofs.shared.Shared.turn_each.Goals as goal
 
 -- one turn more
 begins_more : {D : Type 0} (before : ℕ → D → D → Type 0) (from k : ℕ) (old was now : D)

@@ -1,6 +1,4 @@
-use Rattle.std.proofs.Common.{◌≡◌, ◌+◌, length}
-use Rattle.chip_crew.specs.Duties.{BeginsEach}
-use Rattle.chip_crew.specs.Handed.{HasDealt}
+use Rattle.chip_crew.proofs.Names.{◌≡◌, ◌+◌, length, BeginsEach, HasDealt}
 use Rattle.chip_crew.proofs.shared.Shared.turn_each.Given as goal
 
 abbrev pub invariant-loop-place : goal.invariant-loop-place

@@ -1,12 +1,10 @@
-use Rattle.std.proofs.Common.{◌≡◌, ◌∙◌, false, false-eqb, sym, ap, rules, arith}
-use Rattle.chip_crew.specs.Asked.{ShutFor}
-use Rattle.chip_crew.specs.declared.plan.Plan.{Plan}
+use Rattle.chip_crew.proofs.Names.{◌≡◌, ◌∙◌, false, false-eqb, sym, ap, rules, arith, ShutFor, Plan}
 use Rattle.chip_crew.proofs.ShareLemmas.{has_worked}
 use Rattle.chip_crew.proofs.DutiesLemmas.{serves_more, serves_round, round_over}
-use Rattle.chip_crew.proofs.worker.Worker.work.Goals as goal
 use Rattle.chip_crew.proofs.worker.Worker.work.Goals.{else-loop-turns-test, then-loop-turns-test+else-not-load}
 use Rattle.chip_crew.proofs.worker.Worker.work.Goals.{then-loop-turns-test+then-not-load+then-made-round}
 use Rattle.chip_crew.proofs.worker.Worker.work.Goals.{then-loop-turns-test+then-not-load+else-made-round+then-end_round}
+use Rattle.chip_crew.proofs.worker.Worker.work.Goals as goal
 
 pub loop-turns-preserved : goal.loop-turns-preserved
 loop-turns-preserved g c =

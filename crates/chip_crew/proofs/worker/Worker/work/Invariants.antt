@@ -1,6 +1,4 @@
-use Rattle.std.proofs.Common.{◌≡◌, ◌≤◌, ◌%◌, ◌-◌, ◌<◌, true}
-use Rattle.chip_crew.specs.Duties.{Serves}
-use Rattle.chip_crew.specs.Handed.{HasMade, round_of, queue_of}
+use Rattle.chip_crew.proofs.Names.{◌≡◌, ◌≤◌, ◌%◌, ◌-◌, ◌<◌, true, Serves, HasMade, round_of, queue_of}
 use Rattle.chip_crew.proofs.worker.Worker.work.Given as goal
 
 abbrev pub invariant-loop-turns : goal.invariant-loop-turns

@@ -1,8 +1,4 @@
-use Rattle.std.proofs.Common.{Option, sym, subst}
-use Rattle.atomic_table.specs.Seated.{TableId}
-use Rattle.chip_crew.specs.Crew.{EachFrom}
-use Rattle.chip_crew.specs.Joining.{IsWorker}
-use Rattle.chip_crew.specs.Leading.{IsLeader}
+use Rattle.chip_crew.proofs.Names.{Option, sym, subst, TableId, EachFrom, IsWorker, IsLeader}
 use Rattle.chip_crew.proofs.play.fn.work_all.scope.Goals as goal
 
 pub join_all-requires : goal.join_all-requires

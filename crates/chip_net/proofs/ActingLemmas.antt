@@ -1,23 +1,10 @@
 -- Serves Tokens.antt, Rule.antt.
 -- One operation of a turn: it may be made, and the medium holds it then.
-use Rattle.std.proofs.Common.{◌≡◌, ℕ, ◌<◌, List, [], ◌∷◌, ◌++◌, append_assoc, append-nil, refl, sym, ap, ◌∙◌, subst}
-use Rattle.std.proofs.lemmas.List.{reverse-append}
-use Rattle.atomic_table.specs.Seated.{TableId}
-use Rattle.atomic_table.specs.Table.{Allows}
-use Rattle.chip_link.specs.declared.trace.TraceRow.{TraceRow}
-use Rattle.chip_part.specs.Setting.{Setting}
-use Rattle.chip_part.specs.declared.act.Act.{Act}
-use Rattle.chip_part.specs.Acting.{event_of, FitsSeen}
-use Rattle.chip_actor.specs.Medium.{IsDueBy, MayServe, Serves, IsLonger}
-use Rattle.chip_core.specs.Core.{Step, Event, Part, part_of, part_in, does}
-use Rattle.chip_part.specs.Steps.{saw}
-use Rattle.chip_core.specs.Words.{IsWord, word_to_note}
-use Rattle.chip_core.proofs.NumberLemmas.{fits_seen}
-use Rattle.chip_net.specs.Layout.{index_of}
-use Rattle.chip_net.specs.Views.{Mine, did_in, part_of_view}
-use Rattle.chip_net.specs.Rule.{Kept, step_of, Grows}
-use Rattle.chip_net.specs.Traces.{TraceState, Keeps, row_of, rows_of}
-use Rattle.chip_net.specs.Tokens.{TurnSetup, AreWordsOf, Holds}
+use Rattle.chip_net.proofs.Names.{◌≡◌, ℕ, ◌<◌, List, [], ◌∷◌, ◌++◌, append_assoc, append-nil, refl, sym, ap, ◌∙◌, subst}
+use Rattle.chip_net.proofs.Names.{reverse-append, TableId, Allows, TraceRow, Setting, Act, event_of, FitsSeen, IsDueBy}
+use Rattle.chip_net.proofs.Names.{MayServe, Serves, IsLonger, Step, Event, Part, part_of, part_in, does, saw, IsWord}
+use Rattle.chip_net.proofs.Names.{word_to_note, fits_seen, index_of, Mine, did_in, part_of_view, Kept, step_of, Grows}
+use Rattle.chip_net.proofs.Names.{TraceState, Keeps, row_of, rows_of, TurnSetup, AreWordsOf, Holds}
 use Rattle.chip_net.proofs.LayingLemmas.{owner_of, by_word}
 use Rattle.chip_net.proofs.ViewingLemmas.{alone_there}
 use Rattle.chip_net.proofs.RulingLemmas.{Due, Made, made, word_of, left_over, vertex_acts, act_word, act_asked}

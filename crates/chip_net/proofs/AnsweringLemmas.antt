@@ -1,18 +1,9 @@
 -- Serves Tokens.antt.
 -- What a turn answers.
-use Rattle.std.proofs.Common.{◌≡◌, ℕ, ◌<◌, Bool, true, false, List, [], ◌∷◌, refl, sym, ap, ◌∙◌, subst, arith}
-use Rattle.atomic_table.specs.Seated.{TableId}
-use Rattle.chip_part.specs.Setting.{Setting}
-use Rattle.chip_actor.specs.Actor.{Actor, StandsFor}
-use Rattle.chip_part.specs.Part.{is_passive}
-use Rattle.chip_part.specs.Kept.{KeepsPart}
-use Rattle.chip_part.specs.Counting.{work_of}
-use Rattle.chip_part.proofs.RestingLemmas.{idle_turn_rests}
-use Rattle.chip_net.specs.declared.actor.Turn.{Turn}
-use Rattle.chip_net.specs.declared.actor.Turn.TheVariants.{Worked, Waiting, Idle}
-use Rattle.chip_net.specs.Views.{History, IsAlone}
-use Rattle.chip_net.specs.Tokens.{NetId, ActorKnown, part_known, known, table_of, me_of, AnswersTurn, MakesTurn, MakesTurnBy}
-use Rattle.chip_net.specs.Views.{Mine}
+use Rattle.chip_net.proofs.Names.{◌≡◌, ℕ, ◌<◌, Bool, true, false, List, [], ◌∷◌, refl, sym, ap, ◌∙◌, subst, arith}
+use Rattle.chip_net.proofs.Names.{TableId, Setting, Actor, StandsFor, is_passive, KeepsPart, work_of, idle_turn_rests}
+use Rattle.chip_net.proofs.Names.{Turn, Worked, Waiting, Idle, History, IsAlone, NetId, ActorKnown, part_known, known}
+use Rattle.chip_net.proofs.Names.{table_of, me_of, AnswersTurn, MakesTurn, MakesTurnBy, Mine}
 
 module _ (own after : ActorKnown) (work : ℕ) (made : MakesTurnBy own after work) where
   makes : (answer : Turn)

@@ -1,11 +1,7 @@
 -- Serves no definition, but what the kit asks of values that go to other threads.
 -- The tokens of a net may go to other threads, and threads may share the net. Of a struct each of whose fields has it
 -- so this is found by itself; a `Snapshot` has it by a lemma of std's alone, so of what holds one it is said here.
-use mir.Syntax.{Lifetime}
-use base.Fml.{Lft}
-use denote.Ref.{ShrRef}
-use denote.Param.Send.{IsSend, sendable, shr_send}
-use Rattle.std.proofs.Crossing.{crosses}
+use Rattle.chip_net.proofs.Names.{Lifetime, Lft, ShrRef, IsSend, sendable, shr_send, crosses}
 use Rattle.std.proofs.sync.atomic.AtomicBool.TheSendSync as flag
 use Rattle.std.specs.contracts.sync.atomic.AtomicBool as flag_at
 use Rattle.atomic_table.proofs.shared.Seat.TheSendSync as seat

@@ -1,28 +1,12 @@
 -- Serves Roots.antt.
 -- Feeding: what the root may feed, and the game with all that it fed.
-use Rattle.std.proofs.Common.{◌≡◌, ℕ, ◌+◌, ◌<◌, ◌≤◌, Bool, true, false, not, List, sum, Option, Some, None, refl, sym}
-use Rattle.std.proofs.Common.{ap, ◌∙◌, arith, leb, le-leb, lt-ltb, ne_eqb, leb-true, true≢false}
-use Rattle.std.specs.Prelude.{Result, Ok, Err}
-use Rattle.std.proofs.lemmas.Bool.{leb-false, and_from}
-use Rattle.chip_graph.specs.Limits.{max_total}
-use Rattle.chip_graph.specs.More.{all_brought}
-use Rattle.chip_part.specs.Setting.{Setting}
-use Rattle.chip_part.specs.Edges.{root, graph_edges, all_edges}
-use Rattle.chip_part.specs.Part.{all_fed}
-use Rattle.chip_part.specs.declared.rule.Rule.{Rule}
-use Rattle.chip_part.specs.Rules.{need, unmet_rule, Feed}
-use Rattle.chip_part.specs.declared.rule.Rule.TheVariants.{NoSuch, Ended, Zero, TooMuch, NotCleared}
-use Rattle.chip_part.specs.declared.act.Act.{Act}
-use Rattle.chip_part.specs.Acting.{verdict}
-use Rattle.chip_root.specs.Root.{Root}
-use Rattle.chip_core.specs.Core.{Step, opening_part}
-use Rattle.chip_core.specs.Histories.{part_by}
-use Rattle.chip_core.specs.Positions.{fed_in}
-use Rattle.chip_core.proofs.GivenLemmas.{root_gave, played_has_more}
-use Rattle.chip_core.proofs.ReachingLemmas.{by_history}
-use Rattle.chip_net.specs.declared.poll.FeedFault.{FeedFault}
-use Rattle.chip_net.specs.Views.{View, did_in, part_of_view}
-use Rattle.chip_net.specs.Roots.{RootKnown, root_part, has_ended, all_given, IsRoot, feed_fault, AllowsFeed}
+use Rattle.chip_net.proofs.Names.{◌≡◌, ℕ, ◌+◌, ◌<◌, ◌≤◌, Bool, true, false, not, List, sum, Option, Some, None, refl}
+use Rattle.chip_net.proofs.Names.{sym, ap, ◌∙◌, arith, leb, le-leb, lt-ltb, ne_eqb, leb-true, true≢false, Result, Ok}
+use Rattle.chip_net.proofs.Names.{Err, leb-false, and_from, max_total, all_brought, Setting, root, graph_edges}
+use Rattle.chip_net.proofs.Names.{all_edges, all_fed, Rule, need, unmet_rule, Feed, NoSuch, Ended, Zero, TooMuch}
+use Rattle.chip_net.proofs.Names.{NotCleared, Act, verdict, Root, Step, opening_part, part_by, fed_in, root_gave}
+use Rattle.chip_net.proofs.Names.{played_has_more, by_history, FeedFault, View, did_in, part_of_view, RootKnown}
+use Rattle.chip_net.proofs.Names.{root_part, has_ended, all_given, IsRoot, feed_fault, AllowsFeed}
 
 -- what the root was given is what it has fed, by a log in which it did that
 pub given_is_fed : {g : Setting} {view : View} {state : Root} → IsRoot g view state

@@ -1,52 +1,20 @@
 -- Serves Finish.antt, Roots.antt.
 -- What the root makes of its reads.
-use Rattle.std.proofs.lemmas.Bool.Decides.{nat_tests}
-use Rattle.std.proofs.Common.{◌≡◌, ℕ, ◌<◌, ◌≤◌, sum, ◌||◌, ◌&&◌, Bool, not, true, List, [], length, map, get_or}
-use Rattle.std.proofs.Common.{slice_index, Option, Some, None, is_some, Contains, true≢false, refl, sym, ap, ◌∙◌, subst}
-use Rattle.std.proofs.Common.{arith}
-use Rattle.std.specs.List.{range_with_len}
-use Rattle.std.proofs.Math.ListN.{get_or-map}
-use Rattle.std.proofs.lemmas.List.{length-map}
-use Rattle.chip_graph.specs.ChipGame.{ChipGame}
-use Rattle.chip_graph.specs.Limits.{max_total}
-use Rattle.chip_graph.specs.Multigraph.{Multigraph}
-use Rattle.chip_graph.specs.More.{HasMore}
-use Rattle.chip_graph.specs.Sums.{filter_below}
-use Rattle.chip_sequence.specs.declared.outcome.Outcome.{Outcome}
-use Rattle.chip_sequence.specs.Counted.{IsBelowZero, IsAfter}
-use Rattle.chip_sequence.specs.Play.{IsPlayed}
-use Rattle.chip_sequence.specs.Sequence.{HasEnded}
-use Rattle.chip_sequence.proofs.BoundLemmas.{same_ends}
-use Rattle.chip_link.specs.Words.{fired_in, is_halted_in, is_by_limit_in, is_fired_word}
-use Rattle.chip_part.specs.Setting.{Setting, IsSetting}
-use Rattle.chip_part.specs.declared.cause.Cause.{Cause}
-use Rattle.chip_part.specs.declared.cause.Cause.TheVariants.{SealedEdge, FiringLimit}
-use Rattle.chip_part.specs.Edges.{root, root_edge}
-use Rattle.chip_part.specs.Part.{Part, opening_part, is_by_limit, AreGiven}
-use Rattle.chip_core.specs.Core.{Log, part_in, word_of_part, IsLegalLog, IsClosed}
-use Rattle.chip_core.specs.Laws.{WordsOf}
-use Rattle.chip_core.specs.Headline.{NoneHalted, NoneHaltedBySeal}
-use Rattle.chip_core.specs.Histories.{done_by, part_by}
-use Rattle.chip_core.specs.Positions.{chips_given, played_game, firings, fed_in}
-use Rattle.chip_core.specs.Outcomes.{is_by_seal, AreFired, IsOutcomeOf, ComesTo}
-use Rattle.chip_core.proofs.NumberLemmas.{words_tell}
-use Rattle.chip_core.proofs.ReachingLemmas.{by_history}
-use Rattle.chip_core.proofs.GivenLemmas.{given_is, given_start, given_within, played_has_more, unfed_played}
-use Rattle.chip_core.proofs.ClosingLemmas.{all_ended}
-use Rattle.chip_core.proofs.OutcomeLemmas.{never_negative, comes, in_range, is_played}
-use Rattle.chip_net.specs.Roots.{RootKnown, root_part, root_after, fed_by}
-use Rattle.chip_net.specs.Finish.{reads_from, IsReadOut, ReadingsState, is_by_limit_at, is_by_seal_at, AreRead}
-use Rattle.chip_net.specs.Finish.{IsReading, IsOneEnd, Finishes}
-use Rattle.chip_net.specs.Meeting.{Together, IsRun}
+use Rattle.chip_net.proofs.Names.{nat_tests, ◌≡◌, ℕ, ◌<◌, ◌≤◌, sum, ◌||◌, ◌&&◌, Bool, not, true, List, [], length, map}
+use Rattle.chip_net.proofs.Names.{get_or, slice_index, Option, Some, None, is_some, Contains, true≢false, refl, sym, ap}
+use Rattle.chip_net.proofs.Names.{◌∙◌, subst, arith, range_with_len, get_or-map, length-map, ChipGame, max_total}
+use Rattle.chip_net.proofs.Names.{Multigraph, HasMore, filter_below, Outcome, IsBelowZero, IsAfter, IsPlayed, HasEnded}
+use Rattle.chip_net.proofs.Names.{same_ends, fired_in, is_halted_in, is_by_limit_in, is_fired_word, Setting, IsSetting}
+use Rattle.chip_net.proofs.Names.{Cause, SealedEdge, FiringLimit, root, root_edge, Part, opening_part, is_by_limit}
+use Rattle.chip_net.proofs.Names.{AreGiven, Log, part_in, word_of_part, IsLegalLog, IsClosed, WordsOf, NoneHalted}
+use Rattle.chip_net.proofs.Names.{NoneHaltedBySeal, done_by, part_by, chips_given, played_game, firings, fed_in}
+use Rattle.chip_net.proofs.Names.{is_by_seal, AreFired, IsOutcomeOf, ComesTo, words_tell, by_history, given_is}
+use Rattle.chip_net.proofs.Names.{given_start, given_within, played_has_more, unfed_played, all_ended, never_negative}
+use Rattle.chip_net.proofs.Names.{comes, in_range, is_played, RootKnown, root_part, root_after, fed_by, reads_from}
+use Rattle.chip_net.proofs.Names.{IsReadOut, ReadingsState, is_by_limit_at, is_by_seal_at, AreRead, IsReading, IsOneEnd}
+use Rattle.chip_net.proofs.Names.{Finishes, Together, IsRun, NetId, ActorKnown, tail_root, sent_counts, false, stopper}
+use Rattle.chip_net.proofs.Names.{unsealed_refuses, picked_none, picked_ext, picked_has, contains_nothing}
 use Rattle.chip_net.proofs.ReadingLemmas.{reads_feed_none, reads_part, reads_say}
-use Rattle.chip_net.specs.Tokens.{NetId, ActorKnown}
-use Rattle.chip_part.proofs.EdgeLemmas.{tail_root}
-use Rattle.chip_link.specs.Link.{sent_counts}
-use Rattle.std.proofs.Common.{false}
-use Rattle.chip_part.specs.Edges.{stopper}
-use Rattle.chip_core.proofs.PlayingLemmas.{unsealed_refuses}
-use Rattle.chip_graph.proofs.PickLemmas.{picked_none, picked_ext, picked_has}
-use Rattle.chip_detect.proofs.ListLemmas.{contains_nothing}
 
 -- nothing passes where nothing is listed
 none_picked : (test : ℕ → Bool) (n : ℕ) → filter_below test n ≡ [] → (v : ℕ) → v < n → test v ≡ true → ⊥

@@ -1,16 +1,10 @@
 -- Serves Layout.antt.
 -- Each word has a number of its own, which tells the word.
-use Rattle.std.proofs.Common.{◌≡◌, ◌≢◌, ℕ, ◌+◌, ◌-◌, ◌*◌, ◌/◌, ◌%◌, ◌<◌, List, length, set, sym, ap, ◌∙◌, arith}
-use Rattle.std.proofs.Common.{cond, ltb, lt-ltb, le-ltb, get_or-set_same, get_or-set_other, div-add-mod'}
-use Rattle.std.proofs.lemmas.Nat.{mul-add-lt, div-mul-add}
-use Rattle.chip_part.specs.Setting.{Setting, IsSetting}
-use Rattle.chip_part.specs.Edges.{all_edges}
-use Rattle.chip_core.specs.Words.{Word, of_edge, of_acks, of_cell, of_vertex, IsWord}
-use Rattle.chip_core.specs.Core.{Event}
-use Rattle.chip_net.specs.Views.{Mine}
-use Rattle.chip_net.specs.Rule.{Grows}
-use Rattle.chip_net.specs.Layout.{first_cell, first_fired, index_of, word_count, value_in}
-use Rattle.std.proofs.lemmas.Bool.{cond-true, cond-false}
+use Rattle.chip_net.proofs.Names.{◌≡◌, ◌≢◌, ℕ, ◌+◌, ◌-◌, ◌*◌, ◌/◌, ◌%◌, ◌<◌, List, length, set, sym, ap, ◌∙◌, arith}
+use Rattle.chip_net.proofs.Names.{cond, ltb, lt-ltb, le-ltb, get_or-set_same, get_or-set_other, div-add-mod'}
+use Rattle.chip_net.proofs.Names.{mul-add-lt, div-mul-add, Setting, IsSetting, all_edges, Word, of_edge, of_acks}
+use Rattle.chip_net.proofs.Names.{of_cell, of_vertex, IsWord, Event, Mine, Grows, first_cell, first_fired, index_of}
+use Rattle.chip_net.proofs.Names.{word_count, value_in, cond-true, cond-false}
 
 -- the word with this number
 abbrev word_at : Setting → ℕ → Word

@@ -1,3 +1,4 @@
+mod Names
 pub mod LayingLemmas
 pub mod ViewingLemmas
 pub mod SplittingLemmas

@@ -1,19 +1,11 @@
 -- Serves Meeting.antt, Rule.antt.
 -- A look changes nothing, and actors lend their parts one after another.
-use Rattle.std.proofs.Common.{◌≡◌, ℕ, zero, suc, ◌+◌, ◌-◌, ◌<◌, List, [], ◌∷◌, ◌++◌, length, map, take, drop, set}
-use Rattle.std.proofs.Common.{get_or, Some, refl, sym, ap, ◌∙◌, subst, arith, append-nil, length-append}
-use Rattle.std.specs.Prelude.{slice_get}
-use Rattle.std.proofs.Math.Seq.{take-length, drop-length}
-use Rattle.std.proofs.lemmas.List.{set-get_or, length-map, length-take-le, take-append-drop, get_or-append_right}
-use Rattle.std.proofs.lemmas.List.{get_or-drop}
-use Rattle.std.proofs.lemmas.List.Edits.{map_over_more}
-use Rattle.std.proofs.lemmas.Option.{slice_get-get_or, get_or_from_slice_get}
-use Rattle.atomic_table.specs.Table.{State, keeps, Allows}
-use Rattle.atomic_table.proofs.Lists.{set_again}
-use Rattle.chip_part.specs.Setting.{Setting}
-use Rattle.chip_net.specs.Views.{View, Mine, find_in}
-use Rattle.chip_net.specs.Rule.{Kept, Looks}
-use Rattle.chip_net.specs.Tokens.{NetId, ActorKnown, at_net, seatless}
+use Rattle.chip_net.proofs.Names.{◌≡◌, ℕ, zero, suc, ◌+◌, ◌-◌, ◌<◌, List, [], ◌∷◌, ◌++◌, length, map, take, drop, set}
+use Rattle.chip_net.proofs.Names.{get_or, Some, refl, sym, ap, ◌∙◌, subst, arith, append-nil, length-append, slice_get}
+use Rattle.chip_net.proofs.Names.{take-length, drop-length, set-get_or, length-map, length-take-le, take-append-drop}
+use Rattle.chip_net.proofs.Names.{get_or-append_right, get_or-drop, map_over_more, slice_get-get_or}
+use Rattle.chip_net.proofs.Names.{get_or_from_slice_get, State, keeps, Allows, set_again, Setting, View, Mine, find_in}
+use Rattle.chip_net.proofs.Names.{Kept, Looks, NetId, ActorKnown, at_net, seatless}
 use Rattle.chip_net.proofs.ViewingLemmas.{some_is}
 
 -- ---- a look

@@ -1,27 +1,13 @@
 -- Serves Layout.antt, Views.antt, Opening.antt.
 -- The table at the opening meets the rule.
-use Rattle.std.proofs.Common.{◌≡◌, ◌≢◌, ℕ, zero, suc, ◌+◌, ◌<◌, Bool, cond, ltb, List, [], ◌∷◌, length, get_or, set}
-use Rattle.std.proofs.Common.{length-set, Some, refl, sym, ap, ◌∙◌, arith, lt-ltb, le-ltb}
-use Rattle.std.proofs.lemmas.List.{get_or_past}
-use Rattle.std.proofs.Math.Nat.{mod-eq_of_lt}
-use mathlib.Core.Logic.{dite}
-use native.Mathlib.Decide.{ℕ_discrete, dec_lt}
-use lib.ListN.{get_elem?}
-use Rattle.atomic_table.specs.Table.{opening}
-use Rattle.chip_graph.proofs.SumLemmas.{cond_no}
-use Rattle.chip_part.specs.Setting.{Setting, IsSetting}
-use Rattle.chip_part.specs.Edges.{graph_edges, all_edges, start_of}
-use Rattle.chip_part.specs.Part.{first_put}
-use Rattle.chip_core.specs.Core.{Step}
-use Rattle.chip_core.specs.Words.{Word, of_edge, of_acks, of_cell, of_vertex, IsWord}
-use Rattle.chip_part.proofs.OpeningLemmas.{first_is}
-use Rattle.chip_net.specs.Layout.{index_of, word_count, value_in}
-use Rattle.chip_net.specs.Views.{find_in, opening_view}
-use Rattle.chip_net.specs.Rule.{Kept}
-use Rattle.chip_net.specs.Opening.{first_value, AreOpening}
+use Rattle.chip_net.proofs.Names.{◌≡◌, ◌≢◌, ℕ, zero, suc, ◌+◌, ◌<◌, Bool, cond, ltb, List, [], ◌∷◌, length, get_or, set}
+use Rattle.chip_net.proofs.Names.{length-set, Some, refl, sym, ap, ◌∙◌, arith, lt-ltb, le-ltb, get_or_past}
+use Rattle.chip_net.proofs.Names.{mod-eq_of_lt, dite, ℕ_discrete, dec_lt, get_elem?, opening, cond_no, Setting}
+use Rattle.chip_net.proofs.Names.{IsSetting, graph_edges, all_edges, start_of, first_put, Step, Word, of_edge, of_acks}
+use Rattle.chip_net.proofs.Names.{of_cell, of_vertex, IsWord, first_is, index_of, word_count, value_in, find_in}
+use Rattle.chip_net.proofs.Names.{opening_view, Kept, first_value, AreOpening, cond-true, cond-false}
 use Rattle.chip_net.proofs.LayingLemmas.{written_here, written_else}
 use Rattle.chip_net.proofs.ViewingLemmas.{none_some, part_there, part_empty}
-use Rattle.std.proofs.lemmas.Bool.{cond-true, cond-false}
 
 -- of a count of edges, one more only matters at that edge
 same_test : (e n : ℕ) → e ≢ n → ltb e n ≡ ltb e (n + 1)

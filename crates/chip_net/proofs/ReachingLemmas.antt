@@ -1,19 +1,9 @@
 -- Serves Laws.antt, Layout.antt.
 -- The rule of the table says that the world is reached.
-use Rattle.std.proofs.Common.{◌≡◌, ℕ, ◌++◌, List, length, take, drop, ap, ◌∙◌, subst}
-use Rattle.std.proofs.lemmas.List.{take-append-drop}
-use Rattle.chip_link.specs.Laws.{IsPrefix}
-use Rattle.chip_core.specs.Core.{Step, Part, part_in, word_of_part}
-use Rattle.chip_core.specs.Histories.{done_by}
-use Rattle.chip_core.specs.Words.{of_vertex}
-use Rattle.chip_core.specs.Reached.{parts_by}
-use Rattle.chip_core.proofs.GivenLemmas.{never_sealed}
-use Rattle.chip_core.proofs.NumberLemmas.{counts_of_edges}
-use Rattle.chip_core.proofs.LogLemmas.{edge_sound}
-use Rattle.chip_core.proofs.ReachingLemmas.{by_history}
-use Rattle.chip_core.proofs.ReachedLemmas.{reached_by_legal_logs}
-use Rattle.chip_net.specs.Layout.{value_in}
-use Rattle.chip_net.specs.Laws.{EdgeShows, EveryMomentIsReached}
+use Rattle.chip_net.proofs.Names.{◌≡◌, ℕ, ◌++◌, List, length, take, drop, ap, ◌∙◌, subst, take-append-drop, IsPrefix}
+use Rattle.chip_net.proofs.Names.{Step, Part, part_in, word_of_part, done_by, of_vertex, parts_by, never_sealed}
+use Rattle.chip_net.proofs.Names.{counts_of_edges, edge_sound, by_history, reached_by_legal_logs, value_in, EdgeShows}
+use Rattle.chip_net.proofs.Names.{EveryMomentIsReached}
 
 -- the front of a list is a prefix of it
 front : (got put : List ℕ) → got ≡ take (length got) put → IsPrefix got put

@@ -1,26 +1,15 @@
 -- Serves Finish.antt, Roots.antt.
 -- The reads of a closed root: each is in the log, and what they tell.
-use Rattle.std.proofs.Common.{◌≡◌, ℕ, zero, suc, ◌+◌, ◌<◌, ◌&&◌, Bool, not, cond, List, [], ◌∷◌, ◌++◌, length, get_or}
-use Rattle.std.proofs.Common.{Contains, refl, sym, ap, ◌∙◌, subst, arith, length-append}
-use Rattle.std.proofs.lemmas.List.{get_or_push, get_or_append_left, map-append, length-map}
-use Rattle.std.proofs.lemmas.List.Elements.{Contains-append_right}
-use Rattle.chip_graph.specs.Sums.{filter_below}
-use Rattle.chip_graph.proofs.SumLemmas.{cond_yes, cond_no}
-use Rattle.chip_link.specs.Words.{fired_in, is_halted_in, is_by_limit_in}
-use Rattle.chip_part.specs.Setting.{Setting, IsSetting}
-use Rattle.chip_part.specs.Edges.{root, stopper}
-use Rattle.chip_part.specs.Part.{deficit}
-use Rattle.chip_part.specs.Steps.{saw}
-use Rattle.chip_core.specs.Core.{Log, Step, Read, Part, opening_part, part_in, word_of_part, IsClosed, IsLegalLog}
-use Rattle.chip_core.specs.Histories.{done_by, part_by}
-use Rattle.chip_core.specs.Positions.{fed_of, fed_in}
-use Rattle.chip_core.proofs.ReadLemmas.{reads_tell}
-use Rattle.chip_core.proofs.RoundLemmas.{own_in}
-use Rattle.chip_net.specs.Roots.{RootKnown, root_part, root_deficit, root_after, has_ended, IsOver}
-use Rattle.chip_net.specs.Finish.{ReadsAt, reads_from, IsReadOut, ReadingsState, readings_after, AreRead, IsReading}
+use Rattle.chip_net.proofs.Names.{◌≡◌, ℕ, zero, suc, ◌+◌, ◌<◌, ◌&&◌, Bool, not, cond, List, [], ◌∷◌, ◌++◌, length}
+use Rattle.chip_net.proofs.Names.{get_or, Contains, refl, sym, ap, ◌∙◌, subst, arith, length-append, get_or_push}
+use Rattle.chip_net.proofs.Names.{get_or_append_left, map-append, length-map, Contains-append_right, filter_below}
+use Rattle.chip_net.proofs.Names.{cond_yes, cond_no, fired_in, is_halted_in, is_by_limit_in, Setting, IsSetting, root}
+use Rattle.chip_net.proofs.Names.{stopper, deficit, saw, Log, Step, Read, Part, opening_part, part_in, word_of_part}
+use Rattle.chip_net.proofs.Names.{IsClosed, IsLegalLog, done_by, part_by, fed_of, fed_in, reads_tell, own_in, RootKnown}
+use Rattle.chip_net.proofs.Names.{root_part, root_deficit, root_after, has_ended, IsOver, ReadsAt, reads_from}
+use Rattle.chip_net.proofs.Names.{IsReadOut, ReadingsState, readings_after, AreRead, IsReading, picked_ext}
 use Rattle.chip_net.proofs.ViewingLemmas.{part_append}
 use Rattle.chip_net.proofs.RootingLemmas.{steps_more}
-use Rattle.chip_graph.proofs.PickLemmas.{picked_ext}
 
 -- a read that saw this
 abbrev read : ℕ → ℕ → Step

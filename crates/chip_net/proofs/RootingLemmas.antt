@@ -1,37 +1,20 @@
 -- Serves Roots.antt, Views.antt.
 -- The root: an event of its own over the net, and a poll of settles.
-use Rattle.std.proofs.Common.{◌≡◌, ℕ, suc, ◌+◌, ◌-◌, ◌<◌, ◌≤◌, true, List, [], ◌∷◌, ◌++◌, Some, None, refl, sym}
-use Rattle.std.proofs.Common.{ap, ◌∙◌, subst, arith, append_assoc, append-nil}
-use Rattle.std.proofs.lemmas.List.{map-append}
-use Rattle.std.proofs.lemmas.Bool.{le-leb}
-use Rattle.atomic_table.specs.Seated.{TableId}
-use Rattle.atomic_table.specs.Table.{Allows}
-use Rattle.chip_graph.proofs.SumLemmas.{cond_yes}
-use Rattle.chip_link.specs.Link.{Tail, after_clear}
-use Rattle.chip_part.specs.Setting.{Setting}
-use Rattle.chip_part.specs.declared.act.Act as operation
-use Rattle.chip_part.specs.declared.act.Act.TheVariants as Do
-use Rattle.chip_part.specs.Edges.{root, stopper, root_edge, graph_edges}
-use Rattle.chip_part.specs.Acting.{act_of, FitsRoot, is_of_root}
-use Rattle.chip_part.specs.Steps.{link_after, saw}
-use Rattle.chip_part.proofs.EdgeLemmas.{tail_root}
-use Rattle.chip_part.proofs.PartLemmas.{at_edge}
-use Rattle.chip_part.proofs.RuleLemmas.{met_rules}
-use Rattle.chip_root.specs.Root.{Root, RootStandsFor, RootCanDo}
-use Rattle.chip_core.specs.Core.{Seal, Read, Step, Event, Clear, Put, Settle, Feed, End}
-use Rattle.chip_core.specs.Core.{Part, Out, Reply, opening_part, does, unmet_rule, part_of, reply_of}
-use Rattle.chip_core.specs.Histories.{done_by, part_by}
-use Rattle.chip_core.specs.Words.{word_to_note}
-use Rattle.chip_core.proofs.NumberLemmas.{root_fits}
-use Rattle.chip_net.specs.Layout.{index_of}
-use Rattle.chip_net.specs.Views.{View, Mine, find, grow_view, did_in, Has, part_of_view, IsAlone, join_views}
-use Rattle.chip_net.specs.Views.{steps_or_none}
-use Rattle.chip_net.specs.Rule.{Kept, step_of, Stepped, Grows}
-use Rattle.chip_net.specs.Roots.{RootKnown, known_root, root_after, root_part, IsRoot, IsFeeding, IsDueInView, MakesEvent, Replies}
-use Rattle.chip_net.specs.Roots.{settles_from, DoesMore, HoldsNothing, has_ended, with_stopper}
-use Rattle.chip_net.specs.Tokens.{NetId, AreWordsOf}
+use Rattle.chip_net.proofs.Names.{◌≡◌, ℕ, suc, ◌+◌, ◌-◌, ◌<◌, ◌≤◌, true, List, [], ◌∷◌, ◌++◌, Some, None, refl, sym, ap}
+use Rattle.chip_net.proofs.Names.{◌∙◌, subst, arith, append_assoc, append-nil, map-append, le-leb, TableId, Allows}
+use Rattle.chip_net.proofs.Names.{cond_yes, Tail, after_clear, Setting, root, stopper, root_edge, graph_edges, act_of}
+use Rattle.chip_net.proofs.Names.{FitsRoot, is_of_root, link_after, saw, tail_root, at_edge, met_rules, Root}
+use Rattle.chip_net.proofs.Names.{RootStandsFor, RootCanDo, Seal, Read, Step, Event, Clear, Put, Settle, Feed, End}
+use Rattle.chip_net.proofs.Names.{Part, Out, Reply, opening_part, does, unmet_rule, part_of, reply_of, done_by, part_by}
+use Rattle.chip_net.proofs.Names.{word_to_note, root_fits, index_of, View, Mine, find, grow_view, did_in, Has}
+use Rattle.chip_net.proofs.Names.{part_of_view, IsAlone, join_views, steps_or_none, Kept, step_of, Stepped, Grows}
+use Rattle.chip_net.proofs.Names.{RootKnown, known_root, root_after, root_part, IsRoot, IsFeeding, IsDueInView}
+use Rattle.chip_net.proofs.Names.{MakesEvent, Replies, settles_from, DoesMore, HoldsNothing, has_ended, with_stopper}
+use Rattle.chip_net.proofs.Names.{NetId, AreWordsOf}
 use Rattle.chip_net.proofs.ViewingLemmas.{part_append, ended_by, joined_here, joined_else}
 use Rattle.chip_net.proofs.RulingLemmas.{Due, Made, made, word_of, left_over, HasAct, act_asked}
+use Rattle.chip_part.specs.declared.act.Act as operation
+use Rattle.chip_part.specs.declared.act.Act.TheVariants as Do
 
 -- what is noted is noted
 noted_twice : (x : Event) (n : ℕ) → word_to_note x n ≡ word_to_note x (word_to_note x n)

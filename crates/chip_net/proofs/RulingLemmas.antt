@@ -1,35 +1,20 @@
 -- Serves Views.antt, Layout.antt, Rule.antt.
 -- Each event keeps the rule of the table, and tells that its part did it.
-use Rattle.std.proofs.lemmas.Bool.Decides.{nat_tests}
-use Rattle.std.proofs.Common.{◌≡◌, ◌≢◌, ℕ, ◌+◌, ◌%◌, ◌^◌, ◌<◌, ◌==◌, List, [], ◌∷◌, ◌++◌, get_or, set, length-set, Some}
-use Rattle.std.proofs.Common.{None, refl, sym, ap, ◌∙◌, subst, arith, bit_or}
-use lib.ListN.{get_elem?}
-use prog.Atomic.{either}
-use Rattle.atomic_table.specs.Seated.{TableId}
-use Rattle.atomic_table.specs.Table.{Act, Valid, keeps, carried_after, stepped, Allows}
-use Rattle.atomic_table.proofs.Lists.{set_else}
-use Rattle.chip_graph.proofs.SumLemmas.{cond_yes, cond_no}
-use Rattle.chip_link.specs.Words.{word_after_exchange}
-use Rattle.chip_link.specs.Link.{claims_of}
-use Rattle.chip_part.specs.Setting.{Setting}
-use Rattle.chip_part.specs.declared.act.Act as operation
-use Rattle.chip_part.specs.declared.act.Act.TheVariants as Do
-use Rattle.chip_part.specs.Acting.{act_of}
-use Rattle.chip_part.specs.Steps.{saw}
-use Rattle.chip_core.specs.Core.{Log, Step, Event, Claim, Seal, Read, Feed, Part, opening_part, unmet_rule, part_of}
-use Rattle.chip_core.specs.Core.{part_in, does, sees}
-use Rattle.chip_core.specs.Histories.{done_by, part_by}
-use Rattle.chip_core.specs.Words.{Word, of_edge, of_acks, of_cell, of_vertex, IsWord, halt_bits, word_of_event, left_by}
-use Rattle.chip_core.specs.Words.{word_to_note, IsShown, IsLeft, acting_part}
-use Rattle.chip_core.proofs.ReachingLemmas.{by_history}
-use Rattle.chip_core.proofs.ShowingLemmas.{word_for, word_there, finds, words_go_on}
-use Rattle.chip_net.specs.Layout.{index_of, value_in}
-use Rattle.chip_net.specs.Views.{View, Mine, find, find_in, grow_view, did_in, Has, part_of_view, IsAlone}
-use Rattle.chip_net.specs.Rule.{Kept, step_of, Stepped, Grows}
-use Rattle.chip_net.specs.Tokens.{NetId, AreWordsOf}
+use Rattle.chip_net.proofs.Names.{nat_tests, ◌≡◌, ◌≢◌, ℕ, ◌+◌, ◌%◌, ◌^◌, ◌<◌, ◌==◌, List, [], ◌∷◌, ◌++◌, get_or, set}
+use Rattle.chip_net.proofs.Names.{length-set, Some, None, refl, sym, ap, ◌∙◌, subst, arith, bit_or, get_elem?, either}
+use Rattle.chip_net.proofs.Names.{TableId, Valid, keeps, carried_after, stepped, Allows, set_else, cond_yes, cond_no}
+use Rattle.chip_net.proofs.Names.{word_after_exchange, claims_of, Setting, act_of, saw, Log, Step, Event, Claim, Seal}
+use Rattle.chip_net.proofs.Names.{Read, Feed, Part, opening_part, unmet_rule, part_of, part_in, does, sees, done_by}
+use Rattle.chip_net.proofs.Names.{part_by, Word, of_edge, of_acks, of_cell, of_vertex, IsWord, halt_bits, word_of_event}
+use Rattle.chip_net.proofs.Names.{left_by, word_to_note, IsShown, IsLeft, acting_part, by_history, word_for, word_there}
+use Rattle.chip_net.proofs.Names.{finds, words_go_on, index_of, value_in, View, Mine, find, find_in, grow_view, did_in}
+use Rattle.chip_net.proofs.Names.{Has, part_of_view, IsAlone, Kept, step_of, Stepped, Grows, NetId, AreWordsOf}
+use Rattle.atomic_table.specs.Table.{Act}
 use Rattle.chip_net.proofs.LayingLemmas.{written_here, written_else, inside, owner_of, owner_at, by_word, owner_read}
 use Rattle.chip_net.proofs.ViewingLemmas.{set_there, find_here, find_else, grown_has, grown_alone, part_append}
 use Rattle.chip_net.proofs.SplittingLemmas.{set_finds, nowhere_else, moved}
+use Rattle.chip_part.specs.declared.act.Act as operation
+use Rattle.chip_part.specs.declared.act.Act.TheVariants as Do
 
 -- an event of the part p, which stands in the view: its rules are met
 pub record Due (g : Setting) (me : Mine) (p : ℕ) (x : Event) : Type 0 where

@@ -1,24 +1,14 @@
 -- Serves Roots.antt.
 -- A feed of the root: each of its three events is due when it is made, and nothing is held after it.
-use Rattle.std.proofs.Common.{◌≡◌, ℕ, ◌+◌, ◌<◌, ◌≤◌, false, cond, eqb, [], ◌∷◌, sum, Some, None}
-use Rattle.std.proofs.Common.{refl, sym, ap, ◌∙◌, subst, arith, inr, eqb-true}
-use mathlib.Core.Logic.{dite}
-use native.Mathlib.Decide.{ℕ_discrete}
-use Rattle.chip_graph.specs.Limits.{max_total}
-use Rattle.chip_graph.proofs.SumLemmas.{cond_yes, cond_no, by_test, sum_below_ext}
-use Rattle.chip_link.specs.Link.{Tail, claims_of, sent_counts, after_clear, after_claim, after_put}
-use Rattle.chip_part.specs.Setting.{Setting}
-use Rattle.chip_part.specs.Edges.{root_edge, graph_edges, all_edges}
-use Rattle.chip_part.specs.Part.{all_fed}
-use Rattle.chip_part.specs.Steps.{saw}
-use Rattle.chip_part.specs.declared.reply.Reply.TheVariants.{Done, Full}
-use Rattle.chip_part.proofs.RuleLemmas.{met_rules}
-use Rattle.chip_core.specs.Core.{Step, Clear, Put, Feed, Part, opening_part, does, unmet_rule}
-use Rattle.chip_net.specs.Roots.{RootKnown, root_part, root_after, has_ended, all_given, IsDueForRoot}
-use Rattle.chip_net.specs.Roots.{MakesEvent, HoldsNothing, Feeds}
+use Rattle.chip_net.proofs.Names.{◌≡◌, ℕ, ◌+◌, ◌<◌, ◌≤◌, false, cond, eqb, [], ◌∷◌, sum, Some, None, refl, sym, ap, ◌∙◌}
+use Rattle.chip_net.proofs.Names.{subst, arith, inr, eqb-true, dite, ℕ_discrete, max_total, cond_yes, cond_no, by_test}
+use Rattle.chip_net.proofs.Names.{sum_below_ext, Tail, claims_of, sent_counts, after_clear, after_claim, after_put}
+use Rattle.chip_net.proofs.Names.{Setting, root_edge, graph_edges, all_edges, all_fed, saw, Done, Full, met_rules, Step}
+use Rattle.chip_net.proofs.Names.{Clear, Put, Feed, Part, opening_part, does, unmet_rule, RootKnown, root_part}
+use Rattle.chip_net.proofs.Names.{root_after, has_ended, all_given, IsDueForRoot, MakesEvent, HoldsNothing, Feeds}
+use Rattle.chip_net.proofs.Names.{cond-true, cond-false}
 use Rattle.chip_net.proofs.ViewingLemmas.{part_append}
 use Rattle.chip_net.proofs.RootingLemmas.{root_step, steps_more, holds_by, by_look}
-use Rattle.std.proofs.lemmas.Bool.{cond-true, cond-false}
 
 -- what a look replies
 pub look_done : (seen claims place : ℕ) → Done place ≡ cond (eqb seen 0) (Done claims) Full → (seen ≡ 0) × (place ≡ claims)

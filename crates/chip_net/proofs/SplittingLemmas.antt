@@ -1,22 +1,10 @@
 -- Serves Views.antt, Rule.antt.
 -- The rule where one part alone moved or did more: as it acts, as it is taken out, and as it is taken in.
-use Rattle.std.proofs.Common.{◌≡◌, ◌≢◌, ℕ, zero, suc, ◌+◌, ◌<◌, cond, eqb, List, [], ◌∷◌, ◌++◌, length, set, Option}
-use Rattle.std.proofs.Common.{Some, None, refl, sym, ap, ◌∙◌}
-use mathlib.Core.Logic.{dite}
-use mathlib.Core.Option.{some}
-use native.Mathlib.Decide.{ℕ_discrete}
-use lib.ListN.{get_elem?}
-use Rattle.atomic_table.specs.Table.{State, Splits, Joins, Enters}
-use Rattle.atomic_table.proofs.Lists.{at_last, set_else}
-use Rattle.chip_part.specs.Setting.{Setting}
-use Rattle.chip_part.proofs.PartLemmas.{at_other}
-use Rattle.chip_core.specs.Core.{Log, Step, IsLegalLog}
-use Rattle.chip_core.specs.Histories.{done_by}
-use Rattle.chip_core.specs.Words.{IsShown}
-use Rattle.chip_net.specs.Layout.{value_in}
-use Rattle.chip_net.specs.Views.{View, Mine, find, find_in, did_in, view_without, view_of_one, IsAlone, join_views}
-use Rattle.chip_net.specs.Views.{no_parts}
-use Rattle.chip_net.specs.Rule.{Kept}
+use Rattle.chip_net.proofs.Names.{◌≡◌, ◌≢◌, ℕ, zero, suc, ◌+◌, ◌<◌, cond, eqb, List, [], ◌∷◌, ◌++◌, length, set, Option}
+use Rattle.chip_net.proofs.Names.{Some, None, refl, sym, ap, ◌∙◌, dite, some, ℕ_discrete, get_elem?, State, Splits}
+use Rattle.chip_net.proofs.Names.{Joins, Enters, at_last, set_else, Setting, at_other, Log, Step, IsLegalLog, done_by}
+use Rattle.chip_net.proofs.Names.{IsShown, value_in, View, Mine, find, find_in, did_in, view_without, view_of_one}
+use Rattle.chip_net.proofs.Names.{IsAlone, join_views, no_parts, Kept}
 use Rattle.chip_net.proofs.ViewingLemmas.{none_some, some_is, set_there, dropped_here, dropped_else, alone_has}
 use Rattle.chip_net.proofs.ViewingLemmas.{alone_there, alone_else, joined_here, joined_else, one_else}
 

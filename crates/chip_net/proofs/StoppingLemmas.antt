@@ -1,29 +1,12 @@
 -- Serves Views.antt, Rule.antt, Roots.antt.
 -- The stopper: a seal of an edge.
-use Rattle.std.proofs.Common.{◌≡◌, ℕ, ◌<◌, not, [], ◌∷◌, ◌++◌, Option, Some, None, is_some, refl, sym, ap, ◌∙◌, subst}
-use Rattle.std.proofs.Common.{arith, List}
-use Rattle.std.specs.Prelude.{is_none}
-use Rattle.atomic_table.specs.Seated.{TableId}
-use Rattle.chip_graph.proofs.SumLemmas.{cond_yes}
-use Rattle.chip_link.specs.Words.{edge_word, claims_in, is_sealed_in}
-use Rattle.chip_link.specs.WordLaws.{ReadsAs}
-use Rattle.chip_link.specs.Link.{claims_of, after_seal, IsSealedAt}
-use Rattle.chip_link.proofs.WordLawsLemmas.{read_edge}
-use Rattle.chip_part.specs.Setting.{Setting, IsSetting}
-use Rattle.chip_part.specs.Edges.{stopper, graph_edges}
-use Rattle.chip_part.proofs.PartLemmas.{at_edge}
-use Rattle.chip_part.specs.Steps.{stop_after}
-use Rattle.chip_core.specs.Core.{Step, Event, Seal, Part, opening_part, part_in, out_in, stop_in, does}
-use Rattle.chip_core.specs.Histories.{part_by}
-use Rattle.chip_core.proofs.ReachingLemmas.{by_history}
-use Rattle.chip_core.proofs.LogLemmas.{edge_sound}
-use Rattle.chip_core.proofs.NumberLemmas.{claims_most, seals_stand_law}
-use Rattle.chip_net.specs.declared.stopper.SealedAt.{SealedAt}
-use Rattle.chip_net.specs.Views.{Mine, did_in, part_of_view, IsAlone}
-use Rattle.chip_net.specs.Rule.{Grows}
-use Rattle.chip_net.specs.Roots.{StopperKnown, Seals}
-use Rattle.chip_net.specs.Tokens.{NetId}
-use Rattle.chip_net.specs.Meeting.{SealsTellAll}
+use Rattle.chip_net.proofs.Names.{◌≡◌, ℕ, ◌<◌, not, [], ◌∷◌, ◌++◌, Option, Some, None, is_some, refl, sym, ap, ◌∙◌}
+use Rattle.chip_net.proofs.Names.{subst, arith, List, is_none, TableId, cond_yes, edge_word, claims_in, is_sealed_in}
+use Rattle.chip_net.proofs.Names.{ReadsAs, claims_of, after_seal, IsSealedAt, read_edge, Setting, IsSetting, stopper}
+use Rattle.chip_net.proofs.Names.{graph_edges, at_edge, stop_after, Step, Event, Seal, Part, opening_part, part_in}
+use Rattle.chip_net.proofs.Names.{out_in, stop_in, does, part_by, by_history, edge_sound, claims_most, seals_stand_law}
+use Rattle.chip_net.proofs.Names.{SealedAt, Mine, did_in, part_of_view, IsAlone, Grows, StopperKnown, Seals, NetId}
+use Rattle.chip_net.proofs.Names.{SealsTellAll}
 use Rattle.chip_net.proofs.ViewingLemmas.{part_append}
 use Rattle.chip_net.proofs.RulingLemmas.{Due, Made, made}
 

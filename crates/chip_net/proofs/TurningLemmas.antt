@@ -1,18 +1,10 @@
 -- Serves Tokens.antt.
 -- A turn over the net's words: it may begin, and what it leaves.
-use Rattle.std.proofs.Common.{◌≡◌, ℕ, List, ◌++◌, reverse, refl, sym, ap, ◌∙◌, subst}
-use Rattle.std.proofs.lemmas.List.{reverse-append, reverse-reverse}
-use Rattle.atomic_table.specs.Seated.{TableId}
-use Rattle.chip_part.specs.Setting.{Setting}
-use Rattle.chip_actor.specs.Actor.{Actor, StandsFor}
-use Rattle.chip_actor.specs.Medium.{Meets, MakesTurnOver, IsTurnMade}
-use Rattle.chip_part.specs.Turn.{turn}
-use Rattle.chip_part.proofs.TurnLemmas.{turns_bounded}
+use Rattle.chip_net.proofs.Names.{◌≡◌, ℕ, List, ◌++◌, reverse, refl, sym, ap, ◌∙◌, subst, reverse-append}
+use Rattle.chip_net.proofs.Names.{reverse-reverse, TableId, Setting, Actor, StandsFor, Meets, MakesTurnOver, IsTurnMade}
+use Rattle.chip_net.proofs.Names.{turn, turns_bounded, Step, Part, TraceState, did_in, part_of_view, Mine, TurnSetup}
+use Rattle.chip_net.proofs.Names.{IsOfNet, Holds, IsSeated, IsActor, known, MakesTurnBy}
 use Rattle.chip_part.specs.declared.cursor.Cursor.TheVariants as At
-use Rattle.chip_core.specs.Core.{Step, Part}
-use Rattle.chip_net.specs.Traces.{TraceState}
-use Rattle.chip_net.specs.Views.{did_in, part_of_view, Mine}
-use Rattle.chip_net.specs.Tokens.{TurnSetup, IsOfNet, Holds, IsSeated, IsActor, known, MakesTurnBy}
 
 module _ {setup now : TurnSetup} {key : Setting} {table : TableId} {me : Mine} {trace : TraceState} (a : Actor)
     (began : setup ≡ now) (of_net : IsOfNet now.net.setting key now.net.table) (vertex : now.vertex ≡ a.vertex) (table_is : table ≡ now.net.table)

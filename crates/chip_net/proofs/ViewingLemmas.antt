@@ -1,23 +1,11 @@
 -- Serves Views.antt.
 -- Views as finite maps: what a step and a split change.
-use Rattle.std.proofs.lemmas.Bool.Decides.{nat_tests}
-use Rattle.std.proofs.Common.{◌≡◌, ◌≢◌, ℕ, zero, suc, ◌+◌, ◌<◌, true, List, [], ◌∷◌, ◌++◌, length, length-append, set}
-use Rattle.std.proofs.Common.{Option, Some, None, refl, sym, ap, ◌∙◌, arith}
-use Rattle.std.specs.Prelude.{slice_get}
-use Rattle.std.proofs.lemmas.Option.{slice_get_read, get_or_from_slice_get}
-use Rattle.std.proofs.lemmas.List.{get_or_push, get_or_append_left}
-use mathlib.Core.Logic.{dite}
-use mathlib.Core.Option.{some, some-ne-none}
-use native.Mathlib.Decide.{ℕ_discrete}
-use lib.ListN.{get_elem?}
-use Rattle.chip_graph.proofs.SumLemmas.{cond_yes, cond_no}
-use Rattle.chip_part.specs.Setting.{Setting}
-use Rattle.chip_part.proofs.PartLemmas.{stays_ended}
-use Rattle.chip_core.specs.Core.{Step, Part, does}
-use Rattle.chip_core.specs.Histories.{part_by}
-use Rattle.chip_core.proofs.ReachingLemmas.{part-append}
-use Rattle.chip_net.specs.Views.{History, View, find, grow, grow_view, steps_or_none, did_in, Has, drop_part, one_part}
-use Rattle.chip_net.specs.Views.{view_of_one, parts_below, IsAlone, join_views}
+use Rattle.chip_net.proofs.Names.{nat_tests, ◌≡◌, ◌≢◌, ℕ, zero, suc, ◌+◌, ◌<◌, true, List, [], ◌∷◌, ◌++◌, length}
+use Rattle.chip_net.proofs.Names.{length-append, set, Option, Some, None, refl, sym, ap, ◌∙◌, arith, slice_get}
+use Rattle.chip_net.proofs.Names.{slice_get_read, get_or_from_slice_get, get_or_push, get_or_append_left, dite, some}
+use Rattle.chip_net.proofs.Names.{some-ne-none, ℕ_discrete, get_elem?, cond_yes, cond_no, Setting, stays_ended, Step}
+use Rattle.chip_net.proofs.Names.{Part, does, part_by, part-append, History, View, find, grow, grow_view, steps_or_none}
+use Rattle.chip_net.proofs.Names.{did_in, Has, drop_part, one_part, view_of_one, parts_below, IsAlone, join_views}
 
 pub some_is : {A : Type 0} (a b : A) → Some a ≡ Some b → a ≡ b
 some_is a b e = cc

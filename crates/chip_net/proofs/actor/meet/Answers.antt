@@ -1,15 +1,10 @@
-use Rattle.std.proofs.Common.{◌≡◌, ◌≢◌, ℕ, ◌+◌, ◌++◌, List, length, map, take, drop, set, Some, sym, ap, ◌∙◌}
-use Rattle.std.proofs.Common.{subst, arith}
-use mathlib.Core.Logic.{dite}
-use native.Mathlib.Decide.{ℕ_discrete}
-use Rattle.std.specs.Prelude.{slice_get}
-use Rattle.std.proofs.lemmas.Option.{slice_get_within}
-use Rattle.chip_net.specs.Tokens.{NetId, ActorKnown, at_net, seatless}
-use Rattle.chip_net.specs.Views.{Mine, find}
+use Rattle.chip_net.proofs.Names.{◌≡◌, ◌≢◌, ℕ, ◌+◌, ◌++◌, List, length, map, take, drop, set, Some, sym, ap, ◌∙◌, subst}
+use Rattle.chip_net.proofs.Names.{arith, dite, ℕ_discrete, slice_get, slice_get_within, NetId, ActorKnown, at_net}
+use Rattle.chip_net.proofs.Names.{seatless, Mine, find}
 use Rattle.chip_net.proofs.ViewingLemmas.{some_is}
 use Rattle.chip_net.proofs.MeetingLemmas.{same_count, next, all_are, map_at, all_back}
-use Rattle.chip_net.proofs.actor.meet.Goals as goal
 use Rattle.chip_net.proofs.actor.meet.Goals.{After-lend-arg-1, After-take_back-arg-1}
+use Rattle.chip_net.proofs.actor.meet.Goals as goal
 
 -- the next actor of the first loop, and of the second
 lends : (c : After-lend-arg-1) → let a = c.deref_mut.result.now in let n = c.loop-index.index in

@@ -1,7 +1,5 @@
-use Rattle.std.proofs.Common.{◌≡◌, ℕ, ◌<◌, ◌≤◌, ◌++◌, length, map, take, drop, Some}
-use Rattle.std.specs.Prelude.{slice_get}
-use Rattle.chip_net.specs.Tokens.{ActorKnown, at_net, seatless}
-use Rattle.chip_net.specs.Views.{find}
+use Rattle.chip_net.proofs.Names.{◌≡◌, ℕ, ◌<◌, ◌≤◌, ◌++◌, length, map, take, drop, Some, slice_get, ActorKnown, at_net}
+use Rattle.chip_net.proofs.Names.{seatless, find}
 use Rattle.chip_net.proofs.actor.meet.Given as goal
 
 abbrev pub ghosts-take_back : goal.ghosts-take_back

@@ -1,5 +1,4 @@
-use Rattle.std.proofs.Common.{ap}
-use Rattle.chip_net.specs.Tokens.{TurnSetup}
+use Rattle.chip_net.proofs.Names.{ap, TurnSetup}
 use Rattle.chip_net.proofs.TurningLemmas.{may_turn, still, turned, still_actor}
 use Rattle.chip_net.proofs.actor.turn_over.Goals as goal
 

@@ -1,4 +1,4 @@
-use Rattle.chip_core.proofs.DueLemmas.{never_stuck}
+use Rattle.chip_net.proofs.Names.{never_stuck}
 use Rattle.chip_net.proofs.laws.always_due.Goals as goal
 
 pub returns : goal.returns

@@ -1,10 +1,8 @@
-use Rattle.std.proofs.Common.{◌≡◌, ℕ, ◌<◌, ◌+◌, [], ◌∷◌, ◌++◌, length, length-append, append_assoc, append-nil, List, Some}
-use Rattle.std.proofs.Common.{sym, ap, ◌∙◌, subst, arith}
-use Rattle.std.specs.Prelude.{slice_get}
-use Rattle.chip_net.specs.Tokens.{ActorKnown, newcomer}
+use Rattle.chip_net.proofs.Names.{◌≡◌, ℕ, ◌<◌, ◌+◌, [], ◌∷◌, ◌++◌, length, length-append, append_assoc, append-nil}
+use Rattle.chip_net.proofs.Names.{List, Some, sym, ap, ◌∙◌, subst, arith, slice_get, ActorKnown, newcomer}
 use Rattle.chip_net.proofs.ViewingLemmas.{pushed_each}
-use Rattle.chip_net.proofs.open.all_actors.Goals as goal
 use Rattle.chip_net.proofs.open.all_actors.Goals.{then-len-eq256+in_ok-box_all+in_ok-run-2, else-len-eq256}
+use Rattle.chip_net.proofs.open.all_actors.Goals as goal
 
 pub loop-vertex-preserved : goal.loop-vertex-preserved
 loop-vertex-preserved c =

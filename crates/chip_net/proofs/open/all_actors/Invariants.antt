@@ -1,7 +1,4 @@
-use Rattle.std.proofs.Common.{◌≡◌, ℕ, ◌<◌, ◌≤◌, ◌+◌, ◌++◌, [], length, Some}
-use Rattle.std.specs.Prelude.{slice_get}
-use Rattle.chip_net.specs.Views.{find}
-use Rattle.chip_net.specs.Tokens.{newcomer}
+use Rattle.chip_net.proofs.Names.{◌≡◌, ℕ, ◌<◌, ◌≤◌, ◌+◌, ◌++◌, [], length, Some, slice_get, find, newcomer}
 use Rattle.chip_net.proofs.open.all_actors.Given as goal
 
 abbrev pub ghosts-one_owned : goal.ghosts-one_owned

@@ -1,6 +1,5 @@
-use Rattle.std.proofs.Common.{◌∷◌, ◌++◌, [], ◌∙◌, List, sym, ap, arith, append_assoc, append-nil}
-use Rattle.std.proofs.lemmas.List.{nil_from_length}
-use Rattle.chip_net.specs.Tokens.{ActorKnown}
+use Rattle.chip_net.proofs.Names.{◌∷◌, ◌++◌, [], ◌∙◌, List, sym, ap, arith, append_assoc, append-nil, nil_from_length}
+use Rattle.chip_net.proofs.Names.{ActorKnown}
 use Rattle.chip_net.proofs.open.box_all.Goals as goal
 
 pub loop-owned-init : goal.loop-owned-init

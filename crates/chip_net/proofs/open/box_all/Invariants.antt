@@ -1,4 +1,4 @@
-use Rattle.std.proofs.Common.{◌≡◌, ◌++◌}
+use Rattle.chip_net.proofs.Names.{◌≡◌, ◌++◌}
 use Rattle.chip_net.proofs.open.box_all.Given as goal
 
 abbrev pub invariant-loop-owned : goal.invariant-loop-owned

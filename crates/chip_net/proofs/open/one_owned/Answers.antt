@@ -1,8 +1,4 @@
-use Rattle.std.proofs.Common.{ℕ, Bool, ◌∙◌, subst, arith}
-use Rattle.chip_graph.specs.ChipGame.{ChipGame}
-use Rattle.chip_part.specs.Setting.{setting_with}
-use Rattle.chip_part.specs.Part.{opening_part}
-use Rattle.chip_actor.specs.Actor.{StandsFor}
+use Rattle.chip_net.proofs.Names.{ℕ, Bool, ◌∙◌, subst, arith, ChipGame, setting_with, opening_part, StandsFor}
 use Rattle.chip_net.proofs.open.one_owned.Goals as goal
 
 pub returns-in_err-state-clause-others : goal.returns-in_err-state-clause-others

@@ -1,9 +1,5 @@
-use Rattle.std.proofs.Common.{◌≡◌, ◌+◌, ℕ, List, get_or, set, sym, ap, ◌∙◌, subst, arith}
-use Rattle.chip_graph.specs.ChipGame.{ChipGame}
-use Rattle.chip_part.specs.Edges.{graph_edges, start_of}
-use Rattle.chip_core.specs.Words.{of_cell}
-use Rattle.chip_net.specs.Layout.{index_of}
-use Rattle.chip_net.specs.Opening.{AreOpening}
+use Rattle.chip_net.proofs.Names.{◌≡◌, ◌+◌, ℕ, List, get_or, set, sym, ap, ◌∙◌, subst, arith, ChipGame, graph_edges}
+use Rattle.chip_net.proofs.Names.{start_of, of_cell, index_of, AreOpening}
 use Rattle.chip_net.proofs.OpeningLemmas.{opens_message}
 use Rattle.chip_net.proofs.open.open_edge.Goals as goal
 

@@ -1,6 +1,4 @@
-use Rattle.std.proofs.Common.{◌+◌}
-use Rattle.chip_part.specs.Edges.{graph_edges}
-use Rattle.chip_net.specs.Opening.{AreOpening}
+use Rattle.chip_net.proofs.Names.{◌+◌, graph_edges, AreOpening}
 use Rattle.chip_net.proofs.open.opening_words.Given as goal
 
 abbrev pub invariant-loop-vertex : goal.invariant-loop-vertex

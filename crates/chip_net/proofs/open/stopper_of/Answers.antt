@@ -1,8 +1,5 @@
-use Rattle.std.proofs.Common.{ℕ, [], Some, None, sym, ap, ◌∙◌, arith}
-use Rattle.chip_part.specs.Edges.{root}
-use Rattle.chip_net.specs.Views.{find}
+use Rattle.chip_net.proofs.Names.{ℕ, [], Some, None, sym, ap, ◌∙◌, arith, root, find, cond-true}
 use Rattle.chip_net.proofs.open.stopper_of.Goals as goal
-use Rattle.std.proofs.lemmas.Bool.{cond-true}
 
 pub returns-clause-root : goal.returns-clause-root
 returns-clause-root g c =

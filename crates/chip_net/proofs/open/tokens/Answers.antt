@@ -1,5 +1,4 @@
-use Rattle.std.proofs.Common.{◌+◌, ap, ◌∙◌}
-use Rattle.chip_net.specs.Views.{View, find}
+use Rattle.chip_net.proofs.Names.{◌+◌, ap, ◌∙◌, View, find}
 use Rattle.chip_net.proofs.ViewingLemmas.{part_there}
 use Rattle.chip_net.proofs.open.tokens.Goals as goal
 

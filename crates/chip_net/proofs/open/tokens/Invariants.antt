@@ -1,4 +1,4 @@
-use Rattle.chip_part.specs.Edges.{stopper}
+use Rattle.chip_net.proofs.Names.{stopper}
 use Rattle.chip_net.proofs.open.tokens.Given as goal
 
 abbrev pub ghosts-stopper_of : goal.ghosts-stopper_of

@@ -1,21 +1,9 @@
-use Rattle.std.proofs.Common.{◌≡◌, ℕ, List, length, sym, ap, ◌∙◌, subst, arith}
-use Rattle.std.specs.Vec.{with_items}
-use Rattle.std.proofs.lemmas.List.{with_items_is, length-map}
-use Rattle.chip_graph.specs.ChipGame.{ChipGame}
-use Rattle.chip_graph.specs.Multigraph.{Multigraph}
-use Rattle.chip_link.specs.Words.{fired_in}
-use Rattle.chip_sequence.specs.declared.outcome.Outcome.{Outcome}
-use Rattle.chip_sequence.specs.Counted.{IsAfter, game_from}
-use Rattle.chip_sequence.specs.Faults.{IsNegative}
-use Rattle.chip_sequence.proofs.AfterLemmas.{no_fault}
-use Rattle.chip_part.specs.Setting.{Setting}
-use Rattle.chip_part.specs.Part.{AreGiven}
-use Rattle.chip_net.specs.Tokens.{NetId}
-use Rattle.chip_net.specs.Roots.{RootKnown, root_part}
-use Rattle.chip_net.specs.Finish.{ReadingsState, IsReading}
+use Rattle.chip_net.proofs.Names.{◌≡◌, ℕ, List, length, sym, ap, ◌∙◌, subst, arith, with_items, with_items_is}
+use Rattle.chip_net.proofs.Names.{length-map, ChipGame, Multigraph, fired_in, Outcome, IsAfter, game_from, IsNegative}
+use Rattle.chip_net.proofs.Names.{no_fault, Setting, AreGiven, NetId, RootKnown, root_part, ReadingsState, IsReading}
 use Rattle.chip_net.proofs.FinishingLemmas.{few, game, none_negative, finishes}
-use Rattle.chip_net.proofs.root.read_outcome.Goals as goal
 use Rattle.chip_net.proofs.root.read_outcome.Goals.{After-deref_mut}
+use Rattle.chip_net.proofs.root.read_outcome.Goals as goal
 
 -- the receipt begins as the root
 reading : (c : After-deref_mut)

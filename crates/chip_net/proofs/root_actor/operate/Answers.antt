@@ -1,5 +1,4 @@
-use Rattle.std.proofs.Common.{refl, subst}
-use Rattle.chip_net.specs.Roots.{IsDueInView}
+use Rattle.chip_net.proofs.Names.{refl, subst, IsDueInView}
 use Rattle.chip_net.proofs.RootingLemmas.{feeding_asked, store_asked}
 use Rattle.chip_net.proofs.root_actor.operate.Goals as goal
 

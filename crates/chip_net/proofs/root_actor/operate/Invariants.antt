@@ -1,4 +1,4 @@
-use Rattle.chip_net.specs.Rule.{Grows}
+use Rattle.chip_net.proofs.Names.{Grows}
 use Rattle.chip_net.proofs.root_actor.operate.Given as goal
 
 abbrev pub ghosts-load : goal.ghosts-load

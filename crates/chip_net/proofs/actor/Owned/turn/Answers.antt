@@ -1,14 +1,11 @@
-use Rattle.std.proofs.Common.{◌≡◌, ◌<◌, ◌∙◌, sym, ap, subst, arith}
-use Rattle.chip_actor.specs.Actor.{StandsFor}
-use Rattle.chip_part.specs.Setting.{Setting}
-use Rattle.chip_core.specs.Core.{Part}
-use Rattle.chip_net.specs.declared.actor.Turn.{Turn}
-use Rattle.chip_net.specs.Tokens.{NetId, ActorKnown, MakesTurn, MakesTurnBy, known, part_known}
+use Rattle.chip_net.proofs.Names.{◌≡◌, ◌<◌, ◌∙◌, sym, ap, subst, arith, StandsFor, Setting, Part, Turn, NetId}
+use Rattle.chip_net.proofs.Names.{ActorKnown, MakesTurn, MakesTurnBy, known, part_known}
 use Rattle.chip_net.specs.contracts.actor.Owned.{the_view}
 use Rattle.chip_net.proofs.LayingLemmas.{some_words}
 use Rattle.chip_net.proofs.AnsweringLemmas.{own_is, alone_has_part, worked, waiting, idle}
+use Rattle.chip_net.proofs.actor.Owned.turn.Goals.{then-work-gt0, else-work-gt0+then-passive}
+use Rattle.chip_net.proofs.actor.Owned.turn.Goals.{else-work-gt0+else-passive}
 use Rattle.chip_net.proofs.actor.Owned.turn.Goals as goal
-use Rattle.chip_net.proofs.actor.Owned.turn.Goals.{then-work-gt0, else-work-gt0+then-passive, else-work-gt0+else-passive}
 
 pub returns-clause-turn : goal.returns-clause-turn
 returns-clause-turn c =

@@ -1,5 +1,4 @@
-use Rattle.std.proofs.Common.{◌<◌, subst}
-use Rattle.chip_net.specs.Tokens.{NetId}
+use Rattle.chip_net.proofs.Names.{◌<◌, subst, NetId}
 use Rattle.chip_net.proofs.LayingLemmas.{some_words}
 use Rattle.chip_net.proofs.SplittingLemmas.{may_enter}
 use Rattle.chip_net.proofs.net.Net.empty_seat.Goals as goal

@@ -1,5 +1,4 @@
-use Rattle.std.proofs.Common.{◌≡◌, []}
-use Rattle.chip_net.specs.Views.{no_parts}
+use Rattle.chip_net.proofs.Names.{◌≡◌, [], no_parts}
 use Rattle.chip_net.proofs.net.Net.empty_seat.Given as goal
 
 abbrev pub ghosts-load_new_seat : goal.ghosts-load_new_seat

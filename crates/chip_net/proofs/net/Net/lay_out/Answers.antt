@@ -1,10 +1,4 @@
-use Rattle.std.proofs.Common.{[], sym, subst}
-use Rattle.atomic_table.specs.Table.{opening}
-use Rattle.chip_part.specs.Setting.{Setting}
-use Rattle.chip_part.specs.Edges.{all_edges}
-use Rattle.chip_net.specs.Opening.{AreOpening}
-use Rattle.chip_net.specs.Views.{opening_view}
-use Rattle.chip_net.specs.Rule.{Kept}
+use Rattle.chip_net.proofs.Names.{[], sym, subst, opening, Setting, all_edges, AreOpening, opening_view, Kept}
 use Rattle.chip_net.proofs.OpeningLemmas.{opens}
 use Rattle.chip_net.proofs.net.Net.lay_out.Goals as goal
 

@@ -1,5 +1,4 @@
-use Rattle.std.proofs.Common.{sym, ap, ◌∙◌}
-use Rattle.chip_net.specs.Tokens.{NetId}
+use Rattle.chip_net.proofs.Names.{sym, ap, ◌∙◌, NetId}
 use Rattle.chip_net.proofs.LayingLemmas.{some_words}
 use Rattle.chip_net.proofs.MeetingLemmas.{may_look}
 use Rattle.chip_net.proofs.net.Net.look.Goals as goal

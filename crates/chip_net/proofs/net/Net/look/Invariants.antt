@@ -1,4 +1,4 @@
-use Rattle.chip_net.specs.Rule.{Looks}
+use Rattle.chip_net.proofs.Names.{Looks}
 use Rattle.chip_net.proofs.net.Net.look.Given as goal
 
 abbrev pub ghosts-load : goal.ghosts-load

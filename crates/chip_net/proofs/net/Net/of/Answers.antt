@@ -1,5 +1,4 @@
-use Rattle.std.proofs.Common.{◌<◌, ◌∙◌, ap, subst, sym}
-use Rattle.chip_part.specs.Setting.{Setting}
+use Rattle.chip_net.proofs.Names.{◌<◌, ◌∙◌, ap, subst, sym, Setting}
 use Rattle.chip_net.proofs.net.Net.of.Goals as goal
 
 pub returns : goal.returns

@@ -1,6 +1,4 @@
-use Rattle.std.proofs.Common.{sym, ap, ◌∙◌, subst}
-use Rattle.chip_net.specs.Tokens.{NetId}
-use Rattle.chip_net.specs.Views.{find, did_in, IsAlone, Mine}
+use Rattle.chip_net.proofs.Names.{sym, ap, ◌∙◌, subst, NetId, find, did_in, IsAlone, Mine}
 use Rattle.chip_net.proofs.LayingLemmas.{some_words}
 use Rattle.chip_net.proofs.SplittingLemmas.{takes_out}
 use Rattle.chip_net.proofs.ViewingLemmas.{dropped_here, dropped_else, taken_alone, alone_has}

@@ -1,4 +1,4 @@
-use Rattle.chip_core.specs.Core.{Ack}
+use Rattle.chip_net.proofs.Names.{Ack}
 use Rattle.chip_net.proofs.LayingLemmas.{by_word}
 use Rattle.chip_net.proofs.net_words.NetWordsMedium.ack.Given as goal
 

@@ -1,4 +1,4 @@
-use Rattle.chip_core.specs.Core.{Claim}
+use Rattle.chip_net.proofs.Names.{Claim}
 use Rattle.chip_net.proofs.LayingLemmas.{by_word}
 use Rattle.chip_net.proofs.net_words.NetWordsMedium.claim.Given as goal
 

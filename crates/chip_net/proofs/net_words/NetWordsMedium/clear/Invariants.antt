@@ -1,4 +1,4 @@
-use Rattle.chip_core.specs.Core.{Clear}
+use Rattle.chip_net.proofs.Names.{Clear}
 use Rattle.chip_net.proofs.LayingLemmas.{by_word}
 use Rattle.chip_net.proofs.net_words.NetWordsMedium.clear.Given as goal
 

@@ -1,5 +1,4 @@
-use Rattle.std.proofs.Common.{refl}
-use Rattle.chip_core.specs.Core.{Fire}
+use Rattle.chip_net.proofs.Names.{refl, Fire}
 use Rattle.chip_net.proofs.ActingLemmas.{may_step, serves}
 use Rattle.chip_net.proofs.net_words.NetWordsMedium.fire.Goals as goal
 

@@ -1,4 +1,4 @@
-use Rattle.chip_core.specs.Core.{Fire}
+use Rattle.chip_net.proofs.Names.{Fire}
 use Rattle.chip_net.proofs.LayingLemmas.{by_word}
 use Rattle.chip_net.proofs.net_words.NetWordsMedium.fire.Given as goal
 

@@ -1,4 +1,4 @@
-use Rattle.chip_core.specs.Core.{Halt}
+use Rattle.chip_net.proofs.Names.{Halt}
 use Rattle.chip_net.proofs.LayingLemmas.{by_word}
 use Rattle.chip_net.proofs.net_words.NetWordsMedium.halt.Given as goal
 

@@ -1,5 +1,4 @@
-use Rattle.std.proofs.Common.{refl}
-use Rattle.chip_core.specs.Core.{Put}
+use Rattle.chip_net.proofs.Names.{refl, Put}
 use Rattle.chip_net.proofs.ActingLemmas.{may_step, serves, keeps_none}
 use Rattle.chip_net.proofs.net_words.NetWordsMedium.put.Goals as goal
 

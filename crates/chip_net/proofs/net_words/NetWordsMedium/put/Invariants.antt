@@ -1,4 +1,4 @@
-use Rattle.chip_core.specs.Core.{Put}
+use Rattle.chip_net.proofs.Names.{Put}
 use Rattle.chip_net.proofs.LayingLemmas.{by_word}
 use Rattle.chip_net.proofs.net_words.NetWordsMedium.put.Given as goal
 

@@ -1,4 +1,4 @@
-use Rattle.chip_core.specs.Core.{Take}
+use Rattle.chip_net.proofs.Names.{Take}
 use Rattle.chip_net.proofs.LayingLemmas.{by_word}
 use Rattle.chip_net.proofs.net_words.NetWordsMedium.take.Given as goal
 

@@ -1,5 +1,4 @@
-use Rattle.std.proofs.Common.{◌≡◌, ℕ, length, ap, ◌∙◌, arith}
-use Rattle.std.proofs.lemmas.List.{length-replicate}
+use Rattle.chip_net.proofs.Names.{◌≡◌, ℕ, length, ap, ◌∙◌, arith, length-replicate}
 use Rattle.chip_net.proofs.readings.Readings.new.Goals as goal
 
 pub invariant_of-result : goal.invariant_of-result

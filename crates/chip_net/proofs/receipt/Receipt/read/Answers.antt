@@ -1,22 +1,12 @@
-use Rattle.std.proofs.Common.{◌≡◌, ◌<◌, refl, sym, ap, ◌∙◌, subst}
-use Rattle.chip_part.specs.Setting.{Setting}
-use Rattle.chip_part.specs.Edges.{root, stopper}
-use Rattle.chip_part.specs.Steps.{saw}
-use Rattle.chip_part.proofs.RuleLemmas.{met_rules}
-use Rattle.chip_core.specs.Core.{Read, Fits}
-use Rattle.chip_core.specs.Words.{of_vertex}
-use Rattle.chip_net.specs.Layout.{index_of}
-use Rattle.chip_net.specs.Views.{did_in}
-use Rattle.chip_net.specs.Rule.{SomeLog}
-use Rattle.chip_net.specs.Tokens.{NetId}
-use Rattle.chip_net.specs.Roots.{RootKnown, root_part, IsOver}
-use Rattle.chip_net.specs.Finish.{HasDoneIn}
+use Rattle.chip_net.proofs.Names.{◌≡◌, ◌<◌, refl, sym, ap, ◌∙◌, subst, Setting, root, stopper, saw, met_rules, Read}
+use Rattle.chip_net.proofs.Names.{Fits, of_vertex, index_of, did_in, SomeLog, NetId, RootKnown, root_part, IsOver}
+use Rattle.chip_net.proofs.Names.{HasDoneIn}
 use Rattle.chip_net.specs.contracts.receipt.Receipt.{the_view}
 use Rattle.chip_net.proofs.RulingLemmas.{Due, words_at, Made, made, event_asked, event_told}
 use Rattle.chip_net.proofs.RootingLemmas.{known_after}
 use Rattle.chip_net.proofs.FinishingLemmas.{fired_word_is}
-use Rattle.chip_net.proofs.receipt.Receipt.read.Goals as goal
 use Rattle.chip_net.proofs.receipt.Receipt.read.Goals.{After-words, After-load}
+use Rattle.chip_net.proofs.receipt.Receipt.read.Goals as goal
 
 -- the receipt is of this net
 net_is : (c : After-words) → (the_view c.self.inside).net ≡ c.args.net.now

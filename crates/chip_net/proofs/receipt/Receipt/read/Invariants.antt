@@ -1,4 +1,4 @@
-use Rattle.chip_core.specs.Core.{Read}
+use Rattle.chip_net.proofs.Names.{Read}
 use Rattle.chip_net.proofs.LayingLemmas.{by_word}
 use Rattle.chip_net.proofs.receipt.Receipt.read.Given as goal
 

@@ -1,10 +1,5 @@
-use Rattle.std.proofs.Common.{◌≡◌, ◌+◌, Option, sym, ◌∙◌, subst}
-use Rattle.std.specs.Prelude.{IfSome}
-use Rattle.chip_link.specs.declared.words.FiredWord.{FiredWord}
-use Rattle.chip_link.specs.Words.{fired_in, is_halted_in, is_by_limit_in}
-use Rattle.chip_part.specs.Setting.{IsSetting}
-use Rattle.chip_net.specs.Tokens.{NetId}
-use Rattle.chip_net.specs.Finish.{ReadingsState, readings_after, IsReading}
+use Rattle.chip_net.proofs.Names.{◌≡◌, ◌+◌, Option, sym, ◌∙◌, subst, IfSome, FiredWord, fired_in, is_halted_in}
+use Rattle.chip_net.proofs.Names.{is_by_limit_in, IsSetting, NetId, ReadingsState, readings_after, IsReading}
 use Rattle.chip_net.proofs.ReadingLemmas.{still_over, reads_more}
 use Rattle.chip_net.proofs.receipt.Receipt.read_all.Goals as goal
 

@@ -1,7 +1,5 @@
-use Rattle.std.proofs.Common.{◌≡◌, ◌-◌, refl, sym, ap, ◌∙◌, subst}
-use Rattle.chip_net.specs.Tokens.{NetId}
-use Rattle.chip_net.specs.Finish.{no_readings}
-use Rattle.chip_net.specs.Roots.{RootKnown, HoldsNothing, DoesMore, settles_from, Ends}
+use Rattle.chip_net.proofs.Names.{◌≡◌, ◌-◌, refl, sym, ap, ◌∙◌, subst, NetId, no_readings, RootKnown, HoldsNothing}
+use Rattle.chip_net.proofs.Names.{DoesMore, settles_from, Ends}
 use Rattle.chip_net.proofs.RootingLemmas.{does_one, does_all, holds_by, stays_over, over_by_end}
 use Rattle.chip_net.proofs.root.Root.end.Goals as goal
 

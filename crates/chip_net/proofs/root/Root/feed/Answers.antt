@@ -1,12 +1,8 @@
-use Rattle.std.proofs.Common.{◌≡◌, ◌<◌, sym, ap, ◌∙◌, subst}
-use Rattle.chip_part.specs.Setting.{Setting}
-use Rattle.chip_part.specs.Edges.{root_edge}
-use Rattle.chip_net.specs.Finish.{no_readings}
-use Rattle.chip_net.specs.Tokens.{NetId}
-use Rattle.chip_net.specs.Roots.{RootKnown, HoldsNothing, Feeds}
+use Rattle.chip_net.proofs.Names.{◌≡◌, ◌<◌, sym, ap, ◌∙◌, subst, Setting, root_edge, no_readings, NetId, RootKnown}
+use Rattle.chip_net.proofs.Names.{HoldsNothing, Feeds}
 use Rattle.chip_net.proofs.SendingLemmas.{MayFeed, look_due, look_done, due2, due3, free1, free3, feeds}
-use Rattle.chip_net.proofs.root.Root.feed.Goals as goal
 use Rattle.chip_net.proofs.root.Root.feed.Goals.{In_ok-may_feed}
+use Rattle.chip_net.proofs.root.Root.feed.Goals as goal
 
 view_is : (c : In_ok-may_feed) → c.deref_mut-actor.result.now ≡ c.args.self.now
 view_is c = c.deref_mut-actor.ensures.value ∙ c.self.view_is

@@ -1,6 +1,4 @@
-use Rattle.std.proofs.Common.{refl, sym, ap, ◌∙◌, subst}
-use Rattle.chip_net.specs.Finish.{no_readings}
-use Rattle.chip_net.specs.Roots.{RootKnown, HoldsNothing}
+use Rattle.chip_net.proofs.Names.{refl, sym, ap, ◌∙◌, subst, no_readings, RootKnown, HoldsNothing}
 use Rattle.chip_net.proofs.root.Root.new.Goals as goal
 
 pub invariant_of-result : goal.invariant_of-result

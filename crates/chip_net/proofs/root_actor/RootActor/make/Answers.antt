@@ -1,18 +1,9 @@
-use Rattle.std.proofs.Common.{◌≡◌, ℕ, sym, ap, ◌∙◌, subst}
-use Rattle.chip_part.specs.Setting.{Setting}
-use Rattle.chip_part.specs.Edges.{root}
-use Rattle.chip_root.specs.Root.{RootCanDo, RootMakes}
-use Rattle.chip_core.specs.Core.{Event}
-use Rattle.chip_core.specs.Words.{word_to_note}
-use Rattle.chip_net.specs.Rule.{Grows}
-use Rattle.chip_net.specs.Views.{part_of_view}
-use Rattle.chip_net.specs.Tokens.{NetId}
-use Rattle.chip_net.specs.Roots.{RootKnown, IsDueForRoot}
-use Rattle.chip_net.specs.contracts.root_actor.RootActor.{the_view}
+use Rattle.chip_net.proofs.Names.{◌≡◌, ℕ, sym, ap, ◌∙◌, subst, Setting, root, RootCanDo, RootMakes, Event, word_to_note}
+use Rattle.chip_net.proofs.Names.{Grows, part_of_view, NetId, RootKnown, IsDueForRoot, the_view}
 use Rattle.chip_net.proofs.RulingLemmas.{Due}
 use Rattle.chip_net.proofs.RootingLemmas.{feeding_mine, feeding_due, can, still_root, replies}
-use Rattle.chip_net.proofs.root_actor.RootActor.make.Goals as goal
 use Rattle.chip_net.proofs.root_actor.RootActor.make.Goals.{After-operate-seen}
+use Rattle.chip_net.proofs.root_actor.RootActor.make.Goals as goal
 
 may : (g : _) (c : After-operate-seen g) → IsDueForRoot (the_view c.self.inside) c.args.event
 may g c = subst (λ (r : RootKnown). IsDueForRoot r c.args.event) (sym c.self.view_is) c.requires.due

@@ -1,13 +1,8 @@
-use Rattle.std.proofs.Common.{◌≡◌, ◌<◌, refl, sym, ap, ◌∙◌, subst, arith}
-use Rattle.std.specs.Prelude.{Result}
-use Rattle.chip_part.specs.declared.act.Act.{Act}
-use Rattle.chip_part.specs.declared.rule.Rule.{Rule}
-use Rattle.chip_part.specs.Edges.{root_edge}
-use Rattle.chip_net.specs.Roots.{RootKnown, root_part, AllowsFeed}
-use Rattle.chip_net.specs.contracts.root_actor.RootActor.{the_view}
+use Rattle.chip_net.proofs.Names.{◌≡◌, ◌<◌, refl, sym, ap, ◌∙◌, subst, arith, Result, Act, Rule, root_edge, RootKnown}
+use Rattle.chip_net.proofs.Names.{root_part, AllowsFeed, the_view}
 use Rattle.chip_net.proofs.FeedingLemmas.{or_fault, feed_answer, allows_feed, given_is_fed}
-use Rattle.chip_net.proofs.root_actor.RootActor.may_feed.Goals as goal
 use Rattle.chip_net.proofs.root_actor.RootActor.may_feed.Goals.{After-may}
+use Rattle.chip_net.proofs.root_actor.RootActor.may_feed.Goals as goal
 
 allowed : (c : After-may) → AllowsFeed c.args.self.now c.args.count (feed_answer c.may.result)
 allowed c =

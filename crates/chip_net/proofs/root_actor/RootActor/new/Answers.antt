@@ -1,10 +1,5 @@
-use Rattle.std.proofs.Common.{ap, sym, ◌∙◌, subst, Some, List, []}
-use Rattle.chip_part.specs.Setting.{Setting}
-use Rattle.chip_root.specs.Root.{RootStandsFor}
-use Rattle.chip_core.specs.Core.{Step, opening_part}
-use Rattle.chip_core.specs.Histories.{part_by}
-use Rattle.chip_net.specs.Views.{steps_or_none}
-use Rattle.chip_net.specs.Roots.{IsRoot}
+use Rattle.chip_net.proofs.Names.{ap, sym, ◌∙◌, subst, Some, List, [], Setting, RootStandsFor, Step, opening_part}
+use Rattle.chip_net.proofs.Names.{part_by, steps_or_none, IsRoot}
 use Rattle.chip_net.proofs.root_actor.RootActor.new.Goals as goal
 
 pub invariant_of-result : goal.invariant_of-result

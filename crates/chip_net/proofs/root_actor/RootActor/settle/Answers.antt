@@ -1,16 +1,9 @@
-use Rattle.std.proofs.Common.{◌≡◌, ◌<◌, refl, sym, ap, ◌∙◌, subst}
-use Rattle.chip_part.specs.Edges.{root, root_edge}
-use Rattle.chip_core.specs.Core.{Settle}
-use Rattle.chip_core.specs.Words.{of_acks}
-use Rattle.chip_net.specs.Layout.{index_of}
-use Rattle.chip_net.specs.Views.{part_of_view}
-use Rattle.chip_net.specs.Rule.{Grows}
-use Rattle.chip_net.specs.Roots.{RootKnown}
-use Rattle.chip_net.specs.contracts.root_actor.RootActor.{the_view}
+use Rattle.chip_net.proofs.Names.{◌≡◌, ◌<◌, refl, sym, ap, ◌∙◌, subst, root, root_edge, Settle, of_acks, index_of}
+use Rattle.chip_net.proofs.Names.{part_of_view, Grows, RootKnown, the_view}
 use Rattle.chip_net.proofs.RulingLemmas.{Due, words_at, event_asked, event_told}
 use Rattle.chip_net.proofs.RootingLemmas.{settle_own, settle_due, can, still_root, makes_event, settles_at}
-use Rattle.chip_net.proofs.root_actor.RootActor.settle.Goals as goal
 use Rattle.chip_net.proofs.root_actor.RootActor.settle.Goals.{After-words, After-load-seen}
+use Rattle.chip_net.proofs.root_actor.RootActor.settle.Goals as goal
 
 -- the root is of this net
 net_is : (c : After-words) → (the_view c.self.inside).net ≡ c.args.net.now

@@ -1,4 +1,4 @@
-use Rattle.chip_core.specs.Core.{Settle}
+use Rattle.chip_net.proofs.Names.{Settle}
 use Rattle.chip_net.proofs.LayingLemmas.{by_word}
 use Rattle.chip_net.proofs.root_actor.RootActor.settle.Given as goal
 

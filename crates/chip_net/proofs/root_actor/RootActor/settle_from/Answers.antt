@@ -1,10 +1,5 @@
-use Rattle.std.proofs.Common.{◌≡◌, ◌-◌, refl, sym, ap, ◌∙◌, arith}
-use Rattle.chip_part.specs.Setting.{Setting}
-use Rattle.chip_part.specs.Edges.{root_edge}
-use Rattle.chip_core.specs.Words.{of_acks}
-use Rattle.chip_net.specs.Layout.{index_of}
-use Rattle.chip_net.specs.Roots.{settles_from}
-use Rattle.chip_net.specs.Tokens.{NetId}
+use Rattle.chip_net.proofs.Names.{◌≡◌, ◌-◌, refl, sym, ap, ◌∙◌, arith, Setting, root_edge, of_acks, index_of}
+use Rattle.chip_net.proofs.Names.{settles_from, NetId}
 use Rattle.chip_net.proofs.RootingLemmas.{does_none, does_net, settles_more, holds_by}
 use Rattle.chip_net.proofs.root_actor.RootActor.settle_from.Goals as goal
 

@@ -1,5 +1,4 @@
-use Rattle.std.proofs.Common.{◌-◌, ◌≤◌}
-use Rattle.chip_net.specs.Roots.{DoesMore, settles_from, HoldsNothing}
+use Rattle.chip_net.proofs.Names.{◌-◌, ◌≤◌, DoesMore, settles_from, HoldsNothing}
 use Rattle.chip_net.proofs.root_actor.RootActor.settle_from.Given as goal
 
 abbrev pub invariant-loop-vertex : goal.invariant-loop-vertex

@@ -1,12 +1,9 @@
-use Rattle.std.proofs.Common.{◌≡◌, sym, ap, ◌∙◌, subst}
-use Rattle.chip_part.specs.Edges.{stopper}
-use Rattle.chip_net.specs.Tokens.{NetId}
-use Rattle.chip_net.specs.Views.{Mine, IsAlone, did_in}
-use Rattle.chip_net.specs.Roots.{RootKnown, IsRoot, known_root, with_stopper}
+use Rattle.chip_net.proofs.Names.{◌≡◌, sym, ap, ◌∙◌, subst, stopper, NetId, Mine, IsAlone, did_in, RootKnown, IsRoot}
+use Rattle.chip_net.proofs.Names.{known_root, with_stopper}
 use Rattle.chip_net.proofs.ViewingLemmas.{alone_by, did_alone}
 use Rattle.chip_net.proofs.RootingLemmas.{takes_back, has_both}
-use Rattle.chip_net.proofs.root_actor.RootActor.take_back.Goals as goal
 use Rattle.chip_net.proofs.root_actor.RootActor.take_back.Goals.{After-into_seat}
+use Rattle.chip_net.proofs.root_actor.RootActor.take_back.Goals as goal
 
 -- the stopper is of the root's net
 here : (c : After-into_seat) → c.args.stopper.net.setting ≡ c.self.inside.setting.value

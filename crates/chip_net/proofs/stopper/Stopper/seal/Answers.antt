@@ -1,16 +1,11 @@
-use Rattle.std.proofs.Common.{◌≡◌, ◌<◌, not, refl, sym, ap, ◌∙◌, arith}
-use Rattle.chip_part.specs.Edges.{graph_edges, stopper}
-use Rattle.chip_part.proofs.RuleLemmas.{met_rules}
-use Rattle.chip_core.specs.Core.{Seal}
-use Rattle.chip_net.specs.Rule.{Grows}
-use Rattle.chip_net.specs.Tokens.{NetId}
-use Rattle.chip_net.specs.Roots.{StopperKnown, stopper_part}
+use Rattle.chip_net.proofs.Names.{◌≡◌, ◌<◌, not, refl, sym, ap, ◌∙◌, arith, graph_edges, stopper, met_rules, Seal}
+use Rattle.chip_net.proofs.Names.{Grows, NetId, StopperKnown, stopper_part}
 use Rattle.chip_net.specs.contracts.stopper.Stopper.{the_view}
 use Rattle.chip_net.proofs.ViewingLemmas.{alone_there}
 use Rattle.chip_net.proofs.RulingLemmas.{Due, words_at, event_asked, event_told}
 use Rattle.chip_net.proofs.StoppingLemmas.{still_stopper, seals}
-use Rattle.chip_net.proofs.stopper.Stopper.seal.Goals as goal
 use Rattle.chip_net.proofs.stopper.Stopper.seal.Goals.{After-fetch_or-arg-1, After-fetch_or-before}
+use Rattle.chip_net.proofs.stopper.Stopper.seal.Goals as goal
 
 -- the stopper's net is this one
 net_is : (c : After-fetch_or-arg-1) → (the_view c.self.inside).net ≡ c.args.net.now

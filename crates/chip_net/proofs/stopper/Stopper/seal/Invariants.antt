@@ -1,4 +1,4 @@
-use Rattle.chip_core.specs.Core.{Seal}
+use Rattle.chip_net.proofs.Names.{Seal}
 use Rattle.chip_net.proofs.LayingLemmas.{by_word}
 use Rattle.chip_net.proofs.stopper.Stopper.seal.Given as goal
 

@@ -1,26 +1,15 @@
 -- Serves World.antt, TurnWords.antt, Rounds.antt.
 -- A world as one of its vertices makes an event, or a whole turn, over the shared words.
-use Rattle.std.proofs.Common.{◌≡◌, ◌≢◌, ℕ, ◌<◌, List, [], ◌∷◌, ◌++◌, reverse, get_or, set, Option, Some, None, refl}
-use Rattle.std.proofs.Common.{sym, ap, ◌∙◌, subst, arith, length-set, get_or-set_same, get_or-set_other}
-use Rattle.std.specs.Bool.{⊤}
-use Rattle.std.proofs.lemmas.List.{append_assoc, reverse-append}
-use mathlib.Core.Logic.{dite}
-use native.Mathlib.Decide.{ℕ_discrete}
-use Rattle.chip_part.specs.Setting.{Setting}
-use Rattle.chip_part.specs.declared.cursor.Cursor.TheVariants as At
-use Rattle.chip_root.specs.Root.{RootStandsFor}
-use Rattle.chip_actor.specs.Actor.{Actor, StandsFor, SomePart, WhateverPart}
-use Rattle.chip_actor.specs.Medium.{AreOf, Meets, MakesTurnOver, IsTurnMade}
-use Rattle.chip_actor.specs.Found.{MeetsEvent, MakesEvent, IsAnswered}
-use Rattle.chip_core.specs.Core.{Log, Step, Event, Reply, Rule, Part, part_of, part_in, unmet_rule, does, reply_of, sees}
-use Rattle.chip_core.specs.Core.{word_of_part, root, answer}
-use Rattle.chip_core.proofs.LogLemmas.{part_else}
-use Rattle.chip_part.specs.Steps.{saw}
-use Rattle.chip_world.specs.Makers.{vertex_of}
-use Rattle.chip_world.specs.World.{WorldState, StandsForLog, IsActor, MakesStep}
-use Rattle.chip_world.specs.TurnWords.{TurnWords, Holds}
-use Rattle.chip_world.specs.Rounds.{IsTurnAfter}
+use Rattle.chip_world.proofs.Names.{◌≡◌, ◌≢◌, ℕ, ◌<◌, List, [], ◌∷◌, ◌++◌, reverse, get_or, set, Option, Some, None}
+use Rattle.chip_world.proofs.Names.{refl, sym, ap, ◌∙◌, subst, arith, length-set, get_or-set_same, get_or-set_other, ⊤}
+use Rattle.chip_world.proofs.Names.{append_assoc, reverse-append, dite, ℕ_discrete, Setting, RootStandsFor, Actor}
+use Rattle.chip_world.proofs.Names.{StandsFor, SomePart, WhateverPart, AreOf, Meets, MakesTurnOver, IsTurnMade}
+use Rattle.chip_world.proofs.Names.{MeetsEvent, MakesEvent, IsAnswered, Log, Step, Event, Reply, Rule, Part, part_of}
+use Rattle.chip_world.proofs.Names.{part_in, unmet_rule, does, reply_of, sees, word_of_part, root, answer, part_else}
+use Rattle.chip_world.proofs.Names.{saw, vertex_of, WorldState, StandsForLog, IsActor, MakesStep, TurnWords, Holds}
+use Rattle.chip_world.proofs.Names.{IsTurnAfter}
 use Rattle.chip_world.proofs.VertexLemmas.{found}
+use Rattle.chip_part.specs.declared.cursor.Cursor.TheVariants as At
 
 -- the steps of one part leave every other as it was
 parts_stay : (g : Setting) (v u : ℕ) → u ≢ v → (more : List Step) → AreOf g v more → (log : Log)

@@ -1,30 +1,14 @@
 -- Serves Rounds.antt.
 -- More rounds than steps can count close the root.
-use Rattle.std.proofs.Common.{◌≡◌, ◌⊎◌, ℕ, zero, suc, ◌+◌, ◌-◌, ◌<◌, ◌≤◌, List, [], ◌∷◌, ◌++◌, length, reverse, Contains, refl, sym}
-use Rattle.std.proofs.Common.{ap, ◌∙◌, subst, arith, inl, inr, ⊎_elim, append_assoc, Option}
-use Rattle.std.proofs.lemmas.List.Elements.{Contains-append_left}
-use mathlib.Core.Logic.{dite}
-use native.Mathlib.Decide.{ℕ_discrete}
-use Rattle.chip_graph.specs.ChipGame.{IsGame}
-use Rattle.chip_part.specs.Setting.{Setting}
-use Rattle.chip_part.specs.Edges.{graph_edges, root_edge}
-use Rattle.chip_part.specs.Steps.{saw}
-use Rattle.chip_part.specs.Turn.{IsTurn}
-use Rattle.chip_part.proofs.RuleLemmas.{met_rules}
-use Rattle.chip_core.specs.Core.{Log, Step, Settle, Rule, part_in, sees, IsLegalLog, IsClosed, answer, log_after, tail_of}
-use Rattle.chip_core.specs.Histories.{done_by}
-use Rattle.chip_core.specs.Work.{work_in, steps_at_most, fed_so_far, AreFiringBounds}
-use Rattle.chip_core.specs.Closing.{HasEnd, RootHasPut, HasTurn, HasRound}
-use Rattle.chip_core.proofs.LogLemmas.{part_kept}
-use Rattle.chip_core.proofs.ReachingLemmas.{run_legal}
-use Rattle.chip_core.proofs.ReplyLemmas.{log_after-append}
-use Rattle.chip_core.proofs.IdleLemmas.{work_grows}
-use Rattle.chip_core.proofs.RoundLemmas.{round_closes}
-use Rattle.chip_core.proofs.ScheduleLemmas.{ends_longer, few_after}
-use Rattle.chip_world.specs.declared.world.driving.Drive.{Drive}
-use Rattle.chip_world.specs.declared.world.driving.Drive.TheVariants.{Closed, Unfinished}
-use Rattle.chip_world.specs.Rounds.{AreTurns, root_settles, IsRound, AreRounds}
-use Rattle.chip_world.specs.Rounds.{IsDrive}
+use Rattle.chip_world.proofs.Names.{◌≡◌, ◌⊎◌, ℕ, zero, suc, ◌+◌, ◌-◌, ◌<◌, ◌≤◌, List, [], ◌∷◌, ◌++◌, length, reverse}
+use Rattle.chip_world.proofs.Names.{refl, sym, ap, ◌∙◌, subst, arith, inl, inr, ⊎_elim, append_assoc, Option}
+use Rattle.chip_world.proofs.Names.{Contains-append_left, dite, ℕ_discrete, IsGame, Setting, graph_edges, root_edge}
+use Rattle.chip_world.proofs.Names.{saw, IsTurn, met_rules, Log, Step, Settle, Rule, part_in, sees, IsLegalLog}
+use Rattle.chip_world.proofs.Names.{IsClosed, answer, log_after, tail_of, done_by, work_in, steps_at_most, fed_so_far}
+use Rattle.chip_world.proofs.Names.{AreFiringBounds, HasEnd, RootHasPut, HasTurn, HasRound, part_kept, run_legal}
+use Rattle.chip_world.proofs.Names.{log_after-append, work_grows, round_closes, ends_longer, few_after, Drive, Closed}
+use Rattle.chip_world.proofs.Names.{Unfinished, AreTurns, root_settles, IsRound, AreRounds, IsDrive}
+use Rattle.std.proofs.Common.{Contains}
 use Rattle.chip_world.proofs.OwnTurnLemmas.{turn_is_own, done_turn}
 
 module _ (g : Setting) (game : IsGame g.game) (some_ring : 0 < g.ring) where

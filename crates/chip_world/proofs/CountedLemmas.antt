@@ -1,14 +1,7 @@
 -- Serves World.antt.
 -- The head of an edge keeps books of it.
-use Rattle.std.proofs.Common.{◌≡◌, ℕ, get_or, Some, sym, ◌∙◌}
-use Rattle.std.specs.List.{Contains}
-use Rattle.chip_part.specs.Setting.{Setting}
-use Rattle.chip_part.specs.Edges.{head_if}
-use Rattle.chip_detect.specs.Books.{in_edges}
-use Rattle.chip_actor.specs.Actor.{Actor}
-use Rattle.chip_actor.proofs.StandingLemmas.{books_in}
-use Rattle.chip_core.specs.Core.{Log, Take, part_in}
-use Rattle.chip_world.specs.World.{WorldState, StandsForLog}
+use Rattle.chip_world.proofs.Names.{◌≡◌, ℕ, get_or, Some, sym, ◌∙◌, Contains, Setting, head_if, in_edges, Actor}
+use Rattle.chip_world.proofs.Names.{books_in, Log, Take, part_in, WorldState, StandsForLog}
 use Rattle.chip_world.proofs.ActorLemmas.{maker}
 
 pub has_books : (g : Setting) (log : Log) (w : WorldState) → StandsForLog g log w → (e v : ℕ) (a : Actor)

@@ -1,27 +1,13 @@
 -- Serves Rounds.antt.
 -- A turn, a round and a drive follow from the log before them.
-use Rattle.std.proofs.Common.{◌≡◌, ℕ, zero, suc, ◌<◌, ◌≤◌, Bool, true, false, not, eqb, List, [], ◌∷◌, ◌++◌, reverse, Option}
-use Rattle.std.proofs.Common.{Some, None, refl, sym, ap, ◌∙◌, subst, arith, append_assoc}
-use Rattle.std.proofs.lemmas.Grind.{reverse_onto}
-use mathlib.Core.Logic.{dite}
-use native.Mathlib.Decide.{ℕ_discrete, dec_lt}
-use Rattle.chip_part.specs.Setting.{Setting}
-use Rattle.chip_part.specs.Part.{Part, may_ack}
-use Rattle.chip_part.specs.Edges.{head_of}
-use Rattle.chip_part.specs.Rules.{Event, Ack}
-use Rattle.chip_part.specs.Turn.{Phase, nothing, either_phase, and_then}
-use Rattle.chip_part.specs.Turn.{seeing, one_step}
-use Rattle.chip_part.specs.Turn.{acknowledging_parent}
-use Rattle.chip_part.specs.Turn.{turn}
-use Rattle.chip_part.specs.Steps.{saw}
-use Rattle.chip_part.proofs.PhaseLemmas.{of_turn}
-use Rattle.chip_core.proofs.LogLemmas.{legal_before}
-use Rattle.chip_core.specs.Core.{Log, Step, does, part_in, Fits, IsLegalLog, log_after}
-use Rattle.chip_world.specs.declared.world.driving.Drive.{Drive}
-use Rattle.chip_world.specs.declared.world.driving.Drive.TheVariants.{Closed, Unfinished}
-use Rattle.chip_world.specs.World.{WorldState, StandsForLog}
-use Rattle.chip_world.specs.Rounds.{Leads, NoOtherDrive, IsTurnAfter, AreTurns, IsRound, AreRounds, AnswersDrive}
-use Rattle.chip_world.specs.Rounds.{IsDrive, IsOpen, root_settles}
+use Rattle.chip_world.proofs.Names.{◌≡◌, ℕ, zero, suc, ◌<◌, ◌≤◌, Bool, true, false, not, eqb, List, [], ◌∷◌, ◌++◌}
+use Rattle.chip_world.proofs.Names.{reverse, Option, Some, None, refl, sym, ap, ◌∙◌, subst, arith, append_assoc}
+use Rattle.chip_world.proofs.Names.{reverse_onto, dite, ℕ_discrete, dec_lt, Setting, Part, may_ack, head_of, Event, Ack}
+use Rattle.chip_world.proofs.Names.{Phase, nothing, either_phase, and_then, seeing, one_step, acknowledging_parent}
+use Rattle.chip_world.proofs.Names.{turn, saw, of_turn, legal_before, Log, Step, does, part_in, Fits, IsLegalLog}
+use Rattle.chip_world.proofs.Names.{log_after, Drive, Closed, Unfinished, WorldState, StandsForLog, Leads, NoOtherDrive}
+use Rattle.chip_world.proofs.Names.{IsTurnAfter, AreTurns, IsRound, AreRounds, AnswersDrive, IsDrive, IsOpen}
+use Rattle.chip_world.proofs.Names.{root_settles}
 
 module _ (g : Setting) where
   -- each event fits after the log and those in front of it

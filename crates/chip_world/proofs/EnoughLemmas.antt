@@ -1,18 +1,9 @@
 -- Serves Enough.antt.
 -- The rounds that surely close a game are more than its steps that count.
-use Rattle.std.proofs.Common.{◌≡◌, ℕ, zero, suc, ◌+◌, ◌*◌, ◌<◌, ◌≤◌, length, sum, min, arith, add-mul, suc-mul}
-use Rattle.chip_graph.specs.ChipGame.{IsGame}
-use Rattle.chip_graph.specs.Sums.{sum_below}
-use Rattle.chip_sequence.specs.Bound.{greatest_degree, firing_bound}
-use Rattle.chip_part.specs.Setting.{Setting}
-use Rattle.chip_core.specs.Core.{Log, IsLegalLog}
-use Rattle.chip_core.specs.Positions.{played_game}
-use Rattle.chip_core.specs.Work.{steps_at_most, fed_so_far}
-use Rattle.chip_core.proofs.WorkLemmas.{feeds_fit, distance_bounds}
-use Rattle.chip_world.specs.World.{WorldState}
-use Rattle.chip_world.specs.Rounds.{ClosesBy}
-use Rattle.chip_world.specs.Enough.{rounds_to_close, ClosesIn}
-use Rattle.chip_world.specs.declared.world.driving.Drive.{Drive}
+use Rattle.chip_world.proofs.Names.{◌≡◌, ℕ, zero, suc, ◌+◌, ◌*◌, ◌<◌, ◌≤◌, length, sum, min, arith, add-mul, suc-mul}
+use Rattle.chip_world.proofs.Names.{IsGame, sum_below, greatest_degree, firing_bound, Setting, Log, IsLegalLog}
+use Rattle.chip_world.proofs.Names.{played_game, steps_at_most, fed_so_far, feeds_fit, distance_bounds, WorldState}
+use Rattle.chip_world.proofs.Names.{ClosesBy, rounds_to_close, ClosesIn, Drive}
 
 alike : (n c : ℕ) → sum_below n (λ v. c) ≡ n * c
 alike zero c = Rattle.std.proofs.Common.sym (Rattle.std.proofs.Common.zero-mul c)

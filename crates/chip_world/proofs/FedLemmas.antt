@@ -1,24 +1,11 @@
 -- Serves Rounds.antt.
 -- Turns and rounds feed nothing.
-use Rattle.std.proofs.Common.{◌≡◌, ◌≢◌, ℕ, zero, suc, ◌<◌, ◌≤◌, List, [], ◌∷◌, ◌++◌, reverse, Option, Some, None}
-use Rattle.std.proofs.Common.{refl, sym, ap, ◌∙◌, subst, arith, append_assoc, append-nil}
-use Rattle.std.proofs.lemmas.List.{reverse-append}
-use Rattle.chip_graph.specs.ChipGame.{IsGame}
-use Rattle.chip_graph.proofs.SumLemmas.{cond_no}
-use Rattle.chip_part.specs.Setting.{Setting}
-use Rattle.chip_part.specs.Edges.{root_edge}
-use Rattle.chip_part.specs.Steps.{saw}
-use Rattle.chip_actor.specs.Medium.{AreOf}
-use Rattle.chip_core.specs.Core.{Log, Step, Settle, Rule, IsLegalLog, part_of, part_in, sees, root, tail_of}
-use Rattle.chip_core.specs.Core.{unmet_rule, answer, log_after}
-use Rattle.chip_core.specs.Histories.{done_by}
-use Rattle.chip_core.specs.Positions.{fed_in}
-use Rattle.chip_core.specs.Work.{fed_so_far}
-use Rattle.chip_core.proofs.GivenLemmas.{recorded_step}
-use Rattle.chip_core.proofs.LogLemmas.{part_kept}
-use Rattle.chip_core.proofs.ReachingLemmas.{run_legal}
-use Rattle.chip_core.proofs.ReplyLemmas.{log_after-append}
-use Rattle.chip_world.specs.Rounds.{AreTurns, root_settles, AreRounds}
+use Rattle.chip_world.proofs.Names.{◌≡◌, ◌≢◌, ℕ, zero, suc, ◌<◌, ◌≤◌, List, [], ◌∷◌, ◌++◌, reverse, Option, Some, None}
+use Rattle.chip_world.proofs.Names.{refl, sym, ap, ◌∙◌, subst, arith, append_assoc, append-nil, reverse-append, IsGame}
+use Rattle.chip_world.proofs.Names.{cond_no, Setting, root_edge, saw, AreOf, Log, Step, Settle, Rule, IsLegalLog}
+use Rattle.chip_world.proofs.Names.{part_of, part_in, sees, root, tail_of, unmet_rule, answer, log_after, done_by}
+use Rattle.chip_world.proofs.Names.{fed_in, fed_so_far, recorded_step, part_kept, run_legal, log_after-append, AreTurns}
+use Rattle.chip_world.proofs.Names.{root_settles, AreRounds}
 use Rattle.chip_world.proofs.OwnTurnLemmas.{turn_is_own}
 
 module _ (g : Setting) where

@@ -1,19 +1,11 @@
 -- Serves SharedWords.antt.
 -- The messages that were sent on an edge and not delivered, by the cells of its ring and the hand of its tail.
-use Rattle.std.proofs.Common.{◌≡◌, ◌≢◌, ℕ, ◌+◌, ◌-◌, ◌%◌, ◌<◌, ◌≤◌, List, [], ◌∷◌, ◌++◌, length, sum, get_or, take}
-use Rattle.std.proofs.Common.{length-drop, length-take-le, Option, Some, None}
-use Rattle.std.proofs.Common.{option_to_list, refl, sym, ap, ◌∙◌, arith, ⊎_elim, inl, inr}
-use Rattle.std.proofs.lemmas.List.{get_or_past, get_or_append_left, get_or_push, get_or-drop, take_more}
-use mathlib.Core.Logic.{dite}
-use native.Mathlib.Decide.{dec_lt}
-use Rattle.chip_part.specs.Setting.{Setting}
-use Rattle.chip_link.specs.Link.{Tail, claims_of, sent_counts, Sound, Shows}
-use Rattle.chip_link.proofs.SoundsLemmas.{none_held, one_held}
-use Rattle.chip_link.proofs.SoundsLemmas.{length-sent_counts}
-use Rattle.chip_part.specs.Steps.{message_of}
-use Rattle.chip_core.specs.Messages.{Message, messages_from, counts_in_flight}
-use Rattle.chip_core.proofs.MessageLemmas.{messages-append}
-use Rattle.chip_core.specs.Core.{into_in, Log, out_in}
+use Rattle.chip_world.proofs.Names.{◌≡◌, ◌≢◌, ℕ, ◌+◌, ◌-◌, ◌%◌, ◌<◌, ◌≤◌, List, [], ◌∷◌, ◌++◌, length, sum, get_or}
+use Rattle.chip_world.proofs.Names.{take, length-drop, length-take-le, Option, Some, None, option_to_list, refl, sym}
+use Rattle.chip_world.proofs.Names.{ap, ◌∙◌, arith, ⊎_elim, inl, inr, get_or_past, get_or_append_left, get_or_push}
+use Rattle.chip_world.proofs.Names.{get_or-drop, take_more, dite, dec_lt, Setting, Tail, claims_of, sent_counts, Sound}
+use Rattle.chip_world.proofs.Names.{Shows, none_held, one_held, length-sent_counts, message_of, Message, messages_from}
+use Rattle.chip_world.proofs.Names.{counts_in_flight, messages-append, into_in, Log, out_in}
 
 -- a hand is empty or holds one
 hand : (held : Option ℕ) → Rattle.std.proofs.Common.◌⊎◌ (held ≡ None) ((count : ℕ) × (held ≡ Some count))

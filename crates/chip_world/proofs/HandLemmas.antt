@@ -1,15 +1,9 @@
 -- Serves World.antt.
 -- What is claimed on an edge and not put, as the tail of the edge tells.
-use Rattle.std.proofs.Common.{◌≡◌, ◌∙◌, ◌<◌, ◌≤◌, ℕ, Option, Some, None, get_or, ltb, ap, sym, subst, arith}
-use Rattle.std.proofs.Common.{refl, sum, option_to_list, unwrap_or}
-use Rattle.std.proofs.lemmas.Bool.{ltb-false}
-use Rattle.chip_part.specs.Setting.{Setting}
-use Rattle.chip_part.specs.Edges.{graph_edges, all_edges, tail_of, tail_if, root}
-use Rattle.chip_actor.specs.Actor.{Actor, StandsFor, WhateverPart}
-use Rattle.chip_root.specs.Root.{WhateverRoot}
-use Rattle.chip_part.proofs.EdgeLemmas.{tail_root}
-use Rattle.chip_core.specs.Core.{Log, Put, part_in, out_in}
-use Rattle.chip_world.specs.World.{WorldState, StandsForLog}
+use Rattle.chip_world.proofs.Names.{◌≡◌, ◌∙◌, ◌<◌, ◌≤◌, ℕ, Option, Some, None, get_or, ltb, ap, sym, subst, arith, refl}
+use Rattle.chip_world.proofs.Names.{sum, option_to_list, unwrap_or, ltb-false, Setting, graph_edges, all_edges, tail_of}
+use Rattle.chip_world.proofs.Names.{tail_if, root, Actor, StandsFor, WhateverPart, WhateverRoot, tail_root, Log, Put}
+use Rattle.chip_world.proofs.Names.{part_in, out_in, WorldState, StandsForLog}
 use Rattle.chip_world.proofs.VertexLemmas.{withheld}
 use Rattle.chip_world.proofs.ActorLemmas.{maker}
 

@@ -1,3 +1,4 @@
+mod Names
 pub mod WordLemmas
 pub mod VertexLemmas
 pub mod StepLemmas

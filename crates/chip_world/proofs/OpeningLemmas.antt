@@ -1,23 +1,13 @@
 -- Serves World.antt.
 -- A world that opens.
-use Rattle.std.proofs.Common.{◌≡◌, ◌≢◌, ℕ, ◌+◌, ◌-◌, ◌<◌, ◌≤◌, cond, eqb, ltb, List, [], ◌∷◌, ◌++◌, length, get_or, set}
-use Rattle.std.proofs.Common.{replicate, None, refl, sym, ap, ◌∙◌, subst, arith, lt-ltb, le-ltb}
-use Rattle.std.proofs.Common.{length-set, false, get_or-set_same, get_or-set_other}
-use Rattle.std.proofs.lemmas.List.{get_or-replicate, get_or_past, get_or_push, get_or_append_left, length-replicate}
-use mathlib.Core.Logic.{dite}
-use native.Mathlib.Decide.{ℕ_discrete, dec_lt}
-use Rattle.chip_part.specs.Setting.{Setting, IsSetting}
-use Rattle.chip_graph.proofs.SumLemmas.{cond_yes, cond_no}
-use Rattle.chip_link.specs.Link.{Shows}
-use Rattle.chip_link.proofs.ShownLemmas.{fresh_shows, first_shows}
-use Rattle.chip_part.specs.Edges.{start_of}
-use Rattle.chip_root.specs.Root.{RootStandsFor}
-use Rattle.chip_part.specs.Part.{first_put, opening_part}
-use Rattle.chip_core.specs.Core.{graph_edges, all_edges}
-use Rattle.chip_world.specs.SharedWords.{opening_words}
-use Rattle.chip_world.specs.World.{WorldState, ShowsEdge, StandsForLog, first_chips, AreOpeningWords}
-use Rattle.chip_world.specs.World.{AreOpeningActors}
-use Rattle.std.proofs.lemmas.Bool.{cond-true, cond-false}
+use Rattle.chip_world.proofs.Names.{◌≡◌, ◌≢◌, ℕ, ◌+◌, ◌-◌, ◌<◌, ◌≤◌, cond, eqb, ltb, List, [], ◌∷◌, ◌++◌, length}
+use Rattle.chip_world.proofs.Names.{get_or, set, replicate, None, refl, sym, ap, ◌∙◌, subst, arith, lt-ltb, le-ltb}
+use Rattle.chip_world.proofs.Names.{length-set, false, get_or-set_same, get_or-set_other, get_or-replicate, get_or_past}
+use Rattle.chip_world.proofs.Names.{get_or_push, get_or_append_left, length-replicate, dite, ℕ_discrete, dec_lt}
+use Rattle.chip_world.proofs.Names.{Setting, IsSetting, cond_yes, cond_no, Shows, fresh_shows, first_shows, start_of}
+use Rattle.chip_world.proofs.Names.{RootStandsFor, first_put, opening_part, graph_edges, all_edges, opening_words}
+use Rattle.chip_world.proofs.Names.{WorldState, ShowsEdge, StandsForLog, first_chips, AreOpeningWords, AreOpeningActors}
+use Rattle.chip_world.proofs.Names.{cond-true, cond-false}
 
 -- one more element, and what holds of each
 pub pushed : {X : Type 0} (P : ℕ → X → Type 0) (xs : List X) (y : X) (n : ℕ) → length xs ≡ n

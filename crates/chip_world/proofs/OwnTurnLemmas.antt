@@ -1,23 +1,12 @@
 -- Serves Rounds.antt.
 -- The steps of a whole turn are those of its vertex.
-use Rattle.std.proofs.Common.{◌≡◌, ℕ, zero, suc, ◌<◌, Bool, true, false, not, cond, eqb, List, [], ◌∷◌, ◌++◌, length, reverse}
-use Rattle.std.proofs.Common.{Option, Some, None, is_some, Contains, refl, sym, ap, ◌∙◌, subst, arith}
-use Rattle.std.proofs.lemmas.List.{get_or_default, reverse-append}
-use Rattle.chip_graph.proofs.SumLemmas.{cond_yes}
-use Rattle.chip_detect.specs.Acknowledging.{or_else}
-use Rattle.chip_part.specs.Setting.{Setting}
-use Rattle.chip_part.specs.Edges.{head_of}
-use Rattle.chip_part.specs.Part.{Part, may_ack}
-use Rattle.chip_part.specs.Rules.{Event, Take, Ack}
-use Rattle.chip_part.specs.Steps.{Step, part_of, does, saw, parent_after}
-use Rattle.chip_part.specs.Turn.{Phase, nothing, either_phase}
-use Rattle.chip_part.specs.Turn.{seeing, one_step}
-use Rattle.chip_part.specs.Turn.{acknowledging_parent}
-use Rattle.chip_part.specs.Turn.{last_acknowledgement, turn}
-use Rattle.chip_actor.specs.Medium.{AreOf}
-use Rattle.chip_core.specs.Core.{Log}
-use Rattle.chip_core.specs.Histories.{done_by}
-use Rattle.chip_part.proofs.PhaseLemmas.{Spreads, of_turn}
+use Rattle.chip_world.proofs.Names.{◌≡◌, ℕ, zero, suc, ◌<◌, Bool, true, false, not, cond, eqb, List, [], ◌∷◌, ◌++◌}
+use Rattle.chip_world.proofs.Names.{length, reverse, Option, Some, None, is_some, refl, sym, ap, ◌∙◌, subst, arith}
+use Rattle.chip_world.proofs.Names.{get_or_default, reverse-append, cond_yes, or_else, Setting, head_of, Part, may_ack}
+use Rattle.chip_world.proofs.Names.{Event, Take, Ack, Step, part_of, does, saw, parent_after, Phase, nothing}
+use Rattle.chip_world.proofs.Names.{either_phase, seeing, one_step, acknowledging_parent, last_acknowledgement, turn}
+use Rattle.chip_world.proofs.Names.{AreOf, Log, done_by, Spreads, of_turn}
+use Rattle.std.proofs.Common.{Contains}
 
 module _ (g : Setting) (v : ℕ) where
   -- its parent edge, if it has one, leads to it

@@ -1,22 +1,14 @@
 -- Serves Run.antt.
 -- A run of events, noted one after another.
-use Rattle.std.proofs.lemmas.Bool.Decides.{nat_tests}
-use Rattle.std.proofs.Common.{◌≡◌, ◌≢◌, ◌∙◌, ℕ, ◌+◌, ◌<◌, ◌≤◌, Bool, cond, eqb, List, [], ◌∷◌, ◌++◌, length, map}
-use Rattle.std.proofs.Common.{get_or, take, refl, sym, ap, subst, arith, append_assoc, append-nil, length-set}
-use Rattle.std.proofs.Common.{get_or-set_same, get_or-set_other, length-append, vec_capacity}
-use Rattle.std.proofs.lemmas.List.{get_or-map, length-map, take_more}
-use mathlib.Core.Logic.{dite}
-use native.Mathlib.Decide.{ℕ_discrete}
-use Rattle.chip_graph.specs.ChipGame.{IsGame}
-use Rattle.chip_part.specs.Setting.{Setting}
-use Rattle.chip_part.specs.declared.reply.Reply.TheVariants.{Got, Sent}
-use Rattle.chip_core.specs.Core.{Log, Event, Take, Claim, Feed, Reply, step, log_after, replies_to, all_edges}
-use Rattle.chip_core.specs.Messages.{Message, sent_by, delivered_by, sent_in, delivered_in, sent_on, delivered_on}
-use Rattle.chip_world.specs.declared.world.running.Notes.{Notes}
-use Rattle.chip_world.specs.Lanes.{Lane, no_lane, lane_at, with_message}
-use Rattle.chip_world.specs.Run.{is_claim_of, is_take_of, count_among, Counts, sent_after, delivered_after, SentOnEdge}
-use Rattle.chip_world.specs.Run.{GotOnEdge, HasRoom, HasRooms, AreListed, IsNotedUpTo, IsRecordOf, IsHeldByReplies}
-use Rattle.chip_core.proofs.MessageLemmas.{held_from_the_opening}
+use Rattle.chip_world.proofs.Names.{nat_tests, ◌≡◌, ◌≢◌, ◌∙◌, ℕ, ◌+◌, ◌<◌, ◌≤◌, Bool, cond, eqb, List, [], ◌∷◌, ◌++◌}
+use Rattle.chip_world.proofs.Names.{length, map, get_or, take, refl, sym, ap, subst, arith, append_assoc, append-nil}
+use Rattle.chip_world.proofs.Names.{length-set, get_or-set_same, get_or-set_other, length-append, vec_capacity}
+use Rattle.chip_world.proofs.Names.{get_or-map, length-map, take_more, dite, ℕ_discrete, IsGame, Setting, Got, Sent}
+use Rattle.chip_world.proofs.Names.{Log, Event, Take, Claim, Feed, Reply, step, log_after, replies_to, all_edges}
+use Rattle.chip_world.proofs.Names.{Message, sent_by, delivered_by, sent_in, delivered_in, sent_on, delivered_on, Notes}
+use Rattle.chip_world.proofs.Names.{Lane, no_lane, lane_at, with_message, is_claim_of, is_take_of, count_among, Counts}
+use Rattle.chip_world.proofs.Names.{sent_after, delivered_after, SentOnEdge, GotOnEdge, HasRoom, HasRooms, AreListed}
+use Rattle.chip_world.proofs.Names.{IsNotedUpTo, IsRecordOf, IsHeldByReplies, held_from_the_opening}
 
 -- ---- counts
 

@@ -1,37 +1,19 @@
 -- Serves SharedWords.antt, World.antt, Makers.antt.
 -- One step of a world.
-use Rattle.std.proofs.Common.{◌≡◌, ℕ, ◌<◌, ◌≤◌, Bool, true, false, ◌&&◌, ltb, leb, lt-ltb, leb-true}
-use Rattle.std.proofs.Common.{List, ◌∷◌, length, get_or, Option, Some, None, Result, Ok, Err, refl, sym}
-use Rattle.std.proofs.Common.{ap, ◌∙◌, subst, arith, length-set, true≢false}
-use Rattle.std.proofs.lemmas.Bool.{lt-leb}
-use mathlib.Core.Logic.{dite}
-use native.Mathlib.Decide.{dec_lt}
-use Rattle.chip_part.specs.Setting.{Setting}
-use Rattle.chip_link.specs.Words.{claims_in}
-use Rattle.chip_part.specs.declared.rule.Rule.TheVariants.{NoSuch}
-use Rattle.chip_part.specs.declared.act.Act.{Act}
-use Rattle.chip_part.specs.declared.act.Act.TheVariants as Do
-use Rattle.chip_part.specs.declared.reply.Reply.TheVariants.{Done, NotNow}
-use Rattle.chip_actor.specs.Actor.{Actor, StandsFor}
-use Rattle.chip_part.specs.Acting.{act_of, event_of, verdict}
-use Rattle.chip_root.specs.Root.{Root, RootStandsFor, WhateverRoot, SomeRoot, RootCanDo}
-use Rattle.chip_part.specs.Acting.{is_of_root, FitsRoot}
-use Rattle.chip_root.specs.Root.{RootMakes}
-use Rattle.chip_part.proofs.EdgeLemmas.{tail_root}
-use Rattle.chip_part.proofs.RuleLemmas.{rules_met}
-use Rattle.chip_part.specs.Steps.{saw}
-use Rattle.chip_core.specs.Core.{Log, Step, Event, Clear, Put, Settle, Seal, Read, Feed}
-use Rattle.chip_core.specs.Core.{End, Part, Rule, Reply, unmet_rule, part_of, does, reply_of, part_in, word_of_part}
-use Rattle.chip_core.specs.Core.{sees}
-use Rattle.chip_core.specs.Core.{answer, step, Fits, graph_edges, all_edges, root, stopper}
-use Rattle.chip_core.proofs.LogLemmas.{part_here, part_else}
-use Rattle.chip_world.specs.SharedWords.{EdgeState, words_of, with_edge, with_seal, seen_in, words_after, CanPerform}
-use Rattle.chip_world.specs.Makers.{is_by_act}
-use Rattle.chip_world.specs.World.{WorldState, ShowsEdge, IsActor, StandsForLog}
-use Rattle.chip_core.proofs.NumberLemmas.{root_fits}
-use Rattle.chip_world.proofs.WordLemmas.{seal_shown, sees_seal, length-words_after}
-use Rattle.chip_world.proofs.WordLemmas.{can_perform, root_sees_words, words_shown, read_shown}
+use Rattle.chip_world.proofs.Names.{◌≡◌, ℕ, ◌<◌, ◌≤◌, Bool, true, false, ◌&&◌, ltb, leb, lt-ltb, leb-true, List, ◌∷◌}
+use Rattle.chip_world.proofs.Names.{length, get_or, Option, Some, None, Result, Ok, Err, refl, sym, ap, ◌∙◌, subst}
+use Rattle.chip_world.proofs.Names.{arith, length-set, true≢false, lt-leb, dite, dec_lt, Setting, claims_in, NoSuch}
+use Rattle.chip_world.proofs.Names.{Act, Done, NotNow, Actor, StandsFor, act_of, event_of, verdict, Root, RootStandsFor}
+use Rattle.chip_world.proofs.Names.{WhateverRoot, SomeRoot, RootCanDo, is_of_root, FitsRoot, RootMakes, tail_root}
+use Rattle.chip_world.proofs.Names.{rules_met, saw, Log, Step, Event, Clear, Put, Settle, Seal, Read, Feed, End, Part}
+use Rattle.chip_world.proofs.Names.{Rule, Reply, unmet_rule, part_of, does, reply_of, part_in, word_of_part, sees}
+use Rattle.chip_world.proofs.Names.{answer, step, Fits, graph_edges, all_edges, root, stopper, part_here, part_else}
+use Rattle.chip_world.proofs.Names.{EdgeState, words_of, with_edge, with_seal, seen_in, words_after, CanPerform}
+use Rattle.chip_world.proofs.Names.{is_by_act, WorldState, ShowsEdge, IsActor, StandsForLog, root_fits}
+use Rattle.chip_world.proofs.WordLemmas.{seal_shown, sees_seal, length-words_after, can_perform, root_sees_words}
+use Rattle.chip_world.proofs.WordLemmas.{words_shown, read_shown}
 use Rattle.chip_world.proofs.VertexLemmas.{refused, passes}
+use Rattle.chip_part.specs.declared.act.Act.TheVariants as Do
 
 -- an operation that was given is needed, and every rule is met
 given : (o : Option Rule) (needed act : Act) → Ok act ≡ verdict o needed → (o ≡ None) × (needed ≡ act)

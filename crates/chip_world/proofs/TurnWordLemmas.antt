@@ -1,32 +1,16 @@
 -- Serves SharedWords.antt, TurnWords.antt.
 -- The words of a turn as a medium: each operation finds its word, sees what the core says, and leaves the words of the
 -- longer log.
-use Rattle.std.proofs.Common.{◌≡◌, ℕ, ◌+◌, ◌^◌, ◌<◌, ◌≤◌, Bool, true, false, List, ◌∷◌, length, get_or, Option, Some}
-use Rattle.std.proofs.Common.{None}
-use Rattle.std.proofs.Common.{is_some, sym, ap, ◌∙◌, subst, arith, bit_or}
-use Rattle.chip_link.specs.Words.{fired_word}
-use Rattle.chip_link.proofs.WordLawsLemmas.{adds_firings, halts_word, halts_by_limit}
-use Rattle.chip_part.specs.Setting.{Setting}
-use Rattle.chip_part.specs.declared.act.Act.{Act}
-use Rattle.chip_part.specs.declared.act.Act.TheVariants as Do
-use Rattle.chip_part.specs.declared.cause.Cause.{Cause}
-use Rattle.chip_part.specs.Part.{cause, is_by_limit}
-use Rattle.chip_part.specs.declared.cause.Cause.TheVariants.{SealedEdge, FiringLimit}
-use Rattle.chip_part.specs.Acting.{act_of, event_of, FitsSeen}
-use Rattle.chip_actor.specs.Medium.{IsDueBy, MayServe, Serves, IsLonger}
-use Rattle.chip_part.proofs.RuleLemmas.{rules_met}
-use Rattle.chip_part.specs.Steps.{saw}
-use Rattle.chip_core.specs.Core.{Log, Step, Event, Fire, Halt, Part, unmet_rule, part_of, does, part_in, word_of_part}
-use Rattle.chip_core.specs.Core.{sees}
-use Rattle.chip_core.proofs.LogLemmas.{part_here, part_kept}
-use Rattle.chip_core.proofs.NumberLemmas.{fits_seen}
-use Rattle.chip_world.specs.SharedWords.{EdgeState, seen_in, words_after, CanPerform}
-use Rattle.chip_world.specs.Makers.{is_by_act}
-use Rattle.chip_world.specs.World.{ShowsEdge}
-use Rattle.chip_core.specs.Words.{halt_bits}
-use Rattle.chip_world.specs.TurnWords.{TurnWords, Holds}
+use Rattle.chip_world.proofs.Names.{◌≡◌, ℕ, ◌+◌, ◌^◌, ◌<◌, ◌≤◌, Bool, true, false, List, ◌∷◌, length, get_or, Option}
+use Rattle.chip_world.proofs.Names.{Some, None, is_some, sym, ap, ◌∙◌, subst, arith, bit_or, fired_word, adds_firings}
+use Rattle.chip_world.proofs.Names.{halts_word, halts_by_limit, Setting, Act, Cause, cause, is_by_limit, SealedEdge}
+use Rattle.chip_world.proofs.Names.{FiringLimit, act_of, event_of, FitsSeen, IsDueBy, MayServe, Serves, IsLonger}
+use Rattle.chip_world.proofs.Names.{rules_met, saw, Log, Step, Event, Fire, Halt, Part, unmet_rule, part_of, does}
+use Rattle.chip_world.proofs.Names.{part_in, word_of_part, sees, part_here, part_kept, fits_seen, EdgeState, seen_in}
+use Rattle.chip_world.proofs.Names.{words_after, CanPerform, is_by_act, ShowsEdge, halt_bits, TurnWords, Holds}
 use Rattle.chip_world.proofs.WordLemmas.{length-words_after, can_perform, sees_words, words_shown}
 use Rattle.chip_world.proofs.StepLemmas.{by_act}
+use Rattle.chip_part.specs.declared.act.Act.TheVariants as Do
 
 -- the word of a vertex that halts
 word_halts : (c : Option Cause) (why : Cause) (fired : ℕ) → fired < 2 ^ 62 → c ≡ Some why

@@ -1,19 +1,10 @@
 -- Serves Makers.antt.
 -- The vertex that makes an event.
-use Rattle.std.proofs.Common.{◌≡◌, ℕ, ◌<◌, Bool, true, false, cond, ltb, Option, Some, None, refl, sym, ◌∙◌, subst}
-use Rattle.std.proofs.Common.{true≢false}
-use Rattle.std.proofs.lemmas.Bool.{ltb-true, cond-false}
-use Rattle.chip_graph.specs.ChipGame.{IsGame}
-use Rattle.chip_part.specs.Setting.{Setting}
-use Rattle.chip_graph.proofs.SumLemmas.{by_test}
-use Rattle.chip_part.specs.Rules.{need}
-use Rattle.chip_part.specs.declared.rule.Rule.{Rule}
-use Rattle.chip_part.specs.declared.rule.Rule.TheVariants.{NoSuch}
-use Rattle.chip_core.specs.Core.{Event, Take, Ack, Fire, Clear, Claim, Put, Halt, Settle}
-use Rattle.chip_core.specs.Core.{Part, unmet_rule, part_of, tail_of, head_of, all_edges, graph_edges}
-use Rattle.chip_core.proofs.LogLemmas.{head_inside, tail_inside}
-use Rattle.chip_part.specs.Edges.{head_if, tail_if}
-use Rattle.chip_world.specs.Makers.{vertex_if, vertex_of, is_root_edge, is_of_others}
+use Rattle.chip_world.proofs.Names.{◌≡◌, ℕ, ◌<◌, Bool, true, false, cond, ltb, Option, Some, None, refl, sym, ◌∙◌}
+use Rattle.chip_world.proofs.Names.{subst, true≢false, ltb-true, cond-false, IsGame, Setting, by_test, need, Rule}
+use Rattle.chip_world.proofs.Names.{NoSuch, Event, Take, Ack, Fire, Clear, Claim, Put, Halt, Settle, Part, unmet_rule}
+use Rattle.chip_world.proofs.Names.{part_of, tail_of, head_of, all_edges, graph_edges, head_inside, tail_inside}
+use Rattle.chip_world.proofs.Names.{head_if, tail_if, vertex_if, vertex_of, is_root_edge, is_of_others}
 
 -- a value that is given only where a test passes
 given : (b : Bool) (n v : ℕ) → cond b (Some n) None ≡ Some v → (b ≡ true) × (n ≡ v)

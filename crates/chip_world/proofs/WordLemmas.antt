@@ -1,44 +1,20 @@
 -- Serves SharedWords.antt.
 -- The shared words of a world by its log: what an operation sees in them is what the core says, and what it leaves
 -- shows the longer log.
-use Rattle.std.proofs.Common.{◌≡◌, ◌≢◌, ℕ, ◌+◌, ◌-◌, ◌%◌, ◌^◌, ◌<◌, true, cond, eqb, List, ◌∷◌, length, sum, get_or}
-use Rattle.std.proofs.Common.{None, option_to_list, refl, sym, ap, ◌∙◌, subst, arith, ⊎_elim, length-set}
-use Rattle.std.proofs.Common.{true≢false, get_or-set_same, get_or-set_other, bit_or}
-use Rattle.std.proofs.lemmas.Nat.{mod_below}
-use Rattle.std.proofs.lemmas.List.{get_or_default}
-use mathlib.Core.Logic.{dite}
-use native.Mathlib.Decide.{ℕ_discrete}
-use Rattle.chip_graph.specs.ChipGame.{IsGame}
-use Rattle.chip_part.specs.Setting.{Setting}
-use Rattle.chip_graph.proofs.SumLemmas.{cond_yes, cond_no}
-use Rattle.chip_link.specs.Link.{claims_of, Sound}
-use Rattle.chip_link.specs.Words.{word_after_exchange, claims_in}
-use Rattle.chip_part.proofs.PartLemmas.{may_le}
-use Rattle.chip_part.specs.declared.act.Act.{Act}
+use Rattle.chip_world.proofs.Names.{◌≡◌, ◌≢◌, ℕ, ◌+◌, ◌-◌, ◌%◌, ◌^◌, ◌<◌, true, cond, eqb, List, ◌∷◌, length, sum}
+use Rattle.chip_world.proofs.Names.{get_or, None, option_to_list, refl, sym, ap, ◌∙◌, subst, arith, ⊎_elim, length-set}
+use Rattle.chip_world.proofs.Names.{true≢false, get_or-set_same, get_or-set_other, bit_or, mod_below, get_or_default}
+use Rattle.chip_world.proofs.Names.{dite, ℕ_discrete, IsGame, Setting, cond_yes, cond_no, claims_of, Sound}
+use Rattle.chip_world.proofs.Names.{word_after_exchange, claims_in, may_le, Act, may_ack, cause, is_by_limit, Met}
+use Rattle.chip_world.proofs.Names.{act_of, rules_met, Log, Event, Take, Ack, Fire, Clear, Claim, Put, Halt, Settle}
+use Rattle.chip_world.proofs.Names.{Seal, Read, Feed, End, unmet_rule, part_of, part_in, out_in, into_in, stop_in}
+use Rattle.chip_world.proofs.Names.{word_of_part, sees, IsLegalLog, head_of, all_edges, graph_edges, stopper, Word}
+use Rattle.chip_world.proofs.Names.{of_edge, of_acks, of_cell, of_vertex, halt_bits, word_of_event, word_to_note}
+use Rattle.chip_world.proofs.Names.{IsShown, acting_part, IsLeft, operations_find, words_go_on, part_kept, edge_sound}
+use Rattle.chip_world.proofs.Names.{EdgeState, no_words, words_of, with_cell, with_claim, with_acks, with_seal}
+use Rattle.chip_world.proofs.Names.{with_edge, cell_of, seen_in, words_after, HasCell, CanPerform, is_by_act}
+use Rattle.chip_world.proofs.Names.{is_of_root, saw, ShowsEdge, claims_most, words as words_read}
 use Rattle.chip_part.specs.declared.act.Act.TheVariants as Do
-use Rattle.chip_part.specs.Part.{may_ack, cause, is_by_limit}
-use Rattle.chip_part.specs.Kept.{Met}
-use Rattle.chip_part.specs.Acting.{act_of}
-use Rattle.chip_part.proofs.RuleLemmas.{rules_met}
-use Rattle.chip_core.specs.Core.{Log, Event, Take, Ack, Fire, Clear, Claim, Put, Halt, Settle, Seal, Read}
-use Rattle.chip_core.specs.Core.{Feed, End}
-use Rattle.chip_core.specs.Core.{unmet_rule, part_of, part_in, out_in, into_in, stop_in, word_of_part, sees, IsLegalLog}
-use Rattle.chip_core.specs.Core.{head_of, all_edges, graph_edges}
-use Rattle.chip_core.specs.Core.{stopper}
-use Rattle.chip_core.specs.Words.{Word, of_edge, of_acks, of_cell, of_vertex, halt_bits, word_of_event, word_to_note}
-use Rattle.chip_core.specs.Words.{IsShown}
-use Rattle.chip_core.specs.Words.{acting_part}
-use Rattle.chip_core.specs.Words.{IsLeft}
-use Rattle.chip_core.proofs.ShowingLemmas.{operations_find, words_go_on}
-use Rattle.chip_core.proofs.LogLemmas.{part_kept, edge_sound}
-use Rattle.chip_world.specs.SharedWords.{EdgeState, no_words, words_of, with_cell, with_claim, with_acks, with_seal}
-use Rattle.chip_world.specs.SharedWords.{with_edge, cell_of, seen_in, words_after, HasCell, CanPerform}
-use Rattle.chip_world.specs.Makers.{is_by_act}
-use Rattle.chip_part.specs.Acting.{is_of_root}
-use Rattle.chip_part.specs.Steps.{saw}
-use Rattle.chip_world.specs.World.{ShowsEdge}
-use Rattle.chip_core.proofs.NumberLemmas.{claims_most}
-use Rattle.chip_core.proofs.NumberLemmas.{words as words_read}
 
 -- the value of a shared word, where the vertices have these fired words
 abbrev value_of : List EdgeState → (ℕ → ℕ) → Word → ℕ

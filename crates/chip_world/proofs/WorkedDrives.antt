@@ -1,12 +1,7 @@
 -- Serves Worked.antt, Rounds.antt.
 -- The worked drives, phase by phase.
-use Rattle.std.proofs.Common.{◌≡◌, ℕ, [], ◌∷◌, refl, arith}
-use Rattle.chip_part.specs.Part.{Part, opening_part}
-use Rattle.chip_part.specs.Steps.{does, saw}
-use Rattle.chip_core.specs.Core.{Take, Ack, Settle}
-use Rattle.chip_core.proofs.ReadLemmas.{closed_is}
-use Rattle.chip_world.specs.Rounds.{IsTurnAfter, IsOpen}
-use Rattle.chip_world.specs.Worked.{sink_alone, OneRoundCloses, NoRoundLeavesOpen}
+use Rattle.chip_world.proofs.Names.{◌≡◌, ℕ, [], ◌∷◌, refl, arith, Part, opening_part, does, saw, Take, Ack, Settle}
+use Rattle.chip_world.proofs.Names.{closed_is, IsTurnAfter, IsOpen, sink_alone, OneRoundCloses, NoRoundLeavesOpen}
 
 still_open : IsOpen sink_alone []
 still_open closed = let none : ◌≡◌ {A = ℕ} 1 0 = closed.1 0 (omega arith) refl in absurd (omega arith)

@@ -1,8 +1,4 @@
-use Rattle.std.proofs.Common.{ap, refl}
-use Rattle.chip_graph.proofs.SumLemmas.{cond_yes}
-use Rattle.chip_part.specs.Part.{Part}
-use Rattle.chip_part.specs.Steps.{saw, does}
-use Rattle.chip_core.specs.Core.{End, part_in, sees, root}
+use Rattle.chip_world.proofs.Names.{ap, refl, cond_yes, Part, saw, does, End, part_in, sees, root}
 use Rattle.chip_world.proofs.laws.end_is_noted.Goals as goal
 
 pub returns : goal.returns

@@ -1,4 +1,4 @@
-use Rattle.std.proofs.Common.{refl}
+use Rattle.chip_world.proofs.Names.{refl}
 use Rattle.chip_world.proofs.WorkedDrives.{one_round_closes, no_round_leaves_open}
 use Rattle.chip_world.proofs.laws.worked_drives.Goals as goal
 

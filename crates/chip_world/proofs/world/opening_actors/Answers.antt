@@ -1,8 +1,5 @@
-use Rattle.std.proofs.Common.{◌≡◌, ◌∙◌, ℕ, ◌+◌, [], ◌∷◌, sym, subst, arith, length-append}
-use Rattle.chip_part.specs.Setting.{Setting, setting_with}
-use Rattle.chip_part.specs.Part.{opening_part}
-use Rattle.chip_actor.specs.Actor.{StandsFor}
-use Rattle.chip_world.specs.World.{IsActor, AreOpeningActors}
+use Rattle.chip_world.proofs.Names.{◌≡◌, ◌∙◌, ℕ, ◌+◌, [], ◌∷◌, sym, subst, arith, length-append, Setting, setting_with}
+use Rattle.chip_world.proofs.Names.{opening_part, StandsFor, IsActor, AreOpeningActors}
 use Rattle.chip_world.proofs.OpeningLemmas.{pushed}
 use Rattle.chip_world.proofs.world.opening_actors.Goals as goal
 

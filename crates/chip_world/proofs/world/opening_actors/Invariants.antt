@@ -1,5 +1,4 @@
-use Rattle.std.proofs.Common.{◌≤◌, vec_capacity}
-use Rattle.chip_world.specs.World.{AreOpeningActors}
+use Rattle.chip_world.proofs.Names.{◌≤◌, vec_capacity, AreOpeningActors}
 use Rattle.chip_world.proofs.world.opening_actors.Given as goal
 
 abbrev pub invariant-loop-vertex : goal.invariant-loop-vertex

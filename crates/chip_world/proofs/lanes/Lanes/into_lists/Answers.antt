@@ -1,6 +1,4 @@
-use Rattle.std.proofs.Common.{◌≡◌, List, [], ◌∷◌, map, ap, refl, Vec, Global, vec_capacity}
-use Rattle.chip_link.specs.declared.message.Message.{Message}
-use Rattle.chip_world.specs.Lanes.{Lane}
+use Rattle.chip_world.proofs.Names.{◌≡◌, List, [], ◌∷◌, map, ap, refl, Vec, Global, vec_capacity, Message, Lane}
 use Rattle.chip_world.proofs.lanes.Lanes.into_lists.Goals as goal
 
 same : (lists : List (Vec Message Global))

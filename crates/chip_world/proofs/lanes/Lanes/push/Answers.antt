@@ -1,8 +1,6 @@
-use Rattle.std.proofs.Common.{◌≡◌, ◌∙◌, ◌<◌, ℕ, List, [], ◌∷◌, ◌++◌, length, map, get_or, set, sym, ap, subst, Vec}
-use Rattle.std.proofs.Common.{Global, vec_capacity}
-use Rattle.std.proofs.lemmas.List.{map-set, get_or-map, length-map}
-use Rattle.chip_link.specs.declared.message.Message.{Message}
-use Rattle.chip_world.specs.Lanes.{Lane, no_lane, lane_at, with_message}
+use Rattle.chip_world.proofs.Names.{◌≡◌, ◌∙◌, ◌<◌, ℕ, List, [], ◌∷◌, ◌++◌, length, map, get_or, set, sym, ap, subst}
+use Rattle.chip_world.proofs.Names.{Vec, Global, vec_capacity, map-set, get_or-map, length-map, Message, Lane, no_lane}
+use Rattle.chip_world.proofs.Names.{lane_at, with_message}
 use Rattle.chip_world.proofs.lanes.Lanes.push.Goals as goal
 
 abbrev lane_of : Vec Message Global → Lane

@@ -1,6 +1,6 @@
-use Rattle.std.proofs.Common.{refl}
-use Rattle.chip_part.specs.declared.act.Act.TheVariants as Do
+use Rattle.chip_world.proofs.Names.{refl}
 use Rattle.chip_world.proofs.TurnWordLemmas.{finds_some, serves}
+use Rattle.chip_part.specs.declared.act.Act.TheVariants as Do
 use Rattle.chip_world.proofs.turn_words.TurnWordsMedium.clear.Goals as goal
 
 pub load-requires : goal.load-requires

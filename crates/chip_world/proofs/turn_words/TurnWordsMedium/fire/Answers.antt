@@ -1,4 +1,4 @@
-use Rattle.std.proofs.Common.{refl, arith}
+use Rattle.chip_world.proofs.Names.{refl, arith}
 use Rattle.chip_world.proofs.TurnWordLemmas.{room_to_fire, fires}
 use Rattle.chip_world.proofs.turn_words.TurnWordsMedium.fire.Goals as goal
 

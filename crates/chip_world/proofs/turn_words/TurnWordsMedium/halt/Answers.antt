@@ -1,5 +1,4 @@
-use Rattle.std.proofs.Common.{refl}
-use Rattle.std.proofs.Common.{ap, ℕ, bit_or}
+use Rattle.chip_world.proofs.Names.{refl, ap, ℕ, bit_or}
 use Rattle.chip_world.proofs.TurnWordLemmas.{halts}
 use Rattle.chip_world.proofs.turn_words.TurnWordsMedium.halt.Goals as goal
 

@@ -1,5 +1,4 @@
-use Rattle.std.proofs.Common.{◌≤◌, vec_capacity}
-use Rattle.chip_world.specs.World.{AreOpeningWords}
+use Rattle.chip_world.proofs.Names.{◌≤◌, vec_capacity, AreOpeningWords}
 use Rattle.chip_world.proofs.words.Words.new.Given as goal
 
 abbrev pub invariant-loop-edge : goal.invariant-loop-edge

@@ -1,15 +1,10 @@
-use Rattle.std.proofs.Common.{set, sym, ap, ◌∙◌, subst}
-use Rattle.chip_part.specs.Setting.{Setting}
-use Rattle.chip_part.specs.declared.rule.Rule.TheVariants.{NoSuch}
-use Rattle.chip_core.specs.Core.{Log, part_of, part_in, step}
-use Rattle.chip_world.specs.World.{WorldState, StandsForLog, MakesStep}
-use Rattle.chip_world.specs.Makers.{vertex_of, is_of_others}
-use Rattle.chip_world.specs.contracts.world.World.{the_view}
+use Rattle.chip_world.proofs.Names.{set, sym, ap, ◌∙◌, subst, Setting, NoSuch, Log, part_of, part_in, step, WorldState}
+use Rattle.chip_world.proofs.Names.{StandsForLog, MakesStep, vertex_of, is_of_others, the_view}
 use Rattle.chip_world.proofs.VertexLemmas.{missing}
 use Rattle.chip_world.proofs.StepLemmas.{refuses}
 use Rattle.chip_world.proofs.ActorLemmas.{maker, shows_word, meets_event, event_leads}
-use Rattle.chip_world.proofs.world.World.act.Goals as goal
 use Rattle.chip_world.proofs.world.World.act.Goals.{After-step}
+use Rattle.chip_world.proofs.world.World.act.Goals as goal
 
 pub returns-in_default : goal.returns-in_default
 returns-in_default c = λ g log stands.

@@ -1,11 +1,6 @@
-use Rattle.std.proofs.Common.{◌≡◌, ◌∙◌, ℕ, List, [], ◌∷◌, ◌++◌, length, get_or, sym, ap, subst, arith}
-use Rattle.std.proofs.Common.{length-append, vec_capacity}
-use Rattle.std.proofs.lemmas.List.{get_or_read}
-use Rattle.chip_core.specs.Messages.{in_flight}
-use Rattle.chip_world.specs.Lanes.{Lane}
-use Rattle.chip_world.specs.World.{WhateverLog}
+use Rattle.chip_world.proofs.Names.{◌≡◌, ◌∙◌, ℕ, List, [], ◌∷◌, ◌++◌, length, get_or, sym, ap, subst, arith}
+use Rattle.chip_world.proofs.Names.{length-append, vec_capacity, get_or_read, in_flight, Lane, WhateverLog, IsOpened}
 use Rattle.chip_world.proofs.OpeningLemmas.{pushed}
-use Rattle.chip_world.specs.Run.{IsOpened}
 use Rattle.chip_world.proofs.world.World.blank_notes.Goals as goal
 
 pub loop-edge-preserved : goal.loop-edge-preserved

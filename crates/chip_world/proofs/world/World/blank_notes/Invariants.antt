@@ -1,8 +1,5 @@
-use Rattle.std.proofs.Common.{◌≡◌, ℕ, ◌<◌, [], length, slice_index, slice_index_or}
-use Rattle.chip_core.specs.Messages.{in_flight}
-use Rattle.chip_world.specs.Lanes.{Lane}
-use Rattle.chip_world.specs.World.{WhateverLog}
-use Rattle.chip_world.specs.Run.{IsOpened}
+use Rattle.chip_world.proofs.Names.{◌≡◌, ℕ, ◌<◌, [], length, slice_index, slice_index_or, in_flight, Lane, WhateverLog}
+use Rattle.chip_world.proofs.Names.{IsOpened}
 use Rattle.chip_world.proofs.world.World.blank_notes.Given as goal
 
 abbrev pub invariant-loop-edge : goal.invariant-loop-edge

@@ -1,18 +1,9 @@
-use Rattle.std.proofs.Common.{◌≡◌, ◌≤◌, ℕ, List, sum, slice_index, sym, ap, ◌∙◌, subst}
-use Rattle.std.proofs.lemmas.List.{with_items_is}
-use Rattle.chip_graph.specs.ChipGame.{ChipGame}
-use Rattle.chip_graph.specs.Limits.{max_total}
-use Rattle.chip_part.specs.Setting.{Setting}
-use Rattle.chip_sequence.specs.Counted.{IsAfter, IsBelowZero, game_from}
-use Rattle.chip_sequence.specs.Faults.{IsNegative}
-use Rattle.chip_sequence.proofs.AfterLemmas.{no_fault}
-use Rattle.chip_core.specs.Core.{Log, part_in, root}
-use Rattle.chip_core.specs.Positions.{played_game}
-use Rattle.chip_core.proofs.GivenLemmas.{given_is, given_start, given_within}
-use Rattle.chip_core.proofs.OutcomeLemmas.{never_negative}
-use Rattle.chip_world.specs.World.{StandsForLog}
-use Rattle.chip_world.proofs.world.World.chips_after.Goals as goal
+use Rattle.chip_world.proofs.Names.{◌≡◌, ◌≤◌, ℕ, List, sum, slice_index, sym, ap, ◌∙◌, subst, with_items_is, ChipGame}
+use Rattle.chip_world.proofs.Names.{max_total, Setting, IsAfter, IsBelowZero, game_from, IsNegative, no_fault, Log}
+use Rattle.chip_world.proofs.Names.{part_in, root, played_game, given_is, given_start, given_within, never_negative}
+use Rattle.chip_world.proofs.Names.{StandsForLog}
 use Rattle.chip_world.proofs.world.World.chips_after.Goals.{After-deref_mut}
+use Rattle.chip_world.proofs.world.World.chips_after.Goals as goal
 
 -- what was given is the start of the game that was played
 start_is : (c : After-deref_mut) → (g : Setting) (log : Log) → StandsForLog g log c.args.self.now

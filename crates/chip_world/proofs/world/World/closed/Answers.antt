@@ -1,7 +1,4 @@
-use Rattle.std.proofs.Common.{◌∙◌, sym, subst, eq-eqb, eqb-true}
-use Rattle.std.proofs.lemmas.Bool.{and_parts, and_from}
-use Rattle.chip_core.proofs.ReadLemmas.{closed_is}
-use Rattle.chip_world.specs.World.{StandsForLog}
+use Rattle.chip_world.proofs.Names.{◌∙◌, sym, subst, eq-eqb, eqb-true, and_parts, and_from, closed_is, StandsForLog}
 use Rattle.chip_world.proofs.world.World.closed.Goals as goal
 
 pub returns : goal.returns

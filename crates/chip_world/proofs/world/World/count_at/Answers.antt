@@ -1,9 +1,5 @@
-use Rattle.std.proofs.Common.{◌∙◌, ◌%◌, ◌<◌, ℕ, ap, sym, subst}
-use Rattle.chip_part.specs.Setting.{Setting}
-use Rattle.chip_part.specs.Edges.{all_edges}
-use Rattle.chip_core.proofs.LogLemmas.{edge_sound}
-use Rattle.chip_world.specs.SharedWords.{cell_of, no_words}
-use Rattle.chip_world.specs.World.{StandsForLog}
+use Rattle.chip_world.proofs.Names.{◌∙◌, ◌%◌, ◌<◌, ℕ, ap, sym, subst, Setting, all_edges, edge_sound, cell_of, no_words}
+use Rattle.chip_world.proofs.Names.{StandsForLog}
 use Rattle.chip_world.proofs.FlightLemmas.{count_in_cell, count_in_hand}
 use Rattle.chip_world.proofs.world.World.count_at.Goals as goal
 

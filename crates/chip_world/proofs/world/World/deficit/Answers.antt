@@ -1,10 +1,6 @@
-use Rattle.std.proofs.Common.{◌∙◌, ◌<◌, ℕ, ap, sym, subst}
-use Rattle.chip_part.specs.Setting.{Setting}
-use Rattle.chip_part.specs.Part.{deficit}
-use Rattle.chip_actor.proofs.StandingLemmas.{deficit_is}
-use Rattle.chip_core.specs.Core.{part_in}
+use Rattle.chip_world.proofs.Names.{◌∙◌, ◌<◌, ℕ, ap, sym, subst, Setting, deficit, deficit_is, part_in, IsActor}
+use Rattle.chip_world.proofs.Names.{StandsForLog}
 use Rattle.chip_detect.specs.Books as books
-use Rattle.chip_world.specs.World.{IsActor, StandsForLog}
 use Rattle.chip_world.proofs.world.World.deficit.Goals as goal
 
 pub returns : goal.returns

@@ -1,7 +1,4 @@
-use Rattle.std.proofs.Common.{◌∙◌, sym, subst}
-use Rattle.std.specs.List.{Contains}
-use Rattle.chip_detect.specs.Books.{Books, in_edges}
-use Rattle.chip_world.specs.contracts.world.World.{the_view}
+use Rattle.chip_world.proofs.Names.{◌∙◌, sym, subst, Contains, Books, in_edges, the_view}
 use Rattle.chip_world.proofs.CountedLemmas.{has_books}
 use Rattle.chip_world.proofs.world.World.delivered.Goals as goal
 

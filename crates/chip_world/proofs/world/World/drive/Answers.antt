@@ -1,6 +1,5 @@
-use Rattle.std.proofs.Common.{◌≡◌, ◌+◌, ℕ, suc, ◌∙◌, refl, sym, subst, arith, true≢false}
-use Rattle.chip_world.specs.Rounds.{AreRounds, IsDrive}
-use Rattle.chip_world.specs.declared.world.driving.Drive.TheVariants.{Closed, Unfinished}
+use Rattle.chip_world.proofs.Names.{◌≡◌, ◌+◌, ℕ, suc, ◌∙◌, refl, sym, subst, arith, true≢false, AreRounds, IsDrive}
+use Rattle.chip_world.proofs.Names.{Closed, Unfinished}
 use Rattle.chip_world.proofs.ClosesLemmas.{drive_closes}
 use Rattle.chip_world.proofs.DeterminedLemmas.{no_other}
 use Rattle.chip_world.proofs.EnoughLemmas.{closes_in}

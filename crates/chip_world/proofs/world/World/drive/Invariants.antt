@@ -1,4 +1,4 @@
-use Rattle.chip_world.specs.Rounds.{Leads, AreRounds}
+use Rattle.chip_world.proofs.Names.{Leads, AreRounds}
 use Rattle.chip_world.proofs.world.World.drive.Given as goal
 
 abbrev pub invariant-loop : goal.invariant-loop

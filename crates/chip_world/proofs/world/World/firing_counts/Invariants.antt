@@ -1,6 +1,4 @@
-use Rattle.std.proofs.Common.{◌≤◌, vec_capacity}
-use Rattle.chip_world.specs.World.{WhateverLog}
-use Rattle.chip_core.specs.Outcomes.{AreFired}
+use Rattle.chip_world.proofs.Names.{◌≤◌, vec_capacity, WhateverLog, AreFired}
 use Rattle.chip_world.proofs.world.World.firing_counts.Given as goal
 
 abbrev pub invariant-loop-vertex : goal.invariant-loop-vertex

@@ -1,6 +1,4 @@
-use Rattle.std.proofs.Common.{◌≡◌}
-use Rattle.chip_world.specs.World.{WhateverLog}
-use Rattle.chip_core.specs.Outcomes.{halted_by}
+use Rattle.chip_world.proofs.Names.{◌≡◌, WhateverLog, halted_by}
 use Rattle.chip_world.proofs.world.World.halted_by.Given as goal
 
 abbrev pub invariant-loop-vertex : goal.invariant-loop-vertex

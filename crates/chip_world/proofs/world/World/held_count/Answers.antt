@@ -1,11 +1,8 @@
-use Rattle.std.proofs.Common.{◌≡◌, ◌∙◌, ◌<◌, ℕ, Option, sum, option_to_list, ap, sym, subst}
-use Rattle.chip_part.specs.Edges.{all_edges}
-use Rattle.chip_core.specs.Core.{out_in}
-use Rattle.chip_world.specs.World.{WorldState, StandsForLog}
-use Rattle.chip_world.specs.contracts.world.World.{the_view}
+use Rattle.chip_world.proofs.Names.{◌≡◌, ◌∙◌, ◌<◌, ℕ, Option, sum, option_to_list, ap, sym, subst, all_edges, out_in}
+use Rattle.chip_world.proofs.Names.{WorldState, StandsForLog, the_view}
 use Rattle.chip_world.proofs.HandLemmas.{held_by_vertex, held_by_root, or_none}
-use Rattle.chip_world.proofs.world.World.held_count.Goals as goal
 use Rattle.chip_world.proofs.world.World.held_count.Goals.{in-Some, in-None}
+use Rattle.chip_world.proofs.world.World.held_count.Goals as goal
 
 pub returns : goal.returns
 returns c = λ g log at.

@@ -1,7 +1,4 @@
-use Rattle.std.proofs.Common.{◌∙◌, ◌<◌, ◌≤◌, ◌^◌, ℕ, subst, arith}
-use Rattle.chip_core.proofs.LogLemmas.{edge_counts}
-use Rattle.chip_core.proofs.NumberLemmas.{claims_most}
-use Rattle.chip_world.specs.World.{StandsForLog}
+use Rattle.chip_world.proofs.Names.{◌∙◌, ◌<◌, ◌≤◌, ◌^◌, ℕ, subst, arith, edge_counts, claims_most, StandsForLog}
 use Rattle.chip_world.proofs.FlightLemmas.{flight_more}
 use Rattle.chip_world.proofs.world.World.in_flight.Goals as goal
 

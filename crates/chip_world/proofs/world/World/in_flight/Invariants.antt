@@ -1,6 +1,5 @@
-use Rattle.std.proofs.Common.{◌≡◌, ◌+◌, ◌-◌, ◌≤◌, take, vec_len, vec_capacity}
-use Rattle.chip_core.specs.Messages.{messages_from, counts_in_flight}
-use Rattle.chip_world.specs.World.{WhateverLog}
+use Rattle.chip_world.proofs.Names.{◌≡◌, ◌+◌, ◌-◌, ◌≤◌, take, vec_len, vec_capacity, messages_from, counts_in_flight}
+use Rattle.chip_world.proofs.Names.{WhateverLog}
 use Rattle.chip_world.proofs.world.World.in_flight.Given as goal
 
 abbrev pub invariant-loop-place : goal.invariant-loop-place

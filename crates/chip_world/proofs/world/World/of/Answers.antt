@@ -1,5 +1,4 @@
-use Rattle.std.proofs.Common.{[], refl}
-use Rattle.chip_world.specs.World.{WorldState, StandsForLog}
+use Rattle.chip_world.proofs.Names.{[], refl, WorldState, StandsForLog}
 use Rattle.chip_world.proofs.OpeningLemmas.{opens}
 use Rattle.chip_world.proofs.world.World.«of».Goals as goal
 

@@ -1,11 +1,5 @@
-use Rattle.std.proofs.Common.{◌≡◌, List, true, sym, ap, ◌∙◌, subst}
-use Rattle.chip_part.specs.Setting.{Setting}
-use Rattle.chip_part.specs.Acting.{is_of_root}
-use Rattle.chip_part.specs.declared.reply.Reply.TheVariants.{NotNow}
-use Rattle.chip_core.specs.Core.{Log, Event, step}
-use Rattle.chip_world.specs.SharedWords.{EdgeState}
-use Rattle.chip_world.specs.World.{WorldState, StandsForLog, MakesStep}
-use Rattle.chip_world.specs.contracts.world.World.{the_view}
+use Rattle.chip_world.proofs.Names.{◌≡◌, List, true, sym, ap, ◌∙◌, subst, Setting, is_of_root, NotNow, Log, Event, step}
+use Rattle.chip_world.proofs.Names.{EdgeState, WorldState, StandsForLog, MakesStep, the_view}
 use Rattle.chip_world.proofs.StepLemmas.{root_refuses, root_can_perform, root_can_apply, root_makes}
 use Rattle.chip_world.proofs.world.World.of_root.Goals as goal
 

@@ -1,8 +1,4 @@
-use Rattle.std.proofs.Common.{ℕ, List, sym, subst}
-use Rattle.chip_sequence.specs.Counted.{IsAfter}
-use Rattle.chip_core.specs.Positions.{played_game}
-use Rattle.chip_core.specs.Outcomes.{AreFired}
-use Rattle.chip_core.proofs.OutcomeLemmas.{comes, in_range, is_played}
+use Rattle.chip_world.proofs.Names.{ℕ, List, sym, subst, IsAfter, played_game, AreFired, comes, in_range, is_played}
 use Rattle.chip_world.proofs.world.World.outcome.Goals as goal
 
 pub chips_after-requires : goal.chips_after-requires

@@ -1,8 +1,5 @@
-use Rattle.std.proofs.Common.{sym, subst, refl}
-use Rattle.chip_part.specs.Setting.{Setting}
-use Rattle.chip_core.specs.Core.{Log, Read, step, part_in}
-use Rattle.chip_world.specs.World.{WorldState, StandsForLog, MakesStep}
-use Rattle.chip_world.specs.contracts.world.World.{the_view}
+use Rattle.chip_world.proofs.Names.{sym, subst, refl, Setting, Log, Read, step, part_in, WorldState, StandsForLog}
+use Rattle.chip_world.proofs.Names.{MakesStep, the_view}
 use Rattle.chip_world.proofs.StepLemmas.{root_refuses, read_makes, read_stands}
 use Rattle.chip_world.proofs.world.World.read.Goals as goal
 

@@ -1,10 +1,6 @@
-use Rattle.std.proofs.Common.{◌≡◌, ◌∙◌, ℕ, ◌+◌, List, [], ◌∷◌, drop, get_or, sym, ap, subst, add-one}
-use Rattle.std.proofs.Math.Seq.{drop-cons}
-use Rattle.std.proofs.Math.ListN.{drop_of_length-le}
-use Rattle.chip_core.specs.Core.{Log, Event, Take, step}
-use Rattle.chip_core.proofs.HeadlineLemmas.{core_theorem}
-use Rattle.chip_world.specs.World.{StandsForLog}
-use Rattle.chip_world.specs.Run.{SentOnEdge, GotOnEdge, HasRooms, IsNotedUpTo}
+use Rattle.chip_world.proofs.Names.{◌≡◌, ◌∙◌, ℕ, ◌+◌, List, [], ◌∷◌, drop, get_or, sym, ap, subst, add-one, drop-cons}
+use Rattle.chip_world.proofs.Names.{drop_of_length-le, Log, Event, Take, step, core_theorem, StandsForLog, SentOnEdge}
+use Rattle.chip_world.proofs.Names.{GotOnEdge, HasRooms, IsNotedUpTo}
 use Rattle.chip_world.proofs.RunLemmas.{sent_on_edge, got_on_edge, rooms_rest, noted_more, all_noted, held_by_replies}
 use Rattle.chip_world.proofs.world.World.run.Goals as goal
 

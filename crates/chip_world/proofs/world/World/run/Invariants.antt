@@ -1,7 +1,4 @@
-use Rattle.std.proofs.Common.{drop}
-use Rattle.chip_core.specs.Core.{Log}
-use Rattle.chip_world.specs.World.{StandsForLog, WhateverLog}
-use Rattle.chip_world.specs.Run.{HasRooms, IsNotedUpTo}
+use Rattle.chip_world.proofs.Names.{drop, Log, StandsForLog, WhateverLog, HasRooms, IsNotedUpTo}
 use Rattle.chip_world.proofs.world.World.run.Given as goal
 
 abbrev pub invariant-loop-event : goal.invariant-loop-event

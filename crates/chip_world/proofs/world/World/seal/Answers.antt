@@ -1,13 +1,5 @@
-use Rattle.std.proofs.Common.{◌≡◌, ◌∙◌, ◌<◌, ℕ, List, ap, sym, subst}
-use Rattle.chip_part.specs.Setting.{Setting}
-use Rattle.chip_link.specs.Words.{claims_in}
-use Rattle.chip_part.specs.Edges.{graph_edges}
-use Rattle.chip_part.specs.Rules.{Seal}
-use Rattle.chip_part.specs.declared.reply.Reply.TheVariants.{Done}
-use Rattle.chip_core.specs.Core.{Log, step}
-use Rattle.chip_world.specs.SharedWords.{EdgeState}
-use Rattle.chip_world.specs.World.{WorldState, StandsForLog}
-use Rattle.chip_world.specs.contracts.world.World.{the_view}
+use Rattle.chip_world.proofs.Names.{◌≡◌, ◌∙◌, ◌<◌, ℕ, List, ap, sym, subst, Setting, claims_in, graph_edges, Seal, Done}
+use Rattle.chip_world.proofs.Names.{Log, step, EdgeState, WorldState, StandsForLog, the_view}
 use Rattle.chip_world.proofs.StepLemmas.{seal_makes}
 use Rattle.chip_world.proofs.world.World.seal.Goals as goal
 

@@ -1,8 +1,4 @@
-use Rattle.std.proofs.Common.{◌∙◌, ◌<◌, ap, sym, subst}
-use Rattle.chip_part.specs.Setting.{Setting}
-use Rattle.chip_link.specs.Words.{claims_in}
-use Rattle.chip_part.specs.Edges.{all_edges}
-use Rattle.chip_world.specs.World.{StandsForLog}
+use Rattle.chip_world.proofs.Names.{◌∙◌, ◌<◌, ap, sym, subst, Setting, claims_in, all_edges, StandsForLog}
 use Rattle.chip_world.proofs.WordLemmas.{claims_told}
 use Rattle.chip_world.proofs.world.World.sent.Goals as goal
 

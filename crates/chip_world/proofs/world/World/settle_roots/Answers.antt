@@ -1,11 +1,6 @@
-use Rattle.std.proofs.Common.{◌≡◌, ◌+◌, ℕ, suc, [], ◌∷◌, ◌∙◌, sym, ap, subst, arith}
-use Rattle.chip_part.specs.Setting.{Setting}
-use Rattle.chip_part.specs.Edges.{root_edge}
-use Rattle.chip_core.specs.Core.{Log, Settle, step, log_after}
-use Rattle.chip_core.proofs.ReplyLemmas.{log_after-append}
-use Rattle.chip_world.specs.World.{WorldState, StandsForLog}
-use Rattle.chip_world.specs.contracts.world.World.{the_view}
-use Rattle.chip_world.specs.Rounds.{root_settles}
+use Rattle.chip_world.proofs.Names.{◌≡◌, ◌+◌, ℕ, suc, [], ◌∷◌, ◌∙◌, sym, ap, subst, arith, Setting, root_edge, Log}
+use Rattle.chip_world.proofs.Names.{Settle, step, log_after, log_after-append, WorldState, StandsForLog, the_view}
+use Rattle.chip_world.proofs.Names.{root_settles}
 use Rattle.chip_world.proofs.world.World.settle_roots.Goals as goal
 
 pub loop-vertex-preserved : goal.loop-vertex-preserved

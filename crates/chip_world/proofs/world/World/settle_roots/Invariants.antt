@@ -1,6 +1,4 @@
-use Rattle.std.specs.Prelude.{◌≡◌}
-use Rattle.chip_core.specs.Core.{log_after}
-use Rattle.chip_world.specs.Rounds.{Leads, root_settles}
+use Rattle.chip_world.proofs.Names.{◌≡◌, log_after, Leads, root_settles}
 use Rattle.chip_world.proofs.world.World.settle_roots.Given as goal
 
 abbrev pub invariant-loop-vertex : goal.invariant-loop-vertex

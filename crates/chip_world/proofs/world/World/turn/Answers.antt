@@ -1,12 +1,8 @@
-use Rattle.std.proofs.Common.{◌<◌, set, sym, ◌∙◌, subst}
-use Rattle.chip_part.specs.Setting.{Setting}
-use Rattle.chip_core.specs.Core.{Log}
-use Rattle.chip_world.specs.World.{WorldState, StandsForLog, SomeLogWhere}
-use Rattle.chip_world.specs.Rounds.{IsTurnAfter}
-use Rattle.chip_world.specs.contracts.world.World.{the_view}
+use Rattle.chip_world.proofs.Names.{◌<◌, set, sym, ◌∙◌, subst, Setting, Log, WorldState, StandsForLog, SomeLogWhere}
+use Rattle.chip_world.proofs.Names.{IsTurnAfter, the_view}
 use Rattle.chip_world.proofs.ActorLemmas.{shows_word, meets_turn, turn_leads}
-use Rattle.chip_world.proofs.world.World.turn.Goals as goal
 use Rattle.chip_world.proofs.world.World.turn.Goals.{After-turn}
+use Rattle.chip_world.proofs.world.World.turn.Goals as goal
 
 pub fired_word-fired-requires : goal.fired_word-fired-requires
 fired_word-fired-requires c =

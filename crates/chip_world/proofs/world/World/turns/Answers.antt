@@ -1,7 +1,4 @@
-use Rattle.std.proofs.Common.{◌≡◌, ◌<◌, ◌+◌, ℕ, suc, ◌∙◌, ap, subst, arith}
-use Rattle.chip_part.specs.Setting.{Setting}
-use Rattle.chip_world.specs.World.{StandsForLog}
-use Rattle.chip_world.specs.Rounds.{AreTurns}
+use Rattle.chip_world.proofs.Names.{◌≡◌, ◌<◌, ◌+◌, ℕ, suc, ◌∙◌, ap, subst, arith, Setting, StandsForLog, AreTurns}
 use Rattle.chip_world.proofs.world.World.turns.Goals as goal
 
 pub turn-requires : goal.turn-requires

@@ -1,4 +1,4 @@
-use Rattle.chip_world.specs.Rounds.{Leads, AreTurns}
+use Rattle.chip_world.proofs.Names.{Leads, AreTurns}
 use Rattle.chip_world.proofs.world.World.turns.Given as goal
 
 abbrev pub invariant-loop-vertex : goal.invariant-loop-vertex

@@ -1,6 +1,5 @@
-use Rattle.std.proofs.Common.{◌∙◌, ◌+◌, ◌<◌, ℕ, cond, List, Option, get_or, sym, ap, subst}
-use Rattle.chip_core.specs.Core.{Event, Take}
-use Rattle.chip_world.specs.Run.{is_edge, is_claim_of, is_take_of}
+use Rattle.chip_world.proofs.Names.{◌∙◌, ◌+◌, ◌<◌, ℕ, cond, List, Option, get_or, sym, ap, subst, Event, Take, is_edge}
+use Rattle.chip_world.proofs.Names.{is_claim_of, is_take_of}
 use Rattle.chip_world.proofs.RunLemmas.{counted}
 use Rattle.chip_world.proofs.world.running.Tally.new.Goals as goal
 

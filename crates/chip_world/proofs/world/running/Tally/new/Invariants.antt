@@ -1,5 +1,4 @@
-use Rattle.std.proofs.Common.{take}
-use Rattle.chip_world.specs.Run.{is_claim_of, is_take_of, Counts}
+use Rattle.chip_world.proofs.Names.{take, is_claim_of, is_take_of, Counts}
 use Rattle.chip_world.proofs.world.running.Tally.new.Given as goal
 
 abbrev pub invariant-loop-event : goal.invariant-loop-event

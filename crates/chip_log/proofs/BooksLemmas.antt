@@ -1,8 +1,8 @@
 -- Serves Books.antt, Past.antt.
 -- The books of a past, row by row.
-use Rattle.std.proofs.Common.{◌≡◌, ◌≢◌, ℕ, ◌+◌, ◌≤◌, ◌<◌, Bool, true, false, cond, eqb, List, [], ◌∷◌, ◌++◌, length}
+use Rattle.std.proofs.Common.{◌≡◌, ◌≢◌, ℕ, ◌+◌, ◌≤◌, ◌<◌, Bool, true, false, eqb, List, [], ◌∷◌, ◌++◌, length, get_or}
 use Rattle.std.proofs.Common.{refl, sym, ap, ◌∙◌, subst, arith}
-use Rattle.std.specs.Prelude.{◌||◌, slice_index_or}
+use Rattle.std.specs.Prelude.{◌||◌, nat_lt, slice_index_or}
 use Rattle.std.proofs.lemmas.Bool.{ltb-true, ltb-false, eqb-true, eqb-false}
 use Rattle.std.proofs.lemmas.List.{get_or-set_same, get_or-set_other}
 use mathlib.Core.Logic.{dite}
@@ -16,9 +16,9 @@ use Rattle.chip_log.specs.declared.books.Said.TheVariants as said
 use Rattle.chip_log.specs.declared.books.Books.{Books}
 use Rattle.chip_log.specs.Log.{steps_of, is_out, outs, ins, HasEnds}
 use Rattle.chip_log.specs.Tally.{TallyState, count}
-use Rattle.chip_log.specs.Books.{said_by, said_before, said_of, Passes, has_row, said_at, is_message_needed}
+use Rattle.chip_log.specs.Books.{said_before, said_of, Passes, rows_at, said_at, is_message_needed}
 use Rattle.chip_log.specs.Books.{is_needed, Keeps}
-use Rattle.chip_log.specs.Past.{AreInFlight, AreBooks}
+use Rattle.chip_log.specs.Past.{AreInFlight, AreKept, AreBooks}
 use Rattle.chip_log.proofs.CountLemmas.{outs-append, ins-append, steps_own, steps_other, same_stream_is}
 use Rattle.chip_log.proofs.MetLemmas.{same_self}
 use Rattle.chip_log.proofs.PastLemmas.{IsSplit, put_behind, keep_claimer, keep_other, keep_message}
@@ -45,66 +45,64 @@ pass_flight pre x old new was passed = λ s.
     let d = ins-append s pre (x ∷ []) in
     omega arith
 
--- ---- what rows say
+-- ---- rows that are kept
 
-pub said_none : (steps : List Step) → has_row (said_of steps) ≡ false → steps ≡ []
-said_none [] none = refl
-said_none (step ∷ steps) none = absurd (by step (said_of steps) none)
-  where
-    plain : (step : Step) → has_row (said_by step) ≡ false → ⊥
-    plain (Out s) e = cc
-    plain (In s) e = two s.is_control e
-      where
-        two : (b : Bool) → has_row (cond b said.Unsaid said.Active) ≡ false → ⊥
-        two true e = cc
-        two false e = cc
-    plain Passive e = cc
-    plain Active e = cc
-    plain Over e = cc
+pub kept_more : (kept : List LogRow) (x : LogRow) (old new : Books) → x.process < length old.said.items
+    → x.process < length old.rows.items → AreKept kept old → Keeps true x old new → AreKept (x ∷ kept) new
+kept_more kept x old new within counted was keeps = record {
+  taken = λ s. let a = keeps.taken s in let b = was.taken s in omega arith;
+  sent = λ s. let a = keeps.sent s in let b = was.sent s in omega arith;
+  rows = λ q. dite (ℕ_discrete q x.process)
+      (λ e. subst (λ (r : ℕ). rows_at new r ≡ length (steps_of r (x ∷ kept))) (sym e)
+      (let a = ap (λ (items : List ℕ). get_or items x.process 0) keeps.rows in
+      let b = get_or-set_same old.rows.items x.process (rows_at old x.process + 1) 0 counted in
+      let c = was.rows x.process in
+      let d = ap length (steps_own x.process x kept refl) in
+      omega arith))
+      (λ ne. ap (λ (items : List ℕ). get_or items q 0) keeps.rows
+      ∙ get_or-set_other old.rows.items x.process q (rows_at old x.process + 1) 0 ne
+      ∙ was.rows q ∙ ap length (sym (steps_other q x kept (λ e. ne (sym e)))));
+  said = λ q. dite (ℕ_discrete q x.process)
+      (λ e. subst (λ (r : ℕ). said_at new r ≡ said_of (steps_of r (x ∷ kept))) (sym e)
+      (ap (λ (items : List Said). slice_index_or items x.process said.Unsaid) keeps.said
+      ∙ get_or-set_same old.said.items x.process (said_before x.step (said_at old x.process)) said.Unsaid within
+      ∙ ap (said_before x.step) (was.said x.process) ∙ ap said_of (sym (steps_own x.process x kept refl))))
+      (λ ne. ap (λ (items : List Said). slice_index_or items q said.Unsaid) keeps.said
+      ∙ get_or-set_other old.said.items x.process q (said_before x.step (said_at old x.process)) said.Unsaid ne
+      ∙ was.said q ∙ ap said_of (sym (steps_other q x kept (λ e. ne (sym e)))));
+}
 
-    by : (step : Step) (later : Said) → has_row (said_before step later) ≡ false → ⊥
-    by step said.Nothing e = plain step e
-    by step said.Unsaid e = plain step e
-    by step said.Passive e = cc
-    by step said.Active e = cc
-
-pub said_some : (steps : List Step) → has_row (said_of steps) ≡ true → steps ≢ []
-said_some [] some = λ e. cc
-said_some (step ∷ steps) some = λ e. cc
+kept_same : (kept : List LogRow) (x : LogRow) (old new : Books) → AreKept kept old → Keeps false x old new → AreKept kept new
+kept_same kept x old new was keeps = record {
+  taken = λ s. let a = keeps.taken s in let b = was.taken s in omega arith;
+  sent = λ s. let a = keeps.sent s in let b = was.sent s in omega arith;
+  rows = λ q. ap (λ (items : List ℕ). get_or items q 0) keeps.rows ∙ was.rows q;
+  said = λ q. ap (λ (items : List Said). slice_index_or items q said.Unsaid) keeps.said ∙ was.said q;
+}
 
 -- ---- a look at a row
 
+no_steps : (steps : List Step) → length steps ≤ 0 → steps ≡ []
+no_steps [] none = refl
+no_steps (step ∷ steps) none = absurd (omega arith)
+
 module _ (log : List LogRow) (ends : HasEnds log) (p i : ℕ) (pre kept : List LogRow) (x : LogRow) (old new : Books)
-    (claimer : old.claimer ≡ p) (process : x.process < length old.said.items)
+    (claimer : old.claimer ≡ p) (within : x.process < length old.said.items) (counted : x.process < length old.rows.items)
     (split : IsSplit log ends p i (pre ++ x ∷ []) kept)
     (was : AreBooks (pre ++ x ∷ []) kept old) (passes : Passes x.step old.flight new.flight) where
   flight : AreInFlight pre new.flight
   flight = pass_flight pre x old.flight new.flight was.flight passes
 
-  kept_books : Keeps true x old new → AreBooks pre (x ∷ kept) new
-  kept_books keeps = record {
-    flight = flight;
-    taken = λ s. let a = keeps.taken s in let b = was.taken s in omega arith;
-    sent = λ s. let a = keeps.sent s in let b = was.sent s in omega arith;
-    said = λ q. dite (ℕ_discrete q x.process)
-        (λ e. subst (λ (r : ℕ). said_at new r ≡ said_of (steps_of r (x ∷ kept))) (sym e) (own keeps))
-        (λ ne. ap (λ (items : List Said). slice_index_or items q said.Nothing) keeps.said
-        ∙ get_or-set_other old.said.items x.process q (said_before x.step (said_at old x.process)) said.Nothing ne
-        ∙ was.said q ∙ ap said_of (sym (steps_other q x kept (λ e. ne (sym e)))));
-  }
-    where
-      own : Keeps true x old new → said_at new x.process ≡ said_of (steps_of x.process (x ∷ kept))
-      own keeps = ap (λ (items : List Said). slice_index_or items x.process said.Nothing) keeps.said
-          ∙ get_or-set_same old.said.items x.process (said_before x.step (said_at old x.process)) said.Nothing process
-          ∙ ap (said_before x.step) (was.said x.process) ∙ ap said_of (sym (steps_own x.process x kept refl))
+  -- the rows that are kept then
+  abbrev Found : Type 0
+  Found = (later : List LogRow)
+      × (IsSplit log ends p i pre later × AreBooks pre later new × (length later ≤ length kept + 1))
 
-  same_books : Keeps false x old new → AreBooks pre kept new
-  same_books keeps = record {
-    flight = flight;
-    taken = λ s. let a = keeps.taken s in let b = was.taken s in omega arith;
-    sent = λ s. let a = keeps.sent s in let b = was.sent s in omega arith;
-    said = λ q. ap (λ (items : List Said). slice_index_or items q said.Nothing) keeps.said ∙ was.said q;
-  }
+  kept_row : IsSplit log ends p i pre (x ∷ kept) → Keeps true x old new → Found
+  kept_row later keeps = (
+    x ∷ kept,
+    (later, record { flight = flight; keeps = kept_more kept x old new within counted was.keeps keeps }, omega arith),
+  )
 
   -- ---- the row is in the past, or not
 
@@ -113,7 +111,7 @@ module _ (log : List LogRow) (ends : HasEnds log) (p i : ℕ) (pre kept : List L
   message_true (Out s) is =
       let a = ltb-true (count new.flight s) (count old.taken s) is in
       let b = flight s in
-      let c = was.taken s in
+      let c = was.keeps.taken s in
       (s, same_self s, omega arith)
   message_true (In s) is = absurd (cc is)
   message_true Passive is = absurd (cc is)
@@ -126,46 +124,44 @@ module _ (log : List LogRow) (ends : HasEnds log) (p i : ℕ) (pre kept : List L
       subst (λ (r : Stream). ins r pre + ins r kept ≤ outs r pre) (sym (same_stream_is s t same))
       (let a = ltb-false (count new.flight t) (count old.taken t) is in
       let b = flight t in
-      let c = was.taken t in
+      let c = was.keeps.taken t in
       omega arith)
   message_false (In t) is = λ s same. absurd (cc same)
   message_false Passive is = λ s same. absurd (cc same)
   message_false Active is = λ s same. absurd (cc same)
   message_false Over is = λ s same. absurd (cc same)
 
-  same_said : (b : Bool) → has_row (said_at old x.process) ≡ b → has_row (said_of (steps_of x.process kept)) ≡ b
-  same_said b is = ap has_row (sym (was.said x.process)) ∙ is
-
-  pub looked : Keeps (is_needed x new.flight old) x old new
-      → (later : List LogRow) × (IsSplit log ends p i pre later × AreBooks pre later new)
+  pub looked : Keeps (is_needed x new.flight old) x old new → Found
   looked keeps = by_claimer (eqb x.process old.claimer) refl keeps
     where
-      by_message : (a b c : Bool) → x.process ≢ p → a ≡ false → b ≡ false → has_row (said_at old x.process) ≡ b
-          → is_message_needed new.flight old.taken x.step ≡ c → Keeps c x old new
-          → (later : List LogRow) × (IsSplit log ends p i pre later × AreBooks pre later new)
-      by_message a b true ne no_a no_b is_b is keeps =
+      by_message : (c : Bool) → x.process ≢ p → steps_of x.process kept ≡ []
+          → is_message_needed new.flight old.taken x.step ≡ c → Keeps c x old new → Found
+      by_message true ne none is keeps =
           let found = message_true x.step is in
-          let none = said_none (steps_of x.process kept) (same_said b is_b ∙ no_b) in
-          (x ∷ kept, (keep_message log ends p i pre kept x split none found.0 found.1 found.2, kept_books keeps))
-      by_message a b false ne no_a no_b is_b is keeps =
-          let none = said_none (steps_of x.process kept) (same_said b is_b ∙ no_b) in
-          (kept, (put_behind log ends p i pre kept x split none ne (message_false x.step is), same_books keeps))
-
-      by_said : (b : Bool) → x.process ≢ p → has_row (said_at old x.process) ≡ b
-          → Keeps (b || is_message_needed new.flight old.taken x.step) x old new
-          → (later : List LogRow) × (IsSplit log ends p i pre later × AreBooks pre later new)
-      by_said true ne is keeps = (
-        x ∷ kept,
-        (keep_other log ends p i pre kept x split (said_some (steps_of x.process kept) (same_said true is)), kept_books keeps),
+          kept_row (keep_message log ends p i pre kept x split none found.0 found.1 found.2) keeps
+      by_message false ne none is keeps = (
+        kept,
+        (
+          put_behind log ends p i pre kept x split none ne (message_false x.step is),
+          record { flight = flight; keeps = kept_same kept x old new was.keeps keeps },
+          omega arith,
+        ),
       )
-      by_said false ne is keeps = by_message false false (is_message_needed new.flight old.taken x.step) ne refl refl is refl keeps
+
+      by_rows : (b : Bool) → x.process ≢ p → nat_lt 0 (rows_at old x.process) ≡ b
+          → Keeps (b || is_message_needed new.flight old.taken x.step) x old new → Found
+      by_rows true ne is keeps = kept_row (keep_other log ends p i pre kept x split (λ none.
+          let a = ltb-true 0 (rows_at old x.process) is in
+          let b = was.keeps.rows x.process in
+          let c = ap length none in
+          absurd (omega arith))) keeps
+      by_rows false ne is keeps = by_message (is_message_needed new.flight old.taken x.step) ne
+          (no_steps (steps_of x.process kept)
+          (let a = ltb-false 0 (rows_at old x.process) is in let b = was.keeps.rows x.process in omega arith)) refl keeps
 
       by_claimer : (a : Bool) → eqb x.process old.claimer ≡ a
-          → Keeps (a || (has_row (said_at old x.process) || is_message_needed new.flight old.taken x.step)) x old new
-          → (later : List LogRow) × (IsSplit log ends p i pre later × AreBooks pre later new)
-      by_claimer true is keeps = (
-        x ∷ kept,
-        (keep_claimer log ends p i pre kept x split (eqb-true x.process old.claimer is ∙ claimer), kept_books keeps),
-      )
-      by_claimer false is keeps = by_said (has_row (said_at old x.process))
+          → Keeps (a || (nat_lt 0 (rows_at old x.process) || is_message_needed new.flight old.taken x.step)) x old new → Found
+      by_claimer true is keeps = kept_row
+          (keep_claimer log ends p i pre kept x split (eqb-true x.process old.claimer is ∙ claimer)) keeps
+      by_claimer false is keeps = by_rows (nat_lt 0 (rows_at old x.process))
           (λ e. eqb-false x.process old.claimer is (e ∙ sym claimer)) refl keeps

@@ -1,11 +1,10 @@
 -- Serves Judge.antt.
--- Verdicts by the books of a past.
+-- What is left, by books.
 use Rattle.std.proofs.Common.{◌≡◌, ℕ, ◌≤◌, ◌<◌, Bool, true, false, cond, List, [], ◌∷◌, ◌++◌, length}
-use Rattle.std.proofs.Common.{refl, sym, ap, ◌∙◌, subst, arith, append-nil, take}
-use Rattle.std.specs.Prelude.{slice_set, slice_index_or, Option, Some, None}
+use Rattle.std.proofs.Common.{refl, sym, ap, ◌∙◌, subst, arith, length-set}
+use Rattle.std.specs.Prelude.{slice_set, slice_index_or, Option, Some, None, ◌&&◌, not, MatchBool}
 use Rattle.std.proofs.lemmas.List.{get_or-set_same, get_or-set_other, get_or_past}
-use Rattle.std.proofs.Common.{length-set, suc}
-use Rattle.std.specs.Prelude.{◌&&◌, not}
+use Rattle.std.proofs.lemmas.List.Elements.{All-head, All-tail}
 use Rattle.std.proofs.lemmas.Bool.{ne_eqb}
 use mathlib.Core.Logic.{dite}
 use native.Mathlib.Decide.{ℕ_discrete, dec_lt}
@@ -17,18 +16,21 @@ use Rattle.chip_log.specs.declared.books.Said.{Said}
 use Rattle.chip_log.specs.declared.books.Said.TheVariants as said
 use Rattle.chip_log.specs.declared.books.Books.{Books}
 use Rattle.chip_log.specs.declared.past.Sizes.{Sizes}
+use Rattle.chip_log.specs.declared.past.ClaimPlace.{ClaimPlace}
+use Rattle.chip_log.specs.declared.verdict.Verdict.{Verdict}
 use Rattle.chip_log.specs.declared.verdict.Verdict.TheVariants as verdict
-use Rattle.chip_log.specs.Log.{sends, is_out, IsInterleaving}
-use Rattle.chip_log.specs.Log.{steps_of, outs, ins, active_after, begins_active, is_active}
-use Rattle.chip_log.specs.Claims.{basic, IsVerdict}
-use Rattle.chip_log.specs.Tally.{count}
+use Rattle.chip_log.specs.declared.judged.PastRows.{PastRows}
+use Rattle.chip_log.specs.declared.judged.LogEnd.TheVariants as end
+use Rattle.chip_log.specs.Log.{steps_of, is_out, sends, outs, ins, active_after, begins_active, is_active}
+use Rattle.chip_log.specs.Claims.{basic, IsPast, IsVerdict, IsOnItsWay, IsBusy, IsSilent}
 use Rattle.chip_log.specs.Books.{IsOf, said_by, said_before, said_of}
-use Rattle.chip_log.specs.Past.{IsLog, Fits, FitsRow, claimer_at, IsPastOf}
-use Rattle.chip_log.specs.Judge.{IsFirstWay, first_step, begins_with, AreBeginners, busy_at, is_busy, IsFirstBusy}
-use Rattle.chip_log.proofs.CountLemmas.{steps_push, steps_push_other}
-use Rattle.chip_log.proofs.CountLemmas.{active_after-append, sends-append}
+use Rattle.chip_log.specs.Past.{IsLog, Fits, FitsRow, AreSized, AreKept, IsPastOf}
+use Rattle.chip_log.specs.Judged.{AreRowsOf, IsOpenEnd}
+use Rattle.chip_log.specs.Judge.{stream_of, NoWay, IsFirstWay, first_step, begins_with, AreBeginners, busy_at, is_busy}
+use Rattle.chip_log.specs.Judge.{IsLeft, AreCounts}
+use Rattle.chip_log.proofs.CountLemmas.{steps_push, steps_push_other, active_after-append, sends-append, sends_le}
 use Rattle.chip_log.proofs.MetLemmas.{count_no}
-use Rattle.chip_log.proofs.PastLemmas.{now_le, outs_by, rest_of}
+use Rattle.chip_log.proofs.PastLemmas.{met_le, now_le, outs_by, rest_of}
 use Rattle.chip_log.proofs.SilentLemmas.{silent_is_right}
 
 -- ---- what processes begin with
@@ -65,7 +67,6 @@ begun b (step ∷ steps) = begun b steps
 -- ---- activity by the books
 
 abbrev activity : Bool → Said → Bool
-activity was said.Nothing = was
 activity was said.Unsaid = was
 activity was said.Passive = false
 activity was said.Active = true
@@ -83,7 +84,6 @@ by_step was Over = refl
 
 earlier : (was : Bool) (step : Step) (later : Said)
     → activity (active_after was (step ∷ [])) later ≡ activity was (said_before step later)
-earlier was step said.Nothing = by_step was step
 earlier was step said.Unsaid = by_step was step
 earlier was step said.Passive = refl
 earlier was step said.Active = refl
@@ -97,12 +97,6 @@ active_said was (step ∷ steps) = active_after-append was (step ∷ []) steps
 busy_is : (what : Said) (steps : List Step) → busy_at what (begins_with None steps) ≡ activity (begins_active steps) what
 busy_is said.Passive steps = refl
 busy_is said.Active steps = refl
-busy_is said.Nothing [] = refl
-busy_is said.Nothing (Active ∷ steps) = ap (busy_at said.Nothing) (begun true steps)
-busy_is said.Nothing (Out s ∷ steps) = ap (busy_at said.Nothing) (begun false steps)
-busy_is said.Nothing (In s ∷ steps) = ap (busy_at said.Nothing) (begun false steps)
-busy_is said.Nothing (Passive ∷ steps) = ap (busy_at said.Nothing) (begun false steps)
-busy_is said.Nothing (Over ∷ steps) = ap (busy_at said.Nothing) (begun false steps)
 busy_is said.Unsaid [] = refl
 busy_is said.Unsaid (Active ∷ steps) = ap (busy_at said.Unsaid) (begun true steps)
 busy_is said.Unsaid (Out s ∷ steps) = ap (busy_at said.Unsaid) (begun false steps)
@@ -110,104 +104,151 @@ busy_is said.Unsaid (In s ∷ steps) = ap (busy_at said.Unsaid) (begun false ste
 busy_is said.Unsaid (Passive ∷ steps) = ap (busy_at said.Unsaid) (begun false steps)
 busy_is said.Unsaid (Over ∷ steps) = ap (busy_at said.Unsaid) (begun false steps)
 
--- ---- verdicts
+-- ---- what is left
 
 -- a channel beyond the sizes has no message
-none_beyond : (sizes : Sizes) (c : ℕ) → sizes.channels ≤ c → (xs : List LogRow) → Fits sizes xs → outs (basic c) xs ≡ 0
-none_beyond sizes c beyond [] fits = refl
-none_beyond sizes c beyond (x ∷ xs) fits =
-    let a = none_beyond sizes c beyond xs (λ k d l. fits (suc k) d (omega arith)) in
-    let first : FitsRow sizes x = fits 0 x (omega arith) in
-    let b = count_no (is_out (basic c) x.step) (by x.step first.channel) in
+none_beyond : (sizes : Sizes) (s : Stream) → sizes.channels ≤ s.channel → (xs : List LogRow) → Fits sizes xs → outs s xs ≡ 0
+none_beyond sizes s beyond [] fits = refl
+none_beyond sizes s beyond (x ∷ xs) fits =
+    let a = none_beyond sizes s beyond xs (All-tail (FitsRow sizes) x xs fits) in
+    let b = count_no (is_out s x.step) (by x.step (All-head (FitsRow sizes) x xs fits).channel) in
     omega arith
   where
-    by : (step : Step) → IsOf sizes.channels step → is_out (basic c) step ≡ false
-    by (Out s) inside = ap (λ (b : Bool). b && not s.is_control) (ne_eqb c s.channel (λ e. absurd (omega arith)))
-    by (In s) inside = refl
+    by : (step : Step) → IsOf sizes.channels step → is_out s step ≡ false
+    by (Out t) inside = ap (λ (b : Bool). b && cond s.is_control t.is_control (not t.is_control))
+        (ne_eqb s.channel t.channel (λ e. absurd (omega arith)))
+    by (In t) inside = refl
     by Passive inside = refl
     by Active inside = refl
     by Over inside = refl
 
-module _ (log : List LogRow) (is : IsLog log) (sizes : Sizes) (fits : Fits sizes log) (at : ℕ) (b : Books)
-    (is_past : IsPastOf log sizes at b) where
-  abbrev p : ℕ
-  p = claimer_at log at
+-- rows of a log that may stand as they do, and their books
+module _ (log : List LogRow) (sizes : Sizes) (fits : Fits sizes log) (now : List LogRow) (b : Books)
+    (keeps : AreKept now b) (le : (s : Stream) → ins s now ≤ outs s now) (few : (s : Stream) → outs s now ≤ outs s log) where
+  pub no_way : (k : Bool) → NoWay k sizes.channels b → (c : ℕ) → outs (stream_of k c) now ≡ ins (stream_of k c) now
+  no_way k none c =
+      let d = le (stream_of k c) in
+      dite (dec_lt c sizes.channels)
+      (λ l. let a = none c l in let e = keeps.taken (stream_of k c) in let f = keeps.sent (stream_of k c) in omega arith)
+      (λ beyond. let a = none_beyond sizes (stream_of k c) (omega arith) log fits in let e = few (stream_of k c) in omega arith)
 
-  abbrev i : ℕ
-  i = length (steps_of p (take at log))
+  pub some_way : (k : Bool) (c : ℕ) → IsFirstWay k sizes.channels b (Some c) → ins (stream_of k c) now < outs (stream_of k c) now
+  some_way k c first =
+      let a = first.1 in let e = keeps.taken (stream_of k c) in let f = keeps.sent (stream_of k c) in omega arith
 
+  pub way_left : (c k : ℕ) → IsLeft sizes [] b (verdict.OnItsWay c k) → IsOnItsWay now c k
+  way_left c k left = record {
+    next = let a = keeps.taken (basic c) in let d = left.1 in omega arith;
+    sent = let a = some_way false c left.0 in let d = left.1 in let e = keeps.taken (basic c) in omega arith;
+    least = λ d less.
+        let a = left.0.2 d less in
+        let e = keeps.taken (basic d) in
+        let f = keeps.sent (basic d) in
+        let g = le (basic d) in
+        omega arith;
+  }
+
+  module _ (sized : AreSized sizes b) (beginners : List (Option Bool)) (made : AreBeginners sizes log beginners) where
+    is_busy_is : (q : ℕ) → is_busy beginners b q ≡ is_active log now q
+    is_busy_is q =
+        ap (λ (what : Said). busy_at what (slice_index_or beginners q None)) (keeps.said q)
+        ∙ ap (busy_at (said_of (steps_of q now))) (made.begins q)
+        ∙ busy_is (said_of (steps_of q now)) (steps_of q log)
+        ∙ sym (active_said (begins_active (steps_of q log)) (steps_of q now))
+
+    pub busy_left : (q : ℕ) → IsLeft sizes beginners b (verdict.Active q) → IsBusy log now q
+    busy_left q left = record {
+      quiet = no_way false left.0;
+      active = sym (is_busy_is q) ∙ left.1.1;
+      least = λ r less. sym (is_busy_is r) ∙ left.1.2 r less;
+    }
+
+    pub none_left : IsLeft sizes beginners b verdict.Right → IsSilent log now
+    none_left left = record {
+      quiet = no_way false left.0;
+      passive = λ q. sym (is_busy_is q) ∙ dite (dec_lt q sizes.processes)
+          (λ l. left.1 q l)
+          (λ beyond.
+          let a = sized.processes in
+          let e = made.each in
+          ap (λ (what : Said). busy_at what (slice_index_or beginners q None))
+          (get_or_past b.said.items q said.Unsaid (omega arith))
+          ∙ ap (busy_at said.Unsaid) (get_or_past beginners q None (omega arith)));
+    }
+
+-- ---- a verdict by the books of the least past
+
+module _ (log : List LogRow) (is : IsLog log) (sizes : Sizes) (fits : Fits sizes log) (claim : ClaimPlace) (b : Books)
+    (is_past : IsPastOf log sizes claim b) (beginners : List (Option Bool)) (made : AreBeginners sizes log beginners) where
   abbrev past : List LogRow
   past = is_past.past
 
-  pub way_verdict : (c k : ℕ) → IsFirstWay sizes.channels b (Some c) → k ≡ count b.taken (basic c)
-      → IsVerdict log p i (verdict.OnItsWay c k)
-  way_verdict c k first same = (
-    past,
-    is_past.is_past,
-    record {
-      next = let a = is_past.books.taken (basic c) in omega arith;
-      sent = let a = is_past.books.taken (basic c) in let d = is_past.books.sent (basic c) in let e = first.1 in omega arith;
-      least = λ d less.
-          let a = first.2 d less in
-          let e = is_past.books.taken (basic d) in
-          let f = is_past.books.sent (basic d) in
-          let g = le (basic d) in
-          omega arith;
-    },
-  )
-    where
-      le : (s : Stream) → ins s past ≤ outs s past
-      le s = now_le log is.ends past _ is_past.is_past.here.whole s
+  abbrev behind : List LogRow
+  behind = record { process = claim.process; step = Over } ∷ is_past.is_past.here.after
 
-  module _ (quiet : IsFirstWay sizes.channels b None) where
-    is_quiet : (c : ℕ) → outs (basic c) past ≡ ins (basic c) past
-    is_quiet c =
-        let le = now_le log is.ends past _ is_past.is_past.here.whole (basic c) in
-        dite (dec_lt c sizes.channels)
-        (λ l.
-        let a = quiet c l in
-        let e = is_past.books.taken (basic c) in
-        let f = is_past.books.sent (basic c) in
-        omega arith)
+  le : (s : Stream) → ins s past ≤ outs s past
+  le s = now_le log is.ends past behind is_past.is_past.here.whole s
+
+  few : (s : Stream) → outs s past ≤ outs s log
+  few s =
+      let a = outs_by log is.ends past behind is_past.is_past.here.whole s in
+      let d = ap (sends s) (rest_of log is.ends past behind is_past.is_past.here.whole (is.ends.sender s)) in
+      let e = sends-append s (steps_of (is.ends.sender s) past) (steps_of (is.ends.sender s) behind) in
+      let f = sends_le s (is.ends.sender s) log in
+      omega arith
+
+  pub verdict_left : (v : Verdict) → IsLeft sizes beginners b v → IsVerdict log claim.process claim.row v
+  verdict_left verdict.Right left = silent_is_right log is.ends claim.process claim.row past is_past.is_past
+      (none_left log sizes fits past b is_past.keeps le few is_past.sized beginners made left)
+  verdict_left (verdict.OnItsWay c k) left =
+      (past, is_past.is_past, way_left log sizes fits past b is_past.keeps le few c k left)
+  verdict_left (verdict.Active q) left =
+      (past, is_past.is_past, busy_left log sizes fits past b is_past.keeps le few is_past.sized beginners made q left)
+
+  -- the rows of the past, by process
+  pub rows_left : (counts : List PastRows) → AreCounts sizes.processes b counts → AreRowsOf past counts
+  rows_left counts are = record {
+    each = λ q. dite (dec_lt q sizes.processes)
+        (λ l. are.each q l ∙ is_past.keeps.rows q)
         (λ beyond.
-        let whole : IsInterleaving log (log ++ []) = subst (IsInterleaving log) (sym (append-nil log))
-        (record { whole = λ q. refl; met = is.met }) in
-        let a = outs_by log is.ends past _ is_past.is_past.here.whole (basic c) in
-        let e = outs_by log is.ends log [] whole (basic c) in
-        let f = none_beyond sizes c (omega arith) log fits in
-        let g = ap (sends (basic c)) (rest_of log is.ends past _ is_past.is_past.here.whole (is.ends.sender (basic c))) in
-        let h = sends-append (basic c) (steps_of (is.ends.sender (basic c)) past)
-        (steps_of (is.ends.sender (basic c)) (record { process = p; step = Over } ∷ is_past.is_past.here.after)) in
-        omega arith)
+        let a = is_past.sized.counted in
+        are.none q (omega arith) ∙ sym (get_or_past b.rows.items q 0 (omega arith)) ∙ is_past.keeps.rows q);
+    some = are.some;
+    sorted = are.sorted;
+  }
 
-    module _ (beginners : List (Option Bool)) (made : AreBeginners sizes log beginners) where
-      is_busy_is : (q : ℕ) → is_busy beginners b q ≡ is_active log past q
-      is_busy_is q =
-          ap (λ (what : Said). busy_at what (slice_index_or beginners q None)) (is_past.books.said q)
-          ∙ ap (busy_at (said_of (steps_of q past))) (made.begins q)
-          ∙ busy_is (said_of (steps_of q past)) (steps_of q log)
-          ∙ sym (active_said (begins_active (steps_of q log)) (steps_of q past))
+  pub past_left : (asked : Bool) (counts : List PastRows)
+      → MatchBool asked (AreCounts sizes.processes b counts) (counts ≡ [])
+      → MatchBool asked ((before : List LogRow) × IsPast log claim.process claim.row before × AreRowsOf before counts)
+      (counts ≡ [])
+  past_left true counts are = (past, is_past.is_past, rows_left counts are)
+  past_left false counts none = none
 
-      pub busy_verdict : (q : ℕ) → IsFirstBusy sizes.processes beginners b (Some q) → IsVerdict log p i (verdict.Active q)
-      busy_verdict q first = (
-        past,
-        is_past.is_past,
-        record {
-          quiet = is_quiet;
-          active = sym (is_busy_is q) ∙ first.1;
-          least = λ r less. sym (is_busy_is r) ∙ first.2 r less;
-        },
-      )
+-- ---- the end of a log by the books of all its rows
 
-      pub right_verdict : IsFirstBusy sizes.processes beginners b None → IsVerdict log p i verdict.Right
-      right_verdict none = silent_is_right log is.ends p i past is_past.is_past (record {
-        quiet = is_quiet;
-        passive = λ q. sym (is_busy_is q) ∙ dite (dec_lt q sizes.processes)
-            (λ l. none q l)
-            (λ beyond.
-            let a = is_past.sized.processes in
-            let e = made.each in
-            ap (λ (what : Said). busy_at what (slice_index_or beginners q None))
-            (get_or_past b.said.items q said.Nothing (omega arith))
-            ∙ ap (busy_at said.Nothing) (get_or_past beginners q None (omega arith)));
-      })
+module _ (log : List LogRow) (is : IsLog log) (sizes : Sizes) (fits : Fits sizes log) (b : Books) (sized : AreSized sizes b)
+    (keeps : AreKept log b) (beginners : List (Option Bool)) (made : AreBeginners sizes log beginners) where
+  all_le : (s : Stream) → ins s log ≤ outs s log
+  all_le s = met_le s log [] log is.met (omega arith)
+
+  all_few : (s : Stream) → outs s log ≤ outs s log
+  all_few s = omega arith
+
+  pub way_end : (c k : ℕ) → IsLeft sizes beginners b (verdict.OnItsWay c k) → IsOpenEnd log (end.OnItsWay c k)
+  way_end c k left = way_left log sizes fits log b keeps all_le all_few c k left
+
+  pub busy_end : (q : ℕ) → IsLeft sizes beginners b (verdict.Active q) → IsOpenEnd log (end.Active q)
+  busy_end q left = busy_left log sizes fits log b keeps all_le all_few sized beginners made q left
+
+  pub missed_end : IsLeft sizes beginners b verdict.Right → IsFirstWay true sizes.channels b None → IsOpenEnd log end.Missed
+  missed_end left first = (
+    none_left log sizes fits log b keeps all_le all_few sized beginners made left,
+    no_way log sizes fits log b keeps all_le all_few true first,
+  )
+
+  pub unclaimed_end : (c : ℕ) → IsLeft sizes beginners b verdict.Right → IsFirstWay true sizes.channels b (Some c)
+      → IsOpenEnd log end.Unclaimed
+  unclaimed_end c left first = (
+    none_left log sizes fits log b keeps all_le all_few sized beginners made left,
+    (c, some_way log sizes fits log b keeps all_le all_few true c first),
+  )

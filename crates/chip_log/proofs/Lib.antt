@@ -7,6 +7,9 @@ pub mod VerdictLemmas
 pub mod BooksLemmas
 pub mod LoopLemmas
 pub mod JudgeLemmas
+mod SameLemmas
+mod RightLemmas
+mod PlacesLemmas
 mod QueuesLemmas
 mod OrderingLemmas
 mod OrderLemmas

@@ -1,7 +1,10 @@
 -- Serves Past.antt.
 -- The loops over the rows before a claim.
 use Rattle.std.proofs.Common.{◌≡◌, ℕ, ◌+◌, ◌-◌, ◌≤◌, ◌<◌, ◌^◌, Bool, true, false, List, [], ◌∷◌, ◌++◌, length, get_or}
-use Rattle.std.proofs.Common.{refl, sym, ap, ◌∙◌, subst, arith, append_assoc, append-nil, take, drop}
+use Rattle.std.proofs.Common.{refl, sym, ap, ◌∙◌, subst, arith, append_assoc, append-nil, take, drop, suc}
+use Rattle.std.proofs.Math.Seq.{drop-cons}
+use mathlib.Core.Logic.{dite}
+use native.Mathlib.Decide.{ℕ_discrete}
 use Rattle.std.proofs.lemmas.Bool.{ltb-true}
 use Rattle.std.proofs.lemmas.List.{take_more, take-append-drop}
 use Rattle.std.proofs.lemmas.List.Elements.{All-get_or}
@@ -11,17 +14,18 @@ use Rattle.chip_log.specs.declared.row.Stream.{Stream}
 use Rattle.chip_log.specs.declared.row.Step.{Step}
 use Rattle.chip_log.specs.declared.row.Step.TheVariants.{Out, In, Passive, Active, Over}
 use Rattle.chip_log.specs.declared.past.Sizes.{Sizes}
+use Rattle.chip_log.specs.declared.past.ClaimPlace.{ClaimPlace}
 use Rattle.chip_log.specs.declared.books.Books.{Books}
 use Rattle.chip_log.specs.Log.{steps_of, is_out, is_in, sends, gets, all_steps, outs, ins, is_met, AreMet, IsInterleaving}
 use Rattle.chip_log.specs.Log.{HasEnds}
 use Rattle.chip_log.specs.Tally.{TallyState}
 use Rattle.chip_log.specs.Books.{Passes, is_needed, Keeps}
-use Rattle.chip_log.specs.Books.{one_if, IsOf, HasMakeRoom, HasFlightRoom, HasCountRoom, HasRoom}
-use Rattle.chip_log.specs.Past.{IsLog, Fits, FitsRow, claimer_at, IsClaim, AreSized, AreInFlight, AreBooks}
-use Rattle.chip_log.proofs.CountLemmas.{outs-append, ins-append}
+use Rattle.chip_log.specs.Books.{one_if, IsOf, HasMakeRoom, HasFlightRoom, HasCountRoom, HasKeepRoom, HasRoom}
+use Rattle.chip_log.specs.Past.{IsLog, Fits, FitsRow, IsPlace, AreSized, AreInFlight, AreKept, AreBooks}
+use Rattle.chip_log.proofs.CountLemmas.{outs-append, ins-append, steps_own, steps_other}
 use Rattle.chip_log.proofs.MetLemmas.{same_self, outs_push, ins_push, ins_push_no}
 use Rattle.chip_log.proofs.BooksLemmas.{looked}
-use Rattle.chip_log.proofs.PastLemmas.{are_met_first, are_met_second, met_le, outs_by, ins_by, IsSplit}
+use Rattle.chip_log.proofs.PastLemmas.{are_met_first, are_met_second, met_le, IsSplit}
 
 at_most_one : (b : Bool) → one_if b ≤ 1
 at_most_one true = omega arith
@@ -45,6 +49,31 @@ outs_few s xs = let a = sends_few s (all_steps xs) in let b = all_length xs in o
 ins_few : (s : Stream) (xs : List LogRow) → ins s xs ≤ length xs
 ins_few s xs = let a = gets_few s (all_steps xs) in let b = all_length xs in omega arith
 
+pub steps_few : (q : ℕ) (xs : List LogRow) → length (steps_of q xs) ≤ length xs
+steps_few q [] = omega arith
+steps_few q (x ∷ xs) = dite (ℕ_discrete x.process q)
+    (λ e. let a = ap length (steps_own q x xs e) in let b = steps_few q xs in omega arith)
+    (λ ne. let a = ap length (steps_other q x xs ne) in let b = steps_few q xs in omega arith)
+
+-- there is room for a row beside those that the books keep
+pub keep_room : (sizes : Sizes) (x : LogRow) (kept : List LogRow) (b : Books) → FitsRow sizes x → AreSized sizes b
+    → AreKept kept b → length kept + 1 < 2 ^ 32 → HasKeepRoom x b
+keep_room sizes x kept b fits sized was few = record {
+  process = let a = fits.process in let e = sized.processes in omega arith;
+  counted = let a = fits.process in let e = sized.counted in omega arith;
+  taken = subst (λ (m : ℕ). IsOf m x.step) (sym sized.taken) fits.channel;
+  sent = subst (λ (m : ℕ). IsOf m x.step) (sym sized.sent) fits.channel;
+  counts = by x.step;
+  rows = let a = was.rows x.process in let e = steps_few x.process kept in omega arith;
+}
+  where
+    by : (step : Step) → HasCountRoom step b
+    by (Out s) = let a = was.sent s in let e = outs_few s kept in omega arith
+    by (In s) = let a = was.taken s in let e = ins_few s kept in omega arith
+    by Passive = tt
+    by Active = tt
+    by Over = tt
+
 -- the rows before a place, the row there, and those behind it
 pub rows_split : (log : List LogRow) (i : ℕ) (d : LogRow) → i < length log
     → take i log ++ (get_or log i d ∷ drop (i + 1) log) ≡ log
@@ -52,9 +81,6 @@ rows_split log i d l = sym (append_assoc (take i log) (get_or log i d ∷ []) (d
     ∙ ap (λ (zs : List LogRow). zs ++ drop (i + 1) log) (sym (take_more log i d l)) ∙ take-append-drop (i + 1) log
 
 module _ (log : List LogRow) (is : IsLog log) (sizes : Sizes) (fits : Fits sizes log) (few : length log < 2 ^ 32) where
-  itself : IsInterleaving log log
-  itself = record { whole = λ p. refl; met = is.met }
-
   module _ (i : ℕ) (d : LogRow) (l : i < length log) where
     abbrev pre : List LogRow
     pre = take i log
@@ -99,82 +125,31 @@ module _ (log : List LogRow) (is : IsLog log) (sizes : Sizes) (fits : Fits sizes
         by Active e = tt
         by Over e = tt
 
-    module _ (ends : HasEnds log) (p n : ℕ) (kept : List LogRow) (b : Books) (sized : AreSized sizes b)
-        (split : IsSplit log ends p n (pre ++ x ∷ []) kept) (was : AreBooks (pre ++ x ∷ []) kept b) where
-      abbrev claim : LogRow
-      claim = record { process = p; step = Over }
+    pub look_room : (kept : List LogRow) (b : Books) → AreSized sizes b → AreBooks (pre ++ x ∷ []) kept b
+        → length kept + 1 < 2 ^ 32 → HasRoom x b
+    look_room kept b sized was short = record {
+      flight = subst (λ (m : ℕ). IsOf m x.step) (sym sized.flight) fits_here.channel;
+      in_flight = by x.step refl;
+      keep = keep_room sizes x kept b fits_here sized was.keeps short;
+    }
+      where
+        by : (step : Step) → x.step ≡ step → HasFlightRoom step b.flight
+        by (Out s) e =
+            let a = was.flight s in
+            let f = outs_push s pre x (ap (is_out s) e ∙ same_self s) in
+            let g = ins_push_no s pre x (ap (is_in s) e) in
+            let h = pre_le s in
+            omega arith
+        by (In s) e =
+            let a = was.flight s in
+            let f = ins_push s pre x (ap (is_in s) e ∙ same_self s) in
+            let g = outs_all s in
+            omega arith
+        by Passive e = tt
+        by Active e = tt
+        by Over e = tt
 
-      abbrev moved : List LogRow
-      moved = ((pre ++ x ∷ []) ++ kept) ++ claim ∷ split.before.after
-
-      whole : IsInterleaving log (moved ++ [])
-      whole = subst (IsInterleaving log) (sym (append-nil moved)) split.before.whole
-
-      whole_log : IsInterleaving log (log ++ [])
-      whole_log = subst (IsInterleaving log) (sym (append-nil log)) itself
-
-      outs_same : (s : Stream) → outs s moved ≤ length log
-      outs_same s =
-          let a = outs_by log ends moved [] whole s in
-          let e = outs_by log ends log [] whole_log s in
-          let f = ap (sends s) (split.before.whole.whole (ends.sender s)) in
-          let g = outs_few s log in
-          omega arith
-
-      ins_same : (s : Stream) → ins s moved ≤ length log
-      ins_same s =
-          let a = ins_by log ends moved [] whole s in
-          let e = ins_by log ends log [] whole_log s in
-          let f = ap (gets s) (split.before.whole.whole (ends.receiver s)) in
-          let g = ins_few s log in
-          omega arith
-
-      in_flight : (step : Step) → x.step ≡ step → HasFlightRoom step b.flight
-      in_flight (Out s) e =
-          let a = was.flight s in
-          let f = outs_push s pre x (ap (is_out s) e ∙ same_self s) in
-          let g = ins_push_no s pre x (ap (is_in s) e) in
-          let h = pre_le s in
-          omega arith
-      in_flight (In s) e =
-          let a = was.flight s in
-          let f = ins_push s pre x (ap (is_in s) e ∙ same_self s) in
-          let g = outs_all s in
-          omega arith
-      in_flight Passive e = tt
-      in_flight Active e = tt
-      in_flight Over e = tt
-
-      counts : (step : Step) → x.step ≡ step → HasCountRoom step b
-      counts (Out s) e =
-          let a = was.sent s in
-          let f = outs_push s pre x (ap (is_out s) e ∙ same_self s) in
-          let g = outs-append s (pre ++ x ∷ []) kept in
-          let h = outs-append s ((pre ++ x ∷ []) ++ kept) (claim ∷ split.before.after) in
-          let j = outs_same s in
-          omega arith
-      counts (In s) e =
-          let a = was.taken s in
-          let f = ins_push s pre x (ap (is_in s) e ∙ same_self s) in
-          let g = ins-append s (pre ++ x ∷ []) kept in
-          let h = ins-append s ((pre ++ x ∷ []) ++ kept) (claim ∷ split.before.after) in
-          let j = ins_same s in
-          omega arith
-      counts Passive e = tt
-      counts Active e = tt
-      counts Over e = tt
-
-      pub look_room : HasRoom x b
-      look_room = record {
-        process = let a = fits_here.process in let e = sized.processes in omega arith;
-        flight = subst (λ (m : ℕ). IsOf m x.step) (sym sized.flight) fits_here.channel;
-        taken = subst (λ (m : ℕ). IsOf m x.step) (sym sized.taken) fits_here.channel;
-        sent = subst (λ (m : ℕ). IsOf m x.step) (sym sized.sent) fits_here.channel;
-        in_flight = in_flight x.step refl;
-        counts = counts x.step refl;
-      }
-
--- the rows before a place, without the last one
+-- the rows before a place, without the last one, and those from there on
 before_last : (log : List LogRow) (left : ℕ) (d : LogRow) → 0 < left → left ≤ length log
     → take left log ≡ take (left - 1) log ++ get_or log (left - 1) d ∷ []
 before_last log left d some within = ap (λ (n : ℕ). take n log) same ∙ take_more log (left - 1) d (omega arith)
@@ -182,11 +157,16 @@ before_last log left d some within = ap (λ (n : ℕ). take n log) same ∙ take
     same : left ≡ left - 1 + 1
     same = omega arith
 
+pub from_last : (log : List LogRow) (left : ℕ) (d : LogRow) → 0 < left → left ≤ length log
+    → drop (left - 1) log ≡ get_or log (left - 1) d ∷ drop left log
+from_last log left d some within = drop-cons log (left - 1) d (omega arith)
+    ∙ ap (λ (n : ℕ). get_or log (left - 1) d ∷ drop n log) (let e : suc (left - 1) ≡ left = omega arith in e)
+
 -- one turn of the loop that looks at rows
 module _ (log : List LogRow) (is : IsLog log) (sizes : Sizes) (fits : Fits sizes log) (few : length log < 2 ^ 32)
     (ends : HasEnds log) (p n left : ℕ) (d : LogRow) (some : 0 < left) (inside : left ≤ length log) (kept : List LogRow)
     (b : Books) (sized : AreSized sizes b) (split : IsSplit log ends p n (take left log) kept)
-    (was : AreBooks (take left log) kept b) where
+    (was : AreBooks (take left log) kept b) (short : left + length kept ≤ length log) where
   abbrev row_here : LogRow
   row_here = get_or log (left - 1) d
 
@@ -197,44 +177,48 @@ module _ (log : List LogRow) (is : IsLog log) (sizes : Sizes) (fits : Fits sizes
   books_here = subst (λ (zs : List LogRow). AreBooks zs kept b) (before_last log left d some inside) was
 
   pub turn_room : HasRoom row_here b
-  turn_room = look_room log is sizes fits few (left - 1) d (omega arith) ends p n kept b sized split_here books_here
+  turn_room = look_room log is sizes fits few (left - 1) d (omega arith) kept b sized books_here (omega arith)
 
   pub turn_looked : (new : Books) → b.claimer ≡ p → Passes row_here.step b.flight new.flight
       → Keeps (is_needed row_here new.flight b) row_here b new
       → (later : List LogRow) × (IsSplit log ends p n (take (left - 1) log) later
-      × AreBooks (take (left - 1) log) later new)
+      × AreBooks (take (left - 1) log) later new × (length later ≤ length kept + 1))
   turn_looked new claimer passes keeps = looked log ends p n (take (left - 1) log) kept row_here b new claimer
-      turn_room.process split_here books_here passes keeps
+      turn_room.keep.process turn_room.keep.counted split_here books_here passes keeps
 
-  pub turn_sized : (new : Books) → Passes row_here.step b.flight new.flight → (needed : Bool)
-      → Keeps needed row_here b new → AreSized sizes new
-  turn_sized new passes needed keeps = record {
-    processes = keeps.processes ∙ sized.processes;
-    flight = passes.same ∙ sized.flight;
-    taken = keeps.taken_channels ∙ sized.taken;
-    sent = keeps.sent_channels ∙ sized.sent;
-  }
+-- books of the same sizes
+pub kept_sized : (sizes : Sizes) (needed : Bool) (x : LogRow) (old new : Books) → AreSized sizes old
+    → new.flight.channels ≡ old.flight.channels → Keeps needed x old new → AreSized sizes new
+kept_sized sizes needed x old new sized flight keeps = record {
+  processes = keeps.processes ∙ sized.processes;
+  counted = keeps.counted ∙ sized.counted;
+  flight = flight ∙ sized.flight;
+  taken = keeps.taken_channels ∙ sized.taken;
+  sent = keeps.sent_channels ∙ sized.sent;
+}
 
 -- where the look at rows begins
-module _ (log : List LogRow) (is : IsLog log) (at : ℕ) (claim : IsClaim log at) where
+module _ (log : List LogRow) (is : IsLog log) (claim : ClaimPlace) (place : IsPlace log claim) where
   abbrev row : LogRow
-  row = record { process = claimer_at log at; step = Over }
+  row = record { process = claim.process; step = Over }
 
-  pub within : at < length log
-  within = slice_get_within log at row claim
+  pub within : claim.at < length log
+  within = slice_get_within log claim.at row place.over
 
-  all : (take at log ++ []) ++ row ∷ drop (at + 1) log ≡ log
-  all = ap (λ (zs : List LogRow). zs ++ row ∷ drop (at + 1) log) (append-nil (take at log))
-      ∙ ap (λ (y : LogRow). take at log ++ (y ∷ drop (at + 1) log)) (sym (get_or_from_slice_get log at row row claim))
-      ∙ rows_split log at row within
+  pub at_place : take claim.at log ++ (row ∷ drop (claim.at + 1) log) ≡ log
+  at_place = ap (λ (y : LogRow). take claim.at log ++ (y ∷ drop (claim.at + 1) log))
+      (sym (get_or_from_slice_get log claim.at row row place.over))
+      ∙ rows_split log claim.at row within
 
-  pub start_split : IsSplit log is.ends (claimer_at log at) (length (steps_of (claimer_at log at) (take at log)))
-      (take at log) []
+  all : (take claim.at log ++ []) ++ row ∷ drop (claim.at + 1) log ≡ log
+  all = ap (λ (zs : List LogRow). zs ++ row ∷ drop (claim.at + 1) log) (append-nil (take claim.at log)) ∙ at_place
+
+  pub start_split : IsSplit log is.ends claim.process claim.row (take claim.at log) []
   start_split = record {
     before = record {
-      after = drop (at + 1) log;
+      after = drop (claim.at + 1) log;
       whole = subst (IsInterleaving log) (sym all) (record { whole = λ p. refl; met = is.met });
-      place = ap (λ (zs : List LogRow). length (steps_of (claimer_at log at) zs)) (append-nil (take at log));
+      place = ap (λ (zs : List LogRow). length (steps_of claim.process zs)) (append-nil (take claim.at log)) ∙ place.row;
     };
     least = λ other here q some. absurd (some refl);
   }

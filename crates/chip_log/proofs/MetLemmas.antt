@@ -23,6 +23,9 @@ count_yes b is = ap (λ (t : Bool). cond t 1 0) is
 pub count_no : (b : Bool) → b ≡ false → ◌≡◌ {A = ℕ} (cond b 1 0) 0
 count_no b is = ap (λ (t : Bool). cond t 1 0) is
 
+pub count_same : (a b : Bool) → a ≡ b → ◌≡◌ {A = ℕ} (cond a 1 0) (cond b 1 0)
+count_same a b is = ap (λ (t : Bool). cond t 1 0) is
+
 pub not_counted : (b : Bool) → ◌≡◌ {A = ℕ} (cond b 1 0) 0 → b ≡ false
 not_counted true e = absurd (omega arith)
 not_counted false e = refl

@@ -28,9 +28,10 @@ total_le [] p = let a = ap (λ (steps : List Step). length steps) (get_or_past [
 total_le (mine ∷ queues) zero = omega arith
 total_le (mine ∷ queues) (suc p) = let a = total_le queues p in omega arith
 
-pub none_queued : (n p : ℕ) → queue_of (replicate n []) p ≡ []
-none_queued n p = dite (dec_lt p n) (λ l. get_or-replicate n p [] [] l)
-    (λ no. let many = length-replicate {A = List Step} n [] in get_or_past (replicate n []) p [] (omega arith))
+-- each element of such a list, and what is read behind it
+pub all_same : {X : Type 0} (n p : ℕ) (x : X) → get_or (replicate n x) p x ≡ x
+all_same n p x = dite (dec_lt p n) (λ l. get_or-replicate n p x x l)
+    (λ no. let many = length-replicate n x in get_or_past (replicate n x) p x (omega arith))
 
 pub none_in_total : (n : ℕ) → total (replicate n []) ≡ 0
 none_in_total zero = refl

@@ -1,6 +1,6 @@
 -- What is known of the past of a claim.
 use Rattle.std.specs.Prelude.{◌≡◌, ℕ, ◌+◌, ◌^◌, ◌<◌, ◌==◌, nat_lt, ◌||◌, Bool, true, false, if◌then◌else◌}
-use Rattle.std.specs.Prelude.{List, [], ◌∷◌, length, slice_index_or, slice_set}
+use Rattle.std.specs.Prelude.{List, [], ◌∷◌, length, slice_index, slice_index_or, slice_set}
 use Rattle.chip_log.specs.declared.row.LogRow.{LogRow}
 use Rattle.chip_log.specs.declared.row.Stream.{Stream}
 use Rattle.chip_log.specs.declared.row.Step.{Step}
@@ -23,11 +23,10 @@ said_by _ = said.Unsaid
 abbrev pub said_before : Step → Said → Said
 said_before step said.Passive = said.Passive
 said_before step said.Active = said.Active
-said_before step said.Nothing = said_by step
 said_before step said.Unsaid = said_by step
 
 abbrev pub said_of : List Step → Said
-said_of [] = said.Nothing
+said_of [] = said.Unsaid
 said_of (step ∷ steps) = said_before step (said_of steps)
 
 -- ---- a look at one more row
@@ -45,26 +44,28 @@ abbrev pub is_message_needed : TallyState → TallyState → Step → Bool
 is_message_needed flight taken (Out s) = nat_lt (count flight s) (count taken s)
 is_message_needed flight taken _ = false
 
-abbrev pub has_row : Said → Bool
-has_row said.Nothing = false
-has_row _ = true
+-- how many rows of a process are in the past, and what they say, by the books
+abbrev pub rows_at : Books → ℕ → ℕ
+rows_at b p = slice_index b.rows.items p
 
--- what a process's rows say, by the books
 abbrev pub said_at : Books → ℕ → Said
-said_at b p = slice_index_or b.said.items p said.Nothing
+said_at b p = slice_index_or b.said.items p said.Unsaid
 
 -- whether a row is in the past: of the claimer, of a process with a later row in it, or with a message that is needed
 abbrev pub is_needed : LogRow → TallyState → Books → Bool
-is_needed x flight b = x.process == b.claimer || (has_row (said_at b x.process) || is_message_needed flight b.taken x.step)
+is_needed x flight b = x.process == b.claimer || (nat_lt 0 (rows_at b x.process) || is_message_needed flight b.taken x.step)
 
 -- a row is noted if it is in the past
 pub record Keeps (needed : Bool) (x : LogRow) (old new : Books) : Type 0 where
   pub claimer : new.claimer ≡ old.claimer
   pub processes : length new.said.items ≡ length old.said.items
+  pub counted : length new.rows.items ≡ length old.rows.items
   pub taken_channels : new.taken.channels ≡ old.taken.channels
   pub sent_channels : new.sent.channels ≡ old.sent.channels
   pub taken : (t : Stream) → count new.taken t ≡ (if needed then one_if (is_in t x.step) else 0) + count old.taken t
   pub sent : (t : Stream) → count new.sent t ≡ (if needed then one_if (is_out t x.step) else 0) + count old.sent t
+  pub rows : new.rows.items
+      ≡ (if needed then slice_set old.rows.items x.process (rows_at old x.process + 1) else old.rows.items)
   pub said : new.said.items
       ≡ (if needed then slice_set old.said.items x.process (said_before x.step (said_at old x.process)) else old.said.items)
 
@@ -90,10 +91,15 @@ HasCountRoom (Out s) b = count b.sent s + 1 < 2 ^ 32
 HasCountRoom (In s) b = count b.taken s + 1 < 2 ^ 32
 HasCountRoom _ b = Unit {0}
 
-pub record HasRoom (x : LogRow) (b : Books) : Type 0 where
+pub record HasKeepRoom (x : LogRow) (b : Books) : Type 0 where
   pub process : x.process < length b.said.items
-  pub flight : IsOf b.flight.channels x.step
+  pub counted : x.process < length b.rows.items
   pub taken : IsOf b.taken.channels x.step
   pub sent : IsOf b.sent.channels x.step
-  pub in_flight : HasFlightRoom x.step b.flight
   pub counts : HasCountRoom x.step b
+  pub rows : rows_at b x.process + 1 < 2 ^ 32
+
+pub record HasRoom (x : LogRow) (b : Books) : Type 0 where
+  pub flight : IsOf b.flight.channels x.step
+  pub in_flight : HasFlightRoom x.step b.flight
+  pub keep : HasKeepRoom x b

@@ -1,5 +1,5 @@
--- What a judge looks for in the books of a past.
-use Rattle.std.specs.Prelude.{◌≡◌, ℕ, ◌<◌, ◌≤◌, Bool, true, false, List, [], ◌∷◌, length, slice_index_or}
+-- What a judge looks for.
+use Rattle.std.specs.Prelude.{◌≡◌, ℕ, ◌<◌, ◌≤◌, Bool, true, false, List, [], ◌∷◌, length, map, slice_index_or, All, AllPairs}
 use Rattle.std.specs.Prelude.{Option, Some, None}
 use Rattle.chip_log.specs.declared.row.LogRow.{LogRow}
 use Rattle.chip_log.specs.declared.row.Step.{Step}
@@ -8,19 +8,31 @@ use Rattle.chip_log.specs.declared.books.Said.{Said}
 use Rattle.chip_log.specs.declared.books.Said.TheVariants as said
 use Rattle.chip_log.specs.declared.books.Books.{Books}
 use Rattle.chip_log.specs.declared.past.Sizes.{Sizes}
+use Rattle.chip_log.specs.declared.past.ClaimPlace.{ClaimPlace}
+use Rattle.chip_log.specs.declared.judged.PastRows.{PastRows}
+use Rattle.chip_log.specs.declared.judged.ClaimVerdict.{ClaimVerdict}
+use Rattle.chip_log.specs.declared.verdict.Verdict.{Verdict}
+use Rattle.chip_log.specs.declared.verdict.Verdict.TheVariants as verdict
 use Rattle.chip_log.specs.Log.{steps_of}
-use Rattle.chip_log.specs.Claims.{basic}
+use Rattle.chip_log.specs.Claims.{IsRight}
+use Rattle.chip_log.specs.declared.row.Stream.{Stream}
 use Rattle.chip_log.specs.Tally.{count}
-use Rattle.chip_log.specs.Books.{said_at}
+use Rattle.chip_log.specs.Books.{said_at, rows_at}
+use Rattle.chip_log.specs.Past.{IsPlace}
+use Rattle.chip_log.specs.Judged.{RowPlace, AreClaims, IsJudged, rows_for, place_of}
 
--- a basic message of a channel is sent in the past and not got in it
-abbrev pub IsWay : Books → ℕ → Type 0
-IsWay b c = count b.taken (basic c) < count b.sent (basic c)
+-- the control messages of a channel, or the basic ones
+abbrev pub stream_of : Bool → ℕ → Stream
+stream_of is_control c = record { channel = c; is_control = is_control }
+
+-- no message of the first n channels is on its way, by the books
+abbrev pub NoWay : Bool → ℕ → Books → Type 0
+NoWay k n b = (c : ℕ) → c < n → count b.sent (stream_of k c) ≤ count b.taken (stream_of k c)
 
 -- the least channel below n with one
-abbrev pub IsFirstWay : ℕ → Books → Option ℕ → Type 0
-IsFirstWay n b None = (c : ℕ) → c < n → count b.sent (basic c) ≤ count b.taken (basic c)
-IsFirstWay n b (Some c) = (c < n) × IsWay b c × ((d : ℕ) → d < c → count b.sent (basic d) ≤ count b.taken (basic d))
+abbrev pub IsFirstWay : Bool → ℕ → Books → Option ℕ → Type 0
+IsFirstWay k n b None = NoWay k n b
+IsFirstWay k n b (Some c) = (c < n) × (count b.taken (stream_of k c) < count b.sent (stream_of k c)) × NoWay k c b
 
 -- what a process begins with, if it has one more row
 abbrev pub first_step : Option Bool → Step → Option Bool
@@ -41,7 +53,6 @@ pub record AreBeginners (sizes : Sizes) (log : List LogRow) (beginners : List (O
 abbrev pub busy_at : Said → Option Bool → Bool
 busy_at said.Active begins = true
 busy_at said.Passive begins = false
-busy_at said.Nothing (Some true) = true
 busy_at said.Unsaid (Some true) = true
 busy_at _ _ = false
 
@@ -53,3 +64,41 @@ abbrev pub IsFirstBusy : ℕ → List (Option Bool) → Books → Option ℕ →
 IsFirstBusy n beginners b None = (q : ℕ) → q < n → is_busy beginners b q ≡ false
 IsFirstBusy n beginners b (Some q) =
     (q < n) × (is_busy beginners b q ≡ true) × ((r : ℕ) → r < q → is_busy beginners b r ≡ false)
+
+-- what is on its way, or else active, behind the rows of these books, or `Right` if nothing is
+abbrev pub IsLeft : Sizes → List (Option Bool) → Books → Verdict → Type 0
+IsLeft sizes beginners b verdict.Right =
+    NoWay false sizes.channels b × IsFirstBusy sizes.processes beginners b None
+IsLeft sizes beginners b (verdict.OnItsWay c k) =
+    IsFirstWay false sizes.channels b (Some c) × (k ≡ count b.taken (stream_of false c))
+IsLeft sizes beginners b (verdict.Active q) =
+    NoWay false sizes.channels b × IsFirstBusy sizes.processes beginners b (Some q)
+
+-- how many rows each process below n has in the past
+pub record AreCounts (n : ℕ) (b : Books) (past : List PastRows) : Type 0 where
+  pub each : (q : ℕ) → q < n → rows_for q past ≡ rows_at b q
+  pub none : (q : ℕ) → n ≤ q → rows_for q past ≡ 0
+  pub below : All (λ x. x.process < n) past
+  pub some : All (λ x. 0 < x.rows) past
+  pub sorted : AllPairs (λ x y. x.process < y.process) past
+
+-- ---- claims
+
+abbrev pub place_at : ClaimPlace → RowPlace
+place_at claim = record { process = claim.process; row = claim.row }
+
+-- where all claims of a log stand
+pub record ArePlaces (log : List LogRow) (claims : List ClaimPlace) : Type 0 where
+  pub each : All (IsPlace log) claims
+  pub all : AreClaims log (map place_at claims)
+
+-- a claim is judged
+pub record Judges (with_past : Bool) (log : List LogRow) (claim : ClaimPlace) (c : ClaimVerdict) : Type 0 where
+  pub place : place_of c ≡ place_at claim
+  pub judged : IsJudged with_past log c
+
+-- an earlier claim is right
+pub record IsKnown (log : List LogRow) (claim earlier : ClaimPlace) : Type 0 where
+  pub place : IsPlace log earlier
+  pub right : IsRight log earlier.process earlier.row
+  pub before : earlier.process ≡ claim.process → earlier.row ≤ claim.row

@@ -1,9 +1,11 @@
 -- The laws of claims.
-use Rattle.std.specs.Prelude.{◌≡◌, ℕ, ◌≤◌, List, length}
+use Rattle.std.specs.Prelude.{◌≡◌, ℕ, ◌≤◌, Bool, List, length}
 use Rattle.chip_log.specs.Log.{steps_of, IsInterleaving, HasEnds}
 use Rattle.chip_log.specs.Order.{IsProgress, IsGreatest, IsStuck}
 use Rattle.chip_log.specs.Claims.{IsBefore, IsPast, IsSilent, IsVerdict}
+use Rattle.chip_log.specs.Judged.{IsJudgedLog}
 use Rattle.chip_log.specs.declared.row.LogRow.{LogRow}
+use Rattle.chip_log.specs.declared.judged.JudgedLog.{JudgedLog}
 use Rattle.chip_log.specs.declared.verdict.Verdict.{Verdict}
 use Rattle.chip_log.specs.declared.verdict.Verdict.TheVariants as verdict
 
@@ -33,3 +35,8 @@ StuckOrder = (log xs : List LogRow) (p i : ℕ) → HasEnds log → IsStuck log 
 -- and is stuck in one place
 abbrev pub OnePlace : Type 0
 OnePlace = (log : List LogRow) (p i q j : ℕ) → HasEnds log → IsStuck log p i → IsStuck log q j → (p ≡ q) × (i ≡ j)
+
+-- what is judged does not depend on how the rows of processes are mixed
+abbrev pub SameJudgment : Type 0
+SameJudgment = (with_past : Bool) (log other : List LogRow) (judged : JudgedLog) → HasEnds log
+    → ((p : ℕ) → steps_of p log ≡ steps_of p other) → IsJudgedLog with_past log judged → IsJudgedLog with_past other judged

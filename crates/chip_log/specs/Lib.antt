@@ -3,7 +3,9 @@ pub mod Claims
 pub mod Tally
 pub mod Books
 pub mod Past
+pub mod Judged
 pub mod Judge
+pub mod Places
 pub mod Worked
 pub mod Laws
 pub mod Queues

@@ -1,11 +1,11 @@
 //! What is known of the past of a claim, while the rows before it are looked at from the last to the first.
 
-ghost use Rattle.std.specs.Prelude.{◌≡◌, ◌+◌, ◌^◌, ◌<◌, ◌||◌, ◌==◌, true, [], length, IfOk};
+ghost use Rattle.std.specs.Prelude.{◌≡◌, ◌+◌, ◌^◌, ◌<◌, ◌||◌, ◌==◌, true, [], length, nat_lt, IfOk};
 ghost use Rattle.chip_log.specs.declared.row.Stream.{Stream};
 ghost use Rattle.chip_log.specs.Log.{is_out, is_in};
 ghost use Rattle.chip_log.specs.Tally.{count};
-ghost use Rattle.chip_log.specs.Books.{said_before, has_row, is_needed, is_message_needed, Passes, Keeps, HasRoom, IsOf};
-ghost use Rattle.chip_log.specs.Books.{HasFlightRoom, HasCountRoom, HasMakeRoom};
+ghost use Rattle.chip_log.specs.Books.{said_before, is_needed, is_message_needed, Passes, Keeps, HasRoom, HasKeepRoom, IsOf};
+ghost use Rattle.chip_log.specs.Books.{HasFlightRoom, HasMakeRoom};
 ghost use Rattle.chip_log.specs.Past.{AreSized, AreBooks};
 
 use crate::past::Sizes;
@@ -13,35 +13,23 @@ use crate::row::{LogRow, Step, Stream};
 use crate::tally::Tally;
 use std::alloc::{AllocError, Global};
 
-/// What the rows of a process in the past say of it.
+/// Whether a process is active, as its rows in the past say.
 #[derive(Clone, Copy)]
 pub(crate) enum Said {
-    /// There is no row.
-    Nothing,
-    /// No row says whether it is active.
+    /// Nothing.
     Unsaid,
     Passive,
     Active,
 }
 
 impl Said {
-    /// Whether there is a row.
-    fn has_row(self) -> bool
-        ensures { result ≡ has_row self }
-    {
-        match self {
-            Said::Nothing => false,
-            Said::Unsaid | Said::Passive | Said::Active => true,
-        }
-    }
-
     /// With one earlier row.
     fn before(self, step: Step) -> Said
         ensures { result ≡ said_before step self }
     {
         match self {
             Said::Passive | Said::Active => self,
-            Said::Nothing | Said::Unsaid => match step {
+            Said::Unsaid => match step {
                 Step::In(stream) => {
                     if stream.is_control {
                         Said::Unsaid
@@ -65,7 +53,8 @@ pub(crate) struct Books {
     /// How many are got, and sent, by rows in the past.
     pub(crate) taken: Tally,
     pub(crate) sent: Tally,
-    /// By process.
+    /// How many rows of each process are in the past, and what they say.
+    pub(crate) rows: Vec<u32>,
     pub(crate) said: Vec<Said>,
 }
 
@@ -81,7 +70,8 @@ impl Books {
             flight: Tally::new(alloc, sizes.channels)?,
             taken: Tally::new(alloc, sizes.channels)?,
             sent: Tally::new(alloc, sizes.channels)?,
-            said: vec![in alloc; Said::Nothing; sizes.processes as usize]?,
+            rows: vec![in alloc; 0; sizes.processes as usize]?,
+            said: vec![in alloc; Said::Unsaid; sizes.processes as usize]?,
         })
     }
 
@@ -93,6 +83,7 @@ impl Books {
         ensures claimer { self.new.claimer ≡ self.old.claimer }
         ensures taken { self.new.taken ≡ self.old.taken }
         ensures sent { self.new.sent ≡ self.old.sent }
+        ensures rows { self.new.rows.items ≡ self.old.rows.items }
         ensures said { self.new.said.items ≡ self.old.said.items }
     {
         match step {
@@ -116,13 +107,13 @@ impl Books {
 
     /// Whether this row is in the past.
     fn needs(&self, row: LogRow) -> bool
-        requires process { row.process < length self.now.said.items }
+        requires process { row.process < length self.now.rows.items }
         requires flight { IsOf self.now.flight.channels row.step }
         requires taken { IsOf self.now.taken.channels row.step }
         ensures { result ≡ is_needed row self.now.flight self.now }
     {
         row.process == self.claimer
-            || self.said[row.process as usize].has_row()
+            || self.rows[row.process as usize] > 0
             || self.needs_message(row.step)
     }
 
@@ -139,16 +130,14 @@ impl Books {
     }
 
     /// Notes a row of the past.
-    fn keep(&mut self, row: LogRow)
-        requires process { row.process < length self.old.said.items }
-        requires taken { IsOf self.old.taken.channels row.step }
-        requires sent { IsOf self.old.sent.channels row.step }
-        requires room { HasCountRoom row.step self.old }
+    pub(crate) fn keep(&mut self, row: LogRow)
+        requires { HasKeepRoom row self.old }
         ensures flight { self.new.flight ≡ self.old.flight }
         ensures keeps { Keeps true row self.old self.new }
     {
         let said = self.said[row.process as usize];
         self.said[row.process as usize] = said.before(row.step);
+        self.rows[row.process as usize] += 1;
         match row.step {
             Step::Out(stream) => self.sent.add(stream),
             Step::In(stream) => self.taken.add(stream),

@@ -1,64 +1,233 @@
 //! Whether the claims of a log are right.
 
-ghost use Rattle.std.specs.Prelude.{◌≡◌, ◌^◌, ◌<◌, false, length, take, IfOk};
-ghost use Rattle.chip_log.specs.Log.{steps_of};
-ghost use Rattle.chip_log.specs.Claims.{IsVerdict};
-ghost use Rattle.chip_log.specs.Past.{IsLog, Fits, claimer_at, IsClaim, AreSized};
-ghost use Rattle.chip_log.specs.Judge.{IsWay, IsFirstWay, first_step, IsFirstBusy, busy_at, AreBeginners};
+ghost use Rattle.std.specs.Prelude.{◌≡◌, ◌^◌, ◌<◌, not, [], length, IfOk, MatchBool, MatchResult};
+ghost use Rattle.std.specs.List.{list_any};
+ghost use Rattle.std.specs.Option.{ForSome};
+ghost use Rattle.chip_log.specs.Past.{IsLog, Fits, IsPlace, AreSized};
+ghost use Rattle.chip_log.specs.Order.{IsWellFormed, IsOrderFault};
+ghost use Rattle.chip_log.specs.Judged.{is_early, AreJudged, IsOpenEnd, IsJudgedLog};
+ghost use Rattle.chip_log.specs.Judge.{IsFirstWay, first_step, IsFirstBusy, busy_at, AreBeginners, IsLeft};
+ghost use Rattle.chip_log.specs.Judge.{AreCounts, Judges, IsKnown};
 
 use crate::books::{Books, Said};
-use crate::past::{Sizes, past_of};
+use crate::claims::claims_of;
+use crate::fault::OrderFault;
+use crate::judged::{ClaimVerdict, JudgedLog, LogEnd, PastRows};
+use crate::order::ordered;
+use crate::past::{ClaimPlace, Sizes, books_of_all, past_of};
 use crate::row::{LogRow, Step, Stream};
 use crate::verdict::Verdict;
+use crate::watch::ClaimWatch;
 use std::alloc::{AllocError, Global};
 
-/// The verdict on the claim at this place of a log that is an interleaving as it stands, in time linear in the rows before
-/// it, the processes and the channels.
-pub fn judge_claim(
+/// The verdicts on all claims of a log, and its end.
+///
+/// Its time is linear in the rows, the processes and the channels, and so again for each early claim and for the first
+/// right one of each process. With `with_past` each early claim says what is in its least past.
+///
+/// It fails exactly if the rows have no order in which each is met, or if memory runs out.
+pub fn judge_log<W: ClaimWatch>(
     alloc: Global,
     sizes: Sizes,
     rows: &[LogRow],
-    at: usize,
-) -> Result<Verdict, AllocError>
+    with_past: bool,
+    watch: &mut W,
+) -> Result<JudgedLog, OrderFault>
+    requires well_formed { IsWellFormed sizes rows.now }
+    requires few { length rows.now < 2 ^ 32 }
+    ensures { MatchResult result (IsJudgedLog with_past rows.now) (IsOrderFault rows.now) }
+{
+    let order = ordered(alloc, sizes, rows)?;
+    Ok(judge_ordered(alloc, sizes, &order, with_past, watch)?)
+}
+
+/// The verdicts on all claims of an ordered log, and its end.
+fn judge_ordered<W: ClaimWatch>(
+    alloc: Global,
+    sizes: Sizes,
+    rows: &[LogRow],
+    with_past: bool,
+    watch: &mut W,
+) -> Result<JudgedLog, AllocError>
     requires log { IsLog rows.now }
     requires fits { Fits sizes rows.now }
     requires few { length rows.now < 2 ^ 32 }
-    requires claim { IsClaim rows.now at }
-    ensures { IfOk result (IsVerdict rows.now (claimer_at rows.now at)
-        (length (steps_of (claimer_at rows.now at) (take at rows.now)))) }
+    ensures { IfOk result (IsJudgedLog with_past rows.now) }
 {
     let beginners = beginners(alloc, sizes, rows)?;
-    let books = past_of(alloc, sizes, rows, at)?;
-    if let Some(channel) = first_way(&books, sizes) {
-        let message = books.taken.count(basic(channel));
-        return Ok(Verdict::OnItsWay {
+    let claims = judge_all(alloc, sizes, rows, &beginners, with_past, watch)?;
+    if is_one_right(&claims) {
+        let end = LogEnd::Claimed;
+        return Ok(JudgedLog { claims, end });
+    }
+    let end = open_end(alloc, sizes, rows, &beginners)?;
+    Ok(JudgedLog { claims, end })
+}
+
+/// The verdicts on all claims.
+fn judge_all<W: ClaimWatch>(
+    alloc: Global,
+    sizes: Sizes,
+    rows: &[LogRow],
+    beginners: &[Option<bool>],
+    with_past: bool,
+    watch: &mut W,
+) -> Result<Vec<ClaimVerdict>, AllocError>
+    requires log { IsLog rows.now }
+    requires fits { Fits sizes rows.now }
+    requires few { length rows.now < 2 ^ 32 }
+    requires beginners { AreBeginners sizes rows.now beginners.now }
+    ensures { IfOk result (λ claims. AreJudged with_past rows.now claims.items) }
+{
+    let places = claims_of(alloc, sizes, rows)?;
+    let mut claims = Vec::new(alloc);
+    let mut right = None;
+    let mut next = 0;
+    while next < places.len() {
+        watch.judges(next, places.len());
+        let place = places[next];
+        let claim = judge_next(alloc, sizes, rows, beginners, place, right, with_past)?;
+        if !claim.verdict.is_early() {
+            right = Some(place);
+        }
+        claims.push(claim)?;
+        next += 1;
+    }
+    Ok(claims)
+}
+
+/// The verdict on a claim, where the last right one before it is known: behind that, a claim of its process is right.
+fn judge_next(
+    alloc: Global,
+    sizes: Sizes,
+    rows: &[LogRow],
+    beginners: &[Option<bool>],
+    place: ClaimPlace,
+    right: Option<ClaimPlace>,
+    with_past: bool,
+) -> Result<ClaimVerdict, AllocError>
+    requires log { IsLog rows.now }
+    requires fits { Fits sizes rows.now }
+    requires few { length rows.now < 2 ^ 32 }
+    requires beginners { AreBeginners sizes rows.now beginners.now }
+    requires place { IsPlace rows.now place }
+    requires right { ForSome right (IsKnown rows.now place) }
+    ensures { IfOk result (Judges with_past rows.now place) }
+{
+    match right {
+        Some(earlier) if earlier.process == place.process => Ok(ClaimVerdict {
+            process: place.process,
+            row: u64::from(place.row),
+            verdict: Verdict::Right,
+            past: Vec::new(alloc),
+        }),
+        _ => judge_claim(alloc, sizes, rows, beginners, place, with_past),
+    }
+}
+
+/// The verdict on a claim, by its least past.
+fn judge_claim(
+    alloc: Global,
+    sizes: Sizes,
+    rows: &[LogRow],
+    beginners: &[Option<bool>],
+    place: ClaimPlace,
+    with_past: bool,
+) -> Result<ClaimVerdict, AllocError>
+    requires log { IsLog rows.now }
+    requires fits { Fits sizes rows.now }
+    requires few { length rows.now < 2 ^ 32 }
+    requires beginners { AreBeginners sizes rows.now beginners.now }
+    requires place { IsPlace rows.now place }
+    ensures { IfOk result (Judges with_past rows.now place) }
+{
+    let books = past_of(alloc, sizes, rows, place)?;
+    let verdict = left_of(&books, beginners, sizes);
+    let is_early = verdict.is_early();
+    Ok(ClaimVerdict {
+        process: place.process,
+        row: u64::from(place.row),
+        verdict,
+        past: counts_of(alloc, &books, sizes, with_past && is_early)?,
+    })
+}
+
+/// How many rows each process has in the past that the books are of, if that is asked for.
+fn counts_of(alloc: Global, books: &Books, sizes: Sizes, asked: bool) -> Result<Vec<PastRows>, AllocError>
+    requires { AreSized sizes books.now }
+    ensures { IfOk result (λ past.
+        MatchBool asked (AreCounts sizes.processes books.now past.items) (past.items ≡ [])) }
+{
+    let mut past = Vec::new(alloc);
+    if !asked {
+        return Ok(past);
+    }
+    for process in 0..sizes.processes {
+        let rows = books.rows[process as usize];
+        if rows > 0 {
+            past.push(PastRows { process, rows })?;
+        }
+    }
+    Ok(past)
+}
+
+/// Whether one of these claims is right.
+fn is_one_right(claims: &[ClaimVerdict]) -> bool
+    ensures { result ≡ list_any (λ claim. not (is_early claim.verdict)) claims.now }
+{
+    claims.iter().any(|claim| !claim.verdict.is_early())
+}
+
+/// How a log ends in which no claim is right.
+fn open_end(
+    alloc: Global,
+    sizes: Sizes,
+    rows: &[LogRow],
+    beginners: &[Option<bool>],
+) -> Result<LogEnd, AllocError>
+    requires log { IsLog rows.now }
+    requires fits { Fits sizes rows.now }
+    requires few { length rows.now < 2 ^ 32 }
+    requires beginners { AreBeginners sizes rows.now beginners.now }
+    ensures { IfOk result (IsOpenEnd rows.now) }
+{
+    let books = books_of_all(alloc, sizes, rows)?;
+    match left_of(&books, beginners, sizes) {
+        Verdict::OnItsWay { channel, message } => Ok(LogEnd::OnItsWay { channel, message }),
+        Verdict::Active { process } => Ok(LogEnd::Active { process }),
+        Verdict::Right => match first_way(&books, sizes, true) {
+            Some(_) => Ok(LogEnd::Unclaimed),
+            None => Ok(LogEnd::Missed),
+        },
+    }
+}
+
+/// What is on its way, or else active, behind the rows of these books, or `Right` if nothing is.
+fn left_of(books: &Books, beginners: &[Option<bool>], sizes: Sizes) -> Verdict
+    requires sized { AreSized sizes books.now }
+    requires beginners { length beginners.now ≡ sizes.processes }
+    ensures { IsLeft sizes beginners.now books.now result }
+{
+    if let Some(channel) = first_way(books, sizes, false) {
+        let message = books.taken.count(Stream { channel, is_control: false });
+        return Verdict::OnItsWay {
             channel,
             message: u64::from(message),
-        });
+        };
     }
-    match first_busy(&books, &beginners, sizes) {
-        Some(process) => Ok(Verdict::Active { process }),
-        None => Ok(Verdict::Right),
-    }
-}
-
-/// The basic messages of a channel.
-fn basic(channel: u32) -> Stream
-    ensures { result ≡ record { channel = channel; is_control = false } }
-{
-    Stream {
-        channel,
-        is_control: false,
+    match first_busy(books, beginners, sizes) {
+        Some(process) => Verdict::Active { process },
+        None => Verdict::Right,
     }
 }
 
-/// The least channel with a basic message that is sent in the past and not got in it.
-fn first_way(books: &Books, sizes: Sizes) -> Option<u32>
+/// The least channel with a message, a control message or a basic one, that is sent and not got, by the books.
+fn first_way(books: &Books, sizes: Sizes, is_control: bool) -> Option<u32>
     requires { AreSized sizes books.now }
-    ensures { IsFirstWay sizes.channels books.now result }
+    ensures { IsFirstWay is_control sizes.channels books.now result }
 {
     for channel in 0..sizes.channels {
-        let stream = basic(channel);
+        let stream = Stream { channel, is_control };
         if books.taken.count(stream) < books.sent.count(stream) {
             return Some(channel);
         }
@@ -66,7 +235,7 @@ fn first_way(books: &Books, sizes: Sizes) -> Option<u32>
     None
 }
 
-/// The least process that is active behind the past.
+/// The least process that is active, by the books.
 fn first_busy(books: &Books, beginners: &[Option<bool>], sizes: Sizes) -> Option<u32>
     requires sized { AreSized sizes books.now }
     requires beginners { length beginners.now ≡ sizes.processes }
@@ -87,7 +256,7 @@ fn is_busy(said: Said, begins: Option<bool>) -> bool
     match said {
         Said::Active => true,
         Said::Passive => false,
-        Said::Nothing | Said::Unsaid => begins == Some(true),
+        Said::Unsaid => begins == Some(true),
     }
 }
 

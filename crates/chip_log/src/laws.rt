@@ -1,6 +1,7 @@
 //! The laws of logs.
 
-ghost use Rattle.chip_log.specs.Laws.{LeastPast, MostProgress, OnePlace, OneVerdict, SilentPast, StuckOrder};
+ghost use Rattle.chip_log.specs.Laws.{LeastPast, MostProgress, OnePlace, OneVerdict, SameJudgment, SilentPast};
+ghost use Rattle.chip_log.specs.Laws.{StuckOrder};
 ghost use Rattle.chip_log.specs.Worked.{WorkedLog};
 
 /// Who is active in a small log, by the definitions.
@@ -36,4 +37,9 @@ pub fn stuck_order()
 /// A log is stuck in one place.
 pub fn one_place()
     ensures { OnePlace }
+{}
+
+/// What is judged does not depend on how the rows of processes are mixed.
+pub fn same_judgment()
+    ensures { SameJudgment }
 {}

@@ -2,16 +2,20 @@
 #![tactic(auto)]
 
 pub use fault::OrderFault;
-pub use judge::judge_claim;
+pub use judge::judge_log;
+pub use judged::{ClaimVerdict, JudgedLog, LogEnd, PastRows};
 pub use order::ordered;
 pub use past::Sizes;
 pub use row::{LogRow, Step, Stream};
 pub use verdict::Verdict;
+pub use watch::{ClaimWatch, Unwatched};
 
 mod agenda;
 mod books;
+mod claims;
 mod fault;
 mod judge;
+mod judged;
 pub mod laws;
 mod order;
 mod past;
@@ -19,3 +23,4 @@ mod queues;
 mod row;
 mod tally;
 mod verdict;
+mod watch;

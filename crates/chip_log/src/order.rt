@@ -178,7 +178,8 @@ fn rows_of(rows: &[LogRow], process: u32) -> u64
 pub fn ordered(alloc: Global, sizes: Sizes, rows: &[LogRow]) -> Result<Vec<LogRow>, OrderFault>
     requires well_formed { IsWellFormed sizes rows.now }
     requires few { length rows.now < 2 ^ 32 }
-    ensures { MatchResult result (λ ordered. IsInterleaving rows.now ordered.items) (IsOrderFault rows.now) }
+    ensures order { MatchResult result (λ ordered. IsInterleaving rows.now ordered.items) (IsOrderFault rows.now) }
+    ensures few { IfOk result (λ ordered. length ordered.items < 2 ^ 32) }
 {
     let mut order = Order::new(alloc, sizes)?;
     let mut next = 0;

@@ -1,7 +1,7 @@
 //! The least past of a claim.
 
 ghost use Rattle.std.specs.Prelude.{◌≡◌, ◌^◌, ◌<◌, ◌≤◌, [], length, take, IfOk};
-ghost use Rattle.chip_log.specs.Past.{IsLog, Fits, claimer_at, IsClaim, IsPastOf, AreSized, AreBooks};
+ghost use Rattle.chip_log.specs.Past.{IsLog, Fits, IsPlace, IsPastOf, AreSized, AreBooks, AreKept};
 
 use crate::books::Books;
 use crate::row::LogRow;
@@ -14,22 +14,32 @@ pub struct Sizes {
     pub channels: u32,
 }
 
-/// What is known of the least past of the claim at this place.
+/// Where a claim of an ordered log stands.
+#[derive(Clone, Copy)]
+pub(crate) struct ClaimPlace {
+    pub(crate) process: u32,
+    /// Among the rows of its process.
+    pub(crate) row: u32,
+    /// Among all rows.
+    pub(crate) at: usize,
+}
+
+/// What is known of the least past of a claim.
 pub(crate) fn past_of(
     alloc: Global,
     sizes: Sizes,
     rows: &[LogRow],
-    at: usize,
+    claim: ClaimPlace,
 ) -> Result<Books, AllocError>
     requires log { IsLog rows.now }
     requires fits { Fits sizes rows.now }
     requires few { length rows.now < 2 ^ 32 }
-    requires claim { IsClaim rows.now at }
-    ensures { IfOk result (IsPastOf rows.now sizes at) }
+    requires claim { IsPlace rows.now claim }
+    ensures { IfOk result (IsPastOf rows.now sizes claim) }
 {
-    let mut books = Books::new(alloc, sizes, rows[at].process)?;
-    make_all(&mut books, sizes, rows, at);
-    look_at_all(&mut books, sizes, rows, at);
+    let mut books = Books::new(alloc, sizes, claim.process)?;
+    make_all(&mut books, sizes, rows, claim.at);
+    look_at_all(&mut books, sizes, rows, claim);
     Ok(books)
 }
 
@@ -52,20 +62,36 @@ fn make_all(books: &mut Books, sizes: Sizes, rows: &[LogRow], at: usize)
     }
 }
 
-/// Looks at all rows before the claim at this place, from the last to the first.
-fn look_at_all(books: &mut Books, sizes: Sizes, rows: &[LogRow], at: usize)
+/// Looks at all rows before a claim, from the last to the first.
+fn look_at_all(books: &mut Books, sizes: Sizes, rows: &[LogRow], claim: ClaimPlace)
     requires log { IsLog rows.now }
     requires fits { Fits sizes rows.now }
     requires few { length rows.now < 2 ^ 32 }
-    requires claim { IsClaim rows.now at }
-    requires claimer { books.old.claimer ≡ claimer_at rows.now at }
+    requires claim { IsPlace rows.now claim }
+    requires claimer { books.old.claimer ≡ claim.process }
     requires sized { AreSized sizes books.old }
-    requires made { AreBooks (take at rows.now) [] books.old }
-    ensures { IsPastOf rows.now sizes at books.new }
+    requires made { AreBooks (take claim.at rows.now) [] books.old }
+    ensures { IsPastOf rows.now sizes claim books.new }
 {
-    let mut left = at;
+    let mut left = claim.at;
     while left > 0 {
         left -= 1;
         books.look(rows[left]);
     }
+}
+
+/// What is known of all rows of a log.
+pub(crate) fn books_of_all(alloc: Global, sizes: Sizes, rows: &[LogRow]) -> Result<Books, AllocError>
+    requires fits { Fits sizes rows.now }
+    requires few { length rows.now < 2 ^ 32 }
+    ensures sized { IfOk result (AreSized sizes) }
+    ensures keeps { IfOk result (AreKept rows.now) }
+{
+    let mut books = Books::new(alloc, sizes, 0)?;
+    let mut left = rows.len();
+    while left > 0 {
+        left -= 1;
+        books.keep(rows[left]);
+    }
+    Ok(books)
 }

@@ -8,3 +8,18 @@ pub enum Verdict {
     /// In some interleaving nothing is on its way then, and this process is active.
     Active { process: u32 },
 }
+
+impl Verdict {
+    ghost use Rattle.std.specs.Prelude.{◌≡◌};
+    ghost use Rattle.chip_log.specs.Judged.{is_early};
+
+    /// Whether the claim is not right.
+    pub fn is_early(self) -> bool
+        ensures { result ≡ is_early self }
+    {
+        match self {
+            Verdict::Right => false,
+            Verdict::OnItsWay { .. } | Verdict::Active { .. } => true,
+        }
+    }
+}

@@ -1,5 +1,5 @@
 -- Serves Checks.antt.
--- What the tests of a log compute, and what of it holds in each of its orders.
+-- What the tests of a log compute.
 use Rattle.std.proofs.Common.{◌≡◌, ◌≢◌, ℕ, ◌<◌, Bool, true, false, cond, All, List, [], ◌∷◌, ◌++◌, length, get_or, Some, Result}
 use Rattle.std.proofs.Common.{Ok, Err}
 use Rattle.std.proofs.Common.{refl, sym, ap, ◌∙◌, subst, arith, eqb-true, ltb-true}
@@ -118,78 +118,3 @@ well_formed sizes log may =
       sent = λ p. sent_from log [] p log rest.0;
       fits = fits_from sizes log rest.1;
     }
-
--- ---- an order of a log
-
-met_own : (log xs : List LogRow) → ((p : ℕ) → steps_of p xs ≡ steps_of p log) → (before : List LogRow) (p : ℕ) (step : Step)
-    → is_met log before p step ≡ true → is_met xs before p step ≡ true
-met_own log xs whole before p (Out s) is =
-    subst (λ (steps : List Step). cond s.is_control true (active_after (begins_active steps) (steps_of p before)) ≡ true)
-    (sym (whole p)) is
-met_own log xs whole before p (In s) is = is
-met_own log xs whole before p Passive is = is
-met_own log xs whole before p Active is = is
-met_own log xs whole before p Over is = is
-
-are_met_own : (log xs : List LogRow) → ((p : ℕ) → steps_of p xs ≡ steps_of p log) → (before ys : List LogRow)
-    → AreMet log before ys → AreMet xs before ys
-are_met_own log xs whole before [] met = tt
-are_met_own log xs whole before (y ∷ ys) met =
-    (met_own log xs whole before y.process y.step met.0, are_met_own log xs whole (before ++ y ∷ []) ys met.1)
-
-pub still_log : (log xs : List LogRow) → HasEnds log → IsInterleaving log xs → IsLog xs
-still_log log xs ends order = record {
-  ends = record {
-    sender = ends.sender;
-    receiver = ends.receiver;
-    sends = λ s p other. ap (sends s) (order.whole p) ∙ ends.sends s p other;
-    gets = λ s p other. ap (gets s) (order.whole p) ∙ ends.gets s p other;
-  };
-  met = are_met_own log xs order.whole [] xs order.met;
-}
-
--- a step of p fits
-abbrev FitsStep : Sizes → ℕ → Step → Type 0
-FitsStep sizes p step = (p < sizes.processes) × IsOf sizes.channels step
-
-fits_steps : (sizes : Sizes) (xs : List LogRow) → Fits sizes xs → (p : ℕ) → All (FitsStep sizes p) (steps_of p xs)
-fits_steps sizes [] fits p = All-nil (FitsStep sizes p)
-fits_steps sizes (x ∷ xs) fits p =
-    let here = All-head (FitsRow sizes) x xs fits in
-    let rest = fits_steps sizes xs (All-tail (FitsRow sizes) x xs fits) p in
-    dite (ℕ_discrete x.process p)
-    (λ same. subst (All (FitsStep sizes p)) (sym (steps_own p x xs same))
-    (All-cons (FitsStep sizes p) x.step (steps_of p xs)
-    (subst (λ (q : ℕ). q < sizes.processes) same here.process, here.channel) rest))
-    (λ differs. subst (All (FitsStep sizes p)) (sym (steps_other p x xs differs)) rest)
-
-steps_fit : (sizes : Sizes) (xs : List LogRow) → ((p : ℕ) → All (FitsStep sizes p) (steps_of p xs)) → Fits sizes xs
-steps_fit sizes [] each = All-nil (FitsRow sizes)
-steps_fit sizes (x ∷ xs) each =
-    let here = All-head (FitsStep sizes x.process) x.step (steps_of x.process xs)
-    (subst (All (FitsStep sizes x.process)) (steps_own x.process x xs refl) (each x.process)) in
-    All-cons (FitsRow sizes) x xs (record { process = here.0; channel = here.1 })
-    (steps_fit sizes xs (λ p. dite (ℕ_discrete x.process p)
-    (λ same. All-tail (FitsStep sizes p) x.step (steps_of p xs)
-    (subst (All (FitsStep sizes p)) (steps_own p x xs same) (each p)))
-    (λ differs. subst (All (FitsStep sizes p)) (steps_other p x xs differs) (each p))))
-
-pub still_fits : (sizes : Sizes) (log xs : List LogRow) → Fits sizes log → IsInterleaving log xs → Fits sizes xs
-still_fits sizes log xs fits order =
-    steps_fit sizes xs (λ p. subst (All (FitsStep sizes p)) (sym (order.whole p)) (fits_steps sizes log fits p))
-
--- ---- what the calls of a test give
-
-pub ok_holds : {T E : Type 0} (r : Result T E) (P : T → Type 0) (Q : E → Type 0) (t : T) → result_ok r ≡ Some t
-    → MatchResult r P Q → P t
-ok_holds (Ok u) P Q t is holds = subst P (let e : u ≡ t = cc in e) holds
-ok_holds (Err e) P Q t is holds = absurd (cc)
-
--- a row that says so is a claim
-pub claim_at : (rows : List LogRow) (i : ℕ) (d : LogRow) → i < length rows → (get_or rows i d).step ≡ Over → IsClaim rows i
-claim_at rows i d inside over =
-    let none : LogRow = record { process = 0; step = Over } in
-    let same = get_or_default rows i d none inside in
-    let step : (get_or rows i none).step ≡ Over = ap (λ (x : LogRow). x.step) (sym same) ∙ over in
-    slice_get-get_or rows i none inside
-    ∙ ap Some (λ j. record { process = (get_or rows i none).process; step = step j })

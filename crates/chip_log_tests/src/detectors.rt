@@ -1,8 +1,8 @@
 //! Claims of known detectors, right and wrong ones, in logs that were put together process by process, the last one
 //! first. Process 0 claims.
 
-use crate::play::{SIZES, hear, judged, receive, row, send, stream, stuck, tell};
-use chip_log::{LogRow, OrderFault, Step, Stream, Verdict};
+use crate::play::{SIZES, hear, judged, last_verdict, receive, row, send, stream, tell};
+use chip_log::{LogRow, OrderFault, Step, Stream, Unwatched, Verdict};
 
 /// Dijkstra and Scholten: a process acknowledges the message that woke it when it is passive and all of its own are
 /// acknowledged. The rows stand as they happened.
@@ -41,8 +41,8 @@ const BY_PROCESS: [LogRow; 13] = [
 
 #[test]
 fn dijkstra_scholten(rt: HostRuntime) {
-    assert!(rt; judged(&rt, SIZES, &DIJKSTRA_SCHOLTEN) == Some(Verdict::Right));
-    assert!(rt; judged(&rt, SIZES, &BY_PROCESS) == Some(Verdict::Right));
+    assert!(rt; last_verdict(&rt, SIZES, &DIJKSTRA_SCHOLTEN) == Some(Verdict::Right));
+    assert!(rt; last_verdict(&rt, SIZES, &BY_PROCESS) == Some(Verdict::Right));
 }
 
 /// Process 1 acknowledges at once.
@@ -85,8 +85,8 @@ fn early_acknowledgements(rt: HostRuntime) {
         channel: 1,
         message: 0,
     };
-    assert!(rt; judged(&rt, SIZES, &AT_ONCE) == Some(Verdict::Active { process: 1 }));
-    assert!(rt; judged(&rt, SIZES, &WHEN_PASSIVE) == Some(on_its_way));
+    assert!(rt; last_verdict(&rt, SIZES, &AT_ONCE) == Some(Verdict::Active { process: 1 }));
+    assert!(rt; last_verdict(&rt, SIZES, &WHEN_PASSIVE) == Some(on_its_way));
 }
 
 /// Safra: the token goes from 0 to 2 to 1 to 0. Behind its first visit process 2 is woken by 1 and answers. The token
@@ -140,8 +140,8 @@ const WITHOUT_COLOURS: [LogRow; 14] = [
 
 #[test]
 fn safra(rt: HostRuntime) {
-    assert!(rt; judged(&rt, SIZES, &SAFRA) == Some(Verdict::Right));
-    assert!(rt; judged(&rt, SIZES, &WITHOUT_COLOURS) == Some(Verdict::Active { process: 2 }));
+    assert!(rt; last_verdict(&rt, SIZES, &SAFRA) == Some(Verdict::Right));
+    assert!(rt; last_verdict(&rt, SIZES, &WITHOUT_COLOURS) == Some(Verdict::Active { process: 2 }));
 }
 
 /// Credit: a process gives back what came with its message when it is passive.
@@ -180,8 +180,8 @@ const CREDIT_SOON: [LogRow; 13] = [
 
 #[test]
 fn credit(rt: HostRuntime) {
-    assert!(rt; judged(&rt, SIZES, &CREDIT) == Some(Verdict::Right));
-    assert!(rt; judged(&rt, SIZES, &CREDIT_SOON) == Some(Verdict::Active { process: 1 }));
+    assert!(rt; last_verdict(&rt, SIZES, &CREDIT) == Some(Verdict::Right));
+    assert!(rt; last_verdict(&rt, SIZES, &CREDIT_SOON) == Some(Verdict::Active { process: 1 }));
 }
 
 /// Each of two processes waits for the other.
@@ -193,6 +193,6 @@ const CIRCLE_TURNED: [LogRow; 4] = [hear!(1, 0), tell!(1, 1), hear!(0, 1), tell!
 #[test]
 fn circle(rt: HostRuntime) {
     let at_first = OrderFault::Stuck { process: 0, row: 0 };
-    assert!(rt; stuck(&rt, SIZES, &CIRCLE) == Some(at_first));
-    assert!(rt; stuck(&rt, SIZES, &CIRCLE_TURNED) == Some(at_first));
+    assert!(rt; judged(&rt, SIZES, &CIRCLE, &mut Unwatched).err() == Some(at_first));
+    assert!(rt; judged(&rt, SIZES, &CIRCLE_TURNED, &mut Unwatched).err() == Some(at_first));
 }

@@ -4,4 +4,6 @@
 #[cfg(test)]
 mod detectors;
 #[cfg(test)]
+mod ends;
+#[cfg(test)]
 mod play;

@@ -1,10 +1,11 @@
 //! Short words for rows, and what is asked of a log.
 
 ghost use Rattle.std.specs.Prelude.{◌^◌, ◌<◌, IsTrue, length};
-ghost use Rattle.chip_log.specs.Past.{IsLog, Fits};
 ghost use Rattle.chip_log_tests.specs.Checks.{may_order};
 
-use chip_log::{LogRow, OrderFault, Sizes, Step, Stream, Verdict, judge_claim, ordered};
+use chip_log::{
+    ClaimWatch, JudgedLog, LogEnd, LogRow, OrderFault, Sizes, Step, Stream, Unwatched, Verdict, judge_log,
+};
 use std::process::Abort;
 
 /// A row of a process.
@@ -64,23 +65,21 @@ pub(crate) const SIZES: Sizes = Sizes {
     channels: 3,
 };
 
-/// The verdict on the last claim of a log that is an interleaving, if there is a claim.
-fn last_verdict(rt: &(impl AllocGlobal + Abort), sizes: Sizes, rows: &[LogRow]) -> Option<Verdict>
-    requires log { IsLog rows.now }
-    requires fits { Fits sizes rows.now }
+/// What is said of a log, with the least past of each early claim.
+pub(crate) fn judged<W: ClaimWatch>(
+    rt: &impl AllocGlobal,
+    sizes: Sizes,
+    rows: &[LogRow],
+    watch: &mut W,
+) -> Result<JudgedLog, OrderFault>
+    requires well_formed { IsTrue (may_order sizes rows.now) }
     requires few { length rows.now < 2 ^ 32 }
 {
-    let mut verdict = None;
-    for at in 0..rows.len() {
-        if let Step::Over = rows[at].step {
-            verdict = Some(judge_claim(rt.alloc(), sizes, rows, at).expect(rt, "memory"));
-        }
-    }
-    verdict
+    judge_log(rt.alloc(), sizes, rows, true, watch)
 }
 
-/// The verdict on the last claim of a log, if there is a claim, once its rows are in order.
-pub(crate) fn judged(
+/// The verdict on the last claim of a log, if there is a claim.
+pub(crate) fn last_verdict(
     rt: &(impl AllocGlobal + Abort),
     sizes: Sizes,
     rows: &[LogRow],
@@ -88,19 +87,14 @@ pub(crate) fn judged(
     requires well_formed { IsTrue (may_order sizes rows.now) }
     requires few { length rows.now < 2 ^ 32 }
 {
-    let order = ordered(rt.alloc(), sizes, rows).ok().expect(rt, "an order");
-    assert!(rt; order.len() == rows.len());
-    last_verdict(rt, sizes, &order)
+    let judged = judged(rt, sizes, rows, &mut Unwatched).ok().expect(rt, "an order");
+    judged.claims.last().map(|claim| claim.verdict)
 }
 
-/// Why the rows of a log have no order, if they have none.
-pub(crate) fn stuck(
-    rt: &(impl AllocGlobal + Abort),
-    sizes: Sizes,
-    rows: &[LogRow],
-) -> Option<OrderFault>
+/// How a log ends.
+pub(crate) fn end(rt: &(impl AllocGlobal + Abort), sizes: Sizes, rows: &[LogRow]) -> LogEnd
     requires well_formed { IsTrue (may_order sizes rows.now) }
     requires few { length rows.now < 2 ^ 32 }
 {
-    ordered(rt.alloc(), sizes, rows).err()
+    judged(rt, sizes, rows, &mut Unwatched).ok().expect(rt, "an order").end
 }

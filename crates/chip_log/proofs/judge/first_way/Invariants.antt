@@ -1,7 +1,5 @@
-use Rattle.std.proofs.Common.{◌<◌, ◌≤◌, ℕ}
-use Rattle.chip_log.specs.Claims.{basic}
-use Rattle.chip_log.specs.Tally.{count}
+use Rattle.chip_log.specs.Judge.{NoWay}
 use Rattle.chip_log.proofs.judge.first_way.Given as goal
 
 abbrev pub invariant-loop-channel : goal.invariant-loop-channel
-invariant-loop-channel l = (c : ℕ) → c < l.channel → count l.books.sent (basic c) ≤ count l.books.taken (basic c)
+invariant-loop-channel l = NoWay l.is_control l.channel l.books

@@ -1,26 +1,34 @@
-use Rattle.chip_log.proofs.JudgeLemmas.{way_verdict, busy_verdict, right_verdict}
+use Rattle.std.proofs.Common.{◌≡◌, Bool, List, [], ap, sym, ◌∙◌, subst, refl}
+use Rattle.std.specs.Prelude.{MatchBool, ◌&&◌}
+use Rattle.chip_log.specs.declared.row.LogRow.{LogRow}
+use Rattle.chip_log.specs.Claims.{IsPast}
+use Rattle.chip_log.specs.Judged.{is_early, AreRowsOf}
+use Rattle.chip_log.proofs.JudgeLemmas.{verdict_left, past_left}
+use Rattle.chip_log.proofs.RightLemmas.{judges}
 use Rattle.chip_log.proofs.judge.judge_claim.Goals as goal
-use Rattle.std.proofs.Common.{Bool, List, ap, ◌∙◌, subst}
-use Rattle.std.specs.Prelude.{Option, Some, None}
-use Rattle.chip_log.specs.Judge.{IsFirstBusy}
-use Rattle.chip_log.specs.Tally.{count}
-use Rattle.chip_log.specs.declared.row.Stream.{Stream}
-
-pub returns-in-Some : goal.returns-in-Some
-returns-in-Some c = way_verdict c.args.rows.now c.requires.log c.args.sizes c.requires.fits c.args.at c.in_ok-books.books
-    c.in_ok-books.ensures c.in-Some.channel c.from.result c.in-Some.ensures
-    (c.from.ensures ∙ c.count-message.ensures ∙ ap (λ (s : Stream). count c.in_ok-books.books.taken s) c.basic.ensures)
-
-pub returns-in-Some-first_busy : goal.returns-in-Some-first_busy
-returns-in-Some-first_busy c = busy_verdict c.args.rows.now c.requires.log c.args.sizes c.requires.fits c.args.at
-    c.in_ok-books.books c.in_ok-books.ensures c.in_default.ensures c.in_ok-beginners.beginners.items
-    c.in_ok-beginners.ensures c.in-Some-first_busy.process
-    (subst (λ (all : List (Option Bool)). IsFirstBusy c.args.sizes.processes all c.in_ok-books.books
-    (Some c.in-Some-first_busy.process)) c.deref.ensures.value c.in-Some-first_busy.ensures)
+use Rattle.chip_log.proofs.judge.judge_claim.Goals.{then-with_past, else-with_past}
 
 pub returns : goal.returns
-returns c = right_verdict c.args.rows.now c.requires.log c.args.sizes c.requires.fits c.args.at
-    c.in_ok-books.books c.in_ok-books.ensures c.in_default.ensures c.in_ok-beginners.beginners.items
-    c.in_ok-beginners.ensures
-    (subst (λ (all : List (Option Bool)). IsFirstBusy c.args.sizes.processes all c.in_ok-books.books None)
-    c.deref.ensures.value c.in-None.ensures)
+returns c =
+    let v = c.left_of-verdict.result in
+    let past = c.in_ok-counts_of.field-0.items in
+    let asked : c.if-with_past.counts_of ≡ (c.args.with_past && is_early v) = elim c.if-with_past.branch [
+      | then-with_past w ↦ w.counts_of-is ∙ c.is_early-is_early.ensures
+        ∙ sym (ap (λ (b : Bool). b && is_early c.left_of-verdict.result) w.if-with_past.true)
+      | else-with_past w ↦ w.counts_of-is ∙ w.if-with_past.false
+        ∙ sym (ap (λ (b : Bool). b && is_early c.left_of-verdict.result) w.if-with_past.false)
+    ] in
+    judges c.args.with_past c.args.rows.now c.args.place (record {
+      process = c.args.place.process;
+      row = c.from.result;
+      verdict = c.left_of-verdict.result;
+      past = c.in_ok-counts_of.field-0;
+    }) refl c.from.ensures (
+      verdict_left c.args.rows.now c.requires.log c.args.sizes c.requires.fits c.args.place c.in_ok-books.books
+          c.in_ok-books.ensures c.args.beginners.now c.requires.beginners v c.left_of-verdict.ensures,
+      subst (λ (b : Bool). MatchBool b ((before : List LogRow)
+          × IsPast c.args.rows.now c.args.place.process c.args.place.row before × AreRowsOf before past) (past ≡ [])) asked
+          (past_left c.args.rows.now c.requires.log c.args.sizes c.requires.fits c.args.place c.in_ok-books.books
+          c.in_ok-books.ensures c.args.beginners.now c.requires.beginners c.if-with_past.counts_of past
+          c.in_ok-counts_of.ensures),
+    )

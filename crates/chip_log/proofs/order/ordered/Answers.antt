@@ -44,8 +44,8 @@ settle-requires c = c.loop-next.invariant.so_far.ready
 pub first_left-requires : goal.first_left-requires
 first_left-requires c = c.in_ok-settle.ensures.goes_on.ready
 
-pub returns-in-Some : goal.returns-in-Some
-returns-in-Some c =
+pub returns-in-Some-clause-order : goal.returns-in-Some-clause-order
+returns-in-Some-clause-order c =
     let kept = all_read c.args.sizes c.args.rows.now c.requires.well_formed c.loop-next.next c.loop-next-test.false
     c.loop-next.order c.settle.new.self c.loop-next.invariant.so_far c.in_ok-settle.ensures.goes_on in
     subst (IsStuck c.args.rows.now c.in-Some.process)
@@ -53,7 +53,10 @@ returns-in-Some c =
     (stuck_order c.args.sizes c.args.rows.now c.settle.new.self c.in_ok-settle.ensures.goes_on.ready kept
     c.in_ok-settle.ensures.settled c.in-Some.process c.in-Some.ensures)
 
-pub returns-in-None : goal.returns-in-None
-returns-in-None c = whole_order c.args.sizes c.args.rows.now c.settle.new.self c.in_ok-settle.ensures.goes_on.ready
+pub returns-in-None-clause-order : goal.returns-in-None-clause-order
+returns-in-None-clause-order c = whole_order c.args.sizes c.args.rows.now c.settle.new.self c.in_ok-settle.ensures.goes_on.ready
     (all_read c.args.sizes c.args.rows.now c.requires.well_formed c.loop-next.next c.loop-next-test.false
     c.loop-next.order c.settle.new.self c.loop-next.invariant.so_far c.in_ok-settle.ensures.goes_on) c.in-None.ensures
+
+pub returns-in-None-clause-few : goal.returns-in-None-clause-few
+returns-in-None-clause-few c = let a = c.in_ok-settle.ensures.goes_on.ready.few in omega arith

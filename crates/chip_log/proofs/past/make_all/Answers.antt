@@ -1,4 +1,4 @@
-use Rattle.std.proofs.Common.{◌<◌, List, length, take, get_or, false, arith, ap, sym, ◌∙◌, subst}
+use Rattle.std.proofs.Common.{ℕ, ◌<◌, List, length, take, get_or, false, arith, ap, sym, ◌∙◌, subst}
 use Rattle.std.proofs.lemmas.List.{take_more}
 use Rattle.chip_log.specs.declared.row.LogRow.{LogRow}
 use Rattle.chip_log.specs.declared.row.Step.TheVariants.{Out}
@@ -31,6 +31,7 @@ loop-next-preserved c =
       claimer = made.claimer ∙ inv.claimer;
       sized = record {
         processes = ap length made.said ∙ inv.sized.processes;
+        counted = ap length made.rows ∙ inv.sized.counted;
         flight = sym made.makes.same ∙ inv.sized.flight;
         taken = ap (λ (t : TallyState). t.channels) made.taken ∙ inv.sized.taken;
         sent = ap (λ (t : TallyState). t.channels) made.sent ∙ inv.sized.sent;
@@ -40,8 +41,11 @@ loop-next-preserved c =
             (sym (take_more c.args.rows.now c.loop-next.next none l))
             (make_flight (take c.loop-next.next c.args.rows.now) (get_or c.args.rows.now c.loop-next.next none)
             c.loop-next.books.flight c.make.new.self.flight inv.made.flight made.makes);
-        taken = λ s. ap (λ (t : TallyState). count t s) made.taken ∙ inv.made.taken s;
-        sent = λ s. ap (λ (t : TallyState). count t s) made.sent ∙ inv.made.sent s;
-        said = λ q. ap (λ (items : List Said). slice_index_or items q said.Nothing) made.said ∙ inv.made.said q;
+        keeps = record {
+          taken = λ s. ap (λ (t : TallyState). count t s) made.taken ∙ inv.made.keeps.taken s;
+          sent = λ s. ap (λ (t : TallyState). count t s) made.sent ∙ inv.made.keeps.sent s;
+          rows = λ q. ap (λ (items : List ℕ). get_or items q 0) made.rows ∙ inv.made.keeps.rows q;
+          said = λ q. ap (λ (items : List Said). slice_index_or items q said.Unsaid) made.said ∙ inv.made.keeps.said q;
+        };
       };
     }

@@ -5,7 +5,7 @@ use Rattle.chip_log.specs.declared.row.Step.{Step}
 use Rattle.chip_log.specs.Log.{outs, ins}
 use Rattle.chip_log.specs.Books.{IsOf}
 use Rattle.chip_log.specs.Queues.{queue_of, total}
-use Rattle.chip_log.proofs.QueuesLemmas.{none_queued, none_in_total}
+use Rattle.chip_log.proofs.QueuesLemmas.{all_same, none_in_total}
 use Rattle.chip_log.proofs.order.Order.new.Goals as goal
 
 pub returns-clause-ready : goal.returns-clause-ready
@@ -15,7 +15,7 @@ returns-clause-ready c = record {
   channels = c.in_ok-new-3.ensures.channels;
   streams = c.in_ok-new.ensures.channels;
   fits = λ p. All-same (IsOf c.args.sizes.channels) _ _ (ap (λ (qs : List (List Step)). queue_of qs p) c.in_ok-new-2.ensures
-      ∙ none_queued c.args.sizes.processes p) (All-nil (IsOf c.args.sizes.channels));
+      ∙ all_same c.args.sizes.processes p []) (All-nil (IsOf c.args.sizes.channels));
   flight = λ s.
       let a = c.in_ok-new.ensures.none s in
       let b = ap (outs s) c.new.ensures.items in

@@ -1,0 +1,86 @@
+use Rattle.std.proofs.Common.{◌≡◌, ℕ, ◌+◌, ◌^◌, ◌<◌, List, false, ◌++◌, ◌∷◌, [], length, set, get_or, take, replicate, length-take}
+use Rattle.std.proofs.Common.{ap, sym, ◌∙◌, subst, arith, length-set, Vec, Global}
+use Rattle.std.proofs.lemmas.List.{get_or_default, length-replicate, take_all}
+use Rattle.std.proofs.lemmas.List.Elements.{All-get_or}
+use Rattle.std.proofs.lemmas.Option.{slice_get-get_or}
+use Rattle.chip_log.specs.declared.row.LogRow.{LogRow}
+use Rattle.chip_log.specs.declared.row.Step.TheVariants.{Out}
+use Rattle.chip_log.specs.declared.past.ClaimPlace.{ClaimPlace}
+use Rattle.chip_log.specs.Past.{FitsRow}
+use Rattle.chip_log.specs.Places.{AreFound}
+use Rattle.chip_log.proofs.LoopLemmas.{steps_few}
+use Rattle.chip_log.proofs.QueuesLemmas.{all_same}
+use Rattle.chip_log.proofs.PlacesLemmas.{AreFoundIn, found_nothing, found_all, found_none, found_one, no_over}
+use Rattle.chip_log.proofs.claims.found.Goals as goal
+use Rattle.chip_log.proofs.claims.found.Goals.{in-Over+in_ok-push, in_default}
+
+-- what is read behind the last row
+abbrev none : LogRow
+none = record { process = 0; step = Out (record { channel = 0; is_control = false }) }
+
+pub loop-at-init : goal.loop-at-init
+loop-at-init c =
+    let zeros : c.in_ok-counts.counts.items ≡ replicate c.args.sizes.processes 0 =
+    c.in_ok-counts.ensures.items_if_clones_equal (λ y e. e) in
+    record {
+      place = omega arith;
+      sized = ap length zeros ∙ length-replicate c.args.sizes.processes 0;
+      found = found_nothing c.args.rows.now c.new-claims.result.items c.in_ok-counts.counts.items c.new-claims.ensures.items
+          (λ q. ap (λ (items : List ℕ). get_or items q 0) zeros ∙ all_same c.args.sizes.processes q 0);
+    }
+
+pub overflow_add-count : goal.overflow_add-count
+overflow_add-count c =
+    let x = get_or c.args.rows.now c.loop-at.at none in
+    let fits = All-get_or (FitsRow c.args.sizes) c.args.rows.now c.loop-at.at none c.loop-at-test.true c.requires.fits in
+    let within : x.process < length c.loop-at.counts.items =
+    (let a = c.loop-at.invariant.sized in let b = fits.process in omega arith) in
+    let count = c.index-count.ensures ∙ get_or_default c.loop-at.counts.items x.process _ 0 within in
+    let a = c.loop-at.invariant.found.rows x.process in
+    let b = steps_few x.process (take c.loop-at.at c.args.rows.now) in
+    let d = length-take c.loop-at.at c.args.rows.now in
+    let e = c.loop-at-test.true in
+    let f = c.requires.few in
+    omega arith
+
+pub loop-at-preserved : goal.loop-at-preserved
+loop-at-preserved c =
+    let rows = c.args.rows.now in
+    let at = c.loop-at.at in
+    let x = get_or c.args.rows.now c.loop-at.at none in
+    let counts = c.loop-at.counts.items in
+    let inv = c.loop-at.invariant in
+    let l = c.loop-at-test.true in
+    let fits = All-get_or (FitsRow c.args.sizes) rows at none l c.requires.fits in
+    let within : x.process < length counts = (let a = inv.sized in let b = fits.process in omega arith) in
+    let count : c.index-count.result.now ≡ get_or counts x.process 0 =
+    (c.index-count.ensures ∙ get_or_default counts x.process _ 0 within) in
+    let few : get_or counts x.process 0 < 2 ^ 32 =
+    (let a = inv.found.rows x.process in
+    let b = steps_few x.process (take at rows) in
+    let d = length-take at rows in
+    let f = c.requires.few in
+    omega arith) in
+    record {
+      place = omega arith;
+      sized = length-set counts x.process (c.index-count.result.now + 1) ∙ inv.sized;
+      found = subst (λ (n : ℕ). AreFoundIn rows (at + 1) c.match-row.claims.items (set counts x.process (n + 1))) (sym count)
+          (elim c.match-row.branch [
+            | in-Over+in_ok-push w ↦
+              subst (λ (claims : List ClaimPlace). AreFoundIn rows (at + 1) claims
+              (set counts x.process (get_or counts x.process 0 + 1)))
+              (sym (ap (λ (v : Vec ClaimPlace Global). v.items) w.claims-is ∙ w.in_ok-push.ensures.items
+              ∙ ap (λ (n : ℕ). c.loop-at.claims.items ++ record { process = x.process; row = n; at = at } ∷ []) count))
+              (found_one rows at none l c.loop-at.claims.items counts inv.found within w.in-Over.is few
+              (slice_get-get_or rows at none l))
+            | in_default w ↦
+              subst (λ (claims : List ClaimPlace). AreFoundIn rows (at + 1) claims
+              (set counts x.process (get_or counts x.process 0 + 1)))
+              (sym (ap (λ (v : Vec ClaimPlace Global). v.items) w.claims-is))
+              (found_none rows at none l c.loop-at.claims.items counts inv.found within (no_over x.step w.in_default.not-Over))
+          ]);
+    }
+
+pub returns : goal.returns
+returns c = found_all c.args.rows.now c.loop-at.at c.loop-at.claims.items c.loop-at.counts.items c.loop-at-test.false
+    c.loop-at.invariant.found

@@ -1,27 +1,15 @@
 -- Serves Books.antt, Past.antt.
 -- The books of a past, row by row.
-use Rattle.std.proofs.Common.{◌≡◌, ◌≢◌, ℕ, ◌+◌, ◌≤◌, ◌<◌, Bool, true, false, eqb, List, [], ◌∷◌, ◌++◌, length, get_or}
-use Rattle.std.proofs.Common.{refl, sym, ap, ◌∙◌, subst, arith}
-use Rattle.std.specs.Prelude.{◌||◌, nat_lt, slice_index_or}
-use Rattle.std.proofs.lemmas.Bool.{ltb-true, ltb-false, eqb-true, eqb-false}
-use Rattle.std.proofs.lemmas.List.{get_or-set_same, get_or-set_other}
-use mathlib.Core.Logic.{dite}
-use native.Mathlib.Decide.{ℕ_discrete}
-use Rattle.chip_log.specs.declared.row.LogRow.{LogRow}
-use Rattle.chip_log.specs.declared.row.Stream.{Stream}
-use Rattle.chip_log.specs.declared.row.Step.{Step}
-use Rattle.chip_log.specs.declared.row.Step.TheVariants.{Out, In, Passive, Active, Over}
-use Rattle.chip_log.specs.declared.books.Said.{Said}
-use Rattle.chip_log.specs.declared.books.Said.TheVariants as said
-use Rattle.chip_log.specs.declared.books.Books.{Books}
-use Rattle.chip_log.specs.Log.{steps_of, is_out, outs, ins, HasEnds}
-use Rattle.chip_log.specs.Tally.{TallyState, count}
-use Rattle.chip_log.specs.Books.{said_before, said_of, Passes, rows_at, said_at, is_message_needed}
-use Rattle.chip_log.specs.Books.{is_needed, Keeps}
-use Rattle.chip_log.specs.Past.{AreInFlight, AreKept, AreBooks}
+use Rattle.chip_log.proofs.Names.{◌≡◌, ◌≢◌, ℕ, ◌+◌, ◌≤◌, ◌<◌, Bool, true, false, eqb, List, [], ◌∷◌, ◌++◌, length}
+use Rattle.chip_log.proofs.Names.{get_or, refl, sym, ap, ◌∙◌, subst, arith, ◌||◌, nat_lt, slice_index_or, ltb-true}
+use Rattle.chip_log.proofs.Names.{ltb-false, eqb-true, eqb-false, get_or-set_same, get_or-set_other, dite, ℕ_discrete}
+use Rattle.chip_log.proofs.Names.{LogRow, Stream, Step, Out, In, Passive, Active, Over, Said, Books, steps_of, is_out}
+use Rattle.chip_log.proofs.Names.{outs, ins, HasEnds, TallyState, count, said_before, said_of, Passes, rows_at, said_at}
+use Rattle.chip_log.proofs.Names.{is_message_needed, is_needed, Keeps, AreInFlight, AreKept, AreBooks}
 use Rattle.chip_log.proofs.CountLemmas.{outs-append, ins-append, steps_own, steps_other, same_stream_is}
 use Rattle.chip_log.proofs.MetLemmas.{same_self}
 use Rattle.chip_log.proofs.PastLemmas.{IsSplit, put_behind, keep_claimer, keep_other, keep_message}
+use Rattle.chip_log.specs.declared.books.Said.TheVariants as said
 
 -- ---- what is on its way
 

@@ -1,16 +1,9 @@
 -- Serves Log.antt.
 -- Counts of rows as they grow.
-use Rattle.std.proofs.Common.{◌≡◌, ◌≢◌, ℕ, ◌+◌, ◌≤◌, Bool, true, false, cond, eqb, List, [], ◌∷◌, ◌++◌}
-use Rattle.std.proofs.Common.{eq-eqb, refl, sym, ap, ◌∙◌, subst, arith, append-nil}
-use Rattle.std.specs.Prelude.{◌&&◌, not}
-use Rattle.std.proofs.lemmas.Bool.{eqb-true, ne_eqb}
-use mathlib.Core.Logic.{dite}
-use native.Mathlib.Decide.{ℕ_discrete}
-use Rattle.chip_log.specs.declared.row.LogRow.{LogRow}
-use Rattle.chip_log.specs.declared.row.Stream.{Stream}
-use Rattle.chip_log.specs.declared.row.Step.{Step}
-use Rattle.chip_log.specs.declared.row.Step.TheVariants.{Out, In, Passive, Active, Over}
-use Rattle.chip_log.specs.Log.{steps_of, same_stream, sends, gets, all_steps, outs, ins, active_after}
+use Rattle.chip_log.proofs.Names.{◌≡◌, ◌≢◌, ℕ, ◌+◌, ◌≤◌, Bool, true, false, cond, eqb, List, [], ◌∷◌, ◌++◌, eq-eqb}
+use Rattle.chip_log.proofs.Names.{refl, sym, ap, ◌∙◌, subst, arith, append-nil, ◌&&◌, not, eqb-true, ne_eqb, dite}
+use Rattle.chip_log.proofs.Names.{ℕ_discrete, LogRow, Stream, Step, Out, In, Passive, Active, Over, steps_of}
+use Rattle.chip_log.proofs.Names.{same_stream, sends, gets, all_steps, outs, ins, active_after}
 
 pub all_steps-append : (xs ys : List LogRow) → all_steps (xs ++ ys) ≡ all_steps xs ++ all_steps ys
 all_steps-append [] ys = refl

@@ -1,37 +1,22 @@
 -- Serves Judge.antt.
 -- What is left, by books.
-use Rattle.std.proofs.Common.{◌≡◌, ℕ, ◌≤◌, ◌<◌, Bool, true, false, cond, List, [], ◌∷◌, ◌++◌, length}
-use Rattle.std.proofs.Common.{refl, sym, ap, ◌∙◌, subst, arith, length-set}
-use Rattle.std.specs.Prelude.{slice_set, slice_index_or, Option, Some, None, ◌&&◌, not, MatchBool}
-use Rattle.std.proofs.lemmas.List.{get_or-set_same, get_or-set_other, get_or_past}
-use Rattle.std.proofs.lemmas.List.Elements.{All-head, All-tail}
-use Rattle.std.proofs.lemmas.Bool.{ne_eqb}
-use mathlib.Core.Logic.{dite}
-use native.Mathlib.Decide.{ℕ_discrete, dec_lt}
-use Rattle.chip_log.specs.declared.row.LogRow.{LogRow}
-use Rattle.chip_log.specs.declared.row.Stream.{Stream}
-use Rattle.chip_log.specs.declared.row.Step.{Step}
-use Rattle.chip_log.specs.declared.row.Step.TheVariants.{Out, In, Passive, Active, Over}
-use Rattle.chip_log.specs.declared.books.Said.{Said}
-use Rattle.chip_log.specs.declared.books.Said.TheVariants as said
-use Rattle.chip_log.specs.declared.books.Books.{Books}
-use Rattle.chip_log.specs.declared.past.Sizes.{Sizes}
-use Rattle.chip_log.specs.declared.past.ClaimPlace.{ClaimPlace}
-use Rattle.chip_log.specs.declared.verdict.Verdict.{Verdict}
-use Rattle.chip_log.specs.declared.verdict.Verdict.TheVariants as verdict
-use Rattle.chip_log.specs.declared.judged.PastRows.{PastRows}
-use Rattle.chip_log.specs.declared.judged.LogEnd.TheVariants as end
-use Rattle.chip_log.specs.Log.{steps_of, is_out, sends, outs, ins, active_after, begins_active, is_active}
-use Rattle.chip_log.specs.Claims.{basic, IsPast, IsVerdict, IsOnItsWay, IsBusy, IsSilent}
-use Rattle.chip_log.specs.Books.{IsOf, said_by, said_before, said_of}
-use Rattle.chip_log.specs.Past.{IsLog, Fits, FitsRow, AreSized, AreKept, IsPastOf}
-use Rattle.chip_log.specs.Judged.{AreRowsOf, IsOpenEnd}
-use Rattle.chip_log.specs.Judge.{stream_of, NoWay, IsFirstWay, first_step, begins_with, AreBeginners, busy_at, is_busy}
-use Rattle.chip_log.specs.Judge.{IsLeft, AreCounts}
+use Rattle.chip_log.proofs.Names.{◌≡◌, ℕ, ◌≤◌, ◌<◌, Bool, true, false, cond, List, [], ◌∷◌, ◌++◌, length, refl, sym, ap}
+use Rattle.chip_log.proofs.Names.{◌∙◌, subst, arith, length-set, slice_set, slice_index_or, Option, Some, None, ◌&&◌}
+use Rattle.chip_log.proofs.Names.{not, MatchBool, get_or-set_same, get_or-set_other, get_or_past, All-head, All-tail}
+use Rattle.chip_log.proofs.Names.{ne_eqb, dite, ℕ_discrete, dec_lt, LogRow, Stream, Step, Out, In, Passive, Active}
+use Rattle.chip_log.proofs.Names.{Over, Said, Books, Sizes, ClaimPlace, Verdict, PastRows, steps_of, is_out, sends}
+use Rattle.chip_log.proofs.Names.{outs, ins, active_after, begins_active, is_active, basic, IsPast, IsVerdict}
+use Rattle.chip_log.proofs.Names.{IsOnItsWay, IsBusy, IsSilent, IsOf, said_by, said_before, said_of, IsLog, Fits}
+use Rattle.chip_log.proofs.Names.{FitsRow, AreSized, AreKept, IsPastOf, AreRowsOf, IsOpenEnd, stream_of, NoWay}
+use Rattle.chip_log.proofs.Names.{IsFirstWay, first_step, begins_with, AreBeginners, busy_at, is_busy, IsLeft}
+use Rattle.chip_log.proofs.Names.{AreCounts}
 use Rattle.chip_log.proofs.CountLemmas.{steps_push, steps_push_other, active_after-append, sends-append, sends_le}
 use Rattle.chip_log.proofs.MetLemmas.{count_no}
 use Rattle.chip_log.proofs.PastLemmas.{met_le, now_le, outs_by, rest_of}
 use Rattle.chip_log.proofs.SilentLemmas.{silent_is_right}
+use Rattle.chip_log.specs.declared.books.Said.TheVariants as said
+use Rattle.chip_log.specs.declared.verdict.Verdict.TheVariants as verdict
+use Rattle.chip_log.specs.declared.judged.LogEnd.TheVariants as end
 
 -- ---- what processes begin with
 

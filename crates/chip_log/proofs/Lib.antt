@@ -1,3 +1,4 @@
+mod Names
 pub mod PrefixLemmas
 pub mod CountLemmas
 pub mod MetLemmas

@@ -1,27 +1,13 @@
 -- Serves Past.antt.
 -- The loops over the rows before a claim.
-use Rattle.std.proofs.Common.{◌≡◌, ℕ, ◌+◌, ◌-◌, ◌≤◌, ◌<◌, ◌^◌, Bool, true, false, List, [], ◌∷◌, ◌++◌, length, get_or}
-use Rattle.std.proofs.Common.{refl, sym, ap, ◌∙◌, subst, arith, append_assoc, append-nil, take, drop, suc}
-use Rattle.std.proofs.Math.Seq.{drop-cons}
-use mathlib.Core.Logic.{dite}
-use native.Mathlib.Decide.{ℕ_discrete}
-use Rattle.std.proofs.lemmas.Bool.{ltb-true}
-use Rattle.std.proofs.lemmas.List.{take_more, take-append-drop}
-use Rattle.std.proofs.lemmas.List.Elements.{All-get_or}
-use Rattle.std.proofs.lemmas.Option.{get_or_from_slice_get, slice_get_within}
-use Rattle.chip_log.specs.declared.row.LogRow.{LogRow}
-use Rattle.chip_log.specs.declared.row.Stream.{Stream}
-use Rattle.chip_log.specs.declared.row.Step.{Step}
-use Rattle.chip_log.specs.declared.row.Step.TheVariants.{Out, In, Passive, Active, Over}
-use Rattle.chip_log.specs.declared.past.Sizes.{Sizes}
-use Rattle.chip_log.specs.declared.past.ClaimPlace.{ClaimPlace}
-use Rattle.chip_log.specs.declared.books.Books.{Books}
-use Rattle.chip_log.specs.Log.{steps_of, is_out, is_in, sends, gets, all_steps, outs, ins, is_met, AreMet, IsInterleaving}
-use Rattle.chip_log.specs.Log.{HasEnds}
-use Rattle.chip_log.specs.Tally.{TallyState}
-use Rattle.chip_log.specs.Books.{Passes, is_needed, Keeps}
-use Rattle.chip_log.specs.Books.{one_if, IsOf, HasMakeRoom, HasFlightRoom, HasCountRoom, HasKeepRoom, HasRoom}
-use Rattle.chip_log.specs.Past.{IsLog, Fits, FitsRow, IsPlace, AreSized, AreInFlight, AreKept, AreBooks}
+use Rattle.chip_log.proofs.Names.{◌≡◌, ℕ, ◌+◌, ◌-◌, ◌≤◌, ◌<◌, ◌^◌, Bool, true, false, List, [], ◌∷◌, ◌++◌, length}
+use Rattle.chip_log.proofs.Names.{get_or, refl, sym, ap, ◌∙◌, subst, arith, append_assoc, append-nil, take, drop, suc}
+use Rattle.chip_log.proofs.Names.{drop-cons, dite, ℕ_discrete, ltb-true, take_more, take-append-drop, All-get_or}
+use Rattle.chip_log.proofs.Names.{get_or_from_slice_get, slice_get_within, LogRow, Stream, Step, Out, In, Passive}
+use Rattle.chip_log.proofs.Names.{Active, Over, Sizes, ClaimPlace, Books, steps_of, is_out, is_in, sends, gets}
+use Rattle.chip_log.proofs.Names.{all_steps, outs, ins, is_met, AreMet, IsInterleaving, HasEnds, TallyState, Passes}
+use Rattle.chip_log.proofs.Names.{is_needed, Keeps, one_if, IsOf, HasMakeRoom, HasFlightRoom, HasCountRoom, HasKeepRoom}
+use Rattle.chip_log.proofs.Names.{HasRoom, IsLog, Fits, FitsRow, IsPlace, AreSized, AreInFlight, AreKept, AreBooks}
 use Rattle.chip_log.proofs.CountLemmas.{outs-append, ins-append, steps_own, steps_other}
 use Rattle.chip_log.proofs.MetLemmas.{same_self, outs_push, ins_push, ins_push_no}
 use Rattle.chip_log.proofs.BooksLemmas.{looked}

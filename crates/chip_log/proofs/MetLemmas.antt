@@ -1,17 +1,9 @@
 -- Serves Log.antt.
 -- Rows that are met, and what stands before them.
-use Rattle.std.proofs.Common.{◌≡◌, ◌≢◌, ℕ, ◌+◌, ◌≤◌, ◌<◌, Bool, true, false, cond, List, [], ◌∷◌, ◌++◌}
-use Rattle.std.proofs.Common.{eq-eqb, refl, sym, ap, ◌∙◌, arith}
-use Rattle.std.specs.Prelude.{◌&&◌, not, nat_lt}
-use Rattle.std.proofs.lemmas.Bool.{ltb-true, lt-ltb}
-use mathlib.Core.Logic.{dite}
-use native.Mathlib.Decide.{ℕ_discrete}
-use Rattle.chip_log.specs.declared.row.LogRow.{LogRow}
-use Rattle.chip_log.specs.declared.row.Stream.{Stream}
-use Rattle.chip_log.specs.declared.row.Step.{Step}
-use Rattle.chip_log.specs.declared.row.Step.TheVariants.{Out, In, Passive, Active, Over}
-use Rattle.chip_log.specs.Log.{steps_of, same_stream, is_out, is_in, outs, ins, active_after, begins_active, is_met}
-use Rattle.chip_log.specs.Log.{AreMet}
+use Rattle.chip_log.proofs.Names.{◌≡◌, ◌≢◌, ℕ, ◌+◌, ◌≤◌, ◌<◌, Bool, true, false, cond, List, [], ◌∷◌, ◌++◌, eq-eqb}
+use Rattle.chip_log.proofs.Names.{refl, sym, ap, ◌∙◌, arith, ◌&&◌, not, nat_lt, ltb-true, lt-ltb, dite, ℕ_discrete}
+use Rattle.chip_log.proofs.Names.{LogRow, Stream, Step, Out, In, Passive, Active, Over, steps_of, same_stream, is_out}
+use Rattle.chip_log.proofs.Names.{is_in, outs, ins, active_after, begins_active, is_met, AreMet}
 use Rattle.chip_log.proofs.CountLemmas.{outs-append, ins-append, steps_of-append, steps_other, steps_own, steps_push}
 use Rattle.chip_log.proofs.CountLemmas.{steps_push_other}
 

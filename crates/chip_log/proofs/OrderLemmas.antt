@@ -1,27 +1,13 @@
 -- Serves Order.antt.
 -- Where an order ends.
-use Rattle.std.proofs.Common.{◌≡◌, ℕ, ◌+◌, ◌≤◌, ◌<◌, ◌^◌, true, false, cond, List, [], ◌∷◌, ◌++◌, length}
-use Rattle.std.proofs.Common.{refl, sym, ap, ◌∙◌, subst, arith, append_assoc, append-nil, length-append, length-drop, take, drop, get_or, suc, ◌≢◌}
-use Rattle.std.specs.Prelude.{None, Some}
-use Rattle.std.proofs.lemmas.Bool.{ltb-true, ltb-false, lt-ltb, le-ltb}
-use Rattle.std.proofs.lemmas.List.{append_cancel_left, take_more}
-use Rattle.std.proofs.lemmas.List.Elements.{All-get_or}
-use Rattle.std.proofs.Math.Seq.{drop-cons}
-use mathlib.Core.Logic.{dite}
-use native.Mathlib.Decide.{ℕ_discrete, dec_lt}
-use Rattle.chip_log.specs.declared.row.LogRow.{LogRow}
-use Rattle.chip_log.specs.declared.row.Stream.{Stream}
-use Rattle.chip_log.specs.declared.row.Step.{Step}
-use Rattle.chip_log.specs.declared.row.Step.TheVariants.{Out, In, Passive, Active, Over}
-use Rattle.chip_log.specs.declared.past.Sizes.{Sizes}
-use Rattle.chip_log.specs.declared.order.Order.{Order}
-use Rattle.chip_log.specs.Log.{steps_of, is_in, sends, gets, outs, ins, active_after, begins_active, is_met, AreMet}
-use Rattle.chip_log.specs.Log.{IsInterleaving, HasEnds}
-use Rattle.chip_log.specs.Tally.{count}
-use Rattle.chip_log.specs.Queues.{queue_of, total}
-use Rattle.chip_log.specs.Past.{FitsRow}
-use Rattle.chip_log.specs.Order.{IsWellFormed, IsProgress, IsGreatest, IsStuck}
-use Rattle.chip_log.specs.Ordering.{is_there, IsReady, Reads, IsKept, GoesOn, IsSettled, IsFirstLeft}
+use Rattle.chip_log.proofs.Names.{◌≡◌, ℕ, ◌+◌, ◌≤◌, ◌<◌, ◌^◌, true, false, cond, List, [], ◌∷◌, ◌++◌, length, refl, sym}
+use Rattle.chip_log.proofs.Names.{ap, ◌∙◌, subst, arith, append_assoc, append-nil, length-append, length-drop, take}
+use Rattle.chip_log.proofs.Names.{drop, get_or, suc, ◌≢◌, None, Some, ltb-true, ltb-false, lt-ltb, le-ltb}
+use Rattle.chip_log.proofs.Names.{append_cancel_left, take_more, All-get_or, drop-cons, dite, ℕ_discrete, dec_lt}
+use Rattle.chip_log.proofs.Names.{LogRow, Stream, Step, Out, In, Passive, Active, Over, Sizes, Order, steps_of, is_in}
+use Rattle.chip_log.proofs.Names.{sends, gets, outs, ins, active_after, begins_active, is_met, AreMet, IsInterleaving}
+use Rattle.chip_log.proofs.Names.{HasEnds, count, queue_of, total, FitsRow, IsWellFormed, IsProgress, IsGreatest}
+use Rattle.chip_log.proofs.Names.{IsStuck, is_there, IsReady, Reads, IsKept, GoesOn, IsSettled, IsFirstLeft}
 use Rattle.chip_log.proofs.PrefixLemmas.{longer_beginning, same_beginning}
 use Rattle.chip_log.proofs.CountLemmas.{sends-append, gets-append, steps_of-append, steps_push, steps_push_other}
 use Rattle.chip_log.proofs.CountLemmas.{outs_is, ins_is}

@@ -1,27 +1,12 @@
 -- Serves Ordering.antt.
 -- Steps are made as long as they are met.
-use Rattle.std.proofs.Common.{◌≡◌, ◌≢◌, ℕ, ◌+◌, ◌≤◌, ◌<◌, ◌^◌, Bool, true, List, [], ◌∷◌, ◌++◌, length}
-use Rattle.std.proofs.Common.{refl, sym, ap, ◌∙◌, subst, arith, append_assoc, length-append, length-set, drop}
-use Rattle.std.specs.Prelude.{All, Some, None}
-use Rattle.std.proofs.lemmas.Bool.{ltb-true, lt-ltb}
-use Rattle.std.proofs.lemmas.List.{get_or-set_same, get_or-set_other}
-use Rattle.std.proofs.lemmas.List.Elements.{All-same, All-rest, All-push, All-head}
-use mathlib.Core.Logic.{dite}
-use native.Mathlib.Decide.{ℕ_discrete}
-use Rattle.chip_log.specs.declared.row.LogRow.{LogRow}
-use Rattle.chip_log.specs.declared.row.Stream.{Stream}
-use Rattle.chip_log.specs.declared.row.Step.{Step}
-use Rattle.chip_log.specs.declared.row.Step.TheVariants.{Out, In, Passive, Active, Over}
-use Rattle.chip_log.specs.declared.past.Sizes.{Sizes}
-use Rattle.chip_log.specs.declared.order.Order.{Order}
-use Rattle.chip_log.specs.Log.{steps_of, outs, ins, active_after, begins_active, is_met, AreMet}
-use Rattle.chip_log.specs.Tally.{TallyState, count}
-use Rattle.chip_log.specs.Books.{IsOf}
-use Rattle.chip_log.specs.Past.{FitsRow, AreInFlight}
-use Rattle.chip_log.specs.Queues.{queue_of, head_of, total}
-use Rattle.chip_log.specs.Agenda.{AgendaState}
-use Rattle.chip_log.specs.Order.{may_send, AreSent}
-use Rattle.chip_log.specs.Ordering.{is_there, IsReady, Reads, IsNext, Makes, IsKept, GoesOn}
+use Rattle.chip_log.proofs.Names.{◌≡◌, ◌≢◌, ℕ, ◌+◌, ◌≤◌, ◌<◌, ◌^◌, Bool, true, List, [], ◌∷◌, ◌++◌, length, refl, sym}
+use Rattle.chip_log.proofs.Names.{ap, ◌∙◌, subst, arith, append_assoc, length-append, length-set, drop, All, Some, None}
+use Rattle.chip_log.proofs.Names.{ltb-true, lt-ltb, get_or-set_same, get_or-set_other, All-same, All-rest, All-push}
+use Rattle.chip_log.proofs.Names.{All-head, dite, ℕ_discrete, LogRow, Stream, Step, Out, In, Passive, Active, Over}
+use Rattle.chip_log.proofs.Names.{Sizes, Order, steps_of, outs, ins, active_after, begins_active, is_met, AreMet}
+use Rattle.chip_log.proofs.Names.{TallyState, count, IsOf, FitsRow, AreInFlight, queue_of, head_of, total, AgendaState}
+use Rattle.chip_log.proofs.Names.{may_send, AreSent, is_there, IsReady, Reads, IsNext, Makes, IsKept, GoesOn}
 use Rattle.chip_log.proofs.CountLemmas.{active_after-append, steps_push, steps_push_other, steps_own, steps_other}
 use Rattle.chip_log.proofs.PastLemmas.{are_met_both}
 use Rattle.chip_log.proofs.BooksLemmas.{make_flight}

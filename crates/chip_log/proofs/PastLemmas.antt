@@ -1,21 +1,13 @@
 -- Serves Claims.antt.
 -- The least past of a claim: rows before it that it doesn't need go behind it, from the last to the first.
-use Rattle.std.proofs.Common.{◌≡◌, ◌≢◌, ℕ, ◌+◌, ◌≤◌, ◌<◌, Bool, true, false, List, [], ◌∷◌, ◌++◌, length}
-use Rattle.std.proofs.Common.{refl, sym, ap, ◌∙◌, subst, arith, append_assoc, append-nil, length-append, inl, inr}
-use Rattle.std.specs.Prelude.{◌⊎◌}
-use Rattle.std.proofs.lemmas.Bool.{ltb-true}
-use mathlib.Core.Logic.{dite}
-use native.Mathlib.Decide.{ℕ_discrete, dec_lt}
-use Rattle.chip_log.specs.declared.row.LogRow.{LogRow}
-use Rattle.chip_log.specs.declared.row.Stream.{Stream}
-use Rattle.chip_log.specs.declared.row.Step.{Step}
-use Rattle.chip_log.specs.declared.row.Step.TheVariants.{Out, In, Passive, Active, Over}
-use Rattle.chip_log.specs.Log.{steps_of, is_out, is_in, sends, gets, outs, ins, is_met, AreMet, IsInterleaving, HasEnds}
-use Rattle.chip_log.specs.Claims.{IsBefore, IsPast}
+use Rattle.chip_log.proofs.Names.{◌≡◌, ◌≢◌, ℕ, ◌+◌, ◌≤◌, ◌<◌, Bool, true, false, List, [], ◌∷◌, ◌++◌, length, refl, sym}
+use Rattle.chip_log.proofs.Names.{ap, ◌∙◌, subst, arith, append_assoc, append-nil, length-append, inl, inr, ◌⊎◌}
+use Rattle.chip_log.proofs.Names.{ltb-true, dite, ℕ_discrete, dec_lt, LogRow, Stream, Step, Out, In, Passive, Active}
+use Rattle.chip_log.proofs.Names.{Over, steps_of, is_out, is_in, sends, gets, outs, ins, is_met, AreMet, IsInterleaving}
+use Rattle.chip_log.proofs.Names.{HasEnds, IsBefore, IsPast}
 use Rattle.chip_log.proofs.PrefixLemmas.{longer_beginning}
-use Rattle.chip_log.proofs.CountLemmas.{ins-append, sends-append, gets-append, steps_of-append, steps_own}
-use Rattle.chip_log.proofs.CountLemmas.{steps_other, outs_is, ins_is, same_stream_is}
-use Rattle.chip_log.proofs.CountLemmas.{sends_le, without, steps_moved}
+use Rattle.chip_log.proofs.CountLemmas.{ins-append, sends-append, gets-append, steps_of-append, steps_own, steps_other}
+use Rattle.chip_log.proofs.CountLemmas.{outs_is, ins_is, same_stream_is, sends_le, without, steps_moved}
 use Rattle.chip_log.proofs.MetLemmas.{same_self, count_yes, outs_push_le, ins_push, ins_push_no, move}
 
 -- ---- lists in which each row is met

@@ -1,27 +1,14 @@
 -- Serves Places.antt, Judge.antt.
 -- Claims as they are found, and in order.
-use Rattle.std.proofs.Common.{◌≡◌, ◌≢◌, ℕ, zero, suc, ◌+◌, ◌*◌, ◌^◌, ◌≤◌, ◌<◌, Bool, true, false, cond, eqb}
-use Rattle.std.proofs.Common.{List, [], ◌∷◌, ◌++◌, length, map, take, get_or, set, refl, sym, ap, ◌∙◌, subst, arith}
-use Rattle.std.proofs.Common.{eq-eqb, length-append, length-set}
-use Rattle.std.specs.Prelude.{All, AllPairs, ◌&&◌, ◌==◌, count_by, sum_by, slice_get, Some, IsPermutation}
-use Rattle.std.specs.List.Sorted.{IsNonDecreasingBy}
-use Rattle.std.proofs.lemmas.Bool.{ne_eqb}
-use Rattle.std.proofs.lemmas.List.{get_or-set_same, get_or-set_other, get_or-map, length-map, map-append, take_more, take_all}
-use Rattle.std.proofs.lemmas.List.Elements.{All-nil, All-same, All-push, All-get_or}
-use Rattle.std.proofs.lemmas.List.Sums.{sum_by_push}
-use Rattle.std.proofs.lemmas.List.Sorted.{IsPermutation-map, All-permutation, sum_by-IsPermutation}
-use mathlib.Core.Logic.{dite}
-use native.Mathlib.Decide.{ℕ_discrete}
-use Rattle.chip_log.specs.declared.row.LogRow.{LogRow}
-use Rattle.chip_log.specs.declared.row.Step.{Step}
-use Rattle.chip_log.specs.declared.row.Step.TheVariants.{Out, In, Passive, Active, Over}
-use Rattle.chip_log.specs.declared.past.ClaimPlace.{ClaimPlace}
-use Rattle.chip_log.specs.Log.{steps_of}
-use Rattle.chip_log.specs.Claims.{IsRight}
-use Rattle.chip_log.specs.Past.{IsPlace}
-use Rattle.chip_log.specs.Judged.{is_over, is_over_at, is_claim, RowPlace, is_at, IsNoLater}
-use Rattle.chip_log.specs.Judge.{place_at, ArePlaces, IsKnown}
-use Rattle.chip_log.specs.Places.{AreFound}
+use Rattle.chip_log.proofs.Names.{◌≡◌, ◌≢◌, ℕ, zero, suc, ◌+◌, ◌*◌, ◌^◌, ◌≤◌, ◌<◌, Bool, true, false, cond, eqb, List}
+use Rattle.chip_log.proofs.Names.{[], ◌∷◌, ◌++◌, length, map, take, get_or, set, refl, sym, ap, ◌∙◌, subst, arith}
+use Rattle.chip_log.proofs.Names.{eq-eqb, length-append, length-set, All, AllPairs, ◌&&◌, ◌==◌, count_by, sum_by}
+use Rattle.chip_log.proofs.Names.{slice_get, Some, IsPermutation, IsNonDecreasingBy, ne_eqb, get_or-set_same}
+use Rattle.chip_log.proofs.Names.{get_or-set_other, get_or-map, length-map, map-append, take_more, take_all, All-nil}
+use Rattle.chip_log.proofs.Names.{All-same, All-push, All-get_or, sum_by_push, IsPermutation-map, All-permutation}
+use Rattle.chip_log.proofs.Names.{sum_by-IsPermutation, dite, ℕ_discrete, LogRow, Step, Out, In, Passive, Active, Over}
+use Rattle.chip_log.proofs.Names.{ClaimPlace, steps_of, IsRight, IsPlace, is_over, is_over_at, is_claim, RowPlace}
+use Rattle.chip_log.proofs.Names.{is_at, IsNoLater, place_at, ArePlaces, IsKnown, AreFound}
 use Rattle.chip_log.proofs.CountLemmas.{steps_push, steps_push_other}
 use Rattle.chip_log.proofs.MetLemmas.{count_yes, count_no, count_same}
 

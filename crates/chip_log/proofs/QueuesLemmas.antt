@@ -1,12 +1,8 @@
 -- Serves Queues.antt.
 -- One queue changes.
-use Rattle.std.proofs.Common.{◌≡◌, ℕ, zero, suc, ◌+◌, ◌<◌, ◌≤◌, List, [], ◌∷◌, length, map, set, get_or, replicate}
-use Rattle.std.proofs.Common.{refl, sym, ap, ◌∙◌, arith}
-use Rattle.std.proofs.lemmas.List.{map-set, get_or-map, length-map, get_or-replicate, get_or_past, length-replicate}
-use mathlib.Core.Logic.{dite}
-use native.Mathlib.Decide.{dec_lt}
-use Rattle.chip_log.specs.declared.row.Step.{Step}
-use Rattle.chip_log.specs.Queues.{queue_of, total}
+use Rattle.chip_log.proofs.Names.{◌≡◌, ℕ, zero, suc, ◌+◌, ◌<◌, ◌≤◌, List, [], ◌∷◌, length, map, set, get_or, replicate}
+use Rattle.chip_log.proofs.Names.{refl, sym, ap, ◌∙◌, arith, map-set, get_or-map, length-map, get_or-replicate}
+use Rattle.chip_log.proofs.Names.{get_or_past, length-replicate, dite, dec_lt, Step, queue_of, total}
 
 module _ {X : Type 0} (f : X → List Step) (xs : List X) (queues : List (List Step)) (is : map f xs ≡ queues) (p : ℕ)
     (l : p < length queues) (q : X) (here : q ≡ get_or xs p q) where

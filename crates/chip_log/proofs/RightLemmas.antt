@@ -1,36 +1,23 @@
 -- Serves Judged.antt, Judge.antt.
 -- Right claims among all.
-use Rattle.std.proofs.Common.{◌≡◌, ℕ, zero, suc, ◌+◌, ◌≤◌, ◌<◌, Bool, true, false, cond, List, [], ◌∷◌, ◌++◌, length, map, get_or}
-use Rattle.std.proofs.Common.{refl, sym, ap, ◌∙◌, subst, arith, append_assoc, append-nil, eq-eqb, take, drop}
-use Rattle.std.specs.Prelude.{All, MatchBool, ◌&&◌, ◌||◌, not, ◌==◌, count_by, sum_by}
-use Rattle.std.specs.List.{list_any}
-use Rattle.std.proofs.lemmas.Bool.{eqb-true}
-use Rattle.std.proofs.lemmas.List.{get_or-map, length-map, map-append, take_more, take_all, get_or_default}
-use Rattle.std.proofs.lemmas.List.Elements.{All-head, All-tail}
-use Rattle.std.proofs.lemmas.List.Sums.{sum_by-cons, get_or-le-sum_by}
-use mathlib.Core.Logic.{dite}
-use native.Mathlib.Decide.{ℕ_discrete, dec_lt}
-use Rattle.chip_log.specs.declared.row.LogRow.{LogRow}
-use Rattle.chip_log.specs.declared.row.Step.{Step}
-use Rattle.chip_log.specs.declared.row.Step.TheVariants.{Out, In, Passive, Active, Over}
-use Rattle.chip_log.specs.declared.verdict.Verdict.{Verdict}
-use Rattle.chip_log.specs.declared.verdict.Verdict.TheVariants as verdict
-use Rattle.chip_log.specs.declared.judged.ClaimVerdict.{ClaimVerdict}
-use Rattle.chip_log.specs.declared.judged.LogEnd.{LogEnd}
-use Rattle.chip_log.specs.declared.judged.LogEnd.TheVariants as end
-use Rattle.chip_log.specs.declared.past.ClaimPlace.{ClaimPlace}
-use Rattle.chip_log.specs.Log.{steps_of, IsInterleaving, HasEnds}
-use Rattle.chip_log.specs.Claims.{IsSilent, IsBefore, IsPast, IsRight, IsVerdict}
-use Rattle.chip_log.specs.Past.{IsLog, IsPlace}
-use Rattle.chip_log.specs.Judged.{is_over, is_over_at, is_claim, RowPlace, is_at, is_early, IsJudged, NoneRight, IsEnd}
-use Rattle.chip_log.specs.Judged.{AreRowsOf, IsOpenEnd, place_of, AreClaims, AreJudged}
-use Rattle.chip_log.specs.Judge.{place_at, ArePlaces, Judges, IsKnown}
+use Rattle.chip_log.proofs.Names.{◌≡◌, ℕ, zero, suc, ◌+◌, ◌≤◌, ◌<◌, Bool, true, false, cond, List, [], ◌∷◌, ◌++◌}
+use Rattle.chip_log.proofs.Names.{length, map, get_or, refl, sym, ap, ◌∙◌, subst, arith, append_assoc, append-nil}
+use Rattle.chip_log.proofs.Names.{eq-eqb, take, drop, All, MatchBool, ◌&&◌, ◌||◌, not, ◌==◌, count_by, sum_by, list_any}
+use Rattle.chip_log.proofs.Names.{eqb-true, get_or-map, length-map, map-append, take_more, take_all, get_or_default}
+use Rattle.chip_log.proofs.Names.{All-head, All-tail, sum_by-cons, get_or-le-sum_by, dite, ℕ_discrete, dec_lt, LogRow}
+use Rattle.chip_log.proofs.Names.{Step, Out, In, Passive, Active, Over, Verdict, ClaimVerdict, LogEnd, ClaimPlace}
+use Rattle.chip_log.proofs.Names.{steps_of, IsInterleaving, HasEnds, IsSilent, IsBefore, IsPast, IsRight, IsVerdict}
+use Rattle.chip_log.proofs.Names.{IsLog, IsPlace, is_over, is_over_at, is_claim, RowPlace, is_at, is_early, IsJudged}
+use Rattle.chip_log.proofs.Names.{NoneRight, IsEnd, AreRowsOf, IsOpenEnd, place_of, AreClaims, AreJudged, place_at}
+use Rattle.chip_log.proofs.Names.{ArePlaces, Judges, IsKnown}
 use Rattle.chip_log.proofs.CountLemmas.{steps_of-append, steps_own, steps_other}
 use Rattle.chip_log.proofs.LoopLemmas.{at_place}
 use Rattle.chip_log.proofs.PastLemmas.{rest_of}
 use Rattle.chip_log.proofs.MetLemmas.{count_yes, count_no}
 use Rattle.chip_log.proofs.PlacesLemmas.{one_at, at_itself, IsRightBefore}
 use Rattle.chip_log.proofs.VerdictLemmas.{one_verdict}
+use Rattle.chip_log.specs.declared.verdict.Verdict.TheVariants as verdict
+use Rattle.chip_log.specs.declared.judged.LogEnd.TheVariants as end
 
 -- ---- behind a right claim each claim of its process is right
 
@@ -56,9 +43,12 @@ own_over : (p : ℕ) (x : LogRow) (xs : List LogRow) → x.process ≡ p
     → (i : ℕ) → is_over_at (x.step ∷ steps_of p xs) i ≡ true → HasOver p (x ∷ xs) i
 own_over p x xs e later zero over = ([], xs, (λ k. record { process = e k; step = over_is x.step over k } ∷ xs), refl)
 own_over p x xs e later (suc i) over =
-    let found = later i over in
-    (x ∷ found.0, found.1, ap (λ (zs : List LogRow). x ∷ zs) found.2,
-    let a = ap length (steps_own p x found.0 e) in let b = found.3 in omega arith)
+    let found = later i over in (
+      x ∷ found.0,
+      found.1,
+      ap (λ (zs : List LogRow). x ∷ zs) found.2,
+      let a = ap length (steps_own p x found.0 e) in let b = found.3 in omega arith,
+    )
 
 find_over : (p : ℕ) (xs : List LogRow) (i : ℕ) → is_over_at (steps_of p xs) i ≡ true → HasOver p xs i
 find_over p [] i is = absurd (cc is)
@@ -215,8 +205,7 @@ module _ (log : List LogRow) (ends : HasEnds log) (w : Bool) where
       → IsEnd log end.Claimed
   one_right claims judged some =
       let found = some_right claims some in
-      let c = found.0 in
-      (
+      let c = found.0 in (
         c.process,
         c.row,
         is_one claims judged c found.1 found.2 found.3 (is_claim log c.process c.row) refl,

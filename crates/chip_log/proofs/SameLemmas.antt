@@ -1,30 +1,17 @@
 -- Serves Log.antt, Claims.antt, Judged.antt.
 -- What is said of a log depends on the rows of each process alone.
-use Rattle.std.proofs.Common.{◌≡◌, ℕ, ◌<◌, Bool, true, false, cond, List, [], ◌∷◌, ◌++◌, length}
-use Rattle.std.proofs.Common.{refl, sym, ap, ◌∙◌, subst, arith}
-use Rattle.std.specs.Prelude.{All, MatchBool, ◌&&◌}
-use Rattle.std.proofs.lemmas.List.Elements.{All-nil, All-cons, All-head, All-tail, All-same, All-rest, All-weaker}
-use mathlib.Core.Logic.{dite}
-use native.Mathlib.Decide.{ℕ_discrete}
-use Rattle.chip_log.specs.declared.row.LogRow.{LogRow}
-use Rattle.chip_log.specs.declared.row.Stream.{Stream}
-use Rattle.chip_log.specs.declared.row.Step.{Step}
-use Rattle.chip_log.specs.declared.row.Step.TheVariants.{Out, In, Passive, Active, Over}
-use Rattle.chip_log.specs.declared.past.Sizes.{Sizes}
-use Rattle.chip_log.specs.declared.verdict.Verdict.{Verdict}
-use Rattle.chip_log.specs.declared.verdict.Verdict.TheVariants as verdict
-use Rattle.chip_log.specs.declared.judged.ClaimVerdict.{ClaimVerdict}
-use Rattle.chip_log.specs.declared.judged.LogEnd.{LogEnd}
-use Rattle.chip_log.specs.declared.judged.LogEnd.TheVariants as end
-use Rattle.chip_log.specs.declared.judged.JudgedLog.{JudgedLog}
-use Rattle.chip_log.specs.Log.{steps_of, sends, gets, outs, ins, active_after, begins_active, is_active, is_met, AreMet}
-use Rattle.chip_log.specs.Log.{IsInterleaving, HasEnds}
-use Rattle.chip_log.specs.Claims.{basic, IsSilent, IsBefore, IsPast, IsOnItsWay, IsBusy, IsRight, IsVerdict}
-use Rattle.chip_log.specs.Past.{IsLog, FitsRow, Fits}
-use Rattle.chip_log.specs.Judged.{is_over_at, is_claim, AreClaims, is_early, AreRowsOf, IsJudged, control, NoneRight, IsOpenEnd}
-use Rattle.chip_log.specs.Judged.{IsEnd, place_of, AreJudged, IsJudgedLog}
+use Rattle.chip_log.proofs.Names.{◌≡◌, ℕ, ◌<◌, Bool, true, false, cond, List, [], ◌∷◌, ◌++◌, length, refl, sym, ap, ◌∙◌}
+use Rattle.chip_log.proofs.Names.{subst, arith, All, MatchBool, ◌&&◌, All-nil, All-cons, All-head, All-tail, All-same}
+use Rattle.chip_log.proofs.Names.{All-rest, All-weaker, dite, ℕ_discrete, LogRow, Stream, Step, Out, In, Passive}
+use Rattle.chip_log.proofs.Names.{Active, Over, Sizes, Verdict, ClaimVerdict, LogEnd, JudgedLog, steps_of, sends, gets}
+use Rattle.chip_log.proofs.Names.{outs, ins, active_after, begins_active, is_active, is_met, AreMet, IsInterleaving}
+use Rattle.chip_log.proofs.Names.{HasEnds, basic, IsSilent, IsBefore, IsPast, IsOnItsWay, IsBusy, IsRight, IsVerdict}
+use Rattle.chip_log.proofs.Names.{IsLog, FitsRow, Fits, is_over_at, is_claim, AreClaims, is_early, AreRowsOf, IsJudged}
+use Rattle.chip_log.proofs.Names.{control, NoneRight, IsOpenEnd, IsEnd, place_of, AreJudged, IsJudgedLog}
 use Rattle.chip_log.proofs.CountLemmas.{steps_own, steps_other, outs_is, ins_is}
 use Rattle.chip_log.proofs.MetLemmas.{count_same}
+use Rattle.chip_log.specs.declared.verdict.Verdict.TheVariants as verdict
+use Rattle.chip_log.specs.declared.judged.LogEnd.TheVariants as end
 
 -- each process has the same rows in both
 abbrev pub SameRows : List LogRow → List LogRow → Type 0

@@ -1,20 +1,14 @@
 -- Serves Claims.antt.
 -- Once all is silent it stays so.
-use Rattle.std.proofs.Common.{◌≡◌, ℕ, ◌≤◌, ◌<◌, Bool, true, false, cond, List, [], ◌∷◌, ◌++◌, length}
-use Rattle.std.proofs.Common.{refl, sym, ap, ◌∙◌, subst, arith, append_assoc, append-nil, length-append}
-use Rattle.std.proofs.lemmas.Bool.{ltb-true}
-use mathlib.Core.Logic.{dite}
-use native.Mathlib.Decide.{ℕ_discrete, dec_lt}
-use Rattle.chip_log.specs.declared.row.LogRow.{LogRow}
-use Rattle.chip_log.specs.declared.row.Stream.{Stream}
-use Rattle.chip_log.specs.declared.row.Step.{Step}
-use Rattle.chip_log.specs.declared.row.Step.TheVariants.{Out, In, Passive, Active, Over}
-use Rattle.chip_log.specs.Log.{steps_of, is_out, is_in, sends, gets, outs, ins, active_after, begins_active, is_active}
-use Rattle.chip_log.specs.Log.{is_met, AreMet, IsInterleaving, HasEnds}
-use Rattle.chip_log.specs.Claims.{basic, IsSilent, IsBefore, IsPast, IsRight}
+use Rattle.chip_log.proofs.Names.{◌≡◌, ℕ, ◌≤◌, ◌<◌, Bool, true, false, cond, List, [], ◌∷◌, ◌++◌, length, refl, sym, ap}
+use Rattle.chip_log.proofs.Names.{◌∙◌, subst, arith, append_assoc, append-nil, length-append, ltb-true, dite}
+use Rattle.chip_log.proofs.Names.{ℕ_discrete, dec_lt, LogRow, Stream, Step, Out, In, Passive, Active, Over, steps_of}
+use Rattle.chip_log.proofs.Names.{is_out, is_in, sends, gets, outs, ins, active_after, begins_active, is_active, is_met}
+use Rattle.chip_log.proofs.Names.{AreMet, IsInterleaving, HasEnds, basic, IsSilent, IsBefore, IsPast, IsRight}
 use Rattle.chip_log.proofs.PrefixLemmas.{longer_beginning, same_beginning}
-use Rattle.chip_log.proofs.CountLemmas.{sends-append, gets-append, steps_of-append, steps_own, steps_push, steps_push_other}
-use Rattle.chip_log.proofs.CountLemmas.{same_stream_is, active_after-append, sends_le, gets_le, outs_is}
+use Rattle.chip_log.proofs.CountLemmas.{sends-append, gets-append, steps_of-append, steps_own, steps_push}
+use Rattle.chip_log.proofs.CountLemmas.{steps_push_other, same_stream_is, active_after-append, sends_le, gets_le}
+use Rattle.chip_log.proofs.CountLemmas.{outs_is}
 use Rattle.chip_log.proofs.MetLemmas.{same_self, count_yes, outs_push_no}
 use Rattle.chip_log.proofs.PastLemmas.{rest_of, now_met, now_le, ins_by}
 

@@ -1,18 +1,11 @@
 -- Serves Claims.antt.
 -- A claim has one verdict.
-use Rattle.std.proofs.Common.{◌≡◌, ℕ, ◌<◌, List, ◌∷◌}
-use Rattle.std.proofs.Common.{refl, sym, ap, ◌∙◌, arith}
-use mathlib.Core.Logic.{dite}
-use native.Mathlib.Decide.{dec_lt}
-use Rattle.chip_log.specs.declared.row.LogRow.{LogRow}
-use Rattle.chip_log.specs.declared.row.Stream.{Stream}
-use Rattle.chip_log.specs.declared.row.Step.TheVariants.{Over}
-use Rattle.chip_log.specs.declared.verdict.Verdict.{Verdict}
-use Rattle.chip_log.specs.declared.verdict.Verdict.TheVariants as verdict
-use Rattle.chip_log.specs.Log.{steps_of, sends, gets, outs, ins, active_after, begins_active, is_active, HasEnds}
-use Rattle.chip_log.specs.Claims.{basic, IsPast, IsOnItsWay, IsBusy, IsRight, IsVerdict}
+use Rattle.chip_log.proofs.Names.{◌≡◌, ℕ, ◌<◌, List, ◌∷◌, refl, sym, ap, ◌∙◌, arith, dite, dec_lt, LogRow, Stream, Over}
+use Rattle.chip_log.proofs.Names.{Verdict, steps_of, sends, gets, outs, ins, active_after, begins_active, is_active}
+use Rattle.chip_log.proofs.Names.{HasEnds, basic, IsPast, IsOnItsWay, IsBusy, IsRight, IsVerdict}
 use Rattle.chip_log.proofs.PrefixLemmas.{same_beginning}
 use Rattle.chip_log.proofs.PastLemmas.{rest_of, outs_by, ins_by}
+use Rattle.chip_log.specs.declared.verdict.Verdict.TheVariants as verdict
 
 module _ (log : List LogRow) (ends : HasEnds log) (p i : ℕ) where
   abbrev claim : LogRow

@@ -153,7 +153,12 @@ fn judge_claim(
 }
 
 /// How many rows each process has in the past that the books are of, if that is asked for.
-fn counts_of(alloc: Global, books: &Books, sizes: Sizes, asked: bool) -> Result<Vec<PastRows>, AllocError>
+fn counts_of(
+    alloc: Global,
+    books: &Books,
+    sizes: Sizes,
+    asked: bool,
+) -> Result<Vec<PastRows>, AllocError>
     requires { AreSized sizes books.now }
     ensures { IfOk result (λ past.
         MatchBool asked (AreCounts sizes.processes books.now past.items) (past.items ≡ [])) }
@@ -209,7 +214,10 @@ fn left_of(books: &Books, beginners: &[Option<bool>], sizes: Sizes) -> Verdict
     ensures { IsLeft sizes beginners.now books.now result }
 {
     if let Some(channel) = first_way(books, sizes, false) {
-        let message = books.taken.count(Stream { channel, is_control: false });
+        let message = books.taken.count(Stream {
+            channel,
+            is_control: false,
+        });
         return Verdict::OnItsWay {
             channel,
             message: u64::from(message),
@@ -227,7 +235,10 @@ fn first_way(books: &Books, sizes: Sizes, is_control: bool) -> Option<u32>
     ensures { IsFirstWay is_control sizes.channels books.now result }
 {
     for channel in 0..sizes.channels {
-        let stream = Stream { channel, is_control };
+        let stream = Stream {
+            channel,
+            is_control,
+        };
         if books.taken.count(stream) < books.sent.count(stream) {
             return Some(channel);
         }

@@ -81,7 +81,11 @@ fn look_at_all(books: &mut Books, sizes: Sizes, rows: &[LogRow], claim: ClaimPla
 }
 
 /// What is known of all rows of a log.
-pub(crate) fn books_of_all(alloc: Global, sizes: Sizes, rows: &[LogRow]) -> Result<Books, AllocError>
+pub(crate) fn books_of_all(
+    alloc: Global,
+    sizes: Sizes,
+    rows: &[LogRow],
+) -> Result<Books, AllocError>
     requires fits { Fits sizes rows.now }
     requires few { length rows.now < 2 ^ 32 }
     ensures sized { IfOk result (AreSized sizes) }

@@ -41,7 +41,9 @@ fn seen(claim: &ClaimVerdict) -> (u32, u64, Verdict) {
 #[test]
 fn all_claims(rt: HostRuntime) {
     let mut told = Count(0);
-    let judged = judged(&rt, SIZES, &CLAIMS, &mut told).ok().expect(&rt, "an order");
+    let judged = judged(&rt, SIZES, &CLAIMS, &mut told)
+        .ok()
+        .expect(&rt, "an order");
     assert!(rt; told.0 == 5);
     let on_its_way = Verdict::OnItsWay {
         channel: 0,
@@ -60,12 +62,30 @@ fn all_claims(rt: HostRuntime) {
 /// The rows before each: of process 0 alone, and nothing at all.
 #[test]
 fn pasts(rt: HostRuntime) {
-    let judged = judged(&rt, SIZES, &CLAIMS, &mut Unwatched).ok().expect(&rt, "an order");
+    let judged = judged(&rt, SIZES, &CLAIMS, &mut Unwatched)
+        .ok()
+        .expect(&rt, "an order");
     let mut claims = judged.claims.iter();
-    let first = [PastRows { process: 0, rows: 1 }];
-    let second = [PastRows { process: 0, rows: 5 }];
-    assert!(rt; claims.next().map(|claim| claim.past.as_slice() == first.as_slice()) == Some(true));
-    assert!(rt; claims.next().map(|claim| claim.past.as_slice() == second.as_slice()) == Some(true));
+    let first = [PastRows {
+        process: 0,
+        rows: 1,
+    }];
+    let second = [PastRows {
+        process: 0,
+        rows: 5,
+    }];
+    assert!(rt;
+        claims
+            .next()
+            .map(|claim| claim.past.as_slice() == first.as_slice())
+            == Some(true)
+    );
+    assert!(rt;
+        claims
+            .next()
+            .map(|claim| claim.past.as_slice() == second.as_slice())
+            == Some(true)
+    );
     assert!(rt; claims.next().map(|claim| claim.past.is_empty()) == Some(true));
     assert!(rt; claims.next().map(|claim| claim.past.is_empty()) == Some(true));
     assert!(rt; claims.next().map(|claim| claim.past.is_empty()) == Some(true));
@@ -94,6 +114,7 @@ const UNHEARD: [LogRow; 6] = [
 
 /// Cut off before the message is got, and before its receiver is passive.
 const ON_ITS_WAY: [LogRow; 3] = [row!(0, Step::Active), send!(0, 0), row!(0, Step::Passive)];
+
 const ACTIVE: [LogRow; 4] = [
     row!(0, Step::Active),
     send!(0, 0),
@@ -105,6 +126,12 @@ const ACTIVE: [LogRow; 4] = [
 fn ends(rt: HostRuntime) {
     assert!(rt; end(&rt, SIZES, &NO_CLAIM) == LogEnd::Missed);
     assert!(rt; end(&rt, SIZES, &UNHEARD) == LogEnd::Unclaimed);
-    assert!(rt; end(&rt, SIZES, &ON_ITS_WAY) == LogEnd::OnItsWay { channel: 0, message: 0 });
+    assert!(rt;
+        end(&rt, SIZES, &ON_ITS_WAY)
+            == LogEnd::OnItsWay {
+                channel: 0,
+                message: 0
+            }
+    );
     assert!(rt; end(&rt, SIZES, &ACTIVE) == LogEnd::Active { process: 1 });
 }

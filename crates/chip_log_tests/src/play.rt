@@ -4,7 +4,8 @@ ghost use Rattle.std.specs.Prelude.{◌^◌, ◌<◌, IsTrue, length};
 ghost use Rattle.chip_log_tests.specs.Checks.{may_order};
 
 use chip_log::{
-    ClaimWatch, JudgedLog, LogEnd, LogRow, OrderFault, Sizes, Step, Stream, Unwatched, Verdict, judge_log,
+    ClaimWatch, JudgedLog, LogEnd, LogRow, OrderFault, Sizes, Step, Stream, Unwatched, Verdict,
+    judge_log,
 };
 use std::process::Abort;
 
@@ -87,7 +88,9 @@ pub(crate) fn last_verdict(
     requires well_formed { IsTrue (may_order sizes rows.now) }
     requires few { length rows.now < 2 ^ 32 }
 {
-    let judged = judged(rt, sizes, rows, &mut Unwatched).ok().expect(rt, "an order");
+    let judged = judged(rt, sizes, rows, &mut Unwatched)
+        .ok()
+        .expect(rt, "an order");
     judged.claims.last().map(|claim| claim.verdict)
 }
 
@@ -96,5 +99,8 @@ pub(crate) fn end(rt: &(impl AllocGlobal + Abort), sizes: Sizes, rows: &[LogRow]
     requires well_formed { IsTrue (may_order sizes rows.now) }
     requires few { length rows.now < 2 ^ 32 }
 {
-    judged(rt, sizes, rows, &mut Unwatched).ok().expect(rt, "an order").end
+    judged(rt, sizes, rows, &mut Unwatched)
+        .ok()
+        .expect(rt, "an order")
+        .end
 }

@@ -1,6 +1,4 @@
-use Rattle.std.proofs.Common.{ℕ, ◌+◌, ◌*◌, rules}
-use Rattle.std.proofs.lemmas.List.Sorted.{IsNonDecreasingBy-from_sort_by_key}
-use Rattle.chip_log.specs.declared.past.ClaimPlace.{ClaimPlace}
+use Rattle.chip_log.proofs.Names.{ℕ, ◌+◌, ◌*◌, rules, IsNonDecreasingBy-from_sort_by_key, ClaimPlace}
 use Rattle.chip_log.proofs.PlacesLemmas.{sorted_places}
 use Rattle.chip_log.proofs.claims.claims_of.Goals as goal
 

@@ -1,18 +1,12 @@
-use Rattle.std.proofs.Common.{◌≡◌, ℕ, ◌+◌, ◌^◌, ◌<◌, List, false, ◌++◌, ◌∷◌, [], length, set, get_or, take, replicate, length-take}
-use Rattle.std.proofs.Common.{ap, sym, ◌∙◌, subst, arith, length-set, Vec, Global}
-use Rattle.std.proofs.lemmas.List.{get_or_default, length-replicate, take_all}
-use Rattle.std.proofs.lemmas.List.Elements.{All-get_or}
-use Rattle.std.proofs.lemmas.Option.{slice_get-get_or}
-use Rattle.chip_log.specs.declared.row.LogRow.{LogRow}
-use Rattle.chip_log.specs.declared.row.Step.TheVariants.{Out}
-use Rattle.chip_log.specs.declared.past.ClaimPlace.{ClaimPlace}
-use Rattle.chip_log.specs.Past.{FitsRow}
-use Rattle.chip_log.specs.Places.{AreFound}
+use Rattle.chip_log.proofs.Names.{◌≡◌, ℕ, ◌+◌, ◌^◌, ◌<◌, List, false, ◌++◌, ◌∷◌, [], length, set, get_or, take}
+use Rattle.chip_log.proofs.Names.{replicate, length-take, ap, sym, ◌∙◌, subst, arith, length-set, Vec, Global}
+use Rattle.chip_log.proofs.Names.{get_or_default, length-replicate, take_all, All-get_or, slice_get-get_or, LogRow, Out}
+use Rattle.chip_log.proofs.Names.{ClaimPlace, FitsRow, AreFound}
 use Rattle.chip_log.proofs.LoopLemmas.{steps_few}
 use Rattle.chip_log.proofs.QueuesLemmas.{all_same}
 use Rattle.chip_log.proofs.PlacesLemmas.{AreFoundIn, found_nothing, found_all, found_none, found_one, no_over}
-use Rattle.chip_log.proofs.claims.found.Goals as goal
 use Rattle.chip_log.proofs.claims.found.Goals.{in-Over+in_ok-push, in_default}
+use Rattle.chip_log.proofs.claims.found.Goals as goal
 
 -- what is read behind the last row
 abbrev none : LogRow
@@ -67,17 +61,17 @@ loop-at-preserved c =
       found = subst (λ (n : ℕ). AreFoundIn rows (at + 1) c.match-row.claims.items (set counts x.process (n + 1))) (sym count)
           (elim c.match-row.branch [
             | in-Over+in_ok-push w ↦
-              subst (λ (claims : List ClaimPlace). AreFoundIn rows (at + 1) claims
-              (set counts x.process (get_or counts x.process 0 + 1)))
-              (sym (ap (λ (v : Vec ClaimPlace Global). v.items) w.claims-is ∙ w.in_ok-push.ensures.items
-              ∙ ap (λ (n : ℕ). c.loop-at.claims.items ++ record { process = x.process; row = n; at = at } ∷ []) count))
-              (found_one rows at none l c.loop-at.claims.items counts inv.found within w.in-Over.is few
-              (slice_get-get_or rows at none l))
+                subst (λ (claims : List ClaimPlace). AreFoundIn rows (at + 1) claims
+                (set counts x.process (get_or counts x.process 0 + 1)))
+                (sym (ap (λ (v : Vec ClaimPlace Global). v.items) w.claims-is ∙ w.in_ok-push.ensures.items
+                ∙ ap (λ (n : ℕ). c.loop-at.claims.items ++ record { process = x.process; row = n; at = at } ∷ []) count))
+                (found_one rows at none l c.loop-at.claims.items counts inv.found within w.in-Over.is few
+                (slice_get-get_or rows at none l))
             | in_default w ↦
-              subst (λ (claims : List ClaimPlace). AreFoundIn rows (at + 1) claims
-              (set counts x.process (get_or counts x.process 0 + 1)))
-              (sym (ap (λ (v : Vec ClaimPlace Global). v.items) w.claims-is))
-              (found_none rows at none l c.loop-at.claims.items counts inv.found within (no_over x.step w.in_default.not-Over))
+                subst (λ (claims : List ClaimPlace). AreFoundIn rows (at + 1) claims
+                (set counts x.process (get_or counts x.process 0 + 1)))
+                (sym (ap (λ (v : Vec ClaimPlace Global). v.items) w.claims-is))
+                (found_none rows at none l c.loop-at.claims.items counts inv.found within (no_over x.step w.in_default.not-Over))
           ]);
     }
 

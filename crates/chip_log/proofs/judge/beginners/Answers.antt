@@ -1,11 +1,6 @@
-use Rattle.std.proofs.Common.{◌≡◌, ◌<◌, List, [], ◌∷◌, ◌++◌, length, take, get_or, false, Bool, arith, ap, sym, ◌∙◌, subst}
-use Rattle.std.specs.Prelude.{slice_set, slice_index_or, Option, None}
-use Rattle.std.proofs.lemmas.List.{take_more, get_or_default}
-use Rattle.std.proofs.lemmas.List.Elements.{All-get_or}
-use Rattle.chip_log.specs.declared.row.LogRow.{LogRow}
-use Rattle.chip_log.specs.declared.row.Step.TheVariants.{Out}
-use Rattle.chip_log.specs.Past.{FitsRow}
-use Rattle.chip_log.specs.Judge.{AreBeginners, first_step}
+use Rattle.chip_log.proofs.Names.{◌≡◌, ◌<◌, List, [], ◌∷◌, ◌++◌, length, take, get_or, false, Bool, arith, ap, sym, ◌∙◌}
+use Rattle.chip_log.proofs.Names.{subst, slice_set, slice_index_or, Option, None, take_more, get_or_default, All-get_or}
+use Rattle.chip_log.proofs.Names.{LogRow, Out, FitsRow, AreBeginners, first_step}
 use Rattle.chip_log.proofs.JudgeLemmas.{more_beginners}
 use Rattle.chip_log.proofs.judge.beginners.Goals as goal
 

@@ -1,5 +1,4 @@
-use Rattle.std.proofs.Common.{◌≤◌, ◌-◌, length, take}
-use Rattle.chip_log.specs.Judge.{AreBeginners}
+use Rattle.chip_log.proofs.Names.{◌≤◌, ◌-◌, length, take, AreBeginners}
 use Rattle.chip_log.proofs.judge.beginners.Given as goal
 
 abbrev pub invariant-loop-next : goal.invariant-loop-next

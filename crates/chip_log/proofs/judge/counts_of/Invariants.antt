@@ -1,4 +1,4 @@
-use Rattle.chip_log.specs.Judge.{AreCounts}
+use Rattle.chip_log.proofs.Names.{AreCounts}
 use Rattle.chip_log.proofs.judge.counts_of.Given as goal
 
 abbrev pub invariant-loop-process : goal.invariant-loop-process

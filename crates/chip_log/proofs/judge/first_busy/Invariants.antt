@@ -1,5 +1,4 @@
-use Rattle.std.proofs.Common.{◌≡◌, ◌<◌, ℕ, false}
-use Rattle.chip_log.specs.Judge.{is_busy}
+use Rattle.chip_log.proofs.Names.{◌≡◌, ◌<◌, ℕ, false, is_busy}
 use Rattle.chip_log.proofs.judge.first_busy.Given as goal
 
 abbrev pub invariant-loop-process : goal.invariant-loop-process

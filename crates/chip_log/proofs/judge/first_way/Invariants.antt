@@ -1,4 +1,4 @@
-use Rattle.chip_log.specs.Judge.{NoWay}
+use Rattle.chip_log.proofs.Names.{NoWay}
 use Rattle.chip_log.proofs.judge.first_way.Given as goal
 
 abbrev pub invariant-loop-channel : goal.invariant-loop-channel

@@ -1,15 +1,10 @@
-use Rattle.std.proofs.Common.{◌≡◌, ℕ, ◌+◌, ◌<◌, List, ◌∷◌, ◌++◌, [], length, map, take, get_or, sym, ap, ◌∙◌, subst, arith}
-use Rattle.std.specs.Prelude.{Some}
-use Rattle.std.proofs.lemmas.List.Elements.{All-same, All-push}
-use Rattle.chip_log.specs.declared.past.ClaimPlace.{ClaimPlace}
-use Rattle.chip_log.specs.declared.judged.ClaimVerdict.{ClaimVerdict}
-use Rattle.chip_log.specs.Past.{IsPlace}
-use Rattle.chip_log.specs.Judged.{IsJudged, place_of}
-use Rattle.chip_log.specs.Judge.{place_at, Judges, IsKnown}
+use Rattle.chip_log.proofs.Names.{◌≡◌, ℕ, ◌+◌, ◌<◌, List, ◌∷◌, ◌++◌, [], length, map, take, get_or, sym, ap, ◌∙◌, subst}
+use Rattle.chip_log.proofs.Names.{arith, Some, All-same, All-push, ClaimPlace, ClaimVerdict, IsPlace, IsJudged}
+use Rattle.chip_log.proofs.Names.{place_of, place_at, Judges, IsKnown}
 use Rattle.chip_log.proofs.PlacesLemmas.{known}
 use Rattle.chip_log.proofs.RightLemmas.{one_judged, right_now, right_more, all_judged}
-use Rattle.chip_log.proofs.judge.judge_all.Goals as goal
 use Rattle.chip_log.proofs.judge.judge_all.Goals.{then-not-is_early, else-not-is_early}
+use Rattle.chip_log.proofs.judge.judge_all.Goals as goal
 
 pub judge_next-requires : goal.judge_next-requires
 judge_next-requires g c =
@@ -55,8 +50,8 @@ loop-next-preserved g c =
           (All-push (IsJudged c.args.with_past rows) claims claim inv.each judges.judged);
       right = elim c.if-not-is_early.branch [
         | then-not-is_early w ↦ λ x is. right_now c.args.with_past rows places n d inside claims claim judges
-          (sym c.is_early.ensures ∙ w.if-not-is_early.true) x
-          (sym c.index-place.ensures ∙ (let e : Some d ≡ Some x = sym w.right-is ∙ is in cc))
+            (sym c.is_early.ensures ∙ w.if-not-is_early.true) x
+            (sym c.index-place.ensures ∙ (let e : Some d ≡ Some x = sym w.right-is ∙ is in cc))
         | else-not-is_early w ↦ λ x is. right_more rows places n x (inv.right x (sym w.right-is ∙ is))
       ];
     }

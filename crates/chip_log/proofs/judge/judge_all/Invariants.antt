@@ -1,8 +1,4 @@
-use Rattle.std.proofs.Common.{◌≡◌, ◌≤◌, ◌-◌, length, map, take}
-use Rattle.std.specs.Prelude.{All}
-use Rattle.std.specs.Option.{ForSome}
-use Rattle.chip_log.specs.Judged.{IsJudged, place_of}
-use Rattle.chip_log.specs.Judge.{place_at}
+use Rattle.chip_log.proofs.Names.{◌≡◌, ◌≤◌, ◌-◌, length, map, take, All, ForSome, IsJudged, place_of, place_at}
 use Rattle.chip_log.proofs.PlacesLemmas.{IsRightBefore}
 use Rattle.chip_log.proofs.judge.judge_all.Given as goal
 

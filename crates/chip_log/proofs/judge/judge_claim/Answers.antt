@@ -1,12 +1,9 @@
-use Rattle.std.proofs.Common.{◌≡◌, Bool, List, [], ap, sym, ◌∙◌, subst, refl}
-use Rattle.std.specs.Prelude.{MatchBool, ◌&&◌}
-use Rattle.chip_log.specs.declared.row.LogRow.{LogRow}
-use Rattle.chip_log.specs.Claims.{IsPast}
-use Rattle.chip_log.specs.Judged.{is_early, AreRowsOf}
+use Rattle.chip_log.proofs.Names.{◌≡◌, Bool, List, [], ap, sym, ◌∙◌, subst, refl, MatchBool, ◌&&◌, LogRow, IsPast}
+use Rattle.chip_log.proofs.Names.{is_early, AreRowsOf}
 use Rattle.chip_log.proofs.JudgeLemmas.{verdict_left, past_left}
 use Rattle.chip_log.proofs.RightLemmas.{judges}
-use Rattle.chip_log.proofs.judge.judge_claim.Goals as goal
 use Rattle.chip_log.proofs.judge.judge_claim.Goals.{then-with_past, else-with_past}
+use Rattle.chip_log.proofs.judge.judge_claim.Goals as goal
 
 pub returns : goal.returns
 returns c =
@@ -14,9 +11,9 @@ returns c =
     let past = c.in_ok-counts_of.field-0.items in
     let asked : c.if-with_past.counts_of ≡ (c.args.with_past && is_early v) = elim c.if-with_past.branch [
       | then-with_past w ↦ w.counts_of-is ∙ c.is_early-is_early.ensures
-        ∙ sym (ap (λ (b : Bool). b && is_early c.left_of-verdict.result) w.if-with_past.true)
+          ∙ sym (ap (λ (b : Bool). b && is_early c.left_of-verdict.result) w.if-with_past.true)
       | else-with_past w ↦ w.counts_of-is ∙ w.if-with_past.false
-        ∙ sym (ap (λ (b : Bool). b && is_early c.left_of-verdict.result) w.if-with_past.false)
+          ∙ sym (ap (λ (b : Bool). b && is_early c.left_of-verdict.result) w.if-with_past.false)
     ] in
     judges c.args.with_past c.args.rows.now c.args.place (record {
       process = c.args.place.process;

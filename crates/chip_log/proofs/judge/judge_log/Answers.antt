@@ -1,6 +1,4 @@
-use Rattle.std.proofs.Common.{ℕ, ◌<◌, ◌^◌, List, length, ap, sym, ◌∙◌, subst}
-use Rattle.chip_log.specs.declared.row.LogRow.{LogRow}
-use Rattle.chip_log.specs.Log.{IsInterleaving}
+use Rattle.chip_log.proofs.Names.{ℕ, ◌<◌, ◌^◌, List, length, ap, sym, ◌∙◌, subst, LogRow, IsInterleaving}
 use Rattle.chip_log.proofs.SameLemmas.{judged_log_as, fits_as, is_log, ends_as}
 use Rattle.chip_log.proofs.judge.judge_log.Goals as goal
 

@@ -1,9 +1,6 @@
-use Rattle.std.proofs.Common.{◌≡◌, List, [], refl}
-use Rattle.chip_log.specs.declared.row.LogRow.{LogRow}
-use Rattle.chip_log.specs.declared.verdict.Verdict.TheVariants as verdict
-use Rattle.chip_log.specs.Claims.{IsPast}
-use Rattle.chip_log.specs.Judged.{AreRowsOf}
+use Rattle.chip_log.proofs.Names.{◌≡◌, List, [], refl, LogRow, IsPast, AreRowsOf}
 use Rattle.chip_log.proofs.RightLemmas.{judges, right_known, none_shown}
+use Rattle.chip_log.specs.declared.verdict.Verdict.TheVariants as verdict
 use Rattle.chip_log.proofs.judge.judge_next.Goals as goal
 
 pub returns-in-Some : goal.returns-in-Some

@@ -1,8 +1,4 @@
-use Rattle.std.proofs.Common.{List, sym, ap, ◌∙◌}
-use Rattle.std.specs.Prelude.{not}
-use Rattle.std.specs.List.{list_any}
-use Rattle.chip_log.specs.declared.judged.ClaimVerdict.{ClaimVerdict}
-use Rattle.chip_log.specs.Judged.{is_early}
+use Rattle.chip_log.proofs.Names.{List, sym, ap, ◌∙◌, not, list_any, ClaimVerdict, is_early}
 use Rattle.chip_log.proofs.RightLemmas.{none_right, one_right, open_is_end}
 use Rattle.chip_log.proofs.judge.judge_ordered.Goals as goal
 

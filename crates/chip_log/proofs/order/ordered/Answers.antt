@@ -1,8 +1,4 @@
-use Rattle.std.proofs.Common.{List, length, false, arith, ap, sym, ◌∙◌, subst}
-use Rattle.chip_log.specs.declared.row.LogRow.{LogRow}
-use Rattle.chip_log.specs.declared.row.Step.TheVariants.{Out}
-use Rattle.chip_log.specs.Log.{steps_of}
-use Rattle.chip_log.specs.Order.{IsStuck}
+use Rattle.chip_log.proofs.Names.{List, length, false, arith, ap, sym, ◌∙◌, subst, LogRow, Out, steps_of, IsStuck}
 use Rattle.chip_log.proofs.OrderLemmas.{row_fits, now_ready, read_on, none_read, all_read, whole_order, stuck_order}
 use Rattle.chip_log.proofs.order.ordered.Goals as goal
 

@@ -1,4 +1,4 @@
-use Rattle.std.proofs.Common.{◌≤◌, ◌-◌, length}
+use Rattle.chip_log.proofs.Names.{◌≤◌, ◌-◌, length}
 use Rattle.chip_log.proofs.OrderLemmas.{IsSoFar}
 use Rattle.chip_log.proofs.order.ordered.Given as goal
 

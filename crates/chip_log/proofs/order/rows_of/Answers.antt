@@ -1,11 +1,7 @@
-use Rattle.std.proofs.Common.{◌≡◌, ◌≤◌, ℕ, List, length, take, false, arith, ap}
-use Rattle.std.proofs.lemmas.List.{take_all}
-use Rattle.chip_log.specs.declared.row.LogRow.{LogRow}
-use Rattle.chip_log.specs.declared.row.Step.TheVariants.{Out}
-use Rattle.chip_log.specs.Log.{steps_of}
+use Rattle.chip_log.proofs.Names.{◌≡◌, ◌≤◌, ℕ, List, length, take, false, arith, ap, take_all, LogRow, Out, steps_of}
 use Rattle.chip_log.proofs.OrderLemmas.{count_own, count_other}
-use Rattle.chip_log.proofs.order.rows_of.Goals as goal
 use Rattle.chip_log.proofs.order.rows_of.Goals.{then-rows-next, else-rows-next}
+use Rattle.chip_log.proofs.order.rows_of.Goals as goal
 
 -- what is read behind the last row
 abbrev none : LogRow

@@ -1,5 +1,4 @@
-use Rattle.std.proofs.Common.{◌≡◌, ◌≤◌, ◌-◌, length, take}
-use Rattle.chip_log.specs.Log.{steps_of}
+use Rattle.chip_log.proofs.Names.{◌≡◌, ◌≤◌, ◌-◌, length, take, steps_of}
 use Rattle.chip_log.proofs.order.rows_of.Given as goal
 
 abbrev pub invariant-loop-next : goal.invariant-loop-next

@@ -1,10 +1,5 @@
-use Rattle.std.proofs.Common.{◌≡◌, ◌-◌, ℕ, List, false, arith, get_or, drop, length-drop, ap, sym, subst}
-use Rattle.std.proofs.lemmas.List.{drop_all}
-use Rattle.std.proofs.lemmas.List.Elements.{All-get_or}
-use Rattle.chip_log.specs.declared.row.LogRow.{LogRow}
-use Rattle.chip_log.specs.declared.row.Step.TheVariants.{Out}
-use Rattle.chip_log.specs.Tally.{TallyState}
-use Rattle.chip_log.specs.Past.{FitsRow, AreKept}
+use Rattle.chip_log.proofs.Names.{◌≡◌, ◌-◌, ℕ, List, false, arith, get_or, drop, length-drop, ap, sym, subst, drop_all}
+use Rattle.chip_log.proofs.Names.{All-get_or, LogRow, Out, TallyState, FitsRow, AreKept}
 use Rattle.chip_log.proofs.BooksLemmas.{kept_more}
 use Rattle.chip_log.proofs.LoopLemmas.{keep_room, kept_sized, from_last}
 use Rattle.chip_log.proofs.past.books_of_all.Goals as goal

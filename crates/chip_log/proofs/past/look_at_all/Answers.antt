@@ -1,6 +1,4 @@
-use Rattle.std.proofs.Common.{◌≡◌, ℕ, [], false, take, arith, ◌∙◌, subst}
-use Rattle.chip_log.specs.declared.row.LogRow.{LogRow}
-use Rattle.chip_log.specs.declared.row.Step.TheVariants.{Out}
+use Rattle.chip_log.proofs.Names.{◌≡◌, ℕ, [], false, take, arith, ◌∙◌, subst, LogRow, Out}
 use Rattle.chip_log.proofs.PastLemmas.{IsSplit, past_of_split}
 use Rattle.chip_log.proofs.LoopLemmas.{turn_room, turn_looked, kept_sized, within, start_split}
 use Rattle.chip_log.proofs.past.look_at_all.Goals as goal

@@ -1,7 +1,4 @@
-use Rattle.std.proofs.Common.{◌≡◌, ◌≤◌, ◌+◌, List, length, take}
-use Rattle.chip_log.specs.declared.row.LogRow.{LogRow}
-use Rattle.chip_log.specs.Log.{HasEnds}
-use Rattle.chip_log.specs.Past.{AreSized, AreBooks}
+use Rattle.chip_log.proofs.Names.{◌≡◌, ◌≤◌, ◌+◌, List, length, take, LogRow, HasEnds, AreSized, AreBooks}
 use Rattle.chip_log.proofs.PastLemmas.{IsSplit}
 use Rattle.chip_log.proofs.past.look_at_all.Given as goal
 

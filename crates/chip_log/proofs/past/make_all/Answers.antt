@@ -1,14 +1,8 @@
-use Rattle.std.proofs.Common.{ℕ, ◌<◌, List, length, take, get_or, false, arith, ap, sym, ◌∙◌, subst}
-use Rattle.std.proofs.lemmas.List.{take_more}
-use Rattle.chip_log.specs.declared.row.LogRow.{LogRow}
-use Rattle.chip_log.specs.declared.row.Step.TheVariants.{Out}
-use Rattle.chip_log.specs.declared.books.Said.{Said}
-use Rattle.chip_log.specs.declared.books.Said.TheVariants as said
-use Rattle.std.specs.Prelude.{slice_index_or}
-use Rattle.chip_log.specs.Tally.{TallyState, count}
-use Rattle.chip_log.specs.Past.{AreInFlight}
+use Rattle.chip_log.proofs.Names.{ℕ, ◌<◌, List, length, take, get_or, false, arith, ap, sym, ◌∙◌, subst, take_more}
+use Rattle.chip_log.proofs.Names.{LogRow, Out, Said, slice_index_or, TallyState, count, AreInFlight}
 use Rattle.chip_log.proofs.BooksLemmas.{make_flight}
 use Rattle.chip_log.proofs.LoopLemmas.{make_room}
+use Rattle.chip_log.specs.declared.books.Said.TheVariants as said
 use Rattle.chip_log.proofs.past.make_all.Goals as goal
 
 -- what is read behind the last row

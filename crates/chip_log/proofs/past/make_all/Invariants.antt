@@ -1,5 +1,4 @@
-use Rattle.std.proofs.Common.{◌≡◌, ◌≤◌, ◌-◌, [], take}
-use Rattle.chip_log.specs.Past.{AreSized, AreBooks}
+use Rattle.chip_log.proofs.Names.{◌≡◌, ◌≤◌, ◌-◌, [], take, AreSized, AreBooks}
 use Rattle.chip_log.proofs.past.make_all.Given as goal
 
 abbrev pub invariant-loop-next : goal.invariant-loop-next

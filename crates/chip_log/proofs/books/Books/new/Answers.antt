@@ -1,7 +1,6 @@
-use Rattle.std.proofs.Common.{ℕ, List, get_or, arith, ap, ◌∙◌}
-use Rattle.chip_log.specs.declared.books.Said.{Said}
-use Rattle.chip_log.specs.declared.books.Said.TheVariants as said
+use Rattle.chip_log.proofs.Names.{ℕ, List, get_or, arith, ap, ◌∙◌, Said}
 use Rattle.chip_log.proofs.QueuesLemmas.{all_same}
+use Rattle.chip_log.specs.declared.books.Said.TheVariants as said
 use Rattle.chip_log.proofs.books.Books.new.Goals as goal
 
 pub returns-clause-none : goal.returns-clause-none

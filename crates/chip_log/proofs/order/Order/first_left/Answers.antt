@@ -1,8 +1,4 @@
-use Rattle.std.proofs.Common.{below_more, arith, sym, ◌∙◌, []}
-use Rattle.std.proofs.lemmas.List.{get_or_past}
-use mathlib.Core.Logic.{dite}
-use native.Mathlib.Decide.{dec_lt}
-use Rattle.chip_log.specs.Queues.{queue_of}
+use Rattle.chip_log.proofs.Names.{below_more, arith, sym, ◌∙◌, [], get_or_past, dite, dec_lt, queue_of}
 use Rattle.chip_log.proofs.OrderingLemmas.{head_none, some_left}
 use Rattle.chip_log.proofs.order.Order.first_left.Goals as goal
 

@@ -1,12 +1,7 @@
-use Rattle.std.proofs.Common.{below_more, arith, sym, ap, ◌∙◌, []}
-use Rattle.std.proofs.lemmas.List.{get_or_past}
-use mathlib.Core.Logic.{dite}
-use native.Mathlib.Decide.{dec_lt}
-use Rattle.chip_log.specs.Queues.{queue_of}
-use Rattle.chip_log.specs.Ordering.{is_there}
+use Rattle.chip_log.proofs.Names.{below_more, arith, sym, ap, ◌∙◌, [], get_or_past, dite, dec_lt, queue_of, is_there}
 use Rattle.chip_log.proofs.OrderingLemmas.{head_some, head_none, next_in_flight, one_next, no_next}
-use Rattle.chip_log.proofs.order.Order.first_ready.Goals as goal
 use Rattle.chip_log.proofs.order.Order.first_ready.Goals.{in-Some+else-may, in_default}
+use Rattle.chip_log.proofs.order.Order.first_ready.Goals as goal
 
 pub may-requires : goal.may-requires
 may-requires c = next_in_flight c.args.sizes c.args.self.now c.requires c.loop-process.process c.in-Some.step

@@ -1,6 +1,4 @@
-use Rattle.std.proofs.Common.{◌≡◌, ◌<◌, ℕ, false}
-use Rattle.chip_log.specs.declared.row.Step.{Step}
-use Rattle.chip_log.specs.Ordering.{IsNext, is_there}
+use Rattle.chip_log.proofs.Names.{◌≡◌, ◌<◌, ℕ, false, Step, IsNext, is_there}
 use Rattle.chip_log.proofs.order.Order.first_ready.Given as goal
 
 abbrev pub invariant-loop-process : goal.invariant-loop-process

@@ -1,4 +1,4 @@
-use Rattle.std.proofs.Common.{arith}
+use Rattle.chip_log.proofs.Names.{arith}
 use Rattle.chip_log.proofs.OrderingLemmas.{out_channel, in_channel, out_room}
 use Rattle.chip_log.proofs.order.Order.make.Goals as goal
 

@@ -1,10 +1,5 @@
-use Rattle.std.proofs.Common.{List, [], length, ap, ◌∙◌, arith}
-use Rattle.std.proofs.lemmas.List.{length-replicate}
-use Rattle.std.proofs.lemmas.List.Elements.{All-same, All-nil}
-use Rattle.chip_log.specs.declared.row.Step.{Step}
-use Rattle.chip_log.specs.Log.{outs, ins}
-use Rattle.chip_log.specs.Books.{IsOf}
-use Rattle.chip_log.specs.Queues.{queue_of, total}
+use Rattle.chip_log.proofs.Names.{List, [], length, ap, ◌∙◌, arith, length-replicate, All-same, All-nil, Step, outs}
+use Rattle.chip_log.proofs.Names.{ins, IsOf, queue_of, total}
 use Rattle.chip_log.proofs.QueuesLemmas.{all_same, none_in_total}
 use Rattle.chip_log.proofs.order.Order.new.Goals as goal
 

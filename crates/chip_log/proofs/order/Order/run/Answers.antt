@@ -1,4 +1,4 @@
-use Rattle.std.proofs.Common.{arith}
+use Rattle.chip_log.proofs.Names.{arith}
 use Rattle.chip_log.proofs.OrderingLemmas.{looks, stays, GoesOn-trans}
 use Rattle.chip_log.proofs.order.Order.run.Goals as goal
 

@@ -1,4 +1,4 @@
-use Rattle.chip_log.specs.Ordering.{GoesOn, work_left}
+use Rattle.chip_log.proofs.Names.{GoesOn, work_left}
 use Rattle.chip_log.proofs.order.Order.run.Given as goal
 
 abbrev pub invariant-loop-process : goal.invariant-loop-process

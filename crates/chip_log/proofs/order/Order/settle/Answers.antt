@@ -1,4 +1,4 @@
-use Rattle.std.proofs.Common.{arith}
+use Rattle.chip_log.proofs.Names.{arith}
 use Rattle.chip_log.proofs.OrderingLemmas.{stays, GoesOn-trans, made, made_fewer}
 use Rattle.chip_log.proofs.order.Order.settle.Goals as goal
 

@@ -1,5 +1,4 @@
-use Rattle.std.proofs.Common.{arith, sym, ◌∙◌}
-use Rattle.chip_log.specs.Queues.{queue_of}
+use Rattle.chip_log.proofs.Names.{arith, sym, ◌∙◌, queue_of}
 use Rattle.chip_log.proofs.OrderingLemmas.{head_some, next_in_flight, in_channel, made}
 use Rattle.chip_log.proofs.order.Order.turn.Goals as goal
 

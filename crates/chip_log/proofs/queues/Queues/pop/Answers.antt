@@ -1,6 +1,4 @@
-use Rattle.std.proofs.Common.{List, ap, ◌∙◌, drop}
-use Rattle.chip_log.specs.declared.row.Step.{Step}
-use Rattle.chip_log.specs.Queues.{queue_of}
+use Rattle.chip_log.proofs.Names.{List, ap, ◌∙◌, drop, Step, queue_of}
 use Rattle.chip_log.proofs.QueuesLemmas.{own, changed}
 use Rattle.chip_log.proofs.queues.Queues.pop.Goals as goal
 

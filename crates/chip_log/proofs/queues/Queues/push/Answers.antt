@@ -1,6 +1,4 @@
-use Rattle.std.proofs.Common.{List, [], ◌∷◌, ◌++◌, ap, ◌∙◌}
-use Rattle.chip_log.specs.declared.row.Step.{Step}
-use Rattle.chip_log.specs.Queues.{queue_of}
+use Rattle.chip_log.proofs.Names.{List, [], ◌∷◌, ◌++◌, ap, ◌∙◌, Step, queue_of}
 use Rattle.chip_log.proofs.QueuesLemmas.{own, changed}
 use Rattle.chip_log.proofs.queues.Queues.push.Goals as goal
 

@@ -11,9 +11,9 @@ pub fn tell_more<R: Eprint>(rt: &R, fault: &Fault, about: &str) -> io::Result<()
     }
     let said = fault.line();
     let number = said.number;
-    // Faults from 24 to 28 are in a row of a file. Those below 60, 70 and 92 are about a file.
+    // Faults from 24 to 33 with a place are in a row of a file. Those below 60, 70 and 92 are about a file.
     match said.location {
-        Location::At(row) if number >= 24 && number <= 28 => {
+        Location::At(row) if number >= 24 && number <= 33 => {
             let line = row.saturating_add(2);
             eprintln!(rt; "  in {about}: row {row}, which is line {line} if no line is empty")?;
         }

@@ -4,6 +4,8 @@ use Rattle.chip_graph.specs.Limits.{SizeLimits, standard, large}
 use Rattle.chip_link.specs.Rings.{ring_of}
 use Rattle.chip_arguments.specs.declared.arguments.GameArguments.{GameArguments}
 use Rattle.chip_arguments.specs.declared.arguments.SimulationArguments.{SimulationArguments}
+use Rattle.chip_arguments.specs.declared.arguments.JudgeArguments.{JudgeArguments}
+use Rattle.chip_judge.specs.declared.judge.JudgeOptions.{JudgeOptions}
 use Rattle.chip_command.specs.declared.options.PlayOptions.{PlayOptions}
 use Rattle.chip_simulate.specs.declared.simulate.SimulateOptions.{SimulateOptions}
 
@@ -14,6 +16,10 @@ limits_of is_large = if is_large then large else standard
 -- how a game is played
 abbrev pub play_options : GameArguments → PlayOptions
 play_options asked = record { limits = limits_of asked.large; limit = asked.limit }
+
+-- how a log is judged
+abbrev pub judge_options : JudgeArguments → JudgeOptions
+judge_options asked = record { limits = limits_of asked.large; past = asked.past }
 
 -- how a schedule is run, if there is a ring with so many cells
 abbrev pub simulate_options : SimulationArguments → Option SimulateOptions

@@ -1,13 +1,13 @@
 //! The commands of one thread: each opens the files that its arguments name and calls its engine.
 
 ghost use Rattle.std.specs.Prelude.{◌≡◌};
-ghost use Rattle.chip_console.specs.Options.{limits_of, play_options, simulate_options};
+ghost use Rattle.chip_console.specs.Options.{limits_of, judge_options, play_options, simulate_options};
 
 use crate::console::{Console, Reader};
-use crate::progress::RoundProgress;
+use crate::progress::{ClaimProgress, RoundProgress};
 use chip_arguments::{
-    AvalancheArguments, CheckArguments, FileArgument, GameArguments, PlainArguments,
-    ReplayArguments, SimulationArguments, VerifyArguments,
+    AvalancheArguments, CheckArguments, FileArgument, GameArguments, JudgeArguments,
+    PlainArguments, ReplayArguments, SimulationArguments, VerifyArguments,
 };
 use chip_command::{Ended, Fault};
 use chip_engine::{
@@ -16,6 +16,7 @@ use chip_engine::{
     simulate_engine_with, verify_engine_with,
 };
 use chip_graph::Limits;
+use chip_judge::{JudgeOptions, judge_engine_with};
 use chip_link::Ring;
 use std::fs::File;
 use std::io::{Input, Write};
@@ -161,6 +162,22 @@ impl<R: Files<File = File> + Input + Clock + Eprint + AllocGlobal> Console<'_, R
         )
     }
 
+    /// Judges the claims of a log.
+    pub fn judge<W: Write>(
+        &self,
+        asked: &JudgeArguments<'_>,
+        output: &mut W,
+    ) -> Result<Ended, Fault> {
+        let mut log = self.open(&asked.log)?;
+        judge_engine_with(
+            self.rt.alloc(),
+            &mut log,
+            judge_options(asked),
+            &mut ClaimProgress::start(self),
+            output,
+        )
+    }
+
     /// Opens the graph of a game, and then what the game starts with.
     pub fn open_game(
         &self,
@@ -191,6 +208,16 @@ fn simulate_options(asked: &SimulationArguments<'_>) -> Option<SimulateOptions>
         books: asked.books,
         fed: asked.fed,
     })
+}
+
+/// How large a log may be, and whether pasts are listed.
+fn judge_options(asked: &JudgeArguments<'_>) -> JudgeOptions
+    ensures { result ≡ judge_options asked.now }
+{
+    JudgeOptions {
+        limits: limits_of(asked.large),
+        past: asked.past,
+    }
 }
 
 /// How large a game may be, and how often a vertex may fire.

@@ -1,11 +1,12 @@
-//! Lines on standard error about a long play, one a second at most.
+//! Lines on standard error about long work, one a second at most.
 //!
-//! They change nothing of the play. If the clock cannot be read there is no line, and a line that cannot be written is left
+//! They change nothing of it. If the clock cannot be read there is no line, and a line that cannot be written is left
 //! out.
 
 use crate::console::Console;
 use chip_fire::{GivenUse, Play, Search, Watch};
 use chip_graph::Game;
+use chip_judge::ClaimWatch;
 use std::rt::Clock;
 
 /// Writes how far a play on one thread is: what it does, its rounds and its firings.
@@ -73,6 +74,28 @@ impl<R: Clock + Eprint> Watch for RoundProgress<'_, R> {
     fn writes(&mut self, bytes: u64) {
         if self.console.is_due() {
             let _ = eprintln!(self.console.rt; "chipfire: progress: writing {bytes} bytes");
+        }
+    }
+}
+
+/// Writes which claim of a log is judged.
+#[derive(Drop)]
+pub struct ClaimProgress<'a, R: Clock + Eprint> {
+    console: &'a Console<'a, R>,
+}
+
+impl<'a, R: Clock + Eprint> ClaimProgress<'a, R> {
+    /// Before the first claim.
+    pub fn start(console: &'a Console<'a, R>) -> ClaimProgress<'a, R> {
+        ClaimProgress { console }
+    }
+}
+
+impl<R: Clock + Eprint> ClaimWatch for ClaimProgress<'_, R> {
+    fn judges(&mut self, claim: usize, claims: usize) {
+        if self.console.is_due() {
+            let claim = claim.saturating_add(1);
+            let _ = eprintln!(self.console.rt; "chipfire: progress: claim {claim} of {claims}");
         }
     }
 }

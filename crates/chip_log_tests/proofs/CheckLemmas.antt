@@ -18,7 +18,7 @@ use Rattle.chip_log.specs.declared.past.Sizes.{Sizes}
 use Rattle.chip_log.specs.Log.{steps_of, is_out, is_in, sends, gets, active_after, begins_active, is_met, AreMet}
 use Rattle.chip_log.specs.Log.{HasEnds, IsInterleaving}
 use Rattle.chip_log.specs.Books.{IsOf}
-use Rattle.chip_log.specs.Past.{IsLog, Fits, FitsRow, IsClaim}
+use Rattle.chip_log.specs.Past.{IsLog, Fits, FitsRow}
 use Rattle.chip_log.specs.Order.{may_send, AreSent, IsWellFormed}
 use Rattle.chip_log.proofs.CountLemmas.{same_stream_is, steps_own, steps_other, steps_push, steps_push_other, active_after-append}
 use Rattle.chip_log.proofs.MetLemmas.{count_no}

@@ -23,6 +23,7 @@ const CLAIMS: [LogRow; 12] = [
 ];
 
 /// Counts the claims that it is told of.
+#[derive(Drop)]
 struct Count(usize);
 
 impl ClaimWatch for Count {

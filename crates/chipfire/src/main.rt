@@ -132,6 +132,7 @@ fn serve<
         Request::Replay(asked) => console.replay(asked, output),
         Request::Resume(asked) => console.resume(asked, output),
         Request::Verify(asked) => console.verify(asked, output),
+        Request::Judge(asked) => console.judge(asked, output),
         Request::Explain(number) => explain_engine(
             alloc,
             "fault",

@@ -1,0 +1,90 @@
+-- From the bytes of a log to the lines of its claims and its end.
+use Rattle.std.specs.Prelude.{◌≡◌, ℕ, List, [], ◌∷◌, ◌++◌, codes, flat_map, Bool, if◌then◌else◌, Option, Some, Result}
+use Rattle.std.specs.Fmt.{decimal}
+use Rattle.std.specs.List.{list_any}
+use Rattle.chip_log.specs.declared.row.LogRow.{LogRow}
+use Rattle.chip_log.specs.declared.past.Sizes.{Sizes}
+use Rattle.chip_log.specs.declared.verdict.Verdict.{Verdict}
+use Rattle.chip_log.specs.declared.verdict.Verdict.TheVariants as verdict
+use Rattle.chip_log.specs.declared.judged.PastRows.{PastRows}
+use Rattle.chip_log.specs.declared.judged.ClaimVerdict.{ClaimVerdict}
+use Rattle.chip_log.specs.declared.judged.LogEnd.{LogEnd}
+use Rattle.chip_log.specs.declared.judged.LogEnd.TheVariants as end
+use Rattle.chip_log.specs.declared.judged.JudgedLog.{JudgedLog}
+use Rattle.chip_log.specs.Judged.{is_early, IsJudgedLog}
+use Rattle.chip_log.specs.Order.{IsStuck}
+use Rattle.chip_file.specs.LogText.{log_of_text, log_text_fault}
+use Rattle.chip_judge.specs.declared.judge.JudgeOptions.{JudgeOptions}
+use Rattle.chip_command.specs.CommandAnswers.{Spec, bind, CommandAnswers, OrMemory}
+use Rattle.chip_command.specs.Inputs.{reading}
+use Rattle.chip_command.specs.Statuses.{number_of_status}
+use Rattle.chip_command.specs.declared.ended.Ended.{Ended}
+use Rattle.chip_command.specs.declared.fault.Fault.{Fault}
+use Rattle.chip_command.specs.declared.fault.Fault.TheVariants.{Stuck}
+use Rattle.chip_command.specs.declared.status.Status.{Status}
+use Rattle.chip_command.specs.declared.status.Status.TheVariants.{Done, Halted, Unfinished}
+
+-- a message that is on its way, and a process that is active, at the end of a line
+abbrev pub way_text : ℕ → ℕ → List ℕ
+way_text channel message =
+    codes "message " ++ decimal message ++ codes " of channel " ++ decimal channel ++ codes " is on its way\n"
+
+abbrev pub active_text : ℕ → List ℕ
+active_text process = codes "process " ++ decimal process ++ codes " is active\n"
+
+-- what follows the place of a claim in its line
+abbrev pub verdict_text : Verdict → List ℕ
+verdict_text verdict.Right = codes " right\n"
+verdict_text (verdict.OnItsWay channel message) = codes " early: " ++ way_text channel message
+verdict_text (verdict.Active process) = codes " early: " ++ active_text process
+
+-- the line of the rows of a process in a past
+abbrev pub past_text : PastRows → List ℕ
+past_text past = codes "past " ++ decimal past.process ++ codes " " ++ decimal past.rows ++ codes "\n"
+
+-- the line of a claim, and those of its past
+abbrev pub claim_text : ClaimVerdict → List ℕ
+claim_text claim = codes "over " ++ decimal claim.process ++ codes " " ++ decimal claim.row
+    ++ verdict_text claim.verdict ++ flat_map past_text claim.past.items
+
+-- the line of the end
+abbrev pub end_text : LogEnd → List ℕ
+end_text end.Claimed = codes "end claimed\n"
+end_text end.Missed = codes "end missed\n"
+end_text end.Unclaimed = codes "end unclaimed\n"
+end_text (end.OnItsWay channel message) = codes "end open: " ++ way_text channel message
+end_text (end.Active process) = codes "end open: " ++ active_text process
+
+-- the exit status of a log without an early claim
+abbrev pub status_of_end : LogEnd → Status
+status_of_end end.Claimed = Done
+status_of_end _ = Unfinished
+
+-- an early claim is told first
+abbrev pub status_of_judged : JudgedLog → Status
+status_of_judged judged =
+    if list_any (λ claim. is_early claim.verdict) judged.claims.items then Halted else status_of_end judged.end
+
+-- a text and a status tell the verdicts on all claims of a log, and its end
+pub record Judges (past : Bool) (log : List LogRow) (text : List ℕ) (status : ℕ) : Type 0 where
+  pub judged : JudgedLog
+  pub is_judged : IsJudgedLog past log judged
+  pub lines : text ≡ flat_map claim_text judged.claims.items ++ end_text judged.end
+  pub status_is : status ≡ number_of_status (status_of_judged judged)
+
+-- judging a log tells its verdicts; or it has no order in which each row is met, or there is no memory
+abbrev pub judging : Bool → List LogRow → Spec (List ℕ × ℕ)
+judging past log = record {
+  gives = λ (text, status). Judges past log text status;
+  refuses = OrMemory (λ fault. (process : ℕ) × (row : ℕ) × (fault ≡ Stuck process row) × IsStuck log process row);
+}
+
+-- the same of the log of a reader
+abbrev pub judging_from : JudgeOptions → Option (List ℕ) → Spec (List ℕ × ℕ)
+judging_from options log =
+    bind (reading options.limits (λ text log. log_of_text options.limits text ≡ Some log)
+    (λ text f. log_text_fault options.limits text ≡ Some f) log) (λ (rows, _). judging options.past rows)
+
+-- what `judge` answers: the verdict on each claim, and the end
+abbrev pub JudgeAnswers : Option (List ℕ) → JudgeOptions → Option (List ℕ) → Option (List ℕ) → Result Ended Fault → Type 0
+JudgeAnswers log options old new result = CommandAnswers (judging_from options log) old new result

@@ -1,0 +1,149 @@
+//! The engine.
+
+ghost use Rattle.std.specs.Prelude.{◌≡◌, ◌++◌, IfOk, flat_map, string_bytes};
+ghost use Rattle.std.specs.List.{list_any};
+ghost use Rattle.chip_graph.specs.Limits.{standard};
+ghost use Rattle.chip_command.specs.CommandAnswers.{Gives};
+ghost use Rattle.chip_log.specs.Judged.{is_early};
+ghost use Rattle.chip_judge.specs.JudgeCommand.{JudgeAnswers, judging_from, claim_text, verdict_text, past_text, end_text};
+ghost use Rattle.chip_judge.specs.JudgeCommand.{status_of_judged};
+
+use chip_command::{Answer, Ended, Fault, Status, deliver};
+use chip_file::read_log_within;
+use chip_graph::Limits;
+use chip_log::{ClaimVerdict, ClaimWatch, JudgedLog, LogEnd, PastRows, Unwatched, Verdict, judge_log};
+use std::alloc::{AllocError, Global};
+use std::io::{Read, Write};
+
+/// The options of a judgement.
+#[derive(Clone, Copy)]
+pub struct JudgeOptions {
+    /// How large the log may be: twice as many processes and channels as a graph has vertices and edges.
+    pub limits: Limits,
+    /// Whether each early claim says how many rows of each process are in its least past.
+    pub past: bool,
+}
+
+/// Judges the claims of a log within the standard limits, and writes a line for each, by process and row, and one for its
+/// end. The status is 0 if a claim is right and none early, 2 if one is early, and 3 if there is none.
+pub fn judge_engine<L: Read, W: Write>(
+    alloc: Global,
+    log: &mut L,
+    output: &mut W,
+) -> Result<Ended, Fault>
+    ensures { JudgeAnswers (L.remaining log.old) (record { limits = standard; past = false })
+        (W.contents output.old) (W.contents output.new) result }
+{
+    let options = JudgeOptions {
+        limits: Limits::standard(),
+        past: false,
+    };
+    judge_engine_with(alloc, log, options, &mut Unwatched, output)
+}
+
+/// Does what `judge_engine` does, by these options, and tells before each claim which it is. Its answer is the same, whoever
+/// is told.
+pub fn judge_engine_with<L: Read, P: ClaimWatch, W: Write>(
+    alloc: Global,
+    log: &mut L,
+    options: JudgeOptions,
+    watch: &mut P,
+    output: &mut W,
+) -> Result<Ended, Fault>
+    ensures { JudgeAnswers (L.remaining log.old) options (W.contents output.old) (W.contents output.new) result }
+{
+    let answer = judge(alloc, log, options, watch)?;
+    deliver(output, answer)
+}
+
+/// What there is to say of the claims of a log.
+fn judge<L: Read, P: ClaimWatch>(
+    alloc: Global,
+    log: &mut L,
+    options: JudgeOptions,
+    watch: &mut P,
+) -> Result<Answer, Fault>
+    ensures { Gives (judging_from options (L.remaining log.old)) result }
+{
+    let log = read_log_within(alloc, options.limits, log)?;
+    let judged = judge_log(alloc, log.sizes, &log.rows, options.past, watch)?;
+    Ok(Answer {
+        text: text_of(alloc, &judged)?.into_bytes(),
+        status: status_of_judged(&judged),
+    })
+}
+
+/// The lines of a judged log.
+fn text_of(alloc: Global, judged: &JudgedLog) -> Result<String, AllocError>
+    ensures { IfOk result (λ text. string_bytes text
+        ≡ flat_map claim_text judged.now.claims.items ++ end_text judged.now.end) }
+{
+    let mut lines = String::new(alloc);
+    for claim in &judged.claims {
+        push_claim(&mut lines, claim)?;
+    }
+    push_end(&mut lines, judged.end)?;
+    Ok(lines)
+}
+
+/// Appends the line of a claim, and those of its past.
+fn push_claim(lines: &mut String, claim: &ClaimVerdict) -> Result<(), AllocError>
+    ensures { IfOk result (λ _. string_bytes lines.new ≡ string_bytes lines.old ++ claim_text claim.now) }
+{
+    let (process, row) = (claim.process, claim.row);
+    write!(lines, "over {process} {row}")?;
+    push_verdict(lines, claim.verdict)?;
+    for rows in &claim.past {
+        push_past(lines, *rows)?;
+    }
+    Ok(())
+}
+
+/// Appends what follows the place of a claim in its line.
+fn push_verdict(lines: &mut String, verdict: Verdict) -> Result<(), AllocError>
+    ensures { IfOk result (λ _. string_bytes lines.new ≡ string_bytes lines.old ++ verdict_text verdict) }
+{
+    match verdict {
+        Verdict::Right => lines.push_str(" right\n"),
+        Verdict::OnItsWay { channel, message } => {
+            write!(lines, " early: message {message} of channel {channel} is on its way\n")
+        }
+        Verdict::Active { process } => write!(lines, " early: process {process} is active\n"),
+    }
+}
+
+/// Appends the line of the rows of a process in a past.
+fn push_past(lines: &mut String, past: PastRows) -> Result<(), AllocError>
+    ensures { IfOk result (λ _. string_bytes lines.new ≡ string_bytes lines.old ++ past_text past) }
+{
+    let PastRows { process, rows } = past;
+    write!(lines, "past {process} {rows}\n")
+}
+
+/// Appends the line of the end.
+fn push_end(lines: &mut String, end: LogEnd) -> Result<(), AllocError>
+    ensures { IfOk result (λ _. string_bytes lines.new ≡ string_bytes lines.old ++ end_text end) }
+{
+    match end {
+        LogEnd::Claimed => lines.push_str("end claimed\n"),
+        LogEnd::Missed => lines.push_str("end missed\n"),
+        LogEnd::Unclaimed => lines.push_str("end unclaimed\n"),
+        LogEnd::OnItsWay { channel, message } => {
+            write!(lines, "end open: message {message} of channel {channel} is on its way\n")
+        }
+        LogEnd::Active { process } => write!(lines, "end open: process {process} is active\n"),
+    }
+}
+
+/// The exit status that a judged log gives.
+fn status_of_judged(judged: &JudgedLog) -> Status
+    ensures { result ≡ status_of_judged judged.now }
+{
+    if judged.claims.iter().any(|claim| claim.verdict != Verdict::Right) {
+        return Status::Halted;
+    }
+    match judged.end {
+        LogEnd::Claimed => Status::Done,
+        _ => Status::Unfinished,
+    }
+}

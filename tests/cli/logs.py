@@ -1,0 +1,206 @@
+"""Logs of distributed programs, drawn at random, and what `judge` says of them.
+
+What must come is known from the definitions alone, by all consistent cuts: a cut is a number of rows of each process, and is
+consistent if it can be reached from the empty one row by row, each met where it stands. The logs are small; some have a
+row lost, doubled or moved, or their rows in another order. A second run has the rows of the processes mixed in another
+way, and must write the same.
+"""
+import random
+import subprocess
+import tempfile
+from collections import Counter
+
+BASIC = {"send": 1, "receive": -1}
+CONTROL = {"tell": 1, "hear": -1}
+NAMES = {31: "End", 32: "Passive", 33: "Woken", 70: "Stuck"}
+SECONDS = 60
+
+
+class Fault(Exception):
+    """A row with a fault: its number and place."""
+
+
+def stream(kind, channel):
+    return (kind in CONTROL, channel)
+
+
+def delta(kind):
+    return BASIC.get(kind, 0) or CONTROL.get(kind, 0)
+
+
+def row_faults(rows):
+    """Raises the first fault of a row in the file's order: 31, 32, 33."""
+    ends, active = {}, {}
+    for at, (process, kind, channel) in enumerate(rows):
+        if delta(kind):
+            end = (stream(kind, channel), delta(kind))
+            if ends.setdefault(end, process) != process:
+                raise Fault(31, at)
+        if kind == "send" and not active.get(process, False):
+            raise Fault(32, at)
+        if kind == "active" and process in active:
+            raise Fault(33, at)
+        active[process] = kind in ("active", "receive") or active.get(process, False) and kind != "passive"
+
+
+class Log:
+    def __init__(self, rows):
+        self.processes = sorted({process for process, _, _ in rows})
+        self.steps = {p: [(kind, channel) for q, kind, channel in rows if q == p] for p in self.processes}
+        self.begun = {p: self.steps[p][0][0] == "active" for p in self.processes}
+
+    def flight(self, cut):
+        """How many messages of each stream are on their way."""
+        flight = Counter()
+        for p, count in zip(self.processes, cut):
+            for kind, channel in self.steps[p][:count]:
+                if delta(kind):
+                    flight[stream(kind, channel)] += delta(kind)
+        return flight
+
+    def got(self, cut, channel):
+        return sum(self.steps[p][:count].count(("receive", channel)) for p, count in zip(self.processes, cut))
+
+    def active(self, cut):
+        """The processes that are active, ascending."""
+        found = []
+        for p, count in zip(self.processes, cut):
+            now = self.begun[p]
+            for kind, _ in self.steps[p][:count]:
+                now = kind == "receive" or now and kind != "passive"
+            if now:
+                found.append(p)
+        return found
+
+    def left(self, cut):
+        """What is left behind this cut: the least message of the least channel on its way, or the least active process."""
+        ways = sorted(channel for (control, channel), count in self.flight(cut).items() if count and not control)
+        if ways:
+            return f"message {self.got(cut, ways[0])} of channel {ways[0]} is on its way"
+        active = self.active(cut)
+        return f"process {active[0]} is active" if active else None
+
+    def nexts(self, cut):
+        """The cuts with one row more, which is met."""
+        flight = self.flight(cut)
+        for at, (p, count) in enumerate(zip(self.processes, cut)):
+            if count < len(self.steps[p]):
+                kind, channel = self.steps[p][count]
+                if delta(kind) >= 0 or flight[stream(kind, channel)] > 0:
+                    yield at, cut[:at] + (count + 1,) + cut[at + 1:]
+
+    def cuts(self, begin):
+        """The cuts that can be reached from this one."""
+        seen, todo = {begin}, [begin]
+        while todo:
+            for _, cut in self.nexts(todo.pop()):
+                if cut not in seen:
+                    seen.add(cut)
+                    todo.append(cut)
+        return seen
+
+
+def judged(rows, with_past=False):
+    """The lines and the status, or the fault that is raised."""
+    row_faults(rows)
+    log = Log(rows)
+    empty = tuple(0 for _ in log.processes)
+    whole = tuple(len(log.steps[p]) for p in log.processes)
+    cuts = log.cuts(empty)
+    if whole not in cuts:
+        furthest = max(cuts, key=sum)
+        assert all(all(map(int.__ge__, furthest, cut)) for cut in cuts)
+        at = min(at for at in range(len(whole)) if furthest[at] < whole[at])
+        raise Fault(70, log.processes[at], furthest[at])
+    # (where all rows can be met, each cut that can be reached can go on to the whole)
+    lines, early, right = [], 0, 0
+    for at, p in enumerate(log.processes):
+        for row, (kind, _) in enumerate(log.steps[p]):
+            if kind != "over":
+                continue
+            moments = [cut for cut in cuts if cut[at] == row and any(q == at for q, _ in log.nexts(cut))]
+            least = tuple(map(min, *moments)) if len(moments) > 1 else moments[0]
+            assert least in moments
+            behind = log.cuts(least[:at] + (row + 1,) + least[at + 1:])
+            bad = any(log.left(cut) for cut in moments) or any(log.left(cut) for cut in behind)
+            assert bad == bool(log.left(least))
+            if bad:
+                early += 1
+                lines.append(f"over {p} {row} early: {log.left(least)}")
+                if with_past:
+                    lines += [f"past {q} {count}" for q, count in zip(log.processes, least) if count]
+            else:
+                right += 1
+                lines.append(f"over {p} {row} right")
+    heard = not any(log.flight(whole).values())
+    left = log.left(whole)
+    lines.append("end claimed" if right else f"end open: {left}" if left else "end missed" if heard else "end unclaimed")
+    return lines, 2 if early else 0 if right else 3
+
+
+def random_log(draw):
+    """A log of up to 13 rows, most of them right."""
+    processes = draw.randint(1, 4)
+    rows = [(p, "active", 0) for p in range(processes) if draw.random() < 0.5]
+    active = {p: True for p, _, _ in rows}
+    flight, ends = Counter(), {}
+    for _ in range(draw.randint(0, 9)):
+        p, channel = draw.randrange(processes), draw.randrange(3)
+        kind = draw.choice(["send", "send", "receive", "receive", "tell", "hear", "passive", "over"])
+        if draw.random() < 0.95:
+            end = (stream(kind, channel), delta(kind))
+            if kind == "send" and not active.get(p) or delta(kind) < 0 and not flight[stream(kind, channel)]:
+                continue
+            if delta(kind) and ends.setdefault(end, p) != p:
+                continue
+        rows.append((p, kind, channel))
+        flight[stream(kind, channel)] += delta(kind)
+        active[p] = kind == "receive" or active.get(p, False) and kind != "passive"
+    spoilt = draw.random()
+    if rows and spoilt < 0.1:
+        rows.pop(draw.randrange(len(rows)))
+    elif rows and spoilt < 0.2:
+        rows.insert(draw.randrange(len(rows)), draw.choice(rows))
+    elif spoilt < 0.3:
+        draw.shuffle(rows)
+    return rows
+
+
+def mixed(draw, rows):
+    """The rows of each process in their order, and the processes mixed in another way."""
+    owners = [p for p, _, _ in rows]
+    draw.shuffle(owners)
+    each = {p: iter([row for row in rows if row[0] == p]) for p in owners}
+    return [next(each[p]) for p in owners]
+
+
+def answer(program, room, rows, with_past):
+    """What the program writes of a log: the lines, the status and the line of its fault."""
+    with open(f"{room}/log.csv", "w", encoding="ascii") as file:
+        file.write("process,kind,channel\n" + "".join(f"{p},{kind},{channel}\n" for p, kind, channel in rows))
+    words = [program, "judge", f"{room}/log.csv", *["--past"] * with_past]
+    ran = subprocess.run(words, capture_output=True, text=True, timeout=SECONDS)
+    return ran.stdout.splitlines(), ran.returncode, ran.stderr
+
+
+def expected(rows, with_past):
+    """What it must write."""
+    try:
+        return *judged(rows, with_past), ""
+    except Fault as fault:
+        number, *place = fault.args
+        return [], 1, f"chipfire: fault {number} {NAMES[number]} {' '.join(map(str, place))}\n"
+
+
+def judge_logs(program, count):
+    """Judges random logs, each also mixed in another way, and tells what is wrong with the answers."""
+    draw = random.Random(1)
+    with tempfile.TemporaryDirectory() as room:
+        for number in range(count):
+            rows, with_past = random_log(draw), draw.random() < 0.5
+            faults = []
+            for them in (rows, mixed(draw, rows)):
+                must, came = expected(them, with_past), answer(program, room, them, with_past)
+                if must != came:
+                    faults.append(f"{them}: expected {must}, came {came}")
+            yield "log", number, faults

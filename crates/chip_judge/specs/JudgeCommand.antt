@@ -24,19 +24,12 @@ use Rattle.chip_command.specs.declared.fault.Fault.TheVariants.{Stuck}
 use Rattle.chip_command.specs.declared.status.Status.{Status}
 use Rattle.chip_command.specs.declared.status.Status.TheVariants.{Done, Halted, Unfinished}
 
--- a message that is on its way, and a process that is active, at the end of a line
-abbrev pub way_text : ℕ → ℕ → List ℕ
-way_text channel message =
-    codes "message " ++ decimal message ++ codes " of channel " ++ decimal channel ++ codes " is on its way\n"
-
-abbrev pub active_text : ℕ → List ℕ
-active_text process = codes "process " ++ decimal process ++ codes " is active\n"
-
 -- what follows the place of a claim in its line
 abbrev pub verdict_text : Verdict → List ℕ
 verdict_text verdict.Right = codes " right\n"
-verdict_text (verdict.OnItsWay channel message) = codes " early: " ++ way_text channel message
-verdict_text (verdict.Active process) = codes " early: " ++ active_text process
+verdict_text (verdict.OnItsWay channel message) =
+    codes " early: message " ++ decimal message ++ codes " of channel " ++ decimal channel ++ codes " is on its way\n"
+verdict_text (verdict.Active process) = codes " early: process " ++ decimal process ++ codes " is active\n"
 
 -- the line of the rows of a process in a past
 abbrev pub past_text : PastRows → List ℕ
@@ -52,8 +45,9 @@ abbrev pub end_text : LogEnd → List ℕ
 end_text end.Claimed = codes "end claimed\n"
 end_text end.Missed = codes "end missed\n"
 end_text end.Unclaimed = codes "end unclaimed\n"
-end_text (end.OnItsWay channel message) = codes "end open: " ++ way_text channel message
-end_text (end.Active process) = codes "end open: " ++ active_text process
+end_text (end.OnItsWay channel message) =
+    codes "end open: message " ++ decimal message ++ codes " of channel " ++ decimal channel ++ codes " is on its way\n"
+end_text (end.Active process) = codes "end open: process " ++ decimal process ++ codes " is active\n"
 
 -- the exit status of a log without an early claim
 abbrev pub status_of_end : LogEnd → Status

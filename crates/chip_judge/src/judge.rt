@@ -1,6 +1,6 @@
 //! The engine.
 
-ghost use Rattle.std.specs.Prelude.{◌≡◌, ◌++◌, IfOk, flat_map, string_bytes};
+ghost use Rattle.std.specs.Prelude.{◌≡◌, ◌++◌, false, IfOk, flat_map, string_bytes};
 ghost use Rattle.std.specs.List.{list_any};
 ghost use Rattle.chip_graph.specs.Limits.{standard};
 ghost use Rattle.chip_command.specs.CommandAnswers.{Gives};
@@ -11,7 +11,9 @@ ghost use Rattle.chip_judge.specs.JudgeCommand.{status_of_judged};
 use chip_command::{Answer, Ended, Fault, Status, deliver};
 use chip_file::read_log_within;
 use chip_graph::Limits;
-use chip_log::{ClaimVerdict, ClaimWatch, JudgedLog, LogEnd, PastRows, Unwatched, Verdict, judge_log};
+use chip_log::{
+    ClaimVerdict, ClaimWatch, JudgedLog, LogEnd, PastRows, Unwatched, Verdict, judge_log,
+};
 use std::alloc::{AllocError, Global};
 use std::io::{Read, Write};
 
@@ -67,8 +69,9 @@ fn judge<L: Read, P: ClaimWatch>(
 {
     let log = read_log_within(alloc, options.limits, log)?;
     let judged = judge_log(alloc, log.sizes, &log.rows, options.past, watch)?;
+    let text = text_of(alloc, &judged)?;
     Ok(Answer {
-        text: text_of(alloc, &judged)?.into_bytes(),
+        text: text.into_bytes(),
         status: status_of_judged(&judged),
     })
 }
@@ -104,9 +107,12 @@ fn push_verdict(lines: &mut String, verdict: Verdict) -> Result<(), AllocError>
     ensures { IfOk result (λ _. string_bytes lines.new ≡ string_bytes lines.old ++ verdict_text verdict) }
 {
     match verdict {
-        Verdict::Right => lines.push_str(" right\n"),
+        Verdict::Right => write!(lines, " right\n"),
         Verdict::OnItsWay { channel, message } => {
-            write!(lines, " early: message {message} of channel {channel} is on its way\n")
+            write!(
+                lines,
+                " early: message {message} of channel {channel} is on its way\n"
+            )
         }
         Verdict::Active { process } => write!(lines, " early: process {process} is active\n"),
     }
@@ -125,11 +131,14 @@ fn push_end(lines: &mut String, end: LogEnd) -> Result<(), AllocError>
     ensures { IfOk result (λ _. string_bytes lines.new ≡ string_bytes lines.old ++ end_text end) }
 {
     match end {
-        LogEnd::Claimed => lines.push_str("end claimed\n"),
-        LogEnd::Missed => lines.push_str("end missed\n"),
-        LogEnd::Unclaimed => lines.push_str("end unclaimed\n"),
+        LogEnd::Claimed => write!(lines, "end claimed\n"),
+        LogEnd::Missed => write!(lines, "end missed\n"),
+        LogEnd::Unclaimed => write!(lines, "end unclaimed\n"),
         LogEnd::OnItsWay { channel, message } => {
-            write!(lines, "end open: message {message} of channel {channel} is on its way\n")
+            write!(
+                lines,
+                "end open: message {message} of channel {channel} is on its way\n"
+            )
         }
         LogEnd::Active { process } => write!(lines, "end open: process {process} is active\n"),
     }
@@ -139,11 +148,18 @@ fn push_end(lines: &mut String, end: LogEnd) -> Result<(), AllocError>
 fn status_of_judged(judged: &JudgedLog) -> Status
     ensures { result ≡ status_of_judged judged.now }
 {
-    if judged.claims.iter().any(|claim| claim.verdict != Verdict::Right) {
+    if has_early(&judged.claims) {
         return Status::Halted;
     }
     match judged.end {
         LogEnd::Claimed => Status::Done,
         _ => Status::Unfinished,
     }
+}
+
+/// Whether a claim is early.
+fn has_early(claims: &[ClaimVerdict]) -> bool
+    ensures { result ≡ list_any (λ claim. is_early claim.verdict) claims.now }
+{
+    claims.iter().any(|claim| claim.verdict.is_early())
 }

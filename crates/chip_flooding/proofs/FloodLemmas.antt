@@ -1,36 +1,27 @@
 -- Serves Flooding.antt.
 -- What each event keeps of a flood, and that it ends with exactly the parts marked that can be reached.
-use Rattle.std.proofs.Common.{◌≡◌, ◌≢◌, ◌⊎◌, inl, inr, ℕ, zero, suc, ◌+◌, ◌-◌, ◌*◌, ◌<◌, ◌≤◌, Bool, true, false, not, ◌&&◌, ◌||◌, ◌==◌, nat_lt, cond, List, [], ◌∷◌}
-use Rattle.std.proofs.Common.{length, set, replicate, refl, sym, ap, ◌∙◌, subst, arith, true≢false, ⊎_elim}
-use Rattle.std.proofs.Common.{get_or-set_same, get_or-set_other, length-set}
-use Rattle.std.proofs.lemmas.List.{length-replicate}
+use Rattle.std.proofs.Common.{◌≡◌, ◌≢◌, ℕ, zero, suc, ◌+◌, ◌<◌, ◌≤◌, Bool, true, false, nat_lt, cond, List, [], ◌∷◌, get_or, set, replicate, eqb}
+use Rattle.std.proofs.Common.{refl, sym, ap, ◌∙◌, subst, arith, rules, length-set}
+use Rattle.std.proofs.lemmas.List.{length-replicate, get_or-replicate}
 use Rattle.std.proofs.lemmas.Bool.Decides.{nat_tests}
 use mathlib.Core.Logic.{dite}
 use native.Mathlib.Decide.{ℕ_discrete}
-use Rattle.chip_detect.specs.Books.{owed, all_owed, deficit}
+use Rattle.chip_detect.specs.Books.{Books, owed, all_owed, deficit}
 use Rattle.chip_detect.specs.Acknowledging.{may_ack}
 use Rattle.chip_detect.proofs.AllowedLemmas.{within_owed}
-use Rattle.chip_diffusing.specs.Network.{Network, IsNetwork}
-use Rattle.chip_diffusing.specs.Computation.{Part, World, Event, Send, Get, Ack, Settle, Work, Log, Happens, part_of}
-use Rattle.chip_diffusing.specs.Computation.{IsLegalLog, IsSilent, IsClosed, sent_on, got_on, acked_on, in_flight}
-use Rattle.chip_diffusing.specs.Ending.{IsDue}
-use Rattle.chip_diffusing.proofs.EdgesLemmas.{counted, less_at, less_sum}
-use Rattle.chip_diffusing.proofs.DueLemmas.{not_over_yet}
-use Rattle.chip_flooding.specs.Running.{Topology, Process, State, net, world, network_of, world_of, IsTopology, AreOpening, Runs}
-use Rattle.chip_flooding.specs.Flooding.{IsPath, IsReached, is_marked, MarksReached, sent_by, IsFlooding, IsFlooded, IsIdle, unfinished}
+use Rattle.chip_diffusing.specs.Network.{Network}
+use Rattle.chip_diffusing.specs.Computation.{Part, World, Event, Send, Get, Ack, Settle, Work, Happens, part_of, IsSilent, IsClosed}
+use Rattle.chip_diffusing.proofs.EdgesLemmas.{counted}
+use Rattle.chip_diffusing.proofs.DueLemmas.{quiet_closes}
+use Rattle.chip_flooding.specs.Running.{Topology, Process, net, world, network_of, world_of, IsTopology, AreOpening, IsRun}
+use Rattle.chip_flooding.specs.Flooding.{IsPath, is_marked, MarksReached, Marking, once, IsFlooding, IsFlooded, due_on}
+use Rattle.chip_flooding.proofs.RunLemmas.{set_at}
 
-at_most_one : (b : Bool) → sent_by b ≤ 1
+at_most_one : (b : Bool) → once b ≤ 1
 at_most_one b = grind arith
 
--- the marks after one more
-abbrev IsMarkedAfter : List Bool → ℕ → ℕ → Type 0
-IsMarkedAfter marked p q = ((q ≡ p) × (is_marked (set marked p true) q ≡ true))
-    ⊎ ((q ≢ p) × (is_marked (set marked p true) q ≡ is_marked marked q))
-
-marked_after : (marked : List Bool) (p q : ℕ) → p < length marked → IsMarkedAfter marked p q
-marked_after marked p q l = dite (ℕ_discrete q p)
-    (λ z. inl (z, ap (is_marked (set marked p true)) z ∙ get_or-set_same marked p true false l))
-    (λ other. inr (other, get_or-set_other marked p q true false other))
+no_more_than_owed : (b : Books) (e : ℕ) (passive : Bool) → may_ack b e passive ≤ owed b e
+no_more_than_owed b e passive = within_owed e b.parent (owed b e) (all_owed b) (deficit b) passive
 
 -- but for a message, nothing wakes a part
 still : (net : Network) (old new : World) (x : Event) → Happens net old x new
@@ -40,100 +31,87 @@ still net old new x step wakes p was = dite (ℕ_discrete p (part_of net x))
     (λ z. subst (λ (q : ℕ). (old q).passive ≡ true → (new q).passive ≡ true) (sym z) wakes was)
     (λ n. ap (λ (s : Part). s.passive) (step.others p n) ∙ was)
 
-module _ (net : Network) (old new : World) (marked : List Bool) where
-  pub sends : (p e : ℕ) → e < net.edges → net.tail e ≡ p → p < net.parts → IsFlooding net old marked p e
-      → Happens net old (Send e) new → IsFlooding net new marked p (e + 1)
-  sends p e l tail part was step = let itself = was.itself part in record {
-    count_is = was.count_is;
-    root = was.root;
+module _ (net : Network) (old new : World) (marked : List Bool) (done : List ℕ) where
+  pub sends : (p e : ℕ) → net.tail e ≡ p → p < net.parts → IsFlooding net old marked done p e
+      → Happens net old (Send e) new → IsFlooding net new marked done p (e + 1)
+  sends p e tail part was step = let itself = was.itself part in record {
+    marks = was.marks;
     itself = was.itself;
-    reached = was.reached;
-    got = λ i m some. was.got i m (let k = counted net old new (Send e) step i in omega arith);
-    passive = λ q m other. ap (λ (s : Part). s.passive) (step.others q (λ z. other (z ∙ tail))) ∙ was.passive q m other;
-    sent = λ i m. let k = counted net old new (Send e) step i in let b = was.sent i m in grind (arith, nat_tests);
-    settled = λ i m. let k = counted net old new (Send e) step i in let b = was.settled i m in omega arith;
+    passive = λ q m other. still net old new (Send e) step step.wakes q (was.passive q m other);
+    edges = λ i m. let k = counted net old new (Send e) step i in let b = was.edges i m in search (rules, arith, nat_tests);
   }
 
-  pub passes : (p e : ℕ) → net.tail e ≢ p → IsFlooding net old marked p e → IsFlooding net old marked p (e + 1)
+  pub passes : (p e : ℕ) → net.tail e ≢ p → IsFlooding net old marked done p e
+      → IsFlooding net old marked done p (e + 1)
   passes p e tail was = record {
-    count_is = was.count_is;
-    root = was.root;
+    marks = was.marks;
     itself = was.itself;
-    reached = was.reached;
-    got = was.got;
     passive = was.passive;
-    sent = λ i m. let b = was.sent i m in let same = ap net.tail {x = i} {y = e} in grind (arith, nat_tests);
-    settled = was.settled;
+    edges = λ i m. let b = was.edges i m in let same = ap net.tail {x = i} {y = e} in search (rules, arith, nat_tests);
   }
 
-  pub rests : (p : ℕ) → p < net.parts → IsFlooding net old marked p net.edges → Happens net old (Work p) new
-      → (new p).passive ≡ true → IsFlooding net new marked net.parts net.edges
-  rests p part was step passive = record {
-    count_is = was.count_is;
-    root = was.root;
+  pub rests : (p first : ℕ) → net.edges ≤ first → IsFlooding net old marked done p first → Happens net old (Work p) new
+      → (new p).passive ≡ true → IsFlooding net new marked done net.parts net.edges
+  rests p first all was step passive = record {
+    marks = was.marks;
     itself = λ l. absurd (omega arith);
-    reached = was.reached;
-    got = λ i m some. was.got i m (let k = counted net old new (Work p) step i in omega arith);
     passive = λ q m _. dite (ℕ_discrete q p) (λ z. ap (λ (i : ℕ). (new i).passive) z ∙ passive)
-        (λ other. ap (λ (s : Part). s.passive) (step.others q other) ∙ was.passive q m other);
-    sent = λ i m. let k = counted net old new (Work p) step i in let b = was.sent i m in grind (arith, nat_tests);
-    settled = λ i m. let k = counted net old new (Work p) step i in let b = was.settled i m in omega arith;
+        (λ other. still net old new (Work p) step step.wakes q (was.passive q m other));
+    edges = λ i m. let k = counted net old new (Work p) step i in let b = was.edges i m in search (rules, arith, nat_tests);
   }
 
-  pub gets : (e p : ℕ) → e < net.edges → p ≡ net.head e → p < net.parts → 0 < in_flight net old e
-      → IsFlooding net old marked net.parts net.edges → Happens net old (Get e) new → (was_marked : Bool)
-      → is_marked marked p ≡ was_marked → IsFlooding net new (set marked p true) p (cond was_marked net.edges 0)
-  gets e p l head part some was step was_marked is = record {
-    count_is = length-set marked p true ∙ was.count_is;
-    root = let m = marks net.root in let b = was.root in grind arith;
-    itself = λ _. let m = marks p in grind arith;
-    reached = λ q is. ⊎_elim (λ z. (e ∷ way.0, (l, sym (z.0 ∙ head), way.1))) (λ other. was.reached q (sym other.1 ∙ is)) (marks q);
-    got = λ i m more. let k = counted net old new (Get e) step i in let b = was.got i m in let c = marks (net.head i) in
-        grind (arith, nat_tests);
+  pub gets : (e p : ℕ) → e < net.edges → p ≡ net.head e → p < net.parts → is_marked marked (net.tail e) ≡ true
+      → get_or done e 0 ≡ 0 → IsFlooding net old marked done net.parts net.edges → Happens net old (Get e) new
+      → (was_marked : Bool) → is_marked marked p ≡ was_marked
+      → IsFlooding net new (set marked p true) (set done e 1) p (cond was_marked net.edges 0)
+  gets e p l head part tail none was step was_marked is = record {
+    marks = record {
+      count_is = length-set marked p true ∙ was.marks.count_is;
+      all_done = length-set done e 1 ∙ was.marks.all_done;
+      root = let m = marks net.root in let b = was.marks.root in grind (arith, nat_tests);
+      reached = λ q is. let way = was.marks.reached (net.tail e) tail in
+          dite (ℕ_discrete q p) (λ z. (e ∷ way.0, (l, sym (z ∙ head), way.1)))
+          (λ other. was.marks.reached q (let m = marks q in grind (arith, nat_tests)));
+    };
+    itself = λ _. let m = marks p in grind (arith, nat_tests);
     passive = λ q m other. ap (λ (s : Part). s.passive) (step.others q (λ z. other (z ∙ sym head)))
         ∙ was.passive q m (λ z. absurd (omega arith));
-    sent = λ i m. let k = counted net old new (Get e) step i in let b = was.sent i m in let c = marks (net.tail i) in
-        grind (arith, nat_tests);
-    settled = λ i m. let k = counted net old new (Get e) step i in let b = was.settled i m in omega arith;
+    edges = λ i m. let k = counted net old new (Get e) step i in let b = was.edges i m in let t = marks (net.tail i) in
+        let h = marks (net.head i) in let d = set_at done e i 1 0 (let all = was.marks.all_done in omega arith) in search (rules, arith, nat_tests);
   }
     where
-      marks : (q : ℕ) → IsMarkedAfter marked p q
-      marks q = marked_after marked p q (let all = was.count_is in omega arith)
-
-      way : IsReached net (net.tail e)
-      way = was.reached (net.tail e) (let b = was.sent e l in grind (arith, nat_tests))
+      marks : (q : ℕ) → is_marked (set marked p true) q ≡ cond (eqb p q) true (is_marked marked q)
+      marks q = set_at marked p q true false (let all = was.marks.count_is in omega arith)
 
   -- an acknowledgement, of which the tail hears at once
-  pub answers : (mid : World) (e n : ℕ) → IsFlooding net old marked net.parts net.edges → Happens net old (Ack e n) mid
-      → Happens net mid (Settle e (acked_on net mid e)) new → IsFlooding net new marked net.parts net.edges
-  answers mid e n was one two = record {
-    count_is = was.count_is;
-    root = was.root;
+  pub answers : (mid : World) (e n : ℕ) → e < net.edges → nat_lt 0 (get_or done e 0) ≡ true → nat_lt 1 (get_or done e 0) ≡ false → n ≡ 1
+      → IsFlooding net old marked done net.parts net.edges → Happens net old (Ack e n) mid → Happens net mid (Settle e n) new
+      → IsFlooding net new marked (set done e 2) net.parts net.edges
+  answers mid e n l got none one was acks hears = record {
+    marks = record {
+      count_is = was.marks.count_is;
+      all_done = length-set done e 2 ∙ was.marks.all_done;
+      root = was.marks.root;
+      reached = was.marks.reached;
+    };
     itself = was.itself;
-    reached = was.reached;
-    got = λ i m some. was.got i m (let a = counted net old mid (Ack e n) one i in
-        let b = counted net mid new (Settle e (acked_on net mid e)) two i in omega arith);
-    passive = λ q m other. still net mid new (Settle e (acked_on net mid e)) two two.wakes q
-        (still net old mid (Ack e n) one one.wakes q (was.passive q m other));
-    sent = λ i m. (let a = counted net old mid (Ack e n) one i in
-        let b = counted net mid new (Settle e (acked_on net mid e)) two i in let c = was.sent i m in
-        let same : sent_on net new i ≡ sent_on net old i = omega arith in same ∙ c);
-    settled = λ i m. let a = counted net old mid (Ack e n) one i in
-        let b = counted net mid new (Settle e (acked_on net mid e)) two i in let c = was.settled i m in grind (arith, nat_tests);
+    passive = λ q m other. still net mid new (Settle e n) hears hears.wakes q (still net old mid (Ack e n) acks acks.wakes q (was.passive q m other));
+    edges = λ i m. let a = counted net old mid (Ack e n) acks i in let b = counted net mid new (Settle e n) hears i in
+        let c = was.edges i m in let d = set_at done e i 2 0 (let all = was.marks.all_done in omega arith) in search (rules, arith, nat_tests);
   }
 
 -- at the end
-pub marks_reached : (s : State) (marked : List Bool) → IsFlooded s marked → IsSilent (net s) (world s) → MarksReached (net s) marked
-marks_reached s marked was silent = record {
-  count_is = was.count_is;
-  each = λ p l. (was.reached p, (λ way. along way.0 p way.1));
+pub marks_reached : (m : Marking) → IsFlooded m → IsSilent (net m.run) (world m.run) → MarksReached (net m.run) m.marked.items
+marks_reached m was silent = record {
+  count_is = was.marks.count_is;
+  each = λ p l. (was.marks.reached p, (λ way. along way.0 p way.1));
 }
   where
-    along : (es : List ℕ) (p : ℕ) → IsPath (net s) es p → is_marked marked p ≡ true
-    along [] p at = ap (is_marked marked) at ∙ was.root
-    along (e ∷ es) p (l, head, way) = ap (is_marked marked) (sym head) ∙ was.got e l
-        (let a = was.sent e l in let b = silent.delivered e l in let c = along es ((net s).tail e) way in
-        let tail : is_marked marked ((net s).tail e) ≡ true = c in grind (arith, nat_tests))
+    along : (es : List ℕ) (p : ℕ) → IsPath (net m.run) es p → is_marked m.marked.items p ≡ true
+    along [] p at = ap (is_marked m.marked.items) at ∙ was.marks.root
+    along (e ∷ es) p (l, head, way) = ap (is_marked m.marked.items) (sym head) ∙
+        (let a = was.edges e l in let b = silent.delivered e l in
+        let tail : is_marked m.marked.items ((net m.run).tail e) ≡ true = along es ((net m.run).tail e) way in grind (arith, nat_tests))
 
 -- ---- the beginning
 
@@ -142,83 +120,52 @@ none_marked zero q = refl
 none_marked (suc n) zero = refl
 none_marked (suc n) (suc q) = none_marked n q
 
-pub starts : (t : Topology) → IsTopology t → (ps : List Process) → AreOpening t t.parts ps
-    → IsFlooding (network_of t) (world_of ps) (set (replicate t.parts false) t.root true) t.root 0
-starts t is ps opening = record {
-  count_is = length-set (replicate t.parts false) t.root true ∙ length-replicate t.parts false;
-  root = let m = marks t.root in grind arith;
-  itself = λ _. let m = marks t.root in grind arith;
-  reached = λ q marked. ⊎_elim (λ z. ([], z.0))
-      (λ other. absurd (true≢false (sym marked ∙ other.1 ∙ none_marked t.parts q))) (marks q);
-  got = λ e l some. let none = (opening.each ((network_of t).head e) (is.network.heads e l)).part.fresh.ins.messages e in
-      absurd (omega arith);
+pub starts : (t : Topology) → IsTopology t → (ps : List Process) → AreOpening t t.parts ps → let n = network_of t in
+    IsFlooding n (world_of ps) (set (replicate n.parts false) n.root true) (replicate n.edges 0) n.root 0
+starts t is ps opening = let n = network_of t in record {
+  marks = record {
+    count_is = length-set (replicate t.parts false) t.root true ∙ length-replicate t.parts false;
+    all_done = length-replicate n.edges 0;
+    root = let m = marks t.root in grind (arith, nat_tests);
+    reached = λ q is. dite (ℕ_discrete q t.root) (λ z. ([], z))
+        (λ other. absurd (let m = marks q in let off = none_marked t.parts q in grind (arith, nat_tests)));
+  };
+  itself = λ _. let m = marks t.root in grind (arith, nat_tests);
   passive = λ q l other. (opening.each q l).part.passive other;
-  sent = λ e l. let none = (opening.each ((network_of t).tail e) (is.network.tails e l)).part.fresh.outs.messages e in
-      let m = marks ((network_of t).tail e) in let off = none_marked t.parts ((network_of t).tail e) in grind (arith, nat_tests);
-  settled = λ e l. let a = (opening.each ((network_of t).tail e) (is.network.tails e l)).part.fresh.outs.answered e in
-      let b = (opening.each ((network_of t).head e) (is.network.heads e l)).part.fresh.ins.answered e in omega arith;
+  edges = λ e l.
+      let tail = (opening.each (n.tail e) (is.network.tails e l)).part.fresh.outs in
+      let head = (opening.each (n.head e) (is.network.heads e l)).part.fresh.ins in
+      let sent = tail.messages e in let settled = tail.answered e in let got = head.messages e in let acked = head.answered e in
+      let m = marks (n.tail e) in let off = none_marked t.parts (n.tail e) in let none : get_or {A = ℕ} (replicate n.edges 0) e 0 ≡ 0 = get_or-replicate n.edges e 0 0 l in record {
+        sent_is = grind (arith, nat_tests);
+        got_is = got ∙ sym (ap (λ (k : ℕ). once (nat_lt 0 k)) none);
+        head = omega arith;
+        acked_is = acked ∙ sym (ap (λ (k : ℕ). once (nat_lt 1 k)) none);
+        settled_is = settled ∙ sym (ap (λ (k : ℕ). once (nat_lt 1 k)) none);
+      };
 }
   where
-    marks : (q : ℕ) → IsMarkedAfter (replicate t.parts false) t.root q
-    marks q = marked_after (replicate t.parts false) t.root q
+    marks : (q : ℕ) → is_marked (set (replicate t.parts false) t.root true) q ≡ cond (eqb t.root q) true (is_marked (replicate t.parts false) q)
+    marks q = set_at (replicate t.parts false) t.root q true false
         (let all = length-replicate t.parts false in let root = is.network.root in omega arith)
 
 -- ---- it goes on until the root is closed
 
-abbrev rest_at : Network → World → ℕ → ℕ
-rest_at net w e = 2 * (1 - got_on net w e) + (got_on net w e - acked_on net w e)
+-- what may be acknowledged is one message, which was not answered yet
+pub one_due : (m : Marking) (e : ℕ) → e < (net m.run).edges → IsFlooded m → let head = world m.run ((net m.run).head e) in
+    0 < may_ack head.books e head.passive → (may_ack head.books e head.passive ≡ 1) × (nat_lt 1 (get_or m.done.items e 0) ≡ false)
+one_due m e l was some = let head = world m.run ((net m.run).head e) in let owes = no_more_than_owed head.books e head.passive in
+    let b = was.edges e l in let one = at_most_one (nat_lt 0 (get_or m.done.items e 0)) in (omega arith, grind (arith, nat_tests))
 
-abbrev IsNoGet : Event → Type 0
-IsNoGet (Get e) = ⊥
-IsNoGet _ = Unit {0}
-
--- whatever else is done, no more is unfinished
-pub no_more : (old new : State) (x : Event) → IsNoGet x → Runs old x new → unfinished new ≤ unfinished old
-no_more old new x other runs = rw runs.topology
-    (less_at (net old).edges (rest_at (net old) (world old)) (rest_at (net old) (world new)) (less x other runs.happens))
-  where
-    less : (x : Event) → IsNoGet x → Happens (net old) (world old) x (world new) → (i : ℕ) → i < (net old).edges
-        → rest_at (net old) (world new) i ≤ rest_at (net old) (world old) i
-    less (Send e) _ step i l = let k = counted (net old) (world old) (world new) (Send e) step i in omega arith
-    less (Get e) other step i l = absurd other
-    less (Ack e n) _ step i l = let k = counted (net old) (world old) (world new) (Ack e n) step i in grind (arith, nat_tests)
-    less (Settle e word) _ step i l = let k = counted (net old) (world old) (world new) (Settle e word) step i in omega arith
-    less (Work p) _ step i l = let k = counted (net old) (world old) (world new) (Work p) step i in omega arith
-
-pub less_after_get : (old new : State) (marked : List Bool) (e : ℕ) → e < (net old).edges
-    → 0 < in_flight (net old) (world old) e → IsFlooded old marked → Runs old (Get e) new → unfinished new < unfinished old
-less_after_get old new marked e l some was runs =
-    let n = net old in
-    let one = at_most_one (is_marked marked (n.tail e) && (nat_lt e n.edges || not (n.tail e == n.parts))) in
-    let sent = was.sent e l in
-    let none : got_on n (world old) e ≡ 0 = omega arith in
-    rw runs.topology (less_sum n.edges (rest_at n (world old)) (rest_at n (world new))
-    (λ i m. let k = counted n (world old) (world new) (Get e) runs.happens i in grind (arith, nat_tests)) e l
-    (let k = counted n (world old) (world new) (Get e) runs.happens e in grind (arith, nat_tests)))
-
-pub less_after_ack : (old new : State) (e : ℕ) → e < (net old).edges → let head = world old ((net old).head e) in
-    let n = may_ack head.books e head.passive in 0 < n → Runs old (Ack e n) new → unfinished new < unfinished old
-less_after_ack old new e l some runs =
-    let net = net old in
-    let head = world old (net.head e) in
-    let n = may_ack head.books e head.passive in
-    let owes = within_owed e head.books.parent (owed head.books e) (all_owed head.books) (deficit head.books) head.passive in
-    rw runs.topology (less_sum net.edges (rest_at net (world old)) (rest_at net (world new))
-    (λ i m. let k = counted net (world old) (world new) (Ack e n) runs.happens i in grind (arith, nat_tests)) e l
-    (let k = counted net (world old) (world new) (Ack e n) runs.happens e in grind (arith, nat_tests)))
-
--- where every edge is idle the root is closed
-pub idle_is_closed : (s : State) (marked : List Bool) → IsNetwork (net s) → (log : Log) → IsLegalLog (net s) log (world s)
-    → IsFlooded s marked → ((e : ℕ) → e < (net s).edges → IsIdle s e) → (IsClosed (net s) (world s) → ⊥) → ⊥
-idle_is_closed s marked is log legal was idle unclosed =
-    ⊎_elim (λ active. let l = active.1 in true≢false (sym (was.passive active.0 l (λ z. absurd (omega arith))) ∙ active.2))
-    (⊎_elim (λ get. let none = (idle get.0 get.1.0).delivered in let some = get.1.1 in absurd (omega arith))
-    (λ due. nothing due.0 due.1))
-    (not_over_yet (net s) is log (world s) legal unclosed)
-  where
-    nothing : (x : Event) → IsDue (net s) (world s) x → ⊥
-    nothing (Ack e n) due = let none = (idle e due.0.0).answered in let some = due.1 in let most = due.0.1 in absurd (omega arith)
-    nothing (Settle e word) due = let same = was.settled e due.0.0 in let some = due.1 in let most = due.0.2 in absurd (omega arith)
-    nothing (Send e) due = due.1
-    nothing (Get e) due = due.1
-    nothing (Work p) due = due.1
+-- where nothing is due on any edge the root is closed
+pub idle_is_closed : (m : Marking) → IsRun m.run → IsFlooded m → ((e : ℕ) → e < (net m.run).edges → due_on m e ≡ 0)
+    → IsClosed (net m.run) (world m.run)
+idle_is_closed m is was idle = quiet_closes (net m.run) is.topology.network (world m.run) (record {
+  heard = λ e l. (let b = was.edges e l in omega arith);
+  given = λ e l. (let head = world m.run ((net m.run).head e) in let owes = no_more_than_owed head.books e head.passive in
+      let b = was.edges e l in let a = idle e l in grind (arith, nat_tests));
+}) is.log is.legal (record {
+  delivered = λ e l. (let b = was.edges e l in let a = idle e l in
+      let one = at_most_one (is_marked m.marked.items ((net m.run).tail e)) in grind (arith, nat_tests));
+  passive = λ p l. was.passive p l (λ z. absurd (omega arith));
+})

@@ -1,11 +1,11 @@
 -- Flooding: a part that gets a message for the first time is marked, and sends one message on each of its edges.
-use Rattle.std.specs.Prelude.{◌≡◌, ◌≢◌, ◌↔◌, ℕ, ◌+◌, ◌-◌, ◌*◌, ◌<◌, nat_lt, Bool, true, false, not, ◌&&◌, ◌||◌, ◌==◌}
-use Rattle.std.specs.Prelude.{if◌then◌else◌, List, [], ◌∷◌, length, slice_index_or}
+use Rattle.std.specs.Prelude.{◌≡◌, ◌≢◌, ◌↔◌, ℕ, ◌-◌, ◌<◌, ◌≤◌, nat_lt, Bool, true, false, not, ◌&&◌, ◌||◌, ◌==◌}
+use Rattle.std.specs.Prelude.{if◌then◌else◌, List, [], ◌∷◌, length, slice_index, slice_index_or, sum_by}
 use Rattle.chip_detect.specs.Acknowledging.{may_ack}
 use Rattle.chip_diffusing.specs.Network.{Network}
-use Rattle.chip_diffusing.specs.Computation.{World, sent_on, got_on, acked_on, settled_on, in_flight}
-use Rattle.chip_diffusing.specs.Ending.{sum_below}
-use Rattle.chip_flooding.specs.Running.{State, net, world}
+use Rattle.chip_diffusing.specs.Computation.{World, sent_on, got_on, acked_on, settled_on}
+use Rattle.chip_flooding.specs.Running.{net, world}
+pub use Rattle.chip_flooding.specs.declared.flooding.Marking.{Marking}
 
 -- these edges, the last one first, lead from the root to p
 abbrev pub IsPath : Network → List ℕ → ℕ → Type 0
@@ -25,33 +25,43 @@ pub record MarksReached (n : Network) (marked : List Bool) : Type 0 where
 
 -- ---- on the way
 
--- so many messages a part sends on each of its edges
-abbrev pub sent_by : Bool → ℕ
-sent_by marked = if marked then 1 else 0
+-- one message, or none
+abbrev pub once : Bool → ℕ
+once so = if so then 1 else 0
 
--- who is marked can be reached, who got a message is marked, and who is marked has sent. Only p may be at work, and it
--- has sent on those of the first edges that are its own. The tail hears of acknowledgements at once
-pub record IsFlooding (n : Network) (w : World) (marked : List Bool) (p first : ℕ) : Type 0 where
+-- the root is marked, and whoever is marked can be reached
+pub record AreMarks (n : Network) (marked : List Bool) (done : List ℕ) : Type 0 where
   pub count_is : length marked ≡ n.parts
+  pub all_done : length done ≡ n.edges
   pub root : is_marked marked n.root ≡ true
-  pub itself : p < n.parts → is_marked marked p ≡ true
   pub reached : (q : ℕ) → is_marked marked q ≡ true → IsReached n q
-  pub got : (e : ℕ) → e < n.edges → 0 < got_on n w e → is_marked marked (n.head e) ≡ true
+
+-- who is marked has sent a message on each of its edges, but p only on those below `first`. Where it was got the head is
+-- marked. The tail hears of acknowledgements at once
+pub record IsFloodedOn (n : Network) (w : World) (marked : List Bool) (done : List ℕ) (p first e : ℕ) : Type 0 where
+  pub sent_is : sent_on n w e ≡ once (is_marked marked (n.tail e) && (nat_lt e first || not (n.tail e == p)))
+  pub got_is : got_on n w e ≡ once (nat_lt 0 (slice_index done e))
+  pub head : got_on n w e ≤ once (is_marked marked (n.head e))
+  pub acked_is : acked_on n w e ≡ once (nat_lt 1 (slice_index done e))
+  pub settled_is : settled_on n w e ≡ once (nat_lt 1 (slice_index done e))
+
+-- p sends its messages, and no other part is at work
+pub record IsFlooding (n : Network) (w : World) (marked : List Bool) (done : List ℕ) (p first : ℕ) : Type 0 where
+  pub marks : AreMarks n marked done
+  pub itself : p < n.parts → is_marked marked p ≡ true
   pub passive : (q : ℕ) → q < n.parts → q ≢ p → (w q).passive ≡ true
-  pub sent : (e : ℕ) → e < n.edges
-      → sent_on n w e ≡ sent_by (is_marked marked (n.tail e) && (nat_lt e first || not (n.tail e == p)))
-  pub settled : (e : ℕ) → e < n.edges → settled_on n w e ≡ acked_on n w e
+  pub edges : (e : ℕ) → e < n.edges → IsFloodedOn n w marked done p first e
 
 -- no part is at work
-abbrev pub IsFlooded : State → List Bool → Type 0
-IsFlooded s marked = IsFlooding (net s) (world s) marked (net s).parts (net s).edges
+abbrev pub IsFlooded : Marking → Type 0
+IsFlooded m = let n = net m.run in IsFlooding n (world m.run) m.marked.items m.done.items n.parts n.edges
 
--- at most so many messages are still to be got, and then to be acknowledged, or are still to be acknowledged
-abbrev pub unfinished : State → ℕ
-unfinished s = sum_below (net s).edges (λ e. 2 * (1 - got_on (net s) (world s) e)
-    + (got_on (net s) (world s) e - acked_on (net s) (world s) e))
+-- so much is not done: a message is to be got, and to be acknowledged, on each edge
+abbrev pub unfinished : Marking → ℕ
+unfinished m = sum_by (λ n. 2 - n) m.done.items
 
--- nothing is on its way on the edge, and nothing may be acknowledged there
-pub record IsIdle (s : State) (e : ℕ) : Type 0 where
-  pub delivered : in_flight (net s) (world s) e ≡ 0
-  pub answered : may_ack (world s ((net s).head e)).books e (world s ((net s).head e)).passive ≡ 0
+-- so many messages of the edge may be acknowledged, or are to be got
+abbrev pub due_on : Marking → ℕ → ℕ
+due_on m e = let head = world m.run ((net m.run).head e) in
+    if nat_lt 0 (slice_index m.done.items e) then may_ack head.books e head.passive
+    else once (is_marked m.marked.items ((net m.run).tail e))

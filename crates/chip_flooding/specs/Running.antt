@@ -2,7 +2,7 @@
 use Rattle.std.specs.Prelude.{◌≡◌, ℕ, ◌<◌, ◌≤◌, true, false, List, [], None, length, slice_index, slice_index_or}
 use Rattle.chip_detect.specs.Tally.{edge_limit}
 use Rattle.chip_diffusing.specs.Network.{Network, IsNetwork}
-use Rattle.chip_diffusing.specs.Computation.{Part, World, Event, Log, OpensPart, IsLegalLog, Happens, in_flight, acked_on}
+use Rattle.chip_diffusing.specs.Computation.{Part, World, Event, Log, OpensPart, IsLegalLog, Happens}
 pub use Rattle.chip_flooding.specs.declared.process.Topology.{Topology}
 pub use Rattle.chip_flooding.specs.declared.process.Process.{Process}
 
@@ -44,20 +44,12 @@ net s = network_of s.topology
 abbrev pub world : State → World
 world s = world_of s.processes
 
--- what is under way on each edge is counted, and a legal log leaves the processes
-pub record IsRun (t : Topology) (processes : List Process) (flights answers : List ℕ) : Type 0 where
-  pub topology : IsTopology t
-  pub all_processes : length processes ≡ t.parts
-  pub all_flights : length flights ≡ length t.tails.items
-  pub all_answers : length answers ≡ length t.tails.items
-  pub in_flight : (e : ℕ) → e < length t.tails.items → slice_index_or flights e 0 ≡ in_flight (network_of t) (world_of processes) e
-  pub acknowledged : (e : ℕ) → e < length t.tails.items → slice_index_or answers e 0 ≡ acked_on (network_of t) (world_of processes) e
+-- a legal log leaves the processes
+pub record IsRun (s : State) : Type 0 where
+  pub topology : IsTopology s.topology
+  pub all_processes : length s.processes ≡ s.topology.parts
   pub log : Log
-  pub legal : IsLegalLog (network_of t) log (world_of processes)
-
--- some legal log leaves it
-abbrev pub IsRunning : State → Type 0
-IsRunning s = IsNetwork (net s) × ((log : Log) × IsLegalLog (net s) log (world s))
+  pub legal : IsLegalLog (net s) log (world s)
 
 -- a process before all events: only the root is at work
 pub record Opens (t : Topology) (p : ℕ) (s : Process) : Type 0 where
@@ -68,11 +60,6 @@ pub record Opens (t : Topology) (p : ℕ) (s : Process) : Type 0 where
 pub record AreOpening (t : Topology) (count : ℕ) (processes : List Process) : Type 0 where
   pub count_is : length processes ≡ count
   pub each : (p : ℕ) → p < count → Opens t p (slice_index_or processes p nobody)
-
--- no event was done
-pub record IsOpening (t : Topology) (s : State) : Type 0 where
-  pub topology : s.topology ≡ t
-  pub opens : AreOpening t t.parts s.processes
 
 -- one event was done
 pub record Runs (old : State) (x : Event) (new : State) : Type 0 where

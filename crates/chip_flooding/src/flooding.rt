@@ -1,7 +1,6 @@
-ghost use Rattle.std.specs.Prelude.{◌≡◌, ◌<◌, ◌≤◌, ℕ, false, Some, None, IfOk};
-ghost use Rattle.chip_diffusing.specs.Computation.{in_flight};
+ghost use Rattle.std.specs.Prelude.{◌≡◌, ◌<◌, ◌≤◌, ℕ, true, false, Some, None, IfOk, IsTrue, replicate, slice_set, ◌↔◌};
 ghost use Rattle.chip_flooding.specs.Running.{IsTopology, network_of, net, world};
-ghost use Rattle.chip_flooding.specs.Flooding.{MarksReached, IsFlooding, IsFlooded, IsIdle, unfinished};
+ghost use Rattle.chip_flooding.specs.Flooding.{MarksReached, IsFlooding, IsFlooded, due_on, unfinished};
 
 use crate::process::Topology;
 use crate::run::Run;
@@ -16,12 +15,11 @@ pub fn flood(alloc: Global, topology: Topology) -> Result<Vec<bool>, AllocError>
     ensures { IfOk result (λ marked. MarksReached (network_of topology) marked.items) }
 {
     let root = topology.root;
-    let mut marked = vec![in alloc; false; topology.parts]?;
-    marked[root] = true;
+    let marked = all_false(alloc, topology.parts)?;
+    let done = vec![in alloc; 0; topology.tails.len()]?;
     let run = Run::new(alloc, topology)?;
-    let mut marking = Marking { run, marked };
-    marking.spread(root);
-    marking.run.rest(root);
+    let mut marking = Marking { run, marked, done };
+    marking.start(root);
     while !marking.run.is_over() {
         let edge = marking.due_edge().unwrap();
         marking.turn(edge);
@@ -29,60 +27,85 @@ pub fn flood(alloc: Global, topology: Topology) -> Result<Vec<bool>, AllocError>
     Ok(marking.marked)
 }
 
+/// So many times false.
+fn all_false(alloc: Global, count: usize) -> Result<Vec<bool>, AllocError>
+    ensures { IfOk result (λ list. list.items ≡ replicate count false) }
+{
+    vec![in alloc; false; count]
+}
+
 /// A computation that runs, and which parts are marked.
 #[derive(Drop)]
 struct Marking {
     run: Run,
     marked: Vec<bool>,
+    /// Of each edge, how many of these are done: a message is got, and it is acknowledged.
+    done: Vec<u8>,
 }
 
 impl Marking {
-    /// Sends a message on each edge out of the part.
-    fn spread(&mut self, part: usize)
+    /// Marks the part, which sends a message on each of its edges. Then it has nothing more to do.
+    fn start(&mut self, part: usize)
         requires part { part < (net self.old.run).parts }
         requires active { (world self.old.run part).passive ≡ false }
-        requires flooding { IsFlooding (net self.old.run) (world self.old.run) self.old.marked.items part 0 }
+        requires flooding { let old = self.old in IsFlooding (net old.run) (world old.run)
+            (slice_set old.marked.items part true) old.done.items part 0 }
         ensures topology { self.new.run.topology ≡ self.old.run.topology }
-        ensures flooding { let run = self.new.run in IsFlooding (net run) (world run) self.new.marked.items part (net run).edges }
-        ensures unfinished { unfinished self.new.run ≤ unfinished self.old.run }
+        ensures flooded { IsFlooded self.new }
+        ensures unfinished { unfinished self.new ≡ unfinished self.old }
     {
+        self.marked[part] = true;
         for edge in 0..self.run.topology().tails.len() {
             if self.run.topology().tails[edge] == part {
                 self.run.send(edge);
             }
         }
+        self.run.rest(part);
     }
 
-    /// The head of the edge gets a message, and if it is its first one it spreads it. Where there is none it acknowledges.
+    /// The head gets the message on the edge, and starts if it is its first one. If it got it before it acknowledges it.
     fn turn(&mut self, edge: usize)
         requires edge { edge < (net self.old.run).edges }
-        requires due { IsIdle self.old.run edge → ⊥ }
-        requires flooded { IsFlooded self.old.run self.old.marked.items }
+        requires due { 0 < due_on self.old edge }
+        requires flooded { IsFlooded self.old }
         ensures topology { self.new.run.topology ≡ self.old.run.topology }
-        ensures flooded { IsFlooded self.new.run self.new.marked.items }
-        ensures less { unfinished self.new.run < unfinished self.old.run }
+        ensures flooded { IsFlooded self.new }
+        ensures less { unfinished self.new < unfinished self.old }
     {
-        if self.run.in_flight(edge) == 0 {
-            self.run.acknowledge(edge);
-            self.run.settle(edge);
+        if self.done[edge] > 0 {
+            let count = self.run.acknowledge(edge);
+            self.run.settle(edge, count);
+            self.done[edge] = 2;
             return;
         }
+        self.done[edge] = 1;
         let head = self.run.topology().heads[edge];
-        let is_first = !self.marked[head];
-        self.marked[head] = true;
         self.run.get(edge);
-        if is_first {
-            self.spread(head);
+        if self.marked[head] {
+            self.run.rest(head);
+            return;
         }
-        self.run.rest(head);
+        self.start(head);
     }
 
     /// An edge on which there is something to get or to acknowledge.
     fn due_edge(&self) -> Option<usize>
-        ensures due { (e : ℕ) → result ≡ Some e → (e < (net self.now.run).edges) × (IsIdle self.now.run e → ⊥) }
-        ensures none { result ≡ None → (e : ℕ) → e < (net self.now.run).edges → IsIdle self.now.run e }
+        requires { IsFlooded self.now }
+        ensures due { (e : ℕ) → result ≡ Some e → (e < (net self.now.run).edges) × (0 < due_on self.now e) }
+        ensures none { result ≡ None → (e : ℕ) → e < (net self.now.run).edges → due_on self.now e ≡ 0 }
     {
-        (0..self.run.topology().tails.len()).find(|edge| self.run.in_flight(*edge) > 0
-            || self.run.acknowledgeable(*edge) > 0)
+        (0..self.done.len()).find(|edge| self.is_due(*edge))
+    }
+
+    /// Whether there is something to get or to acknowledge on the edge.
+    fn is_due(&self, edge: usize) -> bool
+        requires edge { edge < (net self.now.run).edges }
+        requires flooded { IsFlooded self.now }
+        ensures { IsTrue result ↔ (0 < due_on self.now edge) }
+    {
+        if self.done[edge] > 0 {
+            return self.run.acknowledgeable(edge) > 0;
+        }
+        self.marked[self.run.topology().tails[edge]]
     }
 }

@@ -26,11 +26,7 @@ pub struct Process {
 }
 
 /// A part before anything is sent. Only the root is at work.
-pub fn opening_process(
-    alloc: Global,
-    topology: &Topology,
-    part: usize,
-) -> Result<Process, AllocError>
+pub fn opening(alloc: Global, topology: &Topology, part: usize) -> Result<Process, AllocError>
     requires { IsTopology topology.now }
     ensures { IfOk result (Opens topology.now part) }
 {

@@ -1,22 +1,17 @@
 ghost use Rattle.std.specs.Prelude.{◌≡◌, ◌↔◌, ◌<◌, false, IfOk, IsTrue};
 
-use crate::process::{Process, Topology, opening_process};
+use crate::process::{Process, Topology, opening};
 use chip_diffusing::{acknowledge, is_over};
 use std::alloc::{AllocError, Global};
 use std::marker::Model;
 
-/// A diffusing computation on one thread: each part with its books, and what is under way on each edge. What messages say
-/// and what a part computes is up to the caller.
-///
-/// Each call is one event of a legal log (`crates/chip_diffusing/specs/Computation.antt`).
+/// A diffusing computation on one thread: each part with its books. Each call is one event of a legal log
+/// (`crates/chip_diffusing/specs/Computation.antt`). What is under way, what messages say and what a part computes is up to
+/// the caller.
 #[derive(Drop)]
 pub struct Run {
     topology: Topology,
     processes: Vec<Process>,
-    /// Of each edge, how many messages were sent and not got yet.
-    in_flight: Vec<u64>,
-    /// Of each edge, how many messages the head acknowledged, from the beginning on.
-    acknowledged: Vec<u64>,
 }
 
 impl Model for Run {
@@ -26,31 +21,27 @@ impl Model for Run {
 
     ghost view = { λ a. record { topology = a.topology; processes = a.processes.items } };
 
-    ghost invariant = { λ a. IsRun a.topology a.processes.items a.in_flight.items a.acknowledged.items };
+    ghost invariant = { λ a. IsRun (record { topology = a.topology; processes = a.processes.items }) };
 }
 
 impl Run {
     ghost use Rattle.chip_detect.specs.Acknowledging.{may_ack};
-    ghost use Rattle.chip_diffusing.specs.Computation.{Send, Get, Ack, Settle, Work, May, acked_on, in_flight, IsClosed, IsSilent};
-    ghost use Rattle.chip_flooding.specs.Running.{IsTopology, IsRunning, IsOpening, Runs, net, world};
+    ghost use Rattle.chip_diffusing.specs.Computation.{Send, Get, Ack, Settle, Work, May, IsClosed, IsSilent};
+    ghost use Rattle.chip_flooding.specs.Running.{IsTopology, IsRun, AreOpening, Runs, net, world};
 
     /// A computation before anything is sent. Only the root is at work.
     pub fn new(alloc: Global, topology: Topology) -> Result<Run, AllocError>
         requires { IsTopology topology }
-        ensures { IfOk result (IsOpening topology) }
+        ensures same { IfOk result (λ run. run.topology ≡ topology) }
+        ensures opens { IfOk result (λ run. AreOpening topology topology.parts run.processes) }
     {
         let mut processes = Vec::new(alloc);
         for part in 0..topology.parts {
-            processes.push(opening_process(alloc, &topology, part)?)?;
+            processes.push(opening(alloc, &topology, part)?)?;
         }
-        let edges = topology.tails.len();
-        let in_flight = vec![in alloc; 0; edges]?;
-        let acknowledged = vec![in alloc; 0; edges]?;
         Ok(Run {
             topology,
             processes,
-            in_flight,
-            acknowledged,
         })
     }
 
@@ -62,14 +53,6 @@ impl Run {
         &self.topology
     }
 
-    /// How many messages are on their way on the edge.
-    pub fn in_flight(&self, edge: usize) -> u64
-        requires { edge < (net self.now).edges }
-        ensures { result ≡ in_flight (net self.now) (world self.now) edge }
-    {
-        self.in_flight[edge]
-    }
-
     /// Sends a message on the edge.
     pub fn send(&mut self, edge: usize)
         requires { May (net self.old) (world self.old) (Send edge) }
@@ -77,9 +60,7 @@ impl Run {
         ensures active { (world self.new ((net self.old).tail edge)).passive ≡ false }
     {
         let tail = self.topology.tails[edge];
-        self.in_flight[edge] += 1;
-        let process = &mut self.processes[tail];
-        process.books.sent(edge as u64);
+        self.processes[tail].books.sent(edge as u64);
     }
 
     /// Takes a message from the edge: its head is at work from here on.
@@ -89,7 +70,6 @@ impl Run {
         ensures active { (world self.new ((net self.old).head edge)).passive ≡ false }
     {
         let head = self.topology.heads[edge];
-        self.in_flight[edge] -= 1;
         let process = &mut self.processes[head];
         process.books.got(edge as u64);
         process.passive = false;
@@ -104,25 +84,23 @@ impl Run {
         head.books.may_ack(edge as u64, head.passive)
     }
 
-    /// Acknowledges all that may be acknowledged on the edge now.
-    pub fn acknowledge(&mut self, edge: usize)
+    /// Acknowledges all that may be acknowledged on the edge now, and answers how many messages these are.
+    pub fn acknowledge(&mut self, edge: usize) -> u64
         requires { edge < (net self.old).edges }
-        ensures { let head = world self.old ((net self.old).head edge) in
-            Runs self.old (Ack edge (may_ack head.books edge head.passive)) self.new }
+        ensures count { let head = world self.old ((net self.old).head edge) in result ≡ may_ack head.books edge head.passive }
+        ensures runs { Runs self.old (Ack edge result) self.new }
     {
         let head = self.topology.heads[edge];
         let process = &mut self.processes[head];
-        let count = acknowledge(&mut process.books, edge as u64, process.passive);
-        self.acknowledged[edge] += count;
+        acknowledge(&mut process.books, edge as u64, process.passive)
     }
 
-    /// Lets the tail of the edge hear of all acknowledgements.
-    pub fn settle(&mut self, edge: usize)
-        requires { edge < (net self.old).edges }
-        ensures { Runs self.old (Settle edge (acked_on (net self.old) (world self.old) edge)) self.new }
+    /// Lets the tail of the edge hear that `word` messages were acknowledged so far.
+    pub fn settle(&mut self, edge: usize, word: u64)
+        requires { May (net self.old) (world self.old) (Settle edge word) }
+        ensures { Runs self.old (Settle edge word) self.new }
     {
         let tail = self.topology.tails[edge];
-        let word = self.acknowledged[edge];
         let _ = self.processes[tail].books.settled(edge as u64, word);
     }
 
@@ -139,7 +117,7 @@ impl Run {
     pub fn is_over(&self) -> bool
         ensures closed { IsTrue result ↔ IsClosed (net self.now) (world self.now) }
         ensures silent { IsTrue result → IsSilent (net self.now) (world self.now) }
-        ensures running { IsRunning self.now }
+        ensures run { IsRun self.now }
     {
         let root = &self.processes[self.topology.root];
         is_over(&root.books, root.passive)

@@ -1,6 +1,5 @@
-use Rattle.std.proofs.Common.{◌≡◌, ◌∷◌, [], ℕ, length, subst, arith, length-append}
-use Rattle.chip_diffusing.specs.Network.{AreAll}
-use Rattle.chip_flooding.proofs.OpeningLemmas.{IsEnd, listed, passed}
+use Rattle.std.proofs.Common.{◌≡◌, ◌∷◌, [], length, arith, length-append}
+use Rattle.chip_flooding.proofs.OpeningLemmas.{listed, passed}
 use Rattle.chip_flooding.proofs.process.edges_at.Goals as goal
 use Rattle.chip_flooding.proofs.process.edges_at.Goals.{then-end-part+in_ok-push, else-end-part}
 
@@ -22,6 +21,5 @@ loop-edge-preserved c =
 
 pub returns-clause-all : goal.returns-clause-all
 returns-clause-all c =
-    let same : c.loop-edge.edge ≡ length c.args.ends.now =
-    (let low = c.loop-edge-test.false in let high = c.loop-edge.auto.edge-end in omega arith) in
-    subst (λ (n : ℕ). AreAll c.loop-edge.edges.items (IsEnd c.args.ends.now c.args.part n)) same c.loop-edge.invariant.all
+    let all : c.loop-edge.edge ≡ length c.args.ends.now =
+    (let past = c.loop-edge-test.false in let high = c.loop-edge.auto.edge-end in omega arith) in rw all at c.loop-edge.invariant.all

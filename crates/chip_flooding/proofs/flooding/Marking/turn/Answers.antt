@@ -1,98 +1,75 @@
-use Rattle.std.proofs.Common.{◌≡◌, ◌<◌, ◌≤◌, Bool, true, false, set, cond, length, sym, subst, arith, ◌∙◌}
-use Rattle.std.proofs.lemmas.List.{get_or_read}
+use Rattle.std.proofs.Common.{◌≡◌, ◌<◌, ◌≤◌, ◌-◌, ℕ, Bool, true, false, nat_lt, get_or, set, cond, sym, ap, arith, ◌∙◌}
 use Rattle.std.proofs.lemmas.Bool.Decides.{nat_tests}
-use mathlib.Core.Logic.{dite}
-use native.Mathlib.Decide.{ℕ_discrete}
-use Rattle.chip_detect.specs.Acknowledging.{may_ack}
-use Rattle.chip_diffusing.specs.Computation.{Settle, Work, acked_on, in_flight}
-use Rattle.chip_flooding.specs.Running.{Topology, network_of, net, world}
-use Rattle.chip_flooding.specs.Flooding.{IsFlooding, unfinished}
+use Rattle.std.proofs.lemmas.List.{get_or_read, set-get_or}
+use Rattle.std.proofs.lemmas.List.Sums.{sum_by-set}
+use Rattle.chip_flooding.specs.Running.{net, world}
+use Rattle.chip_flooding.specs.Flooding.{is_marked, IsFlooding}
 use Rattle.chip_flooding.proofs.RunLemmas.{head_at}
-use Rattle.chip_flooding.proofs.FloodLemmas.{gets, rests, answers, no_more, less_after_get, less_after_ack}
+use Rattle.chip_flooding.proofs.FloodLemmas.{gets, rests, answers, one_due}
 use Rattle.chip_flooding.proofs.flooding.Marking.turn.Goals as goal
-use Rattle.chip_flooding.proofs.flooding.Marking.turn.Goals.{After-get, After-rest, then-is_first, else-is_first}
+use Rattle.chip_flooding.proofs.flooding.Marking.turn.Goals.{After-index, After-index-2}
 
-pub returns-then-in_flight-eq0-clause-flooded : goal.returns-then-in_flight-eq0-clause-flooded
-returns-then-in_flight-eq0-clause-flooded c =
-    let s = c.args.self.now in
-    rw (c.settle.ensures.topology, c.acknowledge.ensures.topology) (answers (net s.run) (world s.run) (world c.settle.new.self)
-    s.marked.items (world c.acknowledge.new.self) c.args.edge _ c.requires.flooded c.acknowledge.ensures.happens
-    (rw c.acknowledge.ensures.topology at c.settle.ensures.happens))
+-- what is done on the edge, and whether its head was marked, as they are read
+is_done : (c : After-index) → c.index.result.now ≡ get_or c.args.self.now.done.items c.args.edge 0
+is_done c = let all = c.requires.flooded.marks.all_done in let l = c.requires.edge in
+    get_or_read c.args.self.now.done.items c.args.edge _ (omega arith) c.index.ensures 0
 
-pub returns-then-in_flight-eq0-clause-less : goal.returns-then-in_flight-eq0-clause-less
-returns-then-in_flight-eq0-clause-less c =
-    let run = c.args.self.now.run in
-    let head = world run ((net run).head c.args.edge) in
-    let some : 0 < may_ack head.books c.args.edge head.passive = dite (ℕ_discrete (may_ack head.books c.args.edge head.passive) 0)
-    (λ none. absurd (c.requires.due record {
-      delivered = (let on = c.if-in_flight-eq0.true in let is = c.in_flight.ensures in omega arith);
-      answered = none;
-    })) (λ some. omega arith) in
-    let less = less_after_ack run c.acknowledge.new.self c.args.edge c.requires.edge some c.acknowledge.ensures in
-    let more = no_more c.acknowledge.new.self c.settle.new.self (Settle c.args.edge
-    (acked_on (net c.acknowledge.new.self) (world c.acknowledge.new.self) c.args.edge)) tt c.settle.ensures in omega arith
+head : (c : After-index-2) → let n = net c.args.self.now.run in
+    (c.index-head.result.now ≡ n.head c.args.edge) × (c.index-head.result.now < n.parts)
+head c =
+    let t = rw c.topology.ensures.same at c.topology.ensures.topology in
+    let at = head_at t c.args.edge _ c.requires.edge (rw c.topology.ensures.same at c.index-head.ensures) in
+    let part = t.network.heads c.args.edge c.requires.edge in (at, omega arith)
 
--- the part that gets the message
-head : (c : After-get) → let n = net c.args.self.now.run in (c.index-head.result.now ≡ n.head c.args.edge) × (c.index-head.result.now < n.parts)
-head c = let t = c.topology.ensures in
-    subst (λ (t : Topology). c.args.edge < length t.tails.items → (c.index-head.result.now ≡ (network_of t).head c.args.edge)
-    × (c.index-head.result.now < t.parts)) t.same
-    (λ l. let at = head_at t.topology c.args.edge _ l c.index-head.ensures in
-    let part = t.topology.network.heads c.args.edge l in (at, omega arith)) c.requires.edge
+was_marked : (c : After-index-2) → c.index-2.result.now ≡ is_marked c.args.self.now.marked.items c.index-head.result.now
+was_marked c = let all = c.requires.flooded.marks.count_is in let part = (head c).1 in
+    get_or_read c.args.self.now.marked.items c.index-head.result.now _ (omega arith) c.index-2.ensures false
 
-some : (c : After-get) → 0 < in_flight (net c.args.self.now.run) (world c.args.self.now.run) c.args.edge
-some c = let off = c.if-in_flight-eq0.false in let is = c.in_flight.ensures in omega arith
+-- it acknowledges
+pub returns-then-index-gt0-clause-flooded : goal.returns-then-index-gt0-clause-flooded
+returns-then-index-gt0-clause-flooded c =
+    let m = c.args.self.now in
+    let acks = c.acknowledge-count.ensures.runs in
+    let is = is_done (goal.at.returns-then-index-gt0-clause-flooded c).After-index in
+    let got : nat_lt 0 (get_or m.done.items c.args.edge 0) ≡ true = (let some = c.if-index-gt0.true in grind (arith, nat_tests)) in
+    let one = one_due m c.args.edge c.requires.edge c.requires.flooded (rw got at c.requires.due) in
+    rw (c.settle.ensures.topology, acks.topology) (answers (net m.run) (world m.run) (world c.settle.new.self) m.marked.items m.done.items
+    (world c.acknowledge-count.new.self) c.args.edge _ c.requires.edge got one.1 (c.acknowledge-count.ensures.count ∙ one.0)
+    c.requires.flooded acks.happens (rw acks.topology at c.settle.ensures.happens))
 
-gotten : (c : After-get) (was_marked : Bool) → c.index.result.now ≡ was_marked
-    → IsFlooding (net c.get.new.self) (world c.get.new.self) (set c.args.self.now.marked.items c.index-head.result.now true)
-    c.index-head.result.now (cond was_marked (net c.get.new.self).edges 0)
-gotten c was_marked is =
-    let s = c.args.self.now in
-    let all = c.requires.flooded.count_is in
-    let h = head c in
-    let part = h.1 in
-    rw c.get.ensures.runs.topology (gets (net s.run) (world s.run) (world c.get.new.self) s.marked.items c.args.edge c.index-head.result.now
-    c.requires.edge h.0 part (some c) c.requires.flooded c.get.ensures.runs.happens was_marked
-    (sym (get_or_read s.marked.items c.index-head.result.now _ (omega arith) c.index.ensures false) ∙ is))
+pub returns-then-index-gt0-clause-less : goal.returns-then-index-gt0-clause-less
+returns-then-index-gt0-clause-less c =
+    let m = c.args.self.now in
+    let is = is_done (goal.at.returns-then-index-gt0-clause-less c).After-index in
+    let got : nat_lt 0 (get_or m.done.items c.args.edge 0) ≡ true = (let some = c.if-index-gt0.true in grind (arith, nat_tests)) in
+    let one = one_due m c.args.edge c.requires.edge c.requires.flooded (rw got at c.requires.due) in
+    let few : get_or m.done.items c.args.edge 0 ≤ 1 = (let not = one.1 in grind (arith, nat_tests)) in
+    let all = c.requires.flooded.marks.all_done in let l = c.requires.edge in
+    let sum = sum_by-set (λ (n : ℕ). 2 - n) m.done.items c.args.edge 2 0 (omega arith) in omega arith
 
-pub spread-requires-clause-flooding : goal.spread-requires-clause-flooding
-spread-requires-clause-flooding c = let first = c.if-is_first.true in
-    gotten (goal.at.spread-requires-clause-flooding c).After-get false (grind (arith, nat_tests))
+-- it gets a message
+gotten : (c : After-index-2) → get_or c.args.self.now.done.items c.args.edge 0 ≡ 0 → (was : Bool) → c.index-2.result.now ≡ was
+    → let m = c.args.self.now in let p = c.index-head.result.now in IsFlooding (net m.run) (world c.get.new.self) (set m.marked.items p true)
+    (set m.done.items c.args.edge 1) p (cond was (net m.run).edges 0)
+gotten c none was is = let m = c.args.self.now in let due = rw none at c.requires.due in
+    gets (net m.run) (world m.run) (world c.get.new.self) m.marked.items m.done.items c.args.edge c.index-head.result.now
+    c.requires.edge (head c).0 (head c).1 (grind (arith, nat_tests)) none c.requires.flooded c.get.ensures.runs.happens was
+    (sym (was_marked c) ∙ is)
 
--- the head has spread the message, if it was the first
-spread : (c : After-rest) → (c.index.result.now ≡ true → IsFlooding (net c.get.new.self) (world c.get.new.self)
-    (set c.args.self.now.marked.items c.index-head.result.now true) c.index-head.result.now (net c.get.new.self).edges)
-    → let run = c.if-is_first.self.run in (run.topology ≡ c.args.self.now.run.topology)
-    × IsFlooding (net run) (world run) c.if-is_first.self.marked.items c.index-head.result.now (net run).edges
-    × (unfinished run ≤ unfinished c.get.new.self)
-spread c later = elim c.if-is_first.branch [
-  | then-is_first w ↦ rw w.self-is (
-    w.spread.ensures.topology ∙ c.get.ensures.runs.topology,
-    w.spread.ensures.flooding,
-    w.spread.ensures.unfinished,
-  )
-  | else-is_first w ↦ rw w.self-is (
-    c.get.ensures.runs.topology,
-    later (let first = w.if-is_first.false in grind (arith, nat_tests)),
-    omega arith,
-  )
-]
+pub returns-then-index-clause-flooded : goal.returns-then-index-clause-flooded
+returns-then-index-clause-flooded c =
+    let g = goal.at.returns-then-index-clause-flooded c in
+    let m = c.args.self.now in
+    let p = c.index-head.result.now in
+    let gets = c.get.ensures.runs in
+    let here = c.rest.ensures.runs in
+    let is = sym (was_marked g.After-index-2) ∙ c.if-index.true in
+    let again : set m.marked.items p true ≡ m.marked.items = ap (set m.marked.items p) (sym is) ∙ set-get_or m.marked.items p false in
+    rw (here.topology, gets.topology) (rw again at (rests (net m.run) (world c.get.new.self) (world c.rest.new.self)
+    (set m.marked.items p true) (set m.done.items c.args.edge 1) p (net m.run).edges (omega arith)
+    (gotten g.After-index-2 (let is = is_done g.After-index in let no = c.if-index-gt0.false in omega arith) true c.if-index.true)
+    (rw gets.topology at here.happens) c.rest.ensures.passive))
 
-pub returns-clause-flooded : goal.returns-clause-flooded
-returns-clause-flooded c =
-    let g = goal.at.returns-clause-flooded c in
-    let d = spread g.After-rest (gotten g.After-get true) in
-    let run = c.if-is_first.self.run in
-    let part = (head g.After-get).1 in
-    rw c.rest.ensures.runs.topology (rests (net run) (world run) (world c.rest.new.self) c.if-is_first.self.marked.items
-    c.index-head.result.now (rw d.0 part) d.1 c.rest.ensures.runs.happens c.rest.ensures.passive)
-
-pub returns-clause-less : goal.returns-clause-less
-returns-clause-less c =
-    let g = goal.at.returns-clause-less c in
-    let d = spread g.After-rest (gotten g.After-get true) in
-    let s = c.args.self.now in
-    let first = less_after_get s.run c.get.new.self s.marked.items c.args.edge c.requires.edge (some g.After-get) c.requires.flooded
-    c.get.ensures.runs in
-    let then = d.2 in
-    let last = no_more c.if-is_first.self.run c.rest.new.self (Work c.index-head.result.now) tt c.rest.ensures.runs in omega arith
+pub start-requires-clause-flooding : goal.start-requires-clause-flooding
+start-requires-clause-flooding c = let g = goal.at.start-requires-clause-flooding c in rw c.get.ensures.runs.topology
+    (gotten g.After-index-2 (let is = is_done g.After-index in let no = c.if-index-gt0.false in omega arith) false c.if-index.false)

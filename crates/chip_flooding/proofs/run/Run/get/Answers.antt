@@ -1,6 +1,5 @@
-use Rattle.std.proofs.Common.{ℕ, ◌-◌, set, ap, refl}
 use Rattle.chip_diffusing.specs.Computation.{Get}
-use Rattle.chip_flooding.proofs.RunLemmas.{Acting, acts, callable, runs, goes_on, head_at, flight_at}
+use Rattle.chip_flooding.proofs.RunLemmas.{Acting, acts, callable, runs, goes_on, head_at}
 use Rattle.chip_flooding.proofs.run.Run.get.Goals as goal
 use Rattle.chip_flooding.proofs.run.Run.get.Goals.{After-index_mut-process}
 
@@ -16,9 +15,7 @@ pub got-requires-clause-room : goal.got-requires-clause-room
 got-requires-clause-room c = (callable (acting (goal.at.got-requires-clause-room c).After-index_mut-process)).1
 
 pub invariant_of-self : goal.invariant_of-self
-invariant_of-self c = let a = acting (goal.at.invariant_of-self c).After-index_mut-process in
-    goes_on a _ c.got.ensures.gets tt _ _ (ap (λ (n : ℕ). set c.self.inside.in_flight.items c.args.edge (n - 1))
-    (flight_at a.is c.args.edge _ a.may.0 c.index_mut.ensures.value)) refl
+invariant_of-self c = goes_on (acting (goal.at.invariant_of-self c).After-index_mut-process) _ c.got.ensures.gets tt
 
 pub returns-clause-runs : goal.returns-clause-runs
 returns-clause-runs c =

@@ -7,4 +7,4 @@ pub invariant_of-self : goal.invariant_of-self
 invariant_of-self c =
     let part = rw (← c.self.view_is) at c.requires in
     let a : Acting c.self.inside (Work c.args.part) c.args.part c.index_mut.result.now =
-    acts c.self.invariant part refl c.index_mut.ensures.value in goes_on a _ refl (λ _. refl) _ _ refl refl
+    acts c.self.invariant part refl c.index_mut.ensures.value in goes_on a _ refl (λ _. refl)

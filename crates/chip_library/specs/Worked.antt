@@ -1,16 +1,25 @@
--- Lists, rows and drops worked out by hand.
-use Rattle.std.specs.Prelude.{◌≡◌, List, [], ◌∷◌}
+-- Lists, rows, drops and books worked out by hand.
+use Rattle.std.specs.Prelude.{◌≡◌, ℕ, true, false, List, [], ◌∷◌, Some, None}
+use Rattle.chip_detect.specs.Books.{Books, deficit}
+use Rattle.chip_detect.specs.Acknowledging.{may_ack}
+use Rattle.chip_detect.specs.Steps.{Acked}
 use Rattle.chip_graph.specs.Worked.{triangle}
 use Rattle.chip_library.specs.EdgeLists.{edges_below}
 use Rattle.chip_library.specs.Batch.{row}
 use Rattle.chip_library.specs.Drops.{Told, drops_of, AreOn, AreTold}
+use Rattle.chip_library.specs.declared.detector.BooksFault.TheVariants.{NotYet}
+use Rattle.chip_library.specs.PartBooks.{number_of, neutral, parent_of, books_of, IsRefusal}
 
 -- 1 chip on vertex 0 lets two vertices fire, and then 4 chips there let these fire 4 times
 abbrev pub two_drops : List Told
 two_drops = ((0, 1), record { size = 2; extent = 2; lost = 2 }) ∷ ((0, 4), record { size = 4; extent = 2; lost = 4 }) ∷ []
 
--- the edges of the triangle stand in three lists; of two games on it the second begins with the later three numbers; and
--- the two drops stand in five columns
+-- the books of a part that got two messages on edge 0, which engaged it, and acknowledged one of them, by its parent word
+abbrev pub books : ℕ → Books
+books parent = books_of (record { edge = 0; messages = 2; answered = 1 } ∷ []) [] parent
+
+-- the edges of the triangle stand in three lists; of two games on it the second begins with the later three numbers; the
+-- two drops stand in five columns; and a part acknowledges the message that engaged it only when it is passive
 pub record WorkedCalls : Type 0 where
   pub edges : edges_below (0 ∷ 0 ∷ 1 ∷ 1 ∷ []) (1 ∷ 2 ∷ 0 ∷ 2 ∷ []) (1 ∷ 1 ∷ 1 ∷ 1 ∷ []) 4 ≡ triangle.edges
   pub first_row : row 3 (4 ∷ 0 ∷ 0 ∷ 3 ∷ 0 ∷ 1 ∷ []) 0 ≡ 4 ∷ 0 ∷ 0 ∷ []
@@ -19,3 +28,10 @@ pub record WorkedCalls : Type 0 where
   pub drops : drops_of two_drops ≡ (0, 1) ∷ (0, 4) ∷ []
   pub on : AreOn two_drops (0 ∷ 0 ∷ []) (1 ∷ 4 ∷ [])
   pub told : AreTold two_drops (2 ∷ 4 ∷ []) (2 ∷ 2 ∷ []) (2 ∷ 4 ∷ [])
+  pub no_parent : parent_of neutral ≡ None
+  pub parent : (books 0).parent ≡ Some 0
+  pub waits : deficit (books 0) ≡ 0
+  pub at_rest : may_ack (books 0) 0 true ≡ 1
+  pub at_work : may_ack (books 0) 0 false ≡ 0
+  pub refused : IsRefusal (books 0) false (Acked 0 1) NotYet
+  pub number : number_of NotYet ≡ 47

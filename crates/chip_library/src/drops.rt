@@ -1,7 +1,6 @@
 //! Chips dropped on a game, one drop after another.
 
-ghost use Rattle.std.specs.Prelude.{◌≡◌, ◌⊎◌, ◌+◌, ◌++◌, ◌∷◌, [], List, length, sum, slice_index, IfOk, OnOk, MatchResult};
-ghost use Rattle.std.specs.Prelude.{◌↔◌, IsTrue};
+ghost use Rattle.std.specs.Prelude.{◌≡◌, ◌↔◌, ◌⊎◌, ◌+◌, ◌++◌, ◌∷◌, [], List, length, sum, slice_index, IsTrue, IfOk, OnOk, MatchResult};
 ghost use Rattle.chip_graph.specs.Limits.{max_total};
 ghost use Rattle.chip_graph.specs.Multigraph.{IsGraph};
 ghost use Rattle.chip_sequence.specs.Counted.{game_from};

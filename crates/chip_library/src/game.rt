@@ -22,8 +22,5 @@ pub(crate) fn game_of(
         (IsFaultOfGame (game_from graph chips.now limit) number) }
 {
     let start = Vec::from_slice(alloc, chips)?;
-    match Game::new(graph, start, limit) {
-        Ok(game) => Ok(game),
-        Err(fault) => Err(CallFault::Game(fault, number)),
-    }
+    Game::new(graph, start, limit).map_err(|fault| CallFault::Game(fault, number))
 }

@@ -8,6 +8,7 @@ from __future__ import annotations
 
 import copy
 import enum
+import operator
 from collections.abc import Callable, Iterator
 from fractions import Fraction
 from types import FunctionType, MethodType
@@ -65,7 +66,7 @@ class States:
         self.good = [(part, name, getattr(part, name)) for part in self.parts for name in getattr(part, "HELD", ())]
         self.kept: dict[int, Any] = {id(part): index for index, part in enumerate(self.parts)}
         self.kept |= {id(value): name for part, name, value in self.good if part is core}
-        self.same = {id(part): part for part in [*self.parts, *(value for _, _, value in self.good)]}
+        self.same = {id(it): it for it in [*self.parts, *(value for part, _, value in self.good if part is core)]}
         #: Of each part the numbers of its values; and by number the values that cannot be changed, the others, and
         #: whether they are those of the start.
         self.numbers: list[dict[Any, int]] = like.numbers if like else [{} for _ in self.parts]
@@ -107,20 +108,22 @@ class States:
                 return numbers[key]
         except TypeError:
             self.readers[index] = numbers.get, ()
-        said = {name: self._frozen(part, name, value) for name, value in values.items()}
-        plain = {name: value for name, value in values.items() if said[name] is value}
-        moving = {name: value for name, value in values.items() if name not in plain}
-        if moving:
+        said = self._frozen(part, values)
+        if not all(map(operator.is_, said.values(), values.values())):
             key = "attributes", frozenset(said.items())
         if key not in numbers:
+            plain = {name: value for name, value in values.items() if said[name] is value}
+            moving = {name: value for name, value in values.items() if name not in plain}
             numbers[key] = len(self.values[index])
             self.values[index].append((plain, self._copied(moving), is_usual))
         return numbers[key]
 
-    def _frozen(self, part: Any, name: str, value: Any) -> Any:
+    def _frozen(self, part: Any, values: dict[str, Any]) -> dict[str, Any]:
+        said = {}
         try:
-            said = frozen(value, self.kept.get)
-            hash(said)
+            for name, value in values.items():
+                said[name] = frozen(value, self.kept.get)
+                hash(said[name])
         except (TypeError, RecursionError):
             raise ValueError(
                 f"{type(part).__name__}.{name}, of type {type(value).__name__}, cannot be compared, so no state can be "

@@ -119,7 +119,7 @@ class States:
         return numbers[key]
 
     def _frozen(self, part: Any, values: dict[str, Any]) -> dict[str, Any]:
-        said = {}
+        said: dict[str, Any] = {}
         try:
             for name, value in values.items():
                 said[name] = frozen(value, self.kept.get)

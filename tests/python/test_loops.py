@@ -21,9 +21,14 @@ def table(edges):
     return dict(zip(("source", "target", "weight"), zip(*edges)))
 
 
+def loop_free():
+    """All directed multigraphs of up to 3 vertices, up to numbers: the sink is in the middle."""
+    return [graph for graph in directed_graphs() if graph.sink == graph.vertices // 2]
+
+
 def looped():
-    """All directed multigraphs of up to 3 vertices, each with one loop or two: their rows, and those of the package."""
-    for graph in directed_graphs():
+    """The same with one loop or two: their rows, and the graph of the package."""
+    for graph in loop_free():
         for loops in itertools.product(range(3), repeat=graph.vertices):
             if sum(loops) in (1, 2):
                 edges = [*graph.edges, *((at, at, count) for at, count in enumerate(loops) if count)]
@@ -33,7 +38,7 @@ def looped():
 
 def some(step):
     """Each of so many of them; fewer if each play starts a program, which takes long."""
-    return itertools.islice(looped(), 0, None, step if chipfire.find_library() else 60 * step)
+    return itertools.islice(looped(), 0, None, step if chipfire.find_library() else 20 * step)
 
 
 def around(plain, below, above):
@@ -54,7 +59,7 @@ def summed(plain, first, second):
 class Words(unittest.TestCase):
     def test_there_are_all_graphs(self):
         # (each of the graphs of n vertices has a loop at one of them, or two, or one at two of them)
-        counts = [sum(graph.vertices == n for graph in directed_graphs()) for n in (1, 2, 3)]
+        counts = [sum(graph.vertices == n for graph in loop_free()) for n in (1, 2, 3)]
         self.assertEqual(sum(1 for _ in looped()), sum(n * count for n, count in zip((2, 5, 9), counts)))
 
     def test_stable_recurrent_and_superstable(self):

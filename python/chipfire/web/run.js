@@ -601,13 +601,14 @@ function eventWords(step) {
 
 // --- The space-time diagram: a column for each part, time goes down
 
+const UNSAID = ["take", "ack", "clear", "claim", "put", "settle", "read", "feed", "end"];
 const SPACE = { column: 120, row: 30, head: 40, above: 13, below: 5, most: 12, words: 13 };
 // The part that makes an event.
 function partOf({ kind, at: place }) {
-    if (kind === "fire" || kind === "halt" || kind === "work") return place;
     if (kind === "take" || kind === "ack") return run.edges[place]?.[1] ?? null;
     if (kind === "read" || kind === "end") return null;
-    return run.edges[place]?.[0] ?? null;
+    if (["clear", "claim", "put", "settle", "seal", "feed"].includes(kind)) return run.edges[place]?.[0] ?? null;
+    return place < run.names.length ? place : null;
 }
 let story = tellStory();
 
@@ -727,7 +728,7 @@ function arrowOf({ edge, from, to, chips }, kind, tail, head, { x, row, columns,
 function dotOf(step, { x, row }) {
     const { kind, done, note } = run.steps[step - 1];
     const centre = { x: x(partOf(run.steps[step - 1])), y: row(step) };
-    const said = done ? (["fire", "halt", "seal", "work"].includes(kind) ? kind : "") : `${kind}: refused`;
+    const said = done ? (UNSAID.includes(kind) ? "" : kind) : `${kind}: refused`;
     const dot = shape("circle", { cx: centre.x, cy: centre.y, r: 5 });
     const label = word(said, centre.x + 12, centre.y, SPACE.words, "said");
     const title = shape("title", {}, `${step}. ${eventWords(step)}${note ? ` ${note}` : ""}`);

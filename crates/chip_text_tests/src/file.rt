@@ -4,9 +4,9 @@ ghost use Rattle.chip_file.specs.Source.{IsFresh};
 
 use chip_file::{
     FileFault, LastRead, Source, chips_of_source, chips_of_text, drops_of_text, graph_of_source,
-    graph_of_text, guess_of_text, log_of_source, read_chips, read_chips_within, read_graph, read_graph_within,
-    read_schedule_within, read_source, read_trace_within, read_whole, read_whole_within,
-    schedule_of_source, schedule_of_text, trace_of_source, trace_of_text,
+    graph_of_text, guess_of_text, log_of_source, read_chips, read_chips_within, read_graph,
+    read_graph_within, read_schedule_within, read_source, read_trace_within, read_whole,
+    read_whole_within, schedule_of_source, schedule_of_text, trace_of_source, trace_of_text,
 };
 use chip_graph::{Edge, Graph, GraphFault, Limits};
 use std::alloc::{AllocError, Global};

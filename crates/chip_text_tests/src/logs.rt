@@ -24,7 +24,8 @@ fn stream(channel: u32, is_control: bool) -> Stream {
 }
 
 /// Process 0 gives process 2 work, and says that all is over once it heard that the work is done.
-const WORK: &str = "process,kind,channel\n0,active,7\n0,send,3\n2,receive,3\n0,passive,18446744073709551615\n\
+const WORK: &str =
+    "process,kind,channel\n0,active,7\n0,send,3\n2,receive,3\n0,passive,18446744073709551615\n\
 2,passive,7\n2,tell,4\n0,hear,4\n0,over,7\n";
 
 #[test]

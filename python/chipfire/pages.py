@@ -42,9 +42,9 @@ def page(
 ) -> None:
     """Writes a page on which a run can be watched, event by event.
 
-    simulation  what `simulate` or `recorded` answered; the program is asked once more, with books, and with the events
-                of the rounds spelled out, if rounds of turns followed the schedule; or what `play` answered, for which
-                nothing is asked
+    simulation  what `simulate` or `recorded` answered, of at most 10,000 rows; the program is asked once more, with
+                books, and with the events of the rounds spelled out, if rounds of turns followed the schedule; or what
+                `play` answered, for which nothing is asked
     positions   where the vertices stand, by names: (to the right, down); else a grid is drawn as one, and other graphs
                 by the distances of their vertices, the same graph always alike
     program     the program to ask, if not the one that is found

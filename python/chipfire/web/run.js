@@ -505,12 +505,12 @@ function layOut() {
     if (byId("picture").dataset.view === "diagram") return;
     const unit = nearest([...run.places.vertices, run.places.root]);
     const tries = APART.flatMap((apart) => (run.mayTurn ? [false, true] : [false]).map((turned) => [turned, apart / unit]));
-    let best = null;
-    for (const [turned, apart] of isSmall ? tries : tries.slice(0, 1)) {
+    let best = { letters: 0, turned: false, apart: APART[0] / unit };
+    for (const [turned, apart] of isSmall ? tries : []) {
         [isTurned, scale] = [turned, apart];
         first.draw();
         const letters = first.letters();
-        if (best === null || letters > best.letters + 0.1) best = { letters, turned, apart };
+        if (letters > best.letters + 0.1) best = { letters, turned, apart };
         if (letters >= LEGIBLE + (isNarrow() || apart * unit < APART[0] ? 0.1 : 2)) break;
     }
     [isTurned, scale] = [best.turned, best.apart];
@@ -696,7 +696,7 @@ function bandOf({ vertex, from, to }, { x, row, bottom, now }) {
 }
 
 // A message, or an acknowledgement, from one part to another. What is still on its way now ends in a box or a point.
-function arrowOf({ edge, from, to, chips }, kind, tail, head, { x, row, columns, end, now }) {
+function arrowOf({ from, to, chips }, kind, tail, head, { x, row, columns, end, now }) {
     const isMessage = kind === "messages";
     const hasArrived = to !== undefined && stopOf(to) <= end;
     const start = { x: x(tail), y: Math.max(row(from), SPACE.head) };
@@ -714,15 +714,14 @@ function arrowOf({ edge, from, to, chips }, kind, tail, head, { x, row, columns,
         shape("line", { x1: a.x, y1: a.y, x2: b.x, y2: b.y, class: "line" }),
         shape("path", { d: arrowAt(b, a, 11), class: "arrow" }));
     const middle = { x: (start.x + stop.x) / 2, y: (start.y + stop.y) / 2 - 8 };
-    const made = isOnWay ? [...(hasArrived ? [line(here, stop, true)] : []), line(start, here, false)] : [line(start, stop, isLater)];
-    if (isMessage && isOnWay) made.push(boxOf("flight", chips.toLocaleString("en"), null, here.x, here.y, textWidth(chips, size.box)));
-    else if (isMessage) made.push(shape("g", { class: laterIf(isLater) }, word(chips, middle.x, middle.y, SPACE.words, "number")));
-    if (other !== null) {
-        const cut = other === head ? stop : start;
-        const said = `${other === head ? "to" : "from"} ${other === null ? "root" : run.names[other]}`;
-        made.push(word(said, cut.x + 6, cut.y, SPACE.words, "said"));
-    }
-    return made.map((it) => filled(it, { "data-edge": edge }, []));
+    const made = isOnWay ? [line(start, here, false)] : [line(start, stop, isLater)];
+    if (isOnWay && hasArrived) made.unshift(line(here, stop, true));
+    const text = isMessage ? chips.toLocaleString("en") : "";
+    const label = word(text, middle.x, middle.y, SPACE.words, `number${laterIf(isLater)}`);
+    made.push(isMessage && isOnWay ? boxOf("flight", text, null, here.x, here.y, textWidth(text, size.box)) : label);
+    const cut = other === head ? stop : start;
+    const said = `${other === head ? "to" : "from"} ${run.names[other]}`;
+    return other === null ? made : [...made, word(said, cut.x + 6, cut.y, SPACE.words, "said")];
 }
 
 function dotOf(step, { x, row }) {

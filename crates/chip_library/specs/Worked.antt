@@ -8,7 +8,7 @@ use Rattle.chip_library.specs.EdgeLists.{edges_below}
 use Rattle.chip_library.specs.Batch.{row}
 use Rattle.chip_library.specs.Drops.{Told, drops_of, AreOn, AreTold}
 use Rattle.chip_library.specs.declared.detector.BooksFault.TheVariants.{NotYet}
-use Rattle.chip_library.specs.PartBooks.{number_of, neutral, parent_of, books_of, IsRefusal}
+use Rattle.chip_library.specs.PartBooks.{books_fault_number, neutral, parent_of, books_of, IsRefusal}
 
 -- 1 chip on vertex 0 lets two vertices fire, and then 4 chips there let these fire 4 times
 abbrev pub two_drops : List Told
@@ -34,4 +34,4 @@ pub record WorkedCalls : Type 0 where
   pub at_rest : may_ack (books 0) 0 true ≡ 1
   pub at_work : may_ack (books 0) 0 false ≡ 0
   pub refused : IsRefusal (books 0) false (Acked 0 1) NotYet
-  pub number : number_of NotYet ≡ 47
+  pub number : books_fault_number NotYet ≡ 47

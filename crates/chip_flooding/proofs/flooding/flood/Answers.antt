@@ -1,7 +1,7 @@
 use Rattle.std.proofs.Common.{◌≡◌, ℕ, Option, length, replicate, is_some, ap, ⊎_elim, arith}
-use Rattle.chip_diffusing.proofs.KeptLemmas.{cases_parent}
 use Rattle.chip_flooding.proofs.FloodLemmas.{starts, idle_is_closed, marks_reached}
 use Rattle.chip_flooding.proofs.flooding.flood.Goals as goal
+use Rattle.chip_detect.proofs.ListLemmas.{cases_option}
 
 pub start-requires-clause-flooding : goal.start-requires-clause-flooding
 start-requires-clause-flooding c =
@@ -17,7 +17,7 @@ unwrap-edge-requires c =
     ⊎_elim (λ none. let closed = idle_is_closed c.loop-marking.marking c.is_over.ensures.run c.loop-marking.invariant.flooded
     (c.due_edge.ensures.none none) in
     let told = c.is_over.ensures.closed.1 closed in let not = c.loop-marking-test.true in absurd (cc))
-    (λ some. ap (λ (o : Option ℕ). is_some o) some.1) (cases_parent c.due_edge.result)
+    (λ some. ap (λ (o : Option ℕ). is_some o) some.1) (cases_option c.due_edge.result)
 
 pub turn-requires-clause-edge : goal.turn-requires-clause-edge
 turn-requires-clause-edge c = (c.due_edge.ensures.due c.unwrap-edge.result c.unwrap-edge.ensures).0

@@ -41,7 +41,7 @@ class Helps(unittest.TestCase):
         self.assertEqual(words("check"), ["--help", "--large", "-h"])
         self.assertEqual(words(""), ["--help", "--version", "-V", "-h"])
         self.assertEqual(commands(), [
-            "check", "plain", "avalanches", "run", "simulate", "replay", "resume", "verify", "explain"])
+            "check", "plain", "avalanches", "run", "simulate", "replay", "resume", "verify", "judge", "explain"])
 
 
 class Manual(unittest.TestCase):

@@ -30,7 +30,7 @@ TOLD = {
     "avalanches graph.json chips.csv short.csv":
         ("24 Row 0", ["in short.csv: row 0, which is line 2 if no line is empty", "fault 24 Row i: row i has not as many fields as the header"]),
     "plain graph.json beyond.csv":
-        ("26 Vertex 2", ["in beyond.csv: row 2, which is line 4 if no line is empty", "fault 26 Vertex i: row i names a vertex or an edge that does not exist"]),
+        ("26 Vertex 2", ["in beyond.csv: row 2, which is line 4 if no line is empty", "fault 26 Vertex i: row i names a vertex, an edge, a process or a channel that does not exist"]),
     "plain graph.json chips.csv --guess twice.csv":
         ("27 Repeated 2", ["in twice.csv: row 2, which is line 4 if no line is empty", "fault 27 Repeated i: row i names a vertex that an earlier row named"]),
     "plain graph.json .": ("29 Read", ["in .", "fault 29 Read: a file could be opened, but not read"]),
@@ -46,7 +46,7 @@ TOLD = {
     "simulate graph.json chips.csv early.csv":
         ("28 Kind 1", ["in early.csv: row 1, which is line 3 if no line is empty", "fault 28 Kind i: row i has an unknown kind"]),
     "replay graph.json none.csv trace.csv":
-        ("70 Stuck 0 0", ["in trace.csv", "fault 70 Stuck v i: the rows of a trace fit together in no order"]),
+        ("70 Stuck 0 0", ["in trace.csv", "fault 70 Stuck v i: the rows of a trace or a log fit together in no order"]),
     "resume graph.json report.json":
         ("52 Mismatch", ["in report.json", "fault 52 Mismatch: the report has another number of vertices than the graph"]),
     "verify graph.json chips.csv played.json":

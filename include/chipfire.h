@@ -120,7 +120,7 @@ uint64_t chipfire_verify(uint64_t vertices, uint64_t sink,
  *     47      so many messages may not be acknowledged yet
  *
  * A call that answers 0 keeps sound books sound. Of others nothing is promised, but it touches no memory except theirs.
- * chipfire_books_check tells which are sound; the other calls look at one edge, and at all only where they must add up.
+ * chipfire_books_check tells which are sound; the other calls look at one edge, and at all only if they must add up.
  *
  * The caller sees to this too, which no call can check:
  *
@@ -149,12 +149,12 @@ uint64_t chipfire_may_ack(const struct chipfire_tally *ins, size_t ins_len,
                           const struct chipfire_tally *outs, size_t outs_len,
                           uint64_t parent, uint64_t edge, uint64_t passive, uint64_t *count);
 
-/* Notes that so many messages of the edge are acknowledged, at most as many as chipfire_may_ack writes. */
+/* Notes that count messages of the edge are acknowledged, at most as many as chipfire_may_ack writes. */
 uint64_t chipfire_acked(struct chipfire_tally *ins, size_t ins_len,
                         const struct chipfire_tally *outs, size_t outs_len,
                         uint64_t *parent, uint64_t edge, uint64_t passive, uint64_t count);
 
-/* Notes that the edge's head has acknowledged so many messages from the beginning on, as it says now or said before, and
+/* Notes that the edge's head has acknowledged word messages from the beginning on, as it says now or said before, and
  * writes how many of these are new. */
 uint64_t chipfire_settled(struct chipfire_tally *outs, size_t outs_len, uint64_t edge, uint64_t word, uint64_t *more);
 

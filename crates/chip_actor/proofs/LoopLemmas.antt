@@ -73,7 +73,7 @@ in_in_books {a} {is} {index} {edge} here = subst (λ (xs : List ℕ). IsSlotOf x
 
 -- ---- settles
 
--- where nothing is new the books are as they were
+-- if nothing is new the books are as they were
 settles_none : (b : Books) (e : ℕ) → Settles b b e 0
 settles_none b e = record {
   ins = refl;
@@ -115,7 +115,7 @@ module _ {a : Actor} {os : OutEnds} {index edge : ℕ} {end : OutEnd} (here : Fo
     settle_moves {more} {b} is change sound =
         moves_one settle_due serves (settle_made a edge seen more b is change sound) refl
 
--- what is settled counts where it is something new
+-- what is settled counts if it is something new
 pub counts_more : (n work : ℕ) → 0 < n → work + 1 ≡ work + one_if (ltb 0 n)
 counts_more n work some = ap (λ (b : Bool). work + one_if b) (sym (lt-ltb 0 n some))
 

@@ -99,7 +99,7 @@ pub over_then : {H K L : Holding} {a b c : Actor} {x y z : Cursor} {n : ℕ} →
 over_then {H} {K} {L} {a} {b} {c} {x} {y} {z} {n} over moves = subst (λ (k : ℕ). Moves H a x L c z k)
     (let same : 0 + n ≡ n = omega arith in same) (moves_on over moves)
 
--- where a turn stands at this cursor, the event of this operation is due, and it goes on to the other
+-- if a turn stands at this cursor, the event of this operation is due, and it goes on to the other
 pub record DueBy (a : Actor) (x : Cursor) (act : Act) (y : Cursor) : Type 0 where
   pub here : (g : Setting) (s : Part) → StandsFor g s a → IsAt g a.vertex x s
       → GoesBy g a.vertex s x (event_of a.vertex act) y × (act ≡ act_of g (event_of a.vertex act) s)

@@ -85,7 +85,7 @@ module _ (g : Setting) (s : Part) (a : Actor) (stands : StandsFor g s a) where
       (subst (λ (xs : List ℕ). IsFirstFrom
       (λ e. not (eqb (detector.may_ack a.detect e (is_passive_now a)) 0)) xs from r) stands.knows.ins first)
 
-  -- where nothing is claimed and not put, or nothing is pending, no edge has anything
+  -- if nothing is claimed and not put, or nothing is pending, no edge has anything
   pub none_held : a.unput ≡ 0 → (k : ℕ) → k < length (outs_of g a.vertex)
       → is_some (s.out (out_at g a.vertex k)).link.held ≡ false
   none_held none k within =

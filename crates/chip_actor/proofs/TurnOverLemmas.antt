@@ -1,5 +1,5 @@
--- Serves Actor.antt, Ends.antt, Medium.antt.
--- Each phase of a turn over a medium: which operation is due, and where the turn passes on without one.
+-- Serves Actor.antt, Ends.antt, Medium.antt. Each phase of a turn over a medium: which operation is due, and when the
+-- turn passes on without one.
 use Rattle.chip_actor.proofs.Names.{nat_tests, ◌≡◌, ◌≢◌, ℕ, ◌+◌, ◌-◌, ◌%◌, ◌<◌, ◌≤◌, Bool, true, false, not, ◌&&◌, eqb}
 use Rattle.chip_actor.proofs.Names.{List, [], length, sum, slice_index, Option, Some, None, is_some, is_none}
 use Rattle.chip_actor.proofs.Names.{option_map, option_to_list, refl, sym, ap, ◌∙◌, subst, arith, eq-eqb, ne_eqb}

@@ -34,11 +34,12 @@ pub record Actor : Type 0 where
   pub unput : ℕ
   pub refused : ℕ
 
--- the actor with these edges into its vertex, so many chips and these books: what takes change of it
+-- the actor with these edges into its vertex, these chips and these books: what takes change of it
 abbrev pub with_taken : Actor → InEnds → ℕ → Books → Actor
 with_taken a ins chips detect = record a { ins = ins; chips = chips; detect = detect }
 
--- the actor with these edges out of it, so much pending, so many refusals and these books: what sends change of it
+-- the actor with these edges out of it, `pending` chips pending, `refused` refusals and these books: what sends change
+-- of it
 abbrev pub with_sent : Actor → OutEnds → ℕ → ℕ → Books → Actor
 with_sent a outs pending refused detect =
     record a { outs = outs; detect = detect; pending = pending; refused = refused }

@@ -81,7 +81,7 @@ out_after_claim word o =
 abbrev pub out_after_put : OutEnd → OutEnd
 out_after_put o = record o { link = tail_after_put o.link }
 
--- the vertex fired so often
+-- the vertex fired k times
 abbrev pub out_after_fire : ℕ → OutEnd → OutEnd
 out_after_fire k o = record o { pending = k * o.mult }
 

@@ -53,7 +53,7 @@ abbrev pub AreOf : Setting → ℕ → List Step → Type 0
 AreOf g v [] = Unit {0}
 AreOf g v (x ∷ xs) = (part_of g x.event ≡ v) × AreOf g v xs
 
--- by these steps a turn of v goes on from one cursor to another, so many of them count, and the actor b stands for the
+-- by these steps a turn of v goes on from one cursor to another, `count` of them count, and the actor b stands for the
 -- part after them
 pub record GoesOn (now : Holding) (g : Setting) (v : ℕ) (ds : List Step) (s : Part) (from : Cursor) (b : Actor)
     (to : Cursor) (count : ℕ) (more : List Step) (t : Part) : Type 0 where
@@ -73,7 +73,7 @@ pub record Moves (old : Holding) (a : Actor) (from : Cursor) (new : Holding) (b 
   pub goes : (g : Setting) (ds : List Step) (s : Part) → old g a.vertex ds s → StandsFor g s a → IsAt g a.vertex from s
       → (more : List Step) × (t : Part) × GoesOn new g a.vertex ds s from b to count more t
 
--- the record is longer by one whole turn of the vertex, of which so many steps count, and the actor stands for the part
+-- the record is longer by one whole turn of the vertex, of which `count` steps count, and the actor stands for the part
 -- after it
 pub record IsTurnMade (now : Holding) (g : Setting) (v : ℕ) (ds : List Step) (s : Part) (b : Actor) (count : ℕ)
     (more : List Step) (t : Part) : Type 0 where

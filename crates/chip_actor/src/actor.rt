@@ -169,7 +169,7 @@ impl ActorState {
         }
     }
 
-    // It has the chips for so many firings.
+    // It has the chips for `k` firings.
     fn affords(&self, k: u64) -> bool
         ensures { result ≡ nat_le (k * self.now.degree) self.now.chips }
     {
@@ -443,7 +443,7 @@ impl ActorState {
         Reply::Done(0)
     }
 
-    /// An acknowledgement of so many messages of the edge at this slot, which are all that may be acknowledged there.
+    /// An acknowledgement of `count` messages of the edge at this slot, all that may be acknowledged there.
     fn acknowledge(&mut self, slot: Slot, count: u64, seen: u64) -> Reply
         requires slot { IsSlotOf self.old.ins.edges slot }
         requires count { count ≡ may_ack self.old.detect slot.edge (is_passive_now self.old) }
@@ -489,7 +489,7 @@ impl ActorState {
         }
     }
 
-    /// The state of a vertex at the opening, with rings of so many cells. It takes all the memory that the vertex ever
+    /// The state of a vertex at the opening, with rings of `ring` cells. It takes all the memory that the vertex ever
     /// needs.
     pub fn new(alloc: Global, game: &Game, vertex: u64, ring: u64) -> Result<ActorState, AllocError>
         requires vertex { vertex < game.now.graph.vertices }

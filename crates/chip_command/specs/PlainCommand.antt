@@ -31,7 +31,7 @@ PlainWrites limits graph_text chips_text limit old new ended =
     (g : ChipGame) × MeansGame limits graph_text chips_text limit g
     × (text : List ℕ) × Reports g text ended.status × Appends old new text
 
--- the same where its readers may know their texts
+-- the same by what the readers have left, if that is known
 abbrev pub PlainReports : SizeLimits → Option (List ℕ) → Option (List ℕ) → ℕ → Option (List ℕ) → Option (List ℕ)
     → Result Ended Fault → Type 0
 PlainReports limits graph chips limit old new result = ForSome graph (λ graph_text. ForSome chips (λ chips_text.

@@ -21,7 +21,7 @@ play_options asked = record { limits = limits_of asked.large; limit = asked.limi
 abbrev pub judge_options : JudgeArguments → JudgeOptions
 judge_options asked = record { limits = limits_of asked.large; past = asked.past }
 
--- how a schedule is run, if there is a ring with so many cells
+-- how a schedule is run, if a ring may have this number of cells
 abbrev pub simulate_options : SimulationArguments → Option SimulateOptions
 simulate_options asked = option_map (λ ring. record {
   play = play_options asked.game;

@@ -10,7 +10,7 @@ use std::io::{ErrorKind, Input};
 use std::os::unix::fs::MetadataExt;
 use std::rt::{Clock, Files};
 
-/// Where the system says which files standard output and standard error are.
+/// The folder in which the system says which files standard output and standard error are.
 const STREAMS: [&str; 2] = ["/dev/stdout", "/dev/stderr"];
 
 /// How many names are tried for a new file beside another one.

@@ -1,6 +1,6 @@
--- Serves Core.antt, Soon.antt.
--- Where every vertex is passive and all that was claimed is taken, steps only settle and acknowledge. Where the root is
--- closed nothing changes any more, everything is delivered, and chips and counts are those of every end.
+-- Serves Core.antt, Soon.antt. If every vertex is passive and all that was claimed is taken, steps only settle and
+-- acknowledge. If the root is closed nothing changes any more, everything is delivered, and chips and counts are those
+-- of every end.
 use Rattle.chip_core.proofs.Names.{nat_tests, pending_of, owed, is_passive, is_legal, ◌≡◌, ℕ, ◌<◌, ◌≤◌, true, false}
 use Rattle.chip_core.proofs.Names.{eqb, ◌∷◌, length, get_or, Option, None, option_to_list, refl, sym, ap, ◌∙◌, arith}
 use Rattle.chip_core.proofs.Names.{⊎_elim, true≢false, ◌≢◌, ◌+◌, ◌-◌, Bool, cond, List, [], sum, Some, get_or_past}
@@ -209,7 +209,7 @@ module _ (g : Setting) (game : IsGame g.game) (some_ring : 0 < g.ring) where
     pub nothing_in_flight : (e : ℕ) → e < all_edges g → in_flight g log e ≡ []
     nothing_in_flight e l = ap (messages_from e (length (into_in g log e).got)) (none_in_flight e l)
 
-    -- ---- where no vertex halted by a seal
+    -- ---- if no vertex halted by a seal
 
     module _ (no_seal : NoneHaltedBySeal g log) where
       nothing_held : (e : ℕ) → e < all_edges g → held g log e ≡ 0
@@ -274,7 +274,7 @@ module _ (g : Setting) (game : IsGame g.game) (some_ring : 0 < g.ring) where
           let one = one_end g.game.graph (chips_given g log) g.game.limit (firings log) vs played whole in
           record { counted = λ v. sym (counts_are g log v) ∙ one.0 v; chips = λ v l. chips_are v l ∙ one.1 v }
 
-    -- ---- where no vertex halted
+    -- ---- if no vertex halted
 
     module _ (no_halts : NoneHalted g log) where
       no_seals : NoneHaltedBySeal g log

@@ -1,6 +1,5 @@
--- Serves Detection.antt, Closing.antt.
--- Where the end is noted and nobody has anything to do the root is closed; so until then there is something to do, and where
--- everything is asked for in vain it is closed.
+-- Serves Detection.antt, Closing.antt. If the end is noted and nobody has anything to do the root is closed; so until
+-- then there is something to do, and if everything is asked for in vain it is closed.
 use Rattle.chip_core.proofs.Names.{nat_tests, rules, ◌≡◌, ◌≢◌, ◌⊎◌, ℕ, ◌+◌, ◌<◌, ◌≤◌, true, false, not, ◌&&◌, ◌||◌, eqb}
 use Rattle.chip_core.proofs.Names.{List, [], ◌∷◌, length, Option, Some, None, option_to_list, Contains, refl, sym, ap}
 use Rattle.chip_core.proofs.Names.{◌∙◌, subst, arith, inl, inr, ⊎_elim, eqb-true, eq-eqb, zero, suc, Bool, cond, ltb}
@@ -489,7 +488,7 @@ module _ (g : Setting) where
           ∙ on))))
           (λ off. is_none_of (out_in g after e).link.held off)
 
-      -- no vertex with something to send is left where a look and then a claim were asked for
+      -- no vertex with something to send is left if a look and then a claim were asked for
       module _ (e : ℕ) (l : e < graph_edges g) (runs : (part_in g after (tail_of g e)).halt ≡ None)
           (room : HasRoom after e) (pends : 0 < (out_in g after e).pending)
           (off : (out_in g after e).link.refused ≡ false) where

@@ -221,7 +221,7 @@ module _ (g : Setting) where
       total = given_sum log ∙ total_recorded log legal;
     }
 
-    -- ---- where no chips are fed
+    -- ---- if no chips are fed
 
     module _ (off : g.fed ≡ false) where
       pub unfed_started : (log : Log) → IsLegalLog g log → (v : ℕ) → chips_given g log v ≡ start_of g v

@@ -19,7 +19,7 @@ use Rattle.chip_core.proofs.GivenLemmas.{given_sum, given_within, started_outsid
 use Rattle.chip_core.proofs.GivenLemmas.{unfed_played, unfed_started, unfed_closes}
 use Rattle.chip_core.proofs.PositionLemmas.{is_sequence, leads_to}
 
--- as many as their sum at most, where each is above 0
+-- as many as their sum at most, if each is above 0
 length_sum : (xs : List ℕ) → ((p : ℕ) → p < length xs → 0 < get_or xs p 0) → length xs ≤ sum xs
 length_sum [] some = omega arith
 length_sum (x ∷ xs) some = let a = length_sum xs (λ p l. some (suc p) (omega arith)) in let b = some 0 (omega arith) in
@@ -39,7 +39,7 @@ module _ (g : Setting) where
   seal_step (Take i) seen e stop = refl
   seal_step _ seen e stop = refl
 
-  -- the stopper's part has a word exactly where a seal was made
+  -- the stopper's part has a word exactly if a seal was made
   pub seals_stand : (log : Log) (e : ℕ) → was_sealed log e ≡ is_some (stop_in g log e)
   seals_stand [] e = refl
   seals_stand (x ∷ log) e = ap (λ (b : Bool). is_seal e x.event || b) (seals_stand log e)
@@ -120,7 +120,7 @@ module _ (g : Setting) where
 
     -- ---- cells
 
-    -- a take sees 0 exactly where all that was put is delivered
+    -- a take sees 0 exactly if all that was put is delivered
     pub empty_is : (e : ℕ) → (sees g log (Take e) ≡ 0)
         ↔ (length (into_in g log e).got ≡ length (out_in g log e).link.put)
     empty_is e =
@@ -149,7 +149,7 @@ module _ (g : Setting) where
         let sum_has = get_or-le-sum_by (λ (x : ℕ). x) (drop n (sent_counts t)) 0 0 (omega arith) in
         (l, omega arith)
 
-    -- a clear with nothing claimed sees another number than 0 exactly where the ring is full
+    -- a clear with nothing claimed sees another number than 0 exactly if the ring is full
     pub full_is : (e : ℕ) → (out_in g log e).link.held ≡ None
         → (sees g log (Clear e) ≢ 0) ↔ (claims_of (out_in g log e).link ≡ length (into_in g log e).got + g.ring)
     full_is e empty =

@@ -1,5 +1,4 @@
--- Serves Core.antt.
--- A detection order exists in every legal log, and what it says where the root is closed.
+-- Serves Core.antt. A detection order exists in every legal log, and what it says if the root is closed.
 use Rattle.chip_core.proofs.Names.{eqb-true, ◌≡◌, ◌≢◌, ◌⊎◌, ℕ, ◌-◌, ◌<◌, ◌&&◌, cond, eqb, List, [], ◌∷◌, length, get_or}
 use Rattle.chip_core.proofs.Names.{Option, Some, None, Contains, refl, sym, ap, ◌∙◌, subst, arith, inl, inr, ⊎_elim}
 use Rattle.chip_core.proofs.Names.{get_or_past, dite, ℕ_discrete, dec_lt, IsGame, Setting, cond_yes, cond_no, by_test}
@@ -210,7 +209,7 @@ module _ (g : Setting) (game : IsGame g.game) (some_ring : 0 < g.ring) where
     },
   )
 
-  -- ---- where all that the root sent is settled
+  -- ---- if all that the root sent is settled
 
   module _ (log : Log) (legal : IsLegalLog g log) (settled : IsSettled g log) where
     no_engaged : (vs : List ℕ) → Chain (parents log) vs → vs ≡ []

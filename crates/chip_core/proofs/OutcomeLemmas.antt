@@ -1,6 +1,5 @@
--- Serves Core.antt, Outcomes.antt, Positions.antt.
--- What the outcome of a closed log tells: a report takes it, a firing sequence leads to it, and where no seal halted a
--- vertex every player comes to it.
+-- Serves Core.antt, Outcomes.antt, Positions.antt. What the outcome of a closed log tells: a report takes it, a firing
+-- sequence leads to it, and if no seal halted a vertex every player comes to it.
 use Rattle.chip_core.proofs.Names.{nat_tests, ◌≡◌, ℕ, ◌^◌, ◌<◌, ◌≤◌, true, false, not, ◌&&◌, eqb, leb, List, All}
 use Rattle.chip_core.proofs.Names.{Contains, length, slice_index, Option, Some, sym, ap, ◌∙◌, subst, arith, true≢false}
 use Rattle.chip_core.proofs.Names.{IsStrictlyIncreasing, get_or_past, All-from_get_or, get_or-le-sum_by, dite, dec_lt}
@@ -44,7 +43,7 @@ module _ (g : Setting) (game : IsGame g.game) (some_ring : 0 < g.ring) (log : Lo
   never_negative fired are v low = none_below g game some_ring log legal v
       (subst (λ (f : ℕ → ℕ). IsBelowZero g.game.graph (chips_given g log) f v) (same_fired fired are) low)
 
-  -- nothing lies where no vertex is
+  -- nothing lies at a number that no vertex has
   chips_outside : (v : ℕ) → g.game.graph.vertices ≤ v → position_by_counts g.game.graph (chips_given g log) (fired_by g log) v
       ≡ 0
   chips_outside v past =
@@ -110,7 +109,7 @@ module _ (g : Setting) (game : IsGame g.game) (some_ring : 0 < g.ring) (log : Lo
           apart = apart;
         }
 
-    -- ---- where no seal halted a vertex
+    -- ---- if no seal halted a vertex
 
     module _ (closed : IsClosed g log) (no_seal : NoneHaltedBySeal g log) where
       whole : IsWholePlay g.game.graph (chips_given g log) g.game.limit (firings log)

@@ -7,7 +7,8 @@ use Rattle.chip_core.proofs.Names.{replies_to, log_after, counts_as_work, is_idl
 use Rattle.chip_core.proofs.Names.{RunsGoOn}
 use Rattle.chip_core.proofs.IdleLemmas.{bare, idle_does}
 
--- parts that are the same but for their notes, their seals and the end differ in their notes alone, where these stand
+-- parts that are the same but for their notes, their seals and the end differ in their notes alone, if the seals and
+-- the end are the same
 leaves : (s t : Part) → bare s ≡ bare t → ((e : ℕ) → s.stop e ≡ t.stop e) → s.ended ≡ t.ended → DifferInNotes s t
 leaves s t same stop ended = record {
   chips = ap (λ (p : Part). p.chips) same;

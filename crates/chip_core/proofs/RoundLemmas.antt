@@ -1,6 +1,5 @@
--- Serves Histories.antt, Closing.antt.
--- What a whole turn of which no step counts tells of the vertex. Where every vertex made one, and the root settled all its
--- edges, the root is closed.
+-- Serves Histories.antt, Closing.antt. What a whole turn of which no step counts tells of the vertex. If every vertex
+-- made one, and the root settled all its edges, the root is closed.
 use Rattle.chip_core.proofs.Names.{nat_tests, eqb-false, rules, ◌≡◌, ◌≢◌, ◌⊎◌, ℕ, ◌+◌, ◌<◌, ◌≤◌, Bool, true, false, not}
 use Rattle.chip_core.proofs.Names.{◌&&◌, cond, eqb, List, [], ◌∷◌, ◌++◌, length, Option, Some, None, is_some, Contains}
 use Rattle.chip_core.proofs.Names.{refl, sym, ap, ◌∙◌, subst, arith, inl, inr, ⊎_elim, eqb-true, true≢false}

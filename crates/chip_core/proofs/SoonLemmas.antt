@@ -168,7 +168,7 @@ module _ (g : Setting) where
             ∙ sym (makes_turn g v (part_in g base v) (done_by g v its.middle) its.are_turn.0 its.are_turn.1))
             ∙ nothing_left g v (part_in g base v) (done_by g v its.middle) its.are_turn.0 its.are_turn.1 e at
 
-        -- where nothing was owed to it, it is engaged no more
+        -- if nothing was owed to it, it is engaged no more
         freed : ((e : ℕ) → e < all_edges g → tail_of g e ≡ v → owed (into_in g before e) ≡ 0) → (q : ℕ)
             → (part_in g (xs ++ before) v).parent ≡ Some q → ⊥
         freed clean q is =
@@ -204,7 +204,7 @@ module _ (g : Setting) where
       Deep log n = (v : ℕ) → v < g.game.graph.vertices → (e : ℕ) → (part_in g log v).parent ≡ Some e
           → (level (tail_of g e) < level v) × (level v ≤ n)
 
-      -- at most so many rounds free all: the tree is so deep, and what is owed is owed on its edges; or it is one less deep
+      -- at most n rounds free all: the tree is n deep, and what is owed is owed on its edges; or it is one less deep
       abbrev Left : Log → ℕ → Type 0
       Left log n = AtRest g log × ((((e : ℕ) → e < all_edges g → OwedToParent log e) × Deep log n)
           ⊎ ((k : ℕ) × (n ≡ suc k) × Deep log k))
@@ -247,7 +247,7 @@ module _ (g : Setting) where
       flat : (log : Log) → Left log 0 → Deep log 0
       flat log (rest, left) = ⊎_elim (λ tree. tree.1) (λ less. absurd (let a = less.1 in omega arith)) left
 
-      -- where nobody is engaged, settles of the root close it
+      -- if nobody is engaged, settles of the root close it
       settles_close : (xs log : Log) → IsLegalLog g (xs ++ log) → AtRest g log → Deep log 0
           → ((e : ℕ) → graph_edges g ≤ e → e < all_edges g → (x : Step) × Contains xs x × (x.event ≡ Settle e))
           → IsClosed g (xs ++ log)
@@ -270,7 +270,7 @@ module _ (g : Setting) where
 
       -- ---- rounds
 
-      -- where the root settles after all turns of the last
+      -- if the root settles after all turns of the last
       in_order : (n : ℕ) (xs last log : Log) → IsLegalLog g (last ++ (xs ++ log)) → Left log (suc n)
           → HasRounds g n log xs → HasRoundInOrder g (xs ++ log) last → IsClosed g (last ++ (xs ++ log))
       in_order zero xs last log legal left has round =

@@ -1,5 +1,4 @@
--- Serves Wasting.antt.
--- New looks are few, so steps that advance are; and where none is due the root is closed.
+-- Serves Wasting.antt. New looks are few, so steps that advance are; and if none is due the root is closed.
 use Rattle.chip_core.proofs.Names.{◌≡◌, ℕ, zero, suc, ◌+◌, ◌*◌, ◌<◌, ◌≤◌, ◌||◌, Bool, true, false, cond, eqb, [], ◌∷◌}
 use Rattle.chip_core.proofs.Names.{◌++◌, length, refl, sym, ap, ◌∙◌, arith, true≢false, ⊎_elim, nat_tests, dite}
 use Rattle.chip_core.proofs.Names.{ℕ_discrete, IsGame, sum_below, edge_at, sum_below_le, sum_below_add, one_at_most}
@@ -29,7 +28,7 @@ module _ (g : Setting) (game : IsGame g.game) (some_ring : 0 < g.ring) where
   abbrev new_at : Log → Event → ℕ → ℕ
   new_at log x seen = cond (is_new_look (acting_part g log x) x seen) 1 0
 
-  -- where a look was noted the cell is empty still
+  -- if a look was noted the cell is still empty
   still_empty : (log : Log) → IsLegalLog g log → (e : ℕ) → (out_in g log e).link.clear ≡ true → sees g log (Clear e) ≡ 0
   still_empty log legal e clear =
       let sound = edge_sound g game some_ring log legal e in

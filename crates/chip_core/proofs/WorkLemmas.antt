@@ -76,7 +76,7 @@ module _ (g : Setting) where
   counted log x seen = cond (counts_as_work g (part_in g log (part_of g x)) (saw x seen)) 1 0
 
   module _ (game : IsGame g.game) (some_ring : 0 < g.ring) where
-    -- nothing is claimed and not put where a claim or a feed may be made
+    -- nothing is claimed and not put if a claim or a feed may be made
     hand : (log : Log) → IsLegalLog g log → (e : ℕ) → (out_in g log e).link.clear ≡ true → (out_in g log e).link.held ≡ None
     hand log legal e clear = (edge_sound g game some_ring log legal e).quiet clear
 
@@ -150,7 +150,7 @@ module _ (g : Setting) where
         let all = is_among log x.event x.seen may in
         omega arith
 
-    -- a root edge opens with one message where its vertex starts with chips
+    -- a root edge opens with one message if its vertex starts with chips
     first_length : (v : ℕ) → length (first_put g (root_edge g v)) ≡ cond (eqb (start_of g v) 0) 0 1
     first_length v = let first = first_is g v in grind (arith, nat_tests)
 
@@ -301,7 +301,7 @@ module _ (g : Setting) where
           enough = λ v l. (let a = all play.0 play.1.sequence v l in let b = play.1.within v in omega arith);
         }
 
-    -- where no vertex is further from the sink, one number for all
+    -- one number for all, if no vertex is further from the sink
     pub distance_bounds : (log : Log) → IsLegalLog g log → (distance : ℕ) → IsGreatestDistance g.game.graph distance
         → AreFiringBounds g log (λ v. min g.game.limit
         (firing_bound (sum (played_game g log).start) (greatest_degree g.game.graph) distance))

@@ -22,7 +22,7 @@ HasEnd g log = (part_in g log (root g)).ended ≡ true
 
 -- ---- there is something to do until the root is closed
 
--- a look that finds the next cell empty where that wasn't noted
+-- a look that finds the next cell empty, if that wasn't noted yet
 abbrev pub is_new_look : Part → Event → ℕ → Bool
 is_new_look s (Clear e) seen = seen == 0 && not (s.out e).link.clear
 is_new_look s _ seen = false
@@ -35,7 +35,7 @@ pub record Advances (g : Setting) (log : Log) (x : Event) : Type 0 where
       || is_refusal g (acting_part g log x) (saw x (sees g log x)) || is_new_look (acting_part g log x) x (sees g log x))
       ≡ true
 
--- where the end is noted and the root isn't closed, some vertex or the root may make such an event
+-- if the end is noted and the root isn't closed, some vertex or the root may make such an event
 abbrev pub NeverStuck : Type 0
 NeverStuck = ForEveryLog (λ g log. HasEnd g log → (IsClosed g log → ⊥) → (x : Event) × Advances g log x)
 
@@ -61,7 +61,7 @@ pub record AsksForEverything (g : Setting) (log : Log) (xs : List Event) : Type 
 abbrev pub NothingIsTold : Setting → Log → Log → Type 0
 NothingIsTold g log after = work_in g after + refusals_in g after ≡ work_in g log + refusals_in g log
 
--- where such a list is asked for, something counts or a claim is refused, or the root is closed after it
+-- if such a list is asked for, something counts or a claim is refused, or the root is closed after it
 abbrev pub AskedInVain : Type 0
 AskedInVain = ForEveryLog (λ g log. (xs : List Event) → AsksForEverything g log xs → HasEnd g (log_after g log xs)
     → NothingIsTold g log (log_after g log xs) → IsClosed g (log_after g log xs))
@@ -86,7 +86,7 @@ pub record HasRound (g : Setting) (before xs : Log) : Type 0 where
   pub turns : (v : ℕ) → v < g.game.graph.vertices → HasTurn g v before xs
   pub settles : (e : ℕ) → graph_edges g ≤ e → e < all_edges g → (x : Step) × Contains xs x × (x.event ≡ Settle e)
 
--- where such steps are made and none of them counts, the root is closed after them
+-- if such steps are made and none of them counts, the root is closed after them
 abbrev pub IdleRoundsClose : Type 0
 IdleRoundsClose = ForEveryLog (λ g before. (xs : Log) → HasRound g before xs → IsLegalLog g (xs ++ before)
     → HasEnd g (xs ++ before) → RootHasPut g (xs ++ before) → work_in g (xs ++ before) ≡ work_in g before
@@ -98,7 +98,7 @@ IdleRoundsClose = ForEveryLog (λ g before. (xs : Log) → HasRound g before xs 
 abbrev pub IsStretch : Setting → Log → List Event → Type 0
 IsStretch g log xs = NothingIsTold g log (log_after g log xs) → AsksForEverything g log xs
 
--- so many stretches, one after another, with any events before, between and after them
+-- n stretches, one after another, with any events before, between and after them
 abbrev pub HasStretches : Setting → ℕ → Log → List Event → Type 0
 HasStretches g zero log xs = Unit {0}
 HasStretches g (suc n) log xs = (front : List Event) × (stretch : List Event) × (rest : List Event)
@@ -111,7 +111,7 @@ FairSchedulesClose = ForEveryLog (λ g log. HasEnd g log → (fired : ℕ → �
     → steps_at_most g.game (length (fed_so_far g log)) fired + graph_edges g < n → (xs : List Event) → HasStretches g n log xs
     → IsClosed g (log_after g log xs))
 
--- so many rounds of whole turns among these steps, one after another
+-- n rounds of whole turns among these steps, one after another
 abbrev pub HasRounds : Setting → ℕ → Log → Log → Type 0
 HasRounds g zero before xs = Unit {0}
 HasRounds g (suc n) before xs = (front : Log) × (round : Log) × (rest : Log) × (xs ≡ rest ++ (round ++ front))

@@ -84,7 +84,7 @@ abbrev pub IsLegalLog : Setting → Log → Type 0
 IsLegalLog g [] = Unit {0}
 IsLegalLog g (x ∷ log) = IsLegalLog g log × Fits g log x
 
--- the log and the reply after an event was asked for: where a rule isn't met nothing is done
+-- the log and the reply after an event was asked for: if a rule isn't met nothing is done
 abbrev pub answer : Setting → Log → Event → Option Rule → Log × Reply
 answer g log x (Some rule) = (log, NotNow rule)
 answer g log x None = (

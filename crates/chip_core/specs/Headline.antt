@@ -25,7 +25,7 @@ abbrev pub NoneHaltedBySeal : Setting → Log → Type 0
 NoneHaltedBySeal g log = (v : ℕ) → v < g.game.graph.vertices → (part_in g log v).halt ≢ Some SealedEdge
 
 -- For every list of actor steps, each edge has delivered a prefix of what was sent on it, each message once and in
--- order, and nothing is sent after its seal; where the root closes, every edge has delivered everything and, unless a
+-- order, and nothing is sent after its seal; if the root closes, every edge has delivered everything and, unless a
 -- vertex halted, chips and firing counts are those of every one-thread legal firing that ends with no vertex legal.
 --
 -- The steps `xs` are asked for after the log `before`, answered by `replies`, and leave the log `after`. A run has to
@@ -52,7 +52,7 @@ pub record HeadlineOf (g : Setting) (before : Log) (xs : List Event) (replies : 
       ≡ mult_of g e * fired_by g after (tail_of g e)
   -- there is a detection order
   pub order : (vs : List ℕ) × IsDetectionOrder g after vs
-  -- where the root closes, every edge has delivered everything
+  -- if the root closes, every edge has delivered everything
   pub everything_delivered : IsClosed g after → (e : ℕ) → e < all_edges g
       → delivered_in e xs replies ≡ in_flight g before e ++ sent_in e xs replies
   -- and, unless a vertex halted, chips and firing counts are those of every firing sequence that ends with no vertex
@@ -61,8 +61,8 @@ pub record HeadlineOf (g : Setting) (before : Log) (xs : List Event) (replies : 
       → IsFiringSequence g.game.graph (chips_given g after) vs → HasEnded g.game.graph (chips_given g after) vs
       → AgreesWith g after vs
   pub ended : IsClosed g after → NoneHalted g after → HasEnded g.game.graph (chips_given g after) (firings after)
-  -- where the limit alone halted vertices, the same of all that end within the limit, and the vertices that it halted
-  -- are the legal ones
+  -- if the limit alone halted vertices, the same of all that end within the limit, and the vertices that it halted are
+  -- the legal ones
   pub one_end_within : IsClosed g after → NoneHaltedBySeal g after → (vs : List ℕ)
       → IsWholePlay g.game.graph (chips_given g after) g.game.limit vs → AgreesWith g after vs
   pub ended_within : IsClosed g after → NoneHaltedBySeal g after

@@ -87,10 +87,10 @@ NumbersAreSmall = ForEveryLog (λ g log. NumbersOf g log)
 
 -- what the cells of an edge tell
 pub record CellsOf (g : Setting) (log : Log) (e : ℕ) : Type 0 where
-  -- a take sees 0 exactly where every message that was put is delivered
+  -- a take sees 0 exactly if every message that was put is delivered
   pub empty : (sees g log (Take e) ≡ 0) ↔ (length (into_in g log e).got ≡ length (out_in g log e).link.put)
-  -- a clear, its rules met, sees another number than 0 exactly where as many messages as the ring has cells are sent
-  -- and not delivered
+  -- a clear, its rules met, sees another number than 0 exactly if as many messages as the ring has cells are sent and
+  -- not delivered
   pub full : unmet_rule g (Clear e) (part_in g log (tail_of g e)) ≡ None
       → (sees g log (Clear e) ≢ 0) ↔ (claims_of (out_in g log e).link ≡ length (into_in g log e).got + g.ring)
 
@@ -99,7 +99,7 @@ CellsTell = ForEveryLog (λ g log. (e : ℕ) → CellsOf g log e)
 
 -- the words are read as what they stand for
 pub record WordsOf (g : Setting) (log : Log) : Type 0 where
-  -- a claim sees the number of claims, and 2 ^ 63 more exactly where the edge is sealed
+  -- a claim sees the number of claims, and 2 ^ 63 more exactly if the edge is sealed
   pub unsealed : (e : ℕ) → was_sealed log e ≡ false → sees g log (Claim e) ≡ claims_of (out_in g log e).link
   pub sealed : (e : ℕ) → was_sealed log e ≡ true → sees g log (Claim e) ≡ claims_of (out_in g log e).link + 2 ^ 63
   pub claims : (e : ℕ) → claims_in (sees g log (Seal e)) ≡ claims_of (out_in g log e).link
@@ -110,7 +110,7 @@ pub record WordsOf (g : Setting) (log : Log) : Type 0 where
 abbrev pub WordsTell : Type 0
 WordsTell = ForEveryLog (λ g log. WordsOf g log)
 
--- the stopper's part has a word exactly where a seal was made, and this is the number of all messages that were ever
+-- the stopper's part has a word exactly if a seal was made, and this is the number of all messages that were ever
 -- claimed
 abbrev pub SealsStand : Type 0
 SealsStand = ForEveryLog (λ g log. (e : ℕ) → (was_sealed log e ≡ is_some (stop_in g log e))
@@ -138,7 +138,7 @@ HeldFromTheOpening = (g : Setting) → IsGame g.game → 0 < g.ring → (xs : Li
     → chips_in (sent_in e xs (replies_to g [] xs)) + held g (log_after g [] xs) e
     ≡ mult_of g e * fired_by g (log_after g [] xs) (tail_of g e)
 
--- where the root is closed nothing is on the way
+-- if the root is closed nothing is on the way
 abbrev pub NothingInFlight : Type 0
 NothingInFlight = ForEveryLog (λ g log. IsClosed g log → (e : ℕ) → e < all_edges g → in_flight g log e ≡ [])
 

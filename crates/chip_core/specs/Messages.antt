@@ -58,7 +58,7 @@ messages_from e place (count ∷ counts) = message_of e place count ∷ messages
 abbrev pub counts_in_flight : Setting → Log → ℕ → List ℕ
 counts_in_flight g log e = drop (length (into_in g log e).got) (sent_counts (out_in g log e).link)
 
--- the messages that were sent on e and not delivered; at the opening a root edge has one where its vertex starts with
+-- the messages that were sent on e and not delivered; at the opening a root edge has one if its vertex starts with
 -- chips
 abbrev pub in_flight : Setting → Log → ℕ → List Message
 in_flight g log e = messages_from e (length (into_in g log e).got) (counts_in_flight g log e)

@@ -50,8 +50,8 @@ pub record ComesTo (g : Setting) (x : ℕ → ℕ) (vs : List ℕ) (o : Outcome)
   pub counted : (v : ℕ) → slice_index o.fired.items v ≡ counts vs v
   pub position : (v : ℕ) → slice_index o.chips.items v ≡ position_after g.game.graph x vs v
 
--- the firings that were made come from all that was given to the outcome of a log, a report takes it, and where the
--- root is closed and no seal halted a vertex it is that of every player who starts with all that was given
+-- the firings that were made come from all that was given to the outcome of a log, a report takes it, and if the root
+-- is closed and no seal halted a vertex it is that of every player who starts with all that was given
 pub record OutcomeTells (g : Setting) (log : Log) (o : Outcome) : Type 0 where
   pub comes : ComesTo g (chips_given g log) (firings log) o
   pub in_range : IsOutcome o

@@ -20,7 +20,7 @@ SealsNone log = (e : ℕ) → was_sealed log e ≡ false
 abbrev pub PlaysOut : Setting → Log → Type 0
 PlaysOut g log = IsClosed g log × ((o : Outcome) → IsOutcomeOf g log o → IsPlayed (played_game g log) o)
 
--- where nothing was sealed no seal halted a vertex
+-- if nothing was sealed no seal halted a vertex
 abbrev pub UnsealedHaltsNone : Type 0
 UnsealedHaltsNone = ForEveryLog (λ g log. SealsNone log → NoneHaltedBySeal g log)
 

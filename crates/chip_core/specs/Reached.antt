@@ -1,4 +1,4 @@
--- The worlds that a running game can come to, told by what each part did. They grow by one event at a time.
+-- The worlds that a running game can come to, by what each part did. They grow by one event at a time.
 use Rattle.std.specs.Prelude.{◌≡◌, ◌≢◌, ℕ, List, [], ◌∷◌, ◌++◌, None}
 use Rattle.chip_part.specs.Setting.{Setting}
 use Rattle.chip_core.specs.Core.{Log, Step, Part, opening_part, unmet_rule, part_of, IsLegalLog, seen_of}

@@ -1,4 +1,4 @@
--- Soon after the end: where nothing is left but to acknowledge, few more rounds close the root.
+-- Soon after the end: if nothing is left but to acknowledge, few more rounds close the root.
 use Rattle.std.specs.Prelude.{◌≡◌, ℕ, suc, ◌<◌, ◌≤◌, true, List, [], ◌++◌, length, Contains, Some}
 use Rattle.chip_part.specs.Setting.{Setting}
 use Rattle.chip_part.specs.Part.{is_passive}
@@ -14,8 +14,8 @@ pub record HasTerminated (g : Setting) (log : Log) : Type 0 where
   pub delivered : (e : ℕ) → e < all_edges g → in_flight g log e ≡ []
   pub end : HasEnd g log
 
--- the tree of engaged vertices is at most so deep: each of them has a level of at most so much, and the tail of its
--- parent edge has a lower one, be it a vertex or the root
+-- the tree of engaged vertices is at most `depth` deep: each of them has a level of at most `depth`, and the tail of
+-- its parent edge has a lower one, be it a vertex or the root
 pub record IsAtMostDeep (g : Setting) (log : Log) (depth : ℕ) : Type 0 where
   pub level : ℕ → ℕ
   pub below : (v : ℕ) → v < g.game.graph.vertices → (e : ℕ) → (part_in g log v).parent ≡ Some e
@@ -29,7 +29,7 @@ pub record HasRoundInOrder (g : Setting) (before xs : Log) : Type 0 where
   pub turns : (v : ℕ) → v < g.game.graph.vertices → HasTurn g v before front
   pub settles : (e : ℕ) → graph_edges g ≤ e → e < all_edges g → (x : Step) × Contains back x × (x.event ≡ Settle e)
 
--- one round more than the tree is deep closes the root, where in the last of them it settles after all turns
+-- one round more than the tree is deep closes the root, if in the last of them it settles after all turns
 abbrev pub DepthCloses : Type 0
 DepthCloses = ForEveryLog (λ g before. HasTerminated g before → (depth : ℕ) → IsAtMostDeep g before depth
     → (rounds last : Log) → HasRounds g depth before rounds → HasRoundInOrder g (rounds ++ before) last

@@ -1,5 +1,5 @@
--- Where no step is wasted, few are made, and whoever makes such steps until none is due has closed the root. No fairness is
--- asked for.
+-- If no step is wasted, few are made, and whoever makes such steps until none is due has closed the root. No fairness
+-- is asked for.
 use Rattle.std.specs.Prelude.{◌≤◌, ℕ, ◌+◌, ◌*◌, [], ◌∷◌, ◌++◌, length}
 use Rattle.chip_part.specs.Setting.{Setting}
 use Rattle.chip_core.specs.Core.{Log, Event, IsLegalLog, IsClosed, graph_edges}
@@ -16,7 +16,7 @@ AllAdvance g log (x ∷ xs) = AllAdvance g log xs × Advances g (xs ++ log) x.ev
 abbrev pub NoneIsDue : Setting → Log → Type 0
 NoneIsDue g log = (x : Event) → Advances g log x → ⊥
 
--- after the end of feeding such steps are few, and where none is due the root is closed
+-- after the end of feeding such steps are few, and if none is due the root is closed
 abbrev pub NoWasteCloses : Type 0
 NoWasteCloses = ForEveryLog (λ g log. HasEnd g log → (fired : ℕ → ℕ) → AreFiringBounds g log fired → (xs : Log)
     → IsLegalLog g (xs ++ log) → AllAdvance g log xs

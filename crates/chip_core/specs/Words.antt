@@ -42,7 +42,7 @@ word_of_event g (Read v) s = of_vertex v
 word_of_event g (Feed e k) s = of_edge e
 word_of_event g End s = of_acks (root_edge g 0)
 
--- what it leaves there, where n was found: what is added goes round at 2 ^ 64
+-- what it leaves there, if n was found: what is added goes round at 2 ^ 64
 abbrev pub left_by : Setting → Event → Part → ℕ → ℕ
 left_by g (Take e) s n = 0
 left_by g (Ack e) s n = (n + may_ack g (head_of g e) s e) % 2 ^ 64
@@ -57,14 +57,14 @@ left_by g (Read v) s n = n
 left_by g (Feed e k) s n = word_after_exchange (claims_of (s.out e).link) (claims_of (s.out e).link + 1) n
 left_by g End s n = n
 
--- what is noted as seen, where n was found: a store finds nothing
+-- what is noted as seen, if n was found: a store finds nothing
 abbrev pub word_to_note : Event → ℕ → ℕ
 word_to_note (Put e) n = 0
 word_to_note _ n = n
 
 -- the words show what this log makes of the edges and the vertices
 pub record IsShown (g : Setting) (log : Log) (value : Word → ℕ) : Type 0 where
-  -- the edge word is the claims and the seal; a cell holds a count exactly where its message is put and not taken
+  -- the edge word is the claims and the seal; a cell holds a count exactly if its message is put and not taken
   pub edges : (e : ℕ) → e < all_edges g
       → Shows g.ring (value (of_edge e)) (λ i. value (of_cell e i)) (out_in g log e).link (into_in g log e).got
       (stop_in g log e)

@@ -43,8 +43,8 @@ refusals_in g (x ∷ log) = (if is_refusal g (acting_part g log x.event) x then 
 abbrev pub starters : ChipGame → ℕ
 starters game = sum_below game.graph.vertices (λ v. if slice_index game.start v == 0 then 0 else 1)
 
--- how many messages there can be but for the first ones, where the root feeds so many and each vertex v fires at most
--- `fired v` times: at most one for each firing, on each edge out of the vertex
+-- how many messages there can be but for the first ones, if the root makes `feeds` feeds and each vertex v fires at
+-- most `fired v` times: at most one for each firing, on each edge out of the vertex
 abbrev pub messages_at_most : ChipGame → ℕ → (ℕ → ℕ) → ℕ
 messages_at_most game feeds fired = sum_below (length game.graph.edges) (λ e. fired (edge_at game.graph e).tail) + feeds
 
@@ -54,7 +54,7 @@ abbrev pub steps_at_most : ChipGame → ℕ → (ℕ → ℕ) → ℕ
 steps_at_most game feeds fired =
     sum_below game.graph.vertices fired + 5 * messages_at_most game feeds fired + 3 * starters game + game.graph.vertices
 
--- how often each vertex can fire, where these chips are fed, by its distance from the sink
+-- how often each vertex can fire, if these chips are fed, by its distance from the sink
 abbrev pub fires_at_most : ChipGame → List (ℕ × ℕ) → (ℕ → ℕ) → ℕ → ℕ
 fires_at_most game fed distance v =
     min game.limit (firing_bound (sum game.start + all_brought fed) (greatest_degree game.graph) (distance v))

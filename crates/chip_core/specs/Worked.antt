@@ -1,4 +1,4 @@
--- Worked runs of the whole core, as the definitions compute them. The limit is 2 ^ 40 and the ring has one cell where
+-- Worked runs of the whole core, as the definitions compute them. The limit is 2 ^ 40 and the ring has one cell if
 -- nothing else is said.
 use Rattle.std.specs.Prelude.{◌≡◌, ℕ, ◌^◌, true, false, List, [], ◌∷◌, ◌++◌, slice_index, Some}
 use Rattle.chip_graph.specs.ChipGame.{IsGame}

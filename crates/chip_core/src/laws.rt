@@ -116,15 +116,15 @@ pub fn given_chips()
     ensures unfed_record { UnfedRecordsNone }
 {}
 
-/// Where the root is closed.
+/// What holds if the root is closed.
 pub fn closed_roots()
     ensures in_flight { NothingInFlight }
     ensures reads { ReadsTell }
     ensures stirs { NothingStirs }
 {}
 
-/// The outcome of a log: a firing sequence leads to it, a report takes it, and where the root is closed and no seal
-/// halted a vertex it is every player's.
+/// The outcome of a log: a firing sequence leads to it, a report takes it, and if the root is closed and no seal halted
+/// a vertex it is every player's.
 pub fn outcomes()
     ensures { OutcomesTell }
 {}
@@ -155,14 +155,14 @@ pub fn few_steps_count()
     ensures refusals { FewRefusals }
 {}
 
-/// Until the root is closed there is something to do, and where everything was asked for in vain it is closed.
+/// Until the root is closed there is something to do, and if everything was asked for in vain it is closed.
 pub fn never_stuck()
     ensures advances { NeverStuck }
     ensures in_vain { AskedInVain }
     ensures rounds { IdleRoundsClose }
 {}
 
-/// However steps are ordered: where everything is asked for often enough after the end of feeding, the root is closed.
+/// However steps are ordered: if everything is asked for often enough after the end of feeding, the root is closed.
 /// Rounds of whole turns ask so.
 pub fn fair_schedules()
     ensures stretches { FairSchedulesClose }
@@ -170,19 +170,19 @@ pub fn fair_schedules()
     ensures rounds { FairRoundsClose }
 {}
 
-/// Where no step is wasted few are made, and once none is due the root is closed.
+/// If no step is wasted few are made, and once none is due the root is closed.
 pub fn no_waste()
     ensures { NoWasteCloses }
 {}
 
-/// Where nothing is sealed, a schedule that asks for everything often enough plays the game.
+/// If nothing is sealed, a schedule that asks for everything often enough plays the game.
 pub fn fair_schedules_play()
     ensures unsealed { UnsealedHaltsNone }
     ensures stretches { FairSchedulesPlay }
     ensures rounds { FairRoundsPlay }
 {}
 
-/// Where nothing is left but to acknowledge, as many rounds close the root as the tree of engaged vertices is deep, and
+/// If nothing is left but to acknowledge, as many rounds close the root as the tree of engaged vertices is deep, and
 /// one more.
 pub fn soon_after_the_end()
     ensures depth { DepthCloses }
@@ -191,7 +191,7 @@ pub fn soon_after_the_end()
 {}
 
 /// For every list of actor steps, each edge has delivered a prefix of what was sent on it, each message once and in
-/// order, and nothing is sent after its seal; where the root closes, every edge has delivered everything and, unless a
+/// order, and nothing is sent after its seal; if the root closes, every edge has delivered everything and, unless a
 /// vertex halted, chips and firing counts are those of every one-thread legal firing that ends with no vertex legal.
 pub fn core_theorem()
     ensures { CoreTheorem }

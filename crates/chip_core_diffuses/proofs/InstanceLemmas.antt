@@ -128,7 +128,7 @@ module _ (g : Setting) where
     parent = parent j;
   }
 
-  -- the parent goes where all that is owed on its edge is acknowledged
+  -- the parent goes if all that is owed on its edge is acknowledged
   parent_goes : (o : Option ℕ) (e n : ℕ) (owes owes' : ℕ → ℕ) → n ≤ owes e
       → ((q : ℕ) → o ≡ Some q → (0 < owes q) × (e ≡ q → owes' q ≡ owes q - n) × (e ≢ q → owes' q ≡ owes q))
       → cond (is_parent e o && eqb n (owes e)) None o ≡ parent_while_owed o owes'
@@ -237,7 +237,7 @@ module _ (g : Setting) where
         })
         wakes
 
-    -- a claim of this count, where the edge is not sealed
+    -- a claim of this count, if the edge is not sealed
     claims_more : (e seen : ℕ) (count : ℕ → ℕ) (links : ℕ → Tail) → (links e).held ≡ None → seen ≡ claims_of (links e)
         → (i : ℕ) → claims_of (cond (eqb e i) (after_claim (count i) seen (links i)) (links i))
         ≡ cond (eqb e i) (claims_of (links i) + 1) (claims_of (links i))
@@ -525,7 +525,7 @@ module _ (g : Setting) where
 
     -- ---- how many edges a part has
 
-    -- no more than f of them pass the test, where f grows at each that does
+    -- no more than f of them pass the test, if f grows at each that does
     few : (test : ℕ → Bool) (f : ℕ → ℕ) → ((a : ℕ) → f a ≤ f (suc a)) → ((a : ℕ) → test a ≡ true → f a < f (suc a))
         → (n : ℕ) → length (filter_below test n) ≤ f n
     few test f up on zero = omega arith

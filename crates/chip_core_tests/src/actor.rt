@@ -12,7 +12,7 @@ use chip_link::{Event, Message};
 use chip_part::{Act, Cause, Cursor, Observed, Reply, Rule};
 use std::process::Abort;
 
-/// Asks for an event, which is made where its rules are met.
+/// Asks for an event, which is made if its rules are met.
 fn ask(actor: &mut ActorState, event: Event, seen: u64) -> Reply
     requires { SomePart actor.old (λ g s. IsTrue (may_ask g actor.old.vertex s event seen)) }
     ensures { Answers actor.old actor.new event seen result }
@@ -207,7 +207,7 @@ macro_rules! claim {
     };
 }
 
-/// The operation that puts so many chips into the first cell of this edge.
+/// The operation that puts this number of chips into the first cell of this edge.
 macro_rules! put {
     ($edge:expr, $value:expr) => {
         Act::Put {

@@ -41,7 +41,7 @@ macro_rules! fire {
     };
 }
 
-/// The root feeds so many chips over an edge.
+/// The root feeds this number of chips over an edge.
 macro_rules! feed {
     ($edge:expr, $count:expr) => {
         Event::Feed {

@@ -16,7 +16,7 @@ struct Wire {
     cells: Vec<u64>,
 }
 
-/// An edge with a ring of so many cells.
+/// An edge with a ring of `size` cells.
 fn new_wire(rt: &(impl AllocGlobal + Abort), edge: u64, size: u64) -> Box<Wire>
     ensures { result.value.head.taken ≡ 0 }
 {
@@ -69,7 +69,7 @@ fn receive(rt: &impl Abort, head: &mut HeadLink, cells: &mut Vec<u64>) -> Option
     Some((message.place, message.count, cell))
 }
 
-/// Sends a message of so many chips, which goes to this place and cell.
+/// Sends a message of `count` chips, which goes to this place and cell.
 fn sends(rt: &impl Abort, wire: &mut Wire, count: u64, place: u64, cell: u64)
     requires { (1 ≤ count) × (count ≤ max_count) }
     ensures { wire.new.head ≡ wire.old.head }
@@ -92,7 +92,7 @@ fn is_full(rt: &impl Abort, wire: &mut Wire)
     assert!(rt; sent.is_none(), "ring of {}: {sent:?}", wire.cells.len());
 }
 
-/// Takes a message from this place and cell, with so many chips.
+/// Takes a message from this place and cell, with `count` chips.
 fn receives(rt: &impl Abort, wire: &mut Wire, place: u64, count: u64, cell: u64)
     requires { wire.old.head.taken < 2 ^ 62 }
     ensures { wire.new.head.taken ≤ wire.old.head.taken + 1 }

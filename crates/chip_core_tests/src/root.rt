@@ -13,7 +13,7 @@ use chip_part::{Reply, Rule, Setting};
 use chip_root::RootBooks;
 use std::process::Abort;
 
-/// Asks the root for an event, which is made where its rules are met.
+/// Asks the root for an event, which is made if its rules are met.
 fn ask_root(root: &mut RootBooks, event: Event, seen: u64) -> Reply
     requires { SomeRoot root.old (λ g s. IsTrue (may_ask_root g s event seen)) }
     ensures { RootAnswers root.old root.new event seen result }

@@ -278,7 +278,7 @@ fn ring_of_two(rt: HostRuntime) {
     plays(&rt, CHAIN, &[3, 0, 0], Ring::of(2), &RING_OF_TWO);
 }
 
-/// So many takes of an edge on which nothing was sent.
+/// `count` takes of an edge on which nothing was sent.
 fn takes_nothing(rt: &(impl AllocGlobal + Abort), world: &mut World, edge: u64, count: usize) {
     let events = Vec::from_elem(rt.alloc(), Event::Take(edge), count).expect(rt, "memory");
     let record = run(rt, world, &events);

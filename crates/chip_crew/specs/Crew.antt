@@ -14,7 +14,7 @@ pub record CrewId : Type 0 where
   pub workers : ℕ
   pub sharing : Sharing
 
--- the actor made so many whole turns since its net opened, one after another
+-- the actor made k whole turns since its net opened, one after another
 abbrev pub Turned : ℕ → ActorKnown → Type 0
 Turned zero a = a.did ≡ []
 Turned (suc k) a = (before : ActorKnown) × (answer : Turn) × Turned k before × MakesTurn before a answer

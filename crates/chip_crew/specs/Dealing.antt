@@ -36,6 +36,6 @@ abbrev pub IsRoundBy : CrewId → Sharing → ℕ → Type 0
 IsRoundBy crew sharing.Queue round = round ≡ 1
 IsRoundBy crew sharing.Dealt round = (actors : ℕ) × IsFirstOf crew 1 actors × (round ≡ max 1 actors)
 
--- so many make a round of this crew
+-- this number of turns makes a round of this crew
 abbrev pub IsRound : CrewId → ℕ → Type 0
 IsRound crew round = IsRoundBy crew crew.sharing round

@@ -6,7 +6,7 @@ abbrev pub Begins : {D : Type 0} → (D → D → Type 0) → Type 0 → Type 0 
 Begins before passes shut old new true = passes × before old new
 Begins before passes shut old new false = shut × (new ≡ old)
 
--- what comes before each of so many turns was done, the first of which has this number
+-- what comes before each of k turns was done, from the turn with the number `from` on
 abbrev pub BeginsEach : {D : Type 0} → (ℕ → D → D → Type 0) → ℕ → ℕ → D → D → Type 0
 BeginsEach before from zero old new = new ≡ old
 BeginsEach {D = D} before from (suc k) old new = (was : D) × BeginsEach before from k old was × before (from + k) was new
@@ -16,8 +16,8 @@ abbrev pub EndsIf : {D : Type 0} → (D → D → Type 0) → Bool → D → D �
 EndsIf after true old new = after old new
 EndsIf after false old new = new ≡ old
 
--- so many turns of a worker, of which so many make a round: what comes before each was done, and after each round what
--- comes after it
+-- k turns of a worker, of which `round` make a round: what comes before each was done, and after each round what comes
+-- after it
 abbrev pub Serves : {D : Type 0} → (ℕ → D → D → Type 0) → (D → D → Type 0) → ℕ → ℕ → D → D → Type 0
 Serves before after round zero old new = new ≡ old
 Serves {D = D} before after round (suc k) old new = (was : D) × (begun : D) × Serves before after round k old was

@@ -21,8 +21,8 @@ pub record EndsWell (old receipt : RootKnown) (o : Outcome) : Type 0 where
   pub closed : IsOver root
   pub finishes : Finishes root receipt o
 
--- the root was led for so many turns, at most those of the plan, until all was fed and the end noted, and for fewer only
--- where it was closed then; it took the stopper back, was polled once, and finished
+-- in `turns` turns the root fed all and noted the end: the turns of the plan, or fewer if it was closed by then; it
+-- took the stopper back, was polled once, and finished
 pub record EndsLed (crew : CrewId) (feeds : Left) (plan : Plan) (receipt : RootKnown) (o : Outcome) : Type 0 where
   pub round : ℕ
   pub is_round : IsRound crew round
@@ -35,15 +35,15 @@ pub record EndsLed (crew : CrewId) (feeds : Left) (plan : Plan) (receipt : RootK
   pub is_back : TakesBack plan.seal turns led back
   pub ends : EndsWell back receipt o
 
--- the root was polled once and isn't closed: so many messages are left, none only if the end of feeding isn't noted
+-- the root was polled once and isn't closed: `left` messages are left, none only if the end of feeding isn't noted
 pub record StaysOpen (old now : RootKnown) (left : ℕ) : Type 0 where
   pub polled : PolledOnce old now
   pub deficit : left ≡ root_deficit now
   pub some : left ≡ 0 → has_ended now ≡ false
   pub not_over : IsOver now → ⊥
 
--- the root was led for all turns of the plan, which left this to be fed; then it took the stopper back, was polled once, and
--- isn't closed
+-- in all turns of the plan the root left this to be fed; then it took the stopper back, was polled once, and isn't
+-- closed
 pub record StaysUnfinished (crew : CrewId) (feeds : Left) (plan : Plan) (now : RootKnown) (deficit : ℕ) : Type 0 where
   pub round : ℕ
   pub is_round : IsRound crew round

@@ -49,8 +49,8 @@ abbrev pub PollsIf : Bool → RootKnown → RootKnown → Type 0
 PollsIf true old new = IsPolling old new old.net.setting.game.graph.vertices
 PollsIf false old new = new ≡ old
 
--- so many turns of worker 0, of which so many make a round: before each the root fed what it could of these, and after
--- each round it was polled; this is what is left
+-- k turns of worker 0, of which `round` make a round: before each the root fed what it could of these, and after each
+-- round it was polled; this is what is left
 abbrev pub IsLed : ℕ → ℕ → Left → RootKnown → Left → RootKnown → Type 0
 IsLed round zero feeds old left now = (left ≡ feeds) × (now ≡ old)
 IsLed round (suc k) feeds old left now =

@@ -40,8 +40,8 @@ abbrev pub RefusesPlan : ChipGame → Left → Plan → CrewFault → Type 0
 RefusesPlan game feeds plan e = ((e ≡ fault.Plan) × (is_fed_plan game (pairs feeds) plan ≡ false))
     ⊎ ((e ≡ fault.Total) × (is_fed_plan game (pairs feeds) plan ≡ true) × PassesTotal game feeds)
 
--- the crew's net was opened for this game with these rings, to be fed if there are feeds, and its actors with room for
--- so many trace rows; so many workers share them in this way
+-- the crew's net was opened for this game with the plan's rings, to be fed if there are feeds, and its actors with room
+-- for the plan's trace rows; the plan's workers share them in this way
 pub record IsCrewFor (shared : Sharing) (game : ChipGame) (feeds : Left) (plan : Plan) (crew : CrewId) : Type 0 where
   pub can : CanPlay game feeds plan
   pub setting : crew.net.setting ≡ setting_with game plan.ring (is_some feeds)
@@ -49,7 +49,7 @@ pub record IsCrewFor (shared : Sharing) (game : ChipGame) (feeds : Left) (plan :
   pub workers : crew.workers ≡ plan.workers
   pub sharing : crew.sharing ≡ shared
 
--- the crew's root was led until all was fed, polled when it was closed and then finished, and all its actors are there
+-- the crew's root fed all, was polled when it was closed and then finished, and all its actors are there
 pub record HasFinished (crew : CrewId) (feeds : Left) (plan : Plan) (f : Finished) : Type 0 where
   pub ends : EndsLed crew feeds plan f.receipt f.outcome
   pub actors : AreActors crew f.actors.items
@@ -63,7 +63,7 @@ abbrev pub IsWhole : ChipGame → Left → ChipGame → Type 0
 IsWhole game None whole = whole ≡ game
 IsWhole game (Some feeds) whole = HasMore game feeds whole
 
--- a crew of this game finished after it made exactly these feeds, in order, and the seal of the plan where worker 0 made
+-- a crew of this game finished after it made exactly these feeds, in order, and the seal of the plan if worker 0 made
 -- that turn, and no other; without a seal the outcome is the plain player's of the game that has all these chips at the
 -- start
 pub record IsFinished (shared : Sharing) (game : ChipGame) (feeds : Left) (plan : Plan) (f : Finished) : Type 0 where

@@ -22,14 +22,14 @@ pub record AreGathered (crew : CrewId) (actors : List ActorKnown) : Type 0 where
   pub count : length actors ≡ crew.net.setting.game.graph.vertices
   pub once : (v : ℕ) → v < crew.net.setting.game.graph.vertices → actors_of v actors ≡ 1
 
--- the row has the actors of so many workers, one run behind the other, and there is room for all of them
+-- the row has the actors of the first `workers` workers, one run behind the other, and there is room for all of them
 pub record IsRow (crew : CrewId) (workers : ℕ) (row : List ActorKnown) (room : ℕ) : Type 0 where
   pub up_to : IsFirstOf crew workers (length row)
   pub each : AreFrom crew 0 row
   pub has_room : crew.net.setting.game.graph.vertices ≤ room
 
--- who gathers speaks for so many workers, the row has its actors and room for all of them, and in the hands of these workers
--- no more turns were made than they may make
+-- who gathers speaks for `workers` workers, the row has its actors and room for all of them, and with these workers no
+-- more turns were made than they may make
 pub record IsGatheringFor (asked : Asked) (workers : ℕ) (ledger : Ledger) (row : Vec ActorKnown) : Type 0 where
   pub speaks : ledger.workers ≡ workers
   pub has : ledger.has ≡ map (λ a. a.vertex) row.items
@@ -38,7 +38,7 @@ pub record IsGatheringFor (asked : Asked) (workers : ℕ) (ledger : Ledger) (row
   pub turns : all_turns row.items + gave_turns ledger ≤ got_turns ledger + workers * asked.plan.turns
 
 module _ {B : Type 0} where
-  -- what is there once so many workers have handed back what they had
+  -- what is there once `workers` workers have given back what they had
   abbrev pub AreBack : Asked → ℕ → Back B → Type 0
   AreBack asked workers (back.Queue queue pass row) = (asked.crew.sharing ≡ sharing.Queue)
       × IsPassOf queue.now pass × IsGatheringFor asked workers (view pass) row

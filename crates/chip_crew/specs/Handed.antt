@@ -1,4 +1,4 @@
--- What the workers begin with, and what they hand back.
+-- What the workers begin with, and what they give back.
 use Rattle.std.specs.Prelude.{◌≡◌, ℕ, ◌<◌, ◌≤◌, max, false, List, length, Option, Some, None, IfSome}
 use Rattle.atomic_table.specs.Seated.{TableId}
 use Rattle.crossbeam_queue.specs.Passes.{view, IsPassOf}
@@ -14,18 +14,18 @@ use Rattle.chip_crew.specs.declared.worker.Share.{Share}
 use Rattle.chip_crew.specs.declared.worker.Share.TheVariants as share
 use Rattle.chip_crew.specs.declared.worker.WorkerResult.{WorkerResult}
 
--- of a round of at most so many turns a worker made so many, and fewer only if its gate was shut
+-- of a round of at most `most` turns a worker made `made`, and fewer only if its gate was shut
 pub record IsRoundOf (asked : Asked) (worker most made : ℕ) : Type 0 where
   pub at_most : made ≤ most
   pub shut : made < most → ShutFor asked worker
 
--- what became of the actors that were dealt to a worker in so many turns, each of which its gate let pass
+-- what became of the actors that were dealt to a worker in `turns` turns, each of which its gate let pass
 abbrev pub HasDealt : Asked → ℕ → ℕ → List ActorKnown → Type 0
 HasDealt asked worker turns actors = (asked.crew.sharing ≡ sharing.Dealt) × AreOf asked.crew worker actors
     × ((first : List ActorKnown) × (all_turns first ≡ 0) × RoundsMade (passes asked worker) turns first actors)
 
 module _ {B : Type 0} where
-  -- what a worker has after so many turns, each of which its gate let pass: if there is a queue, its pass of it and the
+  -- what a worker has after `turns` turns, each of which its gate let pass: if there is a queue, its pass of it and the
   -- net's actor that it kept; else the actors that were dealt to it
   abbrev pub HasMade : Asked → ℕ → ℕ → Share B → Type 0
   HasMade asked worker turns (share.Queue queue pass kept) = (asked.crew.sharing ≡ sharing.Queue)
@@ -52,14 +52,14 @@ module _ {B : Type 0} where
   AreReady asked queue all = EachFrom (IsReady asked queue) 0 all
 
   module _ {D : Type 0} where
-    -- what a worker hands back: what it has after so many turns, and its gate answered false only if it may
+    -- what a worker gives back: what it has after the turns that it made, and its gate answered false only if it may
     pub record IsHanded (asked : Asked) (worker : ℕ) (handed : WorkerResult B D) : Type 0 where
       pub at_most : handed.turns ≤ asked.plan.turns
       pub made : HasMade asked worker handed.turns handed.share
       pub passed : handed.passed ≡ false → ShutFor asked worker
 
-    -- a worker that began with this share and these duties hands this back: it uses the same queue, and did its duties in
-    -- its turns
+    -- a worker that began with this share and these duties gives this back: it uses the same queue, and did its duties
+    -- in its turns
     pub record HasWorked (asked : Asked) (can : NetId → D → Type 0) (before : ℕ → D → D → Type 0) (after : D → D → Type 0)
         (worker : ℕ) (own : Share B) (begun : D) (handed : WorkerResult B D) : Type 0 where
       pub is_handed : IsHanded asked worker handed

@@ -43,7 +43,7 @@ module _ {B : Type 0} where
     pub number_is : p.number ≡ worker
     pub ready : IsReady asked queue worker p.share.value
 
-  -- all workers have ended: worker 0 led the root, and all that they had is back
+  -- all workers have ended: worker 0 did its duties with the root, and all that they had is back
   pub record HasJoined (asked : Asked) (j : Joined B) : Type 0 where
     pub led : HasLed asked j.round j.turns j.leader
     pub are_back : AreBack asked asked.crew.workers j.collected.back

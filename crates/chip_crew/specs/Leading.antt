@@ -42,7 +42,7 @@ pub record IsLeader (asked : Asked) (leader : Leader) : Type 0 where
   pub goes_on : leader.is_closed ≡ false
   pub can : CanLead asked.crew.net leader
 
--- it led in so many turns, of which so many make a round
+-- it led in `turns` turns, of which `round` make a round
 pub record HasLed (asked : Asked) (round turns : ℕ) (leader : Leader) : Type 0 where
   pub first : Leader
   pub begins : IsLeader asked first

@@ -7,7 +7,7 @@ use Rattle.chip_net.specs.declared.actor.Turn.{Turn}
 use Rattle.chip_crew.specs.Crew.{CrewId, all_turns}
 use Rattle.chip_crew.specs.declared.queue.Ledger.{Ledger}
 
--- a ledger that was handed back
+-- a ledger that was given back
 abbrev pub no_ledger : Ledger
 no_ledger = record { workers = 0; has = []; taken = []; put = [] }
 
@@ -82,7 +82,7 @@ abbrev pub MakesOneTurn : Ledger → Ledger → Option ActorKnown → Option Act
 MakesOneTurn old new kept result = (between : Ledger) × (next : Option ActorKnown) × IsNext old between kept next
     × EndsTurn between new next result
 
--- so many turns of a worker, one after another from the first, each of which its gate let pass
+-- k turns of a worker, one after another from the first, each of which its gate let pass
 abbrev pub TurnsMade : (ℕ → Type 0) → ℕ → Ledger → Option ActorKnown → Type 0
 TurnsMade passes zero ledger kept = (ledger ≡ new_ledger) × (kept ≡ None)
 TurnsMade passes (suc k) ledger kept = (before : Ledger) × (was : Option ActorKnown) × TurnsMade passes k before was

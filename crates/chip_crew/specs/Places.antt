@@ -13,7 +13,7 @@ times v vertices = count_by (λ u. u == v) vertices
 abbrev pub actors_of : ℕ → List ActorKnown → ℕ
 actors_of v actors = count_by (λ a. a.vertex == v) actors
 
--- the thread has no actor, and those that passed through its hands had made no turns
+-- the thread has no actor, and those that it got and gave had made no turns
 abbrev pub HasNothing : Ledger → Type 0
 HasNothing l = (l.has ≡ []) × (got_turns l ≡ 0) × (gave_turns l ≡ 0)
 

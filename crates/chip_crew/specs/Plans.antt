@@ -18,7 +18,7 @@ max_turns = 2 ^ 40
 abbrev pub max_trace_rows : ℕ
 max_trace_rows = 2 ^ 20
 
--- from one to so many
+-- from 1 to `most`
 abbrev pub is_count : ℕ → ℕ → Bool
 is_count most n = nat_lt 0 n && nat_le n most
 

@@ -13,7 +13,7 @@ TurnsThere place (Some next) old new =
 abbrev pub TurnsAt : ℕ → List ActorKnown → List ActorKnown → Type 0
 TurnsAt place old new = TurnsThere place (slice_get old place) old new
 
--- so many turns of a worker that began with these actors, each of which its gate let pass: in each the next actor made its
+-- k turns of a worker that began with these actors, each of which its gate let pass: in each the next actor made its
 -- turn, round by round
 abbrev pub RoundsMade : (ℕ → Type 0) → ℕ → List ActorKnown → List ActorKnown → Type 0
 RoundsMade passes zero first now = now ≡ first

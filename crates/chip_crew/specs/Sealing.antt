@@ -12,7 +12,7 @@ use Rattle.chip_crew.specs.declared.plan.SealAt.{SealAt}
 abbrev pub events_of : List Step → List Event
 events_of steps = map (λ x. x.event) steps
 
--- what is sealed before so many turns of worker 0 are over: the edge of the plan, where its turn is one of them
+-- what is sealed before `turns` turns of worker 0 are over: the edge of the plan, if its turn is one of them
 abbrev pub seals_by : SealAt → ℕ → List Event
 seals_by at turns = if nat_lt at.turn turns then Seal at.edge ∷ [] else []
 
@@ -26,8 +26,8 @@ SealsBefore turn None new = new ≡ None
 SealsBefore turn (Some s) new = (did : List Step) × (new ≡ Some (record { net = s.0.net; did = did }, s.1))
     × (events_of did ≡ events_of s.0.did ++ (if s.1.turn == turn then Seal s.1.edge ∷ [] else []))
 
--- after so many turns of worker 0 the stopper of the crew has sealed what was due by then, and nothing else; there is none
--- if nothing is to be sealed
+-- after `turns` turns of worker 0 the stopper of the crew has sealed what was due by then, and nothing else; there is
+-- none if nothing is to be sealed
 abbrev pub HasSealed : CrewId → Option SealAt → ℕ → Option (StopperKnown × SealAt) → Type 0
 HasSealed crew None turns seal = seal ≡ None
 HasSealed crew (Some at) turns seal = (did : List Step) × (seal ≡ Some (record { net = crew.net; did = did }, at))
@@ -38,7 +38,7 @@ abbrev pub HasBack : Option (StopperKnown × SealAt) → RootKnown → RootKnown
 HasBack None old new = new ≡ old
 HasBack (Some s) old new = new ≡ with_stopper old s.0.did
 
--- the root has the stopper back, which sealed what was due in so many turns of worker 0; if nothing was to be sealed
+-- the root has the stopper back, which sealed what was due in `turns` turns of worker 0; if nothing was to be sealed
 -- the root had it all along
 abbrev pub TakesBack : Option SealAt → ℕ → RootKnown → RootKnown → Type 0
 TakesBack None turns old new = new ≡ old

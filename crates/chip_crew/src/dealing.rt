@@ -38,8 +38,7 @@ fn all_ends(graph: &Graph) -> u64
     ends
 }
 
-/// Goes on from the first vertex of a worker, before which there are so many ends, to that of the next one: these two
-/// numbers.
+/// The first vertex of the next worker and the number of ends before it, from these two of a worker.
 fn next_cut(graph: &Graph, workers: u64, share: u64, first: u64, before: u64) -> (u64, u64)
     requires workers { (0 < workers) × (workers ≤ max_workers) }
     requires share { share ≤ workers * ends_before graph.now graph.now.vertices }
@@ -59,9 +58,9 @@ fn next_cut(graph: &Graph, workers: u64, share: u64, first: u64, before: u64) ->
     (graph.vertices(), ends)
 }
 
-/// Deals the actors of all vertices out, which are in their order: to each worker a run of consecutive ones. So many
-/// ends of edges are at the vertices before a run as an even deal gives the workers before, or the least number above.
-/// The actors come back to a row that has room for all.
+/// Deals the actors of all vertices out, which are in their order: to each worker a run of consecutive ones. Before a
+/// run are the fewest vertices at which there are at least as many ends of edges as an even deal gives the workers
+/// before. The actors come back to a row that has room for all.
 pub(crate) fn deal<'q, B: Crew>(
     alloc: Global,
     graph: &Graph,

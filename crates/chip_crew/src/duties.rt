@@ -20,7 +20,7 @@ pub(crate) trait Duties {
     // What was done after a round.
     ghost after: { Self → Self → Type 0 };
 
-    // What holds then where the crew is to stop, and where it is not.
+    // What holds then if the crew is to stop, and if it is not.
     ghost stops: { Bool → Self → Type 0 };
 
     /// Done before each turn.

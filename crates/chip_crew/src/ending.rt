@@ -20,7 +20,7 @@ pub(crate) fn take_back(net: &Net, root: &mut Root, seal: Option<(Stopper, SealA
     }
 }
 
-/// The last poll, and the end. Where messages are open it tells how many, and hands the root back.
+/// The last poll, and the end. If messages are open it tells how many, and gives the root back.
 pub(crate) fn last_poll(net: &Net, mut root: Root) -> Result<(Outcome, Receipt), (u64, Root)>
     requires net { root.net ≡ net.now }
     ensures ends { MatchResult result (λ r. EndsWell root r.1 r.0) (λ r. StaysOpen root r.1 r.0) }

@@ -22,7 +22,7 @@ pub enum CrewFault {
     Lost(u64),
     /// All turns were made and the root isn't closed. Feeds that weren't made by then are not made.
     Unfinished {
-        /// How many of its messages aren't acknowledged, as the last poll found: 1 or more, but 0 may be where not all
+        /// How many of its messages aren't acknowledged, as the last poll found: 1 or more, but it may be 0 if not all
         /// was fed.
         deficit: u64,
         /// The root.

@@ -6,7 +6,7 @@ ghost use Rattle.chip_crew.specs.Feeding.{MayFeed, MayFeedLeft, FeedsNext, Feeds
 
 use chip_net::{FeedFault, Net, Root};
 
-/// Feeds the first that is left, and tells what is left then. If its cell is full it is left still.
+/// Feeds the first that is left, and tells what is left then. If its cell is full, it is still left.
 #[cold]
 fn feed_next<'a>(net: &Net, root: &mut Root, left: &'a [(u64, u64)]) -> &'a [(u64, u64)]
     requires net { root.old.net ≡ net.now }

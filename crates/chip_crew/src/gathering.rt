@@ -96,7 +96,7 @@ impl<'a, B: Crew> Collected<'a, B> {
     }
 }
 
-/// Takes all actors that are in the queue. All workers have handed back what they had.
+/// Takes all actors that are in the queue. All workers have given back what they had.
 fn drain<R: Wait, B: Crew>(rt: &R, queue: &Queue<B>, pass: &mut QueuePass, row: &mut Vec<Actor>)
     requires pass { IsPassOf queue.now pass.old }
     requires gathering { IsGatheringFor B.asked B.asked.crew.workers (view pass.old) row.old }
@@ -109,7 +109,7 @@ fn drain<R: Wait, B: Crew>(rt: &R, queue: &Queue<B>, pass: &mut QueuePass, row: 
     }
 }
 
-/// The actors of all vertices, ascending. All workers have handed back what they had.
+/// The actors of all vertices, ascending. All workers have given back what they had.
 pub(crate) fn gather<R: Wait, B: Crew>(rt: &R, back: Back<B>) -> Vec<Actor>
     requires back { AreBack B.asked B.asked.crew.workers back }
     requires some { 0 < B.asked.crew.workers }

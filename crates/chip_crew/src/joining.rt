@@ -41,7 +41,7 @@ impl<'a, B: Crew, D: Duties> Promise<WorkerResult<'a, B, D>> for WorkerPromise<'
 /// A worker that has started.
 type Started<'a, B, D> = PromisedHandle<WorkerResult<'a, B, D>, WorkerPromise<'a, B, D>>;
 
-/// What the workers hand back, once all have ended.
+/// What the workers give back, once all have ended.
 #[derive(Drop)]
 pub(crate) struct Joined<'l, 'q, B: Crew> {
     pub leader: Leader<'l>,
@@ -52,7 +52,7 @@ pub(crate) struct Joined<'l, 'q, B: Crew> {
     pub collected: Collected<'q, B>,
 }
 
-/// Starts a worker. Where it can't be started, those that were are told to stop.
+/// Starts a worker. If it can't be started, those that were are told to stop.
 fn start<'s, E, B: Crew + Send + Sync, G: Gate + Sync, D: Duties + Send + Drop + 's>(
     scope: &Scope<'s, E>,
     worker: Worker<'s, B, G, D>,

@@ -77,8 +77,8 @@ impl<'a> Duties for Leader<'a> {
 }
 
 impl<'a> Leader<'a> {
-    /// Goes on in the place of worker 0, which made so many turns of so many a round: without actors, and without asking
-    /// the gate, as long as the plan gives turns and the root is open. It tells how many turns were made in all.
+    /// Goes on in the place of worker 0, which made `made` turns, `round` in each round: without actors, and without
+    /// asking the gate, as long as the plan gives turns and the root is open. It tells how many turns were made in all.
     pub fn go_on<B: Crew, G: Gate>(&mut self, shared: &Shared<B, G>, round: u64, made: u64) -> u64
         requires led { HasLed B.asked round made self.old }
         ensures led { HasLed B.asked round result self.new }

@@ -21,7 +21,7 @@ pub const MAX_TRACE_ROWS: u64 = 1 << 20;
 pub trait Gate {
     ghost use Rattle.std.specs.Prelude.{ℕ, Bool, ⊤};
 
-    // What is known where it answers so for a worker and one of its turns: nothing, unless the gate says more.
+    // What is known if it answers so for a worker and one of its turns: nothing, unless the gate says more.
     ghost may_answer: { Self → ℕ → ℕ → Bool → Type 0 } = { λ _ _ _ _. ⊤ };
 
     /// Whether the worker may begin its turn of this number. Workers and turns are numbered from 0, and each worker
@@ -29,7 +29,7 @@ pub trait Gate {
     fn pass(&self, worker: u64, turn: u64) -> bool
         ensures { may_answer self.now worker turn result };
 
-    /// Told by worker 0, after its turn of this number, how many of the root's messages aren't acknowledged, where some
+    /// Told by worker 0, after its turn of this number, how many of the root's messages aren't acknowledged, if some
     /// are not. What it does changes nothing of the crew's work.
     fn polled(&self, turn: u64, deficit: u64)
         requires { 0 < deficit }
@@ -70,7 +70,7 @@ pub struct Plan {
 }
 
 impl Plan {
-    /// The rings of this plan's net, where a crew can play this game with these feeds.
+    /// The rings of this plan's net, if a crew can play this game with these feeds.
     pub(crate) fn ring_for(
         &self,
         game: &Game,

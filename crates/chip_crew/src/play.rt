@@ -62,7 +62,7 @@ fn fill<R: Wait, B: Crew>(rt: &R, queue: &Queue<B>, pass: &mut QueuePass, actors
     }
 }
 
-/// What so many workers begin with that share a queue, each with a pass of its own, and where their actors come back to.
+/// What workers begin with that share a queue, each with a pass of its own, and where their actors come back to.
 fn passes<'q, B: Crew>(
     alloc: Global,
     queue: &'q Queue<B>,

@@ -46,7 +46,7 @@ impl<B: Crew> Protocol<Actor, Ledger> for Owned<B> {
     ghost first = { first_ledger B.asked.crew };
 }
 
-/// An actor comes out: it was opened by this net, the thread had not all of them, and the ledger has it as taken. Where
+/// An actor comes out: it was opened by this net, the thread had not all of them, and the ledger has it as taken. If
 /// none comes, what the thread has is all that there is, if it speaks for all workers.
 pub(crate) struct Popped<B> {
     of: PhantomData<B>,
@@ -67,8 +67,8 @@ impl<B: Crew> Lesson<Actor, Ledger> for Popped<B> {
     ghost fact = { AreAllThere B.asked.crew };
 }
 
-/// An actor goes in, the first of those that the thread has: it was opened by this net, and the ledger has it as put. Where
-/// it finds no place, the thread has nothing.
+/// An actor goes in, the first of those that the thread has: it was opened by this net, and the ledger has it as put.
+/// If it finds no place, the thread has nothing.
 pub(crate) struct Pushed<B> {
     of: PhantomData<B>,
 }
@@ -88,7 +88,7 @@ impl<B: Crew> Lesson<Actor, Ledger> for Pushed<B> {
 }
 
 /// A worker gets a ledger of its own, and the calling thread speaks for one worker less. When the worker has ended, it
-/// hands its ledger back.
+/// gives its ledger back.
 pub(crate) struct SplitLedger;
 
 impl Split<Ledger> for SplitLedger {

@@ -54,7 +54,7 @@ pub(crate) struct Worker<'a, B: Crew, G: Gate, D> {
     pub duties: D,
 }
 
-/// What a worker hands back.
+/// What a worker gives back.
 #[derive(Drop)]
 pub(crate) struct WorkerResult<'a, B: Crew, D> {
     /// With the actors that it has, if any.
@@ -143,9 +143,9 @@ impl<'a, B: Crew, G: Gate> Shared<'a, B, G> {
         true
     }
 
-    /// The turns of a round of a worker with actors of its own, one of each actor, and one if it has none: at most so
-    /// many, the first of which has this number, and fewer if the gate answers no. It tells how many were made, and
-    /// yields if no actor had anything to do.
+    /// The turns of a round of a worker with actors of its own, one of each actor, and one if it has none: at most
+    /// `most`, from the number `first` on, and fewer if the gate answers no. It tells how many were made, and yields if
+    /// no actor had anything to do.
     #[inline(always)]
     fn turn_each<D: Duties>(
         &self,
@@ -185,8 +185,8 @@ impl<'a, B: Crew, G: Gate> Shared<'a, B, G> {
         most
     }
 
-    /// The turns of a round of a worker, of which the first has this number: at most so many, and fewer if the gate
-    /// answers no. It tells how many were made. With a queue the turns in vain before them in a row are counted on.
+    /// The turns of a round of a worker, from the number `first` on: at most `most`, and fewer if the gate answers no.
+    /// It tells how many were made. With a queue the turns in vain before them in a row are counted on.
     #[inline(always)]
     fn round<D: Duties>(
         &self,
@@ -240,7 +240,7 @@ impl<'a, B: Crew, G: Gate, D: Duties> Worker<'a, B, G, D> {
         let mut turns = 0;
         let mut in_vain = 0;
         let mut passed = true;
-        // Whoever told it to stop hands back why.
+        // The worker that told it to stop gives the reason back.
         while turns < shared.plan.turns && !shared.stop.load(SeqCst) {
             let most = round.min(shared.plan.turns - turns);
             let made = shared.round(number, turns, most, &mut share, &mut duties, &mut in_vain);

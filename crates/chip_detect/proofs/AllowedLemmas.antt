@@ -12,7 +12,7 @@ within_owed e None here all waiting passive = omega arith
 within_owed e (Some p) here all waiting true = grind (arith, nat_tests)
 within_owed e (Some p) here all waiting false = grind (arith, nat_tests)
 
--- all that is owed on the parent edge, only where the vertex is done
+-- all that is owed on the parent edge, only if the vertex is done
 pub all_when_done : (e here all waiting : ℕ) (passive : Bool) → 0 < here
     → here ≤ acknowledgeable_count e (Some e) here all waiting passive → (all ≡ here) × (passive ≡ true) × (waiting ≡ 0)
 all_when_done e here all waiting true owing allowed = grind (arith, nat_tests)

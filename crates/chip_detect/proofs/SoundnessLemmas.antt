@@ -28,7 +28,7 @@ module _ (old new : Books) (e count : ℕ) (sound : IsSound old) (on : Contains 
   total : all_owed old ≡ all_owed new + count
   total = answers_total old.ins new.ins e count sound.ins change.ins were_owed on
 
-  -- where the parent goes, it is the edge of the step, all that was owed was owed on it, and the deficit is 0
+  -- if the parent goes, it is the edge of the step, all that was owed was owed on it, and the deficit is 0
   parent_goes : (p : ℕ) → old.parent ≡ Some p → new.parent ≡ None
       → record { here : p ≡ e; whole : count ≡ owed old e; alone : all_owed old ≡ count; waiting : deficit old ≡ 0 }
   parent_goes p was gone =
@@ -208,7 +208,7 @@ parent_goes_with_all old new e count sound were_owed change = change.parent ∙ 
           λ (same : p ≡ e). ap (owed old) same,
         )
 
--- where one message is all that is owed, and the vertex isn't done, nothing may be acknowledged on the parent edge
+-- if one message is all that is owed, and the vertex isn't done, nothing may be acknowledged on the parent edge
 pub last_is_kept : (b : Books) (passive : Bool) → IsSound b → all_owed b ≡ 1 → (passive ≡ true → deficit b ≢ 0)
     → (p : ℕ) → b.parent ≡ Some p → may_ack b p passive ≡ 0
 last_is_kept b passive sound one undone p is =

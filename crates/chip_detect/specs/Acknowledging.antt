@@ -14,7 +14,7 @@ abbrev pub or_else : Option ℕ → ℕ → Option ℕ
 or_else None e = Some e
 or_else (Some p) e = Some p
 
--- the parent once so much is owed on each edge: gone if nothing is owed on the parent edge
+-- the parent once `owes e` is owed on each edge e: gone if nothing is owed on the parent edge
 abbrev pub parent_while_owed : Option ℕ → (ℕ → ℕ) → Option ℕ
 parent_while_owed None owes = None
 parent_while_owed (Some p) owes = if owes p == 0 then None else Some p

@@ -16,7 +16,7 @@ pub record AddsMessage (old new : List Tally) (edge : ℕ) : Type 0 where
   pub messages : Adds (messages_on old) (messages_on new) edge 1
   pub answered : Same (answered_on old) (answered_on new)
 
--- so many more messages of the edge are answered
+-- `count` more messages of the edge are answered
 pub record AddsAnswers (old new : List Tally) (edge count : ℕ) : Type 0 where
   pub edges : edges_of new ≡ edges_of old
   pub messages : Same (messages_on old) (messages_on new)

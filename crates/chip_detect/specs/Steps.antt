@@ -19,8 +19,7 @@ pub record Gets (old new : Books) (edge : ℕ) : Type 0 where
   pub outs : new.outs ≡ old.outs
   pub parent : new.parent ≡ or_else old.parent edge
 
--- so many messages of the edge were acknowledged: the vertex is neutral once nothing is owed on its
--- parent edge
+-- `count` messages of the edge were acknowledged: the vertex is neutral once nothing is owed on its parent edge
 pub record Acknowledges (old new : Books) (edge count : ℕ) : Type 0 where
   pub ins : AddsAnswers old.ins new.ins edge count
   pub outs : new.outs ≡ old.outs
@@ -32,7 +31,7 @@ pub record Sends (old new : Books) (edge : ℕ) : Type 0 where
   pub outs : AddsMessage old.outs new.outs edge
   pub parent : new.parent ≡ old.parent
 
--- so many more acknowledgements of the edge were settled
+-- `count` more acknowledgements of the edge were settled
 pub record Settles (old new : Books) (edge count : ℕ) : Type 0 where
   pub ins : new.ins ≡ old.ins
   pub outs : AddsAnswers old.outs new.outs edge count

@@ -232,8 +232,8 @@ impl Detect {
     }
 }
 
-/// How many messages a vertex may acknowledge on its parent edge, where it owes `owed` messages. It keeps the one that
-/// engaged it until it is done but for these: it owes nothing elsewhere, is passive and has no deficit.
+/// How many messages a vertex may acknowledge on its parent edge, if it owes `owed` messages there. It keeps the one
+/// that engaged it until it is done but for these: it owes nothing elsewhere, is passive and has no deficit.
 pub fn may_ack_on_parent(owed: u64, all_owed: u64, deficit: u64, passive: bool) -> u64
     requires { 0 < owed }
     ensures { result ≡ (if is_done owed all_owed deficit passive then owed else owed - 1) }

@@ -11,7 +11,7 @@ use Rattle.chip_detect.specs.Books.{Books}
 use Rattle.chip_detect.specs.Change.{AddsMessage, AddsAnswers}
 use Rattle.chip_detect.proofs.ListLemmas.{contained, contains_cases, contains_first, contains_later, contains_nothing}
 
--- the books with so many messages and answers on each of these edges into the part and out of it
+-- the books with these numbers of messages and answers on each of these edges into the part and out of it
 abbrev pub books_by : List ℕ → List ℕ → (ℕ → ℕ) → (ℕ → ℕ) → (ℕ → ℕ) → (ℕ → ℕ) → Option ℕ → Books
 books_by ins outs got acked sent settled parent = record {
   ins = map (λ e. record { edge = e; messages = got e; answered = acked e }) ins;
@@ -62,7 +62,7 @@ side_message es f h f' h' e on more same = record {
       let none = counts_out es f h i in let still = counts_out es f' h' i in let has = contained es i in grind (arith, nat_tests));
 }
 
--- so many more answers
+-- `count` more answers
 pub side_answers : (es : List ℕ) (f h f' h' : ℕ → ℕ) (e count : ℕ) → Contains es e
     → ((i : ℕ) → Contains es i → f' i ≡ f i) → ((i : ℕ) → Contains es i → h' i ≡ cond (eqb e i) (h i + count) (h i))
     → AddsAnswers (side es f h).ins (side es f' h').ins e count

@@ -1,5 +1,4 @@
--- Serves Ending.antt, Laws.antt.
--- Where it is over each round takes the lowest level off the tree.
+-- Serves Ending.antt, Laws.antt. Once it is over each round takes the lowest level off the tree.
 use Rattle.std.proofs.Common.{Bool, true, Option, ◌+◌, ◌≡◌, ◌≢◌, ◌⊎◌, ℕ, zero, suc, ◌-◌, ◌<◌, ◌≤◌, eqb, List, [], ◌∷◌, cond}
 use Rattle.std.proofs.Common.{Some, None, Contains, refl, sym, ap, ◌∙◌, subst, arith, inl, inr, ⊎_elim}
 use Rattle.std.proofs.lemmas.Bool.Decides.{nat_tests}
@@ -21,7 +20,7 @@ use Rattle.chip_detect.proofs.ListLemmas.{contains_later, contains_cases, contai
 
 -- ---- the books of one part
 
--- where nothing may be acknowledged on an edge, nothing is owed there, or it is the parent edge
+-- if nothing may be acknowledged on an edge, nothing is owed there, or it is the parent edge
 little : (e : ℕ) (parent : Option ℕ) (here all waiting : ℕ) (passive : Bool)
     → acknowledgeable_count e parent here all waiting passive ≡ 0 → (here ≡ 0) ⊎ (parent ≡ Some e)
 little e None here all waiting passive none = inl none
@@ -51,7 +50,7 @@ rests b passive sound is none idle = ⊎_elim (λ z. z) (λ some. absurd (engage
 -- ---- rounds
 
 module _ (net : Network) (is : IsNetwork net) (level : ℕ → ℕ) where
-  -- parents have a higher level than their tails, and no more than so much
+  -- parents have a higher level than their tails, and no more than `most`
   record Low (w : World) (most : ℕ) : Type 0 where
     below : (p : ℕ) → p < net.parts → (e : ℕ) → (w p).books.parent ≡ Some e
         → (level (net.tail e) < level p) × (level p ≤ most)

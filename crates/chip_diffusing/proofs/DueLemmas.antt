@@ -1,5 +1,5 @@
--- Serves Ending.antt, Laws.antt.
--- Where it is over, an acknowledgement or a settle is due until the root is closed, and few of them are left.
+-- Serves Ending.antt, Laws.antt. Once it is over, an acknowledgement or a settle is due until the root is closed, and
+-- few of them are left.
 use Rattle.std.proofs.Common.{◌≡◌, ◌⊎◌, ℕ, zero, suc, ◌+◌, ◌-◌, ◌<◌, ◌≤◌, Bool, true, false, [], ◌∷◌, ◌++◌}
 use Rattle.std.proofs.Common.{refl, ap, ◌∙◌, subst, arith, inl, inr, ⊎_elim, length, cond}
 use Rattle.std.proofs.lemmas.Bool.Decides.{nat_tests}

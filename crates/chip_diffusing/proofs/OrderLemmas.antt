@@ -1,5 +1,5 @@
--- Serves Ending.antt, Laws.antt.
--- The engaged parts form a tree below the root in every legal log, and what that says where the root is closed.
+-- Serves Ending.antt, Laws.antt. The engaged parts form a tree below the root in every legal log, and what that says if
+-- the root is closed.
 use Rattle.std.proofs.Common.{◌≡◌, ◌≢◌, ◌⊎◌, ℕ, zero, suc, ◌<◌, ◌≤◌, cond, eqb, Bool, true, List, [], ◌∷◌}
 use Rattle.std.proofs.Common.{Option, Some, None, Contains, refl, sym, ap, ◌∙◌, subst, arith, inl, inr, ⊎_elim}
 use Rattle.std.proofs.lemmas.Bool.Decides.{nat_tests}
@@ -188,7 +188,7 @@ module _ (net : Network) (is : IsNetwork net) where
         },
       )
 
-  -- ---- where the root is closed
+  -- ---- if the root is closed
 
   module _ (log : Log) (w : World) (legal : IsLegalLog net log w) (closed : IsClosed net w) where
     abbrev kept : IsKept net w

@@ -1,5 +1,4 @@
--- Serves Computation.antt, Laws.antt.
--- What may still happen where nothing is on its way and every part is passive.
+-- Serves Computation.antt, Laws.antt. What may still happen once nothing is on its way and every part is passive.
 use Rattle.std.proofs.Common.{◌≡◌, ℕ, ◌≤◌, true, [], ◌∷◌, ◌++◌}
 use Rattle.std.proofs.Common.{Some, refl, sym, ap, ◌∙◌, subst, arith, true≢false}
 use Rattle.chip_detect.specs.Tally.{messages_on}

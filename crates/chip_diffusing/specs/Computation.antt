@@ -36,8 +36,8 @@ settled_on net w e = settled_of (w (net.tail e)).books e
 abbrev pub in_flight : Network → World → ℕ → ℕ
 in_flight net w e = sent_on net w e - got_on net w e
 
--- a message is sent or got on an edge; so many are acknowledged; the tail hears that `word` are acknowledged so far; or a
--- part does something of its own
+-- a message is sent or got on an edge; a number of its messages is acknowledged; the tail hears that `word` are
+-- acknowledged so far; or a part does something of its own
 pub data Event : Type 0 where
   Send : ℕ → Event
   Get : ℕ → Event

@@ -72,13 +72,13 @@ pub record HasRound (net : Network) (old new : World) : Type 0 where
   pub goes : Goes net old new
   pub turns : (p : ℕ) → p < net.parts → (p ≡ net.root → ⊥) → HasTurn net old new p
 
--- so many rounds, one after another
+-- n rounds, one after another
 abbrev pub HasRounds : Network → ℕ → World → World → Type 0
 HasRounds net zero old new = old ≡ new
 HasRounds net (suc n) old new = (w : World) × HasRounds net n old w × HasRound net w new
 
--- the tree is at most so deep: each engaged part has a level of at most so much, and the tail of its parent edge has a
--- lower one, be it a part or the root
+-- the tree is at most `depth` deep: each engaged part has a level of at most `depth`, and the tail of its parent edge
+-- has a lower one, be it a part or the root
 pub record IsAtMostDeep (net : Network) (w : World) (depth : ℕ) : Type 0 where
   pub level : ℕ → ℕ
   pub below : (p : ℕ) → p < net.parts → (e : ℕ) → (w p).books.parent ≡ Some e

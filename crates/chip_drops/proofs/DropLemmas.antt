@@ -45,7 +45,7 @@ use Rattle.chip_drops.specs.Pile.{IsPile, IsStable, IsBegunDrop, sum_between}
 use Rattle.chip_drops.specs.declared.rows.RowsFault.{RowsFault}
 use Rattle.chip_drops.specs.Rows.{row_text, rows_text, IsOut, LeavesRows, most_held}
 
--- ---- the work list of a drop, and what is told by it
+-- ---- the work list of a drop, and the avalanche by it
 
 -- a vertex that alone may be legal is listed if it is
 pub listed_if : (G : Multigraph) (chips list : List ℕ) (v : ℕ) (b : Bool) → (IsLegal G (slice_index chips) v → b ≡ true)
@@ -61,7 +61,7 @@ listed_if G chips list v false is room is_vertex alone = record {
   legal = λ u can. absurd (true≢false (sym (is (subst (IsLegal G (slice_index chips)) (alone u can) can))));
 }
 
--- where all vertices are listed, those that fired are
+-- if all vertices are listed, those that fired are
 pub all_supported : (n : ℕ) (fired fired' vs : List ℕ) (m : ℕ) → length vs ≡ n → length vs ≤ m
     → ((v : ℕ) → v < length vs → get_or vs v 0 ≡ v) → HasSupport n fired fired' (take m vs)
 all_supported n fired fired' vs m each all are = rw (take_all m vs all) (record {
@@ -175,7 +175,7 @@ module _ (G : Multigraph) (good : IsGraph G) (x f y f' z : ℕ → ℕ) (one : L
       let alike = ends_alike G good x f y one vs ok ended two.0 two.1.sequence (rw there at stable) in
       ((λ v. alike.0 v ∙ sym (two.1.counted v)), (λ v. two.1.position v ∙ sym (alike.1 v)))
 
-  -- told by what is between the counts
+  -- the avalanche by what is between the counts
   drop_tells : (a : Avalanche) → a.size ≡ sum_below G.vertices (λ v. f' v - f v)
       → a.extent ≡ sum_below G.vertices (λ v. min (f' v - f v) 1) → a.lost ≡ z G.sink - y G.sink → IsAvalanche G y a z
   drop_tells a size extent lost = record {
@@ -220,7 +220,7 @@ module _ (p : Pile) (pile : IsPile p) (g' : ChipGame) (v c added : ℕ) (more : 
   led_drop = rw more.same_graph (leads_more _ _ _ _ (λ u. cond (eqb v u) c 0) _ _
       (rest_leads _ _ _ pile.begun pile.at_rest) start_more (λ u. refl))
 
-  -- the sink has so many
+  -- how many chips the sink has
   pub arrived_drop : (sink arrived : ℕ) → sink ≡ g'.graph.sink → arrived ≡ get_or now sink arrived
       → arrived ≡ dropped (slice_index p.chips.items) v c g'.graph.sink
   arrived_drop sink arrived is_sink is =
@@ -356,7 +356,7 @@ row_short d a vertex count size extent lost =
     let a3 = short a.extent extent in let a4 = short a.lost lost in
     simp length-append (omega arith)
 
--- a fault is handed on
+-- a fault is passed on
 pub handed_on : {T : Type 0} {result : Result T RowsFault} (fault : RowsFault) → IsErrAnd result (λ f. f ≡ fault)
     → result ≡ Err fault
 handed_on {result = Ok value} fault is = absurd is

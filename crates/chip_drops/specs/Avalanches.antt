@@ -10,7 +10,7 @@ use Rattle.chip_drops.specs.declared.avalanche.Avalanche.{Avalanche}
 use Rattle.chip_drops.specs.declared.pile.Pile.{Pile}
 use Rattle.chip_drops.specs.Pile.{IsStable}
 
--- the position x with so many chips more on v
+-- the position x with `count` more chips on v
 abbrev pub dropped : (ℕ → ℕ) → ℕ → ℕ → ℕ → ℕ
 dropped x v count u = x u + (if v == u then count else 0)
 
@@ -18,13 +18,14 @@ dropped x v count u = x u + (if v == u then count else 0)
 abbrev pub extent_of : Multigraph → List ℕ → ℕ
 extent_of G vs = sum_below G.vertices (λ v. min (counts vs v) 1)
 
--- a list that fires from x has so many firings, of so many vertices, and brings so many chips to the sink
+-- the avalanche of a list that fires from x: how many firings it has, of how many vertices, and how many chips it
+-- brings to the sink
 pub record Tells (G : Multigraph) (x : ℕ → ℕ) (a : Avalanche) (vs : List ℕ) : Type 0 where
   pub size : a.size ≡ length vs
   pub extent : a.extent ≡ extent_of G vs
   pub lost : x G.sink + a.lost ≡ position_after G x vs G.sink
 
--- some firing sequence from x ends, and each that does is told by these numbers and leaves y
+-- some firing sequence from x ends, and each that does has these numbers and leaves y
 pub record IsAvalanche (G : Multigraph) (x : ℕ → ℕ) (a : Avalanche) (y : ℕ → ℕ) : Type 0 where
   pub ends : (vs : List ℕ) × IsFiringSequence G x vs × HasEnded G x vs
   pub tells : (vs : List ℕ) → IsFiringSequence G x vs → HasEnded G x vs → Tells G x a vs

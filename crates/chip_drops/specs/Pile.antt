@@ -20,18 +20,19 @@ IsStable G x = (v : ℕ) → IsLegal G x v → ⊥
 abbrev pub sum_between : (ℕ → ℕ) → ℕ → List ℕ → List ℕ → ℕ
 sum_between h n fired fired' = sum_below n (λ v. h (slice_index fired' v - slice_index fired v))
 
--- room for plays on so many vertices that have fired so often
+-- room for plays on n vertices with these counts
 pub record IsRoom (n : ℕ) (fired : List ℕ) (r : Room) : Type 0 where
   pub before : r.before.items ≡ fired
   pub support_each : length r.support.items ≡ n
   pub list_room : 0 < length r.list.items
 
--- a work list may have given up; or no vertex is legal, and so many at the front of the support are all that fired
+-- a work list may have given up; or no vertex is legal, and the first n of the support are all that fired
 abbrev pub IsWorkedOff : Multigraph → (chips fired : List ℕ) → Room → Option ℕ → Type 0
 IsWorkedOff G chips fired r worked = IfSome worked (λ n. (n ≤ length r.support.items) × IsStable G (slice_index chips)
     × HasSupport G.vertices r.before.items fired (take n r.support.items))
 
--- the play of the game with all chips that were dropped has come to these chips and counts, and rests within the limit
+-- the play of the game with all chips that were dropped has come to these chips and counts, and has ended within the
+-- limit
 pub record IsPile (p : Pile) : Type 0 where
   pub game : IsGame p.game
   pub begun : IsBegun p.game p.chips.items p.fired.items

@@ -34,7 +34,7 @@ TellsRows G x ds text y = (told : List ((ℕ × ℕ) × Avalanche)) × (map (λ 
 abbrev pub most_held : ℕ
 most_held = 65664
 
--- of all bytes so many were written, and the others are pending
+-- of all bytes the first `written` were written, and the others are pending
 pub record IsOut (old now : Option (List ℕ)) (pending : List ℕ) (written : ℕ) (all : List ℕ) : Type 0 where
   pub counted : written + length pending ≡ length all
   pub held : length pending ≤ most_held

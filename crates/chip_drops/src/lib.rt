@@ -1,6 +1,6 @@
-//! Chips dropped one after another on a game that has come to rest, and the avalanche that each sets off.
+//! Chips dropped one after another on a game that has ended, and the avalanche that each sets off.
 //!
-//! What is told of an avalanche is that of every order of firings (`specs/Avalanches.antt`).
+//! The avalanche that is answered is that of every order of firings (`specs/Avalanches.antt`).
 #![tactic(auto)]
 
 pub use avalanche::Avalanche;

@@ -1,4 +1,4 @@
-//! A pile: a game that has come to rest, on which chips are dropped.
+//! A pile: a game that has ended, on which chips are dropped.
 
 ghost use Rattle.std.specs.Prelude.{◌≡◌, ℕ, ◌+◌, ◌<◌, ◌≤◌, List, [], ◌∷◌, sum, slice_index, IfOk};
 ghost use Rattle.chip_graph.specs.Limits.{max_total};
@@ -49,7 +49,7 @@ impl Pile {
         })
     }
 
-    /// Drops so many chips on a vertex and plays to the end: the avalanche, or `None` if the limit has stopped it.
+    /// Drops `count` chips on a vertex and plays to the end: the avalanche, or `None` if the limit has stopped it.
     pub fn drop_chips(self, alloc: Global, vertex: u64, count: u64) -> (Pile, Option<Avalanche>)
         requires pile { IsPile self }
         requires stable { IsStable self.game.graph (slice_index self.chips.items) }
@@ -63,7 +63,7 @@ impl Pile {
         self.begin_drop(vertex, count).finish(alloc, &mut Unwatched)
     }
 
-    /// Drops so many chips on a vertex, and plays on by a work list.
+    /// Drops `count` chips on a vertex, and plays on by a work list.
     pub(crate) fn begin_drop(self, vertex: u64, count: u64) -> BegunDrop
         requires pile { IsPile self }
         requires stable { IsStable self.game.graph (slice_index self.chips.items) }

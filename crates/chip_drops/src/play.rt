@@ -23,7 +23,7 @@ pub(crate) struct Room {
 }
 
 impl Room {
-    /// Room for so many vertices that have fired so often.
+    /// Room for `vertices` vertices with these counts.
     pub(crate) fn new(alloc: Global, vertices: usize, fired: &[u64]) -> Result<Room, AllocError>
         requires some { 0 < vertices }
         requires few { vertices ≤ max_vertices }
@@ -40,8 +40,8 @@ impl Room {
     }
 }
 
-/// Plays on by a work list from these chips and counts. If it comes to the end, so many at the front of the support are
-/// all vertices that fired. No vertex but this one is legal before.
+/// Plays on by a work list from these chips and counts, of which no vertex but this one is legal. If it comes to the
+/// end, it answers how many at the front of the support are all vertices that fired.
 pub(crate) fn work_from(
     game: &Game,
     vertex: u64,

@@ -49,7 +49,7 @@ simulate_tells_play g log end report status ends is =
 abbrev LeadsInAll : Multigraph → (ℕ → ℕ) → SittingContent → Type 0
 LeadsInAll G x t = LeadsTo G x (λ v. slice_index t.prior v + slice_index t.last.fired v) (slice_index t.last.chips)
 
--- where it closed, it left no vertex legal
+-- if it closed, it left no vertex legal
 abbrev LeavesNone : Multigraph → SittingContent → Type 0
 LeavesNone G t = (is_empty t.last.over && is_empty t.last.sealed) ≡ true
     → (v : ℕ) → IsLegal G (slice_index t.last.chips) v → ⊥

@@ -42,7 +42,7 @@ empty_nil (x ∷ xs) is = cc
 abbrev pub LeavesNoneLegal : Multigraph → Outcome → Type 0
 LeavesNoneLegal G o = is_closed o ≡ true → (v : ℕ) → IsLegal G (slice_index o.chips.items) v → ⊥
 
--- where the limit halted no vertex, none is legal
+-- if the limit halted no vertex, none is legal
 pub none_legal : (g : ChipGame) (o : Outcome) → IsPlayed g o → LeavesNoneLegal g.graph o
 none_legal g o played closed v can =
     let none : legal_vertices g.graph (slice_index o.chips.items) ≡ [] = sym played.over

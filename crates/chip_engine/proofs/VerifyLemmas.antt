@@ -3,7 +3,7 @@
 use Rattle.std.proofs.Common.{◌≡◌, ◌↔◌, Bool, true, false, refl}
 use mathlib.Core.Bool.{beq}
 
--- two tests agree where what they test for does
+-- two tests agree if what they test for does
 pub alike : (a b : Bool) (P Q : Type 0) → (a ≡ true) ↔ P → (b ≡ true) ↔ Q → (beq a b ≡ true) ↔ (P ↔ Q)
 alike true true P Q p q = (λ _. (λ _. q.0 refl, λ _. p.0 refl), λ _. refl)
 alike true false P Q p q = (λ e. cc, λ same. q.1 (same.0 (p.0 refl)))

@@ -19,7 +19,7 @@ line_text what row =
 abbrev pub row_text : List ℕ → Explanation → List ℕ
 row_text what row = line_text what row ++ codes "\n" ++ row.place.reading.now ++ row.advice.now
 
--- a line for each row of a table, and where more is said
+-- a line for each row of a table, and the command that says more
 abbrev pub table_text : List ℕ → List Explanation → List ℕ
 table_text what table =
     flat_map (line_text what) table

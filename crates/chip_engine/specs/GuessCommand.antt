@@ -20,7 +20,7 @@ use Rattle.chip_command.specs.declared.fault.Fault.TheVariants.{NotReport, Resum
 abbrev pub has_brace : List ℕ → Bool
 has_brace text = slice_index text 0 == 123
 
--- a report of so many vertices tells these counts, in all its sittings
+-- a report of `vertices` vertices tells these counts, in all its sittings
 pub record TellsCounts (limits : SizeLimits) (vertices : ℕ) (text counts : List ℕ) : Type 0 where
   pub told : Resumed
   pub report : IsAnyReportWithin limits text told
@@ -28,7 +28,7 @@ pub record TellsCounts (limits : SizeLimits) (vertices : ℕ) (text counts : Lis
   pub counts_each : length counts ≡ vertices
   pub counted : (v : ℕ) → v < vertices → slice_index counts v ≡ fired_in_all told v
 
--- a text means these counts of so many vertices: a report where it has a brace, else rows
+-- a text means these counts of `vertices` vertices: a report if it has a brace, else rows
 pub record MeansGuess (limits : SizeLimits) (vertices : ℕ) (text counts : List ℕ) : Type 0 where
   pub report : has_brace text ≡ true → TellsCounts limits vertices text counts
   pub rows : has_brace text ≡ false → guess_of_text vertices text ≡ Some counts
@@ -51,14 +51,14 @@ RefusesGuess limits vertices text fault =
     RefusesText limits text (λ f. (has_brace text ≡ false) × (guess_text_fault vertices text ≡ Some f)) fault
     ⊎ Reads limits text ((has_brace text ≡ true) × RefusesTold limits vertices text fault)
 
--- what reading a guess for so many vertices may give
+-- what reading a guess for `vertices` vertices may give
 abbrev pub reading_guess : SizeLimits → ℕ → Option (List ℕ) → Spec (Vec ℕ)
 reading_guess limits vertices guess = record {
   gives = λ counts. ForSome guess (λ text. Reads limits text (MeansGuess limits vertices text counts.items));
   refuses = λ fault. ForSome guess (λ text. RefusesGuess limits vertices text fault);
 }
 
--- what `plain` answers with a guess by these limits: what it answers without one, where the guess is one
+-- what `plain` answers with a guess by these limits: what it answers without one, if the guess is one
 abbrev pub GuessAnswers : SizeLimits → (graph chips guess : Option (List ℕ)) → ℕ → Option (List ℕ) → Option (List ℕ)
     → Result Ended Fault → Type 0
 GuessAnswers limits graph chips guess limit old new result = CommandAnswers

@@ -1,4 +1,4 @@
--- A play in several sittings, told by the reports that the commands write.
+-- A play in several sittings, by the reports that the commands write.
 use Rattle.std.specs.Prelude.{◌≡◌, ℕ, List, [], ◌∷◌, ◌++◌, codes, slice_index, Some, Ok}
 use Rattle.chip_graph.specs.Limits.{SizeLimits}
 use Rattle.chip_graph.specs.Multigraph.{Multigraph}

@@ -28,8 +28,8 @@ pub record IsDifference (told : Resumed) (o : Outcome) (v : ℕ) : Type 0 where
   pub agrees_below : (u : ℕ) → u < v → AgreesAt told o u
 
 -- verifying a sitting says that it tells the outcome of the game, whatever was fired before it; or it has another
--- number of vertices than the game, or it tells another outcome, and this is the least vertex where it does, or there
--- is no memory
+-- number of vertices than the game, or it tells another outcome, and this is the least vertex that differs, or there is
+-- no memory
 abbrev pub verifying : ChipGame → Resumed → Spec (List ℕ × ℕ)
 verifying g told = record {
   gives = λ (text, status). (o : Outcome) × IsPlayed g o × (length told.outcome.fired.items ≡ g.graph.vertices)

@@ -36,7 +36,7 @@ pub record WentOn (r : Resumed) : Type 0 where
   pub over : r.outcome.over.items ≡ []
   pub sealed : r.outcome.sealed.items ≡ []
 
--- the vertices that fire in turn where it is never stopped
+-- the vertices that fire in turn if it is never stopped
 abbrev pub never_stopped : List ℕ
 never_stopped = 0 ∷ 0 ∷ 1 ∷ 0 ∷ []
 
@@ -93,7 +93,8 @@ triangle_within limit = record { graph = triangle; start = 4 ∷ 0 ∷ 0 ∷ [];
 abbrev pub begun : List (List TraceRow)
 begun = (Take 4 4 ∷ Fire 1 ∷ []) ∷ (Take 0 1 ∷ []) ∷ [] ∷ []
 
--- what is told to be left of these rows with a limit of two firings and of one, its status, and what is told unasked
+-- what is left of these rows, as it is written with a limit of two firings and of one, its status, and what is written
+-- unasked
 pub record TriangleLeaves : Type 0 where
   pub can_fire : flat_map left_text (told_left true (triangle_within 2) begun)
       ≡ codes "left: edge 1 has 1 messages\nleft: vertex 0 can fire\n"

@@ -50,7 +50,7 @@ pub fn avalanches_engine<G: Read, C: Read, D: Read, W: Write, T: Write>(
 }
 
 /// Does what `avalanches_engine` does, by these options, and tells now and then how far the play before the drops has
-/// come, and a slow one after a drop, and of the report. Its answer and its bytes are the same, whoever is told.
+/// come, and a slow one after a drop, and of the report. Its answer and its bytes are the same, whoever watches.
 pub fn avalanches_engine_with<G: Read, C: Read, D: Read, P: Watch, W: Write, T: Write>(
     alloc: Global,
     graph: &mut G,

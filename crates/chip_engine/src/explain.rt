@@ -65,7 +65,7 @@ fn explain(alloc: Global, what: &str, row: &Explanation) -> Result<String, Alloc
     Ok(text)
 }
 
-/// A line for each row of a table, and where more is said.
+/// A line for each row of a table, and the command that says more.
 fn list_all(alloc: Global, what: &str, table: &[&Explanation]) -> Result<String, AllocError>
     ensures { IfOk result (λ text. string_bytes text ≡ table_text what.now (rows_of table.now)) }
 {

@@ -13,7 +13,7 @@ use chip_sequence::{ResumeFault, Resumed};
 use std::alloc::{AllocError, Global};
 use std::io::Read;
 
-/// How often each of so many vertices fires by a guess: a report within the limits, or rows.
+/// How often each of `vertices` vertices fires by a guess: a report within the limits, or rows.
 pub(crate) fn read_guess<R: Read>(
     alloc: Global,
     limits: Limits,
@@ -37,7 +37,7 @@ fn has_brace(text: &[u8]) -> bool
     text.first().copied().unwrap_or(0) == b'{'
 }
 
-/// How often each of so many vertices fired in all sittings that a report within the limits tells.
+/// How often each of `vertices` vertices fired in all sittings that a report within the limits tells.
 fn counts_of_report(
     alloc: Global,
     limits: Limits,

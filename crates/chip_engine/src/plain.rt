@@ -37,8 +37,8 @@ pub fn plain_engine<G: Read, C: Read, W: Write>(
     )
 }
 
-/// Does what `plain_engine` does, by these options, and tells now and then, after some more rounds, how far the play has
-/// come. Its answer and its bytes are the same, whoever is told.
+/// Does what `plain_engine` does, by these options, and tells now and then, after some more rounds, how far the play
+/// has come. Its answer and its bytes are the same, whoever watches.
 pub fn plain_engine_with<G: Read, C: Read, P: Watch, W: Write>(
     alloc: Global,
     graph: &mut G,

@@ -38,8 +38,8 @@ pub fn resume_engine<G: Read, R: Read, W: Write>(
     )
 }
 
-/// Does what `resume_engine` does, by these options, and tells now and then how far the play has come. Its answer and its
-/// bytes are the same, whoever is told.
+/// Does what `resume_engine` does, by these options, and tells now and then how far the play has come. Its answer and
+/// its bytes are the same, whoever watches.
 pub fn resume_engine_with<G: Read, R: Read, P: Watch, W: Write>(
     alloc: Global,
     graph: &mut G,
@@ -57,7 +57,7 @@ pub fn resume_engine_with<G: Read, R: Read, P: Watch, W: Write>(
     deliver(output, answer)
 }
 
-/// The sitting that a report of at most so many vertices and bytes tells, of either version.
+/// The sitting that a report within the limits tells, of either version.
 pub(crate) fn read_sitting<R: Read>(
     alloc: Global,
     limits: Limits,

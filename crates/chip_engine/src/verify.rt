@@ -42,8 +42,8 @@ pub fn verify_engine<G: Read, C: Read, R: Read, W: Write>(
     )
 }
 
-/// Does what `verify_engine` does, by these options, and tells now and then how far the play has come. Its answer is the
-/// same, whoever is told.
+/// Does what `verify_engine` does, by these options, and tells now and then how far the play has come. Its answer is
+/// the same, whoever watches.
 pub fn verify_engine_with<G: Read, C: Read, R: Read, P: Watch, W: Write>(
     alloc: Global,
     graph: &mut G,

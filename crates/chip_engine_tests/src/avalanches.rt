@@ -128,15 +128,15 @@ fn a_stopped_drop_has_no_row(rt: HostRuntime) {
 const SLOW: &str =
     "{\"edges\":[[0,1,1000],[0,2,1],[1,0,1000]],\"sink\":2,\"version\":1,\"vertices\":3}";
 
-/// At 0 and 1 together 1000 chips come to rest. So of the second drop 1005 go to the sink, one at each firing of 0, and 1
-/// fires as often.
+/// At 0 and 1 together 1000 chips stay. So of the second drop 1005 go to the sink, one at each firing of 0, and 1 fires
+/// as often.
 const SLOW_DROPS: &str = "vertex,chips\n0,5\n0,2000\n1,3\n";
 
 const BEFORE: &str = "vertex,chips,size,extent,lost\n0,5,0,0,0\n";
 
 const AFTER: &str = "0,2000,2010,2,1005\n1,3,0,0,0\n";
 
-/// Takes no more than so many bytes, and keeps how many it had after each write.
+/// Takes no more than `room` bytes, and keeps how many it had after each write.
 #[derive(Drop)]
 struct Blocks {
     room: usize,
@@ -160,7 +160,7 @@ impl Write for Blocks {
     }
 }
 
-/// What comes of the slow drops where the output has room for so many bytes: the answer, the output, and who was told.
+/// What comes of the slow drops if the output has room for `room` bytes: the answer, the output, and who was told.
 fn slow_drops(alloc: Global, room: usize) -> (Result<Ended, Fault>, Blocks, Heard) {
     let (graph, chips) = (&mut SLOW.as_bytes(), &mut "vertex,chips\n".as_bytes());
     let (drops, options) = (&mut SLOW_DROPS.as_bytes(), PlayOptions::standard(NO_LIMIT));

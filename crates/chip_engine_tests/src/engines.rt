@@ -444,7 +444,7 @@ pub(crate) const WENT_ON: &str =
 const STOOD_STILL: &str = "{\"chips\":[2,0,3],\"closed\":false,\"fired\":[0,0,0],\"over\":[0],\
     \"prior\":[2,1,0],\"sealed\":[],\"version\":2}\n";
 
-/// Four chips, where edge 0 was sealed.
+/// Four chips, after edge 0 was sealed.
 const SEALED: &str =
     "{\"chips\":[0,2,2],\"closed\":false,\"fired\":[2,0,0],\"over\":[],\"sealed\":[0],\"version\":1}\n";
 
@@ -456,7 +456,7 @@ const UNSEALED: &str = "{\"chips\":[1,0,3],\"closed\":true,\"fired\":[0,1,0],\"o
 const OF_TWO: &str =
     "{\"chips\":[0,0],\"closed\":true,\"fired\":[0,0],\"over\":[],\"sealed\":[],\"version\":1}\n";
 
-/// What `resume` answers for a report with this limit, where it is to write this text.
+/// What `resume` answers for a report with this limit, if it is to write this text.
 fn resumed(
     rt: &(impl AllocGlobal + Abort),
     report: &str,
@@ -475,7 +475,7 @@ fn resumed(
     ended
 }
 
-/// What `check` and `resume` answer at the triangle by limits of so many vertices.
+/// What `check` and `resume` answer at the triangle by limits of `vertices` vertices.
 fn answers_within(rt: &impl AllocGlobal, vertices: u64) -> Option<(Option<Fault>, Option<Fault>)> {
     let options = PlayOptions {
         limits: Limits::new(vertices, 4, 1_000)?,
@@ -537,7 +537,7 @@ fn verifies_the_triangle(rt: HostRuntime) {
     assert!(rt; verified(&rt, "", NO_LIMIT) == Err(Fault::NotReport));
 }
 
-/// Where the graph is refused nothing of the report is read.
+/// If the graph is refused nothing of the report is read.
 #[test]
 fn reads_no_report_of_a_refused_graph(rt: HostRuntime) {
     let no_edge = "{\"edges\":[],\"sink\":1,\"version\":1,\"vertices\":2}";

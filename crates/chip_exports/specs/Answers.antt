@@ -1,4 +1,4 @@
--- What C is told of a call.
+-- What a call answers to C.
 use Rattle.std.specs.Prelude.{◌≡◌, ℕ, Result, Ok, Err}
 use Rattle.chip_library.specs.declared.fault.CallFault.{CallFault}
 use Rattle.chip_library.specs.CallFaults.{call_fault_number, place_of}

@@ -1,4 +1,4 @@
--- What C is told of a call on the books of a part.
+-- What a call on the books of a part answers to C.
 use Rattle.std.specs.Prelude.{◌≡◌, ℕ, Bool, true, false, not, ◌==◌, Result, Ok, Err}
 use Rattle.chip_library.specs.declared.detector.BooksFault.{BooksFault}
 use Rattle.chip_library.specs.PartBooks.{books_fault_number}
@@ -16,7 +16,7 @@ status_of (Err fault) = books_fault_number fault
 abbrev pub Status : {T : Type 0} → ℕ → (Result T BooksFault → Type 0) → Type 0
 Status {T} status promise = (done : Result T BooksFault) × promise done × (status ≡ status_of done)
 
--- what is written, where `old` was written before
+-- what is written, if `old` was written before
 abbrev pub count_of : Result ℕ BooksFault → ℕ → ℕ
 count_of (Ok count) old = count
 count_of (Err fault) old = old

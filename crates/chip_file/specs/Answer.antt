@@ -20,8 +20,8 @@ abbrev pub Gives : {T : Type 0} → (T → Type 0) → (FileFault → Type 0) �
 Gives IsMeant IsFault (Ok value) = IsMeant value
 Gives IsMeant IsFault (Err f) = (f ≡ fault.NoMemory) ⊎ IsFault f
 
--- what reading an input answers: a value that it means or its fault, where it is short enough, else `TooLong`; the
--- machine may fail at any input
+-- what reading an input answers: a value that it means or its fault, if it is short enough, else `TooLong`; the machine
+-- may fail at any input
 abbrev pub Answers : {T : Type 0} → SizeLimits → List ℕ → (T → Type 0) → (FileFault → Type 0) → Result T FileFault
     → Type 0
 Answers limits input IsMeant IsFault (Ok value) = (length input ≤ limits.bytes) × IsMeant value
@@ -30,11 +30,11 @@ Answers limits input IsMeant IsFault (Err f) =
     ⊎ ((limits.bytes < length input) × (f ≡ fault.TooLong))
     ⊎ ((length input ≤ limits.bytes) × IsFault f)
 
--- of bytes that were known to be left, at most so many were taken
+-- of bytes that were known to be left, at most `most` were taken
 abbrev pub TakesAtMost : ℕ → Option (List ℕ) → Option (List ℕ) → Type 0
 TakesAtMost most old new = (bytes : List ℕ) × Consumes old new bytes × (length bytes ≤ most)
 
--- where a read failed, no more bytes were taken than an input may have
+-- if a read failed, no more bytes were taken than an input may have
 abbrev pub FailsInTime : {T : Type 0} → SizeLimits → Option (List ℕ) → Option (List ℕ) → Result T FileFault → Type 0
 FailsInTime limits old new result = IfErr result (λ f. f ≡ fault.Read → TakesAtMost limits.bytes old new)
 

@@ -21,7 +21,7 @@ chips_text_fault vertices text =
     first_of_faults (numbers_text_fault chips_header vertices text)
     (fault_unless (nat_le (sum (chips_of_rows vertices text)) max_total) fault.Total)
 
--- the chips that a text means: none where something is wrong with it
+-- the chips that a text means: none if something is wrong with it
 abbrev pub chips_of_text : ℕ → List ℕ → Option (List ℕ)
 chips_of_text vertices text =
     if is_none (chips_text_fault vertices text) then Some (chips_of_rows vertices text) else None

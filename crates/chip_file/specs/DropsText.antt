@@ -13,7 +13,7 @@ drop_in row = (vertex_in row, given_in row)
 abbrev pub drops_text_fault : ℕ → List ℕ → Option FileFault
 drops_text_fault vertices text = records_fault chips_header (by_index (vertex_row_fault vertices)) (records_of text)
 
--- the drops that a text means, in order: none where something is wrong with it
+-- the drops that a text means, in order: none if something is wrong with it
 abbrev pub drops_of_text : ℕ → List ℕ → Option (List (ℕ × ℕ))
 drops_of_text vertices text =
     if is_none (drops_text_fault vertices text) then Some (map drop_in (rows_under_header (records_of text))) else None

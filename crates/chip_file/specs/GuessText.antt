@@ -12,6 +12,6 @@ guess_header = codes "vertex" ∷ codes "fired" ∷ []
 abbrev pub guess_text_fault : ℕ → List ℕ → Option FileFault
 guess_text_fault = numbers_text_fault guess_header
 
--- how often each vertex fired by the guess that a text means: none where something is wrong with it
+-- how often each vertex fired by the guess that a text means: none if something is wrong with it
 abbrev pub guess_of_text : ℕ → List ℕ → Option (List ℕ)
 guess_of_text = numbers_of_text guess_header

@@ -61,7 +61,8 @@ abbrev pub AreMade : List Step → List Step → Type 0
 AreMade before [] = Unit {0}
 AreMade before (step ∷ steps) = MayMake before step × AreMade (before ++ step ∷ []) steps
 
--- what holds of rows without a fault: at each end is only the process that has it, and each makes its steps where it may
+-- what holds of rows without a fault: at each end is only the process that has it, and each makes only steps that it
+-- may make
 pub record IsSound (log : List LogRow) : Type 0 where
   pub unused : (end : Step) (p : ℕ) → (holder end log ≡ Some p → ⊥) → uses end (steps_of p log) ≡ 0
   pub made : (p : ℕ) → AreMade [] (steps_of p log)

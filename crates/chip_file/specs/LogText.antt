@@ -126,7 +126,7 @@ log_row_fault limits before row =
 abbrev pub log_text_fault : SizeLimits → List ℕ → Option FileFault
 log_text_fault limits text = records_fault log_header (log_row_fault limits) (records_of text)
 
--- the log that a text means, in the order of the file, and its sizes: none where something is wrong with it
+-- the log that a text means, in the order of the file, and its sizes: none if something is wrong with it
 abbrev pub log_of_text : SizeLimits → List ℕ → Option (List LogRow × Sizes)
 log_of_text limits text =
     let log = map log_row_in (rows_under_header (records_of text)) in

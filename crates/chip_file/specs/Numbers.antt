@@ -17,6 +17,6 @@ number_of field =
 abbrev pub number_at : ℕ → List (List ℕ) → Option ℕ
 number_at column row = option_and_then number_of (field_at row column)
 
--- the same, 0 where the field is no number
+-- the same, 0 if the field is no number
 abbrev pub number_in : ℕ → List (List ℕ) → ℕ
 number_in column row = unwrap_or (number_at column row) 0

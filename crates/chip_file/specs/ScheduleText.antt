@@ -70,7 +70,7 @@ event_fault G index row =
 abbrev pub schedule_text_fault : Multigraph → List ℕ → Option FileFault
 schedule_text_fault G text = records_fault schedule_header (by_index (event_fault G)) (records_of text)
 
--- the events that a text means, in order: none where something is wrong with it
+-- the events that a text means, in order: none if something is wrong with it
 abbrev pub schedule_of_text : Multigraph → List ℕ → Option (List Event)
 schedule_of_text G text =
     if is_none (schedule_text_fault G text) then Some (map event_in (rows_under_header (records_of text))) else None

@@ -21,7 +21,7 @@ reads source = source.reads
 abbrev pub last_read : {R : Type 0} → Source R → LastRead
 last_read source = source.last
 
--- the bytes that the reader has left, where they are known
+-- the bytes that the reader has left, if they are known
 abbrev pub bytes_left : {R : Type 0} → (R → Option (List ℕ)) → Source R → Option (List ℕ)
 bytes_left remaining source = remaining source.reader.now
 
@@ -49,7 +49,7 @@ last_of_whole (Ok value) = last.End
 last_of_whole (Err fault.Read) = last.Failure
 last_of_whole (Err f) = last.Bytes
 
--- how the last read went, by what reading a text of an input answers; where memory ran out the end may have been found
+-- how the last read went, by what reading a text of an input answers; if memory ran out the end may have been found
 abbrev pub Tells : {T : Type 0} → Result T FileFault → LastRead → Type 0
 Tells (Ok value) read = read ≡ last.End
 Tells (Err fault.Read) read = read ≡ last.Failure

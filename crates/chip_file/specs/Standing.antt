@@ -14,7 +14,7 @@ use Rattle.chip_file.specs.Rows.{Row, RowFault, records_fault, rows_under_header
 abbrev pub Records : Type 0
 Records = Reader (Bor (List ℕ))
 
--- the bytes that it has left, where it hasn't failed
+-- the bytes that it has left, if it hasn't failed
 abbrev pub source : Records → Option (List ℕ)
 source reader = source_of (λ s. Some s.now) reader
 
@@ -36,7 +36,7 @@ abbrev pub TakesRow : Bool → Row → List Row → List Row → Type 0
 TakesRow true row old new = old ≡ row ∷ new
 TakesRow false row old new = old ≡ []
 
--- all rows under a header were visited, from a first visitor on, or the first fault of the records is told
+-- all rows under a header were visited, from a first visitor on, or the first fault of the records is answered
 abbrev pub VisitsRecords : {V : Type 0} → RowFault → (List Row → V → Type 0) → Row → List Row → V → Result V FileFault
     → Type 0
 VisitsRecords row_fault HasVisited header records first result =

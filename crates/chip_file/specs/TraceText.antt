@@ -61,7 +61,7 @@ trace_in rows v = map trace_row_in (filter (λ row. number_in 0 row == v) rows)
 abbrev pub trace_text_fault : Multigraph → List ℕ → Option FileFault
 trace_text_fault G text = records_fault trace_header (by_index (trace_row_fault G)) (records_of text)
 
--- the recorded run of each vertex that a text means: none where something is wrong with it
+-- the recorded run of each vertex that a text means: none if something is wrong with it
 abbrev pub traces_of_text : Multigraph → List ℕ → Option (List (List TraceRow))
 traces_of_text G text =
     if is_none (trace_text_fault G text)

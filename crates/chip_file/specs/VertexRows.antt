@@ -42,14 +42,14 @@ numbers_of_rows vertices rows = map (λ v. unwrap_or (number_named rows v) 0) (r
 abbrev pub numbers_text_fault : Row → ℕ → List ℕ → Option FileFault
 numbers_text_fault header vertices text = records_fault header (new_row_fault vertices) (records_of text)
 
--- the numbers of the vertices that a text means: none where something is wrong with it
+-- the numbers of the vertices that a text means: none if something is wrong with it
 abbrev pub numbers_of_text : Row → ℕ → List ℕ → Option (List ℕ)
 numbers_of_text header vertices text =
     if is_none (numbers_text_fault header vertices text)
     then Some (numbers_of_rows vertices (rows_under_header (records_of text)))
     else None
 
--- a list has for each of so many vertices what the vertex has
+-- a list has for each of `vertices` vertices what the vertex has
 pub record IsByVertex {T : Type 0} (vertices : ℕ) (of : ℕ → T) (none : T) (xs : List T) : Type 0 where
   pub as_many : length xs ≡ vertices
   pub each : (v : ℕ) → v < vertices → slice_index_or xs v none ≡ of v

@@ -14,7 +14,8 @@ use std::io::Read;
 /// The header of a file of chips.
 pub(crate) const HEADER: [&str; 2] = ["vertex", "chips"];
 
-/// The chips of each of so many vertices by a file of rows within the limits, or the first thing wrong with the file.
+/// The chips of each of `vertices` vertices by a file of rows within the limits, or the first thing wrong with the
+/// file.
 ///
 /// A vertex that no row names has 0.
 pub fn read_chips_within<R: Read>(
@@ -45,7 +46,7 @@ pub fn chips_of_source<R: Read>(
     chips_of_text(alloc, &text, vertices)
 }
 
-/// The chips of each of so many vertices that a text means, or its first fault.
+/// The chips of each of `vertices` vertices that a text means, or its first fault.
 pub fn chips_of_text(alloc: Global, text: &[u8], vertices: u64) -> Result<Vec<u64>, FileFault>
     ensures { Gives (λ chips. chips_of_text vertices text.now ≡ Some chips.items)
         (λ f. chips_text_fault vertices text.now ≡ Some f) result }

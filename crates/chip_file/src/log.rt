@@ -53,7 +53,7 @@ static KINDS: [(&str, LogKind); 7] = [
 ];
 
 impl LogKind {
-    /// The step of this kind, if its channel is one of so many; only a message has a channel.
+    /// The step of this kind, if its channel is below `channels`; only a message has a channel.
     fn step(self, channel: u64, channels: u64) -> Option<Step>
         requires { channels ≤ 2 ^ 32 }
         ensures { let step = step_of_kind self channel in
@@ -72,7 +72,7 @@ impl LogKind {
     }
 }
 
-/// The basic or the control messages of a channel, if it is one of so many.
+/// The basic or the control messages of a channel, if it is below `channels`.
 fn stream(channel: u64, is_control: bool, channels: u64) -> Option<Stream>
     requires { channels ≤ 2 ^ 32 }
     ensures { result ≡ (if nat_le (channel + 1) channels then Some (stream is_control channel) else None) }

@@ -36,7 +36,7 @@ pub(crate) trait RowVisitor: Drop {
 
 /// The visitor of all rows of a text under this header, or the text's first fault.
 ///
-/// `csv` keeps two copies of a header, or of the first record where there is none. So it is given one that is empty.
+/// `csv` keeps two copies of a header, or of the first record if there is none. So it is given one that is empty.
 pub(crate) fn visit_text<V: RowVisitor>(
     alloc: Global,
     text: &[u8],

@@ -57,7 +57,7 @@ impl<'r, R: Read> Source<'r, R> {
         self.last
     }
 
-    /// Makes one read, of at least one byte where the input has more.
+    /// Makes one read, of at least one byte if the input has more.
     pub(crate) fn read(&mut self, buf: &mut [u8]) -> io::Result<usize>
         requires more { goes_on (last_read self.old) ≡ true }
         requires few { reads self.old < max_reads }

@@ -27,7 +27,7 @@ pub fn read_graph<R: Read>(alloc: Global, reader: &mut R) -> Result<Graph, FileF
     read_graph_within(alloc, Limits::standard(), reader)
 }
 
-/// The chips of each of so many vertices by a file of rows, or the first thing wrong with the file.
+/// The chips of each of `vertices` vertices by a file of rows, or the first thing wrong with the file.
 ///
 /// A vertex that no row names has 0.
 pub fn read_chips<R: Read>(

@@ -114,7 +114,7 @@ pub fn trace_of_text(
     visit_text(alloc, text, &HEADER, graph, traces)
 }
 
-/// So many runs of which nothing is recorded.
+/// `vertices` runs of which nothing is recorded.
 fn empty_traces(alloc: Global, vertices: u64) -> Result<Vec<Vec<TraceRow>>, AllocError>
     ensures { IfOk result (λ traces. map (λ trace. trace.items) traces.items ≡ replicate vertices []) }
 {

@@ -34,7 +34,7 @@ impl RowVisitor for Vec<Option<u64>> {
     }
 }
 
-/// The number of each of so many vertices that a text with this header means, or its first fault.
+/// The number of each of `vertices` vertices that a text with this header means, or its first fault.
 ///
 /// No two rows name one vertex, and one that no row names has 0.
 pub(crate) fn numbers_of_text(

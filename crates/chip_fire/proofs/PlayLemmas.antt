@@ -219,7 +219,7 @@ zeros (suc n) (suc v) = zeros n v
 -- where a play may begin
 
 module _ (g : ChipGame) (ok : IsGame g) where
-  -- the start, where nothing has fired
+  -- the start, before anything has fired
   begun_at_start : IsBegun g g.start (replicate g.graph.vertices 0)
   begun_at_start = record {
     in_range = record {
@@ -243,7 +243,7 @@ module _ (g : ChipGame) (ok : IsGame g) where
   module _ (chips fired counts : List ℕ) (each : length counts ≡ g.graph.vertices) (low : (v : ℕ)
       → slice_index fired v ≤ g.limit) (forced : AreForced g.graph (slice_index g.start) g.limit (slice_index fired))
       (after : IsAfter g counts chips) where
-    -- counts that are forced, and within the limit where they are above those that are
+    -- counts that are forced, and within the limit if they are above those that are
     begun_forced : ((v : ℕ) → slice_index fired v < slice_index counts v → slice_index counts v ≤ g.limit)
         → AreForced g.graph (slice_index g.start) g.limit (slice_index counts) → IsBegun g chips counts
     begun_forced within all = record {

@@ -7,8 +7,8 @@ use Rattle.chip_fire.specs.Rounds.{firings_left}
 abbrev pub places : ChipGame → ℕ
 places g = g.graph.vertices + length g.graph.edges
 
--- rounds that led from the counts fired to fired' added so few looks to `before`: at most one at each vertex and edge for
--- each firing, and one more at each where they do not go on, but have come to the end
+-- rounds that led from the counts fired to fired' added so few looks to `before`: at most one at each vertex and edge
+-- for each firing, and one more at each if they do not go on, but have come to the end
 pub record FewLooks (g : ChipGame) (fired fired' : List ℕ) (before after : ℕ) (goes_on : Bool) : Type 0 where
   pub more : before ≤ after
   pub few : after + places g * firings_left g.graph g.limit fired'

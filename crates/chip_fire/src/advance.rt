@@ -11,8 +11,8 @@ use chip_guess::{AHEAD, Hierarchy, Search};
 use std::alloc::Global;
 
 impl Play<'_> {
-    /// Goes on by some rounds, and where these have not ended the play, at counts that are searched and certified, if there
-    /// are some. If there is no memory, no counts are searched.
+    /// Goes on by some rounds. If these have not ended the play, it goes on at counts that are searched and certified,
+    /// if there are some. If there is no memory, no counts are searched.
     pub(crate) fn advance<W: Watch>(&mut self, alloc: Global, watch: &mut W)
         ensures { self.new.game ≡ self.old.game }
     {

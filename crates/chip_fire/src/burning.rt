@@ -24,7 +24,7 @@ pub(crate) fn burning_order(
     Ok(order)
 }
 
-/// Gives each vertex that fires the chips that the counts leave it, less what comes in where each of these fires once.
+/// Gives each vertex that fires the chips that the counts leave it, less what comes in if each of these fires once.
 fn take_back(slacks: &mut [i64], graph: &Graph, fired: &[u64], counts: &[u64], chips: &[u64]) {
     for (vertex, slack) in slacks.iter_mut().enumerate() {
         if vertex < chips.len() && fires(fired, counts, vertex) {

@@ -15,8 +15,8 @@ use chip_sequence::after;
 use std::alloc::Global;
 
 impl Play<'_> {
-    /// Goes on at a guess, or at the counts so far where these are more, if a test shows that every play within the limit
-    /// that has ended fires each vertex at least so often. `None` if it does not, or if memory runs out: the play is as
+    /// Goes on at a guess, or at the counts so far if these are more, if a test shows that every play within the limit
+    /// that has ended fires each vertex at least as often. `None` if it does not, or if memory runs out: the play is as
     /// it was.
     pub(crate) fn raise_to(&mut self, alloc: Global, guess: &[u64]) -> Option<()>
         ensures same { self.new.game ≡ self.old.game }
@@ -37,8 +37,8 @@ impl Play<'_> {
         Some(())
     }
 
-    /// Whether counts pass a test, by the chips that they leave. One is passed where each vertex that fires more often
-    /// by them than it has fired lacks at most one chip then to fire once more; the other is the burning test, by these
+    /// Whether counts pass a test, by the chips that they leave. One is passed if each vertex that fires more often by
+    /// them than it has fired lacks at most one chip then to fire once more; the other is the burning test, by these
     /// ranks, and finds more if no vertex has a greater in-degree than out-degree.
     fn are_certified(&self, counts: &[u64], order: &[u64], chips: &[u64]) -> bool
         requires counts_each { length counts.now ≡ self.now.game.graph.vertices }
@@ -84,7 +84,7 @@ fn are_earned(game: &Game, fired: &[u64], counts: &[u64], chips: &[u64]) -> bool
     true
 }
 
-/// Whether this vertex may have fired so often, where it has these chips left.
+/// Whether this vertex may have fired `times` times, if it has these chips left.
 fn is_earned(game: &Game, vertex: u64, times: u64, left: u64) -> bool
     requires { vertex < game.now.graph.vertices }
     ensures game { IsGame game.now }
@@ -117,7 +117,7 @@ fn are_burnt(game: &Game, fired: &[u64], counts: &[u64], order: &[u64], chips: &
     true
 }
 
-/// Whether this vertex may have fired so often and burns, where it has these chips left.
+/// Whether this vertex may have fired `times` times and burns, if it has these chips left.
 fn is_burnt(game: &Game, order: &[u64], vertex: u64, times: u64, left: u64) -> bool
     requires is_vertex { vertex < game.now.graph.vertices }
     requires order_each { length order.now ≡ game.now.graph.vertices }
@@ -135,7 +135,7 @@ fn is_burnt(game: &Game, order: &[u64], vertex: u64, times: u64, left: u64) -> b
         && late <= left
 }
 
-/// What comes into a vertex where each tail fires once: in all, and from the tails that burn no sooner.
+/// What comes into a vertex if each tail fires once: in all, and from the tails that burn no sooner.
 fn in_degrees(graph: &Graph, order: &[u64], vertex: u64) -> (u64, u64)
     requires is_vertex { vertex < graph.now.vertices }
     requires order_each { length order.now ≡ graph.now.vertices }

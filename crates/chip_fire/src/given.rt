@@ -33,7 +33,7 @@ impl<'a> Play<'a> {
         Ok(play)
     }
 
-    /// What became of counts that were given, where the play begins here.
+    /// What became of counts that were given, if the play begins here.
     fn use_of(&self, given: &[u64]) -> GivenUse
         ensures { IsUse self.now.game given.now self.now.chips self.now.fired result }
     {

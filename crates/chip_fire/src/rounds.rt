@@ -1,4 +1,4 @@
-//! Rounds, in which each vertex has its turn, and of which a watcher is told.
+//! Rounds, in which each vertex has its turn, and which a watcher follows.
 
 ghost use Rattle.std.specs.Prelude.{◌≡◌, ◌+◌, ◌*◌, ◌/◌, ◌<◌, ◌≤◌, not, slice_index};
 ghost use Rattle.std.specs.Bool.{OnTrue, OnFalse};
@@ -14,7 +14,7 @@ use chip_graph::{Game, Graph};
 use chip_sequence::fire_batch;
 
 impl Play<'_> {
-    /// Makes rounds until none fires a vertex or so many looks are made; whether none fires one. The looks are added to
+    /// Makes rounds until one fires no vertex or `most` looks are made; whether one fired none. The looks are added to
     /// `looks`, up to 2^64 - 1.
     pub(crate) fn ends_within<W: Watch>(
         &mut self,
@@ -35,9 +35,9 @@ impl Play<'_> {
         false
     }
 
-    /// Makes rounds until none fires a vertex or so many looks are made, one round at least, and tells how far the play
-    /// has come; whether each fired a vertex. The looks are added to `looks`, up to 2^64 - 1: one at each vertex in each
-    /// round, and for each vertex that fires as many as vertices have edges out in the mean.
+    /// Makes rounds until one fires no vertex or `most` looks are made, one round at least, and tells `watch` how far
+    /// the play has come; whether each fired a vertex. The looks are added to `looks`, up to 2^64 - 1: one at each
+    /// vertex in each round, and for each vertex that fires as many as vertices have edges out in the mean.
     #[inline(always)]
     pub(crate) fn rounds<W: Watch>(&mut self, most: u64, looks: &mut u64, watch: &mut W) -> bool
         ensures same { self.new.game ≡ self.old.game }
@@ -64,8 +64,8 @@ impl Play<'_> {
     }
 }
 
-/// Makes so many rounds, or until none fires a vertex; in how many one did. Each time that a vertex fires in a round, as
-/// often in a row as it may, is added to `turns`, up to 2^64 - 1.
+/// Makes at most `most` rounds, until one fires no vertex; how many fired one. Each time that a vertex fires in a
+/// round, as often in a row as it may, is added to `turns`, up to 2^64 - 1.
 // A round is so short that a play takes a seventh longer if this is a call.
 #[inline(always)]
 pub fn make_rounds(
@@ -155,8 +155,8 @@ fn turn(graph: &Graph, limit: u64, vertex: u64, chips: &mut [u64], fired: &mut [
     true
 }
 
-/// The quotient of numbers of which the first is not the smaller one, without the slow division
-/// where it can be: mostly the quotient is 1, and nearly always both numbers fit 32 bits.
+/// The quotient of numbers of which the first is not the smaller one, without the slow division if that is possible:
+/// mostly the quotient is 1, and nearly always both numbers fit 32 bits.
 #[tactic(auto, using(crate::proofs::PlayLemmas::within_quotient, chip_sequence::proofs::BatchLemmas::above_quotient))]
 #[inline]
 pub(crate) fn times_in(chips: u64, degree: u64) -> u64

@@ -12,9 +12,9 @@ use std::alloc::Global;
 
 /// Plays on from where an earlier sitting ended, on the same graph, with a firing limit of this sitting's own.
 ///
-/// The sitting is `plain`'s on the chips that lie there, and what was fired before it is what was fired
-/// in all so far. So the counts of all sittings add up, and where the last one ends with no vertex legal
-/// they are those of a play that was never stopped.
+/// The sitting is `plain`'s on the chips that lie there, and what was fired before it is what was fired in all so far.
+/// So the counts of all sittings add up, and if the last one ends with no vertex legal they are those of a play that
+/// was never stopped.
 pub fn resume(
     alloc: Global,
     graph: Graph,
@@ -29,8 +29,8 @@ pub fn resume(
     resume_watched(alloc, graph, earlier, limit, &mut Unwatched)
 }
 
-/// Plays on as `resume` does, and tells time and again how far the sitting has come. The answer is the same, whoever is
-/// told.
+/// Plays on as `resume` does, and tells time and again how far the sitting has come. The answer is the same, whoever
+/// watches.
 pub fn resume_watched<W: Watch>(
     alloc: Global,
     graph: Graph,

@@ -10,7 +10,7 @@ use chip_graph::Graph;
 use std::alloc::Global;
 
 impl Play<'_> {
-    /// Goes on by a work list where few chips wait to move, and by rounds where these have set off many.
+    /// Goes on by a work list if few chips wait to move, and by rounds if these have set off many.
     pub(crate) fn play_few<W: Watch>(&mut self, alloc: Global, watch: &mut W)
         ensures { self.new.game ≡ self.old.game }
     {
@@ -76,8 +76,8 @@ pub(crate) fn looks_at_all(graph: &Graph) -> u64
     graph.vertices().saturating_add(graph.edges().len() as u64)
 }
 
-/// Whether a play in which each vertex fires as often as the limit allows takes no more work than `few`,
-/// where so much was `done` for the firings so far.
+/// Whether a play in which each vertex fires as often as the limit allows takes no more work than `few`, if the firings
+/// so far took as much as `done`.
 fn leaves_little(limit: u64, fired: &[u64], done: u64, few: u64) -> bool {
     let mut firings = 0u64;
     for times in fired {

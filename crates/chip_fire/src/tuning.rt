@@ -12,15 +12,15 @@ pub(crate) const TURN: u64 = 4;
 /// How many looks lie about between two times that it is told how far a play has come: some milliseconds.
 pub(crate) const STRETCH: u64 = 1 << 20;
 
-/// For how many vertices one chip waits where few do.
+/// Few chips wait if there is at most one for this number of vertices.
 pub(crate) const VERTICES_PER_CHIP: u64 = 64;
 
-/// How many looks at each vertex and edge are made by rounds, where few chips set off many: a search is slower than most
+/// How many looks at each vertex and edge are made by rounds, if few chips set off many: a search is slower than most
 /// such plays (full-1000, and some hundreds of chips on a full grid of 300 by 300).
 pub(crate) const LOOKS_OF_FEW: u64 = 1024;
 
 /// How many turns at each vertex a play by a work list makes before it gives up.
 pub(crate) const TURNS: u64 = 64;
 
-/// For how many vertices a work list has one place: rounds are twice as quick where many vertices fire (full-1000).
+/// For how many vertices a work list has one place: rounds are twice as quick if many vertices fire (full-1000).
 pub(crate) const VERTICES_PER_PLACE: usize = 8;

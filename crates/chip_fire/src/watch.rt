@@ -1,4 +1,4 @@
-//! Who is told how a play goes on.
+//! Who watches how a play goes on.
 
 ghost use Rattle.chip_fire.specs.Given.{IsUse, IsBelow};
 ghost use Rattle.chip_fire.specs.Search.{IsShort};
@@ -40,17 +40,17 @@ pub trait Watch {
         requires { IsShort _play.now.game _play.now.fired _played _searched }
     {}
 
-    /// Told after so many more rounds, in each of which some vertex fired, what the play has come to.
+    /// Told what the play has come to after `more` further rounds, in each of which some vertex fired.
     ///
-    /// Where counts were found and certified, the play went on from these, and they are among the firings. In any
-    /// case every whole play of the game fires each vertex at least so often.
+    /// If counts were found and certified, the play went on from these, and they are among the firings. In any case
+    /// every whole play of the game fires each vertex at least as often.
     fn rounds(&mut self, more: u64, play: &Play<'_>);
 
-    /// Told that a report of so many bytes is written next.
+    /// Told how many bytes the report has that is written next.
     fn writes(&mut self, _bytes: u64) {}
 }
 
-/// Nobody is told.
+/// Nobody watches.
 #[derive(Clone, Copy)]
 pub struct Unwatched;
 

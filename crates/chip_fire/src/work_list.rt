@@ -37,9 +37,10 @@ impl Play<'_> {
     }
 }
 
-/// Lets so many vertices at the front of a list fire, among which are all that are legal, and those that get chips by it,
-/// until none is legal. Then so many at the front of `support` are all vertices that fired. It gives up after so many
-/// turns, or if a vertex would have to fire more often than the limit allows, or if a list is full.
+/// Lets the first `listed` vertices of a list fire, among which are all that are legal, and those that get chips by it,
+/// until none is legal. Then it answers how many at the front of `support` are all vertices that fired. It gives up
+/// after `TURNS` turns for each vertex, or if a vertex would have to fire more often than the limit allows, or if a
+/// list is full.
 pub fn work_off(
     game: &Game,
     mut listed: usize,

@@ -33,7 +33,7 @@ fault_of_edges vertices sink i [] = None
 fault_of_edges vertices sink i (edge ∷ edges) =
     first_of_faults (fault_of_edge vertices sink i edge) (fault_of_edges vertices sink (suc i) edges)
 
--- the first thing wrong with the sizes of a graph with so many edges by these limits
+-- the first thing wrong with the sizes of a graph by these limits
 abbrev pub fault_of_sizes : SizeLimits → ℕ → ℕ → ℕ → Option GraphFault
 fault_of_sizes limits vertices sink edges =
     first_of_faults (fault_unless (nat_lt 0 vertices && nat_le vertices limits.vertices) graph_fault.Vertices)
@@ -67,8 +67,8 @@ abbrev pub refusal : {F : Type 0} → Option F → Result (Unit {0}) F
 refusal None = Ok tt
 refusal (Some fault) = Err fault
 
--- what making a graph answers: the graph if it is one within the limits, else its first fault; want of memory only
--- where the rows have no fault, since nothing grows before they are looked at
+-- what making a graph answers: the graph if it is one within the limits, else its first fault; want of memory only if
+-- the rows have no fault, since nothing grows before they are looked at
 abbrev pub MakesGraph : SizeLimits → Multigraph → Result Multigraph GraphFault → Type 0
 MakesGraph limits G (Ok graph) = (graph ≡ G) × IsGraphWithin limits G
 MakesGraph limits G (Err fault) =

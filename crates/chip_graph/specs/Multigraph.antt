@@ -49,12 +49,12 @@ IsWalk G v (e ∷ es) w = (e < length G.edges) × ((edge_at G e).tail ≡ v) × 
 abbrev pub ReachesSink : Multigraph → ℕ → Type 0
 ReachesSink G v = (es : List ℕ) × IsWalk G v es G.sink
 
--- a shortest walk from v to the sink has so many edges
+-- a shortest walk from v to the sink has `distance` edges
 pub record IsDistance (G : Multigraph) (v distance : ℕ) : Type 0 where
   pub reached : (es : List ℕ) × IsWalk G v es G.sink × (length es ≡ distance)
   pub shortest : (es : List ℕ) → IsWalk G v es G.sink → distance ≤ length es
 
--- an edge that a graph of so many vertices with this sink may have: no loop, and none out of the sink
+-- an edge that a graph of `vertices` vertices with this sink may have: no loop, and none out of the sink
 pub record IsEdge (vertices sink : ℕ) (edge : Edge) : Type 0 where
   pub tail_is_vertex : edge.tail < vertices
   pub head_is_vertex : edge.head < vertices

@@ -71,8 +71,8 @@ impl Search {
     }
 }
 
-/// The edges into each vertex, and how far each vertex is from the sink: the length of a shortest walk, or `UNREACHED` if
-/// no walk leads there. So many edges go into each, each count one place behind its vertex's own.
+/// The edges into each vertex, and how far each vertex is from the sink: the length of a shortest walk, or `UNREACHED`
+/// if no walk leads there. Into vertex v go `counts[v + 1]` edges.
 pub(crate) fn ins_and_distances(
     alloc: Global,
     vertices: u64,

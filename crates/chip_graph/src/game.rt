@@ -98,8 +98,8 @@ impl Game {
         })
     }
 
-    /// Whether so many chips more would be at most `MAX_TOTAL` with those of the start. Each pair is of a vertex and of
-    /// how many chips it would get.
+    /// Whether these chips and those of the start are at most `MAX_TOTAL`. Each pair is a vertex and how many chips it
+    /// would get.
     pub fn has_room(&self, more: &[(u64, u64)]) -> bool
         ensures { IsTrue result ↔ HasRoom self.now more.now }
     {

@@ -48,7 +48,7 @@ impl Limits {
         })
     }
 
-    /// 4,096 vertices, 65,536 edges and 2^24 bytes: what a caller gets who asks for no others.
+    /// The default: 4,096 vertices, 65,536 edges and 2^24 bytes.
     pub fn standard() -> Limits
         ensures { result ≡ standard }
     {

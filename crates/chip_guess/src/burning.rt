@@ -12,11 +12,11 @@ use std::num::saturating_f64_to_i64;
 /// What is known of a vertex while counts are burnt.
 #[derive(Clone, Copy, Default)]
 pub(crate) struct Vertex {
-    /// How often it fires beyond what it had fired when the search began; 0 where its count is to stay as it is.
+    /// How often it fires beyond what it had fired when the search began; 0 if its count is to stay as it is.
     pub(crate) fires: i64,
     /// The chips left to it less what its neighbours have taken back: it burns if this is not below 0.
     slack: i64,
-    /// What comes in where each vertex that fires does so once.
+    /// What comes in if each vertex that fires does so once.
     comes: i64,
     /// The one that is to burn after it, while it waits for that.
     next: u32,
@@ -151,7 +151,7 @@ impl<'a> Burning<'a> {
             .unwrap_or(Vertex::default())
     }
 
-    /// Lowers the counts once, where they do not pass the test.
+    /// Lowers the counts once, if they do not pass the test.
     pub(crate) fn step(&mut self) -> Progress {
         self.steps = self.steps.saturating_add(1);
         if self.hierarchy.kind == Kind::General {
@@ -226,7 +226,7 @@ impl<'a> Burning<'a> {
         self.looked = looked.min(self.looks);
     }
 
-    /// Fires a vertex so often, or takes so many firings back where the number is negative.
+    /// Fires a vertex `k` times, or takes `-k` firings back if `k` is negative.
     fn fire(&mut self, vertex: usize, k: i64) {
         let sent = self.hierarchy.finest.degree(vertex).wrapping_mul(k);
         if let Some(own) = self.vertices.get_mut(vertex) {
@@ -289,7 +289,7 @@ impl<'a> Burning<'a> {
         }
     }
 
-    /// Whether a vertex is legal, where a test is passed.
+    /// Whether a vertex is legal, once a test is passed.
     pub(crate) fn leaves_some_legal(&self) -> bool {
         for (vertex, own) in self.vertices.iter().enumerate() {
             let degree = self.hierarchy.finest.degree(vertex);
@@ -300,7 +300,7 @@ impl<'a> Burning<'a> {
         false
     }
 
-    /// Fires each vertex so often more, where a test is passed, up to the limit.
+    /// Fires each vertex `k` times more, once a test is passed, up to the limit.
     pub(crate) fn raise(&mut self, k: i64, target: Target<'_>) {
         for (vertex, fired) in target.fired.iter().enumerate() {
             if self.hierarchy.finest.degree(vertex) > 0 {
@@ -320,7 +320,7 @@ impl<'a> Burning<'a> {
         firings
     }
 
-    /// The counts, where vertices had fired so often, up to a limit.
+    /// The counts of all firings, those of `fired` among them, up to a limit.
     pub(crate) fn counts(
         &self,
         alloc: Global,

@@ -260,7 +260,7 @@ impl<'a> Problem<'a> {
     }
 }
 
-/// A quotient from a quarter to eight, where both numbers are positive.
+/// A quotient from a quarter to eight, if both numbers are positive.
 fn ratio(a: f64, b: f64) -> Option<f64> {
     (a > 0.0 && b > 0.0).then_some((a / b).max(0.25).min(8.0))
 }

@@ -36,13 +36,13 @@ pub struct Hierarchy {
     pub(crate) finest: Box<Level>,
     /// The others, each with the aggregates of the one before.
     pub(crate) coarser: Vec<Level>,
-    /// The graph by the links out of each vertex, where these are others.
+    /// The graph by the links out of each vertex, if these are others.
     outs: Option<Box<Level>>,
 }
 
 impl Hierarchy {
-    /// The hierarchy of a graph; `None` if memory runs out, or so many looks in all are too few. Its looks at a
-    /// vertex or a link are added to `looks`.
+    /// The hierarchy of a graph; `None` if memory runs out, or `most` looks in all are too few. Its looks at a vertex
+    /// or a link are added to `looks`.
     pub fn new(alloc: Global, graph: &Graph, looks: &mut u64, most: u64) -> Option<Hierarchy>
         requires { looks.old ≤ most }
         ensures more { looks.old ≤ looks.new }
@@ -72,7 +72,7 @@ impl Hierarchy {
         })
     }
 
-    /// Adds the levels that are coarser, as many as so many looks allow. A level is looked at four times: once for its
+    /// Adds the coarser levels that `most` looks in all allow. A level is looked at four times: once for its
     /// aggregates, once for their members, and twice for their links.
     fn coarsen(&mut self, alloc: Global, looks: &mut u64, most: u64) -> Result<(), AllocError>
         requires { looks.old ≤ most }
@@ -132,7 +132,7 @@ fn kind_of(alloc: Global, ins: &Level, outs: &Level) -> Result<Kind, AllocError>
     Ok(kind)
 }
 
-/// Adds so many times what each link brings to the number of its vertex; the sum of what they bring.
+/// Adds `times` times the multiplicity of each link to the number of its vertex; the sum of these multiplicities.
 fn add(numbers: &mut [i64], links: &[Link], times: i64) -> i64 {
     let mut sum = 0i64;
     for link in links {
@@ -171,7 +171,7 @@ pub(crate) fn spend(looks: &mut u64, more: u64, most: u64) -> bool
     true
 }
 
-/// The level of a level's aggregates. Where aggregates of two or so do not thin out the links, all are one.
+/// The level of a level's aggregates. If aggregates of two or so do not thin out the links, all are one.
 fn next_level(alloc: Global, fine: &mut Level) -> Result<Option<Level>, AllocError> {
     fine.aggregates = vec![in alloc; NONE; fine.rows.len()]?;
     let count = aggregate(&fine.rows, &fine.links, &mut fine.aggregates);
@@ -191,8 +191,8 @@ fn next_level(alloc: Global, fine: &mut Level) -> Result<Option<Level>, AllocErr
     Ok(Some(galerkin(alloc, fine, 1)?))
 }
 
-/// Finds aggregates in which each vertex, in turn, joins the one that sends it most; where that one is still free, the
-/// two make an aggregate. A vertex that nothing comes into stays alone: it needs no correction. How many there are.
+/// Finds aggregates in which each vertex, in turn, joins the one that sends it most; if that one is in no aggregate
+/// yet, the two make one. A vertex that nothing comes into stays alone: it needs no correction. How many there are.
 fn aggregate(rows: &[Row], links: &[Link], aggregates: &mut [u32]) -> usize {
     let mut count = 0usize;
     for vertex in 0..rows.len() {
@@ -214,7 +214,7 @@ fn aggregate(rows: &[Row], links: &[Link], aggregates: &mut [u32]) -> usize {
     count
 }
 
-/// The vertex that sends most along these links, where one in no aggregate counts more; `NONE` if there is none.
+/// The vertex that sends most along these links; one in no aggregate counts more. `NONE` if there is none.
 fn strongest(links: &[Link], aggregates: &[u32]) -> u32 {
     let mut strongest = NONE;
     let mut most = 0i64;
@@ -236,7 +236,7 @@ fn at(numbers: &[u32], index: u32) -> u32 {
     numbers.get(index as usize).copied().unwrap_or(NONE)
 }
 
-/// Writes a number into a list where it has such an index.
+/// Writes a number into a list if it has such an index.
 #[inline]
 fn put(numbers: &mut [u32], index: u32, number: u32) {
     if let Some(slot) = numbers.get_mut(index as usize) {

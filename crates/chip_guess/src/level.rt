@@ -67,7 +67,7 @@ pub(crate) fn gather(rows: &[Row], links: &[Link], counts: &[f64], rhs: f64, ver
 }
 
 impl Level {
-    /// No vertex yet, and room for so many vertices and links.
+    /// No vertex yet, and room for `vertices` vertices and `links` links.
     pub(crate) fn new(alloc: Global, vertices: usize, links: usize) -> Result<Level, AllocError> {
         let links = Vec::with_capacity(alloc, links)?;
         Ok(Level {

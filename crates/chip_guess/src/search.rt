@@ -34,7 +34,7 @@ enum Stage {
 /// beyond.
 ///
 /// It solves an obstacle problem on aggregates of vertices and on aggregates of these, and burns what it found until
-/// that passes a test that every play reaches it. Where that takes long, target heights are fitted to what patches of
+/// that passes a test that every play reaches it. If that takes long, target heights are fitted to what patches of
 /// vertices keep, and the problem is solved anew.
 #[derive(Drop)]
 pub struct Search<'a> {
@@ -53,7 +53,7 @@ pub struct Search<'a> {
     fits: usize,
     /// Whether more may come of that.
     may_fit: bool,
-    /// How often all vertices fire by the last counts that passed; 0 where none did.
+    /// How often all vertices fire by the last counts that passed; 0 if none did.
     passed: i64,
     /// How often more each vertex fires when counts pass.
     raise: i64,
@@ -64,7 +64,7 @@ pub struct Search<'a> {
 }
 
 impl<'a> Search<'a> {
-    /// The search for a game in which each vertex has fired so often so far.
+    /// The search for a game that was played up to the counts `fired`.
     pub fn new(
         alloc: Global,
         hierarchy: &'a Hierarchy,
@@ -91,8 +91,8 @@ impl<'a> Search<'a> {
         Ok(search)
     }
 
-    /// Makes steps until the search is over or so many looks in all may be too few for the next one; whether it is
-    /// over. Its looks at a vertex or a link are added to `looks`.
+    /// Makes steps until the search is over or `most` looks in all may be too few for the next one; whether it is over.
+    /// Its looks at a vertex or a link are added to `looks`.
     pub fn go_on(&mut self, alloc: Global, looks: &mut u64, most: u64) -> Result<bool, AllocError>
         requires { looks.old ≤ most }
         ensures more { looks.old ≤ looks.new }
@@ -128,8 +128,8 @@ impl<'a> Search<'a> {
         Ok(false)
     }
 
-    /// The counts that were found, where each vertex had fired so often, up to this limit; `None` where none were, and
-    /// if memory runs out.
+    /// The counts that were found, those of `fired` among them, up to this limit; `None` if none were, or if memory
+    /// runs out.
     pub fn found(&self, alloc: Global, fired: &[u64], limit: u64) -> Option<Vec<u64>>
         ensures each { IfSome result (λ counts. length counts.items ≡ length fired.now) }
         ensures within { IfSome result (λ counts. (v : ℕ) → slice_index counts.items v ≤ limit) }
@@ -146,8 +146,8 @@ impl<'a> Search<'a> {
         self.steps
     }
 
-    /// About how many chips have still to move until the counts are those sought: from 1 to the chips of the game, and 0
-    /// once the search is over. Where counts are solved for, those above or below the target heights; where they are
+    /// About how many chips have still to move until the counts are those sought: from 1 to the chips of the game, and
+    /// 0 once the search is over. While counts are solved for, those above or below the target heights; while they are
     /// burnt, those that vertices lack to pass the test. It looks at the whole graph.
     pub fn chips_to_move(&self) -> u64 {
         let chips = match self.stage {
@@ -158,8 +158,8 @@ impl<'a> Search<'a> {
         chips.min(self.target.game.total()).max(1)
     }
 
-    /// What a step looks at at most: a cycle goes over each level five times, over its vertices thrice more, where all
-    /// levels have at most twice as many as the finest, and once over that, or twice.
+    /// What a step looks at at most: a cycle goes over each level five times, over its vertices thrice more, and over
+    /// the finest level once or twice. All levels have at most twice the vertices of the finest.
     fn looks_of_step(&self) -> u64 {
         if self.stage != Stage::Solving {
             return self.burning.looks;
@@ -172,7 +172,7 @@ impl<'a> Search<'a> {
         all.saturating_add(vertices).saturating_add(more)
     }
 
-    /// Begins to solve for the target heights that are tried, or gives up where all were tried.
+    /// Begins to solve for the target heights that are tried, or gives up if all were tried.
     fn try_heights(&mut self, alloc: Global) -> Result<Stage, AllocError> {
         let Some(target) = self.hierarchy.kind.heights().get(self.tried) else {
             return Ok(Stage::GivenUp);
@@ -192,7 +192,7 @@ impl<'a> Search<'a> {
         Ok(Stage::Solving)
     }
 
-    /// Makes a cycle, and begins to burn the counts where they are near.
+    /// Makes a cycle, and begins to burn the counts if they are near.
     fn solve(&mut self, alloc: Global) -> Result<Stage, AllocError> {
         match self.solver.step() {
             Progress::Going => return Ok(Stage::Solving),
@@ -263,7 +263,7 @@ impl<'a> Search<'a> {
         self.counts.len() >= GREAT
     }
 
-    /// Keeps the counts that passed, and goes on from greater ones where they may be too low.
+    /// Keeps the counts that passed, and goes on from greater ones if they may be too low.
     fn pass(&mut self) -> Stage {
         self.phases = self.phases.wrapping_add(1);
         let passed = self.burning.firings();

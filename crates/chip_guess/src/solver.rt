@@ -118,8 +118,8 @@ impl<'a> Solver<'a> {
         Ok(())
     }
 
-    /// Makes a cycle where more than little is left. It diverges where some do not halve that. On graphs whose links go
-    /// both ways that is what the first cycle left, which may spread a heap too far.
+    /// Makes a cycle if more than little is left. It diverges if some do not halve that. On graphs whose links go both
+    /// ways that is what the first cycle left, which may spread a heap too far.
     pub(crate) fn step(&mut self) -> Progress {
         let norm = self.norm();
         if norm <= self.tolerance {

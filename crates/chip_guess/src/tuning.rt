@@ -24,7 +24,7 @@ pub const STALLED_STEPS: u64 = 16;
 /// From how many vertices on it pays to fit heights soon, and to go on from counts that passed: grid-peak has fewer.
 pub const GREAT: usize = 1 << 14;
 
-/// How many steps are made on so many before it is asked whether to fit heights: peak-511.
+/// How many steps are made on `GREAT` vertices or more before it is asked whether to fit heights: peak-511.
 pub const STEPS_BEFORE_FIT: u64 = 16;
 
 /// How many steps are made on fewer: grid-corner takes 284, and a grid of 3 by 1,000 some ten thousand without a fit.
@@ -36,11 +36,12 @@ pub const STEPS_OF_FIT: u64 = 32;
 /// At how many edges' distance from each other walls stand, by their distances from the sink: four-511.
 pub const WALL_SPACING: u64 = 64;
 
-/// The rests that the walls' distances leave, in each fit another one, so that all moves in some: four-511.
+/// The remainder of the walls' distances by `WALL_SPACING`, another one in each fit, so that each count moves in some:
+/// four-511.
 pub const WALL_OFFSETS: [u64; 4] = [0, 32, 16, 48];
 
-/// About how many vertices are in a patch: on four-511 true means of so many are off by up to 40 firings, and those of
-/// 4,096 by up to 400.
+/// About how many vertices are in a patch: on four-511 true means of such patches are off by up to 40 firings, and
+/// those of 4,096 by up to 400.
 pub const PATCH: usize = 256;
 
 /// How many firings each vertex of a patch has to lose in the mean in a later fit. Less may come of rounding down.

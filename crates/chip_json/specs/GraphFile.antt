@@ -9,7 +9,7 @@ use Rattle.serde_json.specs.Find.{get, as_number, as_u64, as_array, as_object}
 use Rattle.chip_graph.specs.declared.edge.Edge.{Edge}
 use Rattle.chip_graph.specs.Multigraph.{Multigraph}
 
--- the value of a text: none where it is no UTF-8, or no JSON
+-- the value of a text: none if it is no UTF-8, or no JSON
 abbrev pub json_of : List ℕ → Option Data
 json_of text = if is_utf8 text then read text else None
 

@@ -84,7 +84,7 @@ kept_of _ _ _ _ = None
 abbrev pub IsFile : ℕ → Data → Option Kept → Type 0
 IsFile most d kept = KeepsFile most (file_of_value d) kept
 
--- what reading a text answers: the file that its value is, with at most so many edges asked for
+-- what reading a text answers: the file that its value is, with at most `most` edges asked for
 abbrev pub GivesFile : ℕ → List ℕ → Result Kept JsonFault → Type 0
 GivesFile most text (Ok kept) = (d : Data) × (json_of text ≡ Some d) × IsFile most d (Some kept)
 GivesFile most text (Err f) =

@@ -30,7 +30,7 @@ abbrev pub and_items : Row → Items → Row
 and_items r no_items = r
 and_items r (item d ds) = and_items (and_number r (number_of_value d)) ds
 
--- what is kept of some edges, of which so many are asked for at most: all, or more than that
+-- what is kept of some edges, of which `most` are asked for at most: all, or more than that
 abbrev pub Keeps : ℕ → List Edge → List Edge → Type 0
 Keeps most all kept = (kept ≡ all) ⊎ ((most < length all) × (most < length kept))
 

@@ -54,7 +54,7 @@ abbrev pub status_of_end : LogEnd → Status
 status_of_end end.Claimed = Done
 status_of_end _ = Unfinished
 
--- an early claim is told first
+-- the exit status of a log: an early claim decides it, and else the end
 abbrev pub status_of_judged : JudgedLog → Status
 status_of_judged judged =
     if list_any (λ claim. is_early claim.verdict) judged.claims.items then Halted else status_of_end judged.end

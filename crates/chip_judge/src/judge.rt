@@ -43,8 +43,8 @@ pub fn judge_engine<L: Read, W: Write>(
     judge_engine_with(alloc, log, options, &mut Unwatched, output)
 }
 
-/// Does what `judge_engine` does, by these options, and tells before each claim which it is. Its answer is the same, whoever
-/// is told.
+/// Does what `judge_engine` does, by these options, and tells before each claim which it is. Its answer is the same,
+/// whoever watches.
 pub fn judge_engine_with<L: Read, P: ClaimWatch, W: Write>(
     alloc: Global,
     log: &mut L,

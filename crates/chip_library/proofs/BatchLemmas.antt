@@ -15,7 +15,7 @@ use Rattle.chip_library.specs.Batch.{row, game_at, Games, ArePlayed}
 pub room_for_row : (n i k : ℕ) → i < k → i * n + n ≤ k * n
 room_for_row n i k before = let next : i + 1 ≤ k = omega arith in let a = mul-le-mul_right n next in omega arith
 
--- a row before the last of k stays where more numbers come behind
+-- a row before the last of k stays the same if more numbers come behind
 row_front : (n k : ℕ) (xs ys : List ℕ) → length xs ≡ k * n → (i : ℕ) → i < k → row n (xs ++ ys) i ≡ row n xs i
 row_front n k xs ys long i before =
     let room = room_for_row n i k before in

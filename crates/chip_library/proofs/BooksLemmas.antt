@@ -24,7 +24,7 @@ use Rattle.chip_detect.proofs.SoundnessLemmas.{getting_keeps, acknowledging_keep
 use Rattle.chip_detect.proofs.SoundnessLemmas.{parent_goes_with_all}
 use Rattle.chip_library.specs.PartBooks.{neutral, parent_of, books_of, HasEdge, HasRoom, IsPossible, ArePossible, IsFound, Suits}
 
--- where edges ascend, the look-up of one gives what stands at its index
+-- if edges ascend, the look-up of one gives what stands at its index
 at_index : (ts : List Tally) (i : ℕ) → IsStrictlyIncreasing (edges_of ts) → i < length ts → (f : Tally → ℕ)
     → look f ts (get_or (edges_of ts) i 0) ≡ f (tally_at ts i)
 at_index ts i rising in_range f = look_at f ts i _ (ascends (edges_of ts) rising) in_range

@@ -29,7 +29,7 @@ abbrev pub EndsAt : ChipGame → List ℕ → Type 0
 EndsAt g chips = (vs : List ℕ) × IsWholePlay g.graph (slice_index g.start) g.limit vs
     × ((v : ℕ) → slice_index chips v ≡ position_after g.graph (slice_index g.start) vs v)
 
--- where no vertex is legal it comes to rest
+-- if no vertex is legal it ends
 pub rests_there : (g : ChipGame) (chips : List ℕ) → EndsAt g chips → IsStable g.graph (slice_index chips) → ComesToRest g
 rests_there g chips (vs, whole, there) stable =
     let same : slice_index chips ≡ position_after g.graph (slice_index g.start) vs = (λ i v. there v i) in
@@ -60,7 +60,7 @@ outcome_is p is o played =
     let (vs, whole, there) = pile_ends p is in (λ i v. (there v ∙ sym (played.position vs whole v)) i)
 
 module _ (g : ChipGame) (o : Outcome) (played : IsPlayed g o) where
-  -- where the limit stopped no vertex, none is legal
+  -- if the limit stopped no vertex, none is legal
   pub none_stopped : length o.over.items ≡ 0 → IsStable g.graph (slice_index o.chips.items)
   none_stopped none v can =
       let empty : legal_vertices g.graph (slice_index o.chips.items) ≡ [] = sym played.over ∙ nil_from_length _ none in
@@ -68,7 +68,7 @@ module _ (g : ChipGame) (o : Outcome) (played : IsPlayed g o) where
       ((legal_vertices_law g.graph (slice_index o.chips.items) v).1 can) in
       let past = has.1 in omega arith
 
-  -- where it stopped one, that is legal
+  -- if it stopped one, that is legal
   pub some_stopped : 0 < length o.over.items → IsStable g.graph (slice_index o.chips.items) → ⊥
   some_stopped some stable =
       let v : ℕ = get_or o.over.items 0 0 in
@@ -151,7 +151,7 @@ told_in_columns told sizes extents losts are t = record {
   losts_are = rw (← are.losts_are) (map-append (λ (t : Told). t.1.lost) told (t ∷ []));
 }
 
--- the drop i has a fault, where so many were made before it
+-- the drop i has a fault, if i were made before it
 pub fault_after : (g : ChipGame) (at amounts : List ℕ) (told : List Told) (i : ℕ) (fault : CallFault) → length told ≡ i
     → i < length at → AreOn told (take i at) (take i amounts)
     → IsFaultOfDrop g told (slice_index at i) (slice_index amounts i) fault → IsFaultAfter g at amounts told fault

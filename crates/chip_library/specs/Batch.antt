@@ -11,7 +11,7 @@ use Rattle.chip_library.specs.declared.fault.CallFault.TheVariants.{Lengths, NoM
 use Rattle.chip_library.specs.EdgeLists.{HasWholeRows, graph_of}
 use Rattle.chip_library.specs.CallFaults.{IsFaultOfGraph, IsFaultOfGame}
 
--- the numbers of game i, where each game has n
+-- the numbers of game i, if each game has n
 abbrev pub row : ℕ → List ℕ → ℕ → List ℕ
 row n numbers i = take n (drop (i * n) numbers)
 

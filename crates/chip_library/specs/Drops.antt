@@ -1,4 +1,4 @@
--- Chips dropped one after another on a game that has come to rest.
+-- Chips dropped one after another on a game that has ended.
 use Rattle.std.specs.Prelude.{◌≡◌, ◌⊎◌, ℕ, ◌+◌, ◌<◌, ◌≤◌, List, [], ◌∷◌, ◌++◌, length, map, take, sum, slice_index}
 use Rattle.std.specs.Prelude.{Result, Ok, Err}
 use Rattle.chip_graph.specs.Limits.{max_total}
@@ -27,7 +27,7 @@ Told = (ℕ × ℕ) × Avalanche
 abbrev pub drops_of : List Told → List (ℕ × ℕ)
 drops_of told = map (λ (t : Told). t.0) told
 
--- these are drops on these vertices, of so many chips each
+-- these are drops on these vertices, of these amounts
 pub record AreOn (told : List Told) (at amounts : List ℕ) : Type 0 where
   pub vertices : map (λ (t : Told). t.0.0) told ≡ at
   pub chips : map (λ (t : Told). t.0.1) told ≡ amounts
@@ -55,14 +55,14 @@ abbrev pub IsStopped : ChipGame → Type 0
 IsStopped g =
     (vs : List ℕ) × IsWholePlay g.graph (slice_index g.start) g.limit vs × (HasEnded g.graph (slice_index g.start) vs → ⊥)
 
--- the drops were made one by one on a game that had come to rest, each on a vertex. Each play came to rest within the
--- limit: that of the game with all drops did, in which each vertex fires at least as often. The last one leaves y
+-- the drops were made one by one on a game that had ended, each on a vertex. Each play ended within the limit: that of
+-- the game with all drops did, in which each vertex fires at least as often. The last one leaves y
 pub record AreMade (g : ChipGame) (told : List Told) (y : ℕ → ℕ) : Type 0 where
   pub vertices : AreOfVertices g (drops_of told)
   pub avalanches : (o : Outcome) × IsPlayed g o × AreAvalanches g.graph (slice_index o.chips.items) told y
   pub rest : (all : ChipGame) × HasMore g (drops_of told) all × IsGame all × ComesToRest all
 
--- the first fault of one more drop, of so many chips on v: it is on no vertex, else there are too many chips, else the
+-- the first fault of one more drop, of `count` chips on v: it is on no vertex, else there are too many chips, else the
 -- limit stops its play
 abbrev pub IsFaultOfDrop : ChipGame → List Told → (v count : ℕ) → CallFault → Type 0
 IsFaultOfDrop g told v count (Vertex drop) = (drop ≡ length told) × (g.graph.vertices ≤ v)
@@ -122,7 +122,7 @@ pub record Leaves (p : Pile) (told : List Told) (p' : Pile) : Type 0 where
   pub vertices : AreOfVertices p.game (drops_of told)
   pub avalanches : AreAvalanches p.game.graph (slice_index p.chips.items) told (slice_index p'.chips.items)
 
--- the game has come to rest within the limit as this pile, which may get so many chips more
+-- the game has ended within the limit with this pile, which may get `room` more chips
 pub record BeginsPile (g : ChipGame) (p : Pile) (room : ℕ) : Type 0 where
   pub is_game : IsGame g
   pub same_game : p.game ≡ g

@@ -39,7 +39,7 @@ HasRoom b (Acked e count) = HasEdge (in_edges b) e × (count ≤ owed b e)
 HasRoom b (Sent e) = HasEdge (out_edges b) e × (sent_of b e < message_limit)
 HasRoom b (Settled e word) = HasEdge (out_edges b) e × (word ≤ sent_of b e)
 
--- the step is due: so many messages may be acknowledged already, and any other step is always due
+-- the step is due: an acknowledgement if `count` messages may be acknowledged by now, and any other step always
 abbrev pub IsDue : Books → Bool → Step → Type 0
 IsDue b passive (Acked e count) = count ≤ may_ack b e passive
 IsDue b passive s = Unit {0}

@@ -2,7 +2,7 @@
 //!
 //! A part has a tally of each edge into it and of each edge out of it, by ascending edges, and the number of its parent
 //! edge, or `NEUTRAL`. At first all counts are 0, and the part is neutral. A call does on them what that of
-//! `chip_detect::Detect` does, and nothing where it refuses. Books that are not sound harm nothing but themselves.
+//! `chip_detect::Detect` does, and nothing if it refuses. Books that are not sound harm nothing but themselves.
 
 ghost use Rattle.std.specs.Prelude.{◌≡◌, ℕ, ◌↔◌, true, List, IsTrue, MatchOption, MatchResult};
 ghost use Rattle.std.specs.List.Sorted.{IsStrictlyIncreasing};
@@ -26,9 +26,9 @@ pub const NEUTRAL: u64 = u64::MAX;
 /// Why a call is refused.
 #[derive(Clone, Copy, Debug, PartialEq, Eq)]
 pub enum BooksFault {
-    /// There is no such edge, a count is too high, or the books are not sound, where that is seen.
+    /// There is no such edge, a count is too high, or the books are not sound, if that is seen.
     NotSound,
-    /// So many messages may not be acknowledged yet.
+    /// Not all of these messages may be acknowledged yet.
     NotYet,
 }
 
@@ -110,7 +110,7 @@ pub fn may_ack(
     }
 }
 
-/// Notes that `count` messages of the edge are acknowledged, which the tail must not see before. It is too early where
+/// Notes that `count` messages of the edge are acknowledged, which the tail must not see before. It is too early if
 /// `may_ack` answers fewer.
 pub fn acked(
     ins: &mut [Tally],

@@ -19,15 +19,16 @@ use chip_graph::Graph;
 use chip_graph::game::MAX_TOTAL;
 use std::alloc::{AllocError, Global};
 
-/// Plays a game to its end within the firing limit, which is 2^40 at most, and then drops chips on it, each time so many
-/// on a vertex, and plays on to the end each time.
+/// Plays a game to its end within the firing limit, which is 2^40 at most, and then drops chips on it, each time on one
+/// vertex, and plays on to the end each time.
 ///
 /// `chips` has a number for each vertex. The other slices have one for each drop: its vertex, how many chips fall there,
 /// and the size, the extent and the loss of the avalanche (`chip_drops::Avalanche`). The chips of the game and of all
 /// drops are 2^40 at most.
 ///
-/// Then `chips` are those at the end, and the avalanches are told. On a fault all four stay as they were. The first one
-/// is told: of the lengths, of the graph, of the game, or else of the first drop that cannot be made to its end.
+/// Then `chips` are those at the end, and the other slices have the avalanches. On a fault all four stay as they were.
+/// The first fault is answered: of the lengths, of the graph, of the game, or else of the first drop that cannot be
+/// made to its end.
 pub fn avalanches(
     alloc: Global,
     edges: EdgeLists<'_>,
@@ -99,7 +100,7 @@ struct Columns {
 }
 
 impl Columns {
-    /// None yet, with room for so many drops.
+    /// None yet, with room for `drops` drops.
     fn with_room(alloc: Global, drops: usize) -> Result<Columns, AllocError>
         ensures { IfOk result (λ told. AreTold [] told.sizes.items told.extents.items told.losts.items) }
     {
@@ -123,7 +124,7 @@ impl Columns {
     }
 }
 
-/// Drops chips on a pile with so many vertices, which may get so many chips more, one drop after another: the pile that
+/// Drops chips on a pile of `vertices` vertices, which may get `room` more chips, one drop after another: the pile that
 /// they leave, and what they set off.
 fn drop_each(
     alloc: Global,

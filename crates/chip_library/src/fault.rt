@@ -14,7 +14,7 @@ pub enum CallFault {
     Vertex(u64),
     /// With this drop there are too many chips.
     Total(u64),
-    /// The limit has stopped the play of this drop; where it is 0, of this drop or of the game before it.
+    /// The limit has stopped the play of this drop; if that is 0, of this drop or of the game before it.
     Stopped(u64),
     /// This vertex is the least of which another outcome is claimed.
     Differs(u64),

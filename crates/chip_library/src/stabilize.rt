@@ -18,9 +18,9 @@ use std::alloc::{AllocError, Global};
 /// one before it, and `fired` as many. Their sum is 2^40 at most in each game. `guesses` has as many too, or none: how
 /// often each vertex might fire, which only makes plays quicker.
 ///
-/// Then `chips` are those at the end, `fired` tells how often each vertex fired, and `stopped` how many vertices of each
-/// game the limit stopped. On a fault all three stay as they were. The first one is told: of the lengths, of the graph,
-/// or else of the first game that is none.
+/// Then `chips` are those at the end, `fired` tells how often each vertex fired, and `stopped` how many vertices of
+/// each game the limit stopped. On a fault all three stay as they were. The first fault is answered: of the lengths, of
+/// the graph, or else of the first game that is none.
 pub fn stabilize_all(
     alloc: Global,
     edges: EdgeLists<'_>,
@@ -73,7 +73,7 @@ struct Ends {
 }
 
 impl Ends {
-    /// None yet, with room for so many numbers of vertices and so many games.
+    /// None yet, with room for `numbers` numbers of vertices and `games` games.
     fn with_room(alloc: Global, numbers: usize, games: usize) -> Result<Ends, AllocError>
         ensures { IfOk result (λ ends. (ends.chips.items ≡ []) × (ends.fired.items ≡ []) × (ends.stopped.items ≡ [])) }
     {
@@ -98,7 +98,7 @@ impl Ends {
     }
 }
 
-/// How so many games end that begin with these chips.
+/// How `games` games end that begin with these chips.
 fn play_each(
     alloc: Global,
     mut graph: Graph,

@@ -60,7 +60,7 @@ module _ (ring : ℕ) (some_ring : 0 < ring) (word : ℕ) (cell : ℕ → ℕ) (
   pub clear_shows : (seen : ℕ) → Shows ring word cell (after_clear seen t) got stop
   clear_shows seen = record { word_is = is.word_is; ring_is = is.ring_is }
 
-  -- what the exchange of a claim leaves is told by its two cases
+  -- what the exchange of a claim leaves, by its two cases
   pub claim_shows : (count word' : ℕ) → t.held ≡ None → (word ≡ claims_of t → word' ≡ claims_of t + 1)
       → (word ≢ claims_of t → word' ≡ word) → Shows ring word' cell (after_claim count word t) got stop
   claim_shows count word' none hit miss =

@@ -13,7 +13,7 @@ use Rattle.chip_link.specs.Link.{Tail, fresh_tail, first_tail, sent_counts, clai
 use Rattle.chip_link.specs.Link.{after_put, after_take, after_seal, word_of, cell_at_tail, cell_at_head, IsSealedAt}
 use Rattle.chip_link.specs.Link.{Sound}
 
--- a choice by a test of two numbers, where the test is decided
+-- a choice by a test of two numbers, if the test is decided
 pub cond_yes : {A : Type 0} (a b : ℕ) (x y : A) → a ≡ b → cond (eqb a b) x y ≡ x
 cond_yes a b x y e = ap (λ (t : Bool). cond t x y) (eq-eqb a b e)
 

@@ -21,7 +21,7 @@ module _ (edge ring : ℕ) (t : Tail) where
       → tail_after_claim word count (tail_state edge ring t) ≡ tail_state edge ring (after_claim count word t)
   tail_claims count word none = let all_put = none_held t none in grind (arith, nat_tests)
 
-  -- a store, also where there is nothing to put
+  -- a store, also if there is nothing to put
   pub tail_puts : tail_after_put (tail_state edge ring t) ≡ tail_state edge ring (after_put t)
   tail_puts = let n = length-sent_counts t in grind (arith, nat_tests)
 

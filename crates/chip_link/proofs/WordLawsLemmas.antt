@@ -19,7 +19,7 @@ use Rattle.chip_link.specs.WordLaws.{HaltByLimitReads}
 or_above : (k a b r : ℕ) → r < 2 ^ k → bit_or (a * 2 ^ k + r) (b * 2 ^ k + 0) ≡ bit_or a b * 2 ^ k + r
 or_above k a b r l = or_block k a b r 0 l (omega arith) ∙ ap (λ (n : ℕ). bit_or a b * 2 ^ k + n) (or_zero_r r)
 
--- the same where the numbers are written otherwise
+-- the same if the numbers are written otherwise
 or_at : (x y z x' y' z' : ℕ) → bit_or x y ≡ z → x ≡ x' → y ≡ y' → z ≡ z' → bit_or x' y' ≡ z'
 or_at x y z x' y' z' e ex ey ez = cc
 

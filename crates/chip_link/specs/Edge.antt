@@ -46,7 +46,7 @@ abbrev pub cells_after_store : Option (ℕ × ℕ) → List ℕ → List ℕ
 cells_after_store None cells = cells
 cells_after_store (Some at) cells = slice_set cells at.0 at.1
 
--- a claim is one compare-and-exchange of the edge word, and the tail is told the word that it saw
+-- a claim is one compare-and-exchange of the edge word, and the tail learns the word that it saw
 abbrev pub claim_on : ℕ → LiveEdge → LiveEdge
 claim_on count s = record s {
   word = word_after_exchange s.tail.claims (s.tail.claims + 1) s.word;
@@ -54,7 +54,7 @@ claim_on count s = record s {
   claimed = s.claimed ++ option_to_list (message_claimed s.word count s.tail);
 }
 
--- a take swaps the head's cell with 0, and the head is told what was there
+-- a take swaps the head's cell with 0, and the head learns what was there
 abbrev pub take_on : ℕ → LiveEdge → LiveEdge
 take_on cell s = record s {
   cells = slice_set s.cells (head_cell s.head) 0;

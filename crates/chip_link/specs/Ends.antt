@@ -5,7 +5,7 @@ use Rattle.std.specs.Prelude.{ℕ, ◌+◌, ◌-◌, ◌%◌, ◌^◌, Bool, tru
 use Rattle.std.specs.Prelude.{Option, Some, None, option_map, is_none}
 use Rattle.chip_link.specs.declared.message.Message.{Message}
 
--- the tail of an edge with a ring of so many cells: how many messages it claimed, the count of the one that is claimed
+-- the tail of an edge with a ring of `ring` cells: how many messages it claimed, the count of the one that is claimed
 -- and not put, whether it saw the cell of the next place empty, and whether a claim was refused by a seal
 pub record TailState : Type 0 where
   pub edge : ℕ
@@ -67,7 +67,7 @@ max_count = 2 ^ 40
 abbrev pub is_count : ℕ → Bool
 is_count count = nat_lt 0 count && nat_le count max_count
 
--- the head of an edge with a ring of so many cells, and how many messages it took
+-- the head of an edge with a ring of `ring` cells, and how many messages it took
 pub record HeadState : Type 0 where
   pub edge : ℕ
   pub ring : ℕ

@@ -19,7 +19,7 @@ pub record Tail : Type 0 where
 abbrev pub fresh_tail : Tail
 fresh_tail = record { put = []; held = None; clear = false; refused = false }
 
--- a tail whose edge opens with one message of so many chips
+-- a tail whose edge opens with one message of `count` chips
 abbrev pub first_tail : ℕ → Tail
 first_tail count = record { put = count ∷ []; held = None; clear = false; refused = false }
 
@@ -86,11 +86,11 @@ pub record Sound (ring : ℕ) (t : Tail) (got : List ℕ) (stop : Option ℕ) : 
   -- every message carries a chip
   pub counted : (p : ℕ) → p < length t.put → 0 < slice_index t.put p
   pub held_counted : (count : ℕ) → t.held ≡ Some count → 0 < count
-  -- the tail looks only with empty hands
+  -- if the next cell was seen empty, no message is claimed and not put
   pub quiet : t.clear ≡ true → t.held ≡ None
 
--- what the shared words show of it. The cells are told by places, from the next one to take on, as many as the ring has
--- cells: each cell stands for one place, and holds its count where that message was put, else 0
+-- what the shared words show of it. The cells are given by places, from the next one to take on, as many as the ring
+-- has cells: each cell stands for one place, and holds its count if that message was put, else 0
 pub record Shows (ring word : ℕ) (cell : ℕ → ℕ) (t : Tail) (got : List ℕ) (stop : Option ℕ) : Type 0 where
   pub word_is : word ≡ word_of t stop
   pub ring_is : (p : ℕ) → length got ≤ p → p < length got + ring → cell (p % ring) ≡ slice_index t.put p

@@ -5,10 +5,10 @@ use Rattle.std.specs.Prelude.{ℕ, ◌<◌, ◌≤◌, ◌&&◌, nat_lt, nat_le,
 abbrev pub max_ring : ℕ
 max_ring = 64
 
--- a ring has so many cells
+-- a ring may have this number of cells
 abbrev pub IsRing : ℕ → Type 0
 IsRing cells = (0 < cells) × (cells ≤ max_ring)
 
--- the ring of so many cells, if there is one
+-- the ring with this number of cells, if there is one
 abbrev pub ring_of : ℕ → Option ℕ
 ring_of cells = if nat_lt 0 cells && nat_le cells max_ring then Some cells else None

@@ -1,5 +1,5 @@
--- What atomic operations make of the words of an edge and of a vertex, told by the values that the words stand for.
--- What is added and what sets bits is said twice: of the word that is made of a value, and of any word that is read.
+-- What atomic operations make of the words of an edge and of a vertex, by the values that the words stand for. What is
+-- added and what sets bits is said twice: of the word that is made of a value, and of any word that is read.
 use Rattle.std.specs.Prelude.{◌≡◌, ℕ, ◌+◌, ◌^◌, ◌<◌, Bool, true, false, if◌then◌else◌, bit_or, ◌↔◌}
 use Rattle.chip_link.specs.Words.{edge_word, claims_in, is_sealed_in, fired_word, fired_in, is_halted_in}
 use Rattle.chip_link.specs.Words.{is_by_limit_in, word_after_exchange}
@@ -37,7 +37,7 @@ SealsWord = (claims : ℕ) (sealed : Bool) → claims < 2 ^ 63
 abbrev pub SealedReads : Type 0
 SealedReads = (word : ℕ) → word < 2 ^ 64 → ReadsAs (bit_or word (2 ^ 63)) (claims_in word) true
 
--- the exchange of so many claims for one more goes through if the edge isn't sealed, and else leaves the word
+-- the exchange of `claims` for one more goes through if the edge isn't sealed, and else leaves the word
 abbrev pub ExchangesWord : Type 0
 ExchangesWord = (claims : ℕ) (sealed : Bool)
     → word_after_exchange claims (claims + 1) (edge_word claims sealed)

@@ -11,7 +11,7 @@ abbrev pub limit_bit : Bool → ℕ
 limit_bit true = 2 ^ 62
 limit_bit false = 0
 
--- the word of an edge with so many messages claimed, sealed or not
+-- the word of an edge with `claims` messages claimed, sealed or not
 abbrev pub edge_word : ℕ → Bool → ℕ
 edge_word claims sealed = claims + top_bit sealed
 
@@ -23,7 +23,7 @@ claims_in word = word % 2 ^ 63
 abbrev pub is_sealed_in : ℕ → Bool
 is_sealed_in word = nat_le (2 ^ 63) word
 
--- the word of a vertex that fired so often, halted or not, by its limit or not
+-- the word of a vertex that fired `fired` times, halted or not, by its limit or not
 abbrev pub fired_word : ℕ → Bool → Bool → ℕ
 fired_word fired halted by_limit = (fired + limit_bit by_limit) + top_bit halted
 

@@ -14,7 +14,7 @@ use std::marker::Model;
 pub struct TailLink {
     edge: u64,
     claims: u64,
-    // How many chips the message carries that is claimed and not put, where one is. It stands beside the stage, so that
+    // How many chips the message carries that is claimed and not put, if one is. It stands beside the stage, so that
     // the stage is a byte.
     count: u64,
     stage: Stage,

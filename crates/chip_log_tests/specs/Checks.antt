@@ -34,7 +34,7 @@ are_sent log before (x ∷ xs) =
     may_send (active_after (begins_active (steps_of x.process log)) (steps_of x.process before)) x.step
     && are_sent log (before ++ x ∷ []) xs
 
--- the process and the channel of a row are among so many
+-- the channel of a step, if it has one, is below n
 abbrev pub has_channel : ℕ → Step → Bool
 has_channel n (Out s) = nat_lt s.channel n
 has_channel n (In s) = nat_lt s.channel n

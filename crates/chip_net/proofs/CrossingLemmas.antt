@@ -39,5 +39,5 @@ net_ref_send ℓ κ = shr_send ℓ κ net.the_row shared.the_sync
 pub flag_ref_send : (ℓ : Lifetime) (κ : Lft) → IsSend (ShrRef ℓ κ flag_at.the_row)
 flag_ref_send ℓ κ = shr_send ℓ κ flag_at.the_row flag.the_sync
 
--- for `search`, where what is sent holds tokens
+-- for `search`, if what is sent holds tokens
 pub ruleset net_crosses = (actor_send, stopper_send, root_send, net_ref_send, flag_ref_send)

@@ -16,7 +16,7 @@ use Rattle.chip_net.proofs.Names.{Finishes, Together, IsRun, NetId, ActorKnown, 
 use Rattle.chip_net.proofs.Names.{unsealed_refuses, picked_none, picked_ext, picked_has, contains_nothing}
 use Rattle.chip_net.proofs.ReadingLemmas.{reads_feed_none, reads_part, reads_say}
 
--- nothing passes where nothing is listed
+-- nothing passes if nothing is listed
 none_picked : (test : ℕ → Bool) (n : ℕ) → filter_below test n ≡ [] → (v : ℕ) → v < n → test v ≡ true → ⊥
 none_picked test n empty v l on = contains_nothing v
     (subst (λ (xs : List ℕ). Contains xs v) empty (picked_has test n v l on))
@@ -39,7 +39,7 @@ fired_word_is g setting log legal v word is =
 seal_is : (h : Option Cause) → (is_some h && not (is_by_limit h)) ≡ is_by_seal h
 seal_is h = grind (arith, nat_tests)
 
--- what the words of all vertices say of a log is its outcome, where the chips are those by the counts
+-- what the words of all vertices say of a log is its outcome, if the chips are those by the counts
 module _ (g : Setting) (setting : IsSetting g) (log : Log) (legal : IsLegalLog g log) (words : List ℕ)
     (count_is : length words ≡ g.game.graph.vertices)
     (word_at : (v : ℕ) → v < g.game.graph.vertices → get_or words v 0 ≡ word_of_part (part_in g log v)) where
@@ -135,12 +135,12 @@ module _ {old now : RootKnown} (setting : IsSetting old.net.setting) {readings :
     outcome_is = outcome_by_words h setting out.log out.legal reading.words reading.count_is word_at o read
         (subst (λ (k : ChipGame). IsAfter k o.fired.items o.chips.items) (sym same_game) chips)
 
-    -- where no seal is listed, none halted a vertex
+    -- if no seal is listed, none halted a vertex
     no_seals : o.sealed.items ≡ [] → NoneHaltedBySeal h out.log
     no_seals empty v l seal = none_picked (λ u. is_by_seal (part_in h out.log u).halt) h.game.graph.vertices
         (sym outcome_is.sealed ∙ empty) v l (ap is_by_seal seal)
 
-    -- and where the limit's list is empty too, none halted at all
+    -- and if the limit's list is empty too, none halted at all
     no_halts : o.over.items ≡ [] → o.sealed.items ≡ [] → NoneHalted h out.log
     no_halts over sealed v l = by_cause (part_in h out.log v).halt refl
       where

@@ -69,7 +69,7 @@ module _ (g : Setting) where
   pub some_words : {n : ℕ} → n ≡ word_count g → IsSetting g → 0 < n
   some_words is setting = let some = setting.game.graph_fits.some_vertex in omega arith
 
-  -- where one word is written
+  -- if one word is written
   module _ (words : List ℕ) (wide : length words ≡ word_count g) (p : Word) (valid : IsWord g p) (new : ℕ) where
     pub written_here : value_in g (set words (index_of g p) new) p ≡ new
     written_here = let l = inside p valid in get_or-set_same words (index_of g p) new 0 (omega arith)

@@ -66,7 +66,7 @@ map_at f [] n b e = absurd (cc)
 map_at f (x ∷ xs) zero b e = (x, refl, sym (some_is (f x) b e))
 map_at f (x ∷ xs) (suc n) b e = map_at f xs n b e
 
--- actors that lent their parts and have them again are as they were
+-- actors whose parts were taken and given back are as they were
 pub all_back : (net : NetId) (xs : List ActorKnown) → ((n : ℕ) (a : ActorKnown) → slice_get xs n ≡ Some a → a.net ≡ net)
     → map (at_net net) (map seatless xs) ≡ xs
 all_back net [] are = refl

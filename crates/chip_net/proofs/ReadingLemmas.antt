@@ -45,7 +45,7 @@ reads_feed_none g [] v [] = refl
 reads_feed_none g [] v (w ∷ ws) = reads_feed_none g [] (suc v) ws
 reads_feed_none g (x ∷ xs) v ws = ap (λ (l : List (ℕ × ℕ)). fed_of g x.event ++ l) (reads_feed_none g xs v ws)
 
--- where the log has them, each tells the word of its vertex
+-- if the log has them, each tells the word of its vertex
 pub reads_say : (g : Setting) → IsSetting g → (log : Log) → IsLegalLog g log → (did : List Step) (ws : List ℕ)
     → did ++ reads_from 0 ws ≡ done_by g (root g) log → (v : ℕ) → v < length ws
     → (v < g.game.graph.vertices) × IsClosed g log × (get_or ws v 0 ≡ word_of_part (part_in g log v))

@@ -109,7 +109,7 @@ feeding_acts g (Seal e) z = z
 feeding_acts g (Read v) z = z
 feeding_acts g x z = tt
 
--- what is noted where such an operation found n
+-- what is noted if such an operation found n
 abbrev pub noted_over : operation.Act → ℕ → ℕ
 noted_over (Do.Put e cell value) n = 0
 noted_over _ n = n
@@ -209,7 +209,7 @@ pub root_step : (r : RootKnown) (y : Step)
     → root_part (root_after r (y ∷ [])) ≡ does r.net.setting y (root_part r)
 root_step r y = part_append r.net.setting (opening_part r.net.setting) r.did (y ∷ [])
 
--- it holds as little as before where the event leaves what is held
+-- it holds as little as before if the event leaves what is held
 pub holds_by : {old now : RootKnown} {x : Event} {seen : ℕ} → MakesEvent old now x seen
     → ((e : ℕ) (o : Out) → (link_after x seen e o).held ≡ o.link.held) → HoldsNothing old → HoldsNothing now
 holds_by {old = old} {x = x} {seen = seen} event same none = subst HoldsNothing (sym event.record_is)

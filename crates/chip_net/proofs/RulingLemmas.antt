@@ -22,7 +22,7 @@ pub record Due (g : Setting) (me : Mine) (p : ℕ) (x : Event) : Type 0 where
   pub has : Has p me.0
   pub met : unmet_rule g x (part_of_view g p me.0) ≡ None
 
--- such an event was made, where its operation found n: the view after it, and the part in the log that it goes on
+-- such an event was made, and its operation found n: the view after it, and the part in the log that it goes on
 pub record Made (g : Setting) (me : Mine) (p : ℕ) (x : Event) (n : ℕ) (after : Mine) : Type 0 where
   pub stepped : Stepped g (step_of x n) me.0
   pub in_log : part_of_view g p me.0 ≡ part_in g stepped.log p
@@ -113,7 +113,7 @@ module _ {g : Setting} {me : Mine} {p : ℕ} {x : Event} (due : Due g me p x) wh
 
 -- ---- the same by the operation
 
--- the word that an operation of the vertex v is on, and what it leaves there where n was found
+-- the word that an operation of the vertex v is on, and what it leaves there if n was found
 abbrev pub word_of : ℕ → operation.Act → Word
 word_of v (Do.Take e cell) = of_cell e cell
 word_of v (Do.Settle e) = of_acks e

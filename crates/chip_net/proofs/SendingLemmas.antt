@@ -16,7 +16,7 @@ look_done seen claims place is = by_test (eqb seen 0)
     (λ on. (eqb-true seen 0 on, (let z = is ∙ cond-true (eqb seen 0) (Done claims) Full on in cc)))
     (λ off. (let z = is ∙ cond-false (eqb seen 0) (Done claims) Full off in absurd (cc)))
 
--- so many chips may be fed to a vertex, whose root edge is e
+-- `count` chips may be fed to a vertex, whose root edge is e
 pub record MayFeed (r : RootKnown) (vertex e count : ℕ) : Type 0 where
   pub inside : vertex < r.net.setting.game.graph.vertices
   pub edge_is : e ≡ root_edge r.net.setting vertex

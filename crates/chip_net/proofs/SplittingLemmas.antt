@@ -1,5 +1,5 @@
--- Serves Views.antt, Rule.antt.
--- The rule where one part alone moved or did more: as it acts, as it is taken out, and as it is taken in.
+-- Serves Views.antt, Rule.antt. The rule if one part alone moved or did more: as it acts, as it is taken out, and as it
+-- is taken in.
 use Rattle.chip_net.proofs.Names.{◌≡◌, ◌≢◌, ℕ, zero, suc, ◌+◌, ◌<◌, cond, eqb, List, [], ◌∷◌, ◌++◌, length, set, Option}
 use Rattle.chip_net.proofs.Names.{Some, None, refl, sym, ap, ◌∙◌, dite, some, ℕ_discrete, get_elem?, State, Splits}
 use Rattle.chip_net.proofs.Names.{Joins, Enters, at_last, set_else, Setting, at_other, Log, Step, IsLegalLog, done_by}

@@ -42,7 +42,7 @@ grown_has p x v w has is =
 pub part_append : (g : Setting) (s : Part) (xs ys : List Step) → part_by g s (xs ++ ys) ≡ part_by g (part_by g s xs) ys
 part_append g s xs ys = part-append g xs ys s
 
--- where no chips are fed the end of feeding is noted, whatever a part did
+-- if no chips are fed the end of feeding is noted, whatever a part did
 pub ended_by : (g : Setting) (xs : List Step) (s : Part) → s.ended ≡ true → (part_by g s xs).ended ≡ true
 ended_by g [] s on = on
 ended_by g (x ∷ xs) s on = ended_by g xs (does g x s) (stays_ended g x.event s.ended on)

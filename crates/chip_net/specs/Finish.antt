@@ -76,7 +76,7 @@ pub record AreRead (words counted limited stopped : List ℕ) : Type 0 where
   pub over : limited ≡ filter_below (is_by_limit_at words) (length words)
   pub sealed : stopped ≡ filter_below (is_by_seal_at words) (length words)
 
--- so many reads were made, and this is their readings
+-- `count` reads were made, and these are their readings
 pub record IsReading (old now : RootKnown) (readings : ReadingsState) (count : ℕ) : Type 0 where
   pub words : List ℕ
   pub count_is : length words ≡ count
@@ -111,7 +111,7 @@ pub record Finishes (old receipt : RootKnown) (o : Outcome) : Type 0 where
   pub of_log : IsOutcomeOf old.net.setting read_out.log o
   pub comes : ComesTo old.net.setting (slice_index game.start) (firings read_out.log) o
   pub in_range : IsOutcome o
-  -- where no seal halted a vertex it is every player's, and where none halted at all it is every end's
+  -- if no seal halted a vertex it is every player's, and if none halted at all it is every end's
   pub played : o.sealed.items ≡ [] → IsPlayed game o
   pub one_end : o.over.items ≡ [] → o.sealed.items ≡ [] → IsOneEnd game o
   -- if the root holds the stopper's part, which did nothing, no seal halted a vertex

@@ -6,7 +6,7 @@ use Rattle.chip_net.specs.Roots.{new_root, new_stopper}
 use Rattle.chip_net.specs.declared.open.Opened.{Opened}
 
 -- a net of this setting and its tokens: the root, which has the stopper's part if there is no stopper, and the actors
--- of all vertices, ascending, each with room for so many trace rows
+-- of all vertices, ascending, each with room for `trace_rows` trace rows
 pub record IsOpened (g : Setting) (trace_rows : ℕ) (stoppable : Bool) (o : Opened) : Type 0 where
   pub setting : o.net.setting ≡ g
   pub root : o.root ≡ new_root o.net (if stoppable then None else Some [])

@@ -50,7 +50,7 @@ root_part r = part_by r.net.setting (opening_part r.net.setting) r.did
 abbrev pub root_deficit : RootKnown → ℕ
 root_deficit r = deficit r.net.setting (root r.net.setting) (root_part r)
 
--- it noted the end of feeding; where no chips are fed it is noted from the beginning
+-- it noted the end of feeding; if no chips are fed it is noted from the beginning
 abbrev pub has_ended : RootKnown → Bool
 has_ended r = (root_part r).ended
 
@@ -130,7 +130,7 @@ HoldsNothing r = (v : ℕ) → v < r.net.setting.game.graph.vertices
 
 -- ---- feeding
 
--- a feed of so many chips: a look that sees the next cell empty, a claim that sees how many messages were sent before,
+-- a feed of `count` chips: a look that sees the next cell empty, a claim that sees how many messages were sent before,
 -- and the put
 abbrev pub feed_steps : Setting → ℕ → ℕ → ℕ → List Step
 feed_steps g vertex count place =
@@ -139,7 +139,7 @@ feed_steps g vertex count place =
     ∷ saw (Put (root_edge g vertex)) 0
     ∷ []
 
--- the root fed so many chips to a vertex, by a message with this place
+-- the root fed `count` chips to a vertex, by a message with this place
 pub record Feeds (old new : RootKnown) (vertex count place : ℕ) : Type 0 where
   pub not_ended : has_ended old ≡ false
   pub within : all_given old + count ≤ max_total
@@ -153,7 +153,7 @@ pub record LooksInVain (old new : RootKnown) (vertex : ℕ) : Type 0 where
   pub record_is : new
       ≡ root_after old (saw (Clear (root_edge old.net.setting vertex)) seen ∷ [])
 
--- why so many chips were not fed to a vertex: nothing more may be fed; else there would be too many; else the ring of
+-- why `count` chips were not fed to a vertex: nothing more may be fed; else there would be too many; else the ring of
 -- its root edge was full
 abbrev pub RefusesFeed : RootKnown → RootKnown → ℕ → ℕ → FeedFault → Type 0
 RefusesFeed old new vertex count Ended = (has_ended old ≡ true) × (new ≡ old)
@@ -168,13 +168,13 @@ feed_number Ended = 44
 feed_number Total = 10
 feed_number Full = 45
 
--- the fault that it is where this rule of a feed isn't met
+-- the fault that it is if this rule of a feed isn't met
 abbrev pub feed_fault : Rule → Option FeedFault
 feed_fault Not.Ended = Some Ended
 feed_fault Not.TooMuch = Some Total
 feed_fault _ = None
 
--- whether so many chips may be fed, as far as the root knows
+-- whether `count` chips may be fed, as far as the root knows
 abbrev pub AllowsFeed : RootKnown → ℕ → Result (Unit {0}) FeedFault → Type 0
 AllowsFeed r count (Ok done) = (has_ended r ≡ false) × (all_given r + count ≤ max_total)
     × (all_fed r.net.setting (root_part r) ≡ all_given r)
@@ -184,7 +184,7 @@ AllowsFeed r count (Err Full) = ⊥
 
 -- ---- settling
 
--- settles of so many root edges, ascending from that of v
+-- settles of n root edges, ascending from that of v
 abbrev pub settles_from : Setting → ℕ → ℕ → List Event
 settles_from g v zero = []
 settles_from g v (suc n) = settles_from g v n ++ Settle (root_edge g (v + n)) ∷ []
@@ -199,7 +199,7 @@ pub record DoesMore (old now : RootKnown) (events : List Event) : Type 0 where
 abbrev pub IsPolling : RootKnown → RootKnown → ℕ → Type 0
 IsPolling old now count = DoesMore old now (settles_from old.net.setting 0 count)
 
--- what a poll answers, by the root after it: without a deficit it runs only where more may be fed
+-- what a poll answers, by the root after it: without a deficit it runs only if more may be fed
 abbrev pub AnswersPoll : RootKnown → RootState → Type 0
 AnswersPoll r Closed = IsOver r
 AnswersPoll r (Running n) = (n ≡ root_deficit r) × (n ≡ 0 → has_ended r ≡ false)
@@ -209,7 +209,7 @@ pub record Polls (old new : RootKnown) (answer : RootState) : Type 0 where
   pub polling : IsPolling old new old.net.setting.game.graph.vertices
   pub answers : AnswersPoll new answer
 
--- the same, where the first settle noted the end of feeding
+-- the same, if the first settle noted the end of feeding
 pub record Ends (old new : RootKnown) (answer : RootState) : Type 0 where
   pub ending : DoesMore old new (End ∷ settles_from old.net.setting 1 (old.net.setting.game.graph.vertices - 1))
   pub ended : has_ended new ≡ true
@@ -230,7 +230,7 @@ new_stopper net = record { net = net; did = [] }
 abbrev pub stopper_part : StopperKnown → Part
 stopper_part s = part_by s.net.setting (opening_part s.net.setting) s.did
 
--- the stopper sealed the edge once more: the count is what the first seal of it saw, and this was the first where there
+-- the stopper sealed the edge once more: the count is what the first seal of it saw, and this was the first if there
 -- was none
 pub record Seals (old new : StopperKnown) (edge : ℕ) (answer : SealedAt) : Type 0 where
   pub inside : edge < graph_edges old.net.setting

@@ -29,7 +29,7 @@ pub record Kept (g : Setting) (s : State (Unit {0}) View) : Type 0 where
   -- the core can have come here
   pub legal : IsLegalLog g log
 
--- an event, with what is noted as seen where its operation found n
+-- an event, with what is noted as seen if its operation found n
 abbrev pub step_of : Event → ℕ → Step
 step_of x n = saw x (word_to_note x n)
 

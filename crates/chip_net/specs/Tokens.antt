@@ -67,7 +67,7 @@ no_actor = newcomer (record { table = no_table; setting = no_setting }) 0 0
 abbrev pub at_net : NetId → ActorKnown → ActorKnown
 at_net net a = record { net = net; vertex = a.vertex; room = a.room; did = a.did }
 
--- an actor that lent its part is at no table
+-- an actor whose part was taken is at no table
 abbrev pub seatless : ActorKnown → ActorKnown
 seatless a = at_net (record { table = no_table; setting = a.net.setting }) a
 
@@ -76,7 +76,7 @@ abbrev pub table_of : List History → TableId → TableId
 table_of [] table = no_table
 table_of (x ∷ xs) table = table
 
--- what its seat knows, or knew as its part was lent
+-- what its seat knows, or knew when its part was taken
 abbrev pub me_of : List History → Mine → Mine → Mine
 me_of [] me knew = knew
 me_of (x ∷ xs) me knew = me
@@ -95,7 +95,8 @@ IsActor g a me trace = IsSeated g a.vertex me trace × StandsFor g (part_of_view
 
 -- ---- the net's words as a medium
 
--- what a turn leaves as it is: the net, the vertex, the room of its trace, and the names by which seat and trace are lent
+-- what a turn leaves as it is: the net, the vertex, the room of its trace, and the names by which seat and trace are
+-- borrowed
 pub record TurnSetup : Type 0 where
   pub net : NetId
   pub vertex : ℕ

@@ -21,7 +21,7 @@ pub record TraceState : Type 0 where
   pub room : ℕ
   pub cut : Bool
 
--- of all these rows the trace has those for which it has room, and it is cut where a row was lost
+-- of all these rows the trace has those for which it has room, and it is cut if a row was lost
 pub record Keeps (all : List TraceRow) (t : TraceState) : Type 0 where
   pub rows : t.rows ≡ take t.room all
   pub cut : t.cut ≡ nat_lt t.room (length all)

@@ -46,7 +46,7 @@ Has p v = find p v.parts ≡ Some (did_in p v)
 abbrev pub part_of_view : Setting → ℕ → View → Part
 part_of_view g p v = part_by g (opening_part g) (did_in p v)
 
--- what is left where the part p is taken out
+-- what is left once the part p is taken out
 abbrev pub drop_part : ℕ → List History → List History
 drop_part p [] = []
 drop_part p (y ∷ ys) = if y.part == p then drop_part p ys else y ∷ drop_part p ys

@@ -22,7 +22,7 @@ use std::snapshot::Snapshot;
 /// What a turn came to.
 #[derive(Clone, Copy, PartialEq, Eq)]
 pub enum Turn {
-    /// So many of its steps, 1 or more, took, fired, sent, put, halted, acknowledged, or settled something new.
+    /// This number of its steps, 1 or more, took, fired, sent, put, halted, acknowledged, or settled something new.
     Worked(u64),
     /// None did, and the vertex has still something to do.
     Waiting,
@@ -38,7 +38,7 @@ pub(crate) struct Owned {
     setting: Snapshot<Setting>,
     // It has no part while the root looks at all parts at once.
     seat: PartSeat,
-    // What the seat knew when its part was lent.
+    // What the seat knew when its part was taken.
     knew: Snapshot<PartSeat>,
     trace: Trace,
 }
@@ -124,8 +124,8 @@ impl Owned {
     }
 }
 
-/// The owner of one vertex of a net. Contracts see what it has done. What it owns lies in a box, so that it goes from
-/// hand to hand as a pointer.
+/// The owner of one vertex of a net. Contracts see what it has done. What it owns lies in a box, so that it is passed
+/// on as a pointer.
 #[derive(Drop)]
 pub struct Actor {
     owned: Box<Owned>,

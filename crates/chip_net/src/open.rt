@@ -26,7 +26,7 @@ use std::alloc::{AllocError, Global};
 use std::marker::Brand;
 use std::snapshot::Snapshot;
 
-/// Lays out the message of one root edge, where its vertex starts with chips.
+/// Lays out the message of one root edge, if its vertex starts with chips.
 fn open_edge(setting: &Setting, words: &mut Vec<u64>, vertex: u64)
     requires vertex { vertex < setting.now.game.graph.vertices }
     requires words { AreOpening setting.now (graph_edges setting.now + vertex) words.old.items }
@@ -164,12 +164,12 @@ pub struct Opened {
     pub root: Root,
     /// The actor of each vertex, ascending.
     pub actors: Vec<Actor>,
-    /// The stopper, where the net is stoppable.
+    /// The stopper, if the net is stoppable.
     pub stopper: Option<Stopper>,
 }
 
 impl Net {
-    /// A net of this setting and its tokens. Each actor has room for so many trace rows, and there is a stopper where
+    /// A net of this setting and its tokens. Each actor has room for `trace_rows` trace rows, and there is a stopper if
     /// the net is to be stoppable. All memory of the net's life is taken here, and for want of it alone it is refused.
     pub fn of(
         alloc: Global,
@@ -189,7 +189,7 @@ impl Net {
         })
     }
 
-    /// The net of a game, with rings of so many cells, and its tokens. The end of feeding is noted from the start.
+    /// The net of a game, with rings of `ring` cells, and its tokens. The end of feeding is noted from the start.
     pub fn open(
         alloc: Global,
         game: &Game,

@@ -7,7 +7,7 @@ use thiserror::Error;
 pub enum RootState {
     /// Nothing more is fed, and every message of the root is acknowledged: the game is over.
     Closed,
-    /// So many of them aren't; 0 only where more chips may be fed.
+    /// This number of its messages is not acknowledged; 0 only if more chips may be fed.
     Running(u64),
 }
 
@@ -17,7 +17,7 @@ pub enum FeedFault {
     /// The end of feeding is noted, or the net was opened to be played without feeding.
     #[error("the end of feeding is noted")]
     Ended,
-    /// With so many more, more chips than 2^40 would have been given.
+    /// With these chips, more than 2^40 would have been given.
     #[error("more than 1099511627776 chips would have been given")]
     Total,
     /// As many messages to the vertex as its ring has cells are not taken yet.

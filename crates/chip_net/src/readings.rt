@@ -35,7 +35,7 @@ impl Model for Readings {
 }
 
 impl Readings {
-    /// Those of no vertex, with room for so many.
+    /// Those of no vertex, with room for `room` vertices.
     pub(crate) fn new(alloc: Global, room: usize) -> Result<Readings, AllocError>
         ensures { IfOk result (λ readings. readings ≡ no_readings room) }
     {

@@ -48,7 +48,7 @@ impl Receipt {
         Receipt { seat, setting }
     }
 
-    /// Meets the actors of all vertices, and leaves all as it was: what all of them did stands in one log.
+    /// Shows that what the actors of all vertices did stands in one log, and leaves all as it was.
     pub fn meet(&mut self, net: &Net, actors: &mut Vec<Actor>)
         requires net { self.old.net ≡ net.now }
         requires actors { AreInPlace net.now actors.old.items }

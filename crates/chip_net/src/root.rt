@@ -51,8 +51,8 @@ impl Root {
         })
     }
 
-    /// Feeds so many chips, 1 or more, to a vertex, and tells how many messages the root sent there before. Nothing
-    /// waits: where the ring to the vertex is full, it says so, and a later try may go through.
+    /// Feeds `count` chips, 1 or more, to a vertex, and tells how many messages the root sent there before. Nothing
+    /// waits: if the ring to the vertex is full, it says so, and a later try may go through.
     #[cold]
     pub fn feed(&mut self, net: &Net, vertex: u64, count: u64) -> Result<u64, FeedFault>
         requires net { self.old.net ≡ net.now }
@@ -73,8 +73,7 @@ impl Root {
         Ok(place)
     }
 
-    /// Notes that nothing more is fed, and polls. Only then can the net close; where it was noted before, this is a
-    /// poll.
+    /// Notes that nothing more is fed, and polls. Only then can the net close; if it was noted before, this is a poll.
     #[cold]
     pub fn end(&mut self, net: &Net) -> RootState
         requires net { self.old.net ≡ net.now }
@@ -111,7 +110,7 @@ impl Root {
 
     /// Once the game is over, reads how often each vertex fired and whether it halted, and tells how the game ended,
     /// with all chips that were fed: the chips are those by the counts, so that what a sealed edge holds back counts as
-    /// sent. Before, it hands the root back.
+    /// sent. Before that, it gives the root back.
     pub fn finish(self, net: &Net) -> Result<(Outcome, Receipt), Root>
         requires net { self.net ≡ net.now }
         ensures { MatchResult result (λ r. IsOver self × Finishes self r.1 r.0)

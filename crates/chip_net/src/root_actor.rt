@@ -117,7 +117,7 @@ impl RootActor {
         self.state.apply(&event, seen)
     }
 
-    /// Whether so many chips may be fed over a root edge, as far as the root knows.
+    /// Whether `count` chips may be fed over a root edge, as far as the root knows.
     pub(crate) fn may_feed(&self, vertex: u64, edge: u64, count: u64) -> Result<(), FeedFault>
         requires vertex { vertex < self.now.net.setting.game.graph.vertices }
         requires edge { edge ≡ root_edge self.now.net.setting vertex }
@@ -175,7 +175,7 @@ impl RootActor {
     }
 }
 
-/// The fault that it is where this rule of a feed isn't met; none of a rule that a look at the cell may mend.
+/// The fault that it is if this rule of a feed isn't met; none of a rule that a look at the cell may mend.
 fn fault_of(rule: Rule) -> Option<FeedFault>
     ensures { result ≡ feed_fault rule }
 {

@@ -30,7 +30,7 @@ impl Trace {
     ghost use Rattle.chip_link.specs.declared.event.Event.TheVariants.{Take};
     ghost use Rattle.chip_net.specs.Traces.{row_of};
 
-    /// A trace with nothing in it, and room for so many rows.
+    /// A trace with nothing in it, and room for `room` rows.
     pub(crate) fn new(alloc: Global, room: usize) -> Result<Trace, AllocError>
         ensures room { IfOk result (λ trace. trace.room ≡ room) }
         ensures empty { IfOk result (Keeps []) }
@@ -58,7 +58,7 @@ impl Trace {
         }
     }
 
-    /// What a take found on an edge: a row, where it was a message.
+    /// What a take found on an edge: a row, if it was a message.
     pub(crate) fn note_take(&mut self, edge: u64, count: u64)
         ensures room { self.new.room ≡ self.old.room }
         ensures keeps { (all : List TraceRow) → Keeps all self.old → Keeps (all ++ row_of (Take edge) count) self.new }

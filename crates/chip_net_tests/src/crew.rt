@@ -39,7 +39,7 @@ enum Ending {
     Total,
     /// A gate was shut.
     GateShut,
-    /// The turns did not suffice, and so many messages are open.
+    /// The turns did not suffice, and this number of messages is open.
     Unfinished(u64),
 }
 
@@ -156,7 +156,7 @@ fn all_end_both_ways<R: Threads + Wait + Sync + Abort + AllocGlobal>(rt: &R, cas
     }
 }
 
-/// So many workers play four chips with such rings, by a queue and dealt out.
+/// `workers` workers play four chips with rings of `ring` cells, by a queue and dealt out.
 fn four_end<R: Threads + Wait + Sync + Abort + AllocGlobal>(rt: &R, workers: u64, ring: u64) {
     let plan = Plan {
         workers,
@@ -205,7 +205,7 @@ fn turns_of_another_worker(rt: HostRuntime) {
     assert!(rt; polls == 3 || polls == 4);
 }
 
-/// Of how many polls a gate is told where one worker plays four chips, and the turn of the last one.
+/// Of how many polls a gate is told if one worker plays four chips, and the turn of the last one.
 fn tells_polls<R: Threads + Wait + Sync + Abort + AllocGlobal>(
     rt: &R,
     sharing: Sharing,
@@ -683,7 +683,7 @@ fn sealed_before_a_turn(rt: HostRuntime) {
     all_end(&rt, SEALED_BEFORE_A_TURN);
 }
 
-/// What two workers come to on the triangle, or one, where they finish.
+/// What two workers come to on the triangle, or one, if they finish.
 fn finished<R: Threads + Wait + Sync + Abort + AllocGlobal>(
     rt: &R,
     start: &[u64],
@@ -752,7 +752,7 @@ fn traces(rt: HostRuntime) {
     expect_trace(&rt, &ended, 2, &[take(1, 2), take(3, 1)], false);
 }
 
-/// A chain of so many vertices without chips. The last one is the sink.
+/// A chain of `vertices` vertices without chips. The last one is the sink.
 fn chain(rt: &(impl AllocGlobal + Abort), vertices: u64) -> Game
     requires { (0 < vertices) × (vertices ≤ 1000000) }
 {

@@ -155,7 +155,7 @@ module _ (g : Setting) (v : ℕ) (vertex : v < g.game.graph.vertices) (s : Part)
         (sym told) (goes.mine, goes.met, is, under_way) in
         record { mine = all.0; met = all.1; needed = all.2; fewer = goes.fewer; goes_on = all.3 }
 
--- a turn is over where nothing is left
+-- a turn is over if nothing is left
 pub is_over : (g : Setting) (v : ℕ) (s : Part) (cursor : Cursor) → rest_of_turn g v cursor s [] s
     → (first : Part) (done : List Step) → IsUnderWay g v first done cursor s → turn g v first done s
 is_over g v s cursor over first done way = subst (λ (xs : List Step). turn g v first xs s) (append-nil done)

@@ -43,7 +43,7 @@ pub at_edge : {A : Type 0} (P : ℕ → A → Type 0) (e : ℕ) (new old : ℕ �
     → (i : ℕ) → P i (cond (eqb e i) (new i) (old i))
 at_edge P e new old here rest = at_other P e new old here (λ i other. rest i)
 
--- no message is claimed where none is counted
+-- no message is claimed if none is counted
 pub no_held : (held : Option ℕ) → length (option_to_list held) ≡ 0 → held ≡ None
 no_held held z = grind (arith, nat_tests)
 
@@ -55,7 +55,7 @@ module _ (g : Setting) where
   tail_inside e l = dite (dec_lt e (length g.game.graph.edges)) (λ h. h) (λ n. let a = tail_root g e (omega arith) in
       absurd (omega arith))
 
-  -- of the edges out of v, each is 0 where their sum is
+  -- of the edges out of v, each is 0 if their sum is
   pub out_zero : (v : ℕ) (f : ℕ → ℕ) → over_outs g v f ≡ 0 → (e : ℕ) → e < all_edges g → tail_of g e ≡ v → f e ≡ 0
   out_zero v f z e l at = tested_zero (all_edges g) (λ i. eqb (tail_of g i) v) f z e l (eq-eqb (tail_of g e) v at)
 
@@ -67,12 +67,12 @@ module _ (g : Setting) where
   abbrev pub Outs : ℕ → Part → Type 0
   Outs p s = (e : ℕ) → tail_of g e ≡ p → KeepsOut g e (s.out e).link (s.out e).pending s.fired
 
-  -- where chips are fed, a root edge keeps nothing but that nothing is pending on it
+  -- if chips are fed, a root edge keeps nothing but that nothing is pending on it
   root_kept : (e : ℕ) (t : Tail) (pending fired : ℕ) → graph_edges g ≤ e → g.fed ≡ true → pending ≡ 0
       → KeepsOut g e t pending fired
   root_kept e t pending fired past on idle = search (rules, arith, nat_tests)
 
-  -- chips are fed where the end isn't noted
+  -- chips are fed if the end isn't noted
   fed_by : (s : Part) → (g.fed ≡ false → s.ended ≡ true) → s.ended ≡ false → g.fed ≡ true
   fed_by s unfed going = by_test g.fed (λ on. on) (λ off. absurd (true≢false (sym (unfed off) ∙ going)))
 

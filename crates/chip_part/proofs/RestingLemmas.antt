@@ -57,7 +57,7 @@ module _ (g : Setting) where
     owed_less : owed (acked.into e) ≡ owed (s.into e) - may_ack g (head_of g e) s e
     owed_less = let a = cond_yes e e ((s.into e).acked + may_ack g (head_of g e) s e) (s.into e).acked refl in omega arith
 
-    -- where the parent is there still, it was
+    -- if the parent is still there, it was
     pub was_parent : (i : ℕ) → acked.parent ≡ Some i → s.parent ≡ Some i
     was_parent i is = grind (arith, nat_tests)
 

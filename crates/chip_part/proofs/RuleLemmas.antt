@@ -1,5 +1,4 @@
--- Serves Rules.antt.
--- The rules of an event in plain facts: each holds where none is unmet, and the other way round.
+-- Serves Rules.antt. The rules of an event in plain facts: each holds if none is unmet, and the other way round.
 use Rattle.std.proofs.Common.{◌≡◌, ◌≢◌, ℕ, ◌<◌, ◌≤◌, true, false, not, eqb, Option, Some, None, is_some, refl, sym}
 use Rattle.std.proofs.Common.{arith, ⊎_elim, true≢false}
 use Rattle.std.proofs.lemmas.Bool.Decides.{nat_tests}

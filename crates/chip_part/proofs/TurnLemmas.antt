@@ -123,7 +123,7 @@ module _ (g : Setting) (v : ℕ) where
 
   -- ---- the sends
 
-  -- at most so many operations, after which no more is to be sent
+  -- at most n operations, after which no more is to be sent
   abbrev Sends : ℕ → Phase → Type 0
   Sends n p = (s : Part) (ds : List Step) (t : Part) → p s ds t → (length ds ≤ n) × ((i : ℕ) → busy_count t i ≤ busy_count s i)
 

@@ -104,7 +104,7 @@ module _ (g : Setting) (v : ℕ) (vertex : v < g.game.graph.vertices) (s : Part)
   refused_edge : (e : ℕ) → tail_of g e ≡ v → (s.out e).link.refused ≡ true → refusals g v s ≢ 0
   refused_edge e at is z = true≢false (sym is ∙ open_edge z e at)
 
-  -- where a claim was refused there is an edge out of the vertex, which isn't the sink
+  -- if a claim was refused there is an edge out of the vertex, which isn't the sink
   refused_some : refusals g v s ≢ 0 → 0 < length (outs_of g v)
   refused_some some = dite (dec_lt 0 (length (outs_of g v))) (λ l. l)
       (λ n. absurd (some (tested_none (all_edges g) (λ e. eqb (tail_of g e) v) (λ e. cond (s.out e).link.refused 1 0)

@@ -15,9 +15,9 @@ use Rattle.chip_part.specs.Rules.{Rule, Event, Take, Ack, Fire, Clear, Claim, Pu
 use Rattle.chip_part.specs.Rules.{unmet_rule}
 use Rattle.chip_part.specs.Steps.{part_of}
 
--- the operation that an event of a vertex needs, where its rules are met. A message with place p stands in cell p %
--- ring, and the one that is claimed and not put has the last place. A seal and a read are no operations of a vertex;
--- those of the root on its edges are of the same kinds
+-- the operation that an event of a vertex needs, if its rules are met. A message with place p stands in cell p % ring,
+-- and the one that is claimed and not put has the last place. A seal and a read are no operations of a vertex; those of
+-- the root on its edges are of the same kinds
 abbrev pub act_of : Setting → Event → Part → Act
 act_of g (Take e) s = Do.Take e (length (s.into e).got % g.ring)
 act_of g (Ack e) s = Do.Ack e (may_ack g (head_of g e) s e)

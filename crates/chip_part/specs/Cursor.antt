@@ -48,11 +48,11 @@ module _ (g : Setting) (v : ℕ) where
   abbrev pub from_taking : ℕ → Phase
   from_taking place = and_then (each_phase (λ e. one_step g v (Take e)) (drop place (ins_of g v))) (from_settling 0)
 
-  -- an edge whose cell was looked at: it is claimed where the cell was empty
+  -- an edge whose cell was looked at: it is claimed if the cell was empty
   abbrev pub claiming : ℕ → Phase
   claiming e = where_phase (λ s. (s.out e).link.clear) (seeing g v (Claim e) (after_claim_phase g v e))
 
-  -- an edge that was claimed: the message is put, or a halt follows where the claim was refused
+  -- an edge that was claimed: the message is put, or a halt follows if the claim was refused
   abbrev pub storing : ℕ → Phase
   storing e s ds after = either_phase (is_some (s.out e).link.held) (one_step g v (Put e))
       (one_step g v (Halt v)) s ds after
@@ -99,8 +99,8 @@ module _ (g : Setting) (v : ℕ) where
   IsAt At.Limit s = HoldsNothing s
   IsAt _ s = Unit {0}
 
--- how many operations may be left at a cursor, for a vertex with so many edges into it and out of it. An edge out of it
--- is counted once for a put and three times for what it may send, though no turn does both
+-- how many operations may be left at a cursor, for a vertex with i edges into it and o out of it. An edge out of it is
+-- counted once for a put and three times for what it may send, though no turn does both
 abbrev pub most_left : ℕ → ℕ → Cursor → ℕ
 most_left i o (At.Take place) = (i - place) + o + 1 + o + 3 * o + 1 + i + 1
 most_left i o (At.Settle place) = (o - place) + 1 + o + 3 * o + 1 + i + 1
@@ -128,7 +128,7 @@ pub record IsUnderWay (g : Setting) (v : ℕ) (first : Part) (done : List Step) 
   pub rest : (ds : List Step) (after : Part) → rest_of_turn g v cursor s ds after → turn g v first (done ++ ds) after
 
 -- the operation is the next one of a turn: it is of an event of v whose rules are met, and whatever it sees the turn
--- goes on at the next cursor, where fewer operations are left
+-- goes on at the next cursor, with fewer operations left
 pub record IsNext (g : Setting) (v : ℕ) (first : Part) (done : List Step) (s : Part) (cursor : Cursor) (act : Act)
     (next : Cursor) : Type 0 where
   pub mine : part_of g (event_of v act) ≡ v
@@ -139,7 +139,7 @@ pub record IsNext (g : Setting) (v : ℕ) (first : Part) (done : List Step) (s :
       → IsUnderWay g v first (done ++ saw (event_of v act) seen ∷ []) next
       (does g (saw (event_of v act) seen) s)
 
--- the answer at a cursor of a turn that is under way: nothing more where the operations are a turn, else the next
+-- the answer at a cursor of a turn that is under way: nothing more if the operations are a turn, else the next
 -- operation of it
 pub record Continues (g : Setting) (v : ℕ) (s : Part) (cursor : Cursor) (act : Act) (next : Cursor) : Type 0 where
   pub ends : act ≡ Do.End → (first : Part) (done : List Step) → IsUnderWay g v first done cursor s
@@ -163,7 +163,7 @@ pub record GoesBy (g : Setting) (v : ℕ) (s : Part) (cursor : Cursor) (x : Even
       → rest_of_turn g v next (does g (saw x seen) s) ds after
       → rest_of_turn g v cursor s (saw x seen ∷ ds) after
 
--- what is due at a cursor, with the cursor after it: nothing where nothing is left
+-- what is due at a cursor, with the cursor after it: nothing if nothing is left
 abbrev pub IsDueAt : Setting → ℕ → Part → Cursor → Option (Event × Cursor) → Type 0
 IsDueAt g v s cursor None = rest_of_turn g v cursor s [] s
 IsDueAt g v s cursor (Some due) = GoesBy g v s cursor due.0 due.1

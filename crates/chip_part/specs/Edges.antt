@@ -58,6 +58,6 @@ over_outs g v f = sum_below (all_edges g) (λ e. if tail_of g e == v then f e el
 abbrev pub over_ins : Setting → ℕ → (ℕ → ℕ) → ℕ
 over_ins g v f = sum_below (all_edges g) (λ e. if head_of g e == v then f e else 0)
 
--- the chips that the firings of its tail put into e, an edge of the graph, where it fired so often
+-- the chips that `fired` firings of its tail put into e, an edge of the graph
 abbrev pub chips_of_firings : Setting → ℕ → ℕ → ℕ
 chips_of_firings g e fired = mult_of g e * fired

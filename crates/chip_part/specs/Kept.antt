@@ -57,7 +57,7 @@ pub record KeepsOut (g : Setting) (e : ℕ) (t : Tail) (pending fired : ℕ) : T
   -- nothing is claimed while something is pending
   pub free_hand : e < graph_edges g → 0 < pending → t.held ≡ None
   pub root_idle : graph_edges g ≤ e → pending ≡ 0
-  -- where no chips are fed, a root edge stays as it opened
+  -- if no chips are fed, a root edge stays as it opened
   pub root_unfed : graph_edges g ≤ e → g.fed ≡ false → t ≡ opening_tail g e
 
 -- what the part p keeps
@@ -73,6 +73,6 @@ pub record KeepsPart (g : Setting) (p : ℕ) (s : Part) : Type 0 where
   pub at_limit : s.halt ≡ Some FiringLimit → (s.fired ≡ g.game.limit) × (pending_of g p s ≡ 0) × (is_legal g p s ≡ true)
   -- a vertex without a parent is done
   pub neutral : p < g.game.graph.vertices → s.parent ≡ None → IsNeutral g p s
-  -- all that was fed is within the range of chips, and where no chips are fed the end is noted
+  -- all that was fed is within the range of chips, and if no chips are fed the end is noted
   pub fed_within : p ≡ root g → all_fed g s ≤ max_total
   pub unfed_ended : g.fed ≡ false → s.ended ≡ true

@@ -11,7 +11,7 @@ use Rattle.chip_part.specs.Kept.{Met, KeepsPart}
 use Rattle.chip_part.specs.Turn.{IsTurn, most_steps, turn}
 use Rattle.chip_part.specs.Counting.{work_of}
 
--- no rule is unmet exactly where each holds
+-- no rule is unmet exactly if each holds
 abbrev pub RulesMean : Type 0
 RulesMean = (g : Setting) (x : Event) (s : Part) → (unmet_rule g x s ≡ None) ↔ Met g x s
 
@@ -30,7 +30,7 @@ SumsAddRootEdges =
     → (over_outs g v f ≡ sum_out g.game.graph v f) × (over_outs g v (mult_of g) ≡ degree g.game.graph v)
     × (over_ins g v f ≡ sum_in g.game.graph v f + f (root_edge g v))
 
--- a turn that begins from a part that is kept has at most so many operations
+-- a turn that begins from a part that is kept has at most `most_steps` operations
 abbrev pub TurnIsBounded : Type 0
 TurnIsBounded =
     (g : Setting) (v : ℕ) → v < g.game.graph.vertices → (s : Part) → KeepsPart g v s → (ds : List Step) → IsTurn g v s ds

@@ -42,8 +42,8 @@ abbrev pub first_put : Setting → ℕ → List ℕ
 first_put g e = if nat_lt e (graph_edges g) then [] else if start_of g (e - graph_edges g) == 0 then []
     else start_of g (e - graph_edges g) ∷ []
 
--- every part at the opening. One record serves all, since an edge is looked up in the parts of its own ends alone.
--- Where no chips are fed the end of feeding is noted from the beginning
+-- every part at the opening. One record serves all, since an edge is looked up in the parts of its own ends alone. If
+-- no chips are fed the end of feeding is noted from the beginning
 abbrev pub opening_part : Setting → Part
 opening_part g = record {
   chips = 0;
@@ -80,7 +80,7 @@ deficit g v s = over_outs g v (λ e. outstanding (s.out e))
 abbrev pub all_fed : Setting → Part → ℕ
 all_fed g s = sum_below g.game.graph.vertices (λ v. sum (sent_counts (s.out (root_edge g v)).link))
 
--- each vertex was given so many chips over its root edge, at the start and by feeds
+-- how many chips each vertex was given over its root edge, at the start and by feeds
 abbrev pub AreGiven : Setting → Part → List ℕ → Type 0
 AreGiven g s given = (length given ≡ g.game.graph.vertices)
     × ((v : ℕ) → v < g.game.graph.vertices → slice_index given v ≡ sum (sent_counts (s.out (root_edge g v)).link))

@@ -9,11 +9,11 @@ pub record Setting : Type 0 where
   pub ring : ℕ
   pub fed : Bool
 
--- this game with rings of so many cells, fed or not
+-- this game with rings of `ring` cells, fed or not
 abbrev pub setting_with : ChipGame → ℕ → Bool → Setting
 setting_with game ring fed = record { game = game; ring = ring; fed = fed }
 
--- this game with rings of so many cells, which has all its chips from the start
+-- this game with rings of `ring` cells, which has all its chips from the start
 abbrev pub setting_of : ChipGame → ℕ → Setting
 setting_of game ring = setting_with game ring false
 

@@ -41,7 +41,7 @@ chips_after g (Take e) seen chips = chips + seen
 chips_after g (Fire v k) seen chips = chips - k * degree g.game.graph v
 chips_after g _ seen chips = chips
 
--- a batch counts as so many firings
+-- a batch of k counts as k firings
 abbrev pub fired_after : Event → ℕ → ℕ
 fired_after (Fire v k) fired = fired + k
 fired_after _ fired = fired
@@ -137,7 +137,7 @@ reply_of g (Feed e k) seen s = if seen == claims_of (s.out e).link
     then Sent (message_of e (claims_of (s.out e).link) k) else Sealed
 reply_of g End seen s = Done (seen - (s.out (root_edge g 0)).settled)
 
--- a part and the reply after an event that is asked for: where a rule isn't met nothing is done
+-- a part and the reply after an event that is asked for: if a rule isn't met nothing is done
 abbrev pub part_and_reply : Setting → Step → Part → Option Rule → Part × Reply
 part_and_reply g x s (Some rule) = (s, NotNow rule)
 part_and_reply g x s None = (does g x s, reply_of g x.event x.seen s)

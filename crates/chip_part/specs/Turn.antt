@@ -1,5 +1,5 @@
 -- One turn of a vertex: which operations it makes, in which order, and what follows from what each of them saw. A turn
--- is told as phases that come one after another. Where a schedule left the vertex in the middle of a turn, the same
+-- is a list of phases that come one after another. If a schedule left the vertex in the middle of a turn, the same
 -- phases go on from there: what was claimed is put, a refusal that is noted is followed by the halt.
 use Rattle.std.specs.Prelude.{◌≡◌, ℕ, ◌+◌, ◌*◌, ◌-◌, ◌/◌, Bool, true, false, not, ◌&&◌, ◌==◌, nat_lt, min, List, []}
 use Rattle.std.specs.Prelude.{◌∷◌, ◌++◌, length, Option, Some, None, is_some}
@@ -19,12 +19,12 @@ Phase = Part → List Step → Part → Type 0
 abbrev pub nothing : Phase
 nothing s ds after = (ds ≡ []) × (after ≡ s)
 
--- the first where the test passes, else the second
+-- the first if the test passes, else the second
 abbrev pub either_phase : Bool → Phase → Phase → Phase
 either_phase true p q = p
 either_phase false p q = q
 
--- a phase that is made where a test of the part passes
+-- a phase that is made if a test of the part passes
 abbrev pub where_phase : (Part → Bool) → Phase → Phase
 where_phase test p s ds after = either_phase (test s) p nothing s ds after
 
@@ -68,12 +68,12 @@ module _ (g : Setting) (v : ℕ) where
   abbrev pub firing : Phase
   firing s ds after = where_phase may_fire (one_step (Fire v (batch_of s))) s ds after
 
-  -- what was claimed is put, and a halt follows at once where a claim was refused
+  -- what was claimed is put, and a halt follows at once if a claim was refused
   abbrev pub after_claim_phase : ℕ → ℕ → Part → Phase
   after_claim_phase e seen before = either_phase (seen == claims_of (before.out e).link) (one_step (Put e))
       (one_step (Halt v))
 
-  -- a message is sent where the cell was empty
+  -- a message is sent if the cell was empty
   abbrev pub after_clear_phase : ℕ → ℕ → Part → Phase
   after_clear_phase e seen before = either_phase (seen == 0) (seeing (Claim e) (after_claim_phase e)) nothing
 
@@ -97,7 +97,7 @@ module _ (g : Setting) (v : ℕ) where
   abbrev pub is_at_limit : Part → Bool
   is_at_limit s = is_running s.halt && pending_of g v s == 0 && is_legal g v s && s.fired == g.game.limit
 
-  -- an acknowledgement, where something may be acknowledged
+  -- an acknowledgement, if something may be acknowledged
   abbrev pub acknowledging : ℕ → Phase
   acknowledging e = where_phase (λ s. not (may_ack g (head_of g e) s e == 0)) (one_step (Ack e))
 

@@ -14,7 +14,7 @@ pub enum Act {
     Fire { k: u64 },
     /// Load the cell.
     Clear { edge: u64, cell: u64 },
-    /// Exchange the edge word for `new` where it is `expected`, by one try.
+    /// Exchange the edge word for `new` if it is `expected`, by one try.
     Claim { edge: u64, expected: u64, new: u64 },
     /// Store `value` into the cell.
     Put { edge: u64, cell: u64, value: u64 },

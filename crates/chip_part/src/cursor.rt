@@ -7,19 +7,19 @@ pub enum Cursor {
     Take(usize),
     /// Settle the edges out of it, from this place on.
     Settle(usize),
-    /// Fire, where it may.
+    /// Fire, if it may.
     Fire,
     /// Put what was claimed before, on the edges out of it from this place on.
     Put(usize),
-    /// Halt where a claim was refused before, else send.
+    /// Halt if a claim was refused before, else send.
     Refusal,
     /// Send on the edges out of it, from this place on.
     Send(usize),
-    /// Claim the edge at this place, where its cell was found empty.
+    /// Claim the edge at this place, if its cell was found empty.
     Claim(usize),
-    /// Put what was claimed on the edge at this place, or halt where the claim was refused.
+    /// Put what was claimed on the edge at this place, or halt if the claim was refused.
     Store(usize),
-    /// Halt by the firing limit, where it may.
+    /// Halt by the firing limit, if it may.
     Limit,
     /// Acknowledge on the edges into it, from this place on.
     Ack(usize),

@@ -17,7 +17,7 @@ pub enum Rule {
     Zero = 5,
     /// It would fire more often than the game allows.
     Limit = 6,
-    /// It doesn't have the chips for so many firings.
+    /// It has too few chips for these firings.
     NotLegal = 7,
     /// Nothing is pending on the edge.
     NothingPending = 8,
@@ -39,7 +39,7 @@ pub enum Rule {
     NotClosed = 16,
     /// The end of feeding is noted.
     Ended = 17,
-    /// With so many more, more chips than `MAX_TOTAL` would have been fed.
+    /// With these chips, more than `MAX_TOTAL` would have been fed.
     TooMuch = 18,
 }
 

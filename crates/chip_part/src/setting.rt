@@ -122,7 +122,7 @@ impl Setting {
         }
     }
 
-    /// The tail of an edge of the graph; `None` from `graph_edges()` on, where it is the root.
+    /// The tail of an edge of the graph; `None` from `graph_edges()` on, if it is an edge out of the root.
     pub fn tail(&self, edge: u64) -> Option<u64>
         ensures { result ≡ tail_if self.now edge }
     {

@@ -248,7 +248,7 @@ fn long_path(rt: &(impl AllocGlobal + Abort)) -> Box<Graph> {
     graph_of(rt, END + 1, END, &rows)
 }
 
-/// So many chips in the middle of the path.
+/// `more` chips in the middle of the path.
 pub(crate) fn heap(rt: &(impl AllocGlobal + Abort), more: u64, limit: u64) -> Box<Game> {
     let mut start = vec![in rt.alloc(); 0; 4_096].expect(rt, "memory");
     if let Some(chips) = start.get_mut(2_047) {
@@ -296,7 +296,7 @@ pub(crate) fn one_more(rt: &(impl AllocGlobal + Abort), place: u64) -> Box<Game>
     Box::new(rt.alloc(), game).expect(rt, "memory")
 }
 
-/// Compares how often the vertices of the path fire where one more chip is at this place: as often as their own place is
+/// Compares how often the vertices of the path fire if one more chip is at this place: as often as their own place is
 /// from the nearer end, but no more often than that place is. Whether rounds fire some of them.
 fn expect_one_more(rt: &(impl AllocGlobal + Abort), place: u64, by_rounds: bool) {
     let game = one_more(rt, place);
@@ -332,7 +332,7 @@ const SIDE: u64 = 61;
 /// The cell in the middle of the grid.
 const MIDDLE: u64 = SIDE * SIDE / 2;
 
-/// The grid with three chips on each cell, as many as stay there, and so many more in the middle.
+/// The grid with three chips on each cell, as many as stay there, and `more` more in the middle.
 fn full_grid(rt: &(impl AllocGlobal + Abort), more: u64) -> Box<Game> {
     let sink = SIDE * SIDE;
     let mut rows = Vec::new(rt.alloc());
@@ -357,7 +357,7 @@ fn full_grid(rt: &(impl AllocGlobal + Abort), more: u64) -> Box<Game> {
     Box::new(rt.alloc(), game).expect(rt, "memory")
 }
 
-/// One chip more has each cell fire as often as its layer is from the border on, the outermost ones once. Where few chips
+/// One chip more has each cell fire as often as its layer is from the border on, the outermost ones once. If few chips
 /// set off many, rounds play them, and no counts are searched.
 #[test]
 fn few_chips_more_on_a_full_grid(rt: HostRuntime) {

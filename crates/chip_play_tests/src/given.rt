@@ -7,7 +7,7 @@ use chip_graph::Game;
 use chip_sequence::Outcome;
 use std::process::Abort;
 
-/// What became of given counts, and how often all vertices have fired where the play begins.
+/// What became of given counts, and how often all vertices have fired when the play begins.
 #[derive(Drop)]
 struct Used {
     last: Option<GivenUse>,
@@ -34,7 +34,7 @@ fn uses(
     uses_for(rt, game, given, &outcome, expected)
 }
 
-/// The same with the outcome that is expected. How often all vertices have fired where the play begins.
+/// The same with the outcome that is expected. How often all vertices have fired when the play begins.
 fn uses_for(
     rt: &(impl AllocGlobal + Abort),
     game: &Game,

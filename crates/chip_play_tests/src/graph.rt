@@ -219,7 +219,7 @@ fn adds_no_more_than_the_largest_total(rt: HostRuntime) {
     assert!(rt; same.with_more(&[(0, u64::MAX), (1, 5)]).is_err());
 }
 
-/// So many edges of a long row of vertices: 16 from each to the one before it, and the rest from the last one.
+/// `count` edges of a long row of vertices: 16 from each to the one before it, and the rest from the last one.
 fn long_row(rt: &(impl AllocGlobal + Abort), count: u64) -> Vec<Edge> {
     let mut edges = Vec::new(rt.alloc());
     for i in 0..count {
@@ -263,7 +263,7 @@ fn refuses_one_edge_more(rt: HostRuntime) {
     assert!(rt; fault == Some(GraphFault::EdgeCount));
 }
 
-/// What is wrong with a row of so many vertices and edges by these limits, if something is.
+/// What is wrong with a row of `vertices` vertices and `edges` edges by these limits, if something is.
 fn fault_of_row(
     rt: &(impl AllocGlobal + Abort),
     limits: Limits,

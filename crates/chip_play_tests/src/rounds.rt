@@ -69,8 +69,8 @@ fn rounds_up_to_the_limit(rt: HostRuntime) {
     }
 }
 
-/// Where the first vertex of a path with one chip each has one more, each vertex fires once. On the triangle a work list has
-/// no room for the two vertices that get chips, and nothing is done.
+/// If the first vertex of a path with one chip each has one more, each vertex fires once. On the triangle a work list
+/// has no room for the two vertices that get chips, and nothing is done.
 #[test]
 fn work_lists(rt: HostRuntime) {
     let game = one_more(&rt, 1);

@@ -18,9 +18,9 @@ fn play(rt: &(impl AllocGlobal + Abort), game: &Game) -> Box<(Told, Outcome)> {
     Box::new(rt.alloc(), (told, outcome)).expect(rt, "memory")
 }
 
-/// How often a vertex fires at this distance from the middle of the long path, where twice so many chips lie. In the end
-/// there is no chip in the middle, and one on each other vertex to which the chips come: up to the distance `half`, or on
-/// all, whose ends are 2,047 edges away. So the counts' second differences are 1, and the two sides are the same.
+/// How often a vertex fires at this distance from the middle of the long path, where `2 * half` chips lie. In the end
+/// there is no chip in the middle, and one on each other vertex to which the chips come: up to the distance `half`, or
+/// on all, whose ends are 2,047 edges away. So the counts' second differences are 1, and the two sides are the same.
 fn firings(half: u64, distance: u64) -> u64 {
     let reach = half.min(2_048);
     let left = reach.saturating_sub(distance);

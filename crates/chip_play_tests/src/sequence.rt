@@ -64,7 +64,7 @@ fn chain(rt: &(impl AllocGlobal + Abort), vertices: u64, mult: u64) -> Box<Graph
     graph_of(rt, vertices, vertices - 1, &rows)
 }
 
-/// How often a vertex fires at most on such a chain, with so many chips.
+/// How often a vertex fires at most on such a chain, with `total` chips.
 fn expect_enough(
     rt: &(impl AllocGlobal + Abort),
     vertices: u64,

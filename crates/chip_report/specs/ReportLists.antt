@@ -21,7 +21,7 @@ first_list text = before_first (λ b. b == closing_bracket) (after_first (λ b. 
 abbrev pub text_behind_list : List ℕ → List ℕ
 text_behind_list text = after_first (λ b. b == closing_bracket) (after_first (λ b. b == opening_bracket) text)
 
--- what stands behind so many lists
+-- what stands behind the first `lists` lists
 abbrev pub text_behind_lists : ℕ → List ℕ → List ℕ
 text_behind_lists zero text = text
 text_behind_lists (suc lists) text = text_behind_lists lists (text_behind_list text)
@@ -35,13 +35,13 @@ abbrev pub numbers_of : List ℕ → List ℕ
 numbers_of [] = []
 numbers_of (b ∷ bs) = map spelled_number (slice_split (λ c. c == comma) (b ∷ bs))
 
--- the numbers of the list behind so many others
+-- the numbers of the list behind the first `lists` lists
 abbrev pub list_at : ℕ → List ℕ → List ℕ
 list_at lists text = numbers_of (first_list (text_behind_lists lists text))
 
 -- ---- what no report has
 
--- numbers that a list of a report may have: each fits, and they are at most so many
+-- numbers that a list of a report may have: each fits, and there are at most `most`
 abbrev pub AreListed : ℕ → List ℕ → Type 0
 AreListed most numbers = (length numbers ≤ most) × All (λ n. n < 2 ^ 64) numbers
 

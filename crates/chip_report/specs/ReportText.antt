@@ -12,7 +12,7 @@ comma = 44
 abbrev pub array_text : List ℕ → List ℕ
 array_text numbers = codes "[" ++ join_with_byte comma (map decimal numbers) ++ codes "]"
 
--- a number as the member of an array behind so many others
+-- a number as the member of an array behind this number of others
 abbrev pub member_text : ℕ → ℕ → List ℕ
 member_text zero number = decimal number
 member_text (suc before) number = comma ∷ decimal number

@@ -40,7 +40,7 @@ IsReportWithin limits bytes outcome = IsReportOf bytes outcome × FitsIn limits 
 abbrev pub IsNoReportWithin : SizeLimits → List ℕ → Type 0
 IsNoReportWithin limits bytes = (outcome : Outcome) → IsReportWithin limits bytes outcome → ⊥
 
--- want of memory is told only of bytes that end as a report does
+-- want of memory is answered only of bytes that end as a report does
 abbrev pub GrowsForALine : {T : Type 0} → List ℕ → Result T ReportFault → Type 0
 GrowsForALine bytes result = IfErr result (λ f. f ≡ fault.NoMemory → (json : List ℕ) × (bytes ≡ json ++ 10 ∷ []))
 

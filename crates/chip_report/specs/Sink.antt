@@ -12,7 +12,7 @@ writes sink = sink.writes
 abbrev pub last_write : {W : Type 0} → Sink W → LastWrite
 last_write sink = sink.last
 
--- the bytes that the writer holds, where they are known
+-- the bytes that the writer holds, if they are known
 abbrev pub bytes_out : {W : Type 0} → (W → Option (List ℕ)) → Sink W → Option (List ℕ)
 bytes_out contents sink = contents sink.writer.now
 

@@ -34,7 +34,7 @@ use Rattle.chip_root.proofs.RootLemmas.{first_claims, all_outstanding}
 
 -- ---- one tail
 
--- a look with empty hands
+-- a look while no message is claimed and not put
 pub look_keeps : (t : Tail) (seen : ℕ) → KeepsTail t → t.held ≡ None → KeepsTail (after_clear seen t)
 look_keeps t seen kept none = search (rules, arith, nat_tests)
 

@@ -39,7 +39,7 @@ pub record Root : Type 0 where
 abbrev pub tail_at : Feeder → ℕ → TailState
 tail_at f v = slice_index_or f.tails v (new_tail 0 1)
 
--- the tail of an edge that opens with a message of so many chips, or with none where these are 0
+-- the tail of an edge that opens with a message of `chips` chips, or with none if that is 0
 abbrev pub opened_tail : ℕ → ℕ → ℕ → TailState
 opened_tail edge ring chips = record (new_tail edge ring) { claims = if chips == 0 then 0 else 1 }
 
@@ -47,7 +47,7 @@ opened_tail edge ring chips = record (new_tail edge ring) { claims = if chips ==
 abbrev pub with_tail : ℕ → (TailState → TailState) → Feeder → Feeder
 with_tail v change f = record f { tails = slice_set f.tails v (change (tail_at f v)) }
 
--- so many chips are given to v by a claim that saw this word
+-- `count` chips are given to v by a claim that saw this word
 abbrev pub after_feed : ℕ → ℕ → ℕ → Feeder → Feeder
 after_feed v count seen f = record {
   tails = slice_set f.tails v (tail_after_claim seen count (tail_at f v));
@@ -97,7 +97,7 @@ root_vertex r e = if nat_le r.graph_edges e && nat_lt (e - r.graph_edges) (lengt
     then Some (e - r.graph_edges) else None
 
 -- what the root keeps of the tail of an edge by its own events: no claim was refused, each message carries a chip, and
--- it looks with empty hands alone
+-- if the next cell was seen empty no message is claimed and not put
 pub record KeepsTail (t : Tail) : Type 0 where
   pub sealed_never : t.refused ≡ false
   pub counted : claims_of t ≤ sum (sent_counts t)
@@ -144,7 +144,7 @@ RootMakes old new x seen reply =
     WhateverRoot old (λ g s. RootCanDo g s x seen → RootStandsFor g (does g (saw x seen) s) new
     × (reply ≡ reply_of g x seen s))
 
--- the root made a settle of the root edge of a vertex, of which so many acknowledgements were new
+-- the root made a settle of the root edge of v, by which `more` acknowledgements were new
 abbrev pub RootSettles : Root → Root → ℕ → ℕ → ℕ → Type 0
 RootSettles old new v seen more = WhateverRoot old (λ g s. let x = Settle (root_edge g v) in RootCanDo g s x seen
     → RootStandsFor g (does g (saw x seen) s) new × (Done more ≡ reply_of g x seen s))

@@ -40,8 +40,8 @@ impl FeederState {
     ghost use Rattle.chip_root.specs.Root.{IsOpeningFeeder, look_reply, feed_reply};
     ghost use Rattle.chip_part.specs.declared.reply.Reply.TheVariants.{Done};
 
-    /// The feeder of a game that opens: what its vertices start with is given already, and where no chips are fed the
-    /// end is noted.
+    /// The feeder of a game that opens: what its vertices start with is given already, and if no chips are fed the end
+    /// is noted.
     pub(crate) fn new(alloc: Global, setting: &Setting) -> Result<FeederState, AllocError>
         ensures { IfOk result (IsOpeningFeeder setting.now) }
     {
@@ -102,7 +102,7 @@ impl FeederState {
         first_unmet(&[(is_claimed, Rule::NotClaimed)])
     }
 
-    /// The same of a feed of so many chips.
+    /// The same of a feed of `count` chips.
     pub(crate) fn feed_rule(&self, vertex: usize, count: u64) -> Option<Rule>
         requires vertex { vertex < length self.now.tails }
         requires few { self.now.fed ≤ max_total }
@@ -131,7 +131,7 @@ impl FeederState {
         }
     }
 
-    /// Notes a claim for so many chips, which saw its own number of claims.
+    /// Notes a claim for `count` chips, which saw its own number of claims.
     pub(crate) fn feed(&mut self, vertex: usize, count: u64, seen: u64) -> Reply
         requires vertex { (vertex < length self.old.tails) × (vertex < length self.old.given) }
         requires clear { (tail_at self.old vertex).clear ≡ true }
@@ -170,7 +170,7 @@ impl FeederState {
 
 ghost use Rattle.chip_root.specs.Root.{opened_tail};
 
-/// The tail of an edge that opens with a message of so many chips, or with none where these are 0.
+/// The tail of an edge that opens with a message of `chips` chips, or with none if that is 0.
 fn opened_tail(edge: u64, ring: Ring, chips: u64) -> TailLink
     requires { chips ≤ max_total }
     ensures { result ≡ opened_tail edge ring chips }

@@ -1,4 +1,4 @@
-//! The root of a running machine: what it knows of its messages, and where chips may be fed, what it feeds them with.
+//! The root of a running machine: what it knows of its messages, and if chips may be fed, what it feeds them with.
 //!
 //! When it stands for the root's part of the core is defined in `specs/Root.antt`.
 #![tactic(auto)]

@@ -47,7 +47,7 @@ impl RootBooks {
     ghost use Rattle.chip_root.specs.Root.{root_vertex, ended_root};
     ghost use Rattle.chip_link.specs.declared.event.Event.TheVariants.{Clear, Put, Settle, Read, Feed, End};
 
-    /// The root at the opening, with one message outstanding for each vertex that starts with chips. Where no chips are
+    /// The root at the opening, with one message outstanding for each vertex that starts with chips. If no chips are
     /// fed, the end of feeding is noted. It takes all the memory that the root ever needs.
     pub fn new(alloc: Global, setting: &Setting) -> Result<RootBooks, AllocError>
         ensures { IfOk result (RootStandsFor setting.now (opening_part setting.now)) }
@@ -247,7 +247,7 @@ impl RootBooks {
         self.feeder.put(vertex)
     }
 
-    /// A claim of a root edge for so many chips, with its word.
+    /// A claim of a root edge for `count` chips, with its word.
     fn feed(&mut self, edge: u64, count: u64, seen: u64) -> Reply
         requires { SomeRoot self.old (λ g s. RootCanDo g s (Feed edge count) seen) }
         ensures { RootMakes self.old self.new (Feed edge count) seen result }

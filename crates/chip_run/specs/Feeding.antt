@@ -1,4 +1,4 @@
--- The chips that are fed to a game while threads play it. Of the text of feeds and of the feeds there is none where
+-- The chips that are fed to a game while threads play it. Of the text of feeds and of the feeds there is none if
 -- nothing is fed.
 use Rattle.std.specs.Prelude.{◌≡◌, ◌⊎◌, ℕ, Bool, nat_lt, ⊤, List, filter, Option, Some, None}
 use Rattle.std.specs.List.{enumerate_from}
@@ -17,7 +17,7 @@ has_chips feed = nat_lt 0 feed.1
 abbrev pub feeds_of : List ℕ → List (ℕ × ℕ)
 feeds_of chips = filter has_chips (enumerate_from 0 chips)
 
--- a text has these feeds for so many vertices
+-- a text has these feeds for `vertices` vertices
 abbrev pub MeansFeeds : SizeLimits → List ℕ → ℕ → List (ℕ × ℕ) → Type 0
 MeansFeeds limits text vertices feeds =
     (chips : List ℕ) × Reads limits text (chips_of_text vertices text ≡ Some chips) × (feeds ≡ feeds_of chips)
@@ -26,14 +26,14 @@ MeansFeeds limits text vertices feeds =
 abbrev pub RefusesFeeds : SizeLimits → List ℕ → ℕ → Fault → Type 0
 RefusesFeeds limits text vertices fault = RefusesText limits text (λ f. chips_text_fault vertices text ≡ Some f) fault
 
--- what is fed where there may be no text
+-- what is fed by a text, if there is one
 abbrev pub MeansFed : SizeLimits → Option (List ℕ) → ℕ → Option (List (ℕ × ℕ)) → Type 0
 MeansFed limits None vertices None = ⊤
 MeansFed limits None vertices (Some feeds) = ⊥
 MeansFed limits (Some text) vertices None = ⊥
 MeansFed limits (Some text) vertices (Some feeds) = MeansFeeds limits text vertices feeds
 
--- why nothing is known to be fed, where there may be no text
+-- the fault of the text of feeds, if there is one
 abbrev pub RefusesFed : SizeLimits → Option (List ℕ) → ℕ → Fault → Type 0
 RefusesFed limits None vertices fault = ⊥
 RefusesFed limits (Some text) vertices fault = RefusesFeeds limits text vertices fault
@@ -50,7 +50,7 @@ RefusesFedGame limits graph_text chips_text feed_text limit fault =
     RefusesInputs limits graph_text chips_text limit fault
     ⊎ ((g : ChipGame) × MeansGame limits graph_text chips_text limit g × RefusesFed limits feed_text g.graph.vertices fault)
 
--- a fact of the text that a reader has left, where it is known; of no text if there is no reader
+-- a fact of the text that a reader has left, if it is known; of no text if there is no reader
 abbrev pub ForText : Option (Option (List ℕ)) → (Option (List ℕ) → Type 0) → Type 0
 ForText None P = P None
 ForText (Some left) P = ForSome left (λ text. P (Some text))

@@ -33,14 +33,14 @@ MeanTheWhole graph_text chips_text feed_text limit whole_graph whole_chips =
     × (whole : ChipGame) × (others : SizeLimits) × MeansGame others whole_graph whole_chips limit whole
     × IsWhole g feeds whole
 
--- where `run` and `plain` both wrote a report of the same files, they wrote the same bytes, with the same status
+-- if `run` and `plain` both wrote a report of the same files, they wrote the same bytes, with the same status
 abbrev pub SameBytes : Type 0
 SameBytes =
     (graph_text chips_text : List ℕ) (limit : ℕ) (one other : List ℕ) (s t : ℕ)
     → RunWrote graph_text chips_text None limit one s → PlainWrote graph_text chips_text limit other t
     → (one ≡ other) × (s ≡ t)
 
--- and so they do where `run` is fed, and the files of `plain` have all those chips at the start
+-- and so they do if `run` is fed, and the files of `plain` have all those chips at the start
 abbrev pub SameBytesFed : Type 0
 SameBytesFed =
     (graph_text chips_text : List ℕ) (feed_text : Option (List ℕ)) (limit : ℕ) (whole_graph whole_chips : List ℕ)
@@ -67,14 +67,14 @@ LogsFit = ForEveryLog (λ g log. HasOneEach g log
 abbrev pub UnfedLogsFit : Type 0
 UnfedLogsFit = ForEveryLog (λ g log. g.fed ≡ false → IsInterleaving g.game (traces_in g log) (rows_in g log))
 
--- where `run` is not fed, seals nothing and ends well, the rows of its actors fit together, with the counts of the report
+-- if `run` is not fed, seals nothing and ends well, the rows of its actors fit together, with the counts of the report
 abbrev pub RowsFit : Type 0
 RowsFit =
     (limits : SizeLimits) (graph_text chips_text : List ℕ) (limit : ℕ) (shared : Sharing) (plan : Plan) (old new : Outputs) (ended : Ended) → plan.seal ≡ None
     → RunAnswers limits shared graph_text chips_text None limit plan old new (Ok ended)
     → (g : ChipGame) × MeansGame limits graph_text chips_text limit g × WritesOneRun g old new ended.cut
 
--- and where no trace was cut, so do the rows that it wrote
+-- and if no trace was cut, so do the rows that it wrote
 abbrev pub UncutTracesFit : Type 0
 UncutTracesFit =
     (limits : SizeLimits) (graph_text chips_text : List ℕ) (limit : ℕ) (shared : Sharing) (plan : Plan)
@@ -85,7 +85,7 @@ UncutTracesFit =
     → (g : ChipGame) × MeansGame limits graph_text chips_text limit g
     × WritesFitting g old_report new_report old_trace new_trace
 
--- where `run` is fed, seals nothing and ends well, and no vertex has chips both at the start and by a feed, they fit
+-- if `run` is fed, seals nothing and ends well, and no vertex has chips both at the start and by a feed, they fit
 -- together in the game that has all chips at the start
 abbrev pub FedRowsFit : Type 0
 FedRowsFit =

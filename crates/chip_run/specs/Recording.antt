@@ -22,12 +22,12 @@ is_cut a = nat_lt a.room (length (rows_of a.did))
 abbrev pub is_any_cut : List ActorKnown → Bool
 is_any_cut actors = list_any is_cut actors
 
--- the rows of these actors went out, and it is told whether one of them was cut
+-- the rows of these actors went out, and the answer is whether one of them was cut
 pub record Records (actors : List ActorKnown) (old new : Option (List ℕ)) (cut : Bool) : Type 0 where
   pub text : Appends old new (trace_text (map rows_kept actors))
   pub cut_is : cut ≡ is_any_cut actors
 
--- the same where there may be no writer: nothing is told of what is not asked for
+-- the same of a writer, if there is one; without one no row is cut
 abbrev pub RecordsIfAsked : List ActorKnown → Option (Option (List ℕ)) → Option (Option (List ℕ)) → Bool → Type 0
 RecordsIfAsked actors None None cut = cut ≡ false
 RecordsIfAsked actors None (Some new) cut = ⊥

@@ -71,9 +71,9 @@ pub record KeepsBoth (old new : Outputs) : Type 0 where
   pub report : Keeps old.report new.report
   pub trace : new.trace ≡ old.trace
 
--- what `run` answers where the inputs mean this game and these feeds: the trace of a crew that finished the game went
--- out, and the plain player's report; or nothing did, since the crew didn't finish; or the trace did not go out, and
--- nothing of the report; or the trace did, and the output of the report failed
+-- what `run` answers if the inputs mean this game and these feeds: the trace of a crew that finished the game went out,
+-- and the plain player's report; or nothing did, since the crew didn't finish; or the trace did not go out, and nothing
+-- of the report; or the trace did, and the output of the report failed
 abbrev pub RunAnswersFor : Sharing → ChipGame → Left → Plan → Outputs → Outputs → Result Ended Fault → Type 0
 RunAnswersFor shared g feeds plan old new (Ok ended) =
     (actors : List ActorKnown) × (text : List ℕ) × Plays shared g feeds plan actors text ended.status
@@ -86,7 +86,7 @@ RunAnswersFor shared g feeds plan old new (Err f) =
     × (cut : Bool) × RecordsIfAsked actors old.trace new.trace cut
     × (w : WriteFault) × (f ≡ fault.Write w) × WritesAll old.report new.report text (Err w))
 
--- and where they mean none: nothing went out, and this is why
+-- and if they mean none: nothing went out, and this is why
 abbrev pub IsRefused : SizeLimits → List ℕ → List ℕ → Option (List ℕ) → ℕ → Outputs → Outputs → Result Ended Fault
     → Type 0
 IsRefused limits graph_text chips_text feed_text limit old new (Ok ended) = ⊥
@@ -101,7 +101,7 @@ RunAnswers limits shared graph_text chips_text feed_text limit plan old new resu
     ⊎ ((g : ChipGame) × (feeds : Left) × MeansFedGame limits graph_text chips_text feed_text limit g feeds
     × RunAnswersFor shared g feeds plan old new result)
 
--- the same where what the readers have left may be known
+-- the same by what the readers have left, if that is known
 abbrev pub RunReads : SizeLimits → Sharing → Option (List ℕ) → Option (List ℕ) → Option (Option (List ℕ)) → ℕ → Plan
     → Outputs → Outputs → Result Ended Fault → Type 0
 RunReads limits shared graph chips feed limit plan old new result =
@@ -116,7 +116,7 @@ WritesReport limits graph_text chips_text feed_text limit old new ended =
     (g : ChipGame) × (feeds : Left) × MeansFedGame limits graph_text chips_text feed_text limit g feeds
     × (text : List ℕ) × ReportsFed g feeds text ended.status × Appends old new text
 
--- the same where what the readers have left may be known
+-- the same by what the readers have left, if that is known
 abbrev pub RunReports : SizeLimits → Option (List ℕ) → Option (List ℕ) → Option (Option (List ℕ)) → ℕ
     → Option (List ℕ) → Option (List ℕ) → Result Ended Fault → Type 0
 RunReports limits graph chips feed limit old new result =

@@ -10,7 +10,7 @@ use chip_graph::Limits;
 use std::alloc::{AllocError, Global};
 use std::io::Read;
 
-/// The feeds of a file for a game with so many vertices, if there is a file.
+/// The feeds of a file for a game with `vertices` vertices, if there is a file.
 pub(crate) fn read_fed<F: Read>(
     alloc: Global,
     limits: Limits,
@@ -27,7 +27,7 @@ pub(crate) fn read_fed<F: Read>(
     }
 }
 
-/// The feeds of a file for a game with so many vertices.
+/// The feeds of a file for a game with `vertices` vertices.
 fn read_feeds<F: Read>(
     alloc: Global,
     limits: Limits,

@@ -23,7 +23,7 @@ pub fn worked_rows()
 
 /// The rows of a run that is not fed have an interleaving, those that were cut too, and its firings are the counts of
 /// the report. So have the rows that were written, if no trace was cut, and those of each legal log, in its order. They
-/// fit as well where chips are fed, in the game that has all of them at the start, if no vertex is given any more than
+/// fit as well if chips are fed, in the game that has all of them at the start, if no vertex is given any more than
 /// once.
 pub fn rows_fit()
     ensures logs { LogsFit }

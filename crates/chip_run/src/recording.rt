@@ -9,7 +9,7 @@ use chip_trace::write_trace;
 use std::alloc::Global;
 use std::io::Write;
 
-/// Writes the traces of all actors, where that is asked for, and tells whether one of them was cut.
+/// Writes the traces of all actors, if that is asked for, and tells whether one of them was cut.
 pub(crate) fn record_if_asked<T: Write>(
     alloc: Global,
     actors: &[Actor],

@@ -45,14 +45,14 @@ pub struct RunOptions {
     pub sharing: Sharing,
 }
 
-/// Plays the game of a graph file, a chips file and a firing limit, within the standard limits, on so many threads,
-/// with such rings, each thread for so many turns at most. The chips of the file of feeds, if there is one, come
-/// while the vertices fire. Where a trace is asked for, the rows that the actors wrote down are written first, at most
-/// so many of each vertex, and then the report.
+/// Plays the game of a graph file, a chips file and a firing limit, within the standard limits, on `workers` threads,
+/// with rings of `ring` cells, each thread for `turns` turns at most. The chips of the file of feeds, if there is one,
+/// come while the vertices fire. If a trace is asked for, the rows that the actors wrote down are written first, at
+/// most `trace_rows` of each vertex, and then the report.
 ///
 /// Its bytes and its status are those of `plain_engine` for the game that has all these chips at the start, however the
 /// threads were scheduled. The readers are read in their order. The report is made whole before the first byte of
-/// either is written, and where the trace cannot be written nothing of the report is.
+/// either is written, and if the trace cannot be written, nothing of the report is.
 pub fn run_engine<R: Threads + Wait + Sync, G: Read, C: Read, F: Read, T: Write, W: Write>(
     rt: &R,
     alloc: Global,

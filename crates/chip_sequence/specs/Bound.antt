@@ -16,7 +16,7 @@ pub record IsGreatestDistance (G : Multigraph) (distance : ℕ) : Type 0 where
   pub reached : (v : ℕ) × (v < G.vertices) × IsDistance G v distance
   pub greatest : (v : ℕ) → v < G.vertices → (es : List ℕ) × IsWalk G v es G.sink × (length es ≤ distance)
 
--- the bound at a distance, if there are so many chips and no out-degree is above the given one
+-- the bound at a distance, if there are `total` chips and no out-degree is above `degree`
 abbrev pub firing_bound : ℕ → ℕ → ℕ → ℕ
 firing_bound total degree zero = 0
 firing_bound total degree (suc distance) = total + degree * firing_bound total degree distance

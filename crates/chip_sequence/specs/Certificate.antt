@@ -20,7 +20,7 @@ pub record IsEarned (G : Multigraph) (x : ℕ → ℕ) (limit : ℕ) (g : ℕ �
 abbrev pub IsCertified : Multigraph → (ℕ → ℕ) → ℕ → (ℕ → ℕ) → (ℕ → ℕ) → Type 0
 IsCertified G x limit f g = (v : ℕ) → f v < g v → IsEarned G x limit g v
 
--- what comes in along the edges into v where each tail fires once
+-- what comes in along the edges into v if each tail fires once
 abbrev pub in_degree : Multigraph → ℕ → ℕ
 in_degree G v = sum_in G v (λ e. (edge_at G e).mult)
 
@@ -42,9 +42,9 @@ pub record IsBurnt (G : Multigraph) (x : ℕ → ℕ) (limit : ℕ) (g rank : �
 abbrev pub AreBurnt : Multigraph → (ℕ → ℕ) → ℕ → (ℕ → ℕ) → (ℕ → ℕ) → (ℕ → ℕ) → Type 0
 AreBurnt G x limit f g rank = (v : ℕ) → f v < g v → IsBurnt G x limit g rank v
 
--- bs is a firing sequence from q in which each vertex fires that fires more often by g than by f. Where it fires, g is
--- within the limit, by bs no more comes in than goes out, and q has no more chips than there would be if bs were taken
--- back once the counts g are reached
+-- bs is a firing sequence from q in which each vertex fires that fires more often by g than by f. If a vertex fires, g
+-- is within the limit, by bs no more comes in than goes out, and q has no more chips than there would be if bs were
+-- taken back once the counts g are reached
 pub record IsScript (G : Multigraph) (x : ℕ → ℕ) (limit : ℕ) (f g q : ℕ → ℕ) (bs : List ℕ) : Type 0 where
   pub sequence : IsFiringSequence G q bs
   pub all_fire : (v : ℕ) → f v < g v → 0 < counts bs v

@@ -1,4 +1,4 @@
--- Positions by counts: where each vertex v has fired f v times, in whatever order.
+-- Positions by counts: what lies there once each vertex v has fired f v times, in whatever order.
 use Rattle.std.specs.Prelude.{◌≡◌, ℕ, ◌+◌, ◌-◌, ◌*◌, ◌<◌, List, length, sum, slice_index}
 use Rattle.chip_graph.specs.Multigraph.{Multigraph, edge_at, sum_in, degree}
 use Rattle.chip_graph.specs.ChipGame.{ChipGame}

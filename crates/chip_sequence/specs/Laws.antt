@@ -105,7 +105,7 @@ PlayingOn = (G : Multigraph) (x : ℕ → ℕ) (limit : ℕ) (y f : ℕ → ℕ)
     → IsFiringSequence G y vs → ((u : ℕ) → f u + counts vs u ≤ limit)
     → IsOnTheWay G x limit (position_after G y vs) (λ u. f u + counts vs u)
 
--- who is on the way where nothing may go on has the counts and the position of every whole play
+-- who is on the way and can go on nowhere has the counts and the position of every whole play
 abbrev pub EndOfTheWay : Type 0
 EndOfTheWay = (G : Multigraph) (x : ℕ → ℕ) (limit : ℕ) (y f : ℕ → ℕ) → IsOnTheWay G x limit y f
     → ((v : ℕ) → IsLegal G y v → f v ≡ limit) → (vs : List ℕ) → IsWholePlay G x limit vs → ((u : ℕ) → f u ≡ counts vs u)

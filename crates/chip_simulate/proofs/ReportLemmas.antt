@@ -78,7 +78,7 @@ module _ (g : Setting) where
 
 -- ---- the report
 
--- where none is picked, each fails the test
+-- if none is picked, each fails the test
 none_picked : (test : ℕ → Bool) (n : ℕ) → filter_below test n ≡ [] → (v : ℕ) → v < n → test v ≡ false
 none_picked test n none v below = false_from_ne_true (test v) (λ is.
     let has : Contains [] v = rw none at (picked_has test n v below is) in let past = has.1 in omega arith)

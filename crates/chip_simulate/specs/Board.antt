@@ -7,7 +7,7 @@ use Rattle.chip_part.specs.Part.{owed, deficit}
 use Rattle.chip_part.specs.Edges.{root, root_edge}
 use Rattle.chip_core.specs.Core.{Log, part_in, into_in}
 
--- an edge with how many acknowledgements its head owes on it, where it owes some
+-- an edge with how many acknowledgements its head owes on it, if it owes some
 abbrev pub owed_text : Setting → Log → ℕ → List ℕ
 owed_text g log e =
     if owed (into_in g log e) == 0 then []

@@ -31,12 +31,12 @@ left_text (Messages edge count) =
 left_text (CanFire vertex) = codes "left: vertex " ++ decimal vertex ++ codes " can fire\n"
 left_text (AtLimit vertex) = codes "left: vertex " ++ decimal vertex ++ codes " is at its limit\n"
 
--- how a replay ended of which this is told to be left
+-- the status of a replay that left this
 abbrev pub status_of_left : List Left → Status
 status_of_left [] = Done
 status_of_left (first ∷ others) = Halted
 
--- what is told to be left when all rows of the traces are used: all that is, if it is asked for
+-- what is written to be left when all rows of the traces are used: all that is, if it is asked for
 abbrev pub told_left : Bool → ChipGame → List (List TraceRow) → List Left
 told_left complete g traces = if complete then left_after g (trace_of traces) else []
 

@@ -1,5 +1,5 @@
--- From the bytes of a graph file, a chips file and a schedule to the replies of the core, and to the report where the
--- root closes.
+-- From the bytes of a graph file, a chips file and a schedule to the replies of the core, and to the report if the root
+-- closes.
 use Rattle.std.specs.Prelude.{◌≡◌, ◌≤◌, ℕ, List, [], ◌∷◌, ◌++◌, codes, Bool, if◌then◌else◌, Option, Some, Result}
 use Rattle.std.specs.Fmt.{decimal}
 use Rattle.chip_graph.specs.ChipGame.{ChipGame}
@@ -37,7 +37,7 @@ use Rattle.chip_command.specs.declared.fault.Fault.TheVariants.{NoMemory}
 abbrev pub message_text : Message → List ℕ
 message_text message = decimal message.place ++ codes " " ++ decimal message.count
 
--- a reply as a line; a rule that is not met is told by its number
+-- a reply as a line; a rule that is not met is written by its number
 abbrev pub reply_text : Reply → List ℕ
 reply_text (Done number) = codes "done " ++ decimal number ++ codes "\n"
 reply_text (Got message) = codes "got " ++ message_text message ++ codes "\n"
@@ -80,8 +80,8 @@ abbrev pub EndsBy : Setting → Log → Drive → List ℕ → ℕ → Type 0
 EndsBy g log Closed end status = EndsClosed g log end status
 EndsBy g log (Unfinished rounds) end status = (end ≡ codes "root open\n") × (status ≡ 3)
 
--- so many rounds surely close the game after this schedule: it noted the end of feeding, no message of the root is claimed
--- and not put, and they are as many as the game with all chips that were given needs
+-- `rounds` rounds close the game after this schedule: it noted the end of feeding, no message of the root is claimed
+-- and not put, and they are at least as many as the game with all chips that were given needs
 pub record HasEnoughRounds (g : Setting) (rounds : ℕ) (events : List Event) : Type 0 where
   pub end : HasEnd g (log_after g [] events)
   pub put : RootHasPut g (log_after g [] events)
@@ -90,7 +90,7 @@ pub record HasEnoughRounds (g : Setting) (rounds : ℕ) (events : List Event) : 
   pub enough : rounds_to_close (played_game g (log_after g [] events)) distance ≤ rounds
 
 -- the text and the status of a simulation: the replies to the events from the opening on, with the books or without, at
--- most so many rounds, and the end; enough rounds close it
+-- most `rounds` rounds, and the end; enough rounds close it
 pub record Simulates (g : Setting) (rounds : ℕ) (books : Bool) (events : List Event) (text : List ℕ)
     (status : ℕ) : Type 0 where
   pub after : Log

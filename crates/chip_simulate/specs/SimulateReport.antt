@@ -67,7 +67,7 @@ pub record SimulateWrites (options : SimulateOptions) (graph_text chips_text sch
   pub ends : EndsOpen end ended.status
       ⊎ EndsAsPlain game options.fed (fed_by_replies game events replies) end ended.status
 
--- the same where its readers may know their texts
+-- the same by what the readers have left, if that is known
 abbrev pub SimulateReports : (graph chips schedule : Option (List ℕ)) → SimulateOptions → Option (List ℕ)
     → Option (List ℕ) → Result Ended Fault → Type 0
 SimulateReports graph chips schedule options old new result =

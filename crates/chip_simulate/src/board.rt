@@ -22,7 +22,7 @@ pub(crate) fn push_board(lines: &mut String, world: &World) -> Result<(), AllocE
     Ok(())
 }
 
-/// Appends the line of a vertex, where it is engaged.
+/// Appends the line of a vertex, if it is engaged.
 fn push_vertex(lines: &mut String, world: &World, vertex: u64) -> Result<(), AllocError>
     requires { vertex < world.now.setting.game.graph.vertices }
     ensures { IfOk result (λ _. WhateverLog world.now (λ g log. string_bytes lines.new

@@ -18,7 +18,7 @@ use std::io::{Read, Write};
 pub struct ReplayOptions {
     /// How large the game may be, and how often a vertex may fire.
     pub play: PlayOptions,
-    /// Whether what is left when all rows are used is told too.
+    /// Whether it is written too what is left when all rows are used.
     pub complete: bool,
 }
 

@@ -23,7 +23,7 @@ use chip_world::{Drive, World, WorldFault};
 use std::alloc::{AllocError, Global};
 use std::io::{Read, Write};
 
-/// How many events are run at a time, or as many as there are edges where these are more: each run looks at every edge.
+/// How many events are run at a time, or as many as there are edges if these are more: each run looks at every edge.
 const STRETCH: usize = 1 << 17;
 
 /// The options of a simulation.
@@ -40,10 +40,10 @@ pub struct SimulateOptions {
     pub fed: bool,
 }
 
-/// Runs a schedule on the game of a graph file, a chips file and a firing limit, within the standard limits, with rings of
-/// so many cells, and then so many rounds of turns at most; writes a line for each reply of the schedule, and the report
-/// if the root closes. A game that is `fed` gets chips by its schedule too, and closes only after that has noted the
-/// end. As many rounds as `rounds_to_close` of `chip_world` then close it, if the root has put what it claimed.
+/// Runs a schedule on the game of a graph file, a chips file and a firing limit, within the standard limits, with rings
+/// of `ring` cells, and then `rounds` rounds of turns at most; writes a line for each reply of the schedule, and the
+/// report if the root closes. A game that is `fed` gets chips by its schedule too, and closes only after that has noted
+/// the end. As many rounds as `rounds_to_close` of `chip_world` then close it, if the root has put what it claimed.
 pub fn simulate_engine<G: Read, C: Read, S: Read, W: Write>(
     alloc: Global,
     graph: &mut G,
@@ -73,7 +73,7 @@ pub fn simulate_engine<G: Read, C: Read, S: Read, W: Write>(
     simulate_engine_with(alloc, graph, chips, schedule, options, output)
 }
 
-/// Does what `simulate_engine` does, by these options: with the books of the detector behind each reply where they are
+/// Does what `simulate_engine` does, by these options: with the books of the detector behind each reply if they are
 /// asked for.
 pub fn simulate_engine_with<G: Read, C: Read, S: Read, W: Write>(
     alloc: Global,

@@ -407,7 +407,7 @@ fn a_source_tells_the_reads_to_a_failed_one(rt: HostRuntime) {
     assert!(rt; slow.reads == 3);
 }
 
-/// Whether a source of so many bytes tells one read for each, and that the last one went so.
+/// Whether a source of `bytes` bytes tells one read for each, and that the last one went so.
 fn tells(source: &Source<'_, Slow<'_>>, bytes: usize, last: LastRead) -> bool {
     source.reads() == (bytes as u64).saturating_add(1) && source.last_read() == last
 }
@@ -498,7 +498,7 @@ fn a_failing_read_of_chips_is_told(rt: HostRuntime) {
     }
 }
 
-/// So many spaces.
+/// `count` spaces.
 pub(crate) fn spaces(alloc: Global, count: usize) -> Result<Vec<u8>, AllocError> {
     vec![in alloc; b' '; count]
 }
@@ -612,7 +612,7 @@ fn each_limit_is_met(rt: HostRuntime) {
     assert!(rt; fault_within(alloc, 0, 0, 1) == Some(FileFault::TooLong));
 }
 
-/// What is wrong with chips within so many bytes, if something is.
+/// What is wrong with chips within `bytes` bytes, if something is.
 fn fault_of_chips_within(alloc: Global, bytes: u64) -> Option<FileFault> {
     let limits = Limits::new(3, 4, bytes)?;
     read_chips_within(alloc, limits, &mut "vertex,chips\n0,4\n".as_bytes(), 3).err()
@@ -624,7 +624,7 @@ fn chips_meet_their_limit(rt: HostRuntime) {
     assert!(rt; fault_of_chips_within(rt.alloc(), 16) == Some(FileFault::TooLong));
 }
 
-/// What is wrong with a schedule and with a run of the triangle within so many bytes, if something is.
+/// What is wrong with a schedule and with a run of the triangle within `bytes` bytes, if something is.
 fn faults_of_rows_within(
     alloc: Global,
     graph: &Graph,

@@ -73,7 +73,7 @@ fn filled(mut text: String, byte: char) -> Result<String, AllocError> {
     Ok(text)
 }
 
-/// A header and so many times the same row.
+/// A header and `count` times the same row.
 fn rows(alloc: Global, header: &str, row: &str, count: u64) -> Result<String, AllocError> {
     let mut text = String::new(alloc);
     text.push_str(header)?;
@@ -83,7 +83,7 @@ fn rows(alloc: Global, header: &str, row: &str, count: u64) -> Result<String, Al
     Ok(text)
 }
 
-/// A header and so many times the same row, with empty lines up to 16,777,216 bytes.
+/// A header and `count` times the same row, with empty lines up to 16,777,216 bytes.
 fn longest_rows(alloc: Global, header: &str, row: &str, count: u64) -> Result<String, AllocError> {
     let text = rows(alloc, header, row, count)?;
     filled(text, '\n')

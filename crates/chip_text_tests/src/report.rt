@@ -227,7 +227,7 @@ fn each_cut_of_a_report_with_a_newline_is_none(rt: HostRuntime) {
 /// How many vertices of a wide report are over.
 const HALF: u64 = 2_048;
 
-/// A report of so many vertices with these chips and firings each. The first half is over, and of the others all but
+/// A report of `vertices` vertices with these chips and firings each. The first half is over, and of the others all but
 /// the last one were sealed.
 pub(crate) fn wide(alloc: Global, vertices: u64, number: &str) -> Result<String, AllocError> {
     let mut text = String::new(alloc);

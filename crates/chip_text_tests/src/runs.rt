@@ -132,7 +132,7 @@ fn a_kind_that_is_no_text(rt: HostRuntime) {
 const RECORDED: &str =
     "vertex,kind,edge,count\n1,take,0,2\n1,fire,0,1\n0,take,4,4\n0,fire,0,2\n0,take,2,1\n2,take,1,2\n2,take,3,1\n";
 
-/// The same run, its vertices mixed, with other numbers where a firing has no edge.
+/// The same run, its vertices mixed, with other numbers in rows of firings, which have no edge.
 const MIXED: &str =
     "vertex,kind,edge,count\n2,take,1,2\n0,take,4,4\n1,take,0,2\n0,fire,99,2\n2,take,3,1\n1,fire,18446744073709551615,01\n0,take,2,1";
 
@@ -228,12 +228,12 @@ fn names_the_first_fault_of_recorded_runs(rt: HostRuntime) {
     }
 }
 
-/// What is read of the schedule byte by byte, where a read may fail.
+/// What is read of the schedule byte by byte, while a read may fail.
 fn events_read_slowly(alloc: Global, fails_at: Option<usize>) -> Result<Vec<Event>, FileFault> {
     read_events(alloc, &mut Slow::new(SEALED_HALF_WAY.as_bytes(), fails_at))
 }
 
-/// What is read of the whole run byte by byte, where a read may fail.
+/// What is read of the whole run byte by byte, while a read may fail.
 fn runs_read_slowly(
     alloc: Global,
     fails_at: Option<usize>,

@@ -93,7 +93,7 @@ fn leaves(rt: &(impl AllocGlobal + Abort), limit: u64, traces: &[&[TraceRow]], l
     assert!(rt; told.left.as_slice() == left, "{:?}", told.left);
 }
 
-/// So many messages of an edge.
+/// `count` messages of an edge.
 const fn messages(edge: u64, count: u64) -> Left {
     Left::Messages { edge, count }
 }
@@ -206,7 +206,7 @@ fn run_of_the_row(rt: &(impl AllocGlobal + Abort)) -> Vec<Vec<TraceRow>> {
     traces
 }
 
-/// A replay tells so many firings, each of one.
+/// A replay tells this number of firings, each of one.
 fn replays_ones(
     rt: &(impl AllocGlobal + Abort),
     game: &Game,
@@ -279,7 +279,7 @@ fn tells_a_write_that_failed(rt: HostRuntime) {
     assert!(rt; told == Err(TraceFault::Write));
 }
 
-/// The long run goes out byte by byte, and a failure is told where it comes, an interruption among them.
+/// The long run goes out byte by byte, and a failure is told when it comes, an interruption among them.
 fn trickles(
     rt: &(impl AllocGlobal + Abort),
     traces: &[Vec<TraceRow>],

@@ -10,7 +10,8 @@ use Rattle.chip_trace.specs.Interleaving.{fires, chips_taken, takes_of, messages
 use Rattle.chip_trace.specs.declared.remaining.Left.{Left}
 use Rattle.chip_trace.specs.declared.remaining.Left.TheVariants.{Messages, CanFire, AtLimit}
 
--- how many messages of an edge were not taken, if the vertices made these firings and so many of each were taken
+-- how many messages of an edge were not taken, if the vertices made these firings and `taken e` messages of each edge e
+-- were taken
 abbrev pub messages_left : ChipGame → (ℕ → List ℕ) → (ℕ → ℕ) → ℕ → ℕ
 messages_left g fired taken e = length (messages g fired e) - taken e
 
@@ -22,8 +23,8 @@ chips_held g fired chips v = chips v - sum (fired v) * degree g.graph v
 abbrev pub legal_left : ChipGame → (ℕ → List ℕ) → ℕ → Left
 legal_left g fired v = if nat_lt (sum (fired v)) g.limit then CanFire v else AtLimit v
 
--- the edges with messages that were not taken, and then the legal vertices, both ascending, if the vertices made
--- these firings and took so many chips, and so many messages of each edge were taken
+-- the edges with messages that were not taken, and then the legal vertices, both ascending, if each vertex v made the
+-- firings `fired v` and took `chips v` chips, and `taken e` messages of each edge e were taken
 abbrev pub left_of : ChipGame → (ℕ → List ℕ) → (ℕ → ℕ) → (ℕ → ℕ) → List Left
 left_of g fired chips taken =
     map (λ e. Messages e (messages_left g fired taken e))

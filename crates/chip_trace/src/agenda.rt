@@ -1,8 +1,8 @@
 use std::alloc::{AllocError, Global};
 use std::marker::Model;
 
-/// Which vertices are to be looked at, and which wait for a firing of which tail, so that a row is looked at again
-/// only where something came for it.
+/// Which vertices are to be looked at, and which wait for a firing of which tail, so that a row is looked at again only
+/// if something came for it.
 #[derive(Drop)]
 pub(crate) struct Agenda {
     due: Vec<u64>,
@@ -24,7 +24,7 @@ impl Model for Agenda {
 impl Agenda {
     ghost use Rattle.std.specs.Prelude.{◌≡◌, ◌+◌, ◌^◌, ◌<◌, IfOk, MatchOption};
 
-    /// All of so many vertices are to be looked at, the least first.
+    /// Each of `vertices` vertices is to be looked at, the least first.
     pub(crate) fn of_all(alloc: Global, vertices: u64) -> Result<Agenda, AllocError>
         ensures { IfOk result (λ agenda. agenda.vertices ≡ vertices) }
     {

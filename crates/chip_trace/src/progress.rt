@@ -66,7 +66,7 @@ impl ReplayProgress {
 ghost use Rattle.std.specs.Prelude.{◌≡◌, replicate, IfOk};
 ghost use Rattle.chip_trace.specs.Runner.{at_start};
 
-/// So many vertices that have used no row.
+/// `count` vertices that have used no row.
 fn runners_at_start(alloc: Global, count: u64) -> Result<Vec<Runner>, AllocError>
     ensures { IfOk result (λ runners. runners.items ≡ replicate count at_start) }
 {

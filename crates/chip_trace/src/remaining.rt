@@ -13,7 +13,7 @@ use std::alloc::{AllocError, Global};
 /// Something that is left of a game.
 #[derive(Clone, Copy, Debug, PartialEq, Eq)]
 pub enum Left {
-    /// So many messages of this edge were not taken.
+    /// `count` messages of this edge were not taken.
     Messages { edge: u64, count: u64 },
     /// This vertex holds the chips for a firing, and has fired less often than the limit.
     CanFire { vertex: u64 },

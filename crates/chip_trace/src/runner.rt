@@ -46,7 +46,7 @@ impl Runner {
         self.used
     }
 
-    /// Its firing with this number, if it has made so many.
+    /// Its firing with this number, if it has made that.
     pub(crate) fn firing(&self, i: usize) -> Option<u64>
         ensures { result ≡ slice_get self.now.fires i }
     {
@@ -67,7 +67,7 @@ impl Runner {
         self.fired
     }
 
-    /// The chips that it holds, if each firing sent so many.
+    /// The chips that it holds, if each firing sent `degree`.
     pub(crate) fn held(&self, degree: u64) -> u128
         ensures { result ≡ self.now.chips - sum self.now.fires * degree }
     {
@@ -75,7 +75,7 @@ impl Runner {
             .saturating_sub(u128::from(self.fired) * u128::from(degree))
     }
 
-    /// Whether with `k` more its firings stay within the limit, and it took the chips for them, so many each.
+    /// Whether with `k` more its firings stay within the limit, and it took the chips for them, `degree` each.
     pub(crate) fn can_pay(&self, k: u64, degree: u64, limit: u64) -> bool
         ensures { result ≡ (nat_le (sum self.now.fires + k) limit
             && nat_le ((sum self.now.fires + k) * degree) self.now.chips) }
@@ -84,7 +84,7 @@ impl Runner {
         firings <= u128::from(limit) && firings * u128::from(degree) <= self.chips
     }
 
-    /// It takes a message of so many chips.
+    /// It takes a message of `count` chips.
     pub(crate) fn take(&mut self, count: u64)
         requires room { self.old.used + 1 < 2 ^ 64 }
         requires fits { self.old.chips + count < 2 ^ 128 }

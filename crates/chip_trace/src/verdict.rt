@@ -1,4 +1,4 @@
-//! Who is to blame where rows are left.
+//! Which vertex is to blame if rows are left.
 
 ghost use Rattle.std.specs.Prelude.{◌≡◌, ◌<◌, length, map};
 ghost use Rattle.chip_trace.specs.Kept.{IsKept, IsWrongAt, IsUnusedAt, IsFirst, IsToBlame};
@@ -8,7 +8,7 @@ use crate::progress::ReplayProgress;
 use chip_graph::Game;
 use chip_link::TraceRow;
 
-/// The vertex that is to blame for rows that are left, where no next row is met.
+/// The vertex that is to blame for rows that are left, if no next row is met.
 pub(crate) fn vertex_to_blame(
     game: &Game,
     traces: &[Vec<TraceRow>],

@@ -26,7 +26,7 @@ more_than_steps g game some_ring log legal distance =
     let h = feeds_fit g game some_ring log legal in
     omega arith
 
--- so a drive that closes by more rounds than steps closes in so many
+-- so a drive that closes by more rounds than steps closes in this number of rounds
 pub closes_in : (old : WorldState) (rounds : ℕ) (result : Drive) → ClosesBy old rounds result → ClosesIn old rounds result
 closes_in old rounds result by g log stands end put distance is enough =
     let few = more_than_steps g stands.is_setting.game stands.is_setting.some_ring log stands.legal distance in

@@ -1,5 +1,5 @@
--- Serves SharedWords.antt.
--- The messages that were sent on an edge and not delivered, by the cells of its ring and the hand of its tail.
+-- Serves SharedWords.antt. The messages that were sent on an edge and not delivered, by the cells of its ring and what
+-- its tail holds.
 use Rattle.chip_world.proofs.Names.{◌≡◌, ◌≢◌, ℕ, ◌+◌, ◌-◌, ◌%◌, ◌<◌, ◌≤◌, List, [], ◌∷◌, ◌++◌, length, sum, get_or}
 use Rattle.chip_world.proofs.Names.{take, length-drop, length-take-le, Option, Some, None, option_to_list, refl, sym}
 use Rattle.chip_world.proofs.Names.{ap, ◌∙◌, arith, ⊎_elim, inl, inr, get_or_past, get_or_append_left, get_or_push}
@@ -7,7 +7,7 @@ use Rattle.chip_world.proofs.Names.{get_or-drop, take_more, dite, dec_lt, Settin
 use Rattle.chip_world.proofs.Names.{Shows, none_held, one_held, length-sent_counts, message_of, Message, messages_from}
 use Rattle.chip_world.proofs.Names.{counts_in_flight, messages-append, into_in, Log, out_in}
 
--- a hand is empty or holds one
+-- nothing is held, or one count is
 hand : (held : Option ℕ) → Rattle.std.proofs.Common.◌⊎◌ (held ≡ None) ((count : ℕ) × (held ≡ Some count))
 hand None = inl refl
 hand (Some count) = inr (count, refl)

@@ -28,7 +28,7 @@ module _ (g : Setting) (log : Log) (w : WorldState) (stands : StandsForLog g log
       (tells g (part_in g log (root g)) stands.root_stands past
       (subst (λ (h : Setting). e < all_edges h) stands.setting inside))
 
--- the count in the hand, or 0
+-- the count that is held, or 0
 pub or_none : (h : Option ℕ) → unwrap_or h 0 ≡ sum (option_to_list h)
 or_none None = refl
 or_none (Some n) = omega arith

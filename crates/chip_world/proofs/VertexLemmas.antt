@@ -6,7 +6,7 @@ use Rattle.chip_world.proofs.Names.{NoSuch, Event, Take, Ack, Fire, Clear, Claim
 use Rattle.chip_world.proofs.Names.{part_of, tail_of, head_of, all_edges, graph_edges, head_inside, tail_inside}
 use Rattle.chip_world.proofs.Names.{head_if, tail_if, vertex_if, vertex_of, is_root_edge, is_of_others}
 
--- a value that is given only where a test passes
+-- a value that is given only if a test passes
 given : (b : Bool) (n v : ℕ) → cond b (Some n) None ≡ Some v → (b ≡ true) × (n ≡ v)
 given true n v is = (refl, cc)
 given false n v is = absurd (cc)
@@ -54,7 +54,7 @@ module _ (g : Setting) where
   is_graph_edge e is = by_test (ltb e (graph_edges g)) (λ yes. yes)
       (λ no. absurd (true≢false (sym (cond-false (ltb e (graph_edges g)) false true no) ∙ is)))
 
-  -- where none was found the event names no edge and no vertex
+  -- if none was found the event names no edge and no vertex
   pub missing : (x : Event) (s : Part) → is_of_others g x ≡ false → vertex_of g x ≡ None
       → unmet_rule g x s ≡ Some NoSuch
   missing (Take e) s mine is = refused _ NoSuch _ (withheld (ltb e (all_edges g)) (head_of g e) is)

@@ -16,7 +16,7 @@ use Rattle.chip_world.proofs.Names.{with_edge, cell_of, seen_in, words_after, Ha
 use Rattle.chip_world.proofs.Names.{is_of_root, saw, ShowsEdge, claims_most, words as words_read}
 use Rattle.chip_part.specs.declared.act.Act.TheVariants as Do
 
--- the value of a shared word, where the vertices have these fired words
+-- the value of a shared word, if the vertices have these fired words
 abbrev value_of : List EdgeState → (ℕ → ℕ) → Word → ℕ
 value_of words fired (of_edge e) = (words_of words e).word
 value_of words fired (of_acks e) = (words_of words e).acknowledged
@@ -167,7 +167,7 @@ module _ (g : Setting) (game : IsGame g.game) (some_ring : 0 < g.ring) (log : Lo
     root_sees_words x own mine none = own_unseen 0 (fired (part_of g x)) x own
         ∙ sees_words (fired (part_of g x)) x refl mine none
 
-    -- what an event leaves, where its rules are met
+    -- what an event leaves, if its rules are met
     record Leaves (x : Event) (new : List EdgeState) : Type 0 where
       words_stay : length new ≡ length words
       cells_stay : (i : ℕ) → length (words_of new i).cells ≡ length (words_of words i).cells

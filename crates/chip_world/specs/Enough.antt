@@ -20,8 +20,8 @@ rounds_to_close game distance =
     * min game.limit (firing_bound (sum game.start) (greatest_degree game.graph) distance)
     + 5 * sum game.start + game.graph.vertices + 1
 
--- once the end is noted and no message of the root is claimed and not put, so many rounds of the game with all that was
--- given close the root
+-- once the end is noted and no message of the root is claimed and not put, as many rounds as `rounds_to_close` of the
+-- game with all that was given close the root
 abbrev pub ClosesIn : WorldState → ℕ → Drive → Type 0
 ClosesIn old rounds result = WhateverLog old (λ g before. HasEnd g before → RootHasPut g before → (distance : ℕ)
     → IsGreatestDistance g.game.graph distance → rounds_to_close (played_game g before) distance ≤ rounds

@@ -39,18 +39,18 @@ IsRound g before after = (between : Log) × AreTurns g g.game.graph.vertices bef
 abbrev pub IsOpen : Setting → Log → Type 0
 IsOpen g log = IsClosed g log → ⊥
 
--- so many rounds one after another, the root open before each of them
+-- n rounds one after another, the root open before each of them
 abbrev pub AreRounds : Setting → ℕ → Log → Log → Type 0
 AreRounds g zero before after = after ≡ before
 AreRounds g (suc n) before after = (between : Log) × AreRounds g n before between × IsOpen g between
     × IsRound g between after
 
--- what a drive answers after so many of its rounds: the root is closed; or all of them are made and it is open still
+-- what a drive answers after `count` of its rounds: the root is closed; or all of them are made and it is open still
 abbrev pub AnswersDrive : Setting → ℕ → ℕ → Log → Drive → Type 0
 AnswersDrive g rounds count after Closed = IsClosed g after
 AnswersDrive g rounds count after (Unfinished n) = (n ≡ rounds) × (count ≡ rounds) × IsOpen g after
 
--- a drive of at most so many rounds: it makes the fewest that close the root, or all of them
+-- a drive of at most `rounds` rounds: it makes the fewest that close the root, or all of them
 pub record IsDrive (g : Setting) (rounds : ℕ) (before after : Log) (result : Drive) : Type 0 where
   pub count : ℕ
   pub within : count ≤ rounds

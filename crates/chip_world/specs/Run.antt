@@ -63,7 +63,7 @@ abbrev pub delivered_after : Event → Reply → List Lane → List Lane
 delivered_after (Take e) (Got message) lanes = with_message e message lanes
 delivered_after _ _ lanes = lanes
 
--- a message that was sent, or delivered, is of one of so many edges
+-- a message that was sent, or delivered, is of an edge below `edges`
 abbrev pub SentOnEdge : Event → Reply → ℕ → Type 0
 SentOnEdge (Claim e) (Sent message) edges = e < edges
 SentOnEdge (Feed e k) (Sent message) edges = e < edges
@@ -78,7 +78,7 @@ abbrev pub HasRoom : (ℕ → Event → Bool) → List Event → List Lane → T
 HasRoom test xs lanes = (e : ℕ) → e < length lanes
     → length (lane_at lanes e).messages + count_among (test e) xs ≤ (lane_at lanes e).capacity
 
--- a list that opens: such messages, with room for so many more
+-- a list that opens: such messages, with room for `room` more
 abbrev pub IsOpened : (List Message → Type 0) → ℕ → Lane → Type 0
 IsOpened P room lane = P lane.messages × (length lane.messages + room ≤ lane.capacity)
 

@@ -31,7 +31,7 @@ with_cell cell value w = record w { cells = slice_set w.cells cell value }
 abbrev pub with_claim : ℕ → ℕ → EdgeState → EdgeState
 with_claim expected new w = record w { word = word_after_exchange expected new w.word }
 
--- so many more messages are acknowledged
+-- `count` more messages are acknowledged
 abbrev pub with_acks : ℕ → EdgeState → EdgeState
 with_acks count w = record w { acknowledged = w.acknowledged + count }
 
@@ -43,7 +43,7 @@ with_seal w = record w { word = bit_or w.word (2 ^ 63) }
 abbrev pub with_edge : ℕ → (EdgeState → EdgeState) → List EdgeState → List EdgeState
 with_edge e f words = slice_set words e (f (words_of words e))
 
--- the words of an edge that opens with a message of so many chips, or with none where these are 0
+-- the words of an edge that opens with a message of `chips` chips, or with none if that is 0
 abbrev pub opening_words : ℕ → ℕ → EdgeState
 opening_words ring chips = record {
   word = if chips == 0 then 0 else 1;

@@ -27,7 +27,7 @@ impl Model for EdgeWords {
 impl EdgeWords {
     ghost use Rattle.chip_world.specs.SharedWords.{opening_words};
 
-    /// The words of an edge that opens with a message of so many chips, or with none where these are 0.
+    /// The words of an edge that opens with a message of `chips` chips, or with none if that is 0.
     fn new(alloc: Global, ring: Ring, chips: u64) -> Result<EdgeWords, AllocError>
         ensures { IfOk result (λ edge. edge ≡ opening_words ring chips) }
     {

@@ -80,7 +80,7 @@ impl World {
         World::of(alloc, Setting::of_copy(alloc, game, Ring::of(ring), true)?)
     }
 
-    /// A game that opens, set up so. Where no chips are fed, the end of feeding is noted from the beginning.
+    /// A game that opens, set up so. If no chips are fed, the end of feeding is noted from the beginning.
     pub fn of(alloc: Global, setting: Setting) -> Result<World, AllocError>
         ensures { IfOk result (StandsForLog setting []) }
     {

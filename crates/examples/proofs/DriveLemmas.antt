@@ -87,7 +87,7 @@ driven_end game ring old new rounds drive o opens leads plays =
     subst (λ (k : ChipGame). IsEveryEnd k o.fired.items o.chips.items)
     (unfed_is_the_start g is_game some_ring after stands.legal refl).0 (every_end _ o played)
 
--- and so where its outcome is told
+-- and so if its outcome is told
 pub actors_end : (game : ChipGame) (ring : ℕ) (old new : WorldState) (rounds : ℕ) (drive : Drive)
     (r : Result Outcome WorldFault) → StandsForLog (setting_of game ring) [] old
     → Leads old new (λ g before after. IsDrive g rounds before after drive)

@@ -102,7 +102,7 @@ pub each_end : (G : Multigraph) (limit : ℕ) (chips : List ℕ) (n : ℕ) (ends
 each_end G limit chips n ends played i below =
     let (o, is, left, fired, stopped) = (played.each i below).outcome in rw (fired, left) (every_end _ o is)
 
--- no vertex of a pile is legal where the play of its game was not stopped
+-- no vertex of a pile is legal if the play of its game was not stopped
 pub stands : (g : ChipGame) (o : Outcome) → IsPlayed g o → is_closed o ≡ true → (p : Pile) → p.game ≡ g
     → p.chips.items ≡ o.chips.items → IsStable p.game.graph (slice_index p.chips.items)
 stands g o played closed p game chips = rw (game, chips) (none_legal g o played closed)

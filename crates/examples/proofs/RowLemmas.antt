@@ -19,7 +19,7 @@ no_members : (xs : List ℕ) → ((v : ℕ) → Contains xs v → ⊥) → xs �
 no_members [] none = refl
 no_members (x ∷ xs) none = absurd (none x (0, omega arith, refl))
 
--- an outcome closes where the limit does not stop the play
+-- an outcome closes if the limit does not stop the play
 closes : (g : ChipGame) (ds : List (ℕ × ℕ)) (g' : ChipGame) (o : Outcome) → HasMore g ds g' → IsPlayed g' o
     → Closes g ds → is_closed o ≡ true
 closes g ds g' o more played (h, h_more, rests) =

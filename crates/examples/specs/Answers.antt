@@ -20,13 +20,13 @@ Plays g vs = IsWholePlay g.graph (slice_index g.start) g.limit vs
 abbrev pub left_by : ChipGame → List ℕ → ℕ → ℕ
 left_by g vs = position_after g.graph (slice_index g.start) vs
 
--- the game has a whole play, and each fires each vertex so often and leaves these chips
+-- the game has a whole play, and each fires each vertex as often as `fired` says and leaves these chips
 pub record IsEveryEnd (g : ChipGame) (fired chips : List ℕ) : Type 0 where
   pub some : (vs : List ℕ) × Plays g vs
   pub counted : (vs : List ℕ) → Plays g vs → (v : ℕ) → slice_index fired v ≡ counts vs v
   pub left : (vs : List ℕ) → Plays g vs → (v : ℕ) → slice_index chips v ≡ left_by g vs v
 
--- wherever a whole play of the game ended: so many chips dropped on v there set off what the avalanche tells, in each
+-- wherever a whole play of the game ended: `count` chips dropped on v there set off what the avalanche tells, in each
 -- firing sequence that ends
 abbrev pub SetsOff : ChipGame → (v count : ℕ) → Avalanche → Type 0
 SetsOff g v count a = (us : List ℕ) → Plays g us → (vs : List ℕ)
@@ -34,7 +34,7 @@ SetsOff g v count a = (us : List ℕ) → Plays g us → (vs : List ℕ)
     → HasEnded g.graph (dropped (left_by g us) v count) vs
     → Tells g.graph (dropped (left_by g us) v count) a vs
 
--- some firing sequence of the game within its limit fires each vertex so often and leaves these chips
+-- some firing sequence of the game within its limit fires each vertex as often as `fired` says and leaves these chips
 pub record IsSomeEnd (g : ChipGame) (fired chips : List ℕ) : Type 0 where
   pub vs : List ℕ
   pub sequence : IsFiringSequence g.graph (slice_index g.start) vs

@@ -52,7 +52,7 @@ pub fn go_on(
     resume(alloc, graph, earlier, limit)
 }
 
-/// What so many chips set off that are dropped on a vertex once the game has come to rest; none if the limit stops it.
+/// What `count` chips set off that are dropped on a vertex once the game is over; none if the limit stops it.
 pub fn avalanche(
     alloc: Global,
     game: Game,
@@ -73,7 +73,7 @@ pub fn avalanche(
     Ok(avalanche)
 }
 
-/// How often each vertex fires in each of so many games on one graph. Their chips become those at the end.
+/// How often each vertex fires in each of `games` games on one graph. Their chips become those at the end.
 pub fn end_of_each(
     alloc: Global,
     edges: EdgeLists<'_>,

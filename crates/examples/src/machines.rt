@@ -18,7 +18,7 @@ use std::alloc::Global;
 use std::sync::Wait;
 use std::thread::Threads;
 
-/// How a game ends that actors play, each making one turn in each round; `NotClosed` if so many rounds are too few.
+/// How a game ends that actors play, each making one turn in each round; `NotClosed` if `rounds` rounds are too few.
 pub fn end_of_actors(
     alloc: Global,
     game: &Game,
@@ -42,7 +42,7 @@ impl Gate for Open {
     }
 }
 
-/// A plan for so many workers.
+/// A plan for `workers` workers.
 fn plan(workers: u64, seal: Option<SealAt>) -> Plan
     ensures { result.seal ≡ seal }
 {
@@ -69,8 +69,8 @@ pub fn end_of_threads<R: Threads + Wait>(
     Ok((finished.outcome, plain(alloc, game)?))
 }
 
-/// How a game ends that threads play while chips are fed, each time so many to a vertex: as the game that has them all
-/// at its start.
+/// How a game ends that threads play while chips are fed, each time to one vertex: as the game that has them all at its
+/// start.
 pub fn end_of_feeds<R: Threads + Wait>(
     rt: &R,
     alloc: Global,

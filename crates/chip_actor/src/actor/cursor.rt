@@ -1,5 +1,4 @@
-//! The order of a turn. Each function tells what is due in a phase of it, and goes on to the next phase where nothing
-//! is.
+//! The order of a turn. Each function tells what is due in a phase of it, and goes on to the next phase if nothing is.
 
 ghost use Rattle.std.specs.Prelude.{◌≡◌, ◌==◌, not, true, ⊤};
 

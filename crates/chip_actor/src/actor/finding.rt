@@ -1,8 +1,8 @@
 //! Where the edge of an event stands among the ends of its vertex. It is found once, for the rules, the operation and
 //! the books.
 //!
-//! All that an event goes through is inlined: a reply that one function hands to the next through memory costs as much as
-//! the event itself.
+//! All that an event goes through is inlined: a reply that one function passes to the next through memory costs as much
+//! as the event itself.
 
 ghost use Rattle.std.specs.Prelude.{◌≡◌};
 

@@ -49,7 +49,7 @@ impl ActorState {
         work
     }
 
-    /// Fires, where the vertex may: as often as its chips and its limit allow.
+    /// Fires, if the vertex may: as often as its chips and its limit allow.
     #[inline(always)]
     fn fire_here<M: Medium>(&mut self, medium: &mut M) -> usize
         requires { Meets (M.holds medium.old) self.old Cursor.Fire }

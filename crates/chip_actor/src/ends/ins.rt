@@ -73,7 +73,7 @@ impl Ins {
         end.taken(cell)
     }
 
-    /// Takes once from each edge over a medium, for the vertex with so many chips and these books: how many count.
+    /// Takes once from each edge over a medium, for the vertex with these chips and books: how many count.
     #[inline(always)]
     pub fn take_all<M: Medium>(
         &mut self,

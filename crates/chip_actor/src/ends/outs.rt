@@ -149,8 +149,8 @@ impl Outs {
         }
     }
 
-    /// Sends over a medium on each edge on which something is pending, for the vertex with so much pending, so many
-    /// refusals and these books, until a claim is refused: how many steps count, and the index of the refusal.
+    /// Sends over a medium on each edge on which something is pending, for the vertex with these books, `pending` chips
+    /// pending and `refused` refusals, until a claim is refused: how many steps count, and the index of the refusal.
     #[inline(always)]
     pub fn send_all<M: Medium>(
         &mut self,

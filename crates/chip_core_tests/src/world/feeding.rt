@@ -2,7 +2,7 @@
 
 use super::*;
 
-/// The triangle where chips may be fed, as it opens with such rings.
+/// The triangle to which chips may be fed, as it opens with such rings.
 fn fed_triangle(rt: &(impl AllocGlobal + Abort), start: &[u64], ring: Ring) -> Box<World> {
     let game = game_of(rt, TRIANGLE, start, MOST);
     let world = World::open_fed(rt.alloc(), &game, ring.cells()).expect(rt, "memory");
@@ -56,7 +56,7 @@ const THREE_CHIPS_AND_THE_END: [(Event, Reply); 5] = [
     (Event::End, Reply::Done(0)),
 ];
 
-/// Feeds a triangle with rings of so many cells, and plays it to the end.
+/// Feeds a triangle with rings of `cells` cells, and plays it to the end.
 fn feeds_wide(rt: &(impl AllocGlobal + Abort), cells: u64) {
     let ring = Ring::new(cells).expect(rt, "1 to 64 cells");
     let mut world = fed_triangle(rt, &[0, 0, 0], ring);

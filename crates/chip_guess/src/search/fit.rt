@@ -36,9 +36,9 @@ impl Sum {
 }
 
 impl<'a> Search<'a> {
-    /// Fits target heights to what counts, which were lowered between walls, leave in each patch. After the first fit
-    /// a height goes twice the way to the mean of its patch, where that has clearly lost firings: between walls counts
-    /// come only a part of the way.
+    /// Fits target heights to what counts, which were lowered between walls, leave in each patch. After the first fit a
+    /// height goes twice the way to the mean of its patch, if that has clearly lost firings: between walls counts come
+    /// only a part of the way.
     pub(super) fn fit_heights(&mut self, alloc: Global) -> Result<(), AllocError> {
         let mut patches = vec![in alloc; 0; self.heights.len()]?;
         let mut sums = vec![in alloc; Sum::default(); find_patches(self.hierarchy, &mut patches)]?;

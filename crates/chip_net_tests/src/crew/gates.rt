@@ -13,7 +13,7 @@ pub(crate) enum Rule {
     Never,
     /// Worker 0. The others are held until it was asked, and then they do not pass.
     ZeroAlone,
-    /// Every worker. Each is held at its first turn until so many were asked.
+    /// Every worker. Each is held at its first turn until this number was asked.
     Together(u64),
     /// Every worker. Worker 0 is held at its first turn until worker 1 was asked for this turn.
     Behind(u64),
@@ -123,7 +123,7 @@ impl Gate for Keeper<'_> {
     }
 }
 
-/// Whether the number comes to so much while it is looked at a million times.
+/// Whether the number comes to `much` while it is looked at a million times.
 fn comes_to(number: &AtomicU64, much: u64) -> bool {
     for _ in 0..1_000_000 {
         if number.load(SeqCst) >= much {

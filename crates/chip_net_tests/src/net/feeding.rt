@@ -24,7 +24,7 @@ fn open_triangle(rt: &(impl AllocGlobal + Abort), start: &[u64]) -> (Net, Root, 
     (net, root, actors)
 }
 
-/// Feeds so many chips to the first vertex.
+/// Feeds `count` chips to the first vertex.
 fn expect_feed(
     rt: &impl Abort,
     net: &Net,
@@ -136,7 +136,7 @@ fn not_for_feeding(rt: HostRuntime) {
     expect_refused(&rt, &net, root, FeedFault::Ended);
 }
 
-/// Feeds so many single chips to the first vertex, notes the end, and polls until the root is closed.
+/// Feeds `chips` single chips to the first vertex, notes the end, and polls until the root is closed.
 fn feed_until(net: &Net, closed: &AtomicBool, mut root: Root, chips: u64) -> Root
     requires root { root.net ≡ net.now }
     requires vertices { 0 < net.now.setting.game.graph.vertices }
@@ -178,8 +178,8 @@ fn turn_and_feed<R: Threads>(rt: &R, net: &Net, actors: Vec<Actor>, root: Root, 
     root
 }
 
-/// A thousand chips, fed one by one while another thread turns, end as they do where all lie there from the start:
-/// vertex 0 has 1000 - 2 * 666 + 333 left, vertex 1 has 666 - 2 * 333, and the sink got 666 + 333.
+/// A thousand chips, fed one by one while another thread turns, end as they do if all lie there from the start: vertex
+/// 0 has 1000 - 2 * 666 + 333 left, vertex 1 has 666 - 2 * 333, and the sink got 666 + 333.
 #[test]
 fn fed_on_threads(rt: HostRuntime) {
     let (net, root, actors) = open_triangle(&rt, &[0, 0, 0]);

@@ -173,7 +173,7 @@ fn tail_of(net: &Net, actors: &mut Vec<Actor>, at: usize) -> Result<Vec<Actor>, 
     Ok(tail)
 }
 
-/// Plays a game on threads, which share the actors by thirds, and seals an edge of it where it is stoppable.
+/// Plays a game on threads, which share the actors by thirds, and seals an edge of it if it is stoppable.
 fn played_on_threads<R: Threads + Sync + Abort + AllocGlobal>(
     rt: &R,
     edges: &[(u64, u64, u64)],
@@ -226,7 +226,7 @@ fn grid(rt: &(impl AllocGlobal + Abort)) -> Vec<(u64, u64, u64)> {
     edges
 }
 
-/// How often each cell and the sink fire where each cell has four chips, and the chips that they end with: what
+/// How often each cell and the sink fire if each cell has four chips, and the chips that they end with: what
 /// `examples/play.py` says.
 const GRID_ENDS: Ends = Ends {
     fired: &[

@@ -10,7 +10,7 @@ impl World {
     ghost use Rattle.chip_core.specs.Core.{part_in, into_in};
     ghost use Rattle.chip_world.specs.World.{WhateverLog};
 
-    /// The edge of the message that engaged this vertex, where it is engaged.
+    /// The edge of the message that engaged this vertex, if it is engaged.
     pub fn parent(&self, vertex: u64) -> Option<u64>
         requires { vertex < self.now.setting.game.graph.vertices }
         ensures { WhateverLog self.now (λ g log. result ≡ (part_in g log vertex).parent) }

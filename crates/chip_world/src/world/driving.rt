@@ -8,7 +8,7 @@ use chip_link::Event;
 pub enum Drive {
     /// The root is closed.
     Closed,
-    /// It is open still, after all of so many rounds.
+    /// It is still open after this number of rounds.
     Unfinished(u64),
 }
 

@@ -79,7 +79,7 @@ struct Tally {
 }
 
 impl Tally {
-    /// The counts of these events, if there are so many edges.
+    /// The counts of these events on `all_edges` edges.
     fn new(alloc: Global, all_edges: usize, events: &[Event]) -> Result<Tally, AllocError>
         ensures claims { IfOk result (λ tally. Counts is_claim_of all_edges events.now tally.claims.items) }
         ensures takes { IfOk result (λ tally. Counts is_take_of all_edges events.now tally.takes.items) }
@@ -153,8 +153,8 @@ impl World {
         })
     }
 
-    /// Makes these events, one after another. All memory is taken before the first one: where it runs out, the world is
-    /// as it was.
+    /// Makes these events, one after another. All memory is taken before the first one: if it runs out, the world is as
+    /// it was.
     pub fn run(&mut self, alloc: Global, events: &[Event]) -> Result<Record, AllocError>
         ensures { MatchResult result
             (λ r. WhateverLog self.old (λ g log. Runs g log events.now self.new r))

@@ -1,17 +1,14 @@
 -- Serves Multigraph.antt, Faults.antt, Distances.antt.
 -- What a graph keeps beside its edges is what follows from them.
-use Rattle.std.proofs.Common.{◌≡◌, ◌≢◌, ℕ, suc, ◌<◌, ◌⊎◌, Bool, cond, List, [], ◌∷◌, length, map, get_or, Option, Some}
-use Rattle.std.proofs.Common.{None, Result, Ok, Err, refl, sym, ap, ◌∙◌, subst, arith, ne_eqb}
-use Rattle.std.proofs.lemmas.List.{length-map, get_or-map}
+use Rattle.chip_graph.proofs.Names.{◌≡◌, ◌≢◌, ℕ, suc, ◌<◌, ◌⊎◌, List, [], ◌∷◌, length, map, get_or, Option, Some, None}
+use Rattle.chip_graph.proofs.Names.{Ok, Err, refl, ap, ◌∙◌, subst, arith, length-map, get_or-map, nat_tests, GraphFault}
+use Rattle.chip_graph.proofs.Names.{SizeLimits, Multigraph, ReachesSink, fault_of_rows, IsGraphFault, UNREACHED, noted}
+use Rattle.chip_graph.proofs.Names.{IsDistanceOf, AreDistances}
+use Rattle.std.proofs.Common.{Result}
 use Rattle.std.specs.Result.{IsErrAnd}
-use Rattle.chip_graph.specs.declared.fault.GraphFault.{GraphFault}
+use Rattle.chip_graph.specs.Multigraph.{IsDistance}
+use Rattle.chip_graph.specs.Faults.{NamesUnreached, MakesGraph}
 use Rattle.chip_graph.specs.declared.fault.GraphFault.TheVariants as graph_fault
-use Rattle.chip_graph.specs.Limits.{SizeLimits}
-use Rattle.chip_graph.specs.Multigraph.{Multigraph, IsDistance, ReachesSink}
-use Rattle.chip_graph.specs.Faults.{fault_of_rows, IsGraphFault, NamesUnreached, MakesGraph}
-use Rattle.chip_graph.specs.declared.distance.TheConstants.{UNREACHED}
-use Rattle.chip_graph.specs.Found.{noted}
-use Rattle.chip_graph.specs.Distances.{IsDistanceOf, AreDistances}
 
 -- a vertex that has a distance reaches the sink
 reaches : (G : Multigraph) (v : ℕ) (found : Option ℕ) (d : ℕ) → found ≡ Some d → IsDistanceOf G v found
@@ -20,15 +17,14 @@ reaches G v found d is of = let at : IsDistance G v d = subst (IsDistanceOf G v)
 
 -- a distance that was found
 noted_some : (d : ℕ) → d ≢ UNREACHED → noted d ≡ Some d
-noted_some d other = ap (λ (b : Bool). cond b None (Some d)) (ne_eqb d UNREACHED other)
+noted_some d other = grind (arith, nat_tests)
 
 -- where all were found, all are distances
 pub all_noted : (ds : List ℕ) → ((v : ℕ) → v < length ds → get_or ds v 0 ≢ UNREACHED)
     → map noted ds ≡ map (λ d. Some d) ds
 all_noted [] all = refl
-all_noted (d ∷ ds) all =
-    ap (λ (o : Option ℕ). o ∷ map noted ds) (noted_some d (all 0 (omega arith)))
-    ∙ ap (λ (os : List (Option ℕ)). Some d ∷ os) (all_noted ds (λ v l. all (suc v) (omega arith)))
+all_noted (d ∷ ds) all = let here = noted_some d (all 0 (omega arith)) in
+    let rest = all_noted ds (λ v l. all (suc v) (omega arith)) in cc
 
 module _ (G : Multigraph) (distances : List ℕ) (are : AreDistances G (map (λ d. Some d) distances)) (v : ℕ)
     (is_vertex : v < G.vertices) where
@@ -67,7 +63,4 @@ pub refused : (limits : SizeLimits) (G : Multigraph) (result : Result Multigraph
     → IsErrAnd result (λ e. e ≡ fault) → ((fault ≡ graph_fault.NoMemory) × (fault_of_rows limits G ≡ None))
     ⊎ IsGraphFault limits G fault → MakesGraph limits G result
 refused limits G (Ok graph) fault is why = absurd is
-refused limits G (Err e) fault is why =
-    let P : GraphFault → Type 0 =
-    (λ f. ((f ≡ graph_fault.NoMemory) × (fault_of_rows limits G ≡ None)) ⊎ IsGraphFault limits G f) in
-    subst P (sym is) why
+refused limits G (Err e) fault is why = rw is why

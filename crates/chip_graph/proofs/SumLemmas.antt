@@ -1,14 +1,10 @@
 -- Serves Sums.antt.
 -- Sums over the numbers below n, the same sums with a test, and sums over lists of the numbers that pass it.
-use Rattle.std.proofs.Common.{◌≡◌, ◌≢◌, ℕ, zero, suc, ◌+◌, ◌-◌, ◌*◌, ◌<◌, ◌≤◌, Bool, true, false, cond, eqb, List, []}
-use Rattle.std.proofs.Common.{◌∷◌, ◌++◌, length, sum, get_or, refl, sym, ap, ◌∙◌, subst, arith, append-nil, eq-eqb}
-use Rattle.std.proofs.Common.{ne_eqb}
-use mathlib.Core.Logic.{dite}
-use native.Mathlib.Decide.{ℕ_discrete}
+use Rattle.chip_graph.proofs.Names.{◌≡◌, ◌≢◌, ℕ, zero, suc, ◌+◌, ◌*◌, ◌<◌, ◌≤◌, Bool, true, false, cond, eqb, List}
+use Rattle.chip_graph.proofs.Names.{[], ◌∷◌, length, sum, get_or, refl, ap, ◌∙◌, arith, append-nil}
+use Rattle.chip_graph.proofs.Names.{eq-eqb, ne_eqb, dite, ℕ_discrete, sum_below, filter_below, nat_tests}
 use Rattle.std.specs.List.{sum_by}
 use Rattle.std.proofs.lemmas.List.Sums.{sum_by-cons, sum_by_push}
-use Rattle.chip_graph.specs.Sums.{sum_below, filter_below}
-use Rattle.std.proofs.lemmas.Bool.{cond-true, cond-false}
 
 -- ---- choices by a test
 
@@ -22,8 +18,7 @@ cond_no a b x y e = ap (λ (t : Bool). cond t x y) (ne_eqb a b e)
 
 -- choices that differ only where the test passes, and are equal there
 pub cond_same : {A : Type 0} (b : Bool) (x y z : A) → (b ≡ true → x ≡ y) → cond b x z ≡ cond b y z
-cond_same true x y z p = p refl
-cond_same false x y z p = refl
+cond_same b x y z p = grind arith
 
 -- the two cases of a test
 pub by_test : {P : Type 0} (b : Bool) → (b ≡ true → P) → (b ≡ false → P) → P
@@ -32,21 +27,14 @@ by_test false yes' no' = no' refl
 
 -- a test counts one at most
 pub one_at_most : (b : Bool) → cond b 1 0 ≤ 1
-one_at_most true = omega arith
-one_at_most false = omega arith
-
--- nothing, whatever a test says
-pub none_either : (b : Bool) → ◌≡◌ {A = ℕ} (cond b 0 0) 0
-none_either true = refl
-none_either false = refl
+one_at_most b = grind arith
 
 -- ---- sums over the numbers below n
 
 -- equal terms make equal sums
 pub sum_below_ext : (n : ℕ) (f h : ℕ → ℕ) → ((e : ℕ) → e < n → f e ≡ h e) → sum_below n f ≡ sum_below n h
 sum_below_ext zero f h p = refl
-sum_below_ext (suc n) f h p = let a = sum_below_ext n f h (λ e l. p e (omega arith)) in let b = p n (omega arith) in
-    omega arith
+sum_below_ext (suc n) f h p = let a = sum_below_ext n f h (λ e l. p e (omega arith)) in omega (arith, p n)
 
 -- a sum of sums
 pub sum_below_add : (n : ℕ) (f h : ℕ → ℕ) → sum_below n (λ e. f e + h e) ≡ sum_below n f + sum_below n h
@@ -61,45 +49,42 @@ sum_below_scale (suc n) k f = let a = sum_below_scale n k f in omega (arith, Rat
 -- smaller terms make a smaller sum
 pub sum_below_le : (n : ℕ) (f h : ℕ → ℕ) → ((e : ℕ) → e < n → f e ≤ h e) → sum_below n f ≤ sum_below n h
 sum_below_le zero f h p = omega arith
-sum_below_le (suc n) f h p = let a = sum_below_le n f h (λ e l. p e (omega arith)) in let b = p n (omega arith) in
-    omega arith
+sum_below_le (suc n) f h p = let a = sum_below_le n f h (λ e l. p e (omega arith)) in omega (arith, p n)
 
 -- a sum of zeros
 pub sum_below_none : (n : ℕ) (f : ℕ → ℕ) → ((e : ℕ) → e < n → f e ≡ 0) → sum_below n f ≡ 0
 sum_below_none zero f p = refl
-sum_below_none (suc n) f p = let a = sum_below_none n f (λ e l. p e (omega arith)) in let b = p n (omega arith) in
-    omega arith
+sum_below_none (suc n) f p = let a = sum_below_none n f (λ e l. p e (omega arith)) in omega (arith, p n)
 
 -- where the sum is 0, each term is
 pub sum_below_zero : (n : ℕ) (f : ℕ → ℕ) → sum_below n f ≡ 0 → (e : ℕ) → e < n → f e ≡ 0
 sum_below_zero zero f z e l = absurd (omega arith)
-sum_below_zero (suc n) f z e l = dite (ℕ_discrete e n) (λ same. ap f same ∙ (let b : f n ≡ 0 = omega arith in b))
-    (λ other. sum_below_zero n f (omega arith) e (omega arith))
+sum_below_zero (suc n) f z e l = let rest = sum_below_zero n f in grind (arith, nat_tests)
 
 -- a term is at most the sum
 pub sum_below_term : (n : ℕ) (f : ℕ → ℕ) (e : ℕ) → e < n → f e ≤ sum_below n f
 sum_below_term zero f e l = absurd (omega arith)
-sum_below_term (suc n) f e l = dite (ℕ_discrete e n) (λ same. let b : f e ≡ f n = ap f same in omega arith)
-    (λ other. let b = sum_below_term n f e (omega arith) in omega arith)
+sum_below_term (suc n) f e l = let rest = sum_below_term n f e in grind (arith, nat_tests)
+
+-- a longer sum is no smaller
+pub sum_below_upto : (f : ℕ → ℕ) (n m : ℕ) → n ≤ m → sum_below n f ≤ sum_below m f
+sum_below_upto f n zero le = let z : n ≡ 0 = omega arith in rw z (omega arith)
+sum_below_upto f n (suc m) le = dite (ℕ_discrete n (suc m)) (λ same. rw same (omega arith))
+    (λ other. omega (arith, sum_below_upto f n m (omega arith)))
 
 -- sums that differ at one place
 pub sum_below_move : (n : ℕ) (f h : ℕ → ℕ) (j : ℕ) → j < n → ((e : ℕ) → e < n → e ≢ j → f e ≡ h e)
     → sum_below n f + h j ≡ sum_below n h + f j
 sum_below_move zero f h j l p = absurd (omega arith)
 sum_below_move (suc n) f h j l p = dite (ℕ_discrete j n)
-    (λ same. let a = sum_below_ext n f h (λ e m. p e (omega arith) (omega arith)) in let b : f j ≡ f n = ap f same in
-    let c : h j ≡ h n = ap h same in omega arith)
-    (λ other. let a = sum_below_move n f h j (omega arith) (λ e m. p e (omega arith)) in
-    let b = p n (omega arith) (λ z. other (sym z)) in omega arith)
+    (λ same. let a = sum_below_ext n f h (λ e m. p e (omega arith) (omega arith)) in grind arith)
+    (λ other. let a = sum_below_move n f h j (omega arith) (λ e m. p e (omega arith)) in grind arith)
 
 -- a sum is that of its front and its rest
 pub sum_below_split : (m n : ℕ) (f : ℕ → ℕ) → sum_below (m + n) f ≡ sum_below m f + sum_below n (λ i. f (m + i))
-sum_below_split m zero f = ap (λ (k : ℕ). sum_below k f) (let z : m + zero ≡ m = omega arith in z)
-    ∙ (let z : sum_below m f ≡ sum_below m f + 0 = omega arith in z)
-sum_below_split m (suc n) f = ap (λ (k : ℕ). sum_below k f) (let z : m + suc n ≡ suc (m + n) = omega arith in z)
-    ∙ (let a = sum_below_split m n f in
-    let z : sum_below (m + n) f + f (m + n) ≡ sum_below m f + (sum_below n (λ i. f (m + i)) + f (m + n)) = omega arith
-    in z)
+sum_below_split m zero f = let z : m + zero ≡ m = omega arith in rw z (omega arith)
+sum_below_split m (suc n) f = let z : m + suc n ≡ suc (m + n) = omega arith in let a = sum_below_split m n f in
+    rw z (omega arith)
 
 -- a sum with one term
 pub sum_below_one : (n : ℕ) (f : ℕ → ℕ) (j : ℕ) → j < n → ((e : ℕ) → e < n → e ≢ j → f e ≡ 0) → sum_below n f ≡ f j
@@ -115,9 +100,8 @@ sum_below_by_place n (suc m) h place inside =
     (λ u. cond (eqb (place m) u) (h m) 0) in
     let b = sum_below_by_place n m h place (λ e l. inside e (omega arith)) in
     let c = sum_below_one n (λ u. cond (eqb (place m) u) (h m) 0) (place m) (inside m (omega arith))
-    (λ u l ne. cond_no (place m) u (h m) 0 (λ z. ne (sym z))) in
-    let d = cond_yes (place m) (place m) (h m) 0 refl in
-    omega arith
+    (λ u l ne. grind (arith, nat_tests)) in
+    omega (arith, cond_yes (place m) (place m) (h m) 0 refl)
 
 -- the first term, and the others
 pub sum_below_first : (n : ℕ) (f : ℕ → ℕ) → sum_below (suc n) f ≡ f 0 + sum_below n (λ i. f (suc i))
@@ -127,11 +111,8 @@ sum_below_first (suc n) f = let a = sum_below_first n f in omega arith
 -- the sum of a list is the sum over its places
 pub sum_by_place : (xs : List ℕ) → sum xs ≡ sum_below (length xs) (λ i. get_or xs i 0)
 sum_by_place [] = refl
-sum_by_place (x ∷ xs) =
-    let a = sum_below_first (length xs) (λ i. get_or (x ∷ xs) i 0) in
-    let b = sum_by_place xs in
-    let c : sum (x ∷ xs) ≡ x + sum xs = sum_by-cons (λ y. y) x xs in
-    omega arith
+sum_by_place (x ∷ xs) = let a = sum_below_first (length xs) (λ i. get_or (x ∷ xs) i 0) in
+    let b = sum_by_place xs in omega (arith, sum_by-cons (λ y. y) x xs)
 
 -- ---- sums with a test: a term counts where the test passes, else it is 0
 
@@ -145,52 +126,45 @@ module _ (n : ℕ) (t : ℕ → Bool) where
   pub tested_add : (f h : ℕ → ℕ)
       → sum_below n (λ e. cond (t e) (f e + h e) 0) ≡ sum_below n (λ e. cond (t e) (f e) 0) + sum_below n
       (λ e. cond (t e) (h e) 0)
-  tested_add f h = sum_below_ext n (λ e. cond (t e) (f e + h e) 0) (λ e. cond (t e) (f e) 0 + cond (t e) (h e) 0)
-      (λ e l. one (t e) (f e) (h e)) ∙ sum_below_add n (λ e. cond (t e) (f e) 0) (λ e. cond (t e) (h e) 0)
-    where
-      one : (b : Bool) (x y : ℕ) → cond b (x + y) 0 ≡ cond b x 0 + cond b y 0
-      one true x y = refl
-      one false x y = refl
+  tested_add f h = sum_below_ext n _ (λ e. cond (t e) (f e) 0 + cond (t e) (h e) 0) (λ e l. grind arith)
+      ∙ sum_below_add n (λ e. cond (t e) (f e) 0) (λ e. cond (t e) (h e) 0)
 
   -- a common factor
   pub tested_scale : (k : ℕ) (f : ℕ → ℕ)
       → sum_below n (λ e. cond (t e) (f e * k) 0) ≡ sum_below n (λ e. cond (t e) (f e) 0) * k
-  tested_scale k f = sum_below_ext n (λ e. cond (t e) (f e * k) 0) (λ e. cond (t e) (f e) 0 * k)
-      (λ e l. one (t e) (f e)) ∙ sum_below_scale n k (λ e. cond (t e) (f e) 0)
-    where
-      one : (b : Bool) (x : ℕ) → cond b (x * k) 0 ≡ cond b x 0 * k
-      one true x = refl
-      one false x = omega arith
+  tested_scale k f = sum_below_ext n _ (λ e. cond (t e) (f e) 0 * k) (λ e l. grind arith)
+      ∙ sum_below_scale n k (λ e. cond (t e) (f e) 0)
 
   -- smaller terms where the test passes
   pub tested_le : (f h : ℕ → ℕ) → ((e : ℕ) → e < n → t e ≡ true → f e ≤ h e)
       → sum_below n (λ e. cond (t e) (f e) 0) ≤ sum_below n (λ e. cond (t e) (h e) 0)
-  tested_le f h p = sum_below_le n _ _ (λ e l. one (t e) (f e) (h e) (p e l))
-    where
-      one : (b : Bool) (x y : ℕ) → (b ≡ true → x ≤ y) → cond b x 0 ≤ cond b y 0
-      one true x y q = q refl
-      one false x y q = omega arith
+  tested_le f h p = sum_below_le n _ _ (λ e l. let q = p e l in grind arith)
 
   -- zeros where the test passes
   pub tested_none : (f : ℕ → ℕ) → ((e : ℕ) → e < n → t e ≡ true → f e ≡ 0) → sum_below n (λ e. cond (t e) (f e) 0) ≡ 0
-  tested_none f p = tested_ext f (λ e. 0) p ∙ sum_below_none n (λ e. cond (t e) 0 0) (λ e l. none_either (t e))
+  tested_none f p = sum_below_none n _ (λ e l. let q = p e l in grind arith)
 
   -- where the sum is 0, each term that passes is
   pub tested_zero : (f : ℕ → ℕ) → sum_below n (λ e. cond (t e) (f e) 0) ≡ 0 → (e : ℕ) → e < n → t e ≡ true → f e ≡ 0
-  tested_zero f z e l on = sym (cond-true (t e) (f e) 0 on) ∙ sum_below_zero n (λ e. cond (t e) (f e) 0) z e l
+  tested_zero f z e l on = let a = sum_below_zero n (λ e. cond (t e) (f e) 0) z e l in grind arith
 
   -- a term that passes is at most the sum
   pub tested_term : (f : ℕ → ℕ) (e : ℕ) → e < n → t e ≡ true → f e ≤ sum_below n (λ e. cond (t e) (f e) 0)
-  tested_term f e l on = subst (λ (x : ℕ). x ≤ sum_below n (λ e. cond (t e) (f e) 0)) (cond-true (t e) (f e) 0 on)
-      (sum_below_term n (λ e. cond (t e) (f e) 0) e l)
+  tested_term f e l on = let a = sum_below_term n (λ e. cond (t e) (f e) 0) e l in grind arith
 
   -- sums that differ at one place that passes
   pub tested_move : (f h : ℕ → ℕ) (j : ℕ) → j < n → t j ≡ true → ((e : ℕ) → e < n → e ≢ j → t e ≡ true → f e ≡ h e)
       → sum_below n (λ e. cond (t e) (f e) 0) + h j ≡ sum_below n (λ e. cond (t e) (h e) 0) + f j
   tested_move f h j l on p =
       let a = sum_below_move n (λ e. cond (t e) (f e) 0) (λ e. cond (t e) (h e) 0) j l
-      (λ e m ne. cond_same (t e) (f e) (h e) 0 (p e m ne)) in
-      let b = cond-true (t j) (f j) 0 on in let c = cond-true (t j) (h j) 0 on in omega arith
+      (λ e m ne. cond_same (t e) (f e) (h e) 0 (p e m ne)) in grind arith
+
+-- terms that count where a test passes, each at most c
+pub sum_small : (n c : ℕ) (test : ℕ → Bool) (f : ℕ → ℕ) → ((e : ℕ) → e < n → f e ≤ c)
+    → sum_below n (λ e. cond (test e) (f e) 0) ≤ n * c
+sum_small zero c test f small = omega arith
+sum_small (suc n) c test f small =
+    let a = sum_small n c test f (λ e l. small e (omega arith)) in let b = small n (omega arith) in grind arith
 
 -- ---- the numbers that pass a test, as a list
 
@@ -198,16 +172,4 @@ module _ (n : ℕ) (t : ℕ → Bool) where
 pub picked_sum : (f : ℕ → ℕ) (test : ℕ → Bool) (n : ℕ)
     → sum_by f (filter_below test n) ≡ sum_below n (λ e. cond (test e) (f e) 0)
 picked_sum f test zero = refl
-picked_sum f test (suc n) = by_test (test n)
-    (λ on.
-    let a = ap (sum_by f) (ap (λ (l : List ℕ). filter_below test n ++ l) (cond-true (test n) (n ∷ []) [] on)) in
-    let b = sum_by_push f (filter_below test n) n in
-    let c = cond-true (test n) (f n) 0 on in
-    let d = picked_sum f test n in
-    omega arith)
-    (λ off.
-    let a = ap (sum_by f) (ap (λ (l : List ℕ). filter_below test n ++ l) (cond-false (test n) (n ∷ []) [] off)
-    ∙ append-nil (filter_below test n)) in
-    let c = cond-false (test n) (f n) 0 off in
-    let d = picked_sum f test n in
-    omega arith)
+picked_sum f test (suc n) = let rest = picked_sum f test n in grind (arith, sum_by_push, append-nil)

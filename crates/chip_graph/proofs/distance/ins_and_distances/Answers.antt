@@ -1,14 +1,11 @@
-use Rattle.std.proofs.Common.{◌≡◌, ◌+◌, ◌<◌, ℕ, List, All, vec_len, get_or, length, map, refl, ap, subst, sym, ◌∙◌, arith}
-use Rattle.chip_graph.specs.Multigraph.{Multigraph, edges_in}
-use Rattle.chip_graph.specs.Found.{Found, findings, noted, with_all}
-use Rattle.chip_graph.specs.Ends.{edge_of}
-use Rattle.chip_graph.specs.declared.edge.Edge.{Edge}
-use Rattle.chip_graph.specs.declared.edge.End.TheVariants.{Tail, Head}
+use Rattle.chip_graph.proofs.Names.{◌≡◌, ◌<◌, ℕ, List, vec_len, get_or, length, map, refl, ap, ◌∙◌, arith, Multigraph}
+use Rattle.chip_graph.proofs.Names.{edges_in, findings, noted, edge_of, Edge, Tail, length-map}
+use Rattle.chip_graph.specs.declared.edge.End.TheVariants.{Head}
 use Rattle.chip_graph.proofs.FaultLemmas.{edges_end, edges_short}
-use Rattle.std.proofs.lemmas.List.{length-map}
 use Rattle.std.proofs.lemmas.List.Elements.{All-map}
-use Rattle.chip_graph.proofs.SpreadingLemmas.{IsSpread, IsReached, begin_spread, turn_reached, turn_kept, edges_in_below}
-use Rattle.chip_graph.proofs.SpreadingLemmas.{few_reached, all_distances}
+use Rattle.chip_graph.proofs.SpreadingLemmas.{IsReached, begin_spread, turn_reached, turn_kept, few_reached}
+use Rattle.chip_graph.proofs.SpreadingLemmas.{all_distances}
+use Rattle.chip_graph.proofs.PickLemmas.{All-edges_with}
 use Rattle.chip_graph.proofs.distance.ins_and_distances.Goals as goal
 use Rattle.chip_graph.proofs.distance.ins_and_distances.Goals.{After-index, After-beside}
 
@@ -39,9 +36,8 @@ row_is c =
     ∙ ap (map (tail_in c.args.edges.now)) (c.in_ok-ins.ensures.lists.each c.index.result.now.vertex at.is_vertex)
 
 pub loop-next-init : goal.loop-next-init
-loop-next-init c = subst (λ (f : Found). IsSpread
-    (record { vertices = c.args.vertices; sink = c.args.sink; edges = c.args.edges.now }) f 0)
-    (sym c.in_ok-search.ensures) (begin_spread _ c.requires.sink_is_vertex)
+loop-next-init c = rw c.in_ok-search.ensures (begin_spread
+    (record { vertices = c.args.vertices; sink = c.args.sink; edges = c.args.edges.now }) c.requires.sink_is_vertex)
 
 pub overflow_add-distance : goal.overflow_add-distance
 overflow_add-distance c = let at = turn (goal.at.overflow_add-distance c).After-index in
@@ -51,8 +47,7 @@ overflow_add-distance c = let at = turn (goal.at.overflow_add-distance c).After-
 pub beside-requires-clause-inside : goal.beside-requires-clause-inside
 beside-requires-clause-inside c =
     let at = turn (goal.at.beside-requires-clause-inside c).After-index in
-    let each = c.in_ok-ins.ensures.lists.one_each in
-    omega (arith, at.is_vertex)
+    omega (arith, at.is_vertex, c.in_ok-ins.ensures.lists.one_each)
 
 pub beside-requires-clause-one_each : goal.beside-requires-clause-one_each
 beside-requires-clause-one_each c =
@@ -78,18 +73,15 @@ reach_all-requires-clause-vertices c =
     let many = c.loop-next.invariant.one_each in
     let counted = c.loop-next.search.distances.ok.0 in
     let same = length-map c.loop-next.search.distances.items noted in
-    subst (All (λ v. v < vec_len c.loop-next.search.distances)) (sym (row_is c))
-    (All-map (λ v. v < vec_len c.loop-next.search.distances) (tail_in c.args.edges.now) es (λ k d l.
+    rw (row_is c) (All-map (λ v. v < vec_len c.loop-next.search.distances) (tail_in c.args.edges.now) es (λ k d l.
     let small = edges_end G c.requires.edges Tail (get_or es k d)
-    (edges_in_below G c.index.result.now.vertex es refl k d l) in
+    (All-edges_with Head c.args.edges.now c.index.result.now.vertex k d l) in
     omega arith))
 
 pub loop-next-preserved : goal.loop-next-preserved
 loop-next-preserved c =
     let G : Multigraph = record { vertices = c.args.vertices; sink = c.args.sink; edges = c.args.edges.now } in
-    subst (λ (f : Found). IsSpread G f (c.loop-next.next + 1))
-    (sym (c.in_ok-reach_all.ensures ∙ ap (λ (vs : List ℕ). with_all (c.index.result.now.distance + 1) vs
-    (findings c.loop-next.search)) (row_is (goal.at.loop-next-preserved c).After-beside)))
+    rw (c.in_ok-reach_all.ensures, row_is (goal.at.loop-next-preserved c).After-beside)
     (turn_kept G (findings c.loop-next.search) c.loop-next.next c.loop-next.invariant c.index.result.now
     (omega (arith, c.loop-next.search.reached.ok.0)) c.index.ensures
     (edges_end G c.requires.edges Tail) (edges_in G c.index.result.now.vertex) refl)

@@ -1,5 +1,4 @@
-use Rattle.std.proofs.Common.{◌-◌}
-use Rattle.chip_graph.specs.Found.{findings}
+use Rattle.chip_graph.proofs.Names.{◌-◌, findings}
 use Rattle.chip_graph.proofs.SpreadingLemmas.{IsSpread}
 use Rattle.chip_graph.proofs.distance.ins_and_distances.Given as goal
 

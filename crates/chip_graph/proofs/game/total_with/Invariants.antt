@@ -1,5 +1,4 @@
-use Rattle.std.proofs.Common.{◌≡◌, ◌+◌, ◌≤◌, ◌^◌, take}
-use Rattle.chip_graph.specs.More.{all_brought}
+use Rattle.chip_graph.proofs.Names.{◌≡◌, ◌+◌, ◌≤◌, ◌^◌, take, all_brought}
 use Rattle.chip_graph.proofs.game.total_with.Given as goal
 
 abbrev pub invariant-loop-count : goal.invariant-loop-count

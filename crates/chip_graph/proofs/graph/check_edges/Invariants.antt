@@ -1,5 +1,4 @@
-use Rattle.std.proofs.Common.{◌≡◌, drop}
-use Rattle.chip_graph.specs.Faults.{fault_of_edges}
+use Rattle.chip_graph.proofs.Names.{◌≡◌, drop, fault_of_edges}
 use Rattle.chip_graph.proofs.graph.check_edges.Given as goal
 
 abbrev pub invariant-loop-i : goal.invariant-loop-i

@@ -1,5 +1,4 @@
-use Rattle.std.proofs.Common.{◌≢◌, ℕ, ◌<◌, slice_index}
-use Rattle.chip_graph.specs.declared.distance.TheConstants.{UNREACHED}
+use Rattle.chip_graph.proofs.Names.{◌≢◌, ℕ, ◌<◌, slice_index, UNREACHED}
 use Rattle.chip_graph.proofs.graph.check_reached.Given as goal
 
 abbrev pub invariant-loop-v : goal.invariant-loop-v

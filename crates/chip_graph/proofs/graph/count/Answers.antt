@@ -1,7 +1,5 @@
-use Rattle.std.proofs.Common.{◌≡◌, ◌+◌, ℕ, None, vec_len, below_more, ◌∙◌, subst, arith}
-use Rattle.chip_graph.specs.Counts.{AreCounted}
-use Rattle.chip_graph.specs.Ends.{edge_of}
-use Rattle.chip_graph.specs.Faults.{fault_of_edge}
+use Rattle.chip_graph.proofs.Names.{◌≡◌, ◌+◌, ℕ, None, vec_len, below_more, ◌∙◌, subst, arith, AreCounted, edge_of}
+use Rattle.chip_graph.proofs.Names.{fault_of_edge}
 use Rattle.chip_graph.proofs.FaultLemmas.{accepted, edge_ok, edges_next}
 use Rattle.chip_graph.proofs.graph.count.Goals as goal
 

@@ -1,8 +1,4 @@
-use Rattle.std.proofs.Common.{◌≡◌, ℕ, ◌<◌, drop}
-use Rattle.chip_graph.specs.Multigraph.{IsEdge}
-use Rattle.chip_graph.specs.Ends.{edge_of}
-use Rattle.chip_graph.specs.Counts.{AreCounted}
-use Rattle.chip_graph.specs.Faults.{fault_of_edges}
+use Rattle.chip_graph.proofs.Names.{◌≡◌, ℕ, ◌<◌, drop, IsEdge, edge_of, AreCounted, fault_of_edges}
 use Rattle.chip_graph.proofs.graph.count.Given as goal
 
 abbrev pub invariant-loop-i : goal.invariant-loop-i

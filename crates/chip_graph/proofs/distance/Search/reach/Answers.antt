@@ -1,8 +1,4 @@
-use Rattle.std.proofs.Common.{◌≡◌, ◌<◌, List, length, map, get_or, set, ap, ◌∙◌, arith}
-use Rattle.std.proofs.lemmas.List.{get_or_default}
-use Rattle.chip_graph.specs.declared.distance.Reached.{Reached}
-use Rattle.chip_graph.specs.declared.distance.TheConstants.{UNREACHED}
-use Rattle.chip_graph.specs.Found.{Found, noted}
+use Rattle.chip_graph.proofs.Names.{◌≡◌, ◌<◌, length, get_or, ◌∙◌, arith, get_or_default, UNREACHED}
 use Rattle.chip_graph.proofs.SpreadingLemmas.{reached_new}
 use Rattle.chip_graph.proofs.distance.Search.reach.Goals as goal
 
@@ -13,7 +9,5 @@ returns-in_ok-push c =
     let inside : c.args.vertex < length was.distances.items = omega (arith, c.requires.vertex) in
     let read = c.index.ensures ∙ get_or_default was.distances.items c.args.vertex c.index.result.now 0 inside in
     let new : get_or was.distances.items c.args.vertex 0 ≡ UNREACHED = omega (arith, c.if-index.true) in
-    let with_reached : List Reached → Found = λ rs.
-    record { distances = map noted (set was.distances.items c.args.vertex c.args.distance); reached = rs } in
-    ap with_reached c.in_ok-push.ensures.items
-    ∙ reached_new c.args.vertex c.args.distance was.distances.items was.reached.items inside new c.requires.distance
+    rw c.in_ok-push.ensures.items
+    (reached_new c.args.vertex c.args.distance was.distances.items was.reached.items inside new c.requires.distance)

@@ -1,14 +1,7 @@
-use Rattle.std.proofs.Common.{◌≡◌, ◌≤◌, List, ℕ, length, Option, Some, None, map, ap, inl, inr, refl, sym, subst}
-use Rattle.std.proofs.Common.{⊎_elim, ◌∙◌, arith}
-use Rattle.chip_graph.specs.declared.edge.Edge.{Edge}
-use Rattle.chip_graph.specs.declared.edge.End.TheVariants.{Tail}
-use Rattle.chip_graph.specs.declared.fault.GraphFault.{GraphFault}
+use Rattle.chip_graph.proofs.Names.{◌≡◌, ◌≤◌, List, ℕ, length, Some, None, map, inl, inr, refl, ⊎_elim, ◌∙◌}
+use Rattle.chip_graph.proofs.Names.{arith, rules, Edge, Tail, max_vertices, Multigraph, AreDistances, fault_of_rows}
 use Rattle.chip_graph.specs.declared.fault.GraphFault.TheVariants.{NoMemory}
-use Rattle.chip_graph.specs.Limits.{max_vertices, max_edges}
-use Rattle.chip_graph.specs.Multigraph.{Multigraph}
-use Rattle.chip_graph.specs.Distances.{AreDistances}
-use Rattle.chip_graph.specs.Found.{noted}
-use Rattle.chip_graph.specs.Faults.{first_of_faults, fault_of_edges, fault_of_rows}
+use Rattle.chip_graph.specs.Limits.{max_edges}
 use Rattle.chip_graph.proofs.FaultLemmas.{AreEdges, accepted, told, edges_ok, edges_end, edges_short, rows_graph}
 use Rattle.chip_graph.proofs.FaultLemmas.{rows_as_edges, sizes_vertices, sizes_sink, sizes_edges}
 use Rattle.chip_graph.proofs.IndexLemmas.{refused, unreached_fault, all_noted, all_reach}
@@ -31,27 +24,27 @@ are_edges c = edges_ok c.args.vertices c.args.sink 0 c.as_slice-rows.result.now 
 
 -- there are few vertices and edges
 few_vertices : (c : In_ok-check_sizes) → c.args.vertices ≤ max_vertices
-few_vertices c =
-    let is = sizes_vertices c.args.limits (made c.args.vertices c.args.sink c.as_slice-rows.result.now)
-    (accepted _ c.in_ok-check_sizes.ensures.first) in
-    let most = c.in_ok-check_sizes.ensures.limits.few_vertices in
-    omega (arith, is.1)
+few_vertices c = omega (
+  arith,
+  c.in_ok-check_sizes.ensures.limits.few_vertices,
+  (sizes_vertices c.args.limits
+      (made c.args.vertices c.args.sink c.as_slice-rows.result.now) (accepted _ c.in_ok-check_sizes.ensures.first)).1,
+)
 
 few_edges : (c : In_ok-check_sizes) → length c.as_slice-rows.result.now ≤ max_edges
-few_edges c =
-    let is = sizes_edges c.args.limits (made c.args.vertices c.args.sink c.as_slice-rows.result.now)
-    (accepted _ c.in_ok-check_sizes.ensures.first) in
-    let most = c.in_ok-check_sizes.ensures.limits.few_edges in
-    omega arith
+few_edges c = omega (
+  arith,
+  c.in_ok-check_sizes.ensures.limits.few_edges,
+  sizes_edges c.args.limits
+      (made c.args.vertices c.args.sink c.as_slice-rows.result.now) (accepted _ c.in_ok-check_sizes.ensures.first),
+)
 
 -- each vertex has a distance
 all_found : (c : In_ok-check_reached)
     → AreDistances (made c.args.vertices c.args.sink c.as_slice-rows.result.now)
     (map (λ d. Some d) c.in_ok-ins.distances.items)
-all_found c =
-    subst (AreDistances (made c.args.vertices c.args.sink c.as_slice-rows.result.now))
-    (all_noted c.in_ok-ins.distances.items (rw c.deref.ensures.value at c.in_ok-check_reached.ensures.all))
-    c.in_ok-ins.ensures.distances
+all_found c = rw (all_noted c.in_ok-ins.distances.items
+    (rw c.deref.ensures.value at c.in_ok-check_reached.ensures.all)) at c.in_ok-ins.ensures.distances
 
 pub count-requires-clause-few_vertices : goal.count-requires-clause-few_vertices
 count-requires-clause-few_vertices c = few_vertices (goal.at.count-requires-clause-few_vertices c).In_ok-check_sizes
@@ -73,22 +66,17 @@ pub edges_by-requires : goal.edges_by-requires
 edges_by-requires c =
     let are = are_edges (goal.at.edges_by-requires c).In_ok-counts in
     let few = few_vertices (goal.at.edges_by-requires c).In_ok-check_sizes in
-    record {
-      ends = edges_end (made c.args.vertices c.args.sink c.as_slice-rows.result.now) are Tail;
-      short = edges_short (made c.args.vertices c.args.sink c.as_slice-rows.result.now) are few;
-      few = few;
-      few_edges = few_edges (goal.at.edges_by-requires c).In_ok-check_sizes;
-      counted = c.in_ok-counts.ensures.1.tails;
-    }
+    let few' = few_edges (goal.at.edges_by-requires c).In_ok-check_sizes in
+    let ends = edges_end (made c.args.vertices c.args.sink c.as_slice-rows.result.now) are Tail in
+    let short = edges_short (made c.args.vertices c.args.sink c.as_slice-rows.result.now) are few in
+    let counted = c.in_ok-counts.ensures.1.tails in search rules
 
 pub returns-in_err-check_sizes : goal.returns-in_err-check_sizes
 returns-in_err-check_sizes c =
     rw (← c.as_slice-rows.ensures.value)
     (refused c.args.limits (made c.args.vertices c.args.sink c.as_slice-rows.result.now) c.from_residual.result
     c.in_err-check_sizes.field-0.0 c.from_residual.ensures.1
-    (inr (inl (ap (λ (f : Option GraphFault). first_of_faults f
-    (fault_of_edges c.args.vertices c.args.sink 0 c.as_slice-rows.result.now))
-    (told _ _ c.in_err-check_sizes.ensures.first)))))
+    (inr (inl (rw (told _ _ c.in_err-check_sizes.ensures.first)))))
 
 pub returns-in_err-counts : goal.returns-in_err-counts
 returns-in_err-counts c =
@@ -109,9 +97,7 @@ returns-in_err-ins c =
 pub returns-in_err-check_reached : goal.returns-in_err-check_reached
 returns-in_err-check_reached c =
     let least = c.in_err-check_reached.ensures.least in
-    let found = subst (λ (ds : List ℕ). AreDistances (made c.args.vertices c.args.sink c.as_slice-rows.result.now)
-    (map noted ds))
-    (sym c.deref.ensures.value) c.in_ok-ins.ensures.distances in
+    let found = rw (← c.deref.ensures.value) at c.in_ok-ins.ensures.distances in
     rw (← c.as_slice-rows.ensures.value)
     (refused c.args.limits (made c.args.vertices c.args.sink c.as_slice-rows.result.now)
     c.from_residual-in_err-check_reached.result c.in_err-check_reached.field-0.0 c.from_residual-in_err-check_reached.ensures.1
@@ -138,22 +124,11 @@ returns-in_err-new c =
 pub invariant_of-indexed : goal.invariant_of-indexed
 invariant_of-indexed c =
     let found = all_found (goal.at.invariant_of-indexed c).In_ok-check_reached in
-    let degrees = c.in_ok-counts.ensures.1.degrees in
-    let ins = c.in_ok-ins.ensures.ins in
-    let outs = c.in_ok-outs.ensures.lists in
-    rw (← c.as_slice-rows.ensures.value) (record {
-      graph = (rows_graph c.args.limits (made c.args.vertices c.args.sink c.as_slice-rows.result.now)
-          (accepted _ c.in_ok-check_sizes.ensures.first) c.in_ok-counts.ensures.0
-          c.in_ok-check_sizes.ensures.limits (all_reach _ c.in_ok-ins.distances.items found)).graph;
-      degree_each = degrees.one_each;
-      degrees = degrees.each;
-      distances = found;
-      outs_each = outs.one_each;
-      outs = outs.each;
-      ins_each = ins.one_each;
-      ins = ins.each;
-      linked = c.in_ok-outs.ensures.parts;
-    })
+    let fits = rows_graph c.args.limits (made c.args.vertices c.args.sink c.as_slice-rows.result.now)
+    (accepted _ c.in_ok-check_sizes.ensures.first) c.in_ok-counts.ensures.0
+    c.in_ok-check_sizes.ensures.limits (all_reach _ c.in_ok-ins.distances.items found) in
+    let degrees = c.in_ok-counts.ensures.1.degrees in let ins = c.in_ok-ins.ensures.ins in
+    let outs = c.in_ok-outs.ensures in rw (← c.as_slice-rows.ensures.value) (search rules)
 
 pub returns : goal.returns
 returns c = (

@@ -1,33 +1,16 @@
 -- Serves Counted.antt.
 -- Positions by counts: what flows in along a list of edges, that it fits 128 bits, and that no chip is lost.
-use Rattle.std.proofs.Common.{◌≡◌, ℕ, zero, suc, ◌+◌, ◌*◌, ◌^◌, ◌<◌, ◌≤◌, Bool, true, false, cond, eqb, List, length}
-use Rattle.std.proofs.Common.{take, sum, sum_by, get_or, slice_index, sym, ap, ◌∙◌, arith, suc-mul, mul-le-mul}
-use Rattle.std.proofs.Common.{mul-le-mul_right}
-use Rattle.std.proofs.lemmas.List.Sums.{sum_by_more_le}
-use Rattle.chip_graph.specs.Limits.{max_total}
-use Rattle.chip_graph.specs.Sums.{sum_below}
-use Rattle.chip_graph.specs.Multigraph.{Multigraph, IsGraph, edge_at, edges_in}
-use Rattle.chip_graph.specs.ChipGame.{ChipGame, IsGame}
-use Rattle.chip_graph.proofs.SumLemmas.{picked_sum, sum_below_ext, sum_below_term, sum_by_place}
-use Rattle.chip_graph.proofs.PickLemmas.{All-picked}
-use Rattle.chip_sequence.specs.Counted.{inflow, position_by_counts, IsBelowZero, IsAfter, game_from}
+use Rattle.chip_sequence.proofs.Names.{◌≡◌, ℕ, ◌+◌, ◌*◌, ◌^◌, ◌<◌, ◌≤◌, eqb, List, length, take, sum, sum_by, get_or}
+use Rattle.chip_sequence.proofs.Names.{slice_index, sym, ap, ◌∙◌, arith, mul-le-mul, sum_by_more_le, max_total}
+use Rattle.chip_sequence.proofs.Names.{sum_below, Multigraph, IsGraph, edge_at, edges_in, ChipGame, IsGame, picked_sum}
+use Rattle.chip_sequence.proofs.Names.{sum_below_ext, sum_below_term, All-picked, inflow, position_by_counts}
+use Rattle.chip_sequence.proofs.Names.{IsBelowZero, IsAfter, game_from}
+use Rattle.chip_graph.proofs.SumLemmas.{sum_by_place}
 use Rattle.chip_sequence.specs.Faults.{IsNegative}
 use Rattle.chip_sequence.specs.declared.counted.AfterFault.{AfterFault}
 use Rattle.chip_sequence.specs.declared.counted.AfterFault.TheVariants.{Negative, NoMemory}
 use Rattle.chip_sequence.proofs.BoundLemmas.{led_total}
-
--- terms that count where a test passes, each at most c
-pub sum_small : (n c : ℕ) (test : ℕ → Bool) (f : ℕ → ℕ) → ((e : ℕ) → e < n → f e ≤ c)
-    → sum_below n (λ e. cond (test e) (f e) 0) ≤ n * c
-sum_small zero c test f small = omega arith
-sum_small (suc n) c test f small =
-    let a = sum_small n c test f (λ e l. small e (omega arith)) in
-    let b = one (test n) (f n) (small n (omega arith)) in
-    omega (arith, suc-mul n c)
-  where
-    one : (b : Bool) (x : ℕ) → x ≤ c → cond b x 0 ≤ c
-    one true x l = l
-    one false x l = omega arith
+pub use Rattle.chip_graph.proofs.SumLemmas.{sum_small}
 
 module _ (G : Multigraph) (good : IsGraph G) (fired : List ℕ) (v : ℕ) where
   -- what an edge brings
@@ -44,24 +27,18 @@ module _ (G : Multigraph) (good : IsGraph G) (fired : List ℕ) (v : ℕ) where
 
   module _ (fits : (u : ℕ) → slice_index fired u < 2 ^ 64) where
     flow_small : (e : ℕ) → e < length G.edges → flow e ≤ 2 ^ 20 * 2 ^ 64
-    flow_small e l = mul-le-mul (good.edges_fit e l).few_chips (let a = fits (edge_at G e).tail in
-        let b : slice_index fired (edge_at G e).tail ≤ 2 ^ 64 = omega arith in b)
+    flow_small e l = mul-le-mul {m₂ = 2 ^ 64} (good.edges_fit e l).few_chips (omega (arith, fits (edge_at G e).tail))
 
     inflow_small : inflow G (slice_index fired) v ≤ 2 ^ 107
     inflow_small =
-        let a = sum_small (length G.edges) (2 ^ 20 * 2 ^ 64) (λ e. eqb (edge_at G e).head v) flow flow_small in
-        let b : length G.edges * (2 ^ 20 * 2 ^ 64) ≤ 2 ^ 23 * (2 ^ 20 * 2 ^ 64) =
-        mul-le-mul_right (2 ^ 20 * 2 ^ 64) good.few_edges in
-        omega arith
+        let few = good.few_edges in
+        omega (arith, sum_small (length G.edges) (2 ^ 20 * 2 ^ 64) (λ e. eqb (edge_at G e).head v) flow flow_small)
 
     -- the sum so far and the next edge's flow fit 128 bits
     pub flow_fits : (start had i : ℕ) → start < 2 ^ 64 → had ≡ start + sum_by flow (take i (edges_in G v))
         → i < length (edges_in G v) → had + flow (get_or (edges_in G v) i 0) < 2 ^ 128
     flow_fits start had i low is l =
-        let a = sum_by_more_le flow (edges_in G v) i 0 l in
-        let b = flow_sum in
-        let c = inflow_small in
-        omega arith
+        omega (arith, sum_by_more_le flow (edges_in G v) i 0 l, flow_sum, inflow_small)
 
 pub game_from_is : (G : Multigraph) (start : List ℕ) → IsGraph G → length start ≡ G.vertices → sum start ≤ max_total
     → IsGame (game_from G start 0)
@@ -83,8 +60,7 @@ module _ (g : ChipGame) (ok : IsGame g) (fired : List ℕ) (each : length fired 
 
   -- so no vertex has more
   pub then_few : (v : ℕ) → v < g.graph.vertices → chips_then v ≤ 2 ^ 40
-  then_few v l = let a = sum_below_term g.graph.vertices chips_then v l in let b = then_total in let c = ok.few_chips in
-      omega arith
+  then_few v l = omega (arith, sum_below_term g.graph.vertices chips_then v l, then_total, ok.few_chips)
 
   pub is_after : (chips : List ℕ) → length chips ≡ g.graph.vertices
       → ((v : ℕ) → v < g.graph.vertices → slice_index chips v ≡ chips_then v) → IsAfter g fired chips

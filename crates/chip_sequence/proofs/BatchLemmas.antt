@@ -1,19 +1,16 @@
 -- Serves Sequence.antt.
 -- Several firings of one vertex at once, on lists.
-use Rattle.std.proofs.Common.{◌≡◌, ◌≢◌, ℕ, ◌+◌, ◌-◌, ◌*◌, ◌/◌, ◌<◌, ◌≤◌, Bool, cond, eqb, List, [], ◌∷◌}
-use Rattle.std.proofs.Common.{length, map, take, sum, sum_by, get_or, set, replicate, All, refl, sym, ap, ◌∙◌, subst}
-use Rattle.std.proofs.Common.{arith, mul-add, mul_comm, mul-le-mul_left, get_or-set_same, get_or-set_other}
+use Rattle.chip_sequence.proofs.Names.{◌≡◌, ◌≢◌, ℕ, ◌+◌, ◌-◌, ◌*◌, ◌/◌, ◌<◌, ◌≤◌, cond, eqb, List, [], ◌∷◌, length}
+use Rattle.chip_sequence.proofs.Names.{take, sum, sum_by, get_or, replicate, All, refl, sym, ap, ◌∙◌, arith}
+use Rattle.chip_sequence.proofs.Names.{mul-le-mul_left, Multigraph, IsGraph, edge_at, degree, picked_sum, sum_below_ext}
+use Rattle.chip_sequence.proofs.Names.{All-picked, position_after, nat_tests}
+use Rattle.std.proofs.Common.{map, set, get_or-set_other}
 use Rattle.std.proofs.lemmas.List.Sums.{sum_by-cons, sum_by_more, sum_by-set}
 use Rattle.std.proofs.lemmas.List.Elements.{All-map}
-use mathlib.Core.Logic.{dite}
-use native.Mathlib.Decide.{ℕ_discrete}
 use Rattle.chip_graph.specs.declared.edge.Link.{Link}
-use Rattle.chip_graph.specs.Multigraph.{Multigraph, IsGraph, edge_at, link_of, edges_out, degree}
-use Rattle.chip_graph.proofs.SumLemmas.{cond_yes, cond_no, picked_sum, sum_below_ext}
-use Rattle.chip_graph.proofs.PickLemmas.{All-picked}
-use Rattle.chip_sequence.specs.Sequence.{position_after}
+use Rattle.chip_graph.specs.Multigraph.{link_of, edges_out}
 use Rattle.chip_sequence.proofs.FiringLemmas.{brings, batch_position}
-use Rattle.std.proofs.lemmas.Bool.Decides.{nat_tests}
+use Rattle.std.proofs.lemmas.Grind.{get_or-set_at}
 
 -- ---- along a list of links
 
@@ -36,41 +33,17 @@ module _ (links : List Link) (k : ℕ) (old now : List ℕ) (i : ℕ) (inside : 
       → get_or (set now (link_at links i).head chips_then) u 0 ≡ get_or old u 0 + k * sum_by (brought u)
       (take (i + 1) links)
   sent_each so_far u =
-      let h : ℕ = (link_at links i).head in
-      let more : k * sum_by (brought u) (take (i + 1) links)
-      ≡ k * (sum_by (brought u) (take i links) + brought u (link_at links i)) =
-      ap (λ (n : ℕ). k * n) (sum_by_more (brought u) links i (record { head = 0; mult = 0 }) inside) in
-      let apart = mul-add k (sum_by (brought u) (take i links)) (brought u (link_at links i)) in
-      let c = so_far u in
-      dite (ℕ_discrete h u)
-      (λ e.
-      let b : k * brought u (link_at links i) ≡ k * (link_at links i).mult =
-      ap (λ (n : ℕ). k * n) (cond_yes h u (link_at links i).mult 0 e) in
-      let d : get_or (set now h chips_then) u 0 ≡ chips_then =
-      subst (λ (w : ℕ). get_or (set now h chips_then) w 0 ≡ chips_then) e
-      (get_or-set_same now h chips_then 0 head_in) in
-      let f : get_or now h 0 ≡ get_or now u 0 = ap (λ (w : ℕ). get_or now w 0) e in
-      omega arith)
-      (λ ne.
-      let b : k * brought u (link_at links i) ≡ k * 0 =
-      ap (λ (n : ℕ). k * n) (cond_no h u (link_at links i).mult 0 ne) in
-      let d : get_or (set now h chips_then) u 0 ≡ get_or now u 0 =
-      get_or-set_other now h u chips_then 0 (λ z. ne (sym z)) in
-      omega arith)
+      let was = so_far u in
+      rw (sum_by_more (brought u) links i (record { head = 0; mult = 0 }) inside)
+      (grind (arith, nat_tests, get_or-set_at, get_or-set_other))
 
   -- and in all
   pub sent_all : sum now ≡ sum old + k * sum_by (λ (e : Link). e.mult) (take i links)
       → sum (set now (link_at links i).head chips_then) ≡ sum old + k * sum_by
       (λ (e : Link). e.mult) (take (i + 1) links)
   sent_all so_far =
-      let h : ℕ = (link_at links i).head in
-      let more : k * sum_by (λ (e : Link). e.mult) (take (i + 1) links)
-      ≡ k * (sum_by (λ (e : Link). e.mult) (take i links) + (link_at links i).mult) =
-      ap (λ (n : ℕ). k * n) (sum_by_more (λ (e : Link). e.mult) links i (record { head = 0; mult = 0 })
-      inside) in
-      let apart = mul-add k (sum_by (λ (e : Link). e.mult) (take i links)) (link_at links i).mult in
-      let a = sum_by-set (λ (n : ℕ). n) now h chips_then 0 head_in in
-      omega arith
+      rw (sum_by_more (λ (e : Link). e.mult) links i (record { head = 0; mult = 0 }) inside)
+      (omega (arith, sum_by-set (λ (n : ℕ). n) now (link_at links i).head chips_then 0 head_in))
 
 -- ---- along the edges out of a vertex
 
@@ -90,19 +63,15 @@ module _ (G : Multigraph) (good : IsGraph G) (v : ℕ) where
       (λ e. eqb (edge_at G e).tail v) (length G.edges) (length G.edges) (omega arith) k d l)).head_is_vertex)
 
   pub links_degree : sum_by (λ (e : Link). e.mult) links_of ≡ degree G v
-  links_degree = sum_by-map (λ (e : Link). e.mult) (λ e. link_of (edge_at G e)) (edges_out G v) ∙ picked_sum (λ e. (edge_at G e).mult)
-      (λ e. eqb (edge_at G e).tail v) (length G.edges)
+  links_degree = sum_by-map (λ (e : Link). e.mult) (λ e. link_of (edge_at G e)) (edges_out G v)
+      ∙ picked_sum (λ e. (edge_at G e).mult) (λ e. eqb (edge_at G e).tail v) (length G.edges)
 
   pub links_bring : (u : ℕ) → sum_by (brought u) links_of ≡ brings G v u
   unfolding brings
   links_bring u =
       sum_by-map (brought u) (λ e. link_of (edge_at G e)) (edges_out G v)
       ∙ picked_sum (λ e. brought u (link_of (edge_at G e))) (λ e. eqb (edge_at G e).tail v) (length G.edges)
-      ∙ sum_below_ext (length G.edges) _ _
-      (λ e l. one (eqb (edge_at G e).tail v) (eqb (edge_at G e).head u) (edge_at G e).mult)
-    where
-      one : (a b : Bool) (m : ℕ) → cond a (cond b m 0) 0 ≡ cond b (cond a m 0) 0
-      one a b m = grind (arith, nat_tests)
+      ∙ sum_below_ext (length G.edges) _ _ (λ e l. grind (arith, nat_tests))
 
   -- ---- a batch
 
@@ -127,25 +96,12 @@ module _ (G : Multigraph) (good : IsGraph G) (v : ℕ) where
         → ((u : ℕ) → get_or now u 0 ≡ get_or taken u 0 + k * sum_by (brought u) links_of) → (u : ℕ)
         → get_or now u 0 ≡ position_after G (λ w. get_or old w 0) (replicate k v) u
     batch_fired other now sent u =
-        let a = sent u in
+        let a = rw (links_bring u) at (sent u) in
         let b = batch_position G v k (λ w. get_or old w 0) is_vertex other can u in
-        let c : k * sum_by (brought u) links_of ≡ brings G v u * k = ap (λ (n : ℕ). k * n) (links_bring u)
-        ∙ mul_comm k (brings G v u) in
-        dite (ℕ_discrete u v)
-        (λ same.
-        let d : get_or taken u 0 ≡ get_or old v 0 - k * degree G v = ap (λ (w : ℕ). get_or taken w 0) same
-        ∙ get_or-set_same old v (get_or old v 0 - k * degree G v) 0 inside in
-        let e = cond_yes u v (get_or old u 0 - k * degree G v) (get_or old u 0) same in
-        let f : get_or old u 0 ≡ get_or old v 0 = ap (λ (w : ℕ). get_or old w 0) same in
-        omega arith)
-        (λ ne.
-        let d : get_or taken u 0 ≡ get_or old u 0 = get_or-set_other old v u (get_or old v 0 - k * degree G v) 0 ne in
-        let e = cond_no u v (get_or old u 0 - k * degree G v) (get_or old u 0) ne in
-        omega arith)
+        let within = inside in grind (arith, nat_tests, get_or-set_at, get_or-set_other)
 
 -- ---- quotients
 
 -- a number above the quotient asks for more than there is
 pub above_quotient : (x d k : ℕ) → 0 < d → x / d < k → x < k * d
-above_quotient x d k some above = let a = mul-le-mul_left d (let h : x / d + 1 ≤ k = omega arith in h) in let b =
-    mul-add d (x / d) 1 in let c = mul_comm d k in omega arith
+above_quotient x d k some above = omega (arith, mul-le-mul_left d above)

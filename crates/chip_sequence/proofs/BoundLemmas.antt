@@ -1,18 +1,15 @@
 -- Serves Sequence.antt, Bound.antt.
 -- Chips are kept, no vertex fires more often than the bound of its distance, and the search for the greatest distance.
-use Rattle.std.proofs.Common.{◌≡◌, ◌≢◌, ℕ, zero, suc, ◌+◌, ◌-◌, ◌*◌, ◌<◌, ◌≤◌, cond, eqb, List, [], ◌∷◌, ◌++◌, length}
-use Rattle.std.proofs.Common.{max, refl, sym, ap, ◌∙◌, subst, arith, eq-eqb, mul-le-mul, mul-le-mul_left, suc-mul}
-use Rattle.std.proofs.Common.{mul_comm, ◌^◌}
-use mathlib.Core.Logic.{dite}
-use native.Mathlib.Decide.{ℕ_discrete, dec_lt, dec_le}
-use Rattle.chip_graph.specs.Sums.{sum_below}
-use Rattle.chip_graph.specs.Multigraph.{Multigraph, edge_at, sum_out, degree, IsWalk, IsDistance, IsGraph}
-use Rattle.chip_graph.proofs.SumLemmas.{sum_below_ext, sum_below_add, sum_below_term, sum_below_by_place, tested_ext}
-use Rattle.chip_graph.proofs.SumLemmas.{tested_scale, tested_term}
-use Rattle.chip_sequence.specs.Firing.{IsLegal}
-use Rattle.chip_sequence.specs.Sequence.{position_after, IsFiringSequence, counts, HasEnded, IsWholePlay}
-use Rattle.chip_sequence.specs.Counted.{inflow}
-use Rattle.chip_sequence.specs.Bound.{greatest_below, greatest_degree, firing_bound, IsGreatestDistance}
+use Rattle.chip_sequence.proofs.Names.{◌≡◌, ◌≢◌, ℕ, zero, suc, ◌+◌, ◌*◌, ◌<◌, ◌≤◌, eqb, List, [], ◌∷◌, ◌++◌, length}
+use Rattle.chip_sequence.proofs.Names.{refl, sym, ap, ◌∙◌, arith, eq-eqb, mul-le-mul, mul-le-mul_left, mul-le-mul_right}
+use Rattle.chip_sequence.proofs.Names.{◌^◌, nat_tests, dite, ℕ_discrete, dec_lt, dec_le, sum_below, Multigraph, edge_at}
+use Rattle.chip_sequence.proofs.Names.{degree, IsWalk, IsGraph, sum_below_ext, sum_below_term, tested_ext, tested_scale}
+use Rattle.chip_sequence.proofs.Names.{tested_term, IsLegal, position_after, IsFiringSequence, counts, HasEnded}
+use Rattle.chip_sequence.proofs.Names.{IsWholePlay, inflow, greatest_below, firing_bound}
+use Rattle.std.proofs.Common.{max, eqb-true}
+use Rattle.chip_graph.specs.Multigraph.{sum_out, IsDistance}
+use Rattle.chip_graph.proofs.SumLemmas.{sum_below_add, sum_below_by_place}
+use Rattle.chip_sequence.specs.Bound.{greatest_degree, IsGreatestDistance}
 use Rattle.chip_sequence.proofs.FiringLemmas.{counts-append, counts_here, counts_outside, sink_never, position_is}
 use Rattle.chip_sequence.proofs.FiringLemmas.{sequence-append}
 use Rattle.chip_sequence.proofs.EndLemmas.{continued, one_end}
@@ -21,16 +18,14 @@ use Rattle.chip_graph.proofs.WalksLemmas.{degree_positive}
 -- a number of the list is at most the greatest
 pub greatest_below_is : (n : ℕ) (f : ℕ → ℕ) (v : ℕ) → v < n → f v ≤ greatest_below n f
 greatest_below_is zero f v l = absurd (omega arith)
-greatest_below_is (suc n) f v l = dite (ℕ_discrete v n)
-    (λ same. let a : f v ≡ f n = ap f same in omega arith)
-    (λ other. let a = greatest_below_is n f v (omega arith) in omega arith)
+greatest_below_is (suc n) f v l = let rest = greatest_below_is n f v in grind (arith, nat_tests)
 
 -- a greater distance has a greater bound
 pub bound_more : (total most i j : ℕ) → i ≤ j → firing_bound total most i ≤ firing_bound total most j
 bound_more total most zero j l = omega arith
 bound_more total most (suc i) zero l = absurd (omega arith)
-bound_more total most (suc i) (suc j) l = let a = mul-le-mul_left most (bound_more total most i j (omega arith)) in
-    omega arith
+bound_more total most (suc i) (suc j) l =
+    omega (arith, mul-le-mul_left most (bound_more total most i j (omega arith)))
 
 module _ (G : Multigraph) (good : IsGraph G) where
   -- ---- no chip is lost
@@ -38,22 +33,15 @@ module _ (G : Multigraph) (good : IsGraph G) where
   -- along all edges there flows as much in as out: what flows into the vertices is what their firings take away
   pub flows_through : (f : ℕ → ℕ) → sum_below G.vertices (inflow G f) ≡ sum_below G.vertices (λ u. degree G u * f u)
   flows_through f =
-      let all : ℕ = sum_below (length G.edges) (λ e. (edge_at G e).mult * f (edge_at G e).tail) in
-      let a : sum_below G.vertices (inflow G f) ≡ all = sum_below_by_place G.vertices (length G.edges)
-      (λ e. (edge_at G e).mult * f (edge_at G e).tail) (λ e. (edge_at G e).head)
-      (λ e l. (good.edges_fit e l).head_is_vertex) in
-      let b : sum_below G.vertices (λ u. sum_out G u (λ e. (edge_at G e).mult * f (edge_at G e).tail)) ≡ all =
-      sum_below_by_place G.vertices (length G.edges) (λ e. (edge_at G e).mult * f (edge_at G e).tail)
-      (λ e. (edge_at G e).tail) (λ e l. (good.edges_fit e l).tail_is_vertex) in
-      let c : sum_below G.vertices (λ u. sum_out G u (λ e. (edge_at G e).mult * f (edge_at G e).tail))
-      ≡ sum_below G.vertices (λ u. degree G u * f u) =
-      sum_below_ext G.vertices _ _
-      (λ u l. tested_ext (length G.edges) (λ e. eqb (edge_at G e).tail u)
-      (λ e. (edge_at G e).mult * f (edge_at G e).tail) (λ e. (edge_at G e).mult * f u)
-      (λ e m on. ap
-      (λ (w : ℕ). (edge_at G e).mult * f w) (Rattle.std.proofs.Common.eqb-true (edge_at G e).tail u on))
-      ∙ tested_scale (length G.edges) (λ e. eqb (edge_at G e).tail u) (f u) (λ e. (edge_at G e).mult)) in
-      a ∙ sym b ∙ c
+      let flow : ℕ → ℕ = λ e. (edge_at G e).mult * f (edge_at G e).tail in
+      sum_below_by_place G.vertices (length G.edges) flow (λ e. (edge_at G e).head)
+      (λ e l. (good.edges_fit e l).head_is_vertex)
+      ∙ sym (sum_below_by_place G.vertices (length G.edges) flow (λ e. (edge_at G e).tail)
+      (λ e l. (good.edges_fit e l).tail_is_vertex))
+      ∙ sum_below_ext G.vertices (λ u. sum_out G u flow) _
+      (λ u l. tested_ext (length G.edges) (λ e. eqb (edge_at G e).tail u) flow (λ e. (edge_at G e).mult * f u)
+      (λ e m on. ap (λ (w : ℕ). (edge_at G e).mult * f w) (eqb-true (edge_at G e).tail u on))
+      ∙ tested_scale (length G.edges) (λ e. eqb (edge_at G e).tail u) (f u) (λ e. (edge_at G e).mult))
 
   -- counts lead to a position with as many chips
   pub led_total : (x f y : ℕ → ℕ) → ((u : ℕ) → u < G.vertices → y u + degree G u * f u ≡ x u + inflow G f u)
@@ -61,10 +49,8 @@ module _ (G : Multigraph) (good : IsGraph G) where
   led_total x f y to =
       let a = sum_below_add G.vertices y (λ u. degree G u * f u) in
       let b = sum_below_add G.vertices x (inflow G f) in
-      let c : sum_below G.vertices (λ u. y u + degree G u * f u) ≡ sum_below G.vertices (λ u. x u + inflow G f u) =
-      sum_below_ext G.vertices _ _ to in
-      let d = flows_through f in
-      omega arith
+      let c = sum_below_ext G.vertices (λ u. y u + degree G u * f u) (λ u. x u + inflow G f u) to in
+      omega (arith, flows_through f)
 
   pub chips_are_kept : (x : ℕ → ℕ) (vs : List ℕ) → IsFiringSequence G x vs
       → sum_below G.vertices (position_after G x vs) ≡ sum_below G.vertices x
@@ -72,37 +58,26 @@ module _ (G : Multigraph) (good : IsGraph G) where
 
   -- ---- the bound
 
-  one_of : (k d : ℕ) → 0 < k → d ≤ k * d
-  one_of zero d l = absurd (omega arith)
-  one_of (suc k) d l = omega (arith, suc-mul k d)
-
   -- a vertex with a walk to the sink fires at most as often as the bound of its length says: each of its firings sends
   -- a chip to the walk's next vertex, which holds at most all chips and sends on what it gets
   pub bound_of_walk : (x : ℕ → ℕ) (vs : List ℕ) → IsFiringSequence G x vs → (es : List ℕ) (v : ℕ) → IsWalk G v es G.sink
       → counts vs v ≤ firing_bound (sum_below G.vertices x) (greatest_degree G) (length es)
-  bound_of_walk x vs ok [] v is = subst (λ (w : ℕ). counts vs w ≤ 0) (sym is) (let a = sink_never G vs x ok in
-      omega arith)
+  bound_of_walk x vs ok [] v is = rw is (omega (arith, sink_never G vs x ok))
   bound_of_walk x vs ok (e ∷ es) v way =
       let u : ℕ = (edge_at G e).head in
       let inside = good.edges_fit e way.0 in
       let ih = bound_of_walk x vs ok es u way.2 in
-      let here : (edge_at G e).mult * counts vs (edge_at G e).tail ≤ inflow G (counts vs) u =
-      tested_term (length G.edges) (λ i. eqb (edge_at G i).head u)
+      let here = tested_term (length G.edges) (λ i. eqb (edge_at G i).head u)
       (λ i. (edge_at G i).mult * counts vs (edge_at G i).tail) e way.0 (eq-eqb u u refl) in
-      let once = one_of (edge_at G e).mult (counts vs (edge_at G e).tail) inside.some_chips in
-      let is = position_is G vs x ok u in
-      let all = chips_are_kept x vs ok in
+      let once = mul-le-mul_right (counts vs (edge_at G e).tail) inside.some_chips in
       let mine = sum_below_term G.vertices (position_after G x vs) u inside.head_is_vertex in
       let out = mul-le-mul (greatest_below_is G.vertices (degree G) u inside.head_is_vertex) ih in
-      let same : counts vs (edge_at G e).tail ≡ counts vs v = ap (counts vs) way.1 in
-      omega arith
+      omega (arith, position_is G vs x ok u, chips_are_kept x vs ok, ap (counts vs) way.1)
 
   pub bound_law : (x : ℕ → ℕ) (v distance : ℕ) → IsDistance G v distance → (vs : List ℕ) → IsFiringSequence G x vs
       → counts vs v ≤ firing_bound (sum_below G.vertices x) (greatest_degree G) distance
   bound_law x v distance is vs ok =
-      let way = is.reached in
-      subst (λ (n : ℕ). counts vs v ≤ firing_bound (sum_below G.vertices x) (greatest_degree G) n) way.2
-      (bound_of_walk x vs ok way.0 v way.1)
+      let way = is.reached in rw (← way.2) (bound_of_walk x vs ok way.0 v way.1)
 
   -- ---- where the limit is enough
 
@@ -117,25 +92,20 @@ module _ (G : Multigraph) (good : IsGraph G) where
     below_top vs ok v = dite (dec_lt v G.vertices)
         (λ l.
         let way = near v l in
-        let a = bound_of_walk x vs ok way.0 v way.1 in
         let b = bound_more (sum_below G.vertices x) (greatest_degree G) (length way.0) distance way.2 in
-        omega arith)
-        (λ nl. let a = counts_outside G vs x v ok (omega arith) in omega arith)
+        omega (arith, bound_of_walk x vs ok way.0 v way.1))
+        (λ nl. omega (arith, counts_outside G vs x v ok (omega arith)))
 
     -- who is legal has fired less often
     pub legal_below_top : (vs : List ℕ) → IsFiringSequence G x vs → (v : ℕ) → IsLegal G (position_after G x vs) v
         → counts vs v < top
     legal_below_top vs ok v can =
         let a = below_top (vs ++ v ∷ []) (sequence-append G vs (v ∷ []) x ok (can, tt)) v in
-        let b = counts-append vs (v ∷ []) v in
-        let c = counts_here v v [] refl in
-        omega arith
+        omega (arith, counts-append vs (v ∷ []) v, counts_here v v [] refl)
 
     pub enough_law : (limit : ℕ) → top ≤ limit → (vs : List ℕ) → IsWholePlay G x limit vs → HasEnded G x vs
     enough_law limit low vs play v can =
-        let a = legal_below_top vs play.sequence v can in
-        let b = play.ended v can in
-        absurd (omega arith)
+        absurd (omega (arith, legal_below_top vs play.sequence v can, play.ended v can))
 
   -- some number of edges that no vertex is further away than
   some_distance : (n : ℕ) → n ≤ G.vertices → (distance : ℕ)
@@ -146,7 +116,7 @@ module _ (G : Multigraph) (good : IsGraph G) where
       let way = good.all_reach n (omega arith) in (
         below.0 + length way.0,
         λ v m. dite (ℕ_discrete v n)
-            (λ same. (way.0, subst (λ (w : ℕ). IsWalk G w way.0 G.sink) (sym same) way.1, omega arith))
+            (λ same. (way.0, rw same way.1, omega arith))
             (λ other. (let rest = below.1 v (omega arith) in (rest.0, rest.1, (let a = rest.2 in omega arith)))),
       )
 
@@ -194,23 +164,14 @@ greatest_none G inside = record {
 -- one vertex more
 pub greatest_more : (G : Multigraph) (n distance d : ℕ) → n < G.vertices → IsGreatestBelow G n distance
     → IsDistance G n d → IsGreatestBelow G (n + 1) (max distance d)
-greatest_more G n distance d inside so_far is = dite (dec_le d distance)
-    (λ near.
-    subst (IsGreatestBelow G (n + 1)) (let a : distance ≡ max distance d = omega arith in a) (record {
-      reached = so_far.reached;
-      greatest = λ v l. dite (ℕ_discrete v n)
-          (λ same. subst (λ (w : ℕ). (es : List ℕ) × IsWalk G w es G.sink × (length es ≤ distance)) (sym same)
-          (is.reached.0, is.reached.1, (let a = is.reached.2 in omega arith)))
-          (λ other. so_far.greatest v (omega arith));
-    }))
-    (λ far.
-    subst (IsGreatestBelow G (n + 1)) (let a : d ≡ max distance d = omega arith in a) (record {
-      reached = (n, inside, is);
-      greatest = λ v l. dite (ℕ_discrete v n)
-          (λ same. subst (λ (w : ℕ). (es : List ℕ) × IsWalk G w es G.sink × (length es ≤ d)) (sym same)
-          (is.reached.0, is.reached.1, (let a = is.reached.2 in omega arith)))
-          (λ other. (let way = so_far.greatest v (omega arith) in (way.0, way.1, (let a = way.2 in omega arith))));
-    }))
+greatest_more G n distance d inside so_far is = record {
+  reached = dite (dec_le d distance)
+      (λ near. let most : max distance d ≡ distance = omega arith in rw most so_far.reached)
+      (λ far. let most : max distance d ≡ d = omega arith in rw most (n, inside, is));
+  greatest = λ v l. dite (ℕ_discrete v n)
+      (λ same. rw same (is.reached.0, is.reached.1, (let a = is.reached.2 in omega arith)))
+      (λ other. (let way = so_far.greatest v (omega arith) in (way.0, way.1, (let a = way.2 in omega arith))));
+}
 
 -- all vertices
 pub greatest_all : (G : Multigraph) (n distance : ℕ) → n ≡ G.vertices → IsGreatestBelow G n distance
@@ -223,5 +184,4 @@ pub too_far : (total most now i distance : ℕ) → now ≡ firing_bound total m
     → (total + most * now ≤ 2 ^ 40 → ⊥) → firing_bound total most distance ≤ 2 ^ 40 → ⊥
 too_far total most now i distance is further above low =
     let a = bound_more total most (suc i) distance (omega arith) in
-    let b : most * now ≡ most * firing_bound total most i = ap (λ (n : ℕ). most * n) is in
-    above (omega arith)
+    above (omega (arith, ap (λ (n : ℕ). most * n) is))

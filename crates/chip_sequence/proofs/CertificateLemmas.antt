@@ -1,25 +1,19 @@
 -- Serves Certificate.antt, Sequence.antt, Firing.antt.
 -- Counts that are forced by a certificate, on the way, or because a sequence could be played last.
-use Rattle.std.proofs.Common.{◌≡◌, ℕ, zero, suc, ◌+◌, ◌-◌, ◌*◌, ◌<◌, ◌≤◌, eqb, List, [], ◌∷◌, length, slice_index, refl}
-use Rattle.std.proofs.Common.{sym, ap, ◌∙◌, subst, arith, eq-eqb, mul-add, mul-zero, mul-le-mul_right, cond, mul_comm}
-use Rattle.std.proofs.Common.{mul_assoc, suc-mul, mul-le-mul_left}
+use Rattle.chip_sequence.proofs.Names.{◌≡◌, ℕ, zero, suc, ◌+◌, ◌-◌, ◌*◌, ◌<◌, ◌≤◌, eqb, List, [], ◌∷◌, length}
+use Rattle.chip_sequence.proofs.Names.{slice_index, refl, ap, ◌∙◌, arith, eq-eqb, mul-le-mul_right, cond, Bool}
+use Rattle.chip_sequence.proofs.Names.{mul-le-mul_left, rules, dite, ℕ_discrete, dec_lt, sum_below, Multigraph, edge_at}
+use Rattle.chip_sequence.proofs.Names.{degree, IsWalk, IsGraph, ChipGame, IsGame, tested_ext, tested_add, tested_term}
+use Rattle.chip_sequence.proofs.Names.{tested_scale, IsLegal, fired_once, position_after, IsFiringSequence, counts}
+use Rattle.chip_sequence.proofs.Names.{IsWholePlay, HasEndedWithin, inflow, IsAfter, AreForced, nat_tests}
+use Rattle.std.proofs.Common.{mul-zero, mul_comm}
 use Rattle.std.proofs.lemmas.List.{get_or_past}
-use mathlib.Core.Logic.{dite}
-use native.Mathlib.Decide.{ℕ_discrete, dec_lt}
-use Rattle.chip_graph.specs.Sums.{sum_below}
-use Rattle.chip_graph.specs.Multigraph.{Multigraph, edge_at, degree, IsWalk, IsGraph}
-use Rattle.chip_graph.specs.ChipGame.{ChipGame, IsGame}
-use Rattle.chip_graph.proofs.SumLemmas.{cond_no, sum_below_le, sum_below_none, tested_ext, tested_add, tested_term}
-use Rattle.chip_graph.proofs.SumLemmas.{tested_scale}
-use Rattle.chip_sequence.specs.Firing.{IsLegal, fired_once}
-use Rattle.chip_sequence.specs.Sequence.{position_after, IsFiringSequence, counts, IsWholePlay, HasEndedWithin}
-use Rattle.chip_sequence.specs.Counted.{inflow, IsAfter}
-use Rattle.chip_sequence.specs.Certificate.{AreForced, IsEarned, IsCertified, IsOnTheWay, IsScript}
+use Rattle.chip_graph.proofs.SumLemmas.{sum_below_le, sum_below_none}
+use Rattle.chip_sequence.specs.Certificate.{IsEarned, IsCertified, IsOnTheWay, IsScript}
 use Rattle.chip_sequence.proofs.FiringLemmas.{inflow_le, inflow_none, IsLedTo, led_once, position_is, counts_here}
 use Rattle.chip_sequence.proofs.FiringLemmas.{counts_more, led_on}
 use Rattle.chip_sequence.proofs.EndLemmas.{least_from, least}
 use Rattle.chip_sequence.proofs.BoundLemmas.{flows_through}
-use Rattle.std.proofs.lemmas.Bool.Decides.{nat_tests}
 
 -- ---- sums
 
@@ -30,34 +24,20 @@ sum_below_tight zero f h p s e l = absurd (omega arith)
 sum_below_tight (suc n) f h p s e l =
     let a = sum_below_le n f h (λ i m. p i (omega arith)) in
     let b = p n (omega arith) in
-    dite (ℕ_discrete e n)
-    (λ same. subst (λ (i : ℕ). h i ≤ f i) (sym same) (omega arith))
+    dite (ℕ_discrete e n) (λ same. rw same (omega arith))
     (λ other. sum_below_tight n f h (λ i m. p i (omega arith)) (omega arith) e (omega arith))
 
 -- what is 0 in one factor brings nothing
 nothing_times : (d w : ℕ) → w ≡ 0 → d * w ≡ 0
 nothing_times d w e = ap (λ (n : ℕ). d * n) e ∙ mul-zero d
 
--- a vertex that has earned by g what it has not fired by u: where it is not legal by u, it takes no more away by what
--- is missing than flows in by it
-missing : (d g u w chips start in_g in_u in_w : ℕ) → g ≡ u + w → d * (g + 1) ≤ start + in_g + 1
-    → chips + d * u ≡ start + in_u → chips < d → in_g ≤ in_u + in_w → d * w ≤ in_w
-missing d g u w chips start in_g in_u in_w split earned is short flows =
-    let a : d * (g + 1) ≡ d * (u + w + 1) = ap (λ (n : ℕ). d * (n + 1)) split in
-    let b = mul-add d (u + w) 1 in
-    let c = mul-add d u w in
-    omega arith
-
 module _ (G : Multigraph) where
   -- what flows in by two counts together
   pub inflow_add : (f h : ℕ → ℕ) (u : ℕ) → inflow G (λ z. f z + h z) u ≡ inflow G f u + inflow G h u
   inflow_add f h u =
-      tested_ext _ (λ e. eqb (edge_at G e).head u)
-      (λ e. (edge_at G e).mult * (f (edge_at G e).tail + h (edge_at G e).tail))
-      (λ e. (edge_at G e).mult * f (edge_at G e).tail + (edge_at G e).mult * h (edge_at G e).tail)
-      (λ e l on. mul-add (edge_at G e).mult (f (edge_at G e).tail) (h (edge_at G e).tail))
-      ∙ tested_add _ (λ e. eqb (edge_at G e).head u) (λ e. (edge_at G e).mult * f (edge_at G e).tail)
-      (λ e. (edge_at G e).mult * h (edge_at G e).tail)
+      let into : ℕ → Bool = λ e. eqb (edge_at G e).head u in
+      tested_ext _ into _ (λ e. (edge_at G e).mult * f (edge_at G e).tail + (edge_at G e).mult * h (edge_at G e).tail)
+      (λ e l on. omega arith) ∙ tested_add _ into _ _
 
   -- ---- a certificate
 
@@ -71,26 +51,19 @@ module _ (G : Multigraph) where
 
       -- the head of an edge fires where its tail does
       onward : (e : ℕ) → e < length G.edges → 0 < w (edge_at G e).tail → 0 < w (edge_at G e).head
-      onward e l some = dite (dec_lt 0 (w (edge_at G e).head))
-          (λ m. m)
-          (λ none.
+      onward e l some = dite (dec_lt 0 (w (edge_at G e).head)) (λ m. m) (λ none.
           let edge = good.edges_fit e l in
           let a = balanced (edge_at G e).head edge.head_is_vertex in
           let b = nothing_times (degree G (edge_at G e).head) (w (edge_at G e).head) (omega arith) in
-          let c : (edge_at G e).mult * w (edge_at G e).tail ≤ inflow G w (edge_at G e).head =
-          tested_term (length G.edges) (λ i. eqb (edge_at G i).head (edge_at G e).head)
+          let c = tested_term (length G.edges) (λ i. eqb (edge_at G i).head (edge_at G e).head)
           (λ i. (edge_at G i).mult * w (edge_at G i).tail) e l
           (eq-eqb (edge_at G e).head (edge_at G e).head refl) in
-          let d : 1 * w (edge_at G e).tail ≤ (edge_at G e).mult * w (edge_at G e).tail =
-          mul-le-mul_right (w (edge_at G e).tail) (let k = edge.some_chips in
-          let k' : 1 ≤ (edge_at G e).mult = omega arith in k') in
-          absurd (omega arith))
+          absurd (omega (arith, mul-le-mul_right (w (edge_at G e).tail) edge.some_chips)))
 
       -- so the sink does, where a walk leads to it
       onward_to_sink : (es : List ℕ) (v : ℕ) → IsWalk G v es G.sink → 0 < w v → 0 < w G.sink
-      onward_to_sink [] v is some = subst (λ (u : ℕ). 0 < w u) is some
-      onward_to_sink (e ∷ es) v way some =
-          onward_to_sink es (edge_at G e).head way.2 (onward e way.0 (subst (λ (u : ℕ). 0 < w u) (sym way.1) some))
+      onward_to_sink [] v is some = rw is at some
+      onward_to_sink (e ∷ es) v way some = onward_to_sink es (edge_at G e).head way.2 (onward e way.0 (rw way.1 some))
 
     module _ (x : ℕ → ℕ) (limit : ℕ) (f g : ℕ → ℕ) (forced : AreForced G x limit f)
         (certified : IsCertified G x limit f g) where
@@ -113,16 +86,16 @@ module _ (G : Multigraph) where
               let within = why.within in
               let not_legal : position_after G x vs v < degree G v =
               dite (dec_lt (position_after G x vs v) (degree G v)) (λ short. short)
-              (λ enough. let full = ended v (record {
-                is_vertex = l;
-                not_sink = why.not_sink;
-                enough_chips = omega arith;
-              }) in absurd (omega arith)) in
-              missing (degree G v) (g v) (counts vs v) (g v - counts vs v) (position_after G x vs v) (x v)
-              (inflow G g v) (inflow G (counts vs) v) (inflow G (λ w. g w - counts vs w) v)
-              (omega arith) why.one_missing (position_is G vs x ok v) not_legal
-              (let a = inflow_le G g (λ w. counts vs w + (g w - counts vs w)) (λ w. omega arith) v in
-              let b = inflow_add (counts vs) (λ w. g w - counts vs w) v in omega arith))
+              (λ enough. let other = why.not_sink in absurd (omega (arith, ended v (search (rules, arith))))) in
+              let split : g v ≡ counts vs v + (g v - counts vs v) = omega arith in
+              let come = inflow_le G g (λ w. counts vs w + (g w - counts vs w)) (λ w. omega arith) v in
+              omega (
+                arith,
+                ap (λ (n : ℕ). degree G v * n) split,
+                why.one_missing,
+                position_is G vs x ok v,
+                inflow_add (counts vs) (λ w. g w - counts vs w) v,
+              ))
               (λ enough. let a = nothing_times (degree G v) (g v - counts vs v) (omega arith) in omega arith)
 
   -- ---- on the way
@@ -135,8 +108,8 @@ module _ (G : Multigraph) where
     -- who has been led there by forced counts is on the way
     pub on_the_way : (y f : ℕ → ℕ) → IsLedTo G x f y → AreForced G x limit f → IsOnTheWay G x limit y f
     on_the_way y f to forced = record {
-      none_below = λ u low. (let a = to u in absurd (omega arith));
-      position = λ u. (let a = to u in omega arith);
+      none_below = λ u low. absurd (omega (arith, to u));
+      position = λ u. omega (arith, to u);
       forced = forced;
     }
 
@@ -144,9 +117,7 @@ module _ (G : Multigraph) where
     pub same_way : (y f y' f' : ℕ → ℕ) → IsOnTheWay G x limit y f → ((u : ℕ) → y' u ≡ y u) → ((u : ℕ) → f' u ≡ f u)
         → IsOnTheWay G x limit y' f'
     same_way y f y' f' is same same' =
-        let here : y ≡ y' = (λ i u. sym (same u) i) in
-        let here' : f ≡ f' = (λ i u. sym (same' u) i) in
-        subst (λ (z : ℕ → ℕ). IsOnTheWay G x limit z f') here (subst (IsOnTheWay G x limit y) here' is)
+        let here : y' ≡ y = (λ i u. same u i) in let here' : f' ≡ f = (λ i u. same' u i) in rw (here, here') is
 
     -- nothing is forced
     pub none_forced : AreForced G x limit (λ v. 0)
@@ -155,29 +126,23 @@ module _ (G : Multigraph) where
     -- the start is on the way
     pub start_on_the_way : IsOnTheWay G x limit x (λ v. 0)
     start_on_the_way =
-        on_the_way x (λ v. 0)
-        (λ u. (let a = inflow_none G (λ v. 0) (λ v. refl) u in let b = mul-zero (degree G u) in omega arith))
-        none_forced
+        on_the_way x (λ v. 0) (λ u. omega (arith, inflow_none G (λ v. 0) (λ v. refl) u)) none_forced
 
     module _ (y f : ℕ → ℕ) (is : IsOnTheWay G x limit y f) where
       pub playing_on : (vs : List ℕ) → IsFiringSequence G y vs → ((u : ℕ) → f u + counts vs u ≤ limit)
           → IsOnTheWay G x limit (position_after G y vs) (λ u. f u + counts vs u)
       playing_on vs ok within = on_the_way (position_after G y vs) (λ u. f u + counts vs u)
-          (λ u.
-          let a = led y f is u in
-          let b = position_is G vs y ok u in
-          let c = inflow_add f (counts vs) u in
-          let d = mul-add (degree G u) (f u) (counts vs u) in
-          omega arith)
+          (λ u. omega (arith, led y f is u, position_is G vs y ok u, inflow_add f (counts vs) u))
           (λ ws ws_ok ws_ended. least_from G x limit (counts ws) (position_after G x ws) (position_is G ws x ws_ok)
           ws_ended vs f y (led y f is) (is.forced ws ws_ok ws_ended) ok within)
 
       module _ (rests : (v : ℕ) → IsLegal G y v → f v ≡ limit) (vs : List ℕ) (play : IsWholePlay G x limit vs) where
         end_counts : (u : ℕ) → f u ≡ counts vs u
-        end_counts u =
-            let a = is.forced vs play.sequence play.ended u in
-            let b = least G x limit f y (led y f is) rests vs play.sequence play.within u in
-            omega arith
+        end_counts u = omega (
+          arith,
+          is.forced vs play.sequence play.ended u,
+          least G x limit f y (led y f is) rests vs play.sequence play.within u,
+        )
 
         pub end_of_the_way : ((u : ℕ) → f u ≡ counts vs u) × ((u : ℕ) → y u ≡ position_after G x vs u)
         end_of_the_way = (
@@ -190,10 +155,8 @@ module _ (G : Multigraph) where
 
 -- nothing flows in where no vertex is
 pub inflow_outside : (G : Multigraph) → IsGraph G → (f : ℕ → ℕ) (u : ℕ) → G.vertices ≤ u → inflow G f u ≡ 0
-inflow_outside G good f u past =
-    sum_below_none (length G.edges) _
-    (λ e l. cond_no (edge_at G e).head u _ 0
-    (λ same. (let a = (good.edges_fit e l).head_is_vertex in absurd (omega arith))))
+inflow_outside G good f u past = sum_below_none (length G.edges) _
+    (λ e l. let inside = (good.edges_fit e l).head_is_vertex in grind (arith, nat_tests))
 
 module _ (g : ChipGame) (ok : IsGame g) (fired : List ℕ) where
   -- the counts lead to the chips that they leave
@@ -201,45 +164,21 @@ module _ (g : ChipGame) (ok : IsGame g) (fired : List ℕ) where
       → IsLedTo g.graph (slice_index g.start) (slice_index fired) (slice_index chips)
   led_after chips each after u = dite (dec_lt u g.graph.vertices)
       (λ l. let a = after.none_below u l in let b = after.by_counts u l in omega arith)
-      (λ past.
-      let a : slice_index chips u ≡ 0 = get_or_past chips u 0 (let b = after.chips_each in omega arith) in
-      let b : slice_index fired u ≡ 0 = get_or_past fired u 0 (omega arith) in
-      let c : slice_index g.start u ≡ 0 = get_or_past g.start u 0 (let d = ok.start_fits in omega arith) in
-      let d = nothing_times (degree g.graph u) (slice_index fired u) b in
-      let e = inflow_outside g.graph ok.graph_fits (slice_index fired) u (omega arith) in
-      omega arith)
-
--- a product with one factor more
-once_more : (k b : ℕ) → (k + 1) * b ≡ k * b + b
-once_more k b = let a = suc-mul k b in let c : (k + 1) * b ≡ suc k * b =
-    ap (λ (n : ℕ). n * b) (let e : k + 1 ≡ suc k = omega arith in e) in omega arith
-
--- who can fire in the script after c, where the counts u are level with the script taken back k + 1 times and played up
--- to c, can fire by u
-script_enough : (d g c u b k start chips q y in_g in_c in_u in_b : ℕ) → g + c ≡ u + (k + 1) * b → y + d * c ≡ q + in_c
-    → q + in_b + d * g ≤ start + in_g + d * b → in_b ≤ d * b → chips + d * u ≡ start + in_u
-    → in_g + in_c ≤ in_u + (k + 1) * in_b → d ≤ y → d ≤ chips
-script_enough d g c u b k start chips q y in_g in_c in_u in_b level led covered few is flows enough =
-    let all : d * (g + c) ≡ d * (u + (k + 1) * b) = ap (λ (n : ℕ). d * n) level in
-    let left = mul-add d g c in
-    let right = mul-add d u ((k + 1) * b) in
-    let turned : d * ((k + 1) * b) ≡ (k + 1) * (d * b) = sym (mul_assoc d (k + 1) b)
-    ∙ ap (λ (n : ℕ). n * b) (mul_comm d (k + 1)) ∙ mul_assoc (k + 1) d b in
-    let more = once_more k (d * b) in
-    let more' = once_more k in_b in
-    let less = mul-le-mul_left k few in
-    omega arith
+      (λ past. let none : slice_index fired u ≡ 0 = get_or_past fired u 0 (omega arith) in
+      omega (
+        arith,
+        get_or_past chips u 0 (omega (arith, after.chips_each)),
+        get_or_past g.start u 0 (omega (arith, ok.start_fits)),
+        nothing_times (degree g.graph u) (slice_index fired u) none,
+        inflow_outside g.graph ok.graph_fits (slice_index fired) u (omega arith),
+      ))
 
 module _ (G : Multigraph) where
   -- what flows in by counts m times as large
   inflow_times : (f : ℕ → ℕ) (m u : ℕ) → inflow G (λ z. m * f z) u ≡ m * inflow G f u
   inflow_times f m u =
-      tested_ext _ (λ e. eqb (edge_at G e).head u) (λ e. (edge_at G e).mult * (m * f (edge_at G e).tail))
-      (λ e. (edge_at G e).mult * f (edge_at G e).tail * m)
-      (λ e l on. ap (λ (n : ℕ). (edge_at G e).mult * n) (mul_comm m (f (edge_at G e).tail))
-      ∙ sym (mul_assoc (edge_at G e).mult (f (edge_at G e).tail) m))
-      ∙ tested_scale _ (λ e. eqb (edge_at G e).head u) m (λ e. (edge_at G e).mult * f (edge_at G e).tail)
-      ∙ mul_comm (inflow G f u) m
+      tested_ext _ _ _ (λ e. (edge_at G e).mult * f (edge_at G e).tail * m) (λ e l on. omega arith)
+      ∙ tested_scale _ (λ e. eqb (edge_at G e).head u) m _ ∙ mul_comm (inflow G f u) m
 
   module _ (x : ℕ → ℕ) (limit : ℕ) (f g q : ℕ → ℕ) (bs : List ℕ) (script : IsScript G x limit f g q bs) (vs : List ℕ)
       (ok : IsFiringSequence G x vs) (ended : HasEndedWithin G x limit vs) where
@@ -247,24 +186,24 @@ module _ (G : Multigraph) where
     not_passed : (k : ℕ) (c y : ℕ → ℕ) (w : ℕ) → IsLedTo G q c y
         → ((v : ℕ) → g v + c v ≤ counts vs v + (k + 1) * counts bs v) → IsLegal G y w → c w < counts bs w
         → g w + c w < counts vs w + (k + 1) * counts bs w
-    not_passed k c y w to low can some = dite (dec_lt (g w + c w) (counts vs w + (k + 1) * counts bs w))
-        (λ l. l)
+    not_passed k c y w to low can some = dite (dec_lt (g w + c w) (counts vs w + (k + 1) * counts bs w)) (λ l. l)
         (λ nl.
-        let low_w = low w in
+        let level : g w + c w ≡ counts vs w + (k + 1) * counts bs w = omega (arith, low w) in
         let fires : 0 < counts bs w = omega arith in
         let a = inflow_add G g c w in
         let b = inflow_le G (λ z. g z + c z) (λ z. counts vs z + (k + 1) * counts bs z) low w in
         let d = inflow_add G (counts vs) (λ z. (k + 1) * counts bs z) w in
         let e = inflow_times (counts bs) (k + 1) w in
-        let enough =
-        script_enough (degree G w) (g w) (c w) (counts vs w) (counts bs w) k (x w) (position_after G x vs w) (q w)
-        (y w) (inflow G g w) (inflow G c w) (inflow G (counts vs) w) (inflow G (counts bs) w)
-        (omega arith) (to w) (script.covered w fires) (script.few_in w fires) (position_is G vs x ok w) (omega arith)
-        can.enough_chips in
+        let enough : degree G w ≤ position_after G x vs w = omega (
+          arith,
+          ap (λ (n : ℕ). degree G w * n) level,
+          mul-le-mul_left k (script.few_in w fires),
+          to w,
+          script.covered w fires,
+          position_is G vs x ok w,
+        ) in
         let full = ended w (record { is_vertex = can.is_vertex; not_sink = can.not_sink; enough_chips = enough }) in
-        let within = script.within w fires in
-        let more = once_more k (counts bs w) in
-        absurd (omega arith))
+        absurd (omega (arith, script.within w fires)))
 
     -- so on along the script: c of it has fired, and cs is left
     along : (k : ℕ) (cs : List ℕ) (c y : ℕ → ℕ) → IsLedTo G q c y → ((v : ℕ) → c v + counts cs v ≡ counts bs v)
@@ -273,25 +212,21 @@ module _ (G : Multigraph) where
     along k [] c y to rest low goes v = let a = rest v in let b = low v in omega arith
     along k (w ∷ cs) c y to rest low goes v =
         let h : ℕ → ℕ = λ z. c z + cond (eqb w z) 1 0 in
-        let less = not_passed k c y w to low goes.0 (let a = rest w in let b = counts_here w w cs refl in
-        omega arith) in
-        let low' : (z : ℕ) → g z + h z ≤ counts vs z + (k + 1) * counts bs z = (λ z. grind (arith, nat_tests, low z, less)) in
+        let less = not_passed k c y w to low goes.0 (omega (arith, rest w, counts_here w w cs refl)) in
+        let low' : (z : ℕ) → g z + h z ≤ counts vs z + (k + 1) * counts bs z =
+        (λ z. grind (arith, nat_tests, low z, less)) in
         along k cs h (fired_once G w y) (led_on G q c y w to goes.0.enough_chips)
-        (λ z. (let a = rest z in let b = counts_more w z cs in omega arith)) low' goes.1 v
+        (λ z. omega (arith, rest z, counts_more w z cs)) low' goes.1 v
 
     -- what is short by k scripts is short by none
     again : (k : ℕ) → ((v : ℕ) → g v ≤ counts vs v + k * counts bs v) → (v : ℕ) → g v ≤ counts vs v
     again zero low v = let a = low v in omega arith
     again (suc k) low v = again k
-        (λ z.
-        let whole =
-        along k bs (λ i. 0) q
-        (λ i. (let a = inflow_none G (λ j. 0) (λ j. refl) i in let b = mul-zero (degree G i) in omega arith))
-        (λ i. omega arith)
-        (λ i. (let a = low i in let b = suc-mul k (counts bs i) in let e = once_more k (counts bs i) in omega arith))
-        script.sequence z in
-        let more = once_more k (counts bs z) in
-        omega arith)
+        (λ z. omega (
+          arith,
+          along k bs (λ i. 0) q (λ i. omega (arith, inflow_none G (λ j. 0) (λ j. refl) i))
+              (λ i. omega arith) (λ i. omega (arith, low i)) script.sequence z,
+        ))
         v
 
   pub script_counts : (x : ℕ → ℕ) (limit : ℕ) (f g q : ℕ → ℕ) (bs : List ℕ) → AreForced G x limit f
@@ -300,8 +235,6 @@ module _ (G : Multigraph) where
       (λ z. dite (dec_lt (f z) (g z))
       (λ more.
       let some = script.all_fire z more in
-      let within = script.within z some in
-      let a : limit * 1 ≤ limit * counts bs z = mul-le-mul_left limit (let b : 1 ≤ counts bs z = omega arith in b) in
-      omega arith)
-      (λ enough. let a = forced vs ok ended z in omega arith))
+      omega (arith, script.within z some, mul-le-mul_left limit some))
+      (λ enough. omega (arith, forced vs ok ended z)))
       v

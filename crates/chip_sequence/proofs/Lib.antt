@@ -1,3 +1,4 @@
+mod Names
 pub mod FiringLemmas
 pub mod EndLemmas
 pub mod BoundLemmas

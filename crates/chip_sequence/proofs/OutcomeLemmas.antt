@@ -1,14 +1,12 @@
 -- Serves Outcomes.antt.
 -- What a play comes to, as it can be reported.
-use Rattle.std.proofs.Common.{◌≡◌, ℕ, ◌<◌, ◌≤◌, Bool, not, ◌&&◌, eqb, leb, All, Contains, length, get_or, sym, ap, ◌∙◌}
-use Rattle.std.proofs.Common.{subst, arith}
+use Rattle.chip_sequence.proofs.Names.{◌≡◌, ℕ, ◌<◌, ◌≤◌, Bool, not, ◌&&◌, eqb, leb, All, Contains, length, get_or, sym}
+use Rattle.chip_sequence.proofs.Names.{ap, ◌∙◌, subst, arith, get_or-le-sum_by, max_total, degree, ChipGame, IsGame}
+use Rattle.chip_sequence.proofs.Names.{All-picked}
 use Rattle.std.specs.List.Sorted.{IsStrictlyIncreasing}
 use Rattle.std.proofs.lemmas.List.Elements.{All-from_get_or}
-use Rattle.std.proofs.lemmas.List.Sums.{get_or-le-sum_by}
-use Rattle.chip_graph.specs.Limits.{max_total, max_limit}
-use Rattle.chip_graph.specs.Multigraph.{degree}
-use Rattle.chip_graph.specs.ChipGame.{ChipGame, IsGame}
-use Rattle.chip_graph.proofs.PickLemmas.{All-picked, picked_ascends}
+use Rattle.chip_graph.specs.Limits.{max_limit}
+use Rattle.chip_graph.proofs.PickLemmas.{picked_ascends}
 use Rattle.chip_sequence.specs.declared.outcome.Outcome.{Outcome}
 use Rattle.chip_sequence.specs.Outcomes.{IsOutcome}
 use Rattle.chip_sequence.specs.Play.{IsPlayed}

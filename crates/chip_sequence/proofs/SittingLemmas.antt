@@ -1,10 +1,8 @@
 -- Serves Sittings.antt, Sequence.antt.
 -- Plays in several sittings: what they lead to, and that they add up.
-use Rattle.std.proofs.Common.{◌≡◌, ℕ, ◌+◌, List, [], ◌∷◌, ◌++◌, slice_index, refl, sym, ap, ◌∙◌, subst, arith}
-use Rattle.chip_graph.specs.Multigraph.{Multigraph, IsGraph}
-use Rattle.chip_sequence.specs.Firing.{IsLegal}
-use Rattle.chip_sequence.specs.Sequence.{position_after, IsFiringSequence, counts, HasEnded, IsWholePlay}
-use Rattle.chip_sequence.specs.Sittings.{Leads, LeadsTo, AreSittings, counts_of_all, left_by_all, SittingsAddUp}
+use Rattle.chip_sequence.proofs.Names.{◌≡◌, ℕ, ◌+◌, List, [], ◌∷◌, ◌++◌, slice_index, refl, arith, Multigraph, IsGraph}
+use Rattle.chip_sequence.proofs.Names.{position_after, IsFiringSequence, counts, HasEnded, IsWholePlay}
+use Rattle.chip_sequence.specs.Sittings.{LeadsTo, AreSittings, counts_of_all, left_by_all, SittingsAddUp}
 use Rattle.chip_sequence.specs.Sittings.{PlayedIsSitting}
 use Rattle.chip_sequence.proofs.FiringLemmas.{counts-append, position-append, sequence-append}
 use Rattle.chip_sequence.proofs.BoundLemmas.{same_ends}
@@ -18,18 +16,13 @@ pub leads_both : (G : Multigraph) (x f y h z : ℕ → ℕ) → LeadsTo G x f y 
     → LeadsTo G x (λ v. f v + h v) z
 leads_both G x f y h z one two =
     let vs : List ℕ = one.0 in
-    let first : Leads G x f y vs = one.1 in
     let ws : List ℕ = two.0 in
-    let second : Leads G y h z ws = two.1 in
-    let there : y ≡ position_after G x vs = (λ i u. first.position u i) in (
+    let there : y ≡ position_after G x vs = (λ i u. one.1.position u i) in (
       vs ++ ws,
       record {
-        sequence = sequence-append G vs ws x first.sequence
-            (subst (λ (p : ℕ → ℕ). IsFiringSequence G p ws) there second.sequence);
-        counted = λ u. (let a = first.counted u in let b = second.counted u in let c = counts-append vs ws u in
-            omega arith);
-        position = λ u. second.position u ∙ ap (λ (p : ℕ → ℕ). position_after G p ws u) there
-            ∙ sym (ap (λ (p : ℕ → ℕ). p u) (position-append G vs ws x));
+        sequence = sequence-append G vs ws x one.1.sequence (rw there at two.1.sequence);
+        counted = λ u. omega (arith, one.1.counted u, two.1.counted u, counts-append vs ws u);
+        position = λ u. rw (position-append G vs ws x, ← there) (two.1.position u);
       },
     )
 
@@ -47,17 +40,11 @@ pub ends_alike : (G : Multigraph) → IsGraph G → (x f y : ℕ → ℕ) → Le
     → ((v : ℕ) → f v + counts ws v ≡ counts vs v) × ((v : ℕ) → position_after G y ws v ≡ position_after G x vs v)
 ends_alike G good x f y one ws ok ended vs ok' ended' =
     let us : List ℕ = one.0 in
-    let first : Leads G x f y us = one.1 in
-    let there : y ≡ position_after G x us = (λ i u. first.position u i) in
-    let goes : position_after G x (us ++ ws) ≡ position_after G y ws = position-append G us ws x
-    ∙ ap (λ (p : ℕ → ℕ). position_after G p ws) (sym there) in
-    let sequence : IsFiringSequence G x (us ++ ws) =
-    sequence-append G us ws x first.sequence (subst (λ (p : ℕ → ℕ). IsFiringSequence G p ws) there ok) in
-    let same = same_ends G good x (us ++ ws) vs sequence
-    (λ v can. ended v (subst (λ (p : ℕ → ℕ). IsLegal G p v) goes can)) ok' ended' in (
-      λ v. (let a = first.counted v in let b = counts-append us ws v in let c = same.0 v in omega arith),
-      λ v. sym (ap (λ (p : ℕ → ℕ). p v) goes) ∙ same.1 v,
-    )
+    let there : y ≡ position_after G x us = (λ i u. one.1.position u i) in
+    let goes : position_after G x (us ++ ws) ≡ position_after G y ws = rw there (position-append G us ws x) in
+    let same = same_ends G good x (us ++ ws) vs (sequence-append G us ws x one.1.sequence (rw there at ok))
+    (λ v can. ended v (rw goes at can)) ok' ended' in
+    (λ v. omega (arith, one.1.counted v, counts-append us ws v, same.0 v), λ v. rw (← goes) (same.1 v))
 
 pub sittings_add_up : SittingsAddUp
 sittings_add_up G good x sittings are =

@@ -1,5 +1,4 @@
-use Rattle.std.proofs.Common.{◌≡◌, ◌≤◌, ◌^◌}
-use Rattle.chip_sequence.specs.Bound.{firing_bound}
+use Rattle.chip_sequence.proofs.Names.{◌≡◌, ◌≤◌, ◌^◌, firing_bound}
 use Rattle.chip_sequence.proofs.bound.enough.Given as goal
 
 abbrev pub invariant-loop : goal.invariant-loop

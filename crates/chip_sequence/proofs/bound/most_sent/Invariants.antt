@@ -1,6 +1,4 @@
-use Rattle.std.proofs.Common.{◌≡◌}
-use Rattle.chip_graph.specs.Multigraph.{degree}
-use Rattle.chip_sequence.specs.Bound.{greatest_below}
+use Rattle.chip_sequence.proofs.Names.{◌≡◌, degree, greatest_below}
 use Rattle.chip_sequence.proofs.bound.most_sent.Given as goal
 
 abbrev pub invariant-loop-vertex : goal.invariant-loop-vertex

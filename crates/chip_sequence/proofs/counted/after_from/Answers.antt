@@ -1,5 +1,4 @@
-use Rattle.std.proofs.Common.{◌<◌, arith}
-use Rattle.chip_sequence.specs.Counted.{game_from}
+use Rattle.chip_sequence.proofs.Names.{◌<◌, arith, rules, game_from}
 use Rattle.chip_sequence.proofs.AfterLemmas.{then_few, is_after, game_from_is}
 use Rattle.chip_sequence.proofs.counted.after_from.Goals as goal
 
@@ -23,9 +22,4 @@ returns-clause-cases c = λ limit.
     (let a = c.loop-vertex.auto.into in let b = c.requires.chips_each in omega arith)
     (λ v l. c.loop-vertex.invariant v (let a = c.loop-vertex-test.false in let d = c.requires.chips_each in
     omega arith)) in
-    record {
-      none_below = after.none_below;
-      chips_each = after.chips_each;
-      by_counts = after.by_counts;
-      kept = after.kept;
-    }
+    search rules

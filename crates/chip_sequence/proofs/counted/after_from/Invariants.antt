@@ -1,5 +1,4 @@
-use Rattle.std.proofs.Common.{◌≡◌, ℕ, ◌<◌, slice_index}
-use Rattle.chip_sequence.specs.Counted.{position_by_counts}
+use Rattle.chip_sequence.proofs.Names.{◌≡◌, ℕ, ◌<◌, slice_index, position_by_counts}
 use Rattle.chip_sequence.proofs.counted.after_from.Given as goal
 
 abbrev pub invariant-loop-vertex : goal.invariant-loop-vertex

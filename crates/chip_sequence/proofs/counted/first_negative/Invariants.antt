@@ -1,5 +1,4 @@
-use Rattle.std.proofs.Common.{ℕ, ◌<◌, slice_index}
-use Rattle.chip_sequence.specs.Counted.{IsBelowZero}
+use Rattle.chip_sequence.proofs.Names.{ℕ, ◌<◌, slice_index, IsBelowZero}
 use Rattle.chip_sequence.proofs.counted.first_negative.Given as goal
 
 abbrev pub invariant-loop-vertex : goal.invariant-loop-vertex

@@ -1,5 +1,4 @@
-use Rattle.std.proofs.Common.{◌≡◌, ◌+◌, ◌*◌, take, sum_by, slice_index}
-use Rattle.chip_graph.specs.Multigraph.{edge_at, edges_in}
+use Rattle.chip_sequence.proofs.Names.{◌≡◌, ◌+◌, ◌*◌, take, sum_by, slice_index, edge_at, edges_in}
 use Rattle.chip_sequence.proofs.counted.income_and_cost.Given as goal
 
 abbrev pub invariant-loop-e : goal.invariant-loop-e

@@ -1,5 +1,4 @@
-use Rattle.std.proofs.Common.{ℕ, ◌/◌, ◌<◌, get_or, refl, sym, ◌∙◌, subst, arith, inl, inr}
-use Rattle.chip_graph.specs.Multigraph.{degree}
+use Rattle.chip_sequence.proofs.Names.{ℕ, ◌/◌, ◌<◌, get_or, refl, sym, ◌∙◌, subst, arith, inl, inr, degree}
 use Rattle.chip_sequence.proofs.BoundLemmas.{some_degree}
 use Rattle.chip_sequence.proofs.BatchLemmas.{above_quotient}
 use Rattle.chip_sequence.proofs.firing.fire.Goals as goal

@@ -2,12 +2,11 @@
 -- Where the run of a worker begins and ends, and what its turns leave of it.
 use Rattle.chip_crew.proofs.Names.{◌^◌, ◌≡◌, ℕ, zero, suc, ◌+◌, ◌*◌, ◌%◌, ◌<◌, ◌≤◌, ◌-◌, ◌==◌, max, List, length}
 use Rattle.chip_crew.proofs.Names.{Option, Some, None, take, get_or, set, length-take, refl, sym, ap, ◌∙◌, subst, arith}
-use Rattle.chip_crew.proofs.Names.{add-one, zero-add, slice_get, mul-le, mod-add-mod, mod-eq_of_lt, length-set, dite}
-use Rattle.chip_crew.proofs.Names.{ℕ_discrete, dec_lt, slice_get_read, slice_get_past, slice_get_within}
-use Rattle.chip_crew.proofs.Names.{get_or_from_slice_get, sum_by-set, Multigraph, edge_at, length-picked, ActorKnown}
-use Rattle.chip_crew.proofs.Names.{MakesTurn, Turn, CrewId, Turned, IsOurs, IsAt, AreFrom, turns_of, all_turns, ends_at}
-use Rattle.chip_crew.proofs.Names.{ends_before, IsCut, IsFirstOf, AreOf, TurnsThere, TurnsAt, RoundsMade, HasDealt}
-use Rattle.chip_crew.proofs.Names.{Asked, passes}
+use Rattle.chip_crew.proofs.Names.{add-one, zero-add, mod-add-mod, mod-eq_of_lt, length-set, sum_by-set, mul-le}
+use Rattle.chip_crew.proofs.Names.{slice_get_read, slice_get_past, slice_get_within, get_or_from_slice_get, slice_get}
+use Rattle.chip_crew.proofs.Names.{Multigraph, edge_at, length-picked, ActorKnown, MakesTurn, Turn, Asked, passes}
+use Rattle.chip_crew.proofs.Names.{CrewId, Turned, IsOurs, IsAt, AreFrom, turns_of, all_turns, ends_at, ends_before}
+use Rattle.chip_crew.proofs.Names.{IsCut, IsFirstOf, AreOf, HasDealt, TurnsThere, TurnsAt, RoundsMade}
 use Rattle.chip_crew.proofs.TurnLemmas.{turn_counts}
 use Rattle.chip_crew.proofs.RunLemmas.{from_at, from_set, from_take, from_all}
 
@@ -20,8 +19,7 @@ module _ (G : Multigraph) where
   -- each vertex has an end of an edge
   ends_grow : (v w : ℕ) → v < w → ends_before G v < ends_before G w
   ends_grow v zero less = absurd (omega arith)
-  ends_grow v (suc w) less = dite (ℕ_discrete v w) (λ same. let here = ap (ends_before G) same in omega arith)
-      (λ other. let below = ends_grow v w (omega arith) in omega arith)
+  ends_grow v (suc w) less = let below = ends_grow v w in grind arith
 
   module _ (workers : ℕ) where
     -- the first worker begins at vertex 0
@@ -50,8 +48,7 @@ module _ (G : Multigraph) where
         → ((u : ℕ) → v ≤ u → u < w → workers * ends_before G u < share) → IsCut G workers (worker + 1) w
     cut_next worker v w share ends cut is at reached least = record {
       reached = (let same = ap (λ (n : ℕ). workers * n) at in omega arith);
-      least = λ u less. dite (dec_lt u v) (λ before. let below = cut.least u before in omega arith)
-          (λ after. let below = least u (omega arith) less in omega arith);
+      least = λ u less. (let before = cut.least u in let after = least u in grind arith);
     }
 
 -- ---- turns
@@ -63,8 +60,7 @@ still_ours crew old new answer makes ours =
     let same = makes.record_is in
     record {
       net_is = ap (λ (a : ActorKnown). a.net) same ∙ ours.net_is;
-      inside = subst (λ (v : ℕ). v < crew.net.setting.game.graph.vertices)
-          (sym (ap (λ (a : ActorKnown). a.vertex) same)) ours.inside;
+      inside = rw same ours.inside;
       room_is = ap (λ (a : ActorKnown). a.room) same ∙ ours.room_is;
       turned = subst (λ (n : ℕ). Turned n new) (sym (turn_counts old new answer makes)) (old, answer, ours.turned, makes);
     }
@@ -76,16 +72,16 @@ turn_leaves place None old new at same = (ap length same, (let all = ap all_turn
 turn_leaves place (Some next) old new at turns = (
   ap length turns.3 ∙ length-set old place turns.0,
   (let all = ap all_turns turns.3 in let one = turn_counts next turns.0 turns.1 turns.2 in
-      let both = sum_by-set turns_of old place turns.0 next (slice_get_within old place next at) in
-      let was = ap turns_of (get_or_from_slice_get old place next next at) in omega arith),
+      let was = ap turns_of (get_or_from_slice_get old place next next at) in
+      let both = sum_by-set turns_of old place turns.0 next (slice_get_within old place next at) in omega arith),
 )
 
 turned : (crew : CrewId) (from place : ℕ) (old new : List ActorKnown) (next : Option ActorKnown)
     → slice_get old place ≡ next → TurnsThere place next old new → AreFrom crew from old → AreFrom crew from new
-turned crew from place old new None at same all = subst (AreFrom crew from) (sym same) all
+turned crew from place old new None at same all = rw same all
 turned crew from place old new (Some next) at turns all =
     let here = from_at (IsAt crew) from place old next all at in
-    subst (AreFrom crew from) (sym turns.3) (from_set (IsAt crew) from place old turns.0 all (
+    rw turns.3 (from_set (IsAt crew) from place old turns.0 all (
       still_ours crew next turns.0 turns.1 turns.2 here.0,
       ap (λ (a : ActorKnown). a.vertex) turns.2.record_is ∙ here.1,
     ))
@@ -102,13 +98,11 @@ rounds_turns passes (suc k) first now made = let old = rounds_turns passes k fir
 pub turn_at : (k : ℕ) (actors : List ActorKnown) (a new : ActorKnown) (answer : Turn) → k < length actors
     → a ≡ get_or actors k a → MakesTurn a new answer → TurnsAt k actors (set actors k new)
 turn_at k actors a new answer less read turn =
-    subst (λ (o : Option ActorKnown). TurnsThere k o actors (set actors k new))
-    (sym (slice_get_read actors (length actors) k a refl less read)) (new, answer, turn, refl)
+    rw (slice_get_read actors (length actors) k a refl less read) (new, answer, turn, refl)
 
 -- without an actor there nothing is done
 pub none_at : (k : ℕ) (actors : List ActorKnown) → length actors ≤ k → TurnsAt k actors actors
-none_at k actors few =
-    subst (λ (o : Option ActorKnown). TurnsThere k o actors actors) (sym (slice_get_past actors k few)) refl
+none_at k actors few = rw (slice_get_past actors k few) refl
 
 -- where a round begins, the turns of it stand at their places
 pub place_is : (m k round : ℕ) → m % round ≡ 0 → k < round → (m + k) % round ≡ k
@@ -133,16 +127,10 @@ dealt_turn asked worker m k before now made begins less pass turn =
       record {
         from = made.1.from;
         is_first = made.1.is_first;
-        is_next = subst (λ (n : ℕ). IsFirstOf asked.crew (suc worker) (made.1.from + n))
-            (sym (turn_leaves k _ before now refl turn).0) made.1.is_next;
+        is_next = rw (turn_leaves k _ before now refl turn).0 made.1.is_next;
         each = turned asked.crew made.1.from k before now _ refl turn made.1.each;
       },
-      (
-        made.2.0,
-        made.2.1,
-        subst (λ (n : ℕ). RoundsMade (passes asked worker) n made.2.0 now) next
-            (before, made.2.2, pass, subst (λ (n : ℕ). TurnsAt n before now) (sym place) turn),
-      ),
+      (made.2.0, made.2.1, rw (← next) (before, made.2.2, pass, rw place turn)),
     )
 
 -- ---- dealing

@@ -1,12 +1,14 @@
--- Serves Feeding.antt.
--- What feeds, polls and the end leave of the root: what was fed, what may be fed still, and whether the end is noted.
-use Rattle.chip_crew.proofs.Names.{◌≡◌, ◌==◌, ℕ, zero, suc, ◌+◌, ◌-◌, ◌%◌, ◌<◌, Bool, true, false, List, [], ◌∷◌, ◌++◌}
-use Rattle.chip_crew.proofs.Names.{Some, None, All, sum, refl, sym, ap, ◌∙◌, subst, arith, append_assoc, ⊎_elim}
-use Rattle.chip_crew.proofs.Names.{All-tail, sum_by-append, all_brought, Setting, does, saw, Step, Event, Clear, Settle}
-use Rattle.chip_crew.proofs.Names.{End, Part, opening_part, root_edge, graph_edges, part_by, fed_of, fed_in, NetId}
-use Rattle.chip_crew.proofs.Names.{RootState, RootKnown, root_part, root_after, has_ended, fed_by, Feeds, LooksInVain}
-use Rattle.chip_crew.proofs.Names.{feed_steps, settles_from, IsPolling, Ends, part_append, Left, pairs, MayFeed}
-use Rattle.chip_crew.proofs.Names.{MayFeedLeft, FeedsNext, EndsAfter, FeedsOnce, PollsIf, IsLed, events_of}
+-- Serves Feeding.antt, Ending.antt.
+-- What feeds, polls and the end leave of the root: what was fed, what may be fed still, and whether it is over.
+use Rattle.chip_crew.proofs.Names.{◌≡◌, ℕ, zero, suc, ◌+◌, ◌%◌, ◌<◌, ◌≤◌, ◌-◌, ◌==◌, List, Some, None, refl, sym, ap}
+use Rattle.chip_crew.proofs.Names.{◌∙◌, subst, arith, true, false, Bool, [], ◌∷◌, ◌++◌, All, sum, append_assoc, inl}
+use Rattle.chip_crew.proofs.Names.{inr, nat_tests, All-tail, All-head, All-push, All-nil, sum_by-append, tested_le}
+use Rattle.chip_crew.proofs.Names.{all_brought, root_edge, graph_edges, all_edges, tail_of, root, Part, deficit}
+use Rattle.chip_crew.proofs.Names.{outstanding, Clear, Setting, does, saw, Step, Event, Settle, End, opening_part}
+use Rattle.chip_crew.proofs.Names.{part_by, fed_of, fed_in, part_append, RootKnown, root_part, root_after, has_ended}
+use Rattle.chip_crew.proofs.Names.{fed_by, Feeds, LooksInVain, feed_steps, settles_from, IsPolling, Ends, IsOver}
+use Rattle.chip_crew.proofs.Names.{root_deficit, NetId, RootState, Left, pairs, MayFeed, MayFeedLeft, FeedsNext}
+use Rattle.chip_crew.proofs.Names.{EndsAfter, FeedsOnce, PollsIf, IsLed, events_of}
 
 -- ---- settles
 
@@ -14,19 +16,11 @@ abbrev pub IsSettle : Event → Type 0
 IsSettle (Settle e) = Unit {0}
 IsSettle _ = ⊥
 
-abbrev pub AreSettles : List Event → Type 0
-AreSettles [] = Unit {0}
-AreSettles (x ∷ xs) = IsSettle x × AreSettles xs
-
-settles_both : (xs ys : List Event) → AreSettles xs → AreSettles ys → AreSettles (xs ++ ys)
-settles_both [] ys one other = other
-settles_both (x ∷ xs) ys one other = (one.0, settles_both xs ys one.1 other)
-
 module _ (g : Setting) where
-  pub are_settles : (from n : ℕ) → AreSettles (settles_from g from n)
-  are_settles from zero = tt
-  are_settles from (suc n) = settles_both (settles_from g from n) (Settle (root_edge g (from + n)) ∷ [])
-      (are_settles from n) (tt, tt)
+  pub are_settles : (from n : ℕ) → All IsSettle (settles_from g from n)
+  are_settles from zero = All-nil IsSettle
+  are_settles from (suc n) =
+      All-push IsSettle (settles_from g from n) (Settle (root_edge g (from + n))) (are_settles from n) tt
 
   -- they feed nothing, and leave whether the end is noted
   settle_leaves : (x : Event) (seen : ℕ) (s : Part) → IsSettle x
@@ -34,26 +28,26 @@ module _ (g : Setting) where
   settle_leaves (Settle e) seen s is = (refl, refl)
   settle_leaves _ seen s is = absurd is
 
-  settles_leave : (s : Part) (xs : List Step) → AreSettles (events_of xs)
+  settles_leave : (s : Part) (xs : List Step) → All IsSettle (events_of xs)
       → (fed_in g xs ≡ []) × ((part_by g s xs).ended ≡ s.ended)
   settles_leave s [] are = (refl, refl)
   settles_leave s (x ∷ xs) are =
-      let here = settle_leaves x.event x.seen s are.0 in let rest = settles_leave (does g x s) xs are.1 in
+      let here = settle_leaves x.event x.seen s (All-head IsSettle x.event (events_of xs) are) in
+      let rest = settles_leave (does g x s) xs (All-tail IsSettle x.event (events_of xs) are) in
       (λ i. here.0 i ++ rest.0 i, rest.1 ∙ here.1)
 
   -- so does the end, with the settles behind it
-  end_feeds : (s : Part) (xs : List Step) (rest : List Event) → events_of xs ≡ End ∷ rest → AreSettles rest
+  end_feeds : (s : Part) (xs : List Step) (rest : List Event) → events_of xs ≡ End ∷ rest → All IsSettle rest
       → fed_in g xs ≡ []
   end_feeds s [] rest is are = absurd (cc)
   end_feeds s (x ∷ xs) rest is are =
       let first : x.event ≡ End = cc in let others : rest ≡ events_of xs = cc in
-      let after = settles_leave s xs (subst AreSettles others are) in
+      let after = settles_leave s xs (subst (All IsSettle) others are) in
       (λ i. ap (fed_of g) first i ++ after.0 i)
 
   fed_steps : (xs ys : List Step) → fed_in g (xs ++ ys) ≡ fed_in g xs ++ fed_in g ys
   fed_steps [] ys = refl
-  fed_steps (x ∷ xs) ys = ap (λ (l : List (ℕ × ℕ)). fed_of g x.event ++ l) (fed_steps xs ys)
-      ∙ sym (append_assoc (fed_of g x.event) (fed_in g xs) (fed_in g ys))
+  fed_steps (x ∷ xs) ys = rw (fed_steps xs ys, append_assoc) refl
 
 -- ---- the root after more
 
@@ -68,8 +62,7 @@ adds_steps : (old new : RootKnown) (steps : List Step) (more : List (ℕ × ℕ)
     → (part_by old.net.setting (root_part old) steps).ended ≡ ended → fed_in old.net.setting steps ≡ more
     → Adds old new more ended
 adds_steps old new steps more ended is noted feeds =
-    let g = old.net.setting in
-    subst (λ (r : RootKnown). Adds old r more ended) (sym is) (record {
+    let g = old.net.setting in rw is (record {
       net = refl;
       stopper = refl;
       fed = fed_steps g old.did steps ∙ ap (λ (l : List (ℕ × ℕ)). fed_by old ++ l) feeds;
@@ -80,7 +73,7 @@ adds_steps old new steps more ended is noted feeds =
 pub poll_adds : (old new : RootKnown) (n : ℕ) → IsPolling old new n → Adds old new [] (has_ended old)
 poll_adds old new n polling =
     let leaves = settles_leave old.net.setting (root_part old) polling.steps
-    (subst AreSettles (sym polling.events_are) (are_settles old.net.setting 0 n)) in
+    (subst (All IsSettle) (sym polling.events_are) (are_settles old.net.setting 0 n)) in
     adds_steps old new polling.steps [] (has_ended old) polling.record_is leaves.1 leaves.0
 
 -- nor does a look in vain
@@ -133,8 +126,7 @@ pub record GoesOn (feeds left : Left) (old new : RootKnown) : Type 0 where
   pub may : MayFeedLeft old feeds → MayFeedLeft new left
 
 stays : (feeds left : Left) (old new : RootKnown) → left ≡ feeds → new ≡ old → GoesOn feeds left old new
-stays feeds left old new same is = subst (λ (z : Left × RootKnown). GoesOn feeds z.0 old z.1)
-    (λ i. (sym same i, sym is i)) (record { net = refl; stopper = refl; fed = refl; may = λ may. may })
+stays feeds left old new same is = rw (same, is) (record { net = refl; stopper = refl; fed = refl; may = λ may. may })
 
 goes_on : {a b c : Left} {x y z : RootKnown} → GoesOn a b x y → GoesOn b c y z → GoesOn a c x z
 goes_on first last = record {
@@ -165,21 +157,17 @@ poll_goes_on (Some left) old new n polling = let adds = poll_adds old new n poll
 next_goes_on : (feeds left : List (ℕ × ℕ)) (old new : RootKnown) → FeedsNext feeds left old new
     → GoesOn (Some feeds) (Some left) old new
 next_goes_on [] left old new next = stays (Some []) (Some left) old new (ap Some next.0) next.1
-next_goes_on (pair ∷ rest) left old new next = ⊎_elim
-    (λ (h : (left ≡ rest) × ((place : ℕ) × Feeds old new pair.0 pair.1 place)).
-    let adds = feed_adds old new pair.0 pair.1 h.1.0 h.1.1 in
-    subst (λ (l : List (ℕ × ℕ)). GoesOn (Some (pair ∷ rest)) (Some l) old new) (sym h.0)
-    (adds_left (Some (pair ∷ rest)) (Some rest) adds refl (may_after rest adds)))
-    (λ (h : (left ≡ pair ∷ rest) × LooksInVain old new pair.0).
-    let adds = look_adds old new pair.0 h.1 in
-    subst (λ (l : List (ℕ × ℕ)). GoesOn (Some (pair ∷ rest)) (Some l) old new) (sym h.0)
-    (adds_left (Some (pair ∷ rest)) (Some (pair ∷ rest)) adds refl (may_after (pair ∷ rest) adds)))
-    next
+next_goes_on (pair ∷ rest) left old new (inl (same, (place, feeds))) =
+    let adds = feed_adds old new pair.0 pair.1 place feeds in
+    rw same (adds_left (Some (pair ∷ rest)) (Some rest) adds refl (may_after rest adds))
+next_goes_on (pair ∷ rest) left old new (inr (same, looks)) =
+    let adds = look_adds old new pair.0 looks in
+    rw same (adds_left (Some (pair ∷ rest)) (Some (pair ∷ rest)) adds refl (may_after (pair ∷ rest) adds))
 
 -- the end is noted where nothing is left
 end_goes_on : (rest : List (ℕ × ℕ)) (left : Left) (old new : RootKnown) → EndsAfter rest left old new
     → GoesOn (Some rest) left old new
-end_goes_on [] left old new ends = subst (λ (l : Left). GoesOn (Some []) l old new) (sym ends.0)
+end_goes_on [] left old new ends = rw ends.0
     (adds_left (Some []) None (end_adds old new ends.1.0 ends.1.1) refl (λ may. tt))
 end_goes_on (pair ∷ rest) left old new ends = stays (Some (pair ∷ rest)) left old new ends.0 ends.1
 
@@ -206,3 +194,31 @@ led_goes_on round (suc k) feeds left old now (rest, before, fed, led, once, poll
 pub over_has_fed : (left : Left) (root : RootKnown) → MayFeedLeft root left → has_ended root ≡ true → left ≡ None
 over_has_fed None root may ended = refl
 over_has_fed (Some left) root may ended = absurd (cc)
+
+module _ (g : Setting) (v : ℕ) where
+  settle_less : (x : Event) (seen : ℕ) (s : Part) → IsSettle x → deficit g v (does g (saw x seen) s) ≤ deficit g v s
+  settle_less (Settle e) seen s is = tested_le (all_edges g) (λ i. tail_of g i == v)
+      (λ i. outstanding ((does g (saw (Settle e) seen) s).out i)) (λ i. outstanding (s.out i))
+      (λ i l on. grind (arith, nat_tests))
+  settle_less _ seen s is = absurd is
+
+  settles_less : (xs : List Step) (s : Part) → All IsSettle (events_of xs) → deficit g v (part_by g s xs) ≤ deficit g v s
+  settles_less [] s are = omega arith
+  settles_less (x ∷ xs) s are =
+      let here = settle_less x.event x.seen s (All-head IsSettle x.event (events_of xs) are) in
+      let rest = settles_less xs (does g x s) (All-tail IsSettle x.event (events_of xs) are) in omega arith
+
+pub over_polled : (old now : RootKnown) (n : ℕ) → IsPolling old now n → IsOver old → IsOver now
+over_polled old now n polls over =
+    let g = old.net.setting in
+    let less = settles_less g (root g) polls.steps (root_part old)
+    (subst (All IsSettle) (sym polls.events_are) (are_settles g 0 n)) in
+    let same = ap (deficit g (root g)) (part_append g (opening_part g) old.did polls.steps) in
+    let is = ap root_deficit polls.record_is in let none = over.0 in
+    (omega arith, (poll_adds old now n polls).ended_is ∙ over.1)
+
+-- nothing is fed any more
+pub over_fed : (left after : Left) (old new : RootKnown) → MayFeedLeft old left → FeedsOnce left after old new → IsOver old
+    → IsOver new
+over_fed left after old new may once over =
+    let same = rw (over_has_fed left old may over.1) at once in rw same.1 over

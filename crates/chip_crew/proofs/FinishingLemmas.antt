@@ -1,19 +1,15 @@
 -- Serves Finished.antt, Feeding.antt, Plans.antt.
 -- What is known of a crew is known of the game that it played.
-use Rattle.chip_crew.proofs.Names.{◌≡◌, ◌⊎◌, ⊎_elim, ◌+◌, ◌<◌, ◌≤◌, ℕ, true, false, not, List, [], ◌++◌, All, sum}
-use Rattle.chip_crew.proofs.Names.{Option, Some, None, is_some, refl, sym, ◌∙◌, ap, subst, arith, ltb, leb, ltb-true}
-use Rattle.chip_crew.proofs.Names.{and_parts, leb-true, AllPass-from_list_all, ChipGame, max_total, HasMore}
-use Rattle.chip_crew.proofs.Names.{all_brought, Outcome, Setting, setting_with, Step, NetId, RootKnown, new_root}
-use Rattle.chip_crew.proofs.Names.{has_ended, fed_by, IsOver, is_plan, is_count, names_edge, are_feeds, max_workers}
-use Rattle.chip_crew.proofs.Names.{max_turns, max_trace_rows, max_ring, option_copied, Asked, SomeShut, root_of, HasLed}
-use Rattle.chip_crew.proofs.Names.{HasBack, HasSealed, TakesBack, KnowsSeals, SealAt, CrewId, Left, pairs, IsLed}
-use Rattle.chip_crew.proofs.Names.{MayFeed, MayFeedLeft, EndsWell, StaysOpen, EndsLed, StaysUnfinished, CanPlay}
-use Rattle.chip_crew.proofs.Names.{IsCrewFor, HasFinished, IsWhole, IsFinished, IsStopped, IsFaultOf, Sharing, Leader}
-use Rattle.chip_crew.proofs.Names.{Plan, Finished, CrewFault}
-use Rattle.chip_crew.proofs.FeedLemmas.{Adds, GoesOn, poll_adds, led_goes_on, over_has_fed}
-use Rattle.chip_crew.proofs.OverLemmas.{over_polled}
-use Rattle.chip_crew.proofs.LeadingLemmas.{led_by}
-use Rattle.chip_crew.proofs.SealingLemmas.{IsSame, takes_back, back_same, knows_seals}
+use Rattle.chip_crew.proofs.Names.{◌≡◌, ℕ, ◌<◌, ◌≤◌, List, Option, Some, None, refl, sym, ap, ◌∙◌, subst, arith, true}
+use Rattle.chip_crew.proofs.Names.{false, [], ◌++◌, ⊎_elim, ◌⊎◌, is_some, and_parts, nat_tests, AllPass-from_list_all}
+use Rattle.chip_crew.proofs.Names.{option_copied, ChipGame, HasMore, Outcome, Setting, setting_with, Step, RootKnown}
+use Rattle.chip_crew.proofs.Names.{has_ended, fed_by, new_root, IsOver, NetId, Asked, root_of, CrewId, EndsWell}
+use Rattle.chip_crew.proofs.Names.{StaysOpen, EndsLed, StaysUnfinished, Left, pairs, MayFeedLeft, IsLed, CanPlay}
+use Rattle.chip_crew.proofs.Names.{IsCrewFor, HasFinished, IsWhole, IsFinished, IsStopped, IsFaultOf, HasLed, is_plan}
+use Rattle.chip_crew.proofs.Names.{names_edge, are_feeds, max_workers, max_turns, HasBack, HasSealed, TakesBack}
+use Rattle.chip_crew.proofs.Names.{KnowsSeals, CrewFault, Leader, Plan, SealAt, Sharing, Finished}
+use Rattle.chip_crew.proofs.FeedLemmas.{Adds, GoesOn, poll_adds, led_goes_on, over_has_fed, over_polled}
+use Rattle.chip_crew.proofs.LeadingLemmas.{led_by, IsSame, takes_back, back_same, knows_seals}
 use Rattle.chip_crew.specs.declared.fault.CrewFault.TheVariants as fault
 
 -- the root of a net that opens to be fed may feed what the plan says
@@ -23,31 +19,16 @@ pub may_begin : (game : ChipGame) (feeds : Left) (plan : Plan) (net : NetId) (ro
     → MayFeedLeft root feeds
 may_begin game None plan net root stopper_did can setting is = tt
 may_begin game (Some feeds) plan net root stopper_did can setting is =
-    let are = (and_parts (is_plan game plan) (are_feeds game feeds) can.within).1 in
-    subst (λ (r : RootKnown). MayFeed r feeds) (sym is) (record {
-      not_ended = ap (λ (g : Setting). not g.fed) setting;
-      each = subst (λ (g : Setting). All (λ (p : ℕ × ℕ). (p.0 < g.game.graph.vertices) × (0 < p.1)) feeds) (sym setting)
-          (λ k d less. let fits = and_parts _ _ (AllPass-from_list_all _ feeds are k d less) in
-          (ltb-true _ _ fits.0, ltb-true _ _ fits.1));
-      within = subst (λ (g : Setting). sum g.game.start + all_brought [] + all_brought feeds ≤ max_total) (sym setting)
-          (let total = can.total in omega arith);
+    let are = (and_parts (is_plan game plan) (are_feeds game feeds) can.within).1 in rw is (record {
+      not_ended = rw setting refl;
+      each = rw setting (λ k d less. let fits = AllPass-from_list_all _ feeds are k d less in grind (arith, nat_tests));
+      within = rw setting (let total = can.total in omega arith);
     })
 
 -- what its plan says is in its ranges
 pub plan_fits : (game : ChipGame) (feeds : Left) (plan : Plan) → CanPlay game feeds plan
     → (0 < plan.workers) × (plan.workers ≤ max_workers) × (plan.turns ≤ max_turns) × (names_edge game plan.seal ≡ true)
-plan_fits game feeds plan can =
-    let named = and_parts _ (names_edge game plan.seal) (and_parts _ (are_feeds game (pairs feeds)) can.within).0 in
-    let counts = and_parts _ (is_count max_turns plan.turns) (and_parts _ (leb plan.trace_rows max_trace_rows)
-    named.0).0 in
-    let workers = and_parts (ltb 0 plan.workers) (leb plan.workers max_workers)
-    (and_parts (is_count max_workers plan.workers) (is_count max_ring plan.ring) counts.0).0 in
-    let turns = and_parts (ltb 0 plan.turns) (leb plan.turns max_turns) counts.1 in (
-      ltb-true 0 plan.workers workers.0,
-      leb-true plan.workers max_workers workers.1,
-      leb-true plan.turns max_turns turns.1,
-      named.1,
-    )
+plan_fits game feeds plan can = let within = can.within in grind (arith, nat_tests)
 
 -- ---- a crew that finished
 
@@ -75,8 +56,7 @@ module _ (asked : Asked) (round turns : ℕ) (leader : Leader) (back : RootKnown
         turns = turns;
         at_most = has.at_most;
         led = leader.root;
-        is_led = subst (λ (l : Left). IsLed round turns asked.feeds (root_of asked.crew asked.plan) l leader.root)
-            (over_has_fed (option_copied leader.feeds) leader.root has.can.may noted) its_led.0;
+        is_led = rw (over_has_fed (option_copied leader.feeds) leader.root has.can.may noted) at its_led.0;
         lasts = lasts;
         back = back;
         is_back = its_back;
@@ -95,10 +75,9 @@ module _ (asked : Asked) (round turns : ℕ) (leader : Leader) (back : RootKnown
         is_round = has.is_round;
         left = option_copied leader.feeds;
         led = leader.root;
-        is_led = subst (λ (n : ℕ). IsLed round n asked.feeds (root_of asked.crew asked.plan) (option_copied leader.feeds)
-            leader.root) all its_led.0;
+        is_led = rw all at its_led.0;
         back = back;
-        is_back = subst (λ (n : ℕ). TakesBack asked.plan.seal n leader.root back) all its_back;
+        is_back = rw all at its_back;
         stays = stays;
       }
 
@@ -159,7 +138,6 @@ pub stopped_by : (shared : Sharing) (game : ChipGame) (asked : Asked) (e : CrewF
     → IsFaultOf shared game asked.feeds asked.plan asked.may_answer e
 stopped_by shared game asked fault.NoMemory opened why = opened.can
 stopped_by shared game asked fault.Spawn opened why = opened.can
-stopped_by shared game asked fault.GateShut opened why =
-    (opened.can, subst (λ (n : ℕ). SomeShut asked.may_answer n asked.plan.turns) opened.workers why)
+stopped_by shared game asked fault.GateShut opened why = (opened.can, rw opened.workers at why)
 stopped_by shared game asked (fault.Unfinished deficit root) opened why = (asked.crew, opened, why)
 stopped_by shared game asked _ opened why = absurd why

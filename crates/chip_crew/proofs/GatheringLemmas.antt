@@ -1,12 +1,12 @@
 -- Serves Gathering.antt.
 -- What the calling thread gathers from the queue are the actors of all vertices, and sorted they are in order.
-use Rattle.chip_crew.proofs.Names.{◌≡◌, ℕ, suc, ◌+◌, ◌*◌, ◌<◌, ◌≤◌, List, [], ◌∷◌, ◌++◌, length, map, get_or, All, refl}
-use Rattle.chip_crew.proofs.Names.{sym, ap, ◌∙◌, subst, arith, Vec, vec_capacity, IsPermutation, IsNonDecreasingBy}
-use Rattle.chip_crew.proofs.Names.{length-map, map-append, All-head, All-tail, All-append, All-permutation}
-use Rattle.chip_crew.proofs.Names.{sum_by-IsPermutation, sum_by-cons, sum_by-append, sum_by-le, get_or-le-sum_by}
-use Rattle.chip_crew.proofs.Names.{cond_yes, cond_no, ActorKnown, Asked, CrewId, IsOurs, AreFrom, AreActors, turns_of}
-use Rattle.chip_crew.proofs.Names.{all_turns, got_turns, gave_turns, times, actors_of, AreAllThere, AreGathered}
-use Rattle.chip_crew.proofs.Names.{IsGatheringFor, Ledger}
+use Rattle.chip_crew.proofs.Names.{◌≡◌, ℕ, suc, ◌+◌, ◌*◌, ◌<◌, ◌≤◌, List, length, refl, sym, ap, ◌∙◌, subst, arith, []}
+use Rattle.chip_crew.proofs.Names.{◌∷◌, ◌++◌, All, map, nat_tests, length-map, map-append, All-tail, All-head}
+use Rattle.chip_crew.proofs.Names.{All-append, All-permutation, sum_by-IsPermutation, sum_by-append, sum_by-cons}
+use Rattle.chip_crew.proofs.Names.{sum_by-le, get_or-le-sum_by, Vec, IsPermutation, IsNonDecreasingBy, vec_capacity}
+use Rattle.chip_crew.proofs.Names.{cond_yes, ActorKnown, Asked, CrewId, IsOurs, AreFrom, turns_of, all_turns, AreActors}
+use Rattle.chip_crew.proofs.Names.{AreGathered, IsGatheringFor, got_turns, gave_turns, times, actors_of, AreAllThere}
+use Rattle.chip_crew.proofs.Names.{Ledger}
 use Rattle.chip_crew.proofs.PlacesLemmas.{is_it, is_of}
 use Rattle.chip_crew.proofs.RunLemmas.{in_order}
 
@@ -26,17 +26,14 @@ gathers_more asked old new row now more m n gathers is ours room speaks has turn
       ∙ sym (ap vertices_of is ∙ map-append (λ (a : ActorKnown). a.vertex) row.items more);
   ours = subst (All (IsOurs asked.crew)) (sym is) (All-append (IsOurs asked.crew) row.items more gathers.ours ours);
   room = room;
-  turns = (let old_turns = gathers.turns in let all = ap all_turns is in
-      let both = sum_by-append turns_of row.items more in
-      omega arith);
+  turns = (let old_turns = gathers.turns in let all = ap all_turns is in omega (arith, sum_by-append turns_of));
 }
 
 -- ---- all of them
 
 times_same : (v : ℕ) (row : List ActorKnown) → times v (vertices_of row) ≡ actors_of v row
 times_same v [] = refl
-times_same v (a ∷ rest) = let one = sum_by-cons (is_it v) a.vertex (vertices_of rest) in
-    let other = sum_by-cons (is_of v) a rest in let same = times_same v rest in omega arith
+times_same v (a ∷ rest) = let same = times_same v rest in omega (arith, sum_by-cons (is_it v), sum_by-cons (is_of v))
 
 -- where the queue is empty
 pub gathered : (asked : Asked) (l : Ledger) (row : Vec ActorKnown) → IsGatheringFor asked asked.crew.workers l row
@@ -59,7 +56,7 @@ gathered asked l row gathers there =
 -- where all are of greater vertices none is of this one
 none_below : (v : ℕ) (xs : List ActorKnown) → All (λ a. v < a.vertex) xs → actors_of v xs ≡ 0
 none_below v xs all = let none = sum_by-le (is_of v) 0 xs (λ k d less. let above = all k d less in
-    let other = cond_no {A = ℕ} (get_or xs k d).vertex v 1 0 (omega arith) in omega arith) in omega arith
+    grind (arith, nat_tests)) in omega arith
 
 -- sorted, with each vertex once, they are of consecutive vertices
 are_from : (crew : CrewId) (from : ℕ) (xs : List ActorKnown) → All (IsOurs crew) xs
@@ -78,11 +75,9 @@ are_from crew from (a ∷ rest) ours up least once =
       are_from crew (suc from) rest (All-tail (IsOurs crew) a rest ours)
           (λ i j d le less. up (suc i) (suc j) d (omega arith) (omega arith))
           (λ k d less. let some = get_or-le-sum_by (is_of from) rest k d less in
-          let le = least (suc k) d (omega arith) in
-          let other : (get_or rest k d).vertex ≡ from → ⊥ = λ same.
-          (let yes = cond_yes {A = ℕ} (get_or rest k d).vertex from 1 0 same in omega arith) in omega arith)
+          let le = least (suc k) d (omega arith) in grind (arith, nat_tests))
           (λ v le less. let was = once v (omega arith) (omega arith) in let all = sum_by-cons (is_of v) a rest in
-          let other = cond_no {A = ℕ} a.vertex v 1 0 (omega arith) in omega arith),
+          grind (arith, nat_tests)),
     )
 
 pub sorted_actors : (crew : CrewId) (xs ys : List ActorKnown) → AreGathered crew xs → IsPermutation xs ys

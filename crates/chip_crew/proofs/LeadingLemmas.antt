@@ -1,17 +1,75 @@
--- Serves Leading.antt.
--- What worker 0 does beside its turns is to lead the root, and to seal.
-use Rattle.chip_crew.proofs.Names.{◌≡◌, ℕ, zero, suc, ◌%◌, ◌==◌, Bool, true, false, Option, Some, None, sym, ap, ◌∙◌}
-use Rattle.chip_crew.proofs.Names.{subst, add-one, option_copied, NetId, RootKnown, StopperKnown, IsPolling, IsOver}
-use Rattle.chip_crew.proofs.Names.{Asked, root_of, Left, FeedsOnce, PollsIf, IsLed, SealsBefore, HasSealed, MaySeal}
-use Rattle.chip_crew.proofs.Names.{EndsIf, Serves, CanLead, IsLeader, LeadsTurn, LeadsRound, Leader, SealAt}
+-- Serves Duties.antt, Leading.antt, Sealing.antt.
+-- What a worker does beside its turns: worker 0 leads the root, and seals.
+use Rattle.chip_crew.proofs.Names.{◌≡◌, ℕ, zero, suc, ◌+◌, ◌%◌, ◌<◌, ◌==◌, List, length, Option, Some, None, refl, ap}
+use Rattle.chip_crew.proofs.Names.{◌∙◌, arith, add-one, true, false, Bool, eq-eqb, ne_eqb, [], ◌∷◌, ◌++◌, is_some}
+use Rattle.chip_crew.proofs.Names.{ltb-true, if◌then◌else◌, add-mod_right, nat_tests, option_copied, option_zip}
+use Rattle.chip_crew.proofs.Names.{ChipGame, Step, Seal, RootKnown, IsPolling, IsOver, StopperKnown, new_stopper, NetId}
+use Rattle.chip_crew.proofs.Names.{Asked, root_of, CrewId, BeginsEach, EndsIf, Serves, PollsIf, IsLed, CanLead}
+use Rattle.chip_crew.proofs.Names.{IsLeader, LeadsTurn, LeadsRound, names_edge, HasBack, HasSealed, TakesBack}
+use Rattle.chip_crew.proofs.Names.{KnowsSeals, SealsBefore, MaySeal, seals_by, Leader, SealAt}
 use Rattle.chip_crew.proofs.FeedLemmas.{poll_goes_on}
-use Rattle.chip_crew.proofs.SealingLemmas.{sealed_next}
+use Rattle.chip_crew.proofs.DealingLemmas.{place_is}
+
+-- ---- what is sealed from turn to turn
+
+-- one turn more
+seals_next : (at : SealAt) (n : ℕ)
+    → seals_by at n ++ (if at.turn == n then Seal at.edge ∷ [] else []) ≡ seals_by at (suc n)
+seals_next at n = grind (arith, nat_tests)
+
+-- the stopper may seal
+pub may_seal : (crew : CrewId) (plan : Option SealAt) (turn : ℕ) (seal : Option (StopperKnown × SealAt))
+    → HasSealed crew plan turn seal → MaySeal crew.net seal
+may_seal crew None turn seal has = rw has tt
+may_seal crew (Some at) turn seal has = rw has.1 (refl, has.3)
+
+-- after one turn more it has sealed what is due
+pub sealed_next : (crew : CrewId) (plan : Option SealAt) (turn : ℕ) (old new : Option (StopperKnown × SealAt))
+    → HasSealed crew plan turn old → SealsBefore turn old new → HasSealed crew plan (suc turn) new
+sealed_next crew None turn old new has seals = rw has at seals
+sealed_next crew (Some at) turn old new has seals = let s = rw has.1 at seals in
+    (s.0, s.1, s.2 ∙ rw has.2 (seals_next at turn), has.3)
+
+-- a stopper that opens with its net has sealed nothing
+pub none_sealed : (crew : CrewId) (game : ChipGame) (plan : Option SealAt) (stopper : Option StopperKnown)
+    → stopper ≡ (if is_some plan then Some (new_stopper crew.net) else None) → names_edge game plan ≡ true
+    → crew.net.setting.game ≡ game → HasSealed crew plan 0 (option_zip stopper plan)
+none_sealed crew game None stopper is named same = rw is refl
+none_sealed crew game (Some at) stopper is named same =
+    ([], rw is refl, grind (arith, nat_tests), rw same (ltb-true at.edge (length game.graph.edges) named))
+
+-- ---- the root that has the stopper back
+
+pub takes_back : (crew : CrewId) (plan : Option SealAt) (turns : ℕ) (seal : Option (StopperKnown × SealAt))
+    (old new : RootKnown) → HasSealed crew plan turns seal → HasBack seal old new → TakesBack plan turns old new
+takes_back crew None turns seal old new has back = rw has at back
+takes_back crew (Some at) turns seal old new has back = (has.0, rw has.1 at back, has.2)
+
+-- it has its net and did what it had done
+abbrev pub IsSame : RootKnown → RootKnown → Type 0
+IsSame old new = (did : Option (List Step)) × (new ≡ record { net = old.net; did = old.did; stopper_did = did })
+
+pub back_same : (plan : Option SealAt) (turns : ℕ) (old new : RootKnown) → TakesBack plan turns old new
+    → IsSame old new
+back_same None turns old new back = (old.stopper_did, back)
+back_same (Some at) turns old new back = (Some back.0, back.1)
+
+-- and it knows what was sealed, where it had the stopper from the beginning if nothing was to be sealed
+pub knows_seals : (plan : Option SealAt) (turns : ℕ) (first old new last : RootKnown)
+    → first.stopper_did ≡ (if is_some plan then None else Some []) → old.stopper_did ≡ first.stopper_did
+    → TakesBack plan turns old new → last.stopper_did ≡ new.stopper_did → KnowsSeals plan turns last
+knows_seals None turns first old new last opens same back kept =
+    kept ∙ ap (λ (r : RootKnown). r.stopper_did) back ∙ same ∙ opens
+knows_seals (Some at) turns first old new last opens same back kept =
+    (back.0, kept ∙ ap (λ (r : RootKnown). r.stopper_did) back.1, back.2)
+
+-- ---- the root is led
 
 -- the stopper that sealed is the net's, and its edge the same
 pub seal_stays : (net : NetId) (turn : ℕ) (old new : Option (StopperKnown × SealAt)) → SealsBefore turn old new
     → MaySeal net old → MaySeal net new
-seal_stays net turn None new seals can = subst (MaySeal net) (sym seals) tt
-seal_stays net turn (Some s) new seals can = subst (MaySeal net) (sym seals.1) can
+seal_stays net turn None new seals can = rw seals tt
+seal_stays net turn (Some s) new seals can = rw seals.1 can
 
 -- a poll leaves what worker 0 needs
 pub can_still : (net : NetId) (leader : Leader) (root : RootKnown) (closed : Bool)
@@ -28,33 +86,52 @@ can_still net leader root closed polls same over can = record {
 ends_round : (over : Bool) (old new : Leader) → EndsIf LeadsRound over old new
     → (option_copied new.feeds ≡ option_copied old.feeds) × (new.seal ≡ old.seal) × PollsIf over old.root new.root
 ends_round true old new ends = (ap option_copied ends.feeds, ends.seal, ends.polls)
-ends_round false old new same = (
-  ap (λ (l : Leader). option_copied l.feeds) same,
-  ap (λ (l : Leader). l.seal) same,
-  ap (λ (l : Leader). l.root) same,
-)
+ends_round false old new same = rw same (refl, refl, refl)
 
 -- the root is led, and what is due is sealed
 pub led_by : (asked : Asked) (round k : ℕ) (old new : Leader) → IsLeader asked old
     → Serves LeadsTurn LeadsRound round k old new
     → IsLed round k asked.feeds (root_of asked.crew asked.plan) (option_copied new.feeds) new.root
     × HasSealed asked.crew asked.plan.seal k new.seal
-led_by asked round zero old new begins same = (
-  (ap (λ (l : Leader). option_copied l.feeds) same ∙ begins.feeds, ap (λ (l : Leader). l.root) same ∙ begins.root),
-  subst (λ (l : Leader). HasSealed asked.crew asked.plan.seal 0 l.seal) (sym same) begins.seal,
-)
+led_by asked round zero old new begins same = rw same ((begins.feeds, begins.root), begins.seal)
 led_by asked round (suc k) old new begins (was, begun, served, turn, ends) =
     let led = led_by asked round k old was begins served in
     let over = ends_round (suc k % round == 0) begun new ends in (
-      (
-        option_copied was.feeds,
-        was.root,
-        begun.root,
-        led.0,
-        subst (λ (l : Left). FeedsOnce (option_copied was.feeds) l was.root begun.root) (sym over.0) turn.feeds,
-        over.2,
-      ),
-      subst (λ (z : ℕ × Option (StopperKnown × SealAt)). HasSealed asked.crew asked.plan.seal z.0 z.1)
-          (λ i. (add-one k i, sym over.1 i))
-          (sealed_next asked.crew asked.plan.seal k was.seal begun.seal led.1 turn.seals),
+      (option_copied was.feeds, was.root, begun.root, led.0, rw over.0 turn.feeds, over.2),
+      rw over.1 (sealed_next asked.crew asked.plan.seal k was.seal begun.seal led.1 turn.seals),
     )
+
+-- ---- round by round
+
+-- with a whole round more there are whole rounds
+pub round_over : (round m k : ℕ) → k ≡ round → m % round ≡ 0 → (m + k) % round ≡ 0
+round_over round m k whole begins = rw whole (add-mod_right m round ∙ begins)
+
+module _ {D : Type 0} (before : ℕ → D → D → Type 0) (after : D → D → Type 0) (round : ℕ) where
+  -- one turn more, with what comes after a round where it ends one
+  pub serves_turn : (k : ℕ) (over : Bool) (old was now end : D) → Serves before after round k old was
+      → before k was now
+      → ((k + 1) % round == 0) ≡ over → EndsIf after over now end → Serves before after round (k + 1) old end
+  serves_turn k over old was now end served begun is ends =
+      rw add-one (was, now, served, begun, rw (rw add-one at is) ends)
+
+  -- turns of a round that is not over
+  pub serves_more : (m k : ℕ) (old was now : D) → m % round ≡ 0 → k < round → Serves before after round m old was
+      → BeginsEach before m k was now → Serves before after round (m + k) old now
+  serves_more m zero old was now begins less served same = let here : m + 0 ≡ m = omega arith in rw (same, here) served
+  serves_more m (suc k) old was now begins less served each =
+      let next : m + suc k ≡ m + k + 1 = omega arith in let place = place_is m (suc k) round begins less in
+      rw next (serves_turn (m + k) false old each.0 now now
+      (serves_more m k old was each.0 begins (omega arith) served each.1) each.2
+      (rw (← next) (ne_eqb ((m + suc k) % round) 0 (omega arith))) refl)
+
+  -- a whole round
+  pub serves_round : (m k : ℕ) (old was now end : D) → k ≡ round → m % round ≡ 0 → 0 < round
+      → Serves before after round m old was → BeginsEach before m k was now → after now end
+      → Serves before after round (m + k) old end
+  serves_round m zero old was now end whole begins some served each done = absurd (omega arith)
+  serves_round m (suc j) old was now end whole begins some served each done =
+      let next : m + suc j ≡ m + j + 1 = omega arith in
+      rw next (serves_turn (m + j) true old each.0 now end
+      (serves_more m j old was each.0 begins (omega arith) served each.1) each.2
+      (rw (← next) (eq-eqb ((m + suc j) % round) 0 (round_over round m (suc j) whole begins))) done)

@@ -2,12 +2,12 @@
 pub use Rattle.std.proofs.Common.{◌^◌, ◌≡◌, ℕ, zero, suc, ◌+◌, ◌*◌, ◌%◌, ◌<◌, ◌≤◌, ◌-◌, ◌==◌, max, List, length, Option}
 pub use Rattle.std.proofs.Common.{Some, None, take, get_or, set, length-take, refl, sym, ap, ◌∙◌, subst, arith, add-one}
 pub use Rattle.std.proofs.Common.{zero-add, true, false, Bool, eq-eqb, ne_eqb, [], ◌∷◌, ◌++◌, All, sum, append_assoc}
-pub use Rattle.std.proofs.Common.{⊎_elim, ◌⊎◌, not, is_some, ltb, leb, ltb-true, map, if◌then◌else◌, cond, drop, sum_by}
-pub use Rattle.std.proofs.Common.{length-append, le-ltb, rules, length-drop, ◌&&◌, append-nil, option_to_list, Bor}
-pub use Rattle.std.proofs.Common.{false-eqb, IfSome, Result, Ok, Err, MatchResult}
+pub use Rattle.std.proofs.Common.{⊎_elim, ◌⊎◌, is_some, ltb-true, map, if◌then◌else◌, cond, drop, sum_by, length-append}
+pub use Rattle.std.proofs.Common.{rules, length-drop, ◌&&◌, append-nil, option_to_list, Bor, false-eqb, IfSome, Result}
+pub use Rattle.std.proofs.Common.{Ok, Err, MatchResult, inl, inr}
 pub use Rattle.std.proofs.Crossing.{crosses, frees, send, sync}
 pub use Rattle.std.proofs.Math.Nat.{mod-add-mod, mod-eq_of_lt, add-mod_right}
-pub use Rattle.std.proofs.lemmas.Bool.{and_parts, leb-true, cond-false}
+pub use Rattle.std.proofs.lemmas.Bool.{and_parts}
 pub use Rattle.std.proofs.lemmas.Bool.Decides.{nat_tests}
 pub use Rattle.std.proofs.lemmas.List.{length-set, length-map, map-append}
 pub use Rattle.std.proofs.lemmas.List.Elements.{All-tail, All-head, All-append, All-push, All-set, All-cons, All-nil}
@@ -24,7 +24,7 @@ pub use Rattle.std.specs.Global.{Vec}
 pub use Rattle.std.specs.List.{range_with_len}
 pub use Rattle.std.specs.List.Sorted.{IsPermutation, IsNonDecreasingBy}
 pub use Rattle.std.specs.Option.{option_copied, option_zip}
-pub use Rattle.std.specs.Prelude.{slice_get, nat_lt}
+pub use Rattle.std.specs.Prelude.{slice_get}
 pub use Rattle.std.specs.Result.{result_err}
 pub use Rattle.std.specs.Vec.{vec_capacity}
 pub use Rattle.atomic_table.specs.Seated.{TableId}
@@ -38,36 +38,28 @@ pub use denote.Param.SendFields.{declared_send}
 pub use denote.RattleType.{RattleType}
 pub use denote.Ref.{NamedLft}
 pub use lib.ListN.{get_elem?}
-pub use mathlib.Core.Logic.{dite}
 pub use mathlib.Core.Option.{some, some-injective, some-ne-none}
 pub use mir.Syntax.{Lifetime}
-pub use native.Mathlib.Decide.{ℕ_discrete, dec_lt}
 pub use Rattle.chip_graph.proofs.PickLemmas.{All-picked}
-pub use Rattle.chip_graph.proofs.SumLemmas.{cond_yes, cond_no, tested_le}
+pub use Rattle.chip_graph.proofs.SumLemmas.{cond_yes, tested_le}
 pub use Rattle.chip_graph.specs.ChipGame.{ChipGame}
-pub use Rattle.chip_graph.specs.Limits.{max_total}
 pub use Rattle.chip_graph.specs.More.{all_brought, HasMore}
 pub use Rattle.chip_graph.specs.Multigraph.{Multigraph, edge_at, edges_in}
 pub use Rattle.chip_sequence.specs.declared.outcome.Outcome.{Outcome}
-pub use Rattle.chip_link.specs.Link.{claims_of}
-pub use Rattle.chip_link.specs.Rings.{max_ring}
 pub use Rattle.chip_part.proofs.PickedLemmas.{length-picked}
 pub use Rattle.chip_part.specs.Cursor.{from_settling}
 pub use Rattle.chip_part.specs.Edges.{root_edge, graph_edges, all_edges, tail_of, root}
-pub use Rattle.chip_part.specs.Part.{Part, deficit, outstanding, is_running}
-pub use Rattle.chip_part.specs.Rules.{Clear, Take, Ack, Fire, Claim, Put, Halt}
+pub use Rattle.chip_part.specs.Part.{Part, deficit, outstanding}
+pub use Rattle.chip_part.specs.Rules.{Clear, Take}
 pub use Rattle.chip_part.specs.Setting.{Setting, setting_with}
 pub use Rattle.chip_part.specs.Steps.{does, saw}
-pub use Rattle.chip_part.specs.Turn.{Phase, nothing, either_phase, where_phase, and_then, each_phase, one_step, seeing}
-pub use Rattle.chip_part.specs.Turn.{ins_of, outs_of, may_fire, batch_of, sending, acknowledging, acknowledging_parent}
-pub use Rattle.chip_part.specs.Turn.{turn}
+pub use Rattle.chip_part.specs.Turn.{Phase, and_then, each_phase, one_step, ins_of, outs_of, sending, turn, sending_all}
 pub use Rattle.chip_core.specs.Core.{Step, Event, Settle, End, opening_part, Seal}
 pub use Rattle.chip_core.specs.Histories.{part_by}
 pub use Rattle.chip_core.specs.Positions.{fed_of, fed_in}
 pub use Rattle.chip_net.proofs.CrossingLemmas.{actor_send, net_crosses}
 pub use Rattle.chip_net.proofs.FinishingLemmas.{one_run}
 pub use Rattle.chip_net.proofs.ViewingLemmas.{part_append}
-pub use Rattle.chip_net.specs.Meeting.{IsRun}
 pub use Rattle.chip_net.specs.Roots.{RootKnown, root_part, root_after, has_ended, fed_by, Feeds, LooksInVain}
 pub use Rattle.chip_net.specs.Roots.{feed_steps, settles_from, IsPolling, Ends, new_root, IsOver, StopperKnown}
 pub use Rattle.chip_net.specs.Roots.{root_deficit, new_stopper}
@@ -77,26 +69,25 @@ pub use Rattle.chip_net.specs.declared.poll.RootState.{RootState}
 pub use Rattle.chip_crew.specs.Asked.{Asked, passes, SomeShut, root_of, ShutFor, asked_of}
 pub use Rattle.chip_crew.specs.Crew.{CrewId, Turned, IsOurs, IsAt, AreFrom, turns_of, all_turns, AreActors, EachFrom}
 pub use Rattle.chip_crew.specs.Crew.{AreInOrder, is_root_take}
-pub use Rattle.chip_crew.specs.Dealing.{ends_at, ends_before, IsCut, IsFirstOf, AreOf, IsRoundBy, IsRound}
+pub use Rattle.chip_crew.specs.Dealing.{ends_at, ends_before, IsCut, IsFirstOf, AreOf, IsRound}
 pub use Rattle.chip_crew.specs.Duties.{BeginsEach, EndsIf, Serves}
 pub use Rattle.chip_crew.specs.Ending.{EndsWell, StaysOpen, EndsLed, StaysUnfinished}
 pub use Rattle.chip_crew.specs.Feeding.{Left, pairs, MayFeed, MayFeedLeft, FeedsNext, EndsAfter, FeedsOnce, PollsIf}
 pub use Rattle.chip_crew.specs.Feeding.{IsLed}
 pub use Rattle.chip_crew.specs.Finished.{CanPlay, IsCrewFor, HasFinished, IsWhole, IsFinished, IsStopped, IsFaultOf}
-pub use Rattle.chip_crew.specs.Gathering.{AreGathered, IsGatheringFor, AreBack, IsRow, Collects, queue_for}
+pub use Rattle.chip_crew.specs.Gathering.{AreGathered, IsGatheringFor, AreBack, IsRow, queue_for}
 pub use Rattle.chip_crew.specs.Handed.{HasDealt, HasMade, HasWorked, round_of, queue_of, IsReady, AreReady}
 pub use Rattle.chip_crew.specs.Joining.{IsWorker, queue_of_all}
 pub use Rattle.chip_crew.specs.Leading.{HasLed, CanLead, IsLeader, LeadsTurn, LeadsRound}
 pub use Rattle.chip_crew.specs.Ledger.{got_turns, gave_turns, first_ledger, new_ledger, with_fewer, both_ledgers}
 pub use Rattle.chip_crew.specs.Ledger.{no_ledger, with_taken, with_put, HasJust, IsNext, EndsTurn, TurnsMade}
-pub use Rattle.chip_crew.specs.Ledger.{kept_turns, vertex_of, MakesOneTurn}
+pub use Rattle.chip_crew.specs.Ledger.{kept_turns, vertex_of}
 pub use Rattle.chip_crew.specs.Places.{times, actors_of, AreAllThere, HasNothing, AreShared, HaveRoom}
-pub use Rattle.chip_crew.specs.Plans.{is_plan, is_count, names_edge, are_feeds, max_workers, max_turns, max_trace_rows}
+pub use Rattle.chip_crew.specs.Plans.{is_plan, names_edge, are_feeds, max_workers, max_turns}
 pub use Rattle.chip_crew.specs.Rounds.{TurnsThere, TurnsAt, RoundsMade}
 pub use Rattle.chip_crew.specs.Sealing.{events_of, HasBack, HasSealed, TakesBack, KnowsSeals, SealsBefore, MaySeal}
 pub use Rattle.chip_crew.specs.Sealing.{seals_by}
 pub use Rattle.chip_crew.specs.declared.fault.CrewFault.{CrewFault}
-pub use Rattle.chip_crew.specs.declared.gathering.Collected.{Collected}
 pub use Rattle.chip_crew.specs.declared.leader.Leader.{Leader}
 pub use Rattle.chip_crew.specs.declared.plan.Plan.{Plan}
 pub use Rattle.chip_crew.specs.declared.plan.SealAt.{SealAt}

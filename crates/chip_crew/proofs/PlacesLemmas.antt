@@ -1,14 +1,14 @@
 -- Serves Places.antt, Ledger.antt.
 -- What is done at the queue keeps its rule, and what the rule tells.
-use Rattle.chip_crew.proofs.Names.{◌≡◌, ◌==◌, ◌+◌, ◌<◌, ◌≤◌, ℕ, zero, suc, cond, List, [], ◌∷◌, ◌++◌, refl, sym, ap}
-use Rattle.chip_crew.proofs.Names.{◌∙◌, length, map, set, drop, All, sum_by, subst, arith, length-append, add-one}
-use Rattle.chip_crew.proofs.Names.{range_with_len, sum_by-cons, sum_by-append, sum_by_push, sum_by-take-drop, All-push}
-use Rattle.chip_crew.proofs.Names.{All-head, All-tail, All-set, All-cons, All-nil, All-drop, length-range_with_len}
-use Rattle.chip_crew.proofs.Names.{dite, some, some-injective, some-ne-none, ℕ_discrete, get_elem?, set_else, drop_at}
-use Rattle.chip_crew.proofs.Names.{Pushes, Pops, Forks, Merges, Learns, Held, cond_yes, cond_no, ActorKnown, Ledger}
-use Rattle.chip_crew.proofs.Names.{CrewId, IsOurs, AreFrom, turns_of, first_ledger, new_ledger, with_fewer}
-use Rattle.chip_crew.proofs.Names.{both_ledgers, no_ledger, with_taken, with_put, got_turns, gave_turns, times}
-use Rattle.chip_crew.proofs.Names.{HasNothing, AreShared, AreAllThere, HaveRoom}
+use Rattle.chip_crew.proofs.Names.{◌≡◌, ℕ, zero, suc, ◌+◌, ◌<◌, ◌≤◌, ◌==◌, List, length, set, refl, sym, ap, ◌∙◌, subst}
+use Rattle.chip_crew.proofs.Names.{arith, add-one, [], ◌∷◌, ◌++◌, All, map, cond, drop, sum_by, length-append}
+use Rattle.chip_crew.proofs.Names.{nat_tests, All-tail, All-head, All-push, All-set, All-cons, All-nil, All-drop}
+use Rattle.chip_crew.proofs.Names.{length-range_with_len, sum_by-append, sum_by-cons, sum_by_push, sum_by-take-drop}
+use Rattle.chip_crew.proofs.Names.{range_with_len, set_else, drop_at, Pushes, Pops, Forks, Merges, Learns, Held}
+use Rattle.chip_crew.proofs.Names.{get_elem?, some, some-injective, some-ne-none, ActorKnown, CrewId, IsOurs, AreFrom}
+use Rattle.chip_crew.proofs.Names.{turns_of, got_turns, gave_turns, first_ledger, new_ledger, with_fewer, both_ledgers}
+use Rattle.chip_crew.proofs.Names.{no_ledger, with_taken, with_put, times, AreAllThere, HasNothing, AreShared, HaveRoom}
+use Rattle.chip_crew.proofs.Names.{Ledger}
 
 -- ---- what is counted
 
@@ -20,9 +20,6 @@ abbrev pub is_of : ℕ → ActorKnown → ℕ
 is_of v a = cond (a.vertex == v) 1 0
 
 -- what a thread has, and the workers for which it speaks
-abbrev has_times : ℕ → Ledger → ℕ
-has_times v l = times v l.has
-
 abbrev has_count : Ledger → ℕ
 has_count l = length l.has
 
@@ -39,15 +36,13 @@ module _ {X : Type 0} (f : X → ℕ) where
   sum_set : (xs : List X) (i : ℕ) (x w : X) → get_elem? xs i ≡ some x
       → sum_by f (set xs i w) + f x ≡ sum_by f xs + f w
   sum_set [] i x w at = absurd (some-ne-none x (sym at))
-  sum_set (y ∷ ys) zero x w at = let a = sum_by-cons f w ys in let b = sum_by-cons f y ys in
-      let c = ap f (some-injective y x at) in omega arith
-  sum_set (y ∷ ys) (suc i) x w at = let a = sum_by-cons f y (set ys i w) in let b = sum_by-cons f y ys in
-      let c = sum_set ys i x w at in omega arith
+  sum_set (y ∷ ys) zero x w at = let c = ap f (some-injective y x at) in omega (arith, sum_by-cons f)
+  sum_set (y ∷ ys) (suc i) x w at = let c = sum_set ys i x w at in omega (arith, sum_by-cons f)
 
   -- each is part of it
   sum_least : (xs : List X) (i : ℕ) (x : X) → get_elem? xs i ≡ some x → f x ≤ sum_by f xs
   sum_least xs i x at = let a = sum_by-take-drop f xs i in let b = ap (sum_by f) (drop_at xs i x at) in
-      let c = sum_by-cons f x (drop (suc i) xs) in omega arith
+      omega (arith, sum_by-cons f)
 
 all_at : {X : Type 0} (P : X → Type 0) (xs : List X) (i : ℕ) (x : X) → All P xs → get_elem? xs i ≡ some x → P x
 all_at P xs i x all at = All-head P x (drop (suc i) xs) (subst (All P) (drop_at xs i x at) (All-drop P i xs all))
@@ -57,9 +52,9 @@ module _ (f : Ledger → ℕ) (nothing : (l : Ledger) → HasNothing l → f l �
   none_adds : (ls : List Ledger) → sum_by workers_of ls ≡ 0 → All IsSpent ls → sum_by f ls ≡ 0
   none_adds [] none spent = refl
   none_adds (l ∷ ls) none spent =
-      let both = sum_by-cons workers_of l ls in let all = sum_by-cons f l ls in
+      let both = sum_by-cons workers_of l ls in
       let here = nothing l (All-head IsSpent l ls spent (omega arith)) in
-      let rest = none_adds ls (omega arith) (All-tail IsSpent l ls spent) in omega arith
+      let rest = none_adds ls (omega arith) (All-tail IsSpent l ls spent) in omega (arith, sum_by-cons f)
 
   -- who speaks for all workers is all of it
   one_adds : (ls : List Ledger) (i : ℕ) (l : Ledger) → get_elem? ls i ≡ some l → sum_by workers_of ls ≡ l.workers
@@ -82,16 +77,12 @@ module _ (crew : CrewId) where
         with_put v x,
         record {
           ours = All-push (IsOurs crew) queued x old.ours ours;
-          once = λ u less. (let a = old.once u less in let b = sum_by_push (is_of u) queued x in
-              let c = moves (has_times u) in
-              let d = ap (times u) first in let e = sum_by-cons (is_it u) x.vertex rest in let f = ap (times u) left in
-              omega arith);
-          count = (let a = length-append queued (x ∷ []) in let b = moves has_count in let c = ap length first in
-              let d = ap length left in omega arith);
-          workers = (let a = moves workers_of in omega arith);
-          turns = (let a = sum_by_push turns_of queued x in let b = sum_by_push turns_of v.put x in
-              let c = moves got_turns in
-              let d = moves gave_turns in omega arith);
+          once = λ u less. (let a = old.once u less in let d = ap (times u) first in let f = ap (times u) left in
+              omega (arith, moves, sum_by_push (is_of u), sum_by-cons (is_it u)));
+          count = (let c = ap length first in let d = ap length left in
+              omega (arith, moves, length-append {A = ActorKnown}));
+          workers = omega (arith, moves);
+          turns = omega (arith, moves, sum_by_push turns_of);
           spent = All-set IsSpent ledgers pass (with_put v x)
               (λ none. absurd (let a = ap length (sym first ∙ (all_at IsSpent ledgers pass v old.spent at none).0) in
               omega arith)) old.spent;
@@ -107,14 +98,11 @@ module _ (crew : CrewId) where
         with_taken v x,
         record {
           ours = All-tail (IsOurs crew) x queued old.ours;
-          once = λ u less. (let a = old.once u less in let b = sum_by-cons (is_of u) x queued in
-              let c = moves (has_times u) in
-              let d = sum_by_push (is_it u) v.has x.vertex in omega arith);
-          count = (let a = length-append v.has (x.vertex ∷ []) in let b = moves has_count in omega arith);
-          workers = (let a = moves workers_of in omega arith);
-          turns = (let a = sum_by-cons turns_of x queued in let b = sum_by_push turns_of v.taken x in
-              let c = moves got_turns in
-              let d = moves gave_turns in omega arith);
+          once = λ u less. (let a = old.once u less in
+              omega (arith, moves, sum_by-cons (is_of u), sum_by_push (is_it u)));
+          count = omega (arith, moves, length-append {A = ℕ});
+          workers = omega (arith, moves);
+          turns = omega (arith, moves, sum_by-cons turns_of, sum_by_push turns_of);
           spent = All-set IsSpent ledgers pass (with_taken v x) (λ none. absurd (omega arith)) old.spent;
         },
         (
@@ -133,13 +121,10 @@ module _ (crew : CrewId) where
       let more = λ (f : Ledger → ℕ). sum_by_push f now new_ledger in
       record {
         ours = old.ours;
-        once = λ u less. (let a = old.once u less in let b = moves (has_times u) in
-            let c = more (has_times u) in omega arith);
-        count = (let a = moves has_count in let b = more has_count in omega arith);
-        workers = (let a = moves workers_of in let b = more workers_of in omega arith);
-        turns = (let a = moves got_turns in let b = more got_turns in let c = moves gave_turns in
-            let d = more gave_turns in
-            omega arith);
+        once = λ u less. (let a = old.once u less in omega (arith, moves, more));
+        count = omega (arith, moves, more);
+        workers = omega (arith, moves, more);
+        turns = omega (arith, moves, more);
         spent = All-push IsSpent now new_ledger (All-set IsSpent ledgers pass (with_fewer v) (λ none. empty) old.spent)
             (λ none. (refl, refl, refl));
       }
@@ -152,18 +137,13 @@ module _ (crew : CrewId) where
       let now = set ledgers pass w in
       let moves = λ (f : Ledger → ℕ). sum_set f ledgers pass v w at in
       let spends = λ (f : Ledger → ℕ). sum_set f now other u no_ledger there in
-      let got = sum_by-append turns_of v.taken u.taken in
-      let gave = sum_by-append turns_of v.put u.put in
+      let got = sum_by-append turns_of v.taken u.taken in let gave = sum_by-append turns_of v.put u.put in
       record {
         ours = old.ours;
-        once = λ a less. (let one = old.once a less in let b = moves (has_times a) in let c = spends (has_times a) in
-            let d = sum_by-append (is_it a) v.has u.has in omega arith);
-        count = (let a = moves has_count in let b = spends has_count in
-            let c = length-append v.has u.has in omega arith);
-        workers = (let a = moves workers_of in let b = spends workers_of in omega arith);
-        turns = (let a = moves got_turns in let b = spends got_turns in let c = moves gave_turns in
-            let d = spends gave_turns in
-            omega arith);
+        once = λ a less. (let one = old.once a less in omega (arith, moves, spends, sum_by-append (is_it a)));
+        count = omega (arith, moves, spends, length-append {A = ℕ});
+        workers = omega (arith, moves, spends);
+        turns = omega (arith, moves, spends);
         spent = All-set IsSpent now other no_ledger (λ none. (refl, refl, refl)) (All-set IsSpent ledgers pass w
             (λ none. let one = all_at IsSpent ledgers pass v old.spent at (omega arith) in
             let two = all_at IsSpent ledgers other u old.spent (sym (set_else ledgers pass other w apart)
@@ -179,7 +159,7 @@ module _ (crew : CrewId) where
       one_adds f none ledgers pass v at (old.workers ∙ sym all) old.spent in (
         (let a = one has_count (λ l none. ap length none.0) in omega arith),
         (let a = one got_turns (λ l none. none.1) in let b = one gave_turns (λ l none. none.2) in omega arith),
-        λ u less. (let a = old.once u less in let b = one (has_times u) (λ l none. ap (times u) none.0) in omega arith),
+        λ u less. (let a = old.once u less in let b = one (λ (l : Ledger). times u l.has) (λ l none. ap (times u) none.0) in omega arith),
       )
 
   pub have_room : (pass : ℕ) (v : Ledger) → Learns (AreShared crew) pass v (HaveRoom crew v)
@@ -198,13 +178,8 @@ module _ (crew : CrewId) where
   numbers_once from zero v = (λ less. refl, λ least less. absurd (omega arith))
   numbers_once from (suc k) v =
       let rest = numbers_once (from + 1) k v in
-      let both = sum_by-cons (is_it v) from (range_with_len (from + 1) k) in (
-        λ less. (let a = cond_no {A = ℕ} from v 1 0 (omega arith) in let b = rest.0 (omega arith) in omega arith),
-        λ least less. dite (ℕ_discrete from v)
-            (λ same. let a = cond_yes {A = ℕ} from v 1 0 same in let b = rest.0 (omega arith) in omega arith)
-            (λ other. let a = cond_no {A = ℕ} from v 1 0 other in
-            let b = rest.1 (omega arith) (omega arith) in omega arith),
-      )
+      let both = sum_by-cons (is_it v) from (range_with_len (from + 1) k) in
+      (λ less. grind (arith, nat_tests), λ least less. grind (arith, nat_tests))
 
   -- the calling thread has all actors
   pub begins : 0 < crew.workers → AreShared crew [] (first_ledger crew ∷ [])

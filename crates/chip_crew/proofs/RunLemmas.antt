@@ -1,8 +1,9 @@
 -- Serves Crew.antt.
--- Lists whose elements fit numbers that grow by one.
-use Rattle.chip_crew.proofs.Names.{same_Some, none-some, ◌≡◌, ℕ, zero, suc, ◌+◌, List, [], ◌∷◌, ◌++◌, length, take}
-use Rattle.chip_crew.proofs.Names.{drop, set, All, Some, refl, sym, ◌∙◌, subst, arith, add-one, slice_get, ActorKnown}
-use Rattle.chip_crew.proofs.Names.{CrewId, IsAt, EachFrom, AreFrom, AreInOrder}
+-- Lists whose elements fit numbers that grow by one, as the actors of a crew do.
+use Rattle.chip_crew.proofs.Names.{◌≡◌, ℕ, zero, suc, ◌+◌, ◌<◌, List, length, Some, take, set, refl, sym, ap, ◌∙◌}
+use Rattle.chip_crew.proofs.Names.{subst, arith, add-one, [], ◌∷◌, ◌++◌, All, drop, sum_by-le, slice_get_within}
+use Rattle.chip_crew.proofs.Names.{get_or_from_slice_get, same_Some, none-some, slice_get, ActorKnown, NetId, newcomer}
+use Rattle.chip_crew.proofs.Names.{CrewId, IsAt, AreFrom, turns_of, all_turns, EachFrom, AreInOrder}
 
 module _ {X : Type 0} (P : ℕ → X → Type 0) where
   at_number : (n m : ℕ) (x : X) → n ≡ m → P n x → P m x
@@ -61,3 +62,19 @@ pub in_order : (crew : CrewId) (actors : List ActorKnown) → AreFrom crew 0 act
 in_order crew actors all v a at =
     let here = from_at (IsAt crew) 0 v actors a all at in
     let same : 0 + v ≡ v = omega arith in (here.0, here.1 ∙ same)
+
+pub ours_by : (crew : CrewId) (n : ℕ) (actors : List ActorKnown) → crew.net.setting.game.graph.vertices ≡ n
+    → length actors ≡ n → ((v : ℕ) → v < n → slice_get actors v ≡ Some (newcomer crew.net crew.room v))
+    → AreFrom crew 0 actors
+ours_by crew n actors vertices count each = from_each (IsAt crew) 0 actors (λ i a at.
+    let within = slice_get_within actors i a at in
+    let same = same_Some (newcomer crew.net crew.room i) a (sym (each i (omega arith)) ∙ at) in
+    let here : i ≡ 0 + i = omega arith in subst (IsAt crew (0 + i)) same
+    (record { net_is = refl; inside = omega arith; room_is = refl; turned = refl }, here))
+
+-- none of them made a turn yet
+pub new_turns : (net : NetId) (room : ℕ) (actors : List ActorKnown)
+    → ((v : ℕ) → v < length actors → slice_get actors v ≡ Some (newcomer net room v)) → all_turns actors ≡ 0
+new_turns net room actors each = let none = sum_by-le turns_of 0 actors (λ k d less.
+    let is = ap turns_of (get_or_from_slice_get actors k (newcomer net room k) d (each k less)) in omega arith) in
+    omega arith

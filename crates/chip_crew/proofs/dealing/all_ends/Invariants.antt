@@ -1,4 +1,4 @@
-use Rattle.chip_crew.proofs.Names.{◌^◌, ◌+◌, ◌≡◌, ◌*◌, ◌≤◌, ends_before}
+use Rattle.chip_crew.proofs.Names.{◌^◌, ◌≡◌, ◌+◌, ◌*◌, ◌≤◌, ends_before}
 use Rattle.chip_crew.proofs.dealing.all_ends.Given as goal
 
 abbrev pub invariant-loop-vertex : goal.invariant-loop-vertex

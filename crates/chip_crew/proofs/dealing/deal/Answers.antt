@@ -1,6 +1,5 @@
-use Rattle.chip_crew.proofs.Names.{rules, ◌≡◌, ◌+◌, ◌-◌, ◌*◌, ℕ, None, length, length-drop, drop, refl, sym, ap, subst}
-use Rattle.chip_crew.proofs.Names.{arith, Multigraph, IsAt, AreFrom, turns_of, all_turns, IsCut, IsReady}
-use Rattle.chip_crew.proofs.Names.{sum_by-take-drop}
+use Rattle.chip_crew.proofs.Names.{◌≡◌, ℕ, ◌+◌, ◌*◌, ◌-◌, length, None, refl, ap, arith, rules, length-drop}
+use Rattle.chip_crew.proofs.Names.{sum_by-take-drop, ActorKnown, IsAt, turns_of, all_turns, IsCut, IsReady}
 use Rattle.chip_crew.proofs.RunLemmas.{from_push, from_drop}
 use Rattle.chip_crew.proofs.DealingLemmas.{are_of, cut_next}
 use Rattle.chip_crew.specs.declared.worker.Share.TheVariants as share
@@ -18,7 +17,7 @@ loop-worker-preserved g c =
     (ap (λ (n : ℕ). (worker + 1) * n) c.all_ends-all_ends.ensures.value) c.next_cut-next.ensures.next.2
     c.next_cut-next.ensures.reached c.next_cut-next.ensures.least in
     let at_crew = λ (k u : ℕ) (is : IsCut c.args.graph.now c.args.workers k u).
-    subst (λ (z : Multigraph × ℕ). IsCut z.0 z.1 k u) (λ j. (c.requires.graph j, c.requires.workers.2 j)) is in
+    rw (c.requires.graph, c.requires.workers.2) at is in
     let behind = c.next_cut-next.ensures.next.0 in
     let within = c.next_cut-next.ensures.next.1 in
     let whole = i.whole in
@@ -31,19 +30,16 @@ loop-worker-preserved g c =
       first_is = cut;
       ends_are = c.next_cut-next.ensures.next.2;
       few = c.next_cut-next.ensures.next.3;
-      actors = subst (AreFrom g.B.Crew.asked.crew next) (sym rest.tail)
-          (subst (λ (n : ℕ). AreFrom g.B.Crew.asked.crew n (drop (next - first) actors)) end
-          (from_drop (IsAt g.B.Crew.asked.crew) first (next - first) actors i.actors));
+      actors = rw rest.tail (rw end at (from_drop (IsAt g.B.Crew.asked.crew) first (next - first) actors i.actors));
       no_turns = none.1;
-      whole = (let left = length-drop (next - first) actors in let same = ap length rest.tail in omega arith);
+      whole = (let same = ap length rest.tail in omega (arith, length-drop {A = ActorKnown}));
       shares = from_push (IsReady g.B.Crew.asked None) 0 c.loop-worker.all.items _ (share.Dealt c.split_off.new.self)
-          c.push_reserved.ensures.items i.shares (subst (λ (w : ℕ). IsReady {B = g.row.B.Denot} g.B.Crew.asked None w
-          (share.Dealt c.split_off.new.self)) place (record {
+          c.push_reserved.ensures.items i.shares (rw (← place) (record {
             made = (
               c.requires.sharing,
-              are_of g.B.Crew.asked.crew worker first next actors c.split_off.new.self.items (at_crew worker first
-                  i.first_is)
-                  (at_crew (worker + 1) next cut) behind (omega arith) i.actors rest.items,
+              are_of g.B.Crew.asked.crew worker first next actors c.split_off.new.self.items
+                  (at_crew worker first i.first_is) (at_crew (worker + 1) next cut) behind (omega arith) i.actors
+                  rest.items,
               (c.split_off.new.self.items, none.0, refl),
             );
             uses = refl;

@@ -1,5 +1,5 @@
-use Rattle.chip_crew.proofs.Names.{◌≡◌, ◌+◌, ◌*◌, ◌^◌, ◌≤◌, None, length, vec_capacity, AreFrom, all_turns, IsCut}
-use Rattle.chip_crew.proofs.Names.{ends_before, AreReady}
+use Rattle.chip_crew.proofs.Names.{◌^◌, ◌≡◌, ◌+◌, ◌*◌, ◌≤◌, length, None, vec_capacity, AreFrom, all_turns, ends_before}
+use Rattle.chip_crew.proofs.Names.{IsCut, AreReady}
 use Rattle.chip_crew.proofs.dealing.deal.Given as goal
 
 abbrev pub invariant-loop-worker : goal.invariant-loop-worker

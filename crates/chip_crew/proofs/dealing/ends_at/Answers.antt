@@ -1,4 +1,4 @@
-use Rattle.chip_crew.proofs.Names.{◌^◌, ◌+◌, rules, ◌≤◌, ℕ, subst}
+use Rattle.chip_crew.proofs.Names.{◌^◌, ℕ, ◌+◌, ◌≤◌, subst, rules}
 use Rattle.chip_crew.proofs.DealingLemmas.{few_ends}
 use Rattle.chip_crew.proofs.dealing.ends_at.Goals as goal
 

@@ -1,4 +1,4 @@
-use Rattle.chip_crew.proofs.Names.{◌^◌, ◌+◌, ◌≡◌, ◌*◌, ◌<◌, ◌≤◌, ℕ, ends_before}
+use Rattle.chip_crew.proofs.Names.{◌^◌, ◌≡◌, ℕ, ◌+◌, ◌*◌, ◌<◌, ◌≤◌, ends_before}
 use Rattle.chip_crew.proofs.dealing.next_cut.Given as goal
 
 abbrev pub invariant-loop-vertex : goal.invariant-loop-vertex

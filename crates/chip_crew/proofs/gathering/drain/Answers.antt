@@ -1,24 +1,22 @@
-use Rattle.chip_crew.proofs.Names.{length-map, sum_by_push, All-cons, All-nil, ◌≡◌, ◌<◌, ◌∷◌, [], ◌∙◌, length}
-use Rattle.chip_crew.proofs.Names.{length-append, ap, rules, arith, Held, view, ActorKnown, IsOurs, turns_of}
-use Rattle.chip_crew.proofs.Names.{with_taken, got_turns, gave_turns, AreAllThere, Ledger}
+use Rattle.chip_crew.proofs.Names.{◌≡◌, ◌<◌, length, ap, ◌∙◌, arith, [], ◌∷◌, length-append, rules, length-map}
+use Rattle.chip_crew.proofs.Names.{All-cons, All-nil, sum_by_push, Held, view, ActorKnown, IsOurs, turns_of, got_turns}
+use Rattle.chip_crew.proofs.Names.{gave_turns, with_taken, AreAllThere, Ledger}
 use Rattle.chip_crew.proofs.PlacesLemmas.{takes, all_there, none_queued}
 use Rattle.chip_crew.proofs.GatheringLemmas.{gathers_more, gathered}
 use Rattle.chip_crew.proofs.gathering.drain.Goals as goal
 
 pub pop_as-requires-clause-rule : goal.pop_as-requires-clause-rule
 pop_as-requires-clause-rule g c = (
-  takes g.B.Crew.asked.crew _ _ (let speaks = c.loop-actor.invariant.gathers.speaks in
-      let some = c.requires.some in omega arith),
+  takes g.B.Crew.asked.crew _ _ (omega (arith, c.loop-actor.invariant.gathers.speaks, c.requires.some)),
   all_there g.B.Crew.asked.crew _ _,
 )
 
 pub push_reserved-requires : goal.push_reserved-requires
 push_reserved-requires g c =
     let i = c.loop-actor.invariant.gathers in
-    let popped : IsOurs g.B.Crew.asked.crew c.in-Some.actor
-    × (length (view c.loop-actor.pass).has < g.B.Crew.asked.crew.net.setting.game.graph.vertices) = search rules in
+    let few : length (view c.loop-actor.pass).has < g.B.Crew.asked.crew.net.setting.game.graph.vertices = search rules in
     let has = ap length i.has in let same = length-map c.loop-actor.row.items (λ (a : ActorKnown). a.vertex) in
-    let few = popped.1 in let room = i.room in omega arith
+    let room = i.room in omega arith
 
 pub loop-actor-preserved : goal.loop-actor-preserved
 loop-actor-preserved g c =
@@ -39,12 +37,10 @@ loop-actor-preserved g c =
 
 pub loop-actor-smaller : goal.loop-actor-smaller
 loop-actor-smaller g c =
-    let popped : IsOurs g.B.Crew.asked.crew c.in-Some.actor
-    × (length (view c.loop-actor.pass).has < g.B.Crew.asked.crew.net.setting.game.graph.vertices) = search rules in
-    let has = ap length c.loop-actor.invariant.gathers.has in let few = popped.1 in
+    let few : length (view c.loop-actor.pass).has < g.B.Crew.asked.crew.net.setting.game.graph.vertices = search rules in
+    let has = ap length c.loop-actor.invariant.gathers.has in let now = ap length c.push_reserved.ensures.items in
     let same = length-map c.loop-actor.row.items (λ (a : ActorKnown). a.vertex) in
-    let now = ap length c.push_reserved.ensures.items in
-    let more = length-append c.loop-actor.row.items (c.in-Some.actor ∷ []) in omega arith
+    omega (arith, length-append {A = ActorKnown})
 
 pub returns : goal.returns
 returns g c =

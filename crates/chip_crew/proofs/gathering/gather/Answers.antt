@@ -1,5 +1,5 @@
-use Rattle.chip_crew.proofs.Names.{length, subst, rules, arith, IsNonDecreasingBy-from_sort_by_key}
-use Rattle.chip_crew.proofs.Names.{sum_by-IsPermutation, ActorKnown, turns_of, AreBack}
+use Rattle.chip_crew.proofs.Names.{arith, rules, sum_by-IsPermutation, IsNonDecreasingBy-from_sort_by_key, ActorKnown}
+use Rattle.chip_crew.proofs.Names.{turns_of}
 use Rattle.chip_crew.proofs.DealingLemmas.{cut_last}
 use Rattle.chip_crew.proofs.RunLemmas.{in_order}
 use Rattle.chip_crew.proofs.GatheringLemmas.{sorted_actors}
@@ -14,18 +14,16 @@ returns-in-Queue g c =
       actors = sorted_actors g.B.Crew.asked.crew row now c.drain.ensures.all moves (search rules)
           (IsNonDecreasingBy-from_sort_by_key (λ (a : ActorKnown). a.vertex) now c.sort_unstable_by_key.ensures.sorted
           (λ a r q k. search rules));
-      turns = (let same = sum_by-IsPermutation turns_of row now moves in let few = c.drain.ensures.turns in
-          omega (arith, same, few));
+      turns = (let same = sum_by-IsPermutation turns_of row now moves in omega (arith, c.drain.ensures.turns));
     }
 
 pub returns-in-Dealt : goal.returns-in-Dealt
 returns-in-Dealt g c =
-    let back = subst (AreBack g.B.Crew.asked g.B.Crew.asked.crew.workers) c.in-Dealt.is c.requires.back in
+    let back = rw c.in-Dealt.is at c.requires.back in
     record {
       actors = record {
-        count = cut_last g.B.Crew.asked.crew.net.setting.game.graph g.B.Crew.asked.crew.workers (length
-            c.in-Dealt.row.items)
-            c.requires.some back.1.up_to;
+        count = cut_last g.B.Crew.asked.crew.net.setting.game.graph g.B.Crew.asked.crew.workers _ c.requires.some
+            back.1.up_to;
         order = in_order g.B.Crew.asked.crew c.in-Dealt.row.items back.1.each;
       };
       turns = back.2;

@@ -1,8 +1,8 @@
-use Rattle.chip_crew.proofs.Names.{length-map, sum_by-append, All-cons, All-nil, ◌≡◌, ◌+◌, ◌++◌, ◌∷◌, ◌≤◌, ◌∙◌, ℕ, List}
-use Rattle.chip_crew.proofs.Names.{[], length, length-append, Option, None, sym, ap, rules, arith, All, append-nil}
-use Rattle.chip_crew.proofs.Names.{option_to_list, Vec, vec_capacity, view, ActorKnown, Asked, IsOurs, turns_of}
-use Rattle.chip_crew.proofs.Names.{all_turns, Ledger, IsGatheringFor, both_ledgers, vertex_of, got_turns, gave_turns}
-use Rattle.chip_crew.proofs.Names.{kept_turns, HasJust, HaveRoom}
+use Rattle.chip_crew.proofs.Names.{◌≡◌, ℕ, ◌+◌, ◌≤◌, List, length, Option, None, sym, ap, ◌∙◌, arith, [], ◌∷◌, ◌++◌}
+use Rattle.chip_crew.proofs.Names.{All, length-append, rules, append-nil, option_to_list, length-map, All-cons, All-nil}
+use Rattle.chip_crew.proofs.Names.{sum_by-append, Vec, vec_capacity, view, ActorKnown, Asked, IsOurs, turns_of}
+use Rattle.chip_crew.proofs.Names.{all_turns, IsGatheringFor, got_turns, gave_turns, both_ledgers, HasJust, kept_turns}
+use Rattle.chip_crew.proofs.Names.{vertex_of, HaveRoom, Ledger}
 use Rattle.chip_crew.proofs.GatheringLemmas.{gathers_more, vertices_of}
 use Rattle.chip_crew.proofs.PlacesLemmas.{merges, have_room}
 use Rattle.chip_crew.proofs.gathering.join_pass.Goals as goal
@@ -19,8 +19,7 @@ one_joined asked old theirs new row now kept more both has own gathers same is o
     (ap (λ (l : Ledger). l.workers) both ∙ ap (λ (n : ℕ). old.workers + n) has.0)
     (ap (λ (l : Ledger). l.has) both ∙ ap (λ (vs : List ℕ). old.has ++ vs) (has.1 ∙ ap vertices_of same))
     (let gave = ap gave_turns both in let got = ap got_turns both in let all = ap all_turns same in
-    let put = sum_by-append turns_of old.put theirs.put in let taken = sum_by-append turns_of old.taken theirs.taken in
-    omega arith)
+    omega (arith, sum_by-append turns_of))
 
 pub absorb-requires-clause-rule : goal.absorb-requires-clause-rule
 absorb-requires-clause-rule g c = merges g.B.Crew.asked.crew _ _ _ _
@@ -33,10 +32,10 @@ push_reserved-requires g c =
     let i = c.requires.gathering in
     let learned : (items : List ActorKnown) × HaveRoom g.B.Crew.asked.crew (view c.absorb.new.pass) items = search rules in
     let both : view c.absorb.new.pass ≡ both_ledgers (view c.args.pass.now) (view c.args.theirs) = search rules in
-    let has = ap (λ (l : Ledger). length l.has) both in let lengths = length-append (view c.args.pass.now).has (view c.args.theirs).has in
-    let own = ap length i.has in let same = length-map c.args.row.now.items (λ (a : ActorKnown). a.vertex) in
+    let has = ap (λ (l : Ledger). length l.has) both in let own = ap length i.has in
+    let same = length-map c.args.row.now.items (λ (a : ActorKnown). a.vertex) in
     let theirs = ap length (c.requires.has.1 ∙ ap vertex_of c.in-Some.is) in let fits = learned.1 in let room = i.room in
-    omega arith
+    omega (arith, length-append {A = ℕ})
 
 pub returns-in-Some-clause-gathering : goal.returns-in-Some-clause-gathering
 returns-in-Some-clause-gathering g c =

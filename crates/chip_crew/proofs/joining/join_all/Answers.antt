@@ -1,8 +1,19 @@
-use Rattle.chip_crew.proofs.Names.{◌≡◌, ◌∙◌, ◌<◌, ◌&&◌, ℕ, Bool, true, false, length, refl, sym, ap, subst, rules}
-use Rattle.chip_crew.proofs.Names.{arith, Asked, ShutFor, SomeShut, EachFrom, queue_for, IsWorker, HasLed}
+use Rattle.chip_crew.proofs.Names.{◌≡◌, ℕ, ◌+◌, ◌<◌, length, refl, sym, ap, ◌∙◌, subst, arith, true, false, Bool, rules}
+use Rattle.chip_crew.proofs.Names.{◌&&◌, Asked, SomeShut, ShutFor, IsFirstOf, IsRound, queue_for, HasMade, round_of}
+use Rattle.chip_crew.proofs.Names.{IsWorker, Share}
 use Rattle.chip_crew.proofs.RunLemmas.{from_tail}
-use Rattle.chip_crew.proofs.ShareLemmas.{first_round}
+use Rattle.chip_crew.proofs.DealingLemmas.{cut_first}
+use Rattle.chip_crew.specs.declared.worker.Share.TheVariants as share
 use Rattle.chip_crew.proofs.joining.join_all.Goals as goal
+
+-- so many turns make a round of worker 0
+first_round : {B : Type 0} (asked : Asked) (turns : ℕ) (h : Share B) → HasMade asked 0 turns h
+    → IsRound asked.crew (round_of h) × (0 < round_of h)
+first_round asked turns (share.Queue queue pass kept) made = (rw made.0 refl, omega arith)
+first_round asked turns (share.Dealt d) made =
+    let zero_is = cut_first asked.crew.net.setting.game.graph asked.crew.workers made.1.from made.1.is_first in
+    let from_zero : made.1.from + length d.items ≡ length d.items = omega arith in
+    (rw made.0 (length d.items, subst (IsFirstOf asked.crew 1) from_zero made.1.is_next, refl), omega arith)
 
 -- one of the gates was shut where one of those before was, or the last one
 shut_some : (asked : Asked) (worker : ℕ) (old passed new : Bool) → new ≡ (old && passed)
@@ -27,21 +38,15 @@ loop-started-init g c =
     record {
       are_back = taken.are_back;
       passed = shut_some g.B.Crew.asked 0 true c.join-share.result.passed c.take.new.self.passed taken.passed_is
-          (λ nay. cc)
-          h.passed (omega arith);
-      workers = subst (λ (n : ℕ). EachFrom (λ worker h. IsWorker g.B.Crew.asked (queue_for c.args.back)
-          worker h.promise) n
-          c.into_iter-started-iterator.result.rest.items) (sym taken.workers)
-          (subst (EachFrom (λ worker h. IsWorker g.B.Crew.asked (queue_for c.args.back) worker h.promise) 1)
-          (sym rest) c.requires.others);
+          (λ nay. cc) h.passed (omega arith);
+      workers = rw (taken.workers, rest) c.requires.others;
       uses = taken.uses;
       left = (let many = ap length rest in let one = taken.workers in omega arith);
     }
 
 pub take-requires-in-loop-started-clause-made : goal.take-requires-in-loop-started-clause-made
 take-requires-in-loop-started-clause-made g c =
-    let first = (subst (EachFrom (λ worker h. IsWorker g.B.Crew.asked (queue_for c.args.back) worker h.promise)
-    c.loop-started.collected.workers) c.in-Some.ensures.steps.0 c.loop-started.invariant.workers).0 in
+    let first = (rw c.in-Some.ensures.steps.0 at c.loop-started.invariant.workers).0 in
     let h = rw first.number_is at c.join-share-in-loop-started.ensures.is_handed in
     (c.join-share-in-loop-started.result.turns, h.at_most, h.made)
 
@@ -51,21 +56,15 @@ loop-started-preserved g c =
     let taken = c.take-in-loop-started.ensures in
     let old = c.loop-started.collected in
     let steps = c.in-Some.ensures.steps.0 in
-    let first = (subst (EachFrom (λ worker h. IsWorker g.B.Crew.asked (queue_for c.args.back) worker h.promise)
-    old.workers)
-    steps i.workers).0 in
-    let h = rw first.number_is at c.join-share-in-loop-started.ensures.is_handed in
+    let h = rw (rw steps at i.workers).0.number_is at c.join-share-in-loop-started.ensures.is_handed in
     let left = i.left in
     let many = ap length steps in
     record {
       are_back = taken.are_back;
       passed = shut_some g.B.Crew.asked old.workers old.passed c.join-share-in-loop-started.result.passed
           c.take-in-loop-started.new.self.passed taken.passed_is i.passed h.passed (omega arith);
-      workers = subst (λ (n : ℕ). EachFrom (λ worker h. IsWorker g.B.Crew.asked (queue_for c.args.back)
-          worker h.promise) n
-          c.next.new.self.rest.items) (sym taken.workers)
-          (from_tail (λ worker h. IsWorker g.B.Crew.asked (queue_for c.args.back) worker h.promise) old.workers _ _
-          c.in-Some.started steps i.workers);
+      workers = rw taken.workers (from_tail (λ worker h. IsWorker g.B.Crew.asked (queue_for c.args.back) worker h.promise)
+          old.workers _ _ c.in-Some.started steps i.workers);
       uses = taken.uses ∙ i.uses;
       left = (let more = taken.workers in omega arith);
     }
@@ -75,16 +74,15 @@ returns g c =
     let h = rw c.requires.leader.0.number_is at c.join-share.ensures.is_handed in
     let round = first_round g.B.Crew.asked c.join-share.result.turns c.join-share.result.share h.made in
     record {
-      led = subst (λ (n : ℕ). HasLed g.B.Crew.asked n c.join-share.result.turns c.join-share.result.duties)
-          (sym c.round-round.ensures) (record {
-            first = c.args.leader.promise.duties.value;
-            begins = c.requires.leader.1;
-            is_round = round.0;
-            some = round.1;
-            at_most = h.at_most;
-            served = c.join-share.ensures.served;
-            can = c.join-share.ensures.can_still;
-          });
+      led = rw c.round-round.ensures (record {
+        first = c.args.leader.promise.duties.value;
+        begins = c.requires.leader.1;
+        is_round = round.0;
+        some = round.1;
+        at_most = h.at_most;
+        served = c.join-share.ensures.served;
+        can = c.join-share.ensures.can_still;
+      });
       are_back = search rules;
       passed = c.loop-started.invariant.passed;
     }

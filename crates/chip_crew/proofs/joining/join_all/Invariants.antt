@@ -1,4 +1,4 @@
-use Rattle.chip_crew.proofs.Names.{◌≡◌, ◌+◌, false, length, SomeShut, EachFrom, AreBack, queue_for, IsWorker}
+use Rattle.chip_crew.proofs.Names.{◌≡◌, ◌+◌, length, false, SomeShut, EachFrom, AreBack, queue_for, IsWorker}
 use Rattle.chip_crew.proofs.joining.join_all.Given as goal
 
 abbrev pub invariant-loop-started : goal.invariant-loop-started

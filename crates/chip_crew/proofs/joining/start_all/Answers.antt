@@ -1,11 +1,10 @@
-use Rattle.chip_crew.proofs.Names.{sendable, ◌≡◌, ◌∙◌, ◌+◌, ℕ, length, sym, subst, rules, arith, crosses, EachFrom}
-use Rattle.chip_crew.proofs.Names.{IsReady, IsWorker, queue_of_all}
-use Rattle.chip_crew.proofs.CrossingLemmas.{leader_send}
+use Rattle.chip_crew.proofs.Names.{◌≡◌, ◌+◌, length, ◌∙◌, subst, arith, rules, crosses, frees, sendable, net_crosses}
+use Rattle.chip_crew.proofs.Names.{EachFrom, IsReady, IsWorker, queue_of_all}
 use Rattle.chip_crew.proofs.RunLemmas.{from_push, from_tail}
 use Rattle.chip_crew.proofs.joining.start_all.Goals as goal
 
 pub start-requires-send-D : goal.start-requires-send-D
-start-requires-send-D g c κs within = search (crosses, sendable, leader_send) depth 60
+start-requires-send-D g c κs within = search (crosses, sendable, net_crosses, frees) depth 60
 
 pub loop-share-preserved : goal.loop-share-preserved
 loop-share-preserved g c =
@@ -23,8 +22,7 @@ loop-share-preserved g c =
       started = from_push (λ worker h. IsWorker g.B.Crew.asked queue worker h.promise) 1 c.loop-share.others.items _
           c.in_ok-started.started c.push_reserved.ensures.items i.started (record {
             number_is = begun.0 ∙ place;
-            ready = subst (λ (n : ℕ). IsReady g.B.Crew.asked queue n c.in_ok-started.started.promise.share.value) place
-                (subst (IsReady g.B.Crew.asked queue c.loop-share.number) (sym begun.1) first);
+            ready = rw begun.1 (rw place at first);
           });
       room = search rules;
     }

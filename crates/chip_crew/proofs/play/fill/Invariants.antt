@@ -1,4 +1,4 @@
-use Rattle.chip_crew.proofs.Names.{got_turns, gave_turns, ◌≡◌, All, map, view, IsPassOf, IsOurs, all_turns}
+use Rattle.chip_crew.proofs.Names.{◌≡◌, All, map, view, IsPassOf, IsOurs, all_turns, got_turns, gave_turns}
 use Rattle.chip_crew.proofs.play.fill.Given as goal
 
 abbrev pub invariant-loop-actor : goal.invariant-loop-actor

@@ -1,6 +1,6 @@
-use Rattle.chip_crew.proofs.Names.{HasNothing, All, ◌≡◌, ◌<◌, List, [], ◌∷◌, length, rules, None, Some, ◌∙◌, refl, sym}
-use Rattle.chip_crew.proofs.Names.{ap, subst, arith, Option, TableId, AreReady, IsReady, All-nil, IsOurs, all_turns}
-use Rattle.chip_crew.proofs.Names.{Asked, queue_of_all, Ledger, Share}
+use Rattle.chip_crew.proofs.Names.{◌≡◌, ◌<◌, List, length, Option, Some, None, refl, sym, ap, ◌∙◌, subst, arith, []}
+use Rattle.chip_crew.proofs.Names.{◌∷◌, All, rules, All-nil, TableId, Asked, IsOurs, all_turns, IsReady, AreReady}
+use Rattle.chip_crew.proofs.Names.{queue_of_all, HasNothing, Ledger, Share}
 use Rattle.chip_crew.proofs.GatheringLemmas.{vertices_of}
 use Rattle.chip_crew.proofs.PlacesLemmas.{forks}
 use Rattle.chip_crew.proofs.RunLemmas.{from_push}
@@ -19,8 +19,7 @@ loop-preserved g c =
     let one = ap (λ (l : Ledger). l.workers) fewer in
     record {
       ready = from_push (IsReady g.B.Crew.asked (Some c.another.new.pass.table_id)) 0 c.loop.all.items _
-          (share.Queue c.args.queue c.another.result None) c.push_reserved.ensures.items
-          (subst (λ (t : TableId). AreReady g.B.Crew.asked (Some t) c.loop.all.items) (sym same.0.0) i.ready) (record {
+          (share.Queue c.args.queue c.another.result None) c.push_reserved.ensures.items (rw same.0.0 i.ready) (record {
             made = (c.requires.sharing, same.1, (c.another.ensures.rule.1, refl), tt);
             uses = ap (λ (t : TableId). Some t) (same.1.0 ∙ sym i.pass.0 ∙ sym same.0.0);
           });

@@ -1,4 +1,4 @@
-use Rattle.chip_crew.proofs.Names.{HasNothing, ◌≡◌, ◌≤◌, ◌+◌, Some, length, vec_capacity, view, IsPassOf, AreReady}
+use Rattle.chip_crew.proofs.Names.{◌≡◌, ◌+◌, ◌≤◌, length, Some, vec_capacity, view, IsPassOf, AreReady, HasNothing}
 use Rattle.chip_crew.proofs.play.passes.Given as goal
 
 abbrev pub invariant-loop : goal.invariant-loop

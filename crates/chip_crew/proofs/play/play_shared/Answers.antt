@@ -1,17 +1,15 @@
-use Rattle.chip_crew.proofs.Names.{◌≡◌, ◌∙◌, sym, ap, rules, view, Ledger, range_with_len, first_ledger, got_turns}
-use Rattle.chip_crew.proofs.Names.{gave_turns, IsAt, IsOurs}
+use Rattle.chip_crew.proofs.Names.{◌≡◌, sym, ap, ◌∙◌, rules, range_with_len, view, IsOurs, IsAt, got_turns, gave_turns}
+use Rattle.chip_crew.proofs.Names.{first_ledger, Ledger}
 use Rattle.chip_crew.proofs.PlacesLemmas.{begins, numbers_are}
 use Rattle.chip_crew.proofs.RunLemmas.{from_all}
 use Rattle.chip_crew.proofs.play.play_shared.Goals as goal
 
 pub ruled-requires-clause-rule : goal.ruled-requires-clause-rule
-ruled-requires-clause-rule g c =
-    begins g.B.Crew.asked.crew c.requires.opened.some_workers
+ruled-requires-clause-rule g c = begins g.B.Crew.asked.crew c.requires.opened.some_workers
 
 pub fill-requires-clause-actors : goal.fill-requires-clause-actors
 fill-requires-clause-actors g c = from_all (IsAt g.B.Crew.asked.crew) (IsOurs g.B.Crew.asked.crew) (λ n a here. here.0)
-    0
-    c.args.actors.items c.requires.opened.each
+    0 c.args.actors.items c.requires.opened.each
 
 pub fill-requires-clause-has : goal.fill-requires-clause-has
 fill-requires-clause-has g c =

@@ -1,9 +1,9 @@
-use Rattle.chip_crew.proofs.Names.{◌≡◌, ◌∙◌, refl, ap, rules, Bool, List, [], ℕ, Option, Some, None, Bor, ◌<◌}
-use Rattle.chip_crew.proofs.Names.{if◌then◌else◌, subst, MatchResult-weaker, is_some, option_copied, option_zip}
-use Rattle.chip_crew.proofs.Names.{Setting, setting_with, RootKnown, new_root, new_stopper, Asked, asked_of, IsCrewFor}
-use Rattle.chip_crew.proofs.OwningLemmas.{ours_by, new_turns}
+use Rattle.chip_crew.proofs.Names.{◌≡◌, ℕ, ◌<◌, List, Option, Some, None, refl, ap, ◌∙◌, subst, Bool, [], is_some}
+use Rattle.chip_crew.proofs.Names.{if◌then◌else◌, rules, Bor, MatchResult-weaker, option_copied, option_zip, Setting}
+use Rattle.chip_crew.proofs.Names.{setting_with, RootKnown, new_root, new_stopper, Asked, asked_of, IsCrewFor}
+use Rattle.chip_crew.proofs.RunLemmas.{ours_by, new_turns}
 use Rattle.chip_crew.proofs.FinishingLemmas.{may_begin, plan_fits, finished_by, stopped_by}
-use Rattle.chip_crew.proofs.SealingLemmas.{none_sealed, may_seal}
+use Rattle.chip_crew.proofs.LeadingLemmas.{none_sealed, may_seal}
 use Rattle.chip_crew.proofs.play.run_with.Goals as goal
 
 -- there are feeds where what they are is known
@@ -74,8 +74,7 @@ returns g c =
     } in
     record {
       finished = MatchResult-weaker c.play_on.result c.play_on.ensures.finished
-          (λ f has. finished_by feeds c.args.plan asked.crew f has c.args.sharing c.args.game opened)
-          (λ e none. none);
+          (λ f has. finished_by feeds c.args.plan asked.crew f has c.args.sharing c.args.game opened) (λ e none. none);
       fault = MatchResult-weaker c.play_on.result c.play_on.ensures.stopped (λ f none. none)
           (λ e why. stopped_by c.args.sharing c.args.game asked e opened why);
     }

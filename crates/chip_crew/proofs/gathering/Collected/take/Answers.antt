@@ -1,10 +1,10 @@
-use Rattle.chip_crew.proofs.Names.{◌≡◌, ◌+◌, ◌∙◌, ◌++◌, ◌&&◌, ℕ, List, Some, refl, sym, ap, subst, arith, rules}
-use Rattle.chip_crew.proofs.Names.{sum_by-append, vec_capacity, TableId, view, passes, CrewId, IsAt, AreFrom, turns_of}
-use Rattle.chip_crew.proofs.Names.{all_turns, IsFirstOf, AreOf, ◌≤◌, length, length-append, add-one, ActorKnown}
-use Rattle.chip_crew.proofs.Names.{Collected, AreBack, IsGatheringFor, IsRow, Collects, queue_for, HasMade}
+use Rattle.chip_crew.proofs.Names.{◌≡◌, ℕ, ◌+◌, ◌≤◌, List, length, Some, refl, sym, ap, ◌∙◌, subst, arith, add-one}
+use Rattle.chip_crew.proofs.Names.{◌++◌, length-append, rules, sum_by-append, vec_capacity, TableId, view, ActorKnown}
+use Rattle.chip_crew.proofs.Names.{passes, CrewId, IsAt, AreFrom, turns_of, all_turns, IsFirstOf, AreOf, IsRow}
+use Rattle.chip_crew.proofs.Names.{queue_for}
 use Rattle.chip_crew.proofs.DealingLemmas.{rounds_turns, cut_same}
 use Rattle.chip_crew.proofs.RunLemmas.{from_append}
-use Rattle.chip_crew.proofs.QueueingLemmas.{are_made}
+use Rattle.chip_crew.proofs.TurnLemmas.{are_made}
 use Rattle.chip_crew.proofs.gathering.Collected.take.Goals.{in-Queue+in-Queue-back, in-Dealt+in-Dealt-back+in-Ok}
 use Rattle.chip_crew.proofs.gathering.Collected.take.Goals as goal
 
@@ -27,46 +27,40 @@ pub join_pass-requires-clause-has : goal.join_pass-requires-clause-has
 join_pass-requires-clause-has g c =
     let made = c.requires.made in
     (are_made (passes g.B.Crew.asked c.args.self.now.workers) made.0 (view c.in-Queue.theirs) c.in-Queue.kept
-    (subst (HasMade g.B.Crew.asked c.args.self.now.workers made.0) c.in-Queue.is made.2).2).0
+    (rw c.in-Queue.is at made.2).2).0
 
 pub join_pass-requires-clause-turns : goal.join_pass-requires-clause-turns
 join_pass-requires-clause-turns g c =
     let made = c.requires.made in
     let own = (are_made (passes g.B.Crew.asked c.args.self.now.workers) made.0 (view c.in-Queue.theirs) c.in-Queue.kept
-    (subst (HasMade g.B.Crew.asked c.args.self.now.workers made.0) c.in-Queue.is made.2).2).1 in
-    let few = made.1 in omega arith
+    (rw c.in-Queue.is at made.2).2).1 in let few = made.1 in omega arith
 
 pub returns : goal.returns
 returns g c =
     let workers = c.args.self.now.workers in
-    let collects : Collected g.row.B.Denot → Type 0 = λ m. Collects g.B.Crew.asked c.args.passed c.args.self.now
-    (record { workers = m.workers + 1; passed = m.passed && c.args.passed; back = m.back }) in
     elim c.match-share.branch [
       | in-Queue+in-Queue-back w ↦
-          let back = subst (AreBack g.B.Crew.asked workers) w.in-Queue-back.is c.requires.back in
-          subst collects (sym w.self-is) (record {
+          let back = rw w.in-Queue-back.is at c.requires.back in rw w.self-is (record {
             workers = refl;
             are_back = (
               back.0,
               w.join_pass.ensures.pass,
-              subst (λ (n : ℕ). IsGatheringFor g.B.Crew.asked (n + 1) (view w.join_pass.new.pass) w.join_pass.new.row)
-                  back.2.speaks w.join_pass.ensures.gathering,
+              rw back.2.speaks at w.join_pass.ensures.gathering,
             );
             uses = ap (λ (t : TableId). Some t) (w.join_pass.ensures.pass.0 ∙ sym back.1.0) ∙ sym (ap queue_for w.in-Queue-back.is);
             passed_is = refl;
           })
       | in-Dealt+in-Dealt-back+in-Ok w ↦
-          let back = subst (AreBack g.B.Crew.asked workers) w.in-Dealt-back.is c.requires.back in
-          let made = subst (HasMade g.B.Crew.asked workers c.requires.made.0) w.in-Dealt.is c.requires.made.2 in
+          let back = rw w.in-Dealt-back.is at c.requires.back in
+          let made = rw w.in-Dealt.is at c.requires.made.2 in
           let row = w.in-Dealt-back.row in
           let actors = w.in-Dealt.actors.items in
           let items : w.append.new.self.items ≡ row.items ++ actors = search rules in
-          subst collects (sym w.self-is) (record {
+          rw w.self-is (record {
             workers = refl;
             are_back = (
               back.0,
-              subst (λ (xs : List ActorKnown). IsRow g.B.Crew.asked.crew (workers + 1) xs (vec_capacity w.append.new.self)) (sym items)
-                  (row_longer g.B.Crew.asked.crew workers row.items actors (vec_capacity row) (vec_capacity w.append.new.self)
+              rw items (row_longer g.B.Crew.asked.crew workers row.items actors (vec_capacity row) (vec_capacity w.append.new.self)
                   back.1 made.1 w.append.ensures.capacity),
               (let all = ap all_turns items in let both = sum_by-append turns_of row.items actors in
                   let own = rounds_turns (passes g.B.Crew.asked workers) c.requires.made.0 made.2.0 actors made.2.2 in

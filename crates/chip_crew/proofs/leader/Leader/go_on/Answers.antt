@@ -1,6 +1,6 @@
-use Rattle.chip_crew.proofs.Names.{◌≡◌, ◌+◌, ◌≤◌, ℕ, true, false, refl, ap, subst, arith, eq-eqb, ne_eqb, NetId, Asked}
-use Rattle.chip_crew.proofs.Names.{Serves, CanLead, HasLed, LeadsTurn, LeadsRound, Leader, Plan}
-use Rattle.chip_crew.proofs.DutiesLemmas.{serves_turn}
+use Rattle.chip_crew.proofs.Names.{◌≡◌, ℕ, ◌+◌, ◌≤◌, refl, ap, arith, true, false, eq-eqb, ne_eqb, NetId, Asked, Serves}
+use Rattle.chip_crew.proofs.Names.{HasLed, CanLead, LeadsTurn, LeadsRound, Leader, Plan}
+use Rattle.chip_crew.proofs.LeadingLemmas.{serves_turn}
 use Rattle.chip_crew.proofs.leader.Leader.go_on.Goals as goal
 
 -- one turn more
@@ -14,13 +14,12 @@ led_more asked round turns old new has few served net is can = record {
   some = has.some;
   at_most = few;
   served = served;
-  can = subst (λ (n : NetId). CanLead n new) is can;
+  can = rw is at can;
 }
 
 pub overflow_add-turns : goal.overflow_add-turns
 overflow_add-turns g c =
-    let few = c.shared.invariant.few_turns in
-    let all = ap (λ (p : Plan). p.turns) c.shared.invariant.plan_is in omega arith
+    omega (arith, c.shared.invariant.few_turns, ap (λ (p : Plan). p.turns) c.shared.invariant.plan_is)
 
 pub loop-turns-preserved : goal.loop-turns-preserved
 loop-turns-preserved g c =

@@ -1,7 +1,6 @@
 use Rattle.chip_crew.proofs.Names.{option_copied}
-use Rattle.chip_crew.proofs.FeedLemmas.{once_goes_on}
+use Rattle.chip_crew.proofs.FeedLemmas.{once_goes_on, over_fed}
 use Rattle.chip_crew.proofs.LeadingLemmas.{seal_stays}
-use Rattle.chip_crew.proofs.OverLemmas.{over_fed}
 use Rattle.chip_crew.proofs.leader.LeaderDuties.begin_turn.Goals as goal
 
 pub returns-clause-can : goal.returns-clause-can

@@ -1,6 +1,6 @@
-use Rattle.chip_crew.proofs.Names.{◌≡◌, ◌∙◌, true, false, sym}
+use Rattle.chip_crew.proofs.Names.{sym, ◌∙◌}
 use Rattle.chip_crew.proofs.LeadingLemmas.{can_still}
-use Rattle.chip_crew.proofs.OverLemmas.{over_polled}
+use Rattle.chip_crew.proofs.FeedLemmas.{over_polled}
 use Rattle.chip_crew.proofs.leader.LeaderDuties.end_round.Goals as goal
 
 pub returns-in-Running-eq0-clause-can : goal.returns-in-Running-eq0-clause-can
@@ -16,12 +16,9 @@ returns-in-Closed-clause-can g c = can_still c.args.net.now c.args.self.now _ _ 
     c.poll.ensures.same (λ is. c.in-Closed.ensures.polls.answers) c.requires.can
 
 -- nothing is outstanding, but the end of feeding is not noted
-apart : true ≡ false → ⊥
-apart same = cc
-
 pub returns-in-Running-eq0-clause-stops : goal.returns-in-Running-eq0-clause-stops
 returns-in-Running-eq0-clause-stops g c = λ over.
-    apart (sym over.1 ∙ c.in-Running-eq0.ensures.polls.answers.1 c.in-Running-eq0.field-0-test)
+    let apart = sym over.1 ∙ c.in-Running-eq0.ensures.polls.answers.1 c.in-Running-eq0.field-0-test in cc
 
 -- something is outstanding
 pub returns-in-Running-clause-stops : goal.returns-in-Running-clause-stops

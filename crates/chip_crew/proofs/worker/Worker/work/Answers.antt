@@ -1,10 +1,27 @@
-use Rattle.chip_crew.proofs.Names.{◌≡◌, ◌∙◌, false, false-eqb, sym, ap, rules, arith, ShutFor, Plan}
-use Rattle.chip_crew.proofs.ShareLemmas.{has_worked}
-use Rattle.chip_crew.proofs.DutiesLemmas.{serves_more, serves_round, round_over}
+use Rattle.chip_crew.proofs.Names.{◌≡◌, ℕ, ◌≤◌, sym, ap, ◌∙◌, subst, arith, false, Bool, rules, false-eqb, NetId, Asked}
+use Rattle.chip_crew.proofs.Names.{ShutFor, Serves, HasMade, HasWorked, round_of, queue_of, Plan, Share}
+use Rattle.chip_crew.proofs.LeadingLemmas.{serves_more, serves_round, round_over}
 use Rattle.chip_crew.proofs.worker.Worker.work.Goals.{else-loop-turns-test, then-loop-turns-test+else-not-load}
 use Rattle.chip_crew.proofs.worker.Worker.work.Goals.{then-loop-turns-test+then-not-load+then-made-round}
 use Rattle.chip_crew.proofs.worker.Worker.work.Goals.{then-loop-turns-test+then-not-load+else-made-round+then-end_round}
 use Rattle.chip_crew.proofs.worker.Worker.work.Goals as goal
+
+-- what a worker hands back that made its turns and did its duties
+has_worked : {B D : Type 0} (asked : Asked) (can : NetId → D → Type 0) (before : ℕ → D → D → Type 0)
+    (after : D → D → Type 0) (worker : ℕ) (own : Share B) (begun : D) (s t : Share B) (d e : D) (p q : Bool)
+    (n m round : ℕ)
+    → t ≡ s → e ≡ d → q ≡ p → m ≡ n → n ≤ asked.plan.turns → HasMade asked worker n s
+    → (p ≡ false → ShutFor asked worker) → queue_of s ≡ queue_of own → round ≡ round_of s
+    → Serves before after round n begun d → can asked.crew.net d
+    → HasWorked asked can before after worker own begun (record { share = t; duties = e; passed = q; turns = m })
+has_worked {B} {D} asked can before after worker own begun s t d e p q n m round share_is duties_is passed_is turns_is
+    few made shut uses round_is served can_still =
+    rw (share_is, duties_is, passed_is, turns_is) (record {
+      is_handed = record { at_most = few; made = made; passed = shut };
+      uses = uses;
+      served = subst (λ (k : ℕ). Serves before after k n begun d) round_is served;
+      can_still = can_still;
+    })
 
 pub loop-turns-preserved : goal.loop-turns-preserved
 loop-turns-preserved g c =
@@ -35,28 +52,22 @@ returns g c =
     λ no. (let yes = i.passed in cc) in
     elim c.loop-turns-test.branch [
       | else-loop-turns-test w ↦ worked _ _ _ _ _ _ _ _ _ w.share-is w.duties-is w.passed-is w.turns-is i.few i.made
-          passed i.uses i.round
-          i.served i.can
+          passed i.uses i.round i.served i.can
       | then-loop-turns-test+else-not-load w ↦ worked _ _ _ _ _ _ _ _ _ w.share-is w.duties-is w.passed-is w.turns-is
-          i.few i.made passed
-          i.uses i.round i.served i.can
+          i.few i.made passed i.uses i.round i.served i.can
       | then-loop-turns-test+then-not-load+then-made-round w ↦
-          let made = w.round-made.ensures in
-          let most = made.round.at_most in
+          let made = w.round-made.ensures in let most = made.round.at_most in
           worked _ _ _ _ _ _ _ _ _ w.share-is w.duties-is w.passed-is w.turns-is (omega arith) made.made
           (λ no. made.round.shut (let other = false-eqb w.round-made.result w.min-most.result (sym no) in omega arith))
           (made.same.1 ∙ i.uses) (i.round ∙ sym made.same.0)
           (serves_more g.D.Duties.before g.D.Duties.after c.round-round.result c.loop-turns.turns w.round-made.result
-          c.args.self.duties c.loop-turns.duties w.round-made.new.duties i.begins w.if-made-round.true i.served
-          made.done)
+          c.args.self.duties c.loop-turns.duties w.round-made.new.duties i.begins w.if-made-round.true i.served made.done)
           made.can
       | then-loop-turns-test+then-not-load+else-made-round+then-end_round w ↦
-          let made = w.round-made.ensures in
-          let most = made.round.at_most in
+          let made = w.round-made.ensures in let most = made.round.at_most in
           let whole : w.round-made.result ≡ c.round-round.result = omega arith in
           worked _ _ _ _ _ _ _ _ _ w.share-is w.duties-is w.passed-is w.turns-is (omega arith) made.made passed
-          (made.same.1 ∙ i.uses)
-          (i.round ∙ sym made.same.0)
+          (made.same.1 ∙ i.uses) (i.round ∙ sym made.same.0)
           (serves_round g.D.Duties.before g.D.Duties.after c.round-round.result c.loop-turns.turns w.round-made.result
           c.args.self.duties c.loop-turns.duties w.round-made.new.duties w.end_round.new.self whole i.begins i.some i.served
           made.done w.end_round.ensures.done) (search (rules, c.shared.invariant.net_is))

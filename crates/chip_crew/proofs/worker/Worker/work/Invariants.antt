@@ -1,4 +1,4 @@
-use Rattle.chip_crew.proofs.Names.{◌≡◌, ◌≤◌, ◌%◌, ◌-◌, ◌<◌, true, Serves, HasMade, round_of, queue_of}
+use Rattle.chip_crew.proofs.Names.{◌≡◌, ◌%◌, ◌<◌, ◌≤◌, ◌-◌, true, Serves, HasMade, round_of, queue_of}
 use Rattle.chip_crew.proofs.worker.Worker.work.Given as goal
 
 abbrev pub invariant-loop-turns : goal.invariant-loop-turns

@@ -1,16 +1,11 @@
 -- Serves Interleaving.antt.
 -- Where no next row is met, each vertex has used as many rows as any partial interleaving lets it use.
-use Rattle.std.proofs.Common.{◌≡◌, ℕ, ◌+◌, ◌<◌, ◌≤◌, true, false, List, [], ◌∷◌, ◌++◌, length, refl, sym, ap, ◌∙◌}
-use Rattle.std.proofs.Common.{subst, arith, append_assoc, append-nil, length-append}
-use Rattle.std.specs.Prelude.{slice_get, Some}
-use mathlib.Core.Logic.{dite}
-use native.Mathlib.Decide.{ℕ_discrete}
-use Rattle.chip_link.specs.declared.trace.TraceRow.{TraceRow}
-use Rattle.chip_graph.specs.ChipGame.{ChipGame}
-use Rattle.chip_trace.specs.Interleaving.{is_met, Placed, rows_of, AreMet, trace_of, IsPartial, IsInterleaving}
-use Rattle.chip_trace.specs.Progress.{next_row, IsGreatestProgress}
+use Rattle.chip_trace.proofs.Names.{◌≡◌, ℕ, ◌<◌, ◌≤◌, true, false, List, [], ◌∷◌, ◌++◌, length, refl, sym, ap, ◌∙◌}
+use Rattle.chip_trace.proofs.Names.{arith, append_assoc, append-nil, length-append, Some, nat_tests, cond_yes, dite}
+use Rattle.chip_trace.proofs.Names.{ℕ_discrete, TraceRow, ChipGame, is_met, Placed, rows_of, AreMet, trace_of}
+use Rattle.chip_trace.proofs.Names.{IsPartial, IsInterleaving, next_row, IsGreatestProgress}
 use Rattle.chip_trace.proofs.PrefixLemmas.{same_beginning, longer_beginning, slice_get_seam}
-use Rattle.chip_trace.proofs.RowLemmas.{rows_of-append, rows_of-push, rows_of-push_other, met_stays}
+use Rattle.chip_trace.proofs.RowLemmas.{rows_of-append, met_stays}
 
 module _ (g : ChipGame) (traces : List (List TraceRow)) (xs : List Placed) (partial : IsPartial g traces xs)
     (settled : (v : ℕ) (row : TraceRow) → next_row traces xs v ≡ Some row → is_met g (rows_of xs) v row ≡ false) where
@@ -39,21 +34,13 @@ module _ (g : ChipGame) (traces : List (List TraceRow)) (xs : List Placed) (part
       goes u = longer_beginning (rows_of before u) (left u).0 (rows_of xs u) (partial.in_order u).0 (trace_of traces u)
           (left u).1 (partial.in_order u).1 (within u)
 
-      through : List Placed
-      through = before ++ record { vertex = v; row = row } ∷ []
-
       -- v's rows with this one
       next : (later : List TraceRow) × ((rows_of before v ++ row ∷ later) ≡ trace_of traces v)
       next = (
         rows_of rest v ++ (in_order v).0,
-        sym (append_assoc (rows_of before v) (row ∷ []) (rows_of rest v ++ (in_order v).0))
-            ∙ ap (λ (rows : List TraceRow). rows ++ (rows_of rest v ++ (in_order v).0))
-            (sym (rows_of-push before v row))
-            ∙ sym (append_assoc (rows_of through v) (rows_of rest v) (in_order v).0)
-            ∙ ap (λ (rows : List TraceRow). rows ++ (in_order v).0) (sym (rows_of-append through rest v)
-            ∙ ap (λ (zs : List Placed). rows_of zs v) (append_assoc before (record { vertex = v; row = row } ∷ []) rest
-            ∙ is))
-            ∙ (in_order v).1,
+        ap (λ (rows : List TraceRow). rows_of before v ++ (rows ++ (in_order v).0))
+            (sym (cond_yes v v (row ∷ rows_of rest v) (rows_of rest v) refl))
+            ∙ (left v).1,
       )
 
       impossible : length (rows_of before v) ≡ length (rows_of xs v) → ⊥
@@ -61,9 +48,7 @@ module _ (g : ChipGame) (traces : List (List TraceRow)) (xs : List Placed) (part
           let same = same_beginning (rows_of before v) (left v).0 (rows_of xs v) (partial.in_order v).0
           (trace_of traces v) (left v).1 (partial.in_order v).1 e in
           let here : next_row traces xs v ≡ Some row =
-          ap (slice_get (trace_of traces v)) (sym e)
-          ∙ ap (λ (all : List TraceRow). slice_get all (length (rows_of before v))) (sym next.1)
-          ∙ slice_get_seam (rows_of before v) row next.0 in
+          (let seam = slice_get_seam (rows_of before v) row next.0 in let all = next.1 in cc) in
           let yes' = met_stays g (rows_of before) (rows_of xs) v row same goes met in
           let no' = settled v row here in
           cc
@@ -74,19 +59,13 @@ module _ (g : ChipGame) (traces : List (List TraceRow)) (xs : List Placed) (part
       AreMet g before rest →
       ((u : ℕ) → length (rows_of before u) ≤ length (rows_of xs u)) → (u : ℕ)
       → length (rows_of ys u) ≤ length (rows_of xs u)
-  no_further ys before [] is in_order met within u = subst
-      (λ (zs : List Placed). length (rows_of zs u) ≤ length (rows_of xs u)) (sym (append-nil before) ∙ is) (within u)
+  no_further ys before [] is in_order met within u = rw (← is, append-nil before) (within u)
   no_further ys before (y ∷ rest) is in_order met within u =
       no_further ys (before ++ y ∷ []) rest (append_assoc before (y ∷ []) rest ∙ is) in_order met.1
-      (λ w. dite (ℕ_discrete y.vertex w)
-      (λ same.
-      let here : length (rows_of before y.vertex) < length (rows_of xs y.vertex) =
-      one_more ys before rest y.vertex y.row is in_order within met.0 in
-      let grown : length (rows_of (before ++ y ∷ []) y.vertex) ≡ length (rows_of before y.vertex) + 1 =
-      ap length (rows_of-push before y.vertex y.row) ∙ length-append (rows_of before y.vertex) (y.row ∷ []) in
-      subst (λ (z : ℕ). length (rows_of (before ++ y ∷ []) z) ≤ length (rows_of xs z)) same (omega arith))
-      (λ other. subst (λ (rows : List TraceRow). length rows ≤ length (rows_of xs w))
-      (sym (rows_of-push_other before y.vertex w y.row other)) (within w)))
+      (λ w.
+      let here = one_more ys before rest y.vertex y.row is in_order within met.0 in
+      let old = within w in let more = rows_of-append before (y ∷ []) w in
+      grind (arith, nat_tests, length-append))
       u
 
   -- so this is greatest progress

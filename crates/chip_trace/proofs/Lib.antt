@@ -1,10 +1,10 @@
+mod Names
 pub mod PrefixLemmas
 pub mod RowLemmas
 pub mod GreatestLemmas
 pub mod NumberLemmas
 pub mod KeptLemmas
 pub mod LookLemmas
-pub mod LeftLemmas
 pub mod ReplayLemmas
 pub mod VerdictLemmas
 pub mod RemainingLemmas

@@ -1,37 +1,20 @@
 -- Serves Interleaving.antt, Kept.antt.
 -- What a look at a row that is met tells.
-use Rattle.std.proofs.Common.{◌≡◌, ℕ, ◌+◌, ◌-◌, ◌*◌, ◌^◌, ◌<◌, ◌≤◌, Bool, true, false, cond, eqb, List, [], ◌∷◌, length}
-use Rattle.std.proofs.Common.{get_or, map, refl, sym, ap, ◌∙◌, arith, eq-eqb}
-use Rattle.std.specs.Prelude.{slice_get, slice_index, Option, Some, nat_lt}
-use Rattle.std.proofs.lemmas.Bool.{eqb-true, ltb-true}
-use Rattle.chip_link.specs.declared.trace.TraceRow.{TraceRow}
-use Rattle.chip_link.specs.declared.trace.TraceRow.TheVariants.{Take, Fire}
-use Rattle.chip_graph.specs.Multigraph.{Multigraph, edge_at}
-use Rattle.chip_graph.specs.ChipGame.{ChipGame}
-use Rattle.chip_trace.specs.Interleaving.{fires, takes_of, opening, messages, goes_into, next_message, has_count}
-use Rattle.chip_trace.specs.Runner.{RunnerState}
-use Rattle.chip_trace.specs.declared.progress.ReplayProgress.{ReplayProgress}
-use Rattle.chip_trace.specs.Kept.{runner_at, rows_used, row_after, IsKept, MayUse}
-use Rattle.chip_trace.proofs.RowLemmas.{and_both}
+use Rattle.chip_trace.proofs.Names.{◌≡◌, ℕ, ◌+◌, ◌-◌, ◌*◌, ◌^◌, ◌<◌, ◌≤◌, true, cond, List, [], ◌∷◌, length, get_or}
+use Rattle.chip_trace.proofs.Names.{map, sym, ap, ◌∙◌, arith, eq-eqb, slice_get, slice_index, Option, Some, nat_lt}
+use Rattle.chip_trace.proofs.Names.{and_from, nat_tests, TraceRow, Take, Fire, Multigraph, edge_at, ChipGame, fires}
+use Rattle.chip_trace.proofs.Names.{takes_of, opening, messages, goes_into, next_message, has_count, RunnerState}
+use Rattle.chip_trace.proofs.Names.{ReplayProgress, runner_at, rows_used, row_after, IsKept, MayUse}
 
 -- an edge into a vertex is an edge
 pub into_is_edge : (G : Multigraph) (v e : ℕ) → v < G.vertices → goes_into G v e ≡ true
     → e < length G.edges + G.vertices
-into_is_edge G v e is_vertex = by_side (nat_lt e (length G.edges)) refl
-  where
-    by_side : (b : Bool) → nat_lt e (length G.edges) ≡ b
-        → cond b (eqb (edge_at G e).head v) (eqb e (length G.edges + v)) ≡ true → e < length G.edges + G.vertices
-    by_side true is into = let l = ltb-true e (length G.edges) is in omega arith
-    by_side false is into = let s = eqb-true e (length G.edges + v) into in omega arith
+into_is_edge G v e is_vertex into = grind (arith, nat_tests)
 
 -- no more messages were taken than rows used
 pub takes_of-le : (e : ℕ) (rows : List TraceRow) → takes_of e rows ≤ length rows
 takes_of-le e [] = omega arith
-takes_of-le e (Take edge count ∷ rows) = let a = takes_of-le e rows in let b = one (eqb edge e) in omega arith
-  where
-    one : (t : Bool) → cond t 1 0 ≤ 1
-    one true = omega arith
-    one false = omega arith
+takes_of-le e (Take edge count ∷ rows) = let a = takes_of-le e rows in grind (arith, nat_tests)
 takes_of-le e (Fire k ∷ rows) = let a = takes_of-le e rows in omega arith
 
 module _ (g : ChipGame) (traces : List (List TraceRow)) (p : ReplayProgress) (v : ℕ) (kept : IsKept g traces p) where
@@ -53,7 +36,7 @@ module _ (g : ChipGame) (traces : List (List TraceRow)) (p : ReplayProgress) (v 
   may_take edge count message is_vertex next room fits into found same =
       record {
         next = next;
-        met = and_both (goes_into g.graph v edge) (has_count (next_message g (rows_used traces p) v edge) count) into
+        met = and_from (goes_into g.graph v edge) (has_count (next_message g (rows_used traces p) v edge) count) into
             (ap (λ (o : Option ℕ). has_count o count) is_next ∙ eq-eqb message count same);
         room = room;
         fits = (is_edge, few, chips, fits);

@@ -1,9 +1,8 @@
 -- Serves TraceText.antt.
 -- Lists and how they begin.
-use Rattle.std.proofs.Common.{◌≡◌, ℕ, zero, suc, ◌≤◌, List, [], ◌∷◌, ◌++◌, length, take, drop, refl, sym, ap, ◌∙◌}
-use Rattle.std.specs.Prelude.{slice_get, Option, Some, None}
-use Rattle.std.proofs.Math.Seq.{take-append_seam}
-use Rattle.std.proofs.lemmas.List.{take-append-le, take-append-drop}
+use Rattle.chip_trace.proofs.Names.{◌≡◌, ℕ, zero, suc, ◌≤◌, List, [], ◌∷◌, ◌++◌, length, take, drop, refl, sym, ap, ◌∙◌}
+use Rattle.chip_trace.proofs.Names.{add-one, slice_get, Some, take-append_seam, take-append-le, take-append-drop}
+use Rattle.chip_trace.proofs.Names.{take_more, slice_get_within, get_or_from_slice_get}
 
 module _ {A : Type 0} where
   -- a beginning is what its length takes
@@ -38,10 +37,5 @@ module _ {A : Type 0} where
 
   -- a place that holds something ends the beginning up to it
   pub take_slice_get : (xs : List A) (i : ℕ) (x : A) → slice_get xs i ≡ Some x → take (suc i) xs ≡ take i xs ++ x ∷ []
-  take_slice_get [] i x is = absurd (cc is)
-  take_slice_get (z ∷ zs) zero x is = ap (λ (o : Option A). got o) is
-    where
-      got : Option A → List A
-      got None = z ∷ []
-      got (Some y) = y ∷ []
-  take_slice_get (z ∷ zs) (suc i) x is = ap (λ (l : List A). z ∷ l) (take_slice_get zs i x is)
+  take_slice_get xs i x is = let more = take_more xs i x (slice_get_within xs i x is) in
+      let at = get_or_from_slice_get xs i x x is in let next = add-one i in cc

@@ -1,33 +1,15 @@
 -- Serves Left.antt, Kept.antt.
 -- What is left, by what is kept: it is what the used rows leave, and it grows edge by edge and vertex by vertex.
-use Rattle.std.proofs.Common.{◌≡◌, ℕ, ◌+◌, ◌-◌, ◌<◌, ◌≤◌, ◌==◌, nat_le, not, ◌&&◌, Bool, true, false, cond, eqb, List}
-use Rattle.std.proofs.Common.{[], ◌∷◌, ◌++◌, length, map, refl, sym, ap, ◌∙◌, arith, eq-eqb, add-one, append-nil}
-use Rattle.std.specs.Prelude.{nat_lt}
-use Rattle.std.proofs.lemmas.Bool.{ltb-false, lt-ltb, le-ltb, cond-true, cond-false}
-use Rattle.std.proofs.lemmas.List.{map-append}
-use Rattle.chip_link.specs.declared.trace.TraceRow.{TraceRow}
-use Rattle.chip_graph.specs.Sums.{filter_below}
-use Rattle.chip_graph.specs.Multigraph.{Multigraph, edge_at, degree}
-use Rattle.chip_graph.specs.Edges.{head_of}
-use Rattle.chip_graph.specs.ChipGame.{ChipGame}
-use Rattle.chip_trace.specs.declared.remaining.Left.TheVariants.{Messages}
-use Rattle.chip_trace.specs.Interleaving.{fires, chips_taken, takes_of, goes_into}
-use Rattle.chip_trace.specs.Left.{messages_left, chips_held, legal_left, left_of, left_after}
-use Rattle.chip_trace.specs.Runner.{RunnerState}
-use Rattle.chip_trace.specs.declared.progress.ReplayProgress.{ReplayProgress}
-use Rattle.chip_trace.specs.Kept.{rows_used, IsKept, kept_fires, kept_chips, kept_taken, kept_edges, kept_vertices}
-use Rattle.chip_trace.specs.Kept.{kept_left}
+use Rattle.chip_trace.proofs.Names.{◌≡◌, ℕ, ◌+◌, ◌<◌, ◌≤◌, ◌==◌, nat_le, not, ◌&&◌, Bool, true, false, List, [], ◌∷◌}
+use Rattle.chip_trace.proofs.Names.{◌++◌, map, sym, ap, ◌∙◌, arith, add-one, append-nil, nat_tests, lt-ltb, le-ltb}
+use Rattle.chip_trace.proofs.Names.{map-append, TraceRow, filter_below, Multigraph, degree, head_of, ChipGame, Messages}
+use Rattle.chip_trace.proofs.Names.{fires, chips_taken, takes_of, goes_into, messages_left, chips_held, legal_left}
+use Rattle.chip_trace.proofs.Names.{left_of, left_after, RunnerState, ReplayProgress, rows_used, IsKept, kept_fires}
+use Rattle.chip_trace.proofs.Names.{kept_chips, kept_taken, kept_edges, kept_vertices, kept_left}
 
 -- an edge goes into its head
 into_head : (G : Multigraph) (e : ℕ) → goes_into G (head_of G e) e ≡ true
-into_head G e = by_side (nat_lt e (length G.edges)) refl
-  where
-    by_side : (b : Bool) → nat_lt e (length G.edges) ≡ b
-        → (let head = cond b (edge_at G e).head (e - length G.edges) in
-        cond b (eqb (edge_at G e).head head) (eqb e (length G.edges + head)) ≡ true)
-    by_side true is = eq-eqb (edge_at G e).head (edge_at G e).head refl
-    by_side false is = eq-eqb e (length G.edges + (e - length G.edges))
-        (let l = ltb-false e (length G.edges) is in omega arith)
+into_head G e = grind (arith, nat_tests)
 
 module _ (g : ChipGame) (traces : List (List TraceRow)) (p : ReplayProgress) (kept : IsKept g traces p) where
   same_fires : ◌≡◌ {A = ℕ → List ℕ} (kept_fires p) (λ v. fires (rows_used traces p v))
@@ -48,17 +30,13 @@ module _ (g : ChipGame) (traces : List (List TraceRow)) (p : ReplayProgress) (ke
 one_more : {A : Type 0} (f : ℕ → A) (test : ℕ → Bool) (n : ℕ) → test n ≡ true
     → map f (filter_below test (n + 1)) ≡ map f (filter_below test n) ++ f n ∷ []
 one_more f test n passes =
-    ap (λ (m : ℕ). map f (filter_below test m)) (add-one n)
-    ∙ ap (λ (xs : List ℕ). map f (filter_below test n ++ xs)) (cond-true (test n) (n ∷ []) [] passes)
-    ∙ map-append f (filter_below test n) (n ∷ [])
+    let more = map-append f (filter_below test n) (n ∷ []) in rw (add-one n) (grind (arith, nat_tests))
 
 -- a number that does not
 no_more : {A : Type 0} (f : ℕ → A) (test : ℕ → Bool) (n : ℕ) → test n ≡ false
     → map f (filter_below test (n + 1)) ≡ map f (filter_below test n)
 no_more f test n fails =
-    ap (λ (m : ℕ). map f (filter_below test m)) (add-one n)
-    ∙ ap (λ (xs : List ℕ). map f (filter_below test n ++ xs)) (cond-false (test n) (n ∷ []) [] fails)
-    ∙ ap (map f) (append-nil (filter_below test n))
+    let same = append-nil (filter_below test n) in rw (add-one n) (grind (arith, nat_tests))
 
 module _ (g : ChipGame) (p : ReplayProgress) (n : ℕ) where
   -- an edge with messages left

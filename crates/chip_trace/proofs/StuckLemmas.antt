@@ -1,23 +1,12 @@
 -- Serves Kept.antt, Progress.antt, Interleaving.antt.
 -- What follows once no next row is met: an interleaving and what it leaves, or a vertex to blame.
-use Rattle.std.proofs.Common.{◌≡◌, ℕ, ◌<◌, ◌≤◌, List, [], ◌++◌, length, drop, sym, ap, ◌∙◌, arith, inl, inr}
-use Rattle.std.specs.Prelude.{slice_get, Some, None, ◌⊎◌}
-use mathlib.Core.Logic.{dite}
-use native.Mathlib.Decide.{dec_lt}
-use Rattle.std.proofs.lemmas.List.{take_all, take-append-drop, get_or_past}
-use Rattle.std.proofs.lemmas.Option.{slice_get_within}
-use Rattle.chip_link.specs.declared.trace.TraceRow.{TraceRow}
-use Rattle.chip_graph.specs.ChipGame.{ChipGame}
-use Rattle.chip_trace.specs.Interleaving.{is_met, Placed, rows_of, trace_of, IsPartial}
-use Rattle.chip_trace.specs.Progress.{is_wrong, next_row, HasWrongRow, HasUnusedRow, IsLeast, IsBlamed}
-use Rattle.chip_trace.specs.Progress.{IsGreatestProgress, IsStuck}
-use Rattle.chip_trace.specs.Runner.{RunnerState}
-use Rattle.chip_trace.specs.declared.progress.ReplayProgress.{ReplayProgress}
-use Rattle.chip_trace.specs.declared.replaying.Replayed.{Replayed}
-use Rattle.chip_trace.specs.Left.{left_after}
-use Rattle.chip_trace.specs.Replay.{IsReplayed}
-use Rattle.chip_trace.specs.Kept.{runner_at, rows_used, row_after, IsReached, IsKept, IsSettled, IsWrongAt, IsUnusedAt}
-use Rattle.chip_trace.specs.Kept.{NoneBelow, IsToBlame, kept_left}
+use Rattle.chip_trace.proofs.Names.{◌≡◌, ℕ, ◌<◌, ◌≤◌, List, [], ◌++◌, length, drop, sym, ap, ◌∙◌, arith, inl, inr}
+use Rattle.chip_trace.proofs.Names.{subst, true, slice_get, Some, None, ◌⊎◌, dite, dec_lt, take_all, take-append-drop}
+use Rattle.chip_trace.proofs.Names.{get_or_past, slice_get_within, TraceRow, ChipGame, is_met, Placed, rows_of}
+use Rattle.chip_trace.proofs.Names.{trace_of, IsPartial, is_wrong, next_row, HasWrongRow, HasUnusedRow, IsLeast}
+use Rattle.chip_trace.proofs.Names.{IsBlamed, IsGreatestProgress, IsStuck, RunnerState, ReplayProgress, Replayed}
+use Rattle.chip_trace.proofs.Names.{left_after, IsReplayed, runner_at, rows_used, row_after, IsReached, IsKept}
+use Rattle.chip_trace.proofs.Names.{IsSettled, IsWrongAt, IsUnusedAt, NoneBelow, IsToBlame, kept_left}
 use Rattle.chip_trace.proofs.GreatestLemmas.{settled_is_greatest, none_whole}
 use Rattle.chip_trace.proofs.RemainingLemmas.{left_is}
 
@@ -60,27 +49,11 @@ module _ (g : ChipGame) (traces : List (List TraceRow)) (p : ReplayProgress) (ke
   next_is_unused : (v : ℕ) (row : TraceRow) → row_after traces p v ≡ Some row → IsUnusedAt traces p v
   next_is_unused v row next = slice_get_within (trace_of traces v) (runner_at p v).used row next
 
-  wrong_here : (v : ℕ) → IsWrongAt g traces p v → HasWrongRow g traces xs v
-  wrong_here v wrong = (
-    wrong.0,
-    same_next v
-        ∙ wrong.1,
-    ap (λ (used : ℕ → List TraceRow). is_wrong g used v wrong.0) same_rows ∙ wrong.2,
-  )
+  same_wrong : ◌≡◌ {A = ℕ → Type 0} (IsWrongAt g traces p) (HasWrongRow g traces xs)
+  same_wrong = sym (λ i v. (row : TraceRow) × (same_next v i ≡ Some row) × (is_wrong g (same_rows i) v row ≡ true))
 
-  wrong_there : (v : ℕ) → HasWrongRow g traces xs v → IsWrongAt g traces p v
-  wrong_there v wrong = (
-    wrong.0,
-    sym (same_next v)
-        ∙ wrong.1,
-    ap (λ (used : ℕ → List TraceRow). is_wrong g used v wrong.0) (sym same_rows) ∙ wrong.2,
-  )
-
-  unused_here : (v : ℕ) → IsUnusedAt traces p v → HasUnusedRow traces xs v
-  unused_here v some = let e = same_length v in omega arith
-
-  unused_there : (v : ℕ) → HasUnusedRow traces xs v → IsUnusedAt traces p v
-  unused_there v some = let e = same_length v in omega arith
+  same_unused : ◌≡◌ {A = ℕ → Type 0} (IsUnusedAt traces p) (HasUnusedRow traces xs)
+  same_unused = sym (λ i v. same_length v i < length (trace_of traces v))
 
   module _ (none : IsToBlame g traces p None) where
     all_used : (v : ℕ) → rows_used traces p v ≡ trace_of traces v
@@ -109,27 +82,21 @@ module _ (g : ChipGame) (traces : List (List TraceRow)) (p : ReplayProgress) (ke
     pub stuck : (v : ℕ) → IsToBlame g traces p (Some v) → IsStuck g traces v (runner_at p v).used
     stuck v blame = by_blame blame.1
       where
-        at : HasUnusedRow traces xs v → IsBlamed g traces xs v → IsStuck g traces v (runner_at p v).used
+        at : IsUnusedAt traces p v → IsBlamed g traces xs v → IsStuck g traces v (runner_at p v).used
         at some blamed = record {
-          none = none_whole g traces xs greatest v some;
+          none = none_whole g traces xs greatest v (let e = same_length v in omega arith);
           blamed = (xs, greatest, same_length v, blamed);
         }
 
         by_blame : (IsLeast (IsWrongAt g traces p) v
             ⊎ (NoneBelow g.graph.vertices (IsWrongAt g traces p) × IsLeast (IsUnusedAt traces p) v))
             → IsStuck g traces v (runner_at p v).used
-        by_blame (inl wrong) = at (unused_here v (next_is_unused v wrong.here.0 wrong.here.1))
-            (inl (record {
-              here = wrong_here v wrong.here;
-              least = λ u l other. wrong.least u l (wrong_there u other);
-            }))
+        by_blame (inl wrong) = at (next_is_unused v wrong.here.0 wrong.here.1)
+            (inl (subst (λ (P : ℕ → Type 0). IsLeast P v) same_wrong wrong))
         by_blame (inr waits) =
-            at (unused_here v waits.1.here)
+            at waits.1.here
             (inr (
-              (λ u other. let there = wrong_there u other in
+              (λ u other. let there = subst (λ (P : ℕ → Type 0). P u) (sym same_wrong) other in
                   waits.0 u (unused_is_vertex u (next_is_unused u there.0 there.1)) there),
-              record {
-                here = unused_here v waits.1.here;
-                least = λ u l other. waits.1.least u l (unused_there u other);
-              },
+              subst (λ (P : ℕ → Type 0). IsLeast P v) same_unused waits.1,
             ))

@@ -1,10 +1,8 @@
 -- Serves TraceText.antt.
 -- Text that grows line by line.
-use Rattle.std.proofs.Common.{◌≡◌, ℕ, suc, ◌+◌, ◌<◌, List, [], ◌∷◌, ◌++◌, length, take, get_or, sym, ap, ◌∙◌, arith}
-use Rattle.std.proofs.Common.{append_assoc, append-nil}
-use Rattle.std.proofs.lemmas.List.{take_more, length-take-le}
-use Rattle.chip_link.specs.declared.trace.TraceRow.{TraceRow}
-use Rattle.chip_trace.specs.TraceText.{row_text, rows_text, lines_from}
+use Rattle.chip_trace.proofs.Names.{◌≡◌, ℕ, suc, ◌+◌, ◌<◌, List, [], ◌∷◌, ◌++◌, length, take, get_or, sym, ap, ◌∙◌}
+use Rattle.chip_trace.proofs.Names.{arith, append_assoc, append-nil, take_more, length-take-le, TraceRow, row_text}
+use Rattle.chip_trace.proofs.Names.{rows_text, lines_from}
 
 rows_text-push : (v : ℕ) (rows : List TraceRow) (row : TraceRow)
     → rows_text v (rows ++ row ∷ []) ≡ rows_text v rows ++ row_text v row

@@ -1,13 +1,7 @@
 -- Serves Interleaving.antt, Progress.antt, Left.antt.
 -- Worked rows: the run of the triangle from four chips, whole, cut, and with a take of another count; and what is left.
-use Rattle.std.specs.Prelude.{◌≡◌, true, false, List, [], ◌∷◌, refl}
-use Rattle.chip_link.specs.declared.trace.TraceRow.TheVariants.{Take, Fire}
-use Rattle.chip_graph.specs.ChipGame.{ChipGame}
-use Rattle.chip_graph.specs.Limits.{max_limit}
-use Rattle.chip_trace.specs.Interleaving.{Placed, AreMet, firings, rows_of, is_met}
-use Rattle.chip_trace.specs.Progress.{is_wrong}
-use Rattle.chip_trace.specs.Left.{left_after}
-use Rattle.chip_trace.specs.declared.remaining.Left.TheVariants.{Messages, CanFire, AtLimit}
+use Rattle.chip_trace.proofs.Names.{◌≡◌, true, false, List, [], ◌∷◌, refl, Take, Fire, ChipGame, max_limit, Placed}
+use Rattle.chip_trace.proofs.Names.{AreMet, firings, rows_of, is_met, is_wrong, left_after, Messages, CanFire, AtLimit}
 
 -- the triangle with four chips on vertex 0; its root edges are 4, 5 and 6
 abbrev triangle : ChipGame

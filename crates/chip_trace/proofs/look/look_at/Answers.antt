@@ -1,9 +1,5 @@
-use Rattle.std.proofs.Common.{◌≡◌, List, map, sym, ◌∙◌, rules, true}
-use Rattle.std.specs.Prelude.{◌+◌, ◌^◌, ◌<◌, Some, slice_get, slice_index}
-use Rattle.chip_link.specs.declared.trace.TraceRow.{TraceRow}
-use Rattle.chip_link.specs.declared.trace.TraceRow.TheVariants.{Take}
-use Rattle.chip_trace.specs.Kept.{row_after, runner_at}
-use Rattle.chip_trace.specs.Interleaving.{goes_into, messages}
+use Rattle.chip_trace.proofs.Names.{◌≡◌, List, map, sym, ◌∙◌, rules, true, ◌+◌, ◌^◌, ◌<◌, Some, slice_get, slice_index}
+use Rattle.chip_trace.proofs.Names.{TraceRow, Take, row_after, runner_at, goes_into, messages}
 use Rattle.chip_trace.proofs.LookLemmas.{may_take}
 use Rattle.chip_trace.proofs.look.look_at.Goals as goal
 

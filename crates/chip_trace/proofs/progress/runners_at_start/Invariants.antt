@@ -1,5 +1,4 @@
-use Rattle.std.proofs.Common.{◌≡◌, replicate}
-use Rattle.chip_trace.specs.Runner.{at_start}
+use Rattle.chip_trace.proofs.Names.{◌≡◌, replicate, at_start}
 use Rattle.chip_trace.proofs.progress.runners_at_start.Given as goal
 
 abbrev pub invariant-loop : goal.invariant-loop

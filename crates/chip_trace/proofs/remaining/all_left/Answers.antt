@@ -1,10 +1,5 @@
-use Rattle.std.proofs.Common.{◌≡◌, ◌++◌, ◌∷◌, [], ℕ, List, sym, ap, ◌∙◌, arith, append_assoc}
-use Rattle.chip_graph.specs.ChipGame.{ChipGame}
-use Rattle.chip_graph.specs.Edges.{all_edges}
-use Rattle.chip_graph.specs.Multigraph.{Multigraph}
-use Rattle.chip_trace.specs.declared.remaining.Left.{Left}
-use Rattle.chip_trace.specs.declared.progress.ReplayProgress.{ReplayProgress}
-use Rattle.chip_trace.specs.Kept.{kept_edges, kept_vertices}
+use Rattle.chip_trace.proofs.Names.{◌≡◌, ◌++◌, ◌∷◌, [], ℕ, List, sym, ap, ◌∙◌, arith, append_assoc, ChipGame, all_edges}
+use Rattle.chip_trace.proofs.Names.{Multigraph, Left, ReplayProgress, kept_edges, kept_vertices}
 use Rattle.chip_trace.proofs.RemainingLemmas.{edge_more, edge_same, vertex_more, vertex_same}
 use Rattle.chip_trace.proofs.remaining.all_left.Goals as goal
 use Rattle.chip_trace.proofs.remaining.all_left.Goals.{then-count-gt0+in_ok-push, else-count-gt0}

@@ -1,6 +1,4 @@
-use Rattle.std.proofs.Common.{◌≡◌, ◌++◌}
-use Rattle.chip_graph.specs.Edges.{all_edges}
-use Rattle.chip_trace.specs.Kept.{kept_edges, kept_vertices}
+use Rattle.chip_trace.proofs.Names.{◌≡◌, ◌++◌, all_edges, kept_edges, kept_vertices}
 use Rattle.chip_trace.proofs.remaining.all_left.Given as goal
 
 abbrev pub invariant-loop-edge : goal.invariant-loop-edge

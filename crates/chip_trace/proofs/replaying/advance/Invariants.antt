@@ -1,5 +1,4 @@
-use Rattle.std.proofs.Common.{map}
-use Rattle.chip_trace.specs.Kept.{GoesOn, work_left}
+use Rattle.chip_trace.proofs.Names.{map, GoesOn, work_left}
 use Rattle.chip_trace.proofs.replaying.advance.Given as goal
 
 abbrev pub invariant-loop-row : goal.invariant-loop-row

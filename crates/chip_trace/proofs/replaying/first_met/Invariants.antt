@@ -1,8 +1,4 @@
-use Rattle.std.proofs.Common.{◌≡◌, ℕ, ◌<◌, map, false}
-use Rattle.std.specs.Prelude.{Some}
-use Rattle.chip_link.specs.declared.trace.TraceRow.{TraceRow}
-use Rattle.chip_trace.specs.Interleaving.{is_met}
-use Rattle.chip_trace.specs.Kept.{row_after, rows_used}
+use Rattle.chip_trace.proofs.Names.{◌≡◌, ℕ, ◌<◌, map, false, Some, TraceRow, is_met, row_after, rows_used}
 use Rattle.chip_trace.proofs.replaying.first_met.Given as goal
 
 abbrev pub invariant-loop-vertex : goal.invariant-loop-vertex

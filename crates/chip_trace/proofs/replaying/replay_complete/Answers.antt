@@ -1,8 +1,4 @@
-use Rattle.std.proofs.Common.{◌≡◌, ℕ, List, map, refl, sym, ◌∙◌, subst}
-use Rattle.chip_link.specs.declared.trace.TraceRow.{TraceRow}
-use Rattle.std.proofs.lemmas.List.{length-map}
-use Rattle.chip_trace.specs.Progress.{IsStuck}
-use Rattle.chip_trace.specs.Kept.{runner_at}
+use Rattle.chip_trace.proofs.Names.{◌≡◌, ℕ, List, map, refl, sym, ◌∙◌, subst, TraceRow, length-map, IsStuck, runner_at}
 use Rattle.chip_trace.proofs.KeptLemmas.{kept_start}
 use Rattle.chip_trace.proofs.StuckLemmas.{whole, stuck}
 use Rattle.chip_trace.proofs.replaying.replay_complete.Goals as goal

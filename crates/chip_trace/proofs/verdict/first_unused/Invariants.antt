@@ -1,5 +1,4 @@
-use Rattle.std.proofs.Common.{map}
-use Rattle.chip_trace.specs.Kept.{NoneBelow, IsUnusedAt}
+use Rattle.chip_trace.proofs.Names.{map, NoneBelow, IsUnusedAt}
 use Rattle.chip_trace.proofs.verdict.first_unused.Given as goal
 
 abbrev pub invariant-loop-vertex : goal.invariant-loop-vertex

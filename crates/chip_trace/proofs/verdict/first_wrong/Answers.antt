@@ -1,6 +1,4 @@
-use Rattle.std.proofs.Common.{◌≡◌, map, arith, ap, ◌∙◌}
-use borrow.Author.Count.{below_more}
-use Rattle.chip_graph.specs.Multigraph.{Multigraph}
+use Rattle.chip_trace.proofs.Names.{◌≡◌, map, arith, ap, ◌∙◌, below_more, Multigraph}
 use Rattle.chip_trace.proofs.VerdictLemmas.{not_found_wrong}
 use Rattle.chip_trace.proofs.verdict.first_wrong.Goals as goal
 

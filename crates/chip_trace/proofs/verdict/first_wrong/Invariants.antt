@@ -1,5 +1,4 @@
-use Rattle.std.proofs.Common.{map}
-use Rattle.chip_trace.specs.Kept.{NoneBelow, IsWrongAt}
+use Rattle.chip_trace.proofs.Names.{map, NoneBelow, IsWrongAt}
 use Rattle.chip_trace.proofs.verdict.first_wrong.Given as goal
 
 abbrev pub invariant-loop-vertex : goal.invariant-loop-vertex

@@ -1,7 +1,5 @@
-use Rattle.std.proofs.Common.{◌++◌, List, ℕ, take, get_or, sym, ap, ◌∙◌, append_assoc, string_bytes}
-use Rattle.chip_link.specs.declared.trace.TraceRow.{TraceRow}
-use Rattle.chip_link.specs.declared.trace.TraceRow.TheVariants.{Take}
-use Rattle.chip_trace.specs.TraceText.{row_text, rows_text}
+use Rattle.chip_trace.proofs.Names.{◌++◌, List, ℕ, take, get_or, sym, ap, ◌∙◌, append_assoc, string_bytes, TraceRow}
+use Rattle.chip_trace.proofs.Names.{Take, row_text, rows_text}
 use Rattle.chip_trace.proofs.TextLemmas.{rows_text-more}
 use Rattle.chip_trace.proofs.writing.push_rows.Goals as goal
 

@@ -1,5 +1,4 @@
-use Rattle.std.proofs.Common.{◌≡◌, ◌++◌, take, string_bytes}
-use Rattle.chip_trace.specs.TraceText.{rows_text}
+use Rattle.chip_trace.proofs.Names.{◌≡◌, ◌++◌, take, string_bytes, rows_text}
 use Rattle.chip_trace.proofs.writing.push_rows.Given as goal
 
 abbrev pub invariant-loop-row : goal.invariant-loop-row

@@ -1,8 +1,6 @@
-use Rattle.std.proofs.Common.{◌++◌, ◌<◌, List, [], ℕ, length, map, take, get_or, sym, ap, ◌∙◌, append_assoc}
-use Rattle.std.proofs.Common.{string_bytes, arith}
-use Rattle.std.proofs.lemmas.List.{get_or-map, length-map}
-use Rattle.chip_link.specs.declared.trace.TraceRow.{TraceRow}
-use Rattle.chip_trace.specs.TraceText.{header, rows_text, lines_from}
+use Rattle.chip_trace.proofs.Names.{◌++◌, ◌<◌, List, [], ℕ, length, map, take, get_or, sym, ap, ◌∙◌, append_assoc}
+use Rattle.chip_trace.proofs.Names.{string_bytes, arith, get_or-map, length-map, TraceRow, header, rows_text}
+use Rattle.chip_trace.proofs.Names.{lines_from}
 use Rattle.chip_trace.proofs.TextLemmas.{lines_from-more}
 use Rattle.chip_trace.proofs.writing.text_of.Goals as goal
 

@@ -1,5 +1,4 @@
-use Rattle.std.proofs.Common.{◌≡◌, ◌++◌, map, take, string_bytes}
-use Rattle.chip_trace.specs.TraceText.{header, lines_from}
+use Rattle.chip_trace.proofs.Names.{◌≡◌, ◌++◌, map, take, string_bytes, header, lines_from}
 use Rattle.chip_trace.proofs.writing.text_of.Given as goal
 
 abbrev pub invariant-loop-vertex : goal.invariant-loop-vertex

@@ -1,6 +1,4 @@
-use Rattle.std.proofs.Common.{ℕ, List, Err, ◌∙◌, subst}
-use Rattle.chip_report.specs.Sink.{bytes_out}
-use Rattle.chip_trace.specs.TraceText.{WritesText}
+use Rattle.chip_trace.proofs.Names.{ℕ, List, Err, ◌∙◌, subst, bytes_out, WritesText}
 use Rattle.chip_trace.specs.declared.fault.TraceFault.TheVariants as fault
 use Rattle.chip_trace.proofs.writing.write_trace_to.Goals as goal
 

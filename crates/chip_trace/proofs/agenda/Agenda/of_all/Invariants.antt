@@ -1,5 +1,4 @@
-use Rattle.std.proofs.Common.{◌≡◌, ◌+◌, ◌<◌, length}
-use Rattle.std.specs.Prelude.{All}
+use Rattle.chip_trace.proofs.Names.{◌≡◌, ◌+◌, ◌<◌, length, All}
 use Rattle.chip_trace.proofs.agenda.Agenda.of_all.Given as goal
 
 abbrev pub invariant-loop-vertex : goal.invariant-loop-vertex

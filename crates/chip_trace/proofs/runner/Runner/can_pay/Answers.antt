@@ -1,4 +1,4 @@
-use Rattle.std.proofs.Common.{◌+◌, arith}
+use Rattle.chip_trace.proofs.Names.{◌+◌, arith}
 use Rattle.chip_trace.proofs.NumberLemmas.{product_fits}
 use Rattle.chip_trace.proofs.runner.Runner.can_pay.Goals as goal
 

@@ -1,33 +1,22 @@
 -- Serves ReportLists.antt.
 -- The lists of numbers in a text that is made of parts, each a front and a list in brackets.
-use Rattle.std.proofs.Common.{◌≡◌, ◌≢◌, ℕ, zero, suc, ◌+◌, ◌^◌, ◌<◌, ◌≤◌, Bool, true, false, ◌&&◌, not, nat_lt, eqb}
-use Rattle.std.proofs.Common.{List, [], ◌∷◌, ◌++◌, length, map, take, drop, get_or, codes, Option, None, Some, Vec}
-use Rattle.std.proofs.Common.{Global, Result, Ok, Err, inl, inr, refl, sym, ap, ◌∙◌, subst, arith, append_assoc}
-use Rattle.std.proofs.Common.{length-append}
-use Rattle.std.specs.Prelude.{◌⊎◌, All, IsAscii, MatchOption, ok_or, decimal}
-use Rattle.std.specs.Int.{IsInRange}
-use Rattle.std.specs.List.{AllByRecursion, before_first, after_first, position_or_len, slice_split, join_with_byte}
-use Rattle.std.specs.Result.{result_ok}
-use Rattle.std.specs.Str.Parse.{AllDigits, digits_value, ParsesUnsigned}
-use denote.Ref.{Bor}
-use Rattle.std.proofs.Math.Seq.{drop-append-add}
-use Rattle.std.proofs.lemmas.Bool.{and_parts, not-true, ltb-true, eqb-false, eq-eqb, ne_eqb}
+use Rattle.chip_report.proofs.Names.{◌≡◌, ◌≢◌, ℕ, zero, suc, ◌+◌, ◌^◌, ◌<◌, ◌≤◌, Bool, true, false, ◌&&◌, not, nat_lt}
+use Rattle.chip_report.proofs.Names.{eqb, List, [], ◌∷◌, ◌++◌, length, map, take, drop, get_or, codes, Option, None}
+use Rattle.chip_report.proofs.Names.{Some, Vec, Global, Result, Ok, Err, inl, inr, refl, ap, ◌∙◌, arith, append_assoc}
+use Rattle.chip_report.proofs.Names.{length-append, ◌⊎◌, All, IsAscii, MatchOption, ok_or, IsInRange, AllByRecursion}
+use Rattle.chip_report.proofs.Names.{before_first, after_first, position_or_len, slice_split, join_with_byte, result_ok}
+use Rattle.chip_report.proofs.Names.{AllDigits, digits_value, ParsesUnsigned, Bor, drop-append-add, and_parts, eq-eqb}
+use Rattle.chip_report.proofs.Names.{ne_eqb, nat_tests, take_at, get_or_at, get_or_append_left, get_or-map, map-append}
+use Rattle.chip_report.proofs.Names.{length-map, All-nil, All-cons, All-append, All-from_get_or, slice_split_none}
+use Rattle.chip_report.proofs.Names.{slice_split_at, position_or_len_is, IsAscii-append, IsAscii-nil, IsAscii-cons}
+use Rattle.chip_report.proofs.Names.{comma, array_text, Gives, opening_bracket, closing_bracket, first_list}
+use Rattle.chip_report.proofs.Names.{text_behind_list, text_behind_lists, spelled_number, numbers_of, list_at}
+use Rattle.chip_report.proofs.Names.{AreListed, IsNoNumber, IsNoList, HasNoList, ReportFault}
+use Rattle.std.proofs.Common.{decimal}
 use Rattle.std.proofs.lemmas.Fmt.{decimal_is_IsNumeral, decimal_nonempty, digits_decimal, parse-decimal}
 use Rattle.std.proofs.lemmas.Fmt.{IsAscii-decimal}
-use Rattle.std.proofs.lemmas.List.{take_at, get_or_at, get_or_append_left, get_or-map, map-append, length-map}
-use Rattle.std.proofs.lemmas.List.Elements.{All-nil, All-cons, All-head, All-tail, All-append, All-from_get_or}
-use Rattle.std.proofs.lemmas.List.Splits.{slice_split_none, slice_split_at}
-use Rattle.std.proofs.lemmas.List.Sums.{position_or_len_is}
-use Rattle.std.proofs.lemmas.Str.{IsAscii-append}
-use Rattle.std.proofs.lemmas.Str.Ascii.{IsAscii-nil, IsAscii-cons}
 use Rattle.std.proofs.lemmas.Str.Parse.{IsNumeralModel, numerals_by_value, tells_digits, not_in_digits}
 use Rattle.std.proofs.lemmas.Str.Parse.{without_leading_plus_none}
-use Rattle.chip_report.specs.ReportText.{comma, array_text}
-use Rattle.chip_report.specs.Reportable.{Gives}
-use Rattle.chip_report.specs.ReportLists.{opening_bracket, closing_bracket, first_list, text_behind_list}
-use Rattle.chip_report.specs.ReportLists.{text_behind_lists, spelled_number, numbers_of}
-use Rattle.chip_report.specs.ReportLists.{list_at, AreListed, IsNoNumber, IsNoList, HasNoList}
-use Rattle.chip_report.specs.declared.fault.ReportFault.{ReportFault}
 use Rattle.chip_report.specs.declared.fault.ReportFault.TheVariants as fault
 
 -- ---- what ends at a byte
@@ -53,38 +42,34 @@ own : IsNumeralModel (AllDigits 10) (digits_value 10)
 own = numerals_by_value (AllDigits 10) tells_digits
 
 -- what is no digit does not stand in a number
-no_digit : (n c : ℕ) → n < 2 ^ 64 → (IsInRange 48 57 c → ⊥) → (i : ℕ) → i < length (decimal n)
-    → get_or (decimal n) i 0 ≢ c
-no_digit n c fits other = not_in_digits own (decimal n) c (digits_decimal own n fits) other
+no_digit : (n c : ℕ) → n < 2 ^ 64 → (IsInRange 48 57 c → ⊥) → All (λ b. b ≢ c) (decimal n)
+no_digit n c fits other = All-from_get_or (λ b. b ≢ c) (decimal n) 0
+    (not_in_digits own (decimal n) c (digits_decimal own n fits) other)
 
 spelled_number-decimal : (n : ℕ) → n < 2 ^ 64 → spelled_number (decimal n) ≡ n
 spelled_number-decimal n fits =
     ap (digits_value 10)
     (without_leading_plus_none (decimal n)
-    (no_digit n 43 fits (λ r. absurd (omega (arith, r))) 0 (decimal_nonempty n fits)))
+    (no_digit n 43 fits (λ r. absurd (omega (arith, r))) 0 0 (decimal_nonempty n fits)))
     ∙ (decimal_is_IsNumeral n fits).1
 
 -- ---- a list
-
-abbrev Fits : ℕ → Type 0
-Fits n = n < 2 ^ 64
 
 abbrev pub AreShort : List ℕ → Type 0
 AreShort = All (λ n. n < 2 ^ 64)
 
 head_fits : (n : ℕ) (ns : List ℕ) → AreShort (n ∷ ns) → n < 2 ^ 64
-head_fits n ns fit = All-head Fits n ns fit
+head_fits n ns fit = fit 0 0 (omega arith)
 
 tail_fits : (n : ℕ) (ns : List ℕ) → AreShort (n ∷ ns) → AreShort ns
-tail_fits n ns fit = All-tail Fits n ns fit
+tail_fits n ns fit = λ k d l. fit (suc k) d (omega arith)
 
 abbrev pub joined : List ℕ → List ℕ
 joined numbers = join_with_byte comma (map decimal numbers)
 
 no_closing_in : (n : ℕ) → n < 2 ^ 64 → All (λ b. b ≢ closing_bracket) (decimal n)
 no_closing_in n fits =
-    All-from_get_or (λ b. b ≢ closing_bracket) (decimal n) 0
-    (no_digit n closing_bracket fits (λ r. absurd (omega (arith, r))))
+    no_digit n closing_bracket fits (λ r. absurd (omega (arith, r)))
 
 no_closing : (ns : List ℕ) → AreShort ns → All (λ b. b ≢ closing_bracket) (joined ns)
 no_closing [] fit = All-nil (λ b. b ≢ closing_bracket)
@@ -96,9 +81,7 @@ no_closing (n ∷ m ∷ ms) fit =
     (no_closing (m ∷ ms) (tail_fits n (m ∷ ms) fit)))
 
 no_comma : (n : ℕ) → n < 2 ^ 64 → All (λ b. eqb b comma ≡ false) (decimal n)
-no_comma n fits =
-    All-from_get_or (λ b. eqb b comma ≡ false) (decimal n) 0
-    (λ i l. ne_eqb (get_or (decimal n) i 0) comma (no_digit n comma fits (λ r. absurd (omega (arith, r))) i l))
+no_comma n fits = λ k d l. ne_eqb _ comma (no_digit n comma fits (λ r. absurd (omega (arith, r))) k d l)
 
 pieces-joined : (n : ℕ) (ns : List ℕ) → AreShort (n ∷ ns)
     → slice_split (λ b. eqb b comma) (joined (n ∷ ns)) ≡ map decimal (n ∷ ns)
@@ -154,20 +137,17 @@ pub none_with : (most : ℕ) (list piece : List ℕ) (i : ℕ) → 0 < length li
 none_with most list piece i some within at none ns listed e =
     let same : pieces list ≡ map decimal ns = pieces_of_some list ns some listed.1 e in
     let below : i < length ns = omega (arith, ap length same, length-map ns decimal) in
-    none (get_or ns i 0) (listed.1 i 0 below)
-    (at ∙ ap (λ (ps : List (List ℕ)). get_or ps i piece) same ∙ get_or-map decimal ns i 0 piece below)
+    none (get_or ns i 0) (listed.1 i 0 below) (let of = get_or-map decimal ns i 0 piece below in cc)
 
 pub number_more : (xs : List (Bor (List ℕ))) (x : Bor (List ℕ)) (numbers : List ℕ) (n : ℕ)
     → numbers ≡ map spelled_number (shown xs) → n ≡ spelled_number x.now
     → numbers ++ n ∷ [] ≡ map spelled_number (shown (xs ++ x ∷ []))
 number_more xs x numbers n before is =
-    rw (before, is)
-    (sym (ap (map spelled_number) (map-append (λ (y : Bor (List ℕ)). y.now) xs (x ∷ []))
-    ∙ map-append spelled_number (shown xs) (x.now ∷ [])))
+    rw (before, is) (simp map-append)
 
 pub numbers_of-shown : (list : List ℕ) (xs : List (Bor (List ℕ))) (numbers : List ℕ) → 0 < length list
     → shown xs ≡ pieces list → numbers ≡ map spelled_number (shown xs) → numbers ≡ numbers_of list
-numbers_of-shown list xs numbers some all is = is ∙ ap (map spelled_number) all ∙ sym (numbers_of-some list some)
+numbers_of-shown list xs numbers some all is = let spelled = numbers_of-some list some in cc
 
 -- no more numbers than pieces
 pub few_numbers : (xs : List (Bor (List ℕ))) (numbers : List ℕ) (most : ℕ) → numbers ≡ map spelled_number (shown xs)
@@ -211,9 +191,7 @@ pub record IsPart (most : ℕ) (part : Part) : Type 0 where
 no_opening : (bs : List ℕ) → is_plain bs ≡ true → All (λ b. b ≢ opening_bracket) bs
 no_opening [] e = All-nil (λ b. b ≢ opening_bracket)
 no_opening (b ∷ bs) e =
-    let both = and_parts _ _ e in
-    All-cons (λ c. c ≢ opening_bracket) b bs (eqb-false b opening_bracket (not-true _ (and_parts _ _ both.0).1))
-    (no_opening bs both.1)
+    All-cons (λ c. c ≢ opening_bracket) b bs (λ is. grind (arith, nat_tests)) (no_opening bs (and_parts _ _ e).1)
 
 opened : (front ns rest : List ℕ) → All (λ b. b ≢ opening_bracket) front
     → after_first (λ b. eqb b opening_bracket) (front ++ (array_text ns ++ rest))
@@ -224,8 +202,8 @@ opened front ns rest plain =
 
 first_list-part : (front ns rest : List ℕ) → All (λ b. b ≢ opening_bracket) front → AreShort ns
     → first_list (front ++ (array_text ns ++ rest)) ≡ joined ns
-first_list-part front ns rest plain fit = ap (before_first (λ b. eqb b closing_bracket)) (opened front ns rest plain)
-    ∙ before-cut closing_bracket (joined ns) rest (no_closing ns fit)
+first_list-part front ns rest plain fit =
+    rw (opened front ns rest plain) (before-cut closing_bracket (joined ns) rest (no_closing ns fit))
 
 behind_list-part : (front ns rest : List ℕ) → All (λ b. b ≢ opening_bracket) front → AreShort ns
     → text_behind_list (front ++ (array_text ns ++ rest)) ≡ rest
@@ -263,7 +241,7 @@ pub taken : (most : ℕ) (text rest list : List ℕ) (result : Result (Vec ℕ G
 taken most text rest list (Ok numbers) first left is = (is.0 ∙ ap numbers_of first, left, is.1)
 taken most text rest list (Err f) first left (inl memory) = inl memory
 taken most text rest list (Err f) first left (inr none) =
-    inr (none.0, none_listed most text (subst (IsNoList most) first none.1))
+    inr (none.0, none_listed most text (rw first at none.1))
 
 -- ---- the lists of a text in parts
 
@@ -284,16 +262,14 @@ not_HasNoList most (part ∷ parts) end are zero l none =
     none part.0 part.1 (text_of parts end) (no_opening part.0 are.0.plain) are.0.listed refl
 not_HasNoList most (part ∷ parts) end are (suc k) l none =
     not_HasNoList most parts end are.1 k (omega arith)
-    (subst (λ (t : List ℕ). HasNoList most (text_behind_lists k t))
-    (behind_list-part part.0 part.1 (text_of parts end) (no_opening part.0 are.0.plain) are.0.listed.1) none)
+    (rw (behind_list-part part.0 part.1 (text_of parts end) (no_opening part.0 are.0.plain) are.0.listed.1) at none)
 
 -- ---- such a text is ASCII
 
 pub ascii_plain : (bs : List ℕ) → is_plain bs ≡ true → IsAscii bs
 ascii_plain [] e = IsAscii-nil
 ascii_plain (b ∷ bs) e =
-    let both = and_parts _ _ e in
-    IsAscii-cons b bs (ltb-true b 128 (and_parts _ _ both.0).0) (ascii_plain bs both.1)
+    IsAscii-cons b bs (grind (arith, nat_tests)) (ascii_plain bs (and_parts _ _ e).1)
 
 ascii_joined : (ns : List ℕ) → AreShort ns → IsAscii (joined ns)
 ascii_joined [] fit = IsAscii-nil

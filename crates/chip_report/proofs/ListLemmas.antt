@@ -1,24 +1,16 @@
 -- Serves OutcomeParts.antt.
 -- Ascending lists of numbers: how a program tests them and searches in them.
-use Rattle.std.proofs.Common.{◌≡◌, ℕ, zero, suc, ◌+◌, ◌<◌, ◌≤◌, Bool, true, false, nat_lt, List, length, get_or}
-use Rattle.std.proofs.Common.{Result, Ok, Err, inl, inr, refl, sym, ◌∙◌, subst, arith, lt-ltb, ltb-true, add-one}
-use Rattle.std.specs.Prelude.{All, Contains, slice_index}
-use Rattle.std.specs.List.{IsAllAdjacentAnswer}
-use Rattle.std.specs.List.Sorted.{IsStrictlyIncreasing, IsNonDecreasing, IsBinarySearchResult}
-use Rattle.std.specs.Ordering.{nat_cmp}
-use Rattle.std.specs.Result.{is_ok}
-use borrow.Author.Count.{below_more}
-use Rattle.chip_report.specs.OutcomeParts.{AreApart}
-use Rattle.std.proofs.lemmas.Bool.{false≢true, cases_lt}
-use Rattle.std.proofs.lemmas.Grind.{get_or_default_zero}
-use Rattle.std.proofs.lemmas.List.Elements.{Contains-get_or}
+use Rattle.chip_report.proofs.Names.{◌≡◌, ℕ, zero, suc, ◌+◌, ◌<◌, ◌≤◌, Bool, true, false, nat_lt, List, length, get_or}
+use Rattle.chip_report.proofs.Names.{Result, Ok, Err, refl, sym, ◌∙◌, arith, lt-ltb, ltb-true, add-one, All, Contains}
+use Rattle.chip_report.proofs.Names.{slice_index, IsAllAdjacentAnswer, IsStrictlyIncreasing, IsNonDecreasing}
+use Rattle.chip_report.proofs.Names.{IsBinarySearchResult, nat_cmp, is_ok, AreApart, false≢true, get_or_default_zero}
 use Rattle.std.proofs.lemmas.List.Sorted.{searched, IsNonDecreasingBy-from_all_adjacent}
 
 -- what `is_sorted_by` answers by `<`
 pub ascends_if : (xs : List ℕ) (r : Bool) → IsAllAdjacentAnswer (λ x y b. b ≡ nat_lt x y) xs r → r ≡ true
     → IsStrictlyIncreasing xs
 ascends_if xs true h is = λ k l. ltb-true _ _ (sym (h k 0 l))
-ascends_if xs false h is = absurd (false≢true is)
+ascends_if xs false h is = absurd cc
 
 pub ascends_then : (xs : List ℕ) (r : Bool) → IsAllAdjacentAnswer (λ x y b. b ≡ nat_lt x y) xs r
     → IsStrictlyIncreasing xs → r ≡ true
@@ -41,10 +33,7 @@ at_least xs up (suc k) l =
     rw (← add-one) (omega arith)
 
 pub few_below : (xs : List ℕ) (n : ℕ) → IsStrictlyIncreasing xs → All (λ x. x < n) xs → length xs ≤ n
-few_below xs n up below = elim (cases_lt n (length xs)) [
-  | inl many ↦ let low = at_least xs up n many in let high = below n 0 many in absurd (omega arith)
-  | inr few ↦ few
-]
+few_below xs n up below = let low = at_least xs up n in let high = below n 0 in grind arith
 
 -- what `binary_search` finds in an ascending list
 pub found_if : (xs : List ℕ) (x : ℕ) (r : Result ℕ ℕ) → IsBinarySearchResult (λ y. nat_cmp y x) xs r
@@ -60,27 +49,15 @@ found_then xs x (Ok i) h up c = refl
 found_then xs x (Err i) h up c =
     let at = searched xs x (Err i) h (λ i j le l. does_not_fall xs up i j 0 le l) in
     let is : get_or xs c.0 0 ≡ x = sym (get_or_default_zero xs c.0 x c.1) ∙ c.2 in
-    elim (cases_lt c.0 i) [
-      | inl before ↦ let below = at.1 c.0 before in absurd (omega arith)
-      | inr after ↦ let above = at.2 c.0 after c.1 in absurd (omega arith)
-    ]
+    let below = at.1 c.0 in let above = at.2 c.0 in let within = c.1 in absurd (grind arith)
 
 -- ---- no number in both of two lists, as far as place i of the first
 
 abbrev pub ApartBelow : List ℕ → List ℕ → ℕ → Type 0
 ApartBelow over sealed i = (k : ℕ) → k < i → Contains sealed (slice_index over k) → ⊥
 
-pub ApartBelow-more : (over sealed : List ℕ) (i : ℕ) → ApartBelow over sealed i
-    → (Contains sealed (slice_index over i) → ⊥) → ApartBelow over sealed (i + 1)
-ApartBelow-more over sealed i below here = below_more (λ k. Contains sealed (slice_index over k) → ⊥) i below here
-
 pub AreApart-from_below : (over sealed : List ℕ) (i : ℕ) → length over ≤ i → ApartBelow over sealed i
     → AreApart over sealed
 AreApart-from_below over sealed i all below v in_over in_sealed =
     let is : v ≡ slice_index over in_over.0 = sym in_over.2 ∙ get_or_default_zero over in_over.0 v in_over.1 in
-    let stands : Contains sealed (slice_index over in_over.0) = subst (Contains sealed) is in_sealed in
-    below in_over.0 (omega (arith, in_over.1)) stands
-
-pub not_AreApart : (over sealed : List ℕ) (i : ℕ) → i < length over → Contains sealed (slice_index over i)
-    → AreApart over sealed → ⊥
-not_AreApart over sealed i l stands apart = apart (slice_index over i) (Contains-get_or over i 0 l) stands
+    below in_over.0 (omega (arith, in_over.1)) (rw is at in_sealed)

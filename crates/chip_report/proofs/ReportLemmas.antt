@@ -1,29 +1,17 @@
 -- Serves ReportText.antt, Reportable.antt, OutcomeParts.antt, ReportLists.antt, ReportTwo.antt, Versions.antt.
 -- What the reports of both versions tell, and which bytes are none.
-use Rattle.std.proofs.Common.{◌≡◌, ◌≢◌, ℕ, ◌^◌, ◌<◌, ◌≤◌, Bool, true, false, List, [], ◌∷◌, ◌++◌, length, get_or, codes}
-use Rattle.std.proofs.Common.{Result, Ok, Err, inl, inr, refl, sym, ap, ◌∙◌, subst, arith, append_assoc, replicate}
-use Rattle.std.specs.Prelude.{◌⊎◌, ◌&&◌, All, IsUtf8}
-use Rattle.std.specs.Result.{IsErrAnd}
-use Rattle.std.specs.List.{AllByRecursion}
-use Rattle.std.proofs.lemmas.Bool.{false≢true}
-use Rattle.std.proofs.lemmas.Str.{IsUtf8-from_ascii}
-use Rattle.std.proofs.lemmas.List.{length-replicate}
-use Rattle.std.proofs.lemmas.List.Elements.{All-weaker, All-replicate}
-use Rattle.chip_sequence.specs.declared.outcome.Outcome.{Outcome}
-use Rattle.chip_sequence.specs.declared.resumed.Resumed.{Resumed}
-use Rattle.chip_sequence.specs.Outcomes.{IsOutcome}
-use Rattle.chip_sequence.specs.Sittings.{IsResumed, max_prior}
-use Rattle.chip_graph.specs.Limits.{SizeLimits, max_limit, max_total, max_vertices}
-use Rattle.chip_report.specs.OutcomeParts.{AreCounts, AreHalted}
-use Rattle.chip_report.specs.ReportText.{bool_text, array_text, is_empty, is_closed, report_text}
-use Rattle.chip_report.specs.Laws.{RoundTrip}
-use Rattle.chip_report.specs.Reportable.{Content, content, IsReportOf, GrowsForALine, Gives}
-use Rattle.chip_report.specs.ReportLists.{list_at, text_behind_lists, AreListed, HasNoList}
+use Rattle.chip_report.proofs.Names.{◌≡◌, ◌≢◌, ℕ, ◌<◌, ◌≤◌, Bool, true, false, List, [], ◌∷◌, ◌++◌, length, get_or}
+use Rattle.chip_report.proofs.Names.{codes, Result, Ok, Err, inl, inr, refl, sym, ap, ◌∙◌, subst, arith, append_assoc}
+use Rattle.chip_report.proofs.Names.{replicate, rules, ◌⊎◌, ◌&&◌, All, IsUtf8, IsErrAnd, AllByRecursion, false≢true}
+use Rattle.chip_report.proofs.Names.{IsUtf8-from_ascii, length-replicate, All-replicate, Outcome, Resumed, IsOutcome}
+use Rattle.chip_report.proofs.Names.{IsResumed, max_prior, SizeLimits, max_limit, max_total, max_vertices, AreCounts}
+use Rattle.chip_report.proofs.Names.{AreHalted, bool_text, array_text, is_empty, is_closed, RoundTrip, Content, content}
+use Rattle.chip_report.proofs.Names.{IsReportOf, GrowsForALine, Gives, list_at, text_behind_lists, AreListed, HasNoList}
+use Rattle.chip_report.proofs.Names.{IsReportIn, IsNoReportIn, IsToldBy, content_by_text, text_in, ReportFault}
+use Rattle.chip_report.specs.ReportText.{report_text}
 use Rattle.chip_report.specs.ReportTwo.{IsReportTwoOf, SittingContent, sitting_content}
-use Rattle.chip_report.specs.Versions.{IsReportIn, IsNoReportIn, IsToldBy, content_by_text, text_in}
-use Rattle.chip_report.specs.declared.fault.ReportFault.{ReportFault}
 use Rattle.chip_report.specs.declared.fault.ReportFault.TheVariants as fault
-use Rattle.chip_report.proofs.BracketLemmas.{Part, IsPart, AreShort, text_of, is_plain, list_at-text_of, not_HasNoList}
+use Rattle.chip_report.proofs.BracketLemmas.{Part, IsPart, text_of, is_plain, list_at-text_of, not_HasNoList}
 use Rattle.chip_report.proofs.BracketLemmas.{ascii_plain, ascii_text_of}
 use Rattle.chip_report.proofs.ListLemmas.{few_below}
 
@@ -97,25 +85,10 @@ abbrev AreOfSitting : SittingContent → Type 0
 AreOfSitting t = AreOfOutcome t.last × (length t.prior ≡ length t.last.fired) × All (λ n. n ≤ max_prior) t.prior
 
 outcome_then : (o : Outcome) → IsOutcome o → AreOfOutcome (content o)
-outcome_then o h = (
-  (refl, h.some_vertex, h.few_vertices, h.few_firings),
-  (h.same_length, h.some_vertex, h.few_vertices, h.few_chips),
-  ((h.over_ascends, h.over_vertices), (h.sealed_ascends, h.sealed_vertices), h.apart),
-)
+outcome_then o h = search rules
 
 outcome_if : (o : Outcome) → AreOfOutcome (content o) → IsOutcome o
-outcome_if o h = record {
-  same_length = h.1.0;
-  some_vertex = h.0.1;
-  few_vertices = h.0.2;
-  few_firings = h.0.3;
-  few_chips = h.1.3;
-  over_ascends = h.2.0.0;
-  over_vertices = h.2.0.1;
-  sealed_ascends = h.2.1.0;
-  sealed_vertices = h.2.1.1;
-  apart = h.2.2;
-}
+outcome_if o h = search rules
 
 pub outcome_by_counts : (o : Outcome) (vertices : ℕ) → AreCounts o.fired.items vertices max_limit
     → AreCounts o.chips.items vertices max_total → AreHalted o.over.items o.sealed.items vertices → IsOutcome o
@@ -128,7 +101,7 @@ outcome_by_counts o vertices fired chips halted =
 
 pub halted_of_outcome : (o : Outcome) (vertices : ℕ) → length o.fired.items ≡ vertices → IsOutcome o
     → AreHalted o.over.items o.sealed.items vertices
-halted_of_outcome o vertices e h = subst (AreHalted o.over.items o.sealed.items) e (outcome_then o h).2
+halted_of_outcome o vertices e h = rw e at (outcome_then o h).2
 
 sitting_then : (r : Resumed) → IsResumed r → AreOfSitting (sitting_content r)
 sitting_then r h = (outcome_then r.outcome h.outcome_fits, h.prior_each, h.few_before)
@@ -146,32 +119,24 @@ pub record AreListedAll (most : ℕ) (t : SittingContent) : Type 0 where
   pub prior : AreListed most t.prior
   pub sealed : AreListed most t.last.sealed
 
-short_within : (most : ℕ) (ns : List ℕ) → most < 2 ^ 64 → All (λ n. n ≤ most) ns → AreShort ns
-short_within most ns fits within = All-weaker (λ n. n ≤ most) (λ n. n < 2 ^ 64) (λ n low. omega arith) ns within
-
-short_below : (most : ℕ) (ns : List ℕ) → most < 2 ^ 64 → All (λ n. n < most) ns → AreShort ns
-short_below most ns fits within = All-weaker (λ n. n < most) (λ n. n < 2 ^ 64) (λ n low. omega arith) ns within
-
 listed : (most : ℕ) (t : SittingContent) → AreOfSitting t → length t.last.fired ≤ most → AreListedAll most t
 listed most t h few =
     let below : length t.last.fired ≤ max_vertices = h.0.0.2 in
     let over = few_below t.last.over (length t.last.fired) h.0.2.0.0 h.0.2.0.1 in
     let sealed = few_below t.last.sealed (length t.last.fired) h.0.2.1.0 h.0.2.1.1 in
     record {
-      fired = (few, short_within max_limit t.last.fired (omega arith) h.0.0.3);
-      chips = (omega (arith, h.0.1.0), short_within max_total t.last.chips (omega arith) h.0.1.3);
-      over = (omega arith, short_below (length t.last.fired) t.last.over (omega arith) h.0.2.0.1);
-      prior = (omega (arith, h.1), short_within max_prior t.prior (omega arith) h.2);
-      sealed = (omega arith, short_below (length t.last.fired) t.last.sealed (omega arith) h.0.2.1.1);
+      fired = (few, λ k d l. let low = h.0.0.3 k d l in omega arith);
+      chips = (omega (arith, h.0.1.0), λ k d l. let low = h.0.1.3 k d l in omega arith);
+      over = (omega arith, λ k d l. let low = h.0.2.0.1 k d l in omega arith);
+      prior = (omega (arith, h.1), λ k d l. let low = h.2 k d l in omega arith);
+      sealed = (omega arith, λ k d l. let low = h.0.2.1.1 k d l in omega arith);
     }
 
 plain_closed : (closed : Bool) → is_plain (closed_front closed) ≡ true
-plain_closed true = refl
-plain_closed false = refl
+plain_closed closed = grind arith
 
 plain_version : (went_on : Bool) → is_plain (version went_on) ≡ true
-plain_version true = refl
-plain_version false = refl
+plain_version went_on = grind arith
 
 last_are_parts : (went_on : Bool) (most : ℕ) (t : SittingContent) → AreListedAll most t
     → AllByRecursion (IsPart most) (last_parts went_on t)
@@ -200,7 +165,11 @@ pub record IsReportBy (went_on : Bool) (bytes : List ℕ) (t : SittingContent) :
 
 pub by_outcome : (bytes : List ℕ) (o : Outcome) → IsReportOf bytes o → IsReportBy false bytes (first_content o)
 by_outcome bytes o is = record {
-  in_range = (outcome_then o is.reportable, length-replicate (length o.fired.items) 0, All-replicate (λ n. n ≤ max_prior) (length o.fired.items) 0 (omega arith));
+  in_range = (
+    outcome_then o is.reportable,
+    length-replicate (length o.fired.items) 0,
+    All-replicate (λ n. n ≤ max_prior) (length o.fired.items) 0 (omega arith),
+  );
   spelled = is.spelled ∙ in_parts_one o;
   first = λ _. refl;
 }
@@ -219,27 +188,19 @@ list_in went_on bytes t is k l =
     ∙ list_at-text_of max_vertices (parts went_on t) (version went_on)
     (are_parts went_on max_vertices t is.in_range is.in_range.0.0.2) k l
 
--- a sitting by its lists
-made_of : (t : SittingContent) (fired chips over sealed prior : List ℕ) → fired ≡ t.last.fired → chips ≡ t.last.chips
-    → over ≡ t.last.over → sealed ≡ t.last.sealed → prior ≡ t.prior → record {
-      last = record { fired = fired; chips = chips; over = over; sealed = sealed };
-      prior = prior;
-    } ≡ t
-made_of t fired chips over sealed prior f c o s p = rw (f, c, o, s, p) refl
-
 tells : (went_on : Bool) (bytes : List ℕ) (t : SittingContent) → IsReportBy went_on bytes t
     → content_by_text went_on bytes ≡ t
 tells true bytes t is =
-    made_of t (list_at 1 bytes) (list_at 0 bytes) (list_at 2 bytes) (list_at 4 bytes) (list_at 3 bytes)
-    (list_in true bytes t is 1 (omega arith)) (list_in true bytes t is 0 (omega arith))
-    (list_in true bytes t is 2 (omega arith)) (list_in true bytes t is 4 (omega arith))
-    (list_in true bytes t is 3 (omega arith))
+    let list = list_in true bytes t is in
+    let fired = list 1 (omega arith) in let chips = list 0 (omega arith) in let over = list 2 (omega arith) in
+    let seals = list 4 (omega arith) in let prior = list 3 (omega arith) in
+    λ i. record { last = record { fired = fired i; chips = chips i; over = over i; sealed = seals i }; prior = prior i }
 tells false bytes t is =
-    let fired : list_at 1 bytes ≡ t.last.fired = list_in false bytes t is 1 (omega arith) in
-    made_of t (list_at 1 bytes) (list_at 0 bytes) (list_at 2 bytes) (list_at 3 bytes)
-    (replicate (length (list_at 1 bytes)) 0) fired (list_in false bytes t is 0 (omega arith))
-    (list_in false bytes t is 2 (omega arith)) (list_in false bytes t is 3 (omega arith))
-    (ap (λ (ns : List ℕ). replicate (length ns) 0) fired ∙ sym (is.first refl))
+    let list = list_in false bytes t is in
+    let fired = list 1 (omega arith) in let chips = list 0 (omega arith) in let over = list 2 (omega arith) in
+    let seals = list 3 (omega arith) in
+    let prior = (λ i. replicate (length (fired i)) 0) ∙ sym (is.first refl) in
+    λ i. record { last = record { fired = fired i; chips = chips i; over = over i; sealed = seals i }; prior = prior i }
 
 pub that_sitting : (went_on : Bool) (limits : SizeLimits) (bytes : List ℕ) (r : Resumed)
     → IsToldBy went_on limits bytes r → IsResumed r → bytes ≡ text_in went_on r → IsReportIn went_on limits bytes r
@@ -264,9 +225,7 @@ text_ends (part ∷ ps) end =
     let rest = text_ends ps end in
     let array : List ℕ = array_text part.1 in (
       part.0 ++ (array ++ rest.0),
-      ap (λ (t : List ℕ). part.0 ++ (array ++ t)) rest.1
-          ∙ ap (λ (t : List ℕ). part.0 ++ t) (sym (append_assoc array rest.0 end))
-          ∙ sym (append_assoc part.0 (array ++ rest.0) end),
+      rw rest.1 (sym (append_assoc part.0 (array ++ rest.0) end ∙ rw append_assoc)),
     )
 
 pub report_ends : (went_on : Bool) (bytes : List ℕ) (t : SittingContent) → IsReportBy went_on bytes t
@@ -288,7 +247,7 @@ none_without_newline went_on limits bytes none = none_in went_on limits bytes (�
 pub none_without_utf8 : (went_on : Bool) (limits : SizeLimits) (bytes : List ℕ) → (IsUtf8 bytes → ⊥)
     → IsNoReportIn went_on limits bytes
 none_without_utf8 went_on limits bytes none = none_in went_on limits bytes (λ t is fits.
-    none (subst IsUtf8 (sym is.spelled)
+    none (rw is.spelled
     (IsUtf8-from_ascii (text_by_content went_on t)
     (ascii_text_of max_vertices (parts went_on t) (version went_on)
     (are_parts went_on max_vertices t is.in_range is.in_range.0.0.2)
@@ -300,26 +259,23 @@ lists_in true = 5
 lists_in false = 4
 
 pub has_four : (went_on : Bool) (k : ℕ) → k < 4 → k < lists_in went_on
-has_four true k l = omega arith
-has_four false k l = l
+has_four went_on k l = grind arith
 
 as_many : (went_on : Bool) (t : SittingContent) → length (parts went_on t) ≡ lists_in went_on
-as_many true t = refl
-as_many false t = refl
+as_many went_on t = grind arith
 
 none_without_list : (went_on : Bool) (limits : SizeLimits) (bytes : List ℕ) (k : ℕ) → k < lists_in went_on
     → HasNoList limits.vertices (text_behind_lists k bytes) → IsNoReportIn went_on limits bytes
 none_without_list went_on limits bytes k l none = none_in went_on limits bytes (λ t is fits.
     not_HasNoList limits.vertices (parts went_on t) (version went_on)
-    (are_parts went_on limits.vertices t is.in_range fits) k (subst (λ (n : ℕ). k < n) (sym (as_many went_on t)) l)
-    (subst (λ (text : List ℕ). HasNoList limits.vertices (text_behind_lists k text)) is.spelled none))
+    (are_parts went_on limits.vertices t is.in_range fits) k (rw (as_many went_on t) l) (rw is.spelled at none))
 
 pub not_that_sitting : (went_on : Bool) (limits : SizeLimits) (bytes : List ℕ) (found : Resumed)
     → sitting_content found ≡ content_by_text went_on bytes → (IsResumed found → bytes ≡ text_in went_on found → ⊥)
     → IsNoReportIn went_on limits bytes
 not_that_sitting went_on limits bytes found e none = none_in went_on limits bytes (λ t is fits.
-    let same : t ≡ sitting_content found = sym (tells went_on bytes t is) ∙ sym e in
-    none (sitting_if found (subst AreOfSitting same is.in_range))
+    let same : t ≡ sitting_content found = sym (e ∙ tells went_on bytes t is) in
+    none (sitting_if found (rw same at is.in_range))
     (is.spelled ∙ ap (text_by_content went_on) same ∙ sym (in_parts went_on found)))
 
 -- ---- answers that are passed on
@@ -340,8 +296,7 @@ pub none_taken : (went_on : Bool) (limits : SizeLimits) (text : List ℕ) (most 
     → Gives (IsToldBy went_on limits text) (IsNoReportIn went_on limits text) result
 none_taken went_on limits text most k same l rest at result f is why =
     passed_on (IsToldBy went_on limits text) result f is why (λ none.
-    none_without_list went_on limits text k l
-    (subst (λ (m : ℕ). HasNoList m (text_behind_lists k text)) same (subst (HasNoList most) at none)))
+    none_without_list went_on limits text k l (rw (same, at) at none))
 
 -- bytes that end in a newline
 pub of_a_line : {T : Type 0} (bytes json : List ℕ) → bytes ≡ json ++ 10 ∷ [] → (result : Result T ReportFault)
@@ -365,8 +320,7 @@ one_content went_on bytes t u is also = sym (tells went_on bytes t is) ∙ tells
 pub one_outcome : (o p : Outcome) → IsOutcome o → IsOutcome p → report_text o ≡ report_text p → content o ≡ content p
 one_outcome o p h k e =
     ap (λ (t : SittingContent). t.last)
-    (one_content false (report_text o) (first_content o) (first_content p)
-    (by_outcome _ o (record { reportable = h; spelled = refl }))
+    (one_content false _ _ _ (by_outcome (report_text o) o (record { reportable = h; spelled = refl }))
     (by_outcome _ p (record { reportable = k; spelled = e })))
 
 pub round_trip : RoundTrip

@@ -1,18 +1,11 @@
 -- Serves ReportTwo.antt, Versions.antt.
 -- By their ends the reports of both versions are told apart.
-use Rattle.std.proofs.Common.{◌≡◌, ◌≢◌, ℕ, Bool, true, false, List, [], ◌∷◌, ◌++◌, codes}
-use Rattle.std.proofs.Common.{Result, Ok, Err, inl, inr, refl, sym, ap, ◌∙◌, arith, append_assoc}
-use Rattle.std.proofs.lemmas.List.{append_cancel_right, same_from_push}
-use Rattle.chip_graph.specs.Limits.{SizeLimits}
-use Rattle.chip_sequence.specs.declared.outcome.Outcome.{Outcome}
-use Rattle.chip_sequence.specs.declared.resumed.Resumed.{Resumed}
-use Rattle.chip_sequence.specs.Sittings.{IsResumed}
-use Rattle.chip_report.specs.Laws.{RoundTripTwo}
-use Rattle.chip_report.specs.Reportable.{IsReportOf, IsNoReportWithin, Gives}
+use Rattle.chip_report.proofs.Names.{◌≡◌, ◌≢◌, ℕ, Bool, true, false, List, [], ◌∷◌, ◌++◌, codes, Result, Ok, Err, inl}
+use Rattle.chip_report.proofs.Names.{inr, refl, sym, ap, ◌∙◌, arith, append_assoc, append_cancel_right, same_from_push}
+use Rattle.chip_report.proofs.Names.{SizeLimits, Outcome, Resumed, IsResumed, RoundTripTwo, IsReportOf}
+use Rattle.chip_report.proofs.Names.{IsNoReportWithin, Gives, IsReportIn, IsNoReportIn, ReportFault}
 use Rattle.chip_report.specs.ReportTwo.{report_two_text, IsReportTwoOf, IsNoReportTwoWithin, IsAnyReportWithin}
 use Rattle.chip_report.specs.ReportTwo.{IsNoReportAtAllWithin, sitting_content}
-use Rattle.chip_report.specs.Versions.{IsReportIn, IsNoReportIn}
-use Rattle.chip_report.specs.declared.fault.ReportFault.{ReportFault}
 use Rattle.chip_report.proofs.ReportLemmas.{version, by_outcome, by_sitting, first_content, report_ends, one_content}
 
 ends_differ : (one two : List ℕ) → one ++ version false ≢ two ++ version true
@@ -60,8 +53,7 @@ read_by_end false limits bytes ends none (Err f) (inr (same, none_one)) =
 pub one_sitting : (r s : Resumed) → IsResumed r → IsResumed s → report_two_text r ≡ report_two_text s
     → sitting_content r ≡ sitting_content s
 one_sitting r s h k e =
-    one_content true (report_two_text r) (sitting_content r) (sitting_content s)
-    (by_sitting _ r (record { reportable = h; spelled = refl }))
+    one_content true _ _ _ (by_sitting (report_two_text r) r (record { reportable = h; spelled = refl }))
     (by_sitting _ s (record { reportable = k; spelled = e }))
 
 pub not_both : (bytes : List ℕ) (o : Outcome) (r : Resumed) → IsReportOf bytes o → IsReportTwoOf bytes r → ⊥

@@ -1,8 +1,7 @@
 -- Serves ReportLists.antt, Versions.antt.
 -- Worked texts and lists, computed on the definitions.
-use Rattle.std.proofs.Common.{◌≡◌, true, false, [], ◌∷◌, codes, refl}
-use Rattle.chip_report.specs.ReportLists.{first_list, text_behind_list, numbers_of}
-use Rattle.chip_report.specs.Versions.{content_by_text}
+use Rattle.chip_report.proofs.Names.{◌≡◌, true, false, [], ◌∷◌, codes, refl, first_list, text_behind_list, numbers_of}
+use Rattle.chip_report.proofs.Names.{content_by_text}
 
 -- the small triangle, played to its end
 triangle : content_by_text false (codes

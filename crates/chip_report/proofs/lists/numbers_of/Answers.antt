@@ -1,8 +1,5 @@
-use Rattle.std.proofs.Common.{◌≡◌, ◌<◌, ◌≤◌, length, inr, refl, sym, ◌∙◌, arith, lit<}
-use Rattle.std.proofs.lemmas.Bool.{eqb-false}
-use Rattle.std.proofs.lemmas.Iterator.Consumers.{YieldsList-at, YieldsList-turn, YieldsList-end}
-use Rattle.std.proofs.lemmas.Iterator.Splits.{YieldsList-from_str_split}
-use Rattle.chip_report.specs.ReportLists.{numbers_of}
+use Rattle.chip_report.proofs.Names.{◌≡◌, ◌<◌, ◌≤◌, length, inr, refl, sym, ◌∙◌, arith, lit<, eqb-false, YieldsList-at}
+use Rattle.chip_report.proofs.Names.{YieldsList-turn, YieldsList-end, YieldsList-from_str_split, numbers_of}
 use Rattle.chip_report.proofs.BracketLemmas.{none_of_many, none_with, no_number, few_numbers, numbers_of-shown}
 use Rattle.chip_report.proofs.ReportLemmas.{passed_on}
 use Rattle.chip_report.proofs.lists.numbers_of.Goals as goal

@@ -1,6 +1,4 @@
-use Rattle.std.proofs.Common.{◌≡◌, ◌≤◌, length, map}
-use Rattle.std.specs.Vec.{vec_len}
-use Rattle.chip_report.specs.ReportLists.{spelled_number}
+use Rattle.chip_report.proofs.Names.{◌≡◌, ◌≤◌, length, map, vec_len, spelled_number}
 use Rattle.chip_report.proofs.BracketLemmas.{shown}
 use Rattle.chip_report.proofs.lists.numbers_of.Given as goal
 

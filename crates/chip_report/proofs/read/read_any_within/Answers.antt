@@ -1,7 +1,4 @@
-use Rattle.std.proofs.Common.{true, sym, ◌∙◌}
-use Rattle.std.proofs.lemmas.Bool.{false≢true}
-use Rattle.std.proofs.lemmas.Bool.Decides.{Decides-eqb}
-use Rattle.std.proofs.lemmas.Slice.Eq.{ends_is}
+use Rattle.chip_report.proofs.Names.{true, sym, ◌∙◌, false≢true, Decides-eqb, ends_is}
 use Rattle.chip_report.proofs.ReportLemmas.{version}
 use Rattle.chip_report.proofs.ReportTwoLemmas.{read_by_end}
 use Rattle.chip_report.proofs.read.read_any_within.Goals as goal

@@ -1,8 +1,5 @@
-use Rattle.std.proofs.Common.{[], ◌∷◌, inr, refl, sym, ◌∙◌}
-use Rattle.std.proofs.lemmas.Bool.{false≢true}
-use Rattle.std.proofs.lemmas.Bool.Decides.{Decides-eqb}
-use Rattle.std.proofs.lemmas.Slice.Eq.{ends_is, bytes_eq-Decides}
-use Rattle.chip_report.specs.Versions.{IsReportIn}
+use Rattle.chip_report.proofs.Names.{[], ◌∷◌, inr, refl, sym, ◌∙◌, false≢true, Decides-eqb, ends_is, bytes_eq-Decides}
+use Rattle.chip_report.proofs.Names.{IsReportIn}
 use Rattle.chip_report.proofs.ReportLemmas.{none_without_newline, not_that_sitting, of_a_line, passed_on}
 use Rattle.chip_report.proofs.read.read_version.Goals as goal
 use Rattle.chip_report.proofs.read.read_version.Goals.{else-is_resumed-via-then-is_resumed+in_ok-text_of+else-eq}

@@ -1,7 +1,5 @@
-use Rattle.std.proofs.Common.{ap, ◌∙◌, ◌<◌, subst, sym, lit<}
-use Rattle.chip_report.specs.ReportLists.{text_behind_list}
-use Rattle.chip_report.specs.Versions.{IsToldBy}
-use Rattle.chip_report.proofs.ReportLemmas.{has_four, lists_in, none_taken, none_without_utf8, passed_on}
+use Rattle.chip_report.proofs.Names.{lit<, IsToldBy}
+use Rattle.chip_report.proofs.ReportLemmas.{has_four, none_taken, none_without_utf8, passed_on}
 use Rattle.chip_report.proofs.read.sitting_of_text.Goals as goal
 
 pub returns-in_err-lists : goal.returns-in_err-lists
@@ -17,34 +15,34 @@ returns-in_err-chips c =
 
 pub returns-in_err-fired : goal.returns-in_err-fired
 returns-in_err-fired c =
-    let past_chips = c.in_ok-chips.ensures.1 ∙ ap text_behind_list c.in_ok-lists.ensures in
     none_taken c.args.went_on c.args.limits c.args.text.now _ 1 c.vertices-most.ensures.value
-    (has_four c.args.went_on 1 (lit< tt)) _ past_chips _ _
+    (has_four c.args.went_on 1 (lit< tt)) _
+    (rw (c.in_ok-chips.ensures.1, c.in_ok-lists.ensures)) _ _
     c.from_residual-in_err-fired.ensures.1 c.in_err-fired.ensures
 
 pub returns-in_err-over : goal.returns-in_err-over
 returns-in_err-over c =
-    let past_chips = c.in_ok-chips.ensures.1 ∙ ap text_behind_list c.in_ok-lists.ensures in
-    let past_fired = c.in_ok-fired.ensures.1 ∙ ap text_behind_list past_chips in
     none_taken c.args.went_on c.args.limits c.args.text.now _ 2 c.vertices-most.ensures.value
-    (has_four c.args.went_on 2 (lit< tt)) _ past_fired _ _
+    (has_four c.args.went_on 2 (lit< tt)) _
+    (rw (c.in_ok-fired.ensures.1, c.in_ok-chips.ensures.1, c.in_ok-lists.ensures)) _ _
     c.from_residual-in_err-over.ensures.1 c.in_err-over.ensures
 
 pub returns-in_err-fourth : goal.returns-in_err-fourth
 returns-in_err-fourth c =
-    let past_chips = c.in_ok-chips.ensures.1 ∙ ap text_behind_list c.in_ok-lists.ensures in
-    let past_fired = c.in_ok-fired.ensures.1 ∙ ap text_behind_list past_chips in
-    let past_over = c.in_ok-over.ensures.1 ∙ ap text_behind_list past_fired in
     none_taken c.args.went_on c.args.limits c.args.text.now _ 3 c.vertices-most.ensures.value
-    (has_four c.args.went_on 3 (lit< tt)) _ past_over _ _
+    (has_four c.args.went_on 3 (lit< tt)) _
+    (rw (c.in_ok-over.ensures.1, c.in_ok-fired.ensures.1, c.in_ok-chips.ensures.1, c.in_ok-lists.ensures)) _ _
     c.from_residual-in_err-fourth.ensures.1 c.in_err-fourth.ensures
 
 pub returns-in_err-take : goal.returns-in_err-take
 returns-in_err-take c =
-    let past_chips = c.in_ok-chips.ensures.1 ∙ ap text_behind_list c.in_ok-lists.ensures in
-    let past_fired = c.in_ok-fired.ensures.1 ∙ ap text_behind_list past_chips in
-    let past_over = c.in_ok-over.ensures.1 ∙ ap text_behind_list past_fired in
-    let past_fourth = c.in_ok-fourth.ensures.1 ∙ ap text_behind_list past_over in
     none_taken c.args.went_on c.args.limits c.args.text.now _ 4 c.vertices-most.ensures.value
-    (subst (λ b. 4 < lists_in b) (sym c.if-went_on.true) (lit< tt)) _ past_fourth _ _
+    (rw c.if-went_on.true (lit< tt)) _
+    (rw (
+      c.in_ok-fourth.ensures.1,
+      c.in_ok-over.ensures.1,
+      c.in_ok-fired.ensures.1,
+      c.in_ok-chips.ensures.1,
+      c.in_ok-lists.ensures,
+    )) _ _
     c.from_residual-in_err-take.ensures.1 c.in_err-take.ensures

@@ -1,5 +1,4 @@
-use Rattle.std.proofs.Common.{sym, ◌∙◌}
-use Rattle.std.proofs.lemmas.Bool.{false≢true}
+use Rattle.chip_report.proofs.Names.{sym, ◌∙◌}
 use Rattle.chip_report.proofs.reportable.are_halted.Goals as goal
 use Rattle.chip_report.proofs.reportable.are_halted.Goals.{then-is_ascending_below, else-is_ascending_below}
 
@@ -10,6 +9,5 @@ returns-then-is_ascending_below-2 c = elim c.if-is_ascending_below.branch [
       let sealed = w.is_ascending_below-then-is_ascending_below.ensures.0
       (sym w.value-is ∙ c.if-is_ascending_below-2.true) in
       (λ e. (over, sealed, c.are_apart.ensures.0 e), λ h. c.are_apart.ensures.1 h.2)
-  | else-is_ascending_below w ↦
-      absurd (false≢true (sym w.if-is_ascending_below.false ∙ sym w.value-is ∙ c.if-is_ascending_below-2.true))
+  | else-is_ascending_below w ↦ absurd cc
 ]

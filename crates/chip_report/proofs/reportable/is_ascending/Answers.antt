@@ -1,5 +1,4 @@
-use Rattle.std.proofs.Common.{rules, nat_lt}
-use Rattle.std.proofs.lemmas.Fn.{always_returns_same}
+use Rattle.chip_report.proofs.Names.{rules, nat_lt, always_returns_same}
 use Rattle.chip_report.proofs.ListLemmas.{ascends_if, ascends_then}
 use Rattle.chip_report.proofs.reportable.is_ascending.Goals as goal
 

@@ -1,4 +1,4 @@
-use Rattle.std.proofs.Common.{sym, ◌∙◌}
+use Rattle.chip_report.proofs.Names.{sym, ◌∙◌}
 use Rattle.chip_report.proofs.ListLemmas.{found_if, found_then}
 use Rattle.chip_report.proofs.reportable.is_in.Goals as goal
 

@@ -1,5 +1,4 @@
-use Rattle.std.proofs.Common.{sym, ◌∙◌}
-use Rattle.std.proofs.lemmas.Bool.{false≢true}
+use Rattle.chip_report.proofs.Names.{sym, ◌∙◌}
 use Rattle.chip_report.proofs.ReportLemmas.{outcome_by_counts, halted_of_outcome}
 use Rattle.chip_report.proofs.reportable.is_outcome.Goals as goal
 use Rattle.chip_report.proofs.reportable.is_outcome.Goals.{then-are_counts, else-are_counts}
@@ -17,5 +16,5 @@ returns-then-are_counts-2 c = elim c.if-are_counts.branch [
         λ h. c.are_halted.ensures.1
             (rw (over, sealed) (halted_of_outcome c.args.outcome.now c.len-vertices.result fired.0 h)),
       )
-  | else-are_counts w ↦ absurd (false≢true (sym w.if-are_counts.false ∙ (sym w.value-is ∙ c.if-are_counts-2.true)))
+  | else-are_counts w ↦ absurd cc
 ]

@@ -1,10 +1,16 @@
-use Rattle.std.proofs.Common.{arith, rules, subst}
-use Rattle.std.specs.Io.KnownBytes.{Appends}
+use Rattle.chip_report.proofs.Names.{◌≡◌, ℕ, ◌+◌, ◌-◌, ◌≤◌, List, ◌++◌, length, take, drop, sym, ap, ◌∙◌, arith}
+use Rattle.chip_report.proofs.Names.{take-add, rules, subst, Appends, common_steps, take_all, length-drop, bytes_out}
 use Rattle.std.proofs.KnownBytes.{Appends-trans}
-use Rattle.std.proofs.lemmas.Grind.{common_steps}
-use Rattle.chip_report.specs.Sink.{bytes_out}
-use Rattle.chip_report.proofs.WrittenLemmas.{taken_on}
 use Rattle.chip_report.proofs.write.write_all_to.Goals as goal
+
+-- the first bytes and some of the rest, as a loop reads them
+taken_on : (w n : ℕ) (bytes : List ℕ) → w ≤ length bytes → n ≤ length (take (length bytes - w) (drop w bytes))
+    → (w + n ≤ length bytes) × (take w bytes ++ take n (take (length bytes - w) (drop w bytes)) ≡ take (w + n) bytes)
+taken_on w n bytes le some =
+    let whole : take (length bytes - w) (drop w bytes)
+    ≡ drop w bytes = take_all (length bytes - w) (drop w bytes) (let e = length-drop w bytes in omega arith) in
+    let many : n ≤ length bytes - w = (let e = ap length whole in let d = length-drop w bytes in omega arith) in
+    (omega arith, ap (λ (rest : List ℕ). take w bytes ++ take n rest) whole ∙ sym (take-add w n bytes))
 
 pub loop-written-preserved : goal.loop-written-preserved
 loop-written-preserved g c =

@@ -1,6 +1,4 @@
-use Rattle.std.proofs.Common.{◌≡◌, ◌≤◌, ◌-◌, true, length, take}
-use Rattle.std.specs.Io.KnownBytes.{Appends}
-use Rattle.chip_report.specs.Sink.{bytes_out, goes_on, last_write, writes}
+use Rattle.chip_report.proofs.Names.{◌≡◌, ◌≤◌, ◌-◌, true, length, take, Appends, bytes_out, goes_on, last_write, writes}
 use Rattle.chip_report.proofs.write.write_all_to.Given as goal
 
 abbrev pub invariant-loop-written : goal.invariant-loop-written

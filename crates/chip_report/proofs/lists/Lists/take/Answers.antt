@@ -1,8 +1,4 @@
-use Rattle.std.proofs.Common.{inr, refl, ap, ◌∙◌, lit<}
-use Rattle.std.specs.Prelude.{◌==◌}
-use Rattle.std.specs.List.{before_first, after_first}
-use Rattle.std.proofs.lemmas.Str.Pattern.{split_once_first}
-use Rattle.chip_report.specs.ReportLists.{opening_bracket, closing_bracket}
+use Rattle.chip_report.proofs.Names.{inr, refl, lit<, split_once_first, opening_bracket, closing_bracket}
 use Rattle.chip_report.proofs.BracketLemmas.{none_opened, none_closed, taken}
 use Rattle.chip_report.proofs.lists.Lists.take.Goals as goal
 
@@ -33,6 +29,5 @@ returns c =
     (lit< tt)) in
     taken c.args.most c.args.self.now.rest.now c.in-Some-split_once.rest.now c.in-Some-split_once.list.now
     c.numbers_of.result
-    (cut.1 ∙ ap (before_first (λ b. b == closing_bracket)) first.2)
-    (cut.2 ∙ ap (after_first (λ b. b == closing_bracket)) first.2)
+    (rw first.2 at cut.1) (rw first.2 at cut.2)
     c.numbers_of.ensures

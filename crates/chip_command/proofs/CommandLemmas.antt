@@ -1,6 +1,6 @@
 -- Serves CommandAnswers.antt.
 -- From the steps of a command to what it answers.
-use Rattle.std.proofs.Common.{◌≡◌, ℕ, List, false, Option, Result, Ok, Err, inl, inr, sym, ap, subst}
+use Rattle.std.proofs.Common.{◌≡◌, ℕ, List, false, Option, Result, Ok, Err, inl, inr, ap}
 use Rattle.std.specs.Result.{IsErrAnd}
 use Rattle.chip_command.specs.CommandAnswers.{Spec, CommandAnswers}
 use Rattle.chip_command.specs.Reports.{Delivers}
@@ -25,12 +25,7 @@ pub delivered : {spec : Spec (List ℕ × ℕ)} {old new : Option (List ℕ)} {r
     → Delivers old new text (record { status = status; cut = false }) result → spec.gives (text, status)
     → CommandAnswers spec old new result
 delivered {spec = spec} {result = Ok ended} text status went gives = record {
-  answer = (
-    text,
-    subst (λ (e : Ended). spec.gives (text, e.status)) (sym went.0) gives,
-    went.1,
-    ap (λ (e : Ended). e.cut) went.0,
-  );
+  answer = (text, rw went.0 gives, went.1, rw went.0);
 }
 delivered {result = Err fault} text status failed gives =
     record { answer = inr (text, status, gives, failed.0, failed.1, failed.2) }

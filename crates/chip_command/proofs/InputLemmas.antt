@@ -1,7 +1,7 @@
 -- Serves Inputs.antt.
 -- The game that the files of a command mean, and why they mean none.
 use Rattle.std.proofs.Common.{◌≡◌, ℕ, ◌^◌, ◌==◌, nat_le, Bool, true, false, List, length, sum, Option, Some, None}
-use Rattle.std.proofs.Common.{Result, Err, refl, subst}
+use Rattle.std.proofs.Common.{Result, Err, refl}
 use Rattle.std.proofs.lemmas.Bool.{eqb-true, leb-true}
 use Rattle.std.specs.Option.{IfSome}
 use Rattle.std.specs.Io.KnownBytes.{Keeps}
@@ -17,7 +17,7 @@ use Rattle.chip_command.specs.Inputs.{reading}
 -- what is known where the bytes are known
 pub at_some : {A : Type 0} (P : A → Type 0) (o : Option A) (x : A) → o ≡ Some x → IfSome o P → P x
 at_some P None x is known = cc
-at_some P (Some y) x is known = let same : y ≡ x = cc in subst P same known
+at_some P (Some y) x is known = let same : y ≡ x = cc in rw same at known
 
 -- what reading answers where the text is known
 pub known : {T : Type 0} {limits : SizeLimits} {M : List ℕ → T → Type 0} {F : List ℕ → FileFault → Type 0}

@@ -1,5 +1,5 @@
 -- Serves OneReport.antt, PlainCommand.antt: all that is reported of a game is read off the game, and texts mean one game.
-use Rattle.std.proofs.Common.{◌≡◌, ◌<◌, ℕ, List, length, Option, refl, sym, ap, subst, ◌∙◌, slice_index, unwrap_or}
+use Rattle.std.proofs.Common.{◌≡◌, ◌<◌, ℕ, List, length, Option, refl, sym, ap, ◌∙◌, slice_index, unwrap_or, arith}
 use Rattle.std.proofs.Common.{Result, Ok, Err}
 use Rattle.std.proofs.lemmas.List.{same_lists, get_or_default}
 use Rattle.chip_graph.specs.Limits.{SizeLimits}
@@ -22,8 +22,7 @@ use Rattle.chip_command.specs.Reports.{Reports, plain_status}
 pub same_numbers : (xs ys : List ℕ) → length xs ≡ length ys
     → ((v : ℕ) → v < length xs → slice_index xs v ≡ slice_index ys v) → xs ≡ ys
 same_numbers xs ys each same = same_lists xs ys each
-    (λ k d below. get_or_default xs k d 0 below ∙ same k below
-    ∙ get_or_default ys k 0 d (subst (λ n. k < n) each below))
+    (λ k d below. get_or_default xs k d 0 below ∙ same k below ∙ get_or_default ys k 0 d (omega arith))
 
 -- ---- one outcome for a game
 
@@ -42,15 +41,12 @@ module _ (g : ChipGame) (one other : Outcome) (p : IsPlayed g one) (q : IsPlayed
   same_sealed : one.sealed.items ≡ other.sealed.items
   same_sealed = p.sealed ∙ sym q.sealed
 
-  same_report : report_text one ≡ report_text other
-  same_report = rw (same_fired, same_chips, same_over, same_sealed) refl
-
-  same_status : plain_status one ≡ plain_status other
-  same_status = rw (same_over, same_sealed) refl
+  same_report : (report_text one ≡ report_text other) × (plain_status one ≡ plain_status other)
+  same_report = (rw (same_fired, same_chips, same_over, same_sealed) refl, rw (same_over, same_sealed) refl)
 
 pub one_report : OneReport
 one_report g one other s t (o, p, one_is, s_is) (o', p', other_is, t_is) =
-    (one_is ∙ same_report g o o' p p' ∙ sym other_is, s_is ∙ same_status g o o' p p' ∙ sym t_is)
+    let same = same_report g o o' p p' in (one_is ∙ same.0 ∙ sym other_is, s_is ∙ same.1 ∙ sym t_is)
 
 -- ---- one game for the texts
 
@@ -72,7 +68,7 @@ one_game limits others graph_text chips_text limit a b p q =
 pub one_more : (g : ChipGame) (more : List (ℕ × ℕ)) (a b : ChipGame) → HasMore g more a → HasMore g more b → a ≡ b
 one_more g more a b p q = same_games a b (p.same_graph ∙ sym q.same_graph)
     (same_numbers a.start b.start (p.start_each ∙ sym q.start_each)
-    (λ v below. let inside = subst (λ n. v < n) p.start_each below in p.start v inside ∙ sym (q.start v inside)))
+    (λ v below. let each = p.start_each in p.start v (omega arith) ∙ sym (q.start v (omega arith))))
     (p.same_limit ∙ sym q.same_limit)
 
 -- what `plain` writes is the report of the game that its texts mean
@@ -90,6 +86,5 @@ pub plain_reports : (limits : SizeLimits) (graph_text chips_text : List ℕ) (li
     → PlainWrote graph_text chips_text limit report status → Reports g report status
 plain_reports limits graph_text chips_text limit report status g means
     (others, ended, (h, h_means, text, reports, out), status_is) =
-    let same : h ≡ g = one_game others limits graph_text chips_text limit h g h_means means in
     let wrote : report ≡ text = out in
-    rw (wrote, status_is) (subst (λ (k : ChipGame). Reports k text ended.status) same reports)
+    rw (wrote, status_is, ← one_game others limits graph_text chips_text limit h g h_means means) reports

@@ -1,19 +1,19 @@
 -- Serves Laws.antt.
 -- What is read of the text of traces: the records, line by line, and of them the traces.
-use Rattle.std.proofs.Common.{◌≡◌, ℕ, zero, suc, ◌+◌, ◌^◌, ◌<◌, ◌≤◌, Bool, true, false, List, [], ◌∷◌, ◌++◌, length, map}
+use Rattle.std.proofs.Common.{◌≡◌, ℕ, zero, suc, ◌+◌, ◌^◌, ◌<◌, ◌≤◌, true, false, List, [], ◌∷◌, ◌++◌, length, map}
 use Rattle.std.proofs.Common.{get_or, codes, flat_map, Option, None, Some, Result, Ok, Err, refl, sym, ap, ◌∙◌}
-use Rattle.std.proofs.Common.{subst, inl, inr, arith, append_assoc, append-nil, length-append}
+use Rattle.std.proofs.Common.{inl, inr, arith, append_assoc, append-nil, length-append}
 use Rattle.std.specs.Prelude.{◌&&◌, ◌==◌, nat_lt, is_some, is_none, option_and_then, unwrap_or, if◌then◌else◌, All}
-use Rattle.std.specs.Prelude.{bytes_eq}
 use Rattle.std.specs.Fmt.{decimal}
 use Rattle.std.specs.List.{AllByRecursion, filter, list_any, range_with_len}
 use Rattle.std.specs.Str.{all_ascii_digits}
 use Rattle.std.specs.Str.Parse.{digits_value}
-use Rattle.std.proofs.lemmas.Bool.{cases_Bool, ltb-true, lt-ltb, ne_eqb, eq-eqb, and_parts}
+use Rattle.std.proofs.lemmas.Bool.{lt-ltb, and_parts}
 use Rattle.std.proofs.lemmas.Bool.Decides.{nat_tests}
 use Rattle.std.proofs.lemmas.Grind.{flat_map-append}
 use Rattle.std.proofs.lemmas.Fmt.{digits_decimal, digits_value-decimal, decimal_nonempty, length-decimal-le}
-use Rattle.std.proofs.lemmas.List.Elements.{All-head, All-tail, All-map, All-filter, All-from_recursion, recursion_from_All}
+use Rattle.std.proofs.lemmas.List.Elements.{All-nil, All-append, All-map, All-filter, All-from_recursion}
+use Rattle.std.proofs.lemmas.List.Elements.{recursion_from_All}
 use Rattle.std.proofs.lemmas.List.FromFn.{fill_by_all, length-map-range_with_len}
 use Rattle.std.proofs.lemmas.Str.Parse.{IsNumeralModel, numerals_by_value, tells_all_ascii_digits}
 use Rattle.csv.specs.Machine.{next_record}
@@ -26,6 +26,7 @@ use Rattle.csv.proofs.RoundTrip.{rows_text, read-write}
 use Rattle.chip_graph.specs.Limits.{standard}
 use Rattle.chip_graph.specs.Multigraph.{Multigraph, IsGraph}
 use Rattle.chip_graph.specs.Edges.{all_edges}
+use Rattle.chip_graph.proofs.SumLemmas.{by_test}
 use Rattle.chip_graph.specs.Faults.{fault_unless}
 use Rattle.chip_link.specs.declared.trace.TraceRow.{TraceRow}
 use Rattle.chip_link.specs.declared.trace.TraceRow.TheVariants.{Take, Fire}
@@ -61,13 +62,9 @@ number_of-decimal n fits = number_by (decimal n) n (decimal_nonempty n fits)
     (digits_decimal decimal_numeral n fits) (digits_value-decimal decimal_numeral n fits) fits
 
 -- and it is written without quotes
-digit-plain : (c : ℕ) (cs : List ℕ) → all_ascii_digits (c ∷ cs) ≡ true
-    → (needs_byte default_writer c ≡ false) × (all_ascii_digits cs ≡ true)
-digit-plain c cs digits = grind (arith, nat_tests)
-
 digits-plain : (field : List ℕ) → all_ascii_digits field ≡ true → list_any (needs_byte default_writer) field ≡ false
 digits-plain [] digits = refl
-digits-plain (c ∷ cs) digits = let first = digit-plain c cs digits in rw first.0 (digits-plain cs first.1)
+digits-plain (c ∷ cs) digits = let more = digits-plain cs in grind (arith, nat_tests)
 
 decimal-plain : (n : ℕ) → n < 2 ^ 64 → list_any (needs_byte default_writer) (decimal n) ≡ false
 decimal-plain n fits = digits-plain (decimal n) (digits_decimal decimal_numeral n fits)
@@ -146,28 +143,19 @@ placed_from v (trace ∷ traces) = map (placed v) trace ++ placed_from (suc v) t
 abbrev record_at : Placed → Row
 record_at x = record_of x.vertex x.row
 
+-- all that is said of rows in a file
 abbrev AreRead : Multigraph → List Placed → Type 0
 AreRead G xs = AllByRecursion (λ x. IsRead G x.vertex x.row) xs
 
--- all that is said of rows in a file
-AreRead-append : (G : Multigraph) (xs ys : List Placed) → AreRead G xs → AreRead G ys → AreRead G (xs ++ ys)
-AreRead-append G [] ys some more = more
-AreRead-append G (x ∷ xs) ys some more = (some.0, AreRead-append G xs ys some.1 more)
-
-trace_read : (G : Multigraph) (v : ℕ) (trace : List TraceRow) → all_edges G ≤ 2 ^ 64 → v < G.vertices
-    → AllByRecursion (IsRowIn G) trace → AreRead G (map (placed v) trace)
-trace_read G v [] few vertex fits = tt
-trace_read G v (row ∷ rows) few vertex fits =
-    (is_read G v row few vertex fits.0, trace_read G v rows few vertex fits.1)
-
 traces_read : (G : Multigraph) (v : ℕ) (traces : List (List TraceRow)) → all_edges G ≤ 2 ^ 64
-    → v + length traces ≤ G.vertices → All (λ trace. All (IsRowIn G) trace) traces → AreRead G (placed_from v traces)
-traces_read G v [] few within fit = tt
+    → v + length traces ≤ G.vertices → All (λ trace. All (IsRowIn G) trace) traces
+    → All (λ x. IsRead G x.vertex x.row) (placed_from v traces)
+traces_read G v [] few within fit = All-nil (λ x. IsRead G x.vertex x.row)
 traces_read G v (trace ∷ traces) few within fit =
-    AreRead-append G (map (placed v) trace) (placed_from (suc v) traces)
-    (trace_read G v trace few (omega arith)
-    (recursion_from_All (IsRowIn G) trace (All-head (λ trace. All (IsRowIn G) trace) trace traces fit)))
-    (traces_read G (suc v) traces few (omega arith) (All-tail (λ trace. All (IsRowIn G) trace) trace traces fit))
+    All-append (λ x. IsRead G x.vertex x.row) (map (placed v) trace) (placed_from (suc v) traces)
+    (All-map (λ x. IsRead G x.vertex x.row) (placed v) trace
+    (λ k d l. is_read G v (get_or trace k d) few (omega arith) (fit 0 [] (omega arith) k d l)))
+    (traces_read G (suc v) traces few (omega arith) (λ k d l. fit (suc k) d (omega arith)))
 
 -- ---- their text
 
@@ -176,7 +164,7 @@ text_of xs = flat_map (λ x. written.row_text x.vertex x.row) xs
 
 text_of-trace : (v : ℕ) (trace : List TraceRow) → text_of (map (placed v) trace) ≡ written.rows_text v trace
 text_of-trace v [] = refl
-text_of-trace v (row ∷ rows) = ap (λ (t : List ℕ). written.row_text v row ++ t) (text_of-trace v rows)
+text_of-trace v (row ∷ rows) = rw (text_of-trace v rows)
 
 text_of-traces : (v : ℕ) (traces : List (List TraceRow)) → text_of (placed_from v traces) ≡ lines_from v traces
 text_of-traces v [] = refl
@@ -192,17 +180,13 @@ text_of-records G (x ∷ xs) all = λ i. all.0.line i ++ text_of-records G xs al
 
 -- ---- the records that are read of it
 
-some_byte : (row : Row) → 1 ≤ length (writer.row_text default_writer row)
-some_byte row = simp length-append (omega arith)
-
 fewer_records : (rows : List Row) → length rows ≤ length (rows_text rows)
 unfolding rows_text
 fewer_records [] = omega arith
 fewer_records (row ∷ rows) =
-    let one = some_byte row in
+    let one : 1 ≤ length (writer.row_text default_writer row) = simp length-append (omega arith) in
     let more = fewer_records rows in
-    let both = length-append (writer.row_text default_writer row) (rows_text rows) in
-    omega arith
+    omega (arith, length-append (writer.row_text default_writer row) (rows_text rows))
 
 -- all records that were written, and no more
 all_read : (rows : List Row) (n : ℕ) → length rows ≤ n
@@ -253,88 +237,55 @@ no_fault G before (x ∷ xs) all =
 
 said : (G : Multigraph) (v : ℕ) (xs : List Placed) → AreRead G xs → trace_in (map record_at xs) v ≡ rows_of xs v
 said G v [] all = refl
-said G v (x ∷ xs) all = rw all.0.vertex (elim (cases_Bool (x.vertex == v)) [
-  | inl own ↦ rw own (λ i. all.0.means i ∷ said G v xs all.1 i)
-  | inr other ↦ rw other (said G v xs all.1)
-])
+said G v (x ∷ xs) all = rw all.0.vertex (by_test (x.vertex == v)
+    (λ own. rw own (λ i. all.0.means i ∷ said G v xs all.1 i)) (λ other. rw other (said G v xs all.1)))
 
-rows_of-own : (v : ℕ) (trace : List TraceRow) → rows_of (map (placed v) trace) v ≡ trace
-rows_of-own v [] = refl
-rows_of-own v (row ∷ rows) = rw (eq-eqb v v refl) (ap (λ (t : List TraceRow). row ∷ t) (rows_of-own v rows))
-
-rows_of-other : (u v : ℕ) (trace : List TraceRow) → (u == v) ≡ false → rows_of (map (placed u) trace) v ≡ []
-rows_of-other u v [] other = refl
-rows_of-other u v (row ∷ rows) other = rw other (rows_of-other u v rows other)
+rows_of-trace : (u v : ℕ) (trace : List TraceRow) → rows_of (map (placed u) trace) v ≡ if u == v then trace else []
+rows_of-trace u v [] = grind (arith, nat_tests)
+rows_of-trace u v (row ∷ rows) = let more = rows_of-trace u v rows in grind (arith, nat_tests)
 
 -- of a vertex before those of the traces there is no row
 rows_of-before : (u v : ℕ) (traces : List (List TraceRow)) → v < u → rows_of (placed_from u traces) v ≡ []
 rows_of-before u v [] lower = refl
 rows_of-before u v (trace ∷ traces) lower =
-    let other : (u == v) ≡ false = ne_eqb u v (λ same. absurd (omega arith)) in
-    rows_of-append (map (placed u) trace) (placed_from (suc u) traces) v
-    ∙ (λ i. rows_of-other u v trace other i ++ rows_of-before (suc u) v traces (omega arith) i)
+    let both = rows_of-append (map (placed u) trace) (placed_from (suc u) traces) v in
+    let none = rows_of-trace u v trace in let later = rows_of-before (suc u) v traces (omega arith) in
+    grind (arith, nat_tests)
 
 rows_of-at : (u : ℕ) (traces : List (List TraceRow)) (k v : ℕ) → u + k ≡ v
     → rows_of (placed_from u traces) v ≡ get_or traces k []
 rows_of-at u [] k v e = refl
 rows_of-at u (trace ∷ traces) zero v e =
-    let same : u ≡ v = omega arith in
-    rows_of-append (map (placed u) trace) (placed_from (suc u) traces) v
-    ∙ ap (λ (w : ℕ). rows_of (map (placed u) trace) w ++ rows_of (placed_from (suc u) traces) w) (sym same)
-    ∙ (λ i. rows_of-own u trace i ++ rows_of-before (suc u) u traces (omega arith) i)
-    ∙ append-nil trace
+    let both = rows_of-append (map (placed u) trace) (placed_from (suc u) traces) v in
+    let here = rows_of-trace u v trace in let later = rows_of-before (suc u) v traces (omega arith) in
+    grind (arith, nat_tests, append-nil)
 rows_of-at u (trace ∷ traces) (suc k) v e =
-    let other : (u == v) ≡ false = ne_eqb u v (λ same. absurd (omega arith)) in
-    rows_of-append (map (placed u) trace) (placed_from (suc u) traces) v
-    ∙ (λ i. rows_of-other u v trace other i ++ rows_of-at (suc u) traces k v (omega arith) i)
+    let both = rows_of-append (map (placed u) trace) (placed_from (suc u) traces) v in
+    let none = rows_of-trace u v trace in let later = rows_of-at (suc u) traces k v (omega arith) in
+    grind (arith, nat_tests)
 
 -- ---- so they are read back
-
-read_by : (G : Multigraph) (text : List ℕ) (rows : List Row) (traces : List (List TraceRow))
-    → records_of text ≡ trace_header ∷ rows → first_row_fault (by_index (trace_row_fault G)) [] rows ≡ None
-    → traces ≡ map (trace_in rows) (range_with_len 0 G.vertices) → traces_of_text G text ≡ Some traces
-read_by G text rows traces records none same = rw (records, none) (ap Some (sym same))
 
 pub written_is_read : WrittenIsRead
 written_is_read G traces graph are =
     let xs = placed_from 0 traces in
     let each = are.each in
-    let all = traces_read G 0 traces (few_numbers G graph) (omega arith) are.rows in
-    read_by G (trace_text traces) (map record_at xs) traces (records_of-traces G traces all) (no_fault G [] xs all)
-    (fill_by_all (trace_in (map record_at xs)) traces G.vertices [] are.each
-    (λ v below. sym (said G v xs all ∙ rows_of-at 0 traces v v (omega arith))))
+    let all = recursion_from_All (λ x. IsRead G x.vertex x.row) xs
+    (traces_read G 0 traces (few_numbers G graph) (omega arith) are.rows) in
+    rw (records_of-traces G traces all, no_fault G [] xs all)
+    (ap Some (sym (fill_by_all (trace_in (map record_at xs)) traces G.vertices [] are.each
+    (λ v below. sym (said G v xs all ∙ rows_of-at 0 traces v v (omega arith))))))
 
 -- ---- nothing else is read
 
 -- a field gives no number of more than 64 bits
-few_by : (test : Bool) (n : ℕ) → (test ≡ true → n < 2 ^ 64) → unwrap_or (if test then Some n else None) 0 < 2 ^ 64
-few_by true n fits = fits refl
-few_by false n fits = omega arith
-
 few_of : (field : Option (List ℕ)) → unwrap_or (option_and_then number_of field) 0 < 2 ^ 64
-few_of None = omega arith
-few_of (Some field) = few_by _ (digits_value 10 field)
-    (λ test. ltb-true (digits_value 10 field) (2 ^ 64) (and_parts _ (nat_lt (digits_value 10 field) (2 ^ 64)) test).1)
-
-named_fits : (G : Multigraph) (edge count : ℕ) → count < 2 ^ 64 → names_edge G (Take edge count) ≡ true
-    → IsRowIn G (Take edge count)
-named_fits G edge count fits named = (ltb-true edge (all_edges G) named, fits)
+few_of field = grind (arith, nat_tests)
 
 -- whatever kind the fields name
-kind_fits : (G : Multigraph) (row : Row) (edge count : ℕ) → count < 2 ^ 64
-    → names_edge G (row_of_kind (kind_in row) edge count) ≡ true → IsRowIn G (row_of_kind (kind_in row) edge count)
-unfolding field_at
-kind_fits G [] edge count fits = named_fits G edge count fits
-kind_fits G (vertex ∷ []) edge count fits = named_fits G edge count fits
-kind_fits G (vertex ∷ name ∷ fields) edge count fits =
-    elim (cases_Bool (bytes_eq name (codes "take"))) [
-      | inl take ↦ rw take (named_fits G edge count fits)
-      | inr other ↦
-          elim (cases_Bool (bytes_eq name (codes "fire"))) [
-            | inl fire ↦ rw (other, fire) (λ named. fits)
-            | inr neither ↦ rw (other, neither) (named_fits G edge count fits)
-          ]
-    ]
+kind_fits : (G : Multigraph) (kind : _) (edge count : ℕ) → count < 2 ^ 64
+    → names_edge G (row_of_kind kind edge count) ≡ true → IsRowIn G (row_of_kind kind edge count)
+kind_fits G kind edge count fits named = grind (arith, nat_tests)
 
 -- a row with nothing wrong is one of the graph
 row_fits : (G : Multigraph) (index : ℕ) (row : Row) → trace_row_fault G index row ≡ None → IsRowIn G (trace_row_in row)
@@ -345,7 +296,7 @@ row_fits G index row none =
     (fault.Number index) _ known.1 in
     let both = alone_passed (nat_lt (number_in 0 row) G.vertices && names_edge G (trace_row_in row))
     (fault.Vertex index) numbers.1 in
-    kind_fits G row (number_in 2 row) (number_in 3 row) (few_of (field_at row 3))
+    kind_fits G (kind_in row) (number_in 2 row) (number_in 3 row) (few_of (field_at row 3))
     (and_parts (nat_lt (number_in 0 row) G.vertices) (names_edge G (trace_row_in row)) both).1
 
 rows_fit : (G : Multigraph) (before rows : List Row)
@@ -378,7 +329,7 @@ read_is_in_graph G text traces meant =
       rows = All-map (λ trace. All (IsRowIn G) trace) (trace_in rows) (range_with_len 0 G.vertices)
           (λ k d below. trace_fits G rows all (get_or (range_with_len 0 G.vertices) k d));
     } in
-    subst (λ (traces : List (List TraceRow)). AreTracesIn G traces) fine.1 are
+    rw fine.1 at are
 
 -- ---- whatever is answered
 
@@ -390,12 +341,8 @@ answered G traces file (Ok got) meant is = (is.0, cc (is.1, meant))
 answered G traces file (Err f) meant (inl machine) = inl machine
 answered G traces file (Err f) meant (inr (inl long)) = inr (inl long)
 answered G traces file (Err f) meant (inr (inr is)) =
-    let rows = rows_under_header (records_of file) in
-    let fine = given (trace_text_fault G file) (map (trace_in rows) (range_with_len 0 G.vertices)) traces meant in
-    absurd (cc (fine.0, is.1))
+    let fine = given (trace_text_fault G file) _ traces meant in absurd (cc (fine.0, is.1))
 
 pub file_is_read_back : FileIsReadBack
 file_is_read_back G traces graph are file wrote answer answers =
-    let meant : traces_of_text G file ≡ Some traces =
-    rw wrote (written_is_read G traces graph are) in
-    answered G traces file answer meant answers
+    answered G traces file answer (rw wrote (written_is_read G traces graph are)) answers

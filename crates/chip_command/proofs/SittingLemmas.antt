@@ -2,9 +2,7 @@
 -- What the report of a first sitting tells.
 use Rattle.std.proofs.Common.{◌≡◌, ℕ, List, length, slice_index, sym, ◌∙◌, subst, arith, inl, inr}
 use Rattle.std.specs.Prelude.{replicate}
-use Rattle.std.proofs.lemmas.List.{get_or-replicate, get_or_past, length-replicate}
-use mathlib.Core.Logic.{dite}
-use native.Mathlib.Decide.{dec_lt}
+use Rattle.std.proofs.lemmas.Grind.{common_steps}
 use Rattle.chip_graph.specs.Multigraph.{Multigraph}
 use Rattle.chip_graph.specs.ChipGame.{ChipGame, IsGame}
 use Rattle.chip_sequence.specs.Outcomes.{IsOutcome}
@@ -21,12 +19,7 @@ use Rattle.chip_command.specs.Sitting.{TellsPlayFrom}
 
 -- no firings before
 none_before : (n v : ℕ) → slice_index (replicate n 0) v ≡ 0
-none_before n v =
-    let none : List ℕ = replicate n 0 in
-    let many : length none ≡ n = length-replicate n 0 in
-    dite (dec_lt v n)
-    (λ l. get_or-replicate n v 0 0 l)
-    (λ nl. get_or_past none v 0 (omega arith))
+none_before n v = grind (arith, common_steps)
 
 -- what an outcome tells leads from x to its chips
 abbrev Leads : Multigraph → (ℕ → ℕ) → Content → Type 0
@@ -40,8 +33,7 @@ first_tells G x o fits leads report spelled r (inl first) =
     let of_it : LeadsTo G x (slice_index r.outcome.fired.items) (slice_index r.outcome.chips.items) =
     subst (Leads G x) (one_outcome o r.outcome fits first.0.reportable (sym spelled ∙ first.0.spelled)) leads in
     let in_all : (v : ℕ) → slice_index r.outcome.fired.items v ≡ fired_in_all r v =
-    (λ v. let none : slice_index r.prior.items v ≡ 0 = rw first.1 (none_before (length r.outcome.fired.items) v) in
-    omega arith) in
+    (λ v. let none = none_before (length r.outcome.fired.items) v in let first = first.1 in grind arith) in
     subst (λ (f : ℕ → ℕ). LeadsTo G x f (slice_index r.outcome.chips.items)) (λ i v. in_all v i) of_it
 first_tells G x o fits leads report spelled r (inr two) =
     absurd (not_both report o r (record { reportable = fits; spelled = spelled }) two)

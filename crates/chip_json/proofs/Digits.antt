@@ -1,18 +1,10 @@
 -- Serves GraphFile.antt.
 -- A number of digits alone is the integer that they spell.
-use Rattle.std.proofs.Common.{◌≡◌, ℕ, ◌+◌, ◌^◌, ◌<◌, ◌≤◌, List, [], ◌∷◌, ◌++◌, length, take, get_or, false, Some}
-use Rattle.std.proofs.Common.{refl, sym, ap, ◌∙◌, arith, append-nil, lt-ltb, ne_eqb}
-use Rattle.std.proofs.Math.Nat.{pow-le-pow_right}
-use Rattle.std.proofs.lemmas.List.{length-take, take_all}
-use Rattle.std.proofs.lemmas.Int.Digits.{digits_value-lt}
+use Rattle.chip_json.proofs.Names.{◌≡◌, ℕ, ◌+◌, ◌^◌, ◌<◌, ◌≤◌, List, [], ◌∷◌, ◌++◌, length, take, get_or, false, Some}
+use Rattle.chip_json.proofs.Names.{refl, sym, ap, ◌∙◌, arith, append-nil, lt-ltb, ne_eqb, pow-le-pow_right, length-take}
+use Rattle.chip_json.proofs.Names.{take_all, digits_value-lt, digit_from_value, digit_value, AllDigits, digits_value}
+use Rattle.chip_json.proofs.Names.{Parts, digits_of, IsWellFormed, scan-text_of, unsigned, number_of, number_from}
 use Rattle.std.proofs.lemmas.Str.{digit_value_digit}
-use Rattle.std.proofs.lemmas.Str.Parse.{digit_from_value}
-use Rattle.std.specs.Char.{digit_value}
-use Rattle.std.specs.Str.Parse.{AllDigits, digits_value}
-use Rattle.fast_float.specs.Text.{Parts, digits_of, IsWellFormed}
-use Rattle.fast_float.proofs.Writing.{scan-text_of}
-use Rattle.serde_json.specs.Data.{unsigned}
-use Rattle.serde_json.specs.Read.{number_of, number_from}
 
 no_minus : (ds rest : List ℕ) → AllDigits 10 ds → 0 < length ds → get_or (ds ++ rest) 0 0 ≡ 45 → ⊥
 no_minus [] rest h some e = omega arith

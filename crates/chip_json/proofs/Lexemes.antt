@@ -1,50 +1,29 @@
 -- Serves Plain.antt.
 -- What bytes are as lexemes.
-use Rattle.std.proofs.Common.{◌≡◌, ◌≢◌, ℕ, ◌+◌, ◌<◌, ◌≤◌, Bool, true, false, cond, ◌||◌, ◌==◌, List, [], ◌∷◌, ◌++◌, length, take, drop, get_or}
-use Rattle.std.proofs.Common.{Some, inl, inr, length-drop, ◌⊎◌, refl, sym, ap, ◌∙◌, subst, arith}
-use Rattle.std.proofs.lemmas.Bool.{eqb-true, ne_eqb, or_cases, le-leb}
-use Rattle.std.proofs.Math.Nat.{pow-le-pow_right}
-use Rattle.std.proofs.lemmas.Int.Digits.{digits_value-lt}
-use Rattle.std.proofs.lemmas.List.{drop_more, take-append-drop, length-take, drop_all, drop-drop, get_or-take}
-use Rattle.std.specs.Char.{is_ascii_digit, digit_value}
-use Rattle.std.specs.List.{prefix_len}
-use Rattle.std.specs.Str.Parse.{AllDigits, digits_value}
+use Rattle.chip_json.proofs.Names.{◌≡◌, ◌≢◌, ℕ, ◌+◌, ◌<◌, ◌≤◌, Bool, true, false, cond, ◌==◌, List, [], ◌∷◌, ◌++◌}
+use Rattle.chip_json.proofs.Names.{length, take, drop, get_or, Some, length-drop, refl, sym, ap, ◌∙◌, arith, eqb-true}
+use Rattle.chip_json.proofs.Names.{le-leb, pow-le-pow_right, digits_value-lt, drop_more, take-append-drop, length-take}
+use Rattle.chip_json.proofs.Names.{drop_all, drop-drop, get_or-take, nat_tests, is_ascii_digit, digit_value, prefix_len}
+use Rattle.chip_json.proofs.Names.{AllDigits, digits_value, token, class, operator, space, operator_lexeme, lex}
+use Rattle.chip_json.proofs.Names.{lex_byte, between, is_space, ends_word, after_number, after_digits, IsNumber}
+use Rattle.chip_json.proofs.Names.{lex-number, unsigned, IsOperator, lexemes_at, IsNumberAt}
+use Rattle.std.proofs.lemmas.Bool.{ne_eqb}
 use Rattle.json.specs.Token.{number}
-use Rattle.json.specs.Lex.{token, class, operator, operator_lexeme, lex, lex_byte, between}
-use Rattle.json.specs.Word.{is_space, ends_word, after_number, after_digits}
-use Rattle.json.specs.Print.{IsNumber}
-use Rattle.json.proofs.Printed.Numbers.{lex-number}
-use Rattle.serde_json.specs.Data.{unsigned}
-use Rattle.chip_json.specs.Plain.{IsOperator, lexemes_at, IsNumberAt}
 use Rattle.chip_json.proofs.Digits.{number_of-digits, digit_is}
 
 -- ---- a blank
 
-lex-is : (x y : ℕ) (xs : List ℕ) → lex between (y ∷ xs) ≡ lex between xs → (x == y) ≡ true
-    → lex between (x ∷ xs) ≡ lex between xs
-lex-is x y xs h e = subst (λ z. lex between (z ∷ xs) ≡ lex between xs) (sym (eqb-true x y e)) h
+blank_class : (x : ℕ) → is_space x ≡ true → class x ≡ space
+blank_class x e = grind (arith, nat_tests)
 
-lex-blank : (x : ℕ) (xs : List ℕ) → is_space x ≡ true → lex between (x ∷ xs) ≡ lex between xs
+lex-blank : (x : ℕ) (xs : List ℕ) → class x ≡ space → lex between (x ∷ xs) ≡ lex between xs
 unfolding lex
-lex-blank x xs e = four (or_cases (((x == 32) || (x == 9)) || (x == 10)) (x == 13) e)
-  where
-    two : ((x == 32) ≡ true) ⊎ ((x == 9) ≡ true) → lex between (x ∷ xs) ≡ lex between xs
-    two (inl h) = lex-is x 32 xs refl h
-    two (inr h) = lex-is x 9 xs refl h
-
-    three : (((x == 32) || (x == 9)) ≡ true) ⊎ ((x == 10) ≡ true) → lex between (x ∷ xs) ≡ lex between xs
-    three (inl h) = two (or_cases (x == 32) (x == 9) h)
-    three (inr h) = lex-is x 10 xs refl h
-
-    four : ((((x == 32) || (x == 9)) || (x == 10)) ≡ true) ⊎ ((x == 13) ≡ true)
-        → lex between (x ∷ xs) ≡ lex between xs
-    four (inl h) = three (or_cases ((x == 32) || (x == 9)) (x == 10) h)
-    four (inr h) = lex-is x 13 xs refl h
+lex-blank x xs e = ap (λ c. lex_byte between c x xs (λ m. lex m xs)) e
 
 pub blank_skipped : (text : List ℕ) (at : ℕ) → at < length text → is_space (get_or text at 0) ≡ true
     → lexemes_at text (at + 1) ≡ lexemes_at text at
 blank_skipped text at h e = sym (ap (lex between) (drop_more text at 0 h)
-    ∙ lex-blank (get_or text at 0) (drop (at + 1) text) e)
+    ∙ lex-blank (get_or text at 0) (drop (at + 1) text) (blank_class (get_or text at 0) e))
 
 -- ---- an operator
 

@@ -1,3 +1,4 @@
+mod Names
 mod Turns
 mod Known
 mod Shapes

@@ -1,25 +1,17 @@
 -- Serves Plain.antt.
 -- What the lexemes of a graph file that is written plainly give.
-use Rattle.std.proofs.Common.{◌≡◌, ℕ, ◌+◌, ◌-◌, ◌<◌, ◌≤◌, Bool, true, false, List, [], ◌∷◌, ◌++◌, length, length-drop, drop, nat_eq}
-use Rattle.std.proofs.Common.{Option, Some, None, refl, sym, ap, ◌∙◌, arith, Vec, Global}
-use Rattle.std.proofs.lemmas.Bool.{false≢true}
-use Rattle.std.proofs.lemmas.Bool.Decides.{Decides-eqb}
-use Rattle.std.proofs.lemmas.List.{drop-drop}
-use Rattle.std.proofs.lemmas.Slice.Eq.{starts_is}
-use Rattle.std.specs.List.{starts_with}
-use Rattle.std.specs.Prelude.{codes}
-use Rattle.json.specs.Token.{Token, begin_object, begin_array, end_object, end_array, key, string, number}
-use Rattle.json.specs.Json.{after_end_array}
-use Rattle.json.specs.Text.{content, plain}
-use Rattle.json.specs.Lex.{Lexeme, token, comma, colon, string_token, lex, between, in_string, Place, fresh, after_value, after_comma, after_key}
-use Rattle.json.specs.Lex.{may_begin, begins_colon, place_token, punctuate, tokens}
-use Rattle.serde_json.specs.Data.{Data, array, unsigned, Items, no_items, item, Members, no_members, put, object}
+use Rattle.chip_json.proofs.Names.{◌≡◌, ℕ, ◌+◌, ◌-◌, ◌<◌, ◌≤◌, Bool, true, false, List, [], ◌∷◌, ◌++◌, length}
+use Rattle.chip_json.proofs.Names.{length-drop, drop, nat_eq, Option, Some, None, refl, sym, ap, ◌∙◌, arith, Vec}
+use Rattle.chip_json.proofs.Names.{Global, false≢true, Decides-eqb, drop-drop, starts_is, starts_with, codes, Token}
+use Rattle.chip_json.proofs.Names.{begin_object, begin_array, end_object, end_array, key, string, after_end_array}
+use Rattle.chip_json.proofs.Names.{content, plain, Lexeme, token, comma, colon, string_token, lex, between, in_string}
+use Rattle.chip_json.proofs.Names.{Place, fresh, after_value, after_comma, after_key, may_begin, begins_colon}
+use Rattle.chip_json.proofs.Names.{place_token, punctuate, tokens, Data, array, unsigned, no_items, item}
+use Rattle.chip_json.proofs.Names.{no_members, number_of, max_depth, Edge, edge_of_row}
+use Rattle.chip_json.proofs.Names.{next_value, ItemsAre, lexemes_at, IsRowAt, AreRowsAt, IsBehindName, BeginsEdges}
+use Rattle.chip_json.proofs.Names.{GoesOnAs, HasEdgesBefore, HasEdgesFirst, rows_depth}
+use Rattle.json.specs.Token.{number}
 use Rattle.serde_json.specs.Data as value
-use Rattle.serde_json.specs.Read.{number_of, max_depth}
-use Rattle.chip_graph.specs.declared.edge.Edge.{Edge}
-use Rattle.chip_json.specs.GraphFile.{edge_of_row}
-use Rattle.chip_json.specs.Values.{next_value, ItemsAre}
-use Rattle.chip_json.specs.Plain.{lexemes_at, IsRowAt, AreRowsAt, IsBehindName, BeginsEdges, GoesOnAs, HasEdgesBefore, HasEdgesFirst, rows_depth}
 use Rattle.chip_json.proofs.Turns.{item_read, items_over, number_read, array_read, object_read, member_read}
 
 -- ---- a row

@@ -1,20 +1,13 @@
 -- Serves Rows.antt.
 -- The edge and the edges that items are.
-use Rattle.std.proofs.Common.{◌≡◌, ℕ, ◌<◌, List, [], ◌∷◌, ◌++◌, length, Option, Some, None, option_map}
-use Rattle.std.proofs.Common.{option_and_then, refl, sym, ap, ◌∙◌, inl, inr, arith, append_assoc, append-nil}
-use Rattle.std.proofs.Common.{length-append, Bool, true, false, Vec, Global}
-use Rattle.serde_json.specs.Data.{Data, Items, no_items, item}
-use Rattle.chip_json.specs.GraphFile.{number_of_value, numbers_of, edge_of_numbers, edges_of_rows, edge_of_row}
-use Rattle.chip_json.specs.Rows.{and_number, and_items, edge_in, Keeps, KeepsAny}
-use Rattle.chip_graph.specs.declared.edge.Edge.{Edge}
-use Rattle.chip_json.specs.declared.fault.JsonFault.{JsonFault}
-use Rattle.std.proofs.Common.{Result, Ok, Err, ◌-◌}
-use Rattle.json.specs.Token.{Token}
-use Rattle.serde_json.specs.Data.{array}
-use Rattle.serde_json.specs.Find.{as_array}
-use Rattle.chip_json.specs.Rows.{MayRead, MayReadItems, AreRows, AreRowsUnder}
-use Rattle.chip_json.proofs.Turns.{array_read}
+use Rattle.chip_json.proofs.Names.{◌≡◌, ℕ, ◌<◌, List, [], ◌∷◌, ◌++◌, length, Option, Some, None, option_map}
+use Rattle.chip_json.proofs.Names.{option_and_then, refl, sym, ap, ◌∙◌, inl, inr, arith, append_assoc, append-nil}
+use Rattle.chip_json.proofs.Names.{length-append, Bool, true, false, Vec, Global, Data, Items, no_items, item}
+use Rattle.chip_json.proofs.Names.{number_of_value, numbers_of, edge_of_numbers, edges_of_rows, edge_of_row, and_number}
+use Rattle.chip_json.proofs.Names.{and_items, edge_in, Keeps, KeepsAny, Edge, JsonFault, Result, Ok, Err, ◌-◌, Token}
+use Rattle.chip_json.proofs.Names.{array, as_array, MayRead, MayReadItems, AreRows, AreRowsUnder}
 use Rattle.chip_json.specs.declared.rows.Row.TheVariants as row
+use Rattle.chip_json.proofs.Turns.{array_read}
 
 -- ---- a row
 
@@ -22,54 +15,35 @@ other_stays : (ds : Items) → and_items row.Other ds ≡ row.Other
 other_stays no_items = refl
 other_stays (item d ds) = other_stays ds
 
-full : (edge : Edge) (d : Data) (ds : Items) → edge_in (and_items (row.Three edge) (item d ds)) ≡ None
-full edge d ds = ap edge_in (other_stays ds)
+abbrev more : Option ℕ → Option (List ℕ) → Option (List ℕ)
+more o ns = option_and_then (λ n. option_map (λ ns. n ∷ ns) ns) o
 
-row_3 : (a b c : ℕ) (d : Data) (ds : Items) (o : Option ℕ) (ns : Option (List ℕ))
-    → option_and_then edge_of_numbers (option_map (λ ns. a ∷ ns)
-    (option_map (λ ns. b ∷ ns) (option_map (λ ns. c ∷ ns)
-    (option_and_then (λ n. option_map (λ ns. n ∷ ns) ns) o)))) ≡ None
-row_3 a b c d ds None ns = refl
-row_3 a b c d ds (Some n) None = refl
-row_3 a b c d ds (Some n) (Some ns) = refl
+too_many : (a b c : ℕ) (o : Option ℕ) (ns : Option (List ℕ))
+    → option_and_then edge_of_numbers (more (Some a) (more (Some b) (more (Some c) (more o ns)))) ≡ None
+too_many a b c (Some n) (Some ns) = refl
+too_many a b c _ _ = refl
 
-after_three : (a b c : ℕ) (ds : Items) → edge_in (and_items (row.Three (record { tail = a; head = b; mult = c })) ds)
-    ≡ option_and_then edge_of_numbers (option_map (λ ns. a ∷ ns)
-    (option_map (λ ns. b ∷ ns) (option_map (λ ns. c ∷ ns) (numbers_of ds))))
-after_three a b c no_items = refl
-after_three a b c (item d ds) = ap edge_in (other_stays ds)
-    ∙ sym (row_3 a b c d ds (number_of_value d) (numbers_of ds))
+one : (o : Option ℕ) → edge_in (and_number row.Empty o) ≡ option_and_then edge_of_numbers (more o (Some []))
+one None = refl
+one (Some a) = refl
 
-after_two_by : (a b : ℕ) (ds : Items) (o : Option ℕ) → edge_in (and_items (and_number (row.Two a b) o) ds)
-    ≡ option_and_then edge_of_numbers (option_map (λ ns. a ∷ ns)
-    (option_map (λ ns. b ∷ ns) (option_and_then (λ n. option_map (λ ns. n ∷ ns) (numbers_of ds)) o)))
-after_two_by a b ds None = ap edge_in (other_stays ds)
-after_two_by a b ds (Some c) = after_three a b c ds
+two : (o p : Option ℕ) → edge_in (and_number (and_number row.Empty o) p)
+    ≡ option_and_then edge_of_numbers (more o (more p (Some [])))
+two (Some a) (Some b) = refl
+two _ _ = refl
 
-after_two : (a b : ℕ) (ds : Items) → edge_in (and_items (row.Two a b) ds) ≡ option_and_then edge_of_numbers
-    (option_map (λ ns. a ∷ ns) (option_map (λ ns. b ∷ ns) (numbers_of ds)))
-after_two a b no_items = refl
-after_two a b (item d ds) = after_two_by a b ds (number_of_value d)
-
-after_one_by : (a : ℕ) (ds : Items) (o : Option ℕ) → edge_in (and_items (and_number (row.One a) o) ds)
-    ≡ option_and_then edge_of_numbers (option_map (λ ns. a ∷ ns)
-    (option_and_then (λ n. option_map (λ ns. n ∷ ns) (numbers_of ds)) o))
-after_one_by a ds None = ap edge_in (other_stays ds)
-after_one_by a ds (Some b) = after_two a b ds
-
-after_one : (a : ℕ) (ds : Items) → edge_in (and_items (row.One a) ds) ≡ option_and_then edge_of_numbers
-    (option_map (λ ns. a ∷ ns) (numbers_of ds))
-after_one a no_items = refl
-after_one a (item d ds) = after_one_by a ds (number_of_value d)
-
-after_none_by : (ds : Items) (o : Option ℕ) → edge_in (and_items (and_number row.Empty o) ds)
-    ≡ option_and_then edge_of_numbers (option_and_then (λ n. option_map (λ ns. n ∷ ns) (numbers_of ds)) o)
-after_none_by ds None = ap edge_in (other_stays ds)
-after_none_by ds (Some a) = after_one a ds
+three : (o p q : Option ℕ) (ds : Items) → edge_in (and_items (and_number (and_number (and_number row.Empty o) p) q) ds)
+    ≡ option_and_then edge_of_numbers (more o (more p (more q (numbers_of ds))))
+three (Some a) (Some b) (Some c) no_items = refl
+three (Some a) (Some b) (Some c) (item d ds) =
+    ap edge_in (other_stays ds) ∙ sym (too_many a b c (number_of_value d) (numbers_of ds))
+three o p q ds = ap edge_in (other_stays ds)
 
 pub row_read : (ds : Items) → edge_in (and_items row.Empty ds) ≡ option_and_then edge_of_numbers (numbers_of ds)
 row_read no_items = refl
-row_read (item d ds) = after_none_by ds (number_of_value d)
+row_read (item a no_items) = one (number_of_value a)
+row_read (item a (item b no_items)) = two (number_of_value a) (number_of_value b)
+row_read (item a (item b (item c ds))) = three (number_of_value a) (number_of_value b) (number_of_value c) ds
 
 -- ---- rows
 

@@ -1,82 +1,47 @@
 -- Serves Parts.antt.
 -- The parts of a file, member by member.
-use Rattle.std.proofs.Common.{◌≡◌, ℕ, List, true, false, Option, Some, None, refl, sym, ◌∙◌, inl, inr, Vec}
-use Rattle.std.proofs.Common.{Global, true≢false}
-use Rattle.std.specs.Prelude.{codes, ◌⊎◌}
-use Rattle.serde_json.specs.Data.{Data, object, Members}
-use Rattle.serde_json.specs.Find.{as_object}
-use Rattle.chip_json.specs.GraphFile.{number_of_value, file_of_value, file_of_parts, GraphFile}
+use Rattle.chip_json.proofs.Names.{◌≡◌, ℕ, List, true, false, Option, Some, None, refl, sym, ◌∙◌, inl, inr, Vec, Global}
+use Rattle.chip_json.proofs.Names.{true≢false, Bool, codes, ◌⊎◌, Data, object, Members, as_object, number_of_value}
+use Rattle.chip_json.proofs.Names.{file_of_value, file_of_parts, GraphFile, KeepsAny, AreRowsUnder, IsOther, Stands}
+use Rattle.chip_json.proofs.Names.{Takes, KeepsFile, kept_of, Edge, JsonFault, NotJson, NoMemory}
 use Rattle.chip_json.specs.declared.file.GraphFile.{GraphFile as Kept}
-use Rattle.chip_json.specs.Rows.{KeepsAny, AreRowsUnder}
-use Rattle.chip_json.specs.Parts.{IsOther, Stands, Takes, KeepsFile, kept_of}
-use Rattle.chip_graph.specs.declared.edge.Edge.{Edge}
 use Rattle.chip_json.specs.declared.file.Parts.{Parts}
-use Rattle.chip_json.specs.declared.fault.JsonFault.{JsonFault}
-use Rattle.chip_json.specs.declared.fault.JsonFault.TheVariants.{NotJson, NoMemory}
 use Rattle.chip_json.proofs.Known.{put_edges, put_sink, put_version, put_vertices, crowded_edges, crowded_sink}
 use Rattle.chip_json.proofs.Known.{crowded_version, crowded_vertices, crowded_other, known_crowded, crowded_file}
 use Rattle.chip_json.proofs.Known.{file_of_known, num, rows}
 
-pub take_version : {most : ℕ} (name : List ℕ) (d : Data) (p : Parts) (n : Option ℕ) → name ≡ codes "version"
-    → number_of_value d ≡ n
-    → Takes most name d p (record {
-      version = n;
-      vertices = p.vertices;
-      sink = p.sink;
-      edges = p.edges;
-      others =
-          p.others;
-    })
-take_version name d p n is e found (inl (o, es, s, v, w, f, a, b, c, k)) =
-    inl (o, es, s, Some d, w, rw (is, f) (put_version d es s v w), e, b, c, k)
-take_version name d p n is e found (inr (o, h)) = inr (o, rw is (crowded_version d found h))
+abbrev parts : Option ℕ → Option ℕ → Option ℕ → Option (Vec Edge Global) → Bool → Parts
+parts v w s es o = record { version = v; vertices = w; sink = s; edges = es; others = o }
 
-pub take_vertices : {most : ℕ} (name : List ℕ) (d : Data) (p : Parts) (n : Option ℕ) → name ≡ codes "vertices"
-    → number_of_value d ≡ n
-    → Takes most name d p (record { version = p.version; vertices = n; sink = p.sink; edges = p.edges; others = p.others })
-take_vertices name d p n is e found (inl (o, es, s, v, w, f, a, b, c, k)) =
-    inl (o, es, s, v, Some d, rw (is, f) (put_vertices d es s v w), a, e, c, k)
-take_vertices name d p n is e found (inr (o, h)) = inr (o, rw is (crowded_vertices d found h))
+module _ {most : ℕ} (name : List ℕ) (d : Data) (p : Parts) where
+  pub take_version : (n : Option ℕ) → name ≡ codes "version" → number_of_value d ≡ n
+      → Takes most name d p (parts n p.vertices p.sink p.edges p.others)
+  take_version n is e found (inl (o, es, s, v, w, f, a, b, c, k)) =
+      inl (o, es, s, Some d, w, rw (is, f) (put_version d es s v w), e, b, c, k)
+  take_version n is e found (inr (o, h)) = inr (o, rw is (crowded_version d found h))
 
-pub take_sink : {most : ℕ} (name : List ℕ) (d : Data) (p : Parts) (n : Option ℕ) → name ≡ codes "sink" → number_of_value d ≡ n
-    → Takes most name d p (record {
-      version = p.version;
-      vertices = p.vertices;
-      sink = n;
-      edges = p.edges;
-      others =
-          p.others;
-    })
-take_sink name d p n is e found (inl (o, es, s, v, w, f, a, b, c, k)) =
-    inl (o, es, Some d, v, w, rw (is, f) (put_sink d es s v w), a, b, e, k)
-take_sink name d p n is e found (inr (o, h)) = inr (o, rw is (crowded_sink d found h))
+  pub take_vertices : (n : Option ℕ) → name ≡ codes "vertices" → number_of_value d ≡ n
+      → Takes most name d p (parts p.version n p.sink p.edges p.others)
+  take_vertices n is e found (inl (o, es, s, v, w, f, a, b, c, k)) =
+      inl (o, es, s, v, Some d, rw (is, f) (put_vertices d es s v w), a, e, c, k)
+  take_vertices n is e found (inr (o, h)) = inr (o, rw is (crowded_vertices d found h))
 
-pub take_edges : {most : ℕ} (name : List ℕ) (d : Data) (p : Parts) (n : Option (Vec Edge Global)) → name ≡ codes "edges"
-    → AreRowsUnder most d n
-    → Takes most name d p (record {
-      version = p.version;
-      vertices = p.vertices;
-      sink = p.sink;
-      edges = n;
-      others =
-          p.others;
-    })
-take_edges name d p n is e found (inl (o, es, s, v, w, f, a, b, c, k)) =
-    inl (o, Some d, s, v, w, rw (is, f) (put_edges d es s v w), a, b, c, e)
-take_edges name d p n is e found (inr (o, h)) = inr (o, rw is (crowded_edges d found h))
+  pub take_sink : (n : Option ℕ) → name ≡ codes "sink" → number_of_value d ≡ n
+      → Takes most name d p (parts p.version p.vertices n p.edges p.others)
+  take_sink n is e found (inl (o, es, s, v, w, f, a, b, c, k)) =
+      inl (o, es, Some d, v, w, rw (is, f) (put_sink d es s v w), a, b, e, k)
+  take_sink n is e found (inr (o, h)) = inr (o, rw is (crowded_sink d found h))
 
-pub take_other : {most : ℕ} (name : List ℕ) (d : Data) (p : Parts) → IsOther name
-    → Takes most name d p (record {
-      version = p.version;
-      vertices = p.vertices;
-      sink = p.sink;
-      edges = p.edges;
-      others =
-          true;
-    })
-take_other name d p other found (inl (o, es, s, v, w, f, a, b, c, k)) =
-    inr (refl, rw f (known_crowded name d es s v w other))
-take_other name d p other found (inr (o, h)) = inr (refl, crowded_other name d found other h)
+  pub take_edges : (n : Option (Vec Edge Global)) → name ≡ codes "edges" → AreRowsUnder most d n
+      → Takes most name d p (parts p.version p.vertices p.sink n p.others)
+  take_edges n is e found (inl (o, es, s, v, w, f, a, b, c, k)) =
+      inl (o, Some d, s, v, w, rw (is, f) (put_edges d es s v w), a, b, c, e)
+  take_edges n is e found (inr (o, h)) = inr (o, rw is (crowded_edges d found h))
+
+  pub take_other : IsOther name → Takes most name d p (parts p.version p.vertices p.sink p.edges true)
+  take_other other found (inl (o, es, s, v, w, f, a, b, c, k)) =
+      inr (refl, rw f (known_crowded name d es s v w other))
+  take_other other found (inr (o, h)) = inr (refl, crowded_other name d found other h)
 
 -- ---- a refusal
 
@@ -100,7 +65,7 @@ kept_parts most None w s es kept h = tt
 pub file_of_parts_kept : {most : ℕ} (p : Parts) (found : Members) → p.others ≡ false → Stands most found p
     → KeepsFile most (file_of_value (object found)) (kept_of p.version p.vertices p.sink p.edges)
 file_of_parts_kept p found o (inl (same, es, s, v, w, f, a, b, c, k)) =
-    rw (f, file_of_known es s v w, ← a, ← b, ← c) (kept_parts _ (num v) (num w) (num s) (rows es) p.edges k)
+    rw (f, file_of_known es s w v, ← a, ← b, ← c) (kept_parts _ (num v) (num w) (num s) (rows es) p.edges k)
 file_of_parts_kept p found o (inr (other, h)) = let never : true ≡ false = sym other ∙ o in absurd (true≢false never)
 
 pub no_file : {most : ℕ} (p : Parts) (found : Members) → p.others ≡ true → Stands most found p

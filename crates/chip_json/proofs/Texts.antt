@@ -1,18 +1,10 @@
 -- Serves Parts.antt.
 -- The value of a whole text.
-use Rattle.std.proofs.Common.{◌≡◌, ℕ, Bool, true, false, List, [], ◌∷◌, Option, Some, None}
-use Rattle.std.proofs.Common.{option_and_then, refl, ap, ◌∙◌}
-use Rattle.std.specs.Prelude.{IsUtf8, if◌then◌else◌}
-use Rattle.std.specs.Str.{is_utf8}
+use Rattle.chip_json.proofs.Names.{◌≡◌, ℕ, Bool, true, false, List, [], ◌∷◌, Option, Some, None, option_and_then, refl}
+use Rattle.chip_json.proofs.Names.{ap, ◌∙◌, IsUtf8, if◌then◌else◌, is_utf8, Token, tokens, if_last, value, Data}
+use Rattle.chip_json.proofs.Names.{of_json, converted, read, max_depth, next_value, json_of}
 use Rattle.std.proofs.lemmas.Str.{IsUtf8-from_is_utf8, is_utf8-from_IsUtf8}
-use Rattle.json.specs.Token.{Token}
-use Rattle.json.specs.Lex.{tokens}
 use Rattle.json.specs.Json as json
-use Rattle.json.specs.Json.{if_last, value}
-use Rattle.serde_json.specs.Data.{Data}
-use Rattle.serde_json.specs.Read.{of_json, converted, read, max_depth}
-use Rattle.chip_json.specs.Values.{next_value}
-use Rattle.chip_json.specs.GraphFile.{json_of}
 use Rattle.chip_json.proofs.Turns.{some_of, refused}
 
 abbrev whole : Option (json.Json × List Token) → Option Data

@@ -1,23 +1,19 @@
 -- Serves Values.antt.
 -- The grammar's loops, a turn at a time, under the conversion to data.
-use Rattle.std.proofs.Common.{◌≡◌, ℕ, zero, suc, ◌-◌, ◌<◌, List, [], ◌∷◌, length, Option, Some, None, option_map}
-use Rattle.std.proofs.Common.{option_and_then, refl, ap, ◌∙◌, arith, Bool, Result, Ok, Err}
-use Rattle.std.specs.Prelude.{⊤, ◌⊎◌}
-use Rattle.std.proofs.Common.{inl, inr, Bor}
-use Rattle.json.specs.Reads.{token_of}
+use Rattle.chip_json.proofs.Names.{◌≡◌, ℕ, zero, suc, ◌-◌, ◌<◌, List, [], ◌∷◌, length, Option, Some, None, option_map}
+use Rattle.chip_json.proofs.Names.{option_and_then, refl, ap, ◌∙◌, arith, Bool, Result, Ok, Err, ⊤, ◌⊎◌, inl, inr, Bor}
+use Rattle.chip_json.proofs.Names.{◌≤◌, token_of, Token, Parse, parse_map, after_end_array, read_key, items_step, items}
+use Rattle.chip_json.proofs.Names.{members, value, items_end, items_more, members_end, members_no_key, members_more}
+use Rattle.chip_json.proofs.Names.{value-begin_array, value-begin_object, value_is, Num, Data, null, boolean, number}
+use Rattle.chip_json.proofs.Names.{array, object, Items, no_items, item, Members, no_members, put, number_of, of_json}
+use Rattle.chip_json.proofs.Names.{of_items, of_members, converted, next_value, ItemsAre, MembersAre, Reads, ReadsItems}
+use Rattle.chip_json.proofs.Names.{ReadsMembers}
+use Rattle.serde_json.specs.Data.{string}
 use Rattle.json.specs.declared.token.Token as rust
 use Rattle.json.specs.declared.token.Token.TheVariants as token
-use Rattle.json.specs.Token.{Token}
 use Rattle.json.specs.Json as json
-use Rattle.json.specs.Json.{Parse, parse_map, after_end_array, read_key, items_step, items, members, value}
-use Rattle.json.proofs.Grammar.{items_end, items_more, members_end, members_no_key, members_more, value-begin_array}
-use Rattle.json.proofs.Grammar.{value-begin_object, value_is}
-use Rattle.serde_json.specs.Data.{Num, Data, null, boolean, number, string, array, object, Items, no_items, item}
-use Rattle.serde_json.specs.Data.{Members, no_members, put}
-use Rattle.serde_json.specs.Read.{number_of, of_json, of_items, of_members, converted}
-use Rattle.chip_json.specs.Values.{next_value, ItemsAre, MembersAre, Reads, ReadsItems, ReadsMembers}
 
-abbrev pick : {A : Type 0} → A → Option A → A
+abbrev pub pick : {A : Type 0} → A → Option A → A
 pick d None = d
 pick d (Some a) = a
 
@@ -171,8 +167,8 @@ object_deep depth ts is = ap (λ k. next_value k (Token.begin_object ∷ ts)) is
 
 -- ---- at a token that opens nothing
 
-pub nothing_read : (depth : ℕ) → next_value depth [] ≡ None
-nothing_read depth = ap (converted of_json) (value_is depth [])
+pub nothing_read : (depth : ℕ) (ts : List Token) → ts ≡ [] → next_value depth ts ≡ None
+nothing_read depth ts e = ap (next_value depth) e ∙ ap (converted of_json) (value_is depth [])
 
 pub string_read : (depth : ℕ) (ts : List Token) (s : List ℕ) → next_value depth (Token.string s ∷ ts)
     ≡ Some (string s, ts)
@@ -193,18 +189,6 @@ pub number_refused : (depth : ℕ) (ts : List Token) (s : List ℕ) → None ≡
     → next_value depth (Token.number s ∷ ts) ≡ None
 number_refused depth ts s e = ap (converted of_json) (value_is depth (Token.number s ∷ ts)) ∙ rw (← e)
 
-pub end_object_read : (depth : ℕ) (ts : List Token) → next_value depth (Token.end_object ∷ ts) ≡ None
-end_object_read depth ts = ap (converted of_json) (value_is depth (Token.end_object ∷ ts))
-
-pub end_array_read : (depth : ℕ) (ts : List Token) → next_value depth (Token.end_array ∷ ts) ≡ None
-end_array_read depth ts = ap (converted of_json) (value_is depth (Token.end_array ∷ ts))
-
-pub key_read : (depth : ℕ) (ts : List Token) (s : List ℕ) → next_value depth (Token.key s ∷ ts) ≡ None
-key_read depth ts s = ap (converted of_json) (value_is depth (Token.key s ∷ ts))
-
-pub bad_read : (depth : ℕ) (ts : List Token) → next_value depth (Token.bad ∷ ts) ≡ None
-bad_read depth ts = ap (converted of_json) (value_is depth (Token.bad ∷ ts))
-
 -- ---- several turns
 
 mapped : {A B C : Type 0} (f : B → C) (g : A → B) (what : Option (A × List Token))
@@ -216,13 +200,30 @@ unmapped : {A : Type 0} (what : Option (A × List Token)) → what ≡ parse_map
 unmapped None = refl
 unmapped (Some p) = refl
 
-pub same_items : (depth : ℕ) (ts : List Token) (what : Option (Items × List Token)) → ItemsAre depth ts what
-    → ItemsAre depth ts (parse_map (λ a. a) what)
-same_items depth ts what e n enough = e n enough ∙ unmapped what
+-- some items were read, and come before those of the tokens that are left
+pub record AreBefore (depth : ℕ) (start ts : List Token) (before : Items → Items) : Type 0 where
+  pub read : (what : Option (Items × List Token)) → ItemsAre depth ts what
+      → ItemsAre depth start (parse_map before what)
+  pub shorter : length ts ≤ length start
 
-pub further : (depth : ℕ) (ts : List Token) (f g : Items → Items) (what : Option (Items × List Token))
-    → ItemsAre depth ts (parse_map f (parse_map g what)) → ItemsAre depth ts (parse_map (λ a. f (g a)) what)
-further depth ts f g what e n enough = e n enough ∙ mapped f g what
+pub none_before : (depth : ℕ) (ts : List Token) → AreBefore depth ts ts (λ ds. ds)
+none_before depth ts = record { read = λ what e n enough. e n enough ∙ unmapped what; shorter = omega arith }
+
+module _ {depth : ℕ} {start ts : List Token} {before : Items → Items} (known : AreBefore depth start ts before) where
+  pub one_more : {at r : List Token} {d : Data} → after_end_array ts ≡ None → at ≡ ts
+      → next_value depth at ≡ Some (d, r) → length r < length at → AreBefore depth start r (λ ds. before (item d ds))
+  one_more {r = r} {d = d} going is e less = record {
+    read = λ what later n enough. known.read _ (item_read depth ts r d going (rw (← is) e) (rw (← is) less) what later) n
+        enough ∙ mapped before (item d) what;
+    shorter = omega (arith, known.shorter, less, ap length is);
+  }
+
+  pub no_more : {at : List Token} → after_end_array ts ≡ None → at ≡ ts → next_value depth at ≡ None
+      → ItemsAre depth start None
+  no_more going is e = known.read None (item_refused depth ts going (rw (← is) e))
+
+  pub all_read : {r : List Token} → after_end_array ts ≡ Some r → ItemsAre depth start (Some (before no_items, r))
+  all_read {r = r} over = known.read _ (items_over depth ts r over)
 
 -- ---- a string, a truth value or null
 

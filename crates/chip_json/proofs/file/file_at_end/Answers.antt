@@ -1,4 +1,4 @@
-use Rattle.std.proofs.Common.{◌≡◌, [], inr, refl, rules}
+use Rattle.chip_json.proofs.Names.{◌≡◌, [], inr, refl, rules}
 use Rattle.chip_json.proofs.Standing.{shape_of}
 use Rattle.chip_json.proofs.Texts.{text_read}
 use Rattle.chip_json.proofs.file.file_at_end.Goals as goal

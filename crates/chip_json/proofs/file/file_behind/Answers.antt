@@ -1,7 +1,4 @@
-use Rattle.std.proofs.Common.{◌≡◌, None, arith}
-use Rattle.std.specs.Prelude.{codes}
-use Rattle.json.specs.Lex.{tokens}
-use Rattle.serde_json.specs.Data.{array, no_members, object, put}
+use Rattle.chip_json.proofs.Names.{◌≡◌, None, arith, codes, tokens, array, no_members, object, put}
 use Rattle.chip_json.proofs.Standing.{or_refused}
 use Rattle.chip_json.proofs.Texts.{text_refused}
 use Rattle.chip_json.proofs.file.file_behind.Goals as goal

@@ -1,4 +1,4 @@
-use Rattle.std.proofs.Common.{inr, inl, refl}
+use Rattle.chip_json.proofs.Names.{inr, inl, refl}
 use Rattle.chip_json.proofs.Texts.{no_utf8}
 use Rattle.chip_json.proofs.file.file_of_text.Goals as goal
 

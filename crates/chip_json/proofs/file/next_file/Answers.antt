@@ -1,9 +1,4 @@
-use Rattle.std.proofs.Common.{◌≡◌, [], ◌∷◌, None, ap, ◌∙◌, arith}
-use Rattle.json.specs.Reads.{token_of}
-use Rattle.json.specs.Token.{Token}
-use Rattle.serde_json.specs.Data.{object}
-use Rattle.serde_json.specs.Read.{max_depth}
-use Rattle.chip_json.specs.Values.{next_value}
+use Rattle.chip_json.proofs.Names.{◌≡◌, ◌∷◌, None, ap, ◌∙◌, arith, token_of, Token, object, max_depth, next_value}
 use Rattle.chip_json.proofs.Turns.{nothing_read, object_read}
 use Rattle.chip_json.proofs.Shapes.{not_object}
 use Rattle.chip_json.proofs.Standing.{or_refused, no_object_file}
@@ -11,24 +6,18 @@ use Rattle.chip_json.proofs.file.next_file.Goals as goal
 
 pub returns-in_err-token : goal.returns-in_err-token
 returns-in_err-token c =
-    let empty : c.args.reader.now ≡ [] = grind arith in
-    let none : next_value max_depth c.args.reader.now ≡ None = rw empty (nothing_read max_depth) in
-    grind (arith, none)
+    let none = nothing_read max_depth c.args.reader.now (grind arith) in grind (arith, none)
 
 pub returns-in_err-parts : goal.returns-in_err-parts
 returns-in_err-parts c =
-    let first : c.args.reader.now ≡ token_of c.in_ok-token.token ∷ c.next.new.self = grind arith in
-    let is : c.args.reader.now ≡ Token.begin_object ∷ c.next.new.self = first
-    ∙ ap (λ k. token_of k ∷ c.next.new.self) c.in-BeginObject.is in
+    let is : c.args.reader.now ≡ Token.begin_object ∷ c.next.new.self = grind arith in
     let stopped = or_refused (c.in_err-parts.ensures _ (c.new.ensures c.args.most)) (λ none. ap (next_value max_depth) is
     ∙ object_read max_depth c.next.new.self None (omega arith) none) in
     grind (arith, stopped)
 
 pub returns-in-BeginObject : goal.returns-in-BeginObject
 returns-in-BeginObject c =
-    let first : c.args.reader.now ≡ token_of c.in_ok-token.token ∷ c.next.new.self = grind arith in
-    let is : c.args.reader.now ≡ Token.begin_object ∷ c.next.new.self = first
-    ∙ ap (λ k. token_of k ∷ c.next.new.self) c.in-BeginObject.is in
+    let is : c.args.reader.now ≡ Token.begin_object ∷ c.next.new.self = grind arith in
     let read = c.in_ok-parts.ensures _ (c.new.ensures c.args.most) in (
       object read.0,
       ap (next_value max_depth) is ∙ object_read max_depth c.next.new.self _ (omega arith) read.1,

@@ -1,7 +1,4 @@
-use Rattle.std.proofs.Common.{◌≡◌, Some, None, arith}
-use Rattle.json.specs.Json.{read_key}
-use Rattle.json.proofs.Grammar.{read_key-shorter}
-use Rattle.serde_json.specs.Data.{put}
+use Rattle.chip_json.proofs.Names.{◌≡◌, Some, None, arith, read_key, read_key-shorter, put}
 use Rattle.chip_json.proofs.Turns.{members_over, key_refused, member_read, member_refused}
 use Rattle.chip_json.proofs.Standing.{or_refused}
 use Rattle.chip_json.proofs.file.parts_of.Goals as goal

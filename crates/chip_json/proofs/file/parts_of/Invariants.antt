@@ -1,8 +1,4 @@
-use Rattle.std.proofs.Common.{length, List, Option}
-use Rattle.json.specs.Token.{Token}
-use Rattle.serde_json.specs.Data.{Members}
-use Rattle.chip_json.specs.Values.{MembersAre}
-use Rattle.chip_json.specs.Parts.{Stands}
+use Rattle.chip_json.proofs.Names.{length, List, Option, Token, Members, MembersAre, Stands}
 use Rattle.chip_json.proofs.file.parts_of.Given as goal
 
 abbrev pub invariant-members : goal.invariant-members

@@ -1,4 +1,4 @@
-use Rattle.std.proofs.Common.{arith}
+use Rattle.chip_json.proofs.Names.{arith}
 use Rattle.chip_json.proofs.Digits.{integer_read}
 use Rattle.chip_json.proofs.number.integer.Goals as goal
 

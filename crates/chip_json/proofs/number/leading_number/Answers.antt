@@ -1,5 +1,4 @@
-use Rattle.std.proofs.Common.{get_or, arith}
-use Rattle.std.proofs.lemmas.Int.Digits.{digits_value_more, digits_more}
+use Rattle.chip_json.proofs.Names.{get_or, arith, digits_value_more, digits_more}
 use Rattle.chip_json.proofs.Digits.{value_fits, digit_is}
 use Rattle.chip_json.proofs.number.leading_number.Goals as goal
 

@@ -1,5 +1,4 @@
-use Rattle.std.proofs.Common.{◌-◌, ◌≡◌, ◌≤◌, length, take}
-use Rattle.std.specs.Str.Parse.{AllDigits, digits_value}
+use Rattle.chip_json.proofs.Names.{◌-◌, ◌≡◌, ◌≤◌, length, take, AllDigits, digits_value}
 use Rattle.chip_json.proofs.number.leading_number.Given as goal
 
 abbrev pub invariant-loop-count : goal.invariant-loop-count

@@ -1,6 +1,6 @@
-use Rattle.std.proofs.Common.{◌≡◌, drop, get_or, true, false, ◌==◌, sym, ap, ◌∙◌, arith, take_all, length-drop}
-use Rattle.fast_float.specs.Text.{scan}
-use Rattle.serde_json.specs.Read.{number_of, number_from}
+use Rattle.chip_json.proofs.Names.{◌≡◌, drop, get_or, true, false, ◌==◌, sym, ap, ◌∙◌, arith, length-drop, scan}
+use Rattle.chip_json.proofs.Names.{number_of, number_from}
+use Rattle.std.proofs.Common.{take_all}
 use Rattle.chip_json.proofs.number.read_numeral.Goals as goal
 
 pub returns-then-has_minus : goal.returns-then-has_minus

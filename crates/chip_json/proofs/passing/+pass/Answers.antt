@@ -1,53 +1,36 @@
-use Rattle.std.proofs.Common.{◌≡◌, ◌<◌, [], ◌∷◌, length, Some, None, ap, arith}
-use Rattle.json.specs.Json.{after_end_array, read_key, value}
-use Rattle.json.specs.Reads.{token_of}
-use Rattle.json.proofs.Grammar.{read_key-shorter, value_is}
-use Rattle.serde_json.specs.Data.{item, put, number}
-use Rattle.serde_json.specs.Read.{of_json, converted}
-use Rattle.serde_json.specs.View.{number_view}
-use Rattle.chip_json.specs.Values.{next_value}
-use Rattle.chip_json.proofs.Turns.{items_over, item_read, item_refused, members_over, key_refused, member_read}
-use Rattle.chip_json.proofs.Turns.{member_refused, array_passed, object_passed, array_deep, object_deep, nothing_read}
-use Rattle.chip_json.proofs.Turns.{number_read, number_refused}
-use Rattle.chip_json.proofs.Turns.{same_items, further, leaf_read}
+use Rattle.chip_json.proofs.Names.{◌≡◌, ◌∷◌, Some, None, ap, arith, after_end_array, read_key, value, token_of}
+use Rattle.chip_json.proofs.Names.{read_key-shorter, value_is, put, number, of_json, converted, number_view}
+use Rattle.chip_json.proofs.Turns.{members_over, key_refused, member_read, member_refused, array_passed, object_passed}
+use Rattle.chip_json.proofs.Turns.{array_deep, object_deep, nothing_read, number_read, number_refused, leaf_read}
+use Rattle.chip_json.proofs.Turns.{none_before, one_more, no_more, all_read}
 use Rattle.chip_json.proofs.passing.+pass.Goals as goal
 
 pub pass-returns-in_err-token-clause-value : goal.pass-returns-in_err-token-clause-value
 pass-returns-in_err-token-clause-value t c =
-    let empty : c.args.reader.now ≡ [] = grind arith in
-    let none : next_value c.args.depth c.args.reader.now ≡ None = rw empty (nothing_read c.args.depth) in
-    grind (arith, none)
+    let none = nothing_read c.args.depth c.args.reader.now (grind arith) in grind (arith, none)
 
 pub pass_items-items-init : goal.pass_items-items-init
-pass_items-items-init t c = ((λ ds. ds), same_items c.args.depth c.args.reader.now, omega arith)
+pass_items-items-init t c = (_, none_before c.args.depth c.args.reader.now)
 
 pub pass_items-items-preserved : goal.pass_items-items-preserved
 pass_items-items-preserved t c =
     let l = c.items in
     let going : (after_end_array l.reader ≡ None) × (c.take_end_array.new.self ≡ l.reader) = grind arith in
     let done = c.in_ok-pass.ensures in
-    let r = c.pass.new.reader in
-    let less : length r < length l.reader = rw (← going.1) done.shorter in
-    let read : next_value c.args.depth l.reader ≡ Some (done.value.0, r) = rw (← going.1) done.value.1 in (
-      (λ ds. l.invariant.0 (item done.value.0 ds)),
-      (λ what later. further c.args.depth c.args.reader.now l.invariant.0 (item done.value.0) what
-          (l.invariant.1 _ (item_read c.args.depth l.reader r done.value.0 going.0 read less what later))),
-      omega (arith, l.invariant.2),
-    )
+    (_, one_more l.invariant.1 going.0 going.1 done.value.1 done.shorter)
 
 pub pass_items-returns-in_err-pass-clause-value : goal.pass_items-returns-in_err-pass-clause-value
 pass_items-returns-in_err-pass-clause-value t c =
     let l = c.items in
     let going : (after_end_array l.reader ≡ None) × (c.take_end_array.new.self ≡ l.reader) = grind arith in
-    let none = l.invariant.1 None (item_refused c.args.depth l.reader going.0
-    (rw (← going.1) c.in_err-pass.ensures.value)) in
+    let none = no_more l.invariant.1 going.0 going.1 c.in_err-pass.ensures.value in
     grind (arith, none)
 
 pub pass_items-returns-clause-value : goal.pass_items-returns-clause-value
 pass_items-returns-clause-value t c =
     let l = c.items in
     let over : after_end_array l.reader ≡ Some c.take_end_array.new.self = grind arith in
-    (_, l.invariant.1 _ (items_over c.args.depth l.reader c.take_end_array.new.self over), tt)
+    (_, all_read l.invariant.1 over, tt)
 
 pub pass_members-members-init : goal.pass_members-members-init
 pass_members-members-init t c = (_, (λ what e. e), omega arith)

@@ -1,8 +1,5 @@
-use Rattle.std.proofs.Common.{◌+◌, ◌*◌, ◌≤◌, length, List, Option}
-use Rattle.json.specs.Token.{Token}
-use Rattle.json.specs.Json.{parse_map}
-use Rattle.serde_json.specs.Data.{Items, Members, no_members}
-use Rattle.chip_json.specs.Values.{ItemsAre, MembersAre}
+use Rattle.chip_json.proofs.Names.{◌+◌, ◌*◌, ◌≤◌, length, List, Option, Token, Items, Members, no_members, MembersAre}
+use Rattle.chip_json.proofs.Turns.{AreBefore}
 use Rattle.chip_json.proofs.passing.+pass.Given as goal
 
 abbrev pub decreases-pass : goal.decreases-pass
@@ -20,9 +17,7 @@ decreases-pass_rest l = 3 * l.depth
 abbrev pub invariant-pass_items-items : goal.invariant-pass_items-items
 invariant-pass_items-items l =
     (before : Items → Items)
-    × ((what : Option (Items × List Token)) → ItemsAre l.depth l.reader what
-    → ItemsAre l.depth l.initial.reader (parse_map before what))
-    × (length l.reader ≤ length l.initial.reader)
+    × AreBefore l.depth l.initial.reader l.reader before
 
 abbrev pub decreases-pass_items-items : goal.decreases-pass_items-items
 decreases-pass_items-items l = length l.reader

@@ -1,8 +1,5 @@
-use Rattle.std.proofs.Common.{ℕ, List, ◌∷◌, Option, Some, None, ap, ◌∙◌}
-use Rattle.std.specs.Prelude.{codes, IfSome}
-use Rattle.json.specs.Token.{begin_object, string}
-use Rattle.json.specs.Lex.{token, colon}
-use Rattle.chip_json.specs.Plain.{IsBehind, IsBehindName, BeginsEdges}
+use Rattle.chip_json.proofs.Names.{ℕ, List, ◌∷◌, Option, Some, None, ap, ◌∙◌, codes, IfSome, begin_object, string}
+use Rattle.chip_json.proofs.Names.{token, colon, IsBehind, IsBehindName, BeginsEdges}
 use Rattle.chip_json.proofs.plain.edges_start.Goals as goal
 
 started : (text : List ℕ) (brace_end name : ℕ) (start : Option ℕ) → IsBehind text 0 123 brace_end → IsBehindName text brace_end name

@@ -1,6 +1,5 @@
-use Rattle.std.proofs.Common.{◌+◌, ◌∷◌, sym, ap, ◌∙◌, arith, drop, refl}
-use Rattle.std.proofs.lemmas.List.{drop_more}
-use Rattle.json.specs.Lex.{punctuate, after_value, after_comma}
+use Rattle.chip_json.proofs.Names.{◌+◌, ◌∷◌, sym, ap, ◌∙◌, arith, drop, refl, drop_more, punctuate, after_value}
+use Rattle.chip_json.proofs.Names.{after_comma}
 use Rattle.chip_json.proofs.Lexemes.{operator_at}
 use Rattle.chip_json.proofs.Plainly.{quote_goes_on, brace_goes_on, after_comma_read}
 use Rattle.chip_json.proofs.plain.next_member.Goals as goal

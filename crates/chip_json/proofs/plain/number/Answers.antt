@@ -1,8 +1,8 @@
-use Rattle.std.proofs.Common.{◌≡◌, ◌≢◌, ◌-◌, ◌<◌, length, take, drop, get_or, arith, length-drop}
-use Rattle.std.proofs.lemmas.List.{take_all}
+use Rattle.chip_json.proofs.Names.{◌≡◌, ◌≢◌, ◌-◌, ◌<◌, length, take, drop, get_or, arith, length-drop, take_all}
 use Rattle.chip_json.proofs.Lexemes.{number_at}
 use Rattle.chip_json.proofs.plain.number.Goals as goal
-use Rattle.chip_json.proofs.plain.number.Goals.{else-count-gt1-via-then-count-gt1+else-rest-eq48, else-count-gt1-via-else-count-gt1}
+use Rattle.chip_json.proofs.plain.number.Goals.{else-count-gt1-via-then-count-gt1+else-rest-eq48}
+use Rattle.chip_json.proofs.plain.number.Goals.{else-count-gt1-via-else-count-gt1}
 
 pub returns : goal.returns
 returns c =

@@ -1,10 +1,6 @@
-use Rattle.std.proofs.Common.{◌≡◌, ◌≤◌, ◌-◌, length, List, Option, true}
-use Rattle.json.specs.Token.{Token}
-use Rattle.json.specs.Json.{parse_map}
-use Rattle.json.specs.Lex.{Place, may_begin, fresh, punctuate}
-use Rattle.serde_json.specs.Data.{Items}
-use Rattle.chip_json.specs.Values.{ItemsAre}
-use Rattle.chip_json.specs.Plain.{lexemes_at, rows_depth}
+use Rattle.chip_json.proofs.Names.{◌≡◌, ◌≤◌, ◌-◌, length, true, Place, may_begin, fresh, punctuate, Items, lexemes_at}
+use Rattle.chip_json.proofs.Names.{rows_depth}
+use Rattle.chip_json.proofs.Turns.{AreBefore}
 use Rattle.chip_json.proofs.Rowed.{RowsBefore}
 use Rattle.chip_json.proofs.plain.rows.Given as goal
 
@@ -13,9 +9,7 @@ invariant-rows l =
     (before : Items → Items)
     × (place : Place)
     × (may_begin place ≡ true)
-    × ((what : Option (Items × List Token)) → ItemsAre rows_depth (punctuate place (lexemes_at l.text l.at)) what
-    → ItemsAre rows_depth (punctuate fresh (lexemes_at l.text l.from)) (parse_map before what))
-    × (length (punctuate place (lexemes_at l.text l.at)) ≤ length (punctuate fresh (lexemes_at l.text l.from)))
+    × AreBefore rows_depth (punctuate fresh (lexemes_at l.text l.from)) (punctuate place (lexemes_at l.text l.at)) before
     × (l.from ≤ l.at)
     × (l.at ≤ length l.text)
     × RowsBefore l.most true before l.edges.items

@@ -1,4 +1,4 @@
-use Rattle.std.proofs.Common.{◌∙◌, arith, sym}
+use Rattle.chip_json.proofs.Names.{◌∙◌, arith, sym}
 use Rattle.chip_json.proofs.Lexemes.{operator_at}
 use Rattle.chip_json.proofs.plain.skip.Goals as goal
 

@@ -1,4 +1,4 @@
-use Rattle.std.proofs.Common.{◌∙◌, arith, sym}
+use Rattle.chip_json.proofs.Names.{◌∙◌, arith, sym}
 use Rattle.chip_json.proofs.Lexemes.{blank_skipped}
 use Rattle.chip_json.proofs.plain.skip_blanks.Goals as goal
 

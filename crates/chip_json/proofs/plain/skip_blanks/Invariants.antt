@@ -1,5 +1,4 @@
-use Rattle.std.proofs.Common.{length, ◌-◌, ◌≡◌, ◌≤◌}
-use Rattle.chip_json.specs.Plain.{lexemes_at}
+use Rattle.chip_json.proofs.Names.{length, ◌-◌, ◌≡◌, ◌≤◌, lexemes_at}
 use Rattle.chip_json.proofs.plain.skip_blanks.Given as goal
 
 abbrev pub invariant-loop-at : goal.invariant-loop-at

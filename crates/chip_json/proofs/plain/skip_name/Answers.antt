@@ -1,5 +1,4 @@
-use Rattle.std.proofs.Common.{length-drop, arith}
-use Rattle.std.proofs.lemmas.List.{take_all}
+use Rattle.chip_json.proofs.Names.{length-drop, arith, take_all}
 use Rattle.chip_json.proofs.Plainly.{name_read}
 use Rattle.chip_json.proofs.plain.skip_name.Goals as goal
 

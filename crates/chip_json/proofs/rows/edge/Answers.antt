@@ -1,31 +1,20 @@
-use Rattle.std.proofs.Common.{◌≡◌, [], ◌∷◌, None, ap, ◌∙◌, arith}
-use Rattle.std.specs.Prelude.{option_and_then}
-use Rattle.json.specs.Reads.{token_of}
-use Rattle.json.specs.Token.{Token}
-use Rattle.chip_json.specs.GraphFile.{numbers_of, edge_of_numbers}
-use Rattle.chip_json.specs.Values.{next_value}
+use Rattle.chip_json.proofs.Names.{◌≡◌, ◌∷◌, ap, arith, option_and_then, token_of, Token, numbers_of, edge_of_numbers}
 use Rattle.chip_json.proofs.Turns.{nothing_read, array_deep, array_mapped}
 use Rattle.chip_json.proofs.Shapes.{not_array}
 use Rattle.chip_json.proofs.rows.edge.Goals as goal
 
 pub returns-in_err-token-clause-value : goal.returns-in_err-token-clause-value
 returns-in_err-token-clause-value c =
-    let empty : c.args.reader.now ≡ [] = grind arith in
-    let none : next_value c.args.depth c.args.reader.now ≡ None = rw empty (nothing_read c.args.depth) in
-    grind (arith, none)
+    let none = nothing_read c.args.depth c.args.reader.now (grind arith) in grind (arith, none)
 
 pub returns-then-depth-eq0-clause-value : goal.returns-then-depth-eq0-clause-value
 returns-then-depth-eq0-clause-value c =
-    let first : c.args.reader.now ≡ token_of c.in_ok-token.token ∷ c.next.new.self = grind arith in
-    let is : c.args.reader.now ≡ Token.begin_array ∷ c.next.new.self = first
-    ∙ ap (λ k. token_of k ∷ c.next.new.self) c.in-BeginArray.is in
+    let is : c.args.reader.now ≡ Token.begin_array ∷ c.next.new.self = grind arith in
     rw is (array_deep c.args.depth c.next.new.self (omega arith))
 
 pub returns-in-BeginArray-clause-value : goal.returns-in-BeginArray-clause-value
 returns-in-BeginArray-clause-value c =
-    let first : c.args.reader.now ≡ token_of c.in_ok-token.token ∷ c.next.new.self = grind arith in
-    let is : c.args.reader.now ≡ Token.begin_array ∷ c.next.new.self = first
-    ∙ ap (λ k. token_of k ∷ c.next.new.self) c.in-BeginArray.is in
+    let is : c.args.reader.now ≡ Token.begin_array ∷ c.next.new.self = grind arith in
     array_mapped c.args.depth c.next.new.self c.args.reader.now _ _ _ (λ ds edge e. e) _ is
     (omega arith) c.row_of.ensures.value
 

@@ -1,7 +1,4 @@
-use Rattle.std.proofs.Common.{◌≡◌, [], ◌∷◌, None, ap, ◌∙◌, arith, inr, refl}
-use Rattle.json.specs.Reads.{token_of}
-use Rattle.json.specs.Token.{Token}
-use Rattle.chip_json.specs.Values.{next_value}
+use Rattle.chip_json.proofs.Names.{◌≡◌, ◌∷◌, arith, inr, refl, token_of, Token}
 use Rattle.chip_json.proofs.Turns.{nothing_read, array_deep}
 use Rattle.chip_json.proofs.Rowed.{rows_mapped, no_array_rows}
 use Rattle.chip_json.proofs.Shapes.{not_array}
@@ -9,22 +6,16 @@ use Rattle.chip_json.proofs.rows.edges.Goals as goal
 
 pub returns-in_err-token-clause-value : goal.returns-in_err-token-clause-value
 returns-in_err-token-clause-value c =
-    let empty : c.args.reader.now ≡ [] = grind arith in
-    let none : next_value c.args.depth c.args.reader.now ≡ None = rw empty (nothing_read c.args.depth) in
-    grind (arith, none)
+    let none = nothing_read c.args.depth c.args.reader.now (grind arith) in grind (arith, none)
 
 pub returns-then-depth-eq0-clause-value : goal.returns-then-depth-eq0-clause-value
 returns-then-depth-eq0-clause-value c =
-    let first : c.args.reader.now ≡ token_of c.in_ok-token.token ∷ c.next.new.self = grind arith in
-    let is : c.args.reader.now ≡ Token.begin_array ∷ c.next.new.self = first
-    ∙ ap (λ k. token_of k ∷ c.next.new.self) c.in-BeginArray.is in
+    let is : c.args.reader.now ≡ Token.begin_array ∷ c.next.new.self = grind arith in
     inr (refl, rw is (array_deep c.args.depth c.next.new.self (omega arith)))
 
 pub returns-in-BeginArray-clause-value : goal.returns-in-BeginArray-clause-value
 returns-in-BeginArray-clause-value c =
-    let first : c.args.reader.now ≡ token_of c.in_ok-token.token ∷ c.next.new.self = grind arith in
-    let is : c.args.reader.now ≡ Token.begin_array ∷ c.next.new.self = first
-    ∙ ap (λ k. token_of k ∷ c.next.new.self) c.in-BeginArray.is in
+    let is : c.args.reader.now ≡ Token.begin_array ∷ c.next.new.self = grind arith in
     rows_mapped c.args.most c.args.depth c.next.new.self c.args.reader.now _ _ is (omega arith) c.rows.ensures.value
 
 pub returns : goal.returns

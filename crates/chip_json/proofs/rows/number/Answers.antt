@@ -1,26 +1,16 @@
-use Rattle.std.proofs.Common.{◌≡◌, [], ◌∷◌, None, refl, ap, ◌∙◌, sym, arith}
-use Rattle.std.specs.Prelude.{option_and_then}
-use Rattle.json.specs.Reads.{token_of}
-use Rattle.json.specs.Token.{Token}
-use Rattle.serde_json.specs.Data.{number, unsigned}
-use Rattle.serde_json.specs.Find.{as_u64}
-use Rattle.serde_json.specs.View.{number_view}
-use Rattle.chip_json.specs.Values.{next_value}
+use Rattle.chip_json.proofs.Names.{◌≡◌, ◌∷◌, refl, ap, sym, arith, option_and_then, token_of, Token, number, unsigned}
+use Rattle.chip_json.proofs.Names.{as_u64, number_view}
 use Rattle.chip_json.proofs.Turns.{nothing_read, number_read, number_refused}
 use Rattle.chip_json.proofs.Shapes.{not_number}
 use Rattle.chip_json.proofs.rows.number.Goals as goal
 
 pub returns-in_err-token-clause-value : goal.returns-in_err-token-clause-value
 returns-in_err-token-clause-value c =
-    let empty : c.args.reader.now ≡ [] = grind arith in
-    let none : next_value c.args.depth c.args.reader.now ≡ None = rw empty (nothing_read c.args.depth) in
-    grind (arith, none)
+    let none = nothing_read c.args.depth c.args.reader.now (grind arith) in grind (arith, none)
 
 pub returns-in-Some-clause-value : goal.returns-in-Some-clause-value
 returns-in-Some-clause-value c =
-    let first : c.args.reader.now ≡ token_of c.in_ok-token.token ∷ c.next.new.self = grind arith in
-    let is : c.args.reader.now ≡ Token.number c.in-Number.text.now ∷ c.next.new.self = first
-    ∙ ap (λ k. token_of k ∷ c.next.new.self) c.in-Number.is in (
+    let is : c.args.reader.now ≡ Token.number c.in-Number.text.now ∷ c.next.new.self = grind arith in (
       number (unsigned c.in-Some.count),
       rw is (number_read c.args.depth c.next.new.self _ _ (sym c.in-Some.ensures)),
       refl,
@@ -28,9 +18,7 @@ returns-in-Some-clause-value c =
 
 pub returns-in-Some-read_numeral-clause-value : goal.returns-in-Some-read_numeral-clause-value
 returns-in-Some-read_numeral-clause-value c =
-    let first : c.args.reader.now ≡ token_of c.in_ok-token.token ∷ c.next.new.self = grind arith in
-    let is : c.args.reader.now ≡ Token.number c.in-Number.text.now ∷ c.next.new.self = first
-    ∙ ap (λ k. token_of k ∷ c.next.new.self) c.in-Number.is in (
+    let is : c.args.reader.now ≡ Token.number c.in-Number.text.now ∷ c.next.new.self = grind arith in (
       number (number_view c.in-Some-read_numeral.number),
       rw is (number_read c.args.depth c.next.new.self _ _ c.in-Some-read_numeral.ensures),
       sym c.as_u64.ensures,
@@ -38,9 +26,7 @@ returns-in-Some-read_numeral-clause-value c =
 
 pub returns-in-None-clause-value : goal.returns-in-None-clause-value
 returns-in-None-clause-value c =
-    let first : c.args.reader.now ≡ token_of c.in_ok-token.token ∷ c.next.new.self = grind arith in
-    let is : c.args.reader.now ≡ Token.number c.in-Number.text.now ∷ c.next.new.self = first
-    ∙ ap (λ k. token_of k ∷ c.next.new.self) c.in-Number.is in
+    let is : c.args.reader.now ≡ Token.number c.in-Number.text.now ∷ c.next.new.self = grind arith in
     rw is (number_refused c.args.depth c.next.new.self _ c.in-None.ensures)
 
 pub returns : goal.returns

@@ -1,4 +1,4 @@
-use Rattle.std.proofs.Common.{None, inl, refl}
+use Rattle.chip_json.proofs.Names.{None, inl, refl}
 use Rattle.chip_json.proofs.file.Parts.new.Goals as goal
 
 pub returns : goal.returns

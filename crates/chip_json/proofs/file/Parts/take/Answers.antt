@@ -1,4 +1,4 @@
-use Rattle.std.proofs.Common.{sym}
+use Rattle.chip_json.proofs.Names.{sym}
 use Rattle.chip_json.proofs.Standing.{take_version, take_vertices, take_sink, take_edges, take_other}
 use Rattle.chip_json.proofs.file.Parts.take.Goals as goal
 

@@ -1,6 +1,4 @@
-use Rattle.std.proofs.Common.{None, Some, inl, refl, false}
-use Rattle.std.specs.Prelude.{codes}
-use Rattle.serde_json.specs.Data.{no_members}
+use Rattle.chip_json.proofs.Names.{None, Some, inl, refl, false, codes, no_members}
 use Rattle.chip_json.proofs.Standing.{take_edges}
 use Rattle.chip_json.proofs.file.Parts.with_edges.Goals as goal
 

@@ -1,13 +1,9 @@
 -- Serves ChipsText.antt.
 -- How the total of the numbers of a text decides whether they are chips.
-use Rattle.std.proofs.Common.{◌≡◌, ◌⊎◌, ℕ, Bool, List, Option, None, Some, refl, inl, inr, sum}
-use Rattle.std.specs.Prelude.{is_none, nat_le, if◌then◌else◌}
-use Rattle.chip_graph.specs.Limits.{max_total}
-use Rattle.chip_graph.specs.Faults.{first_of_faults, fault_unless}
-use Rattle.chip_file.specs.declared.fault.FileFault.{FileFault}
+use Rattle.chip_file.proofs.Names.{◌≡◌, ◌⊎◌, ℕ, Bool, List, Option, None, Some, refl, inl, inr, sum, is_none, nat_le}
+use Rattle.chip_file.proofs.Names.{if◌then◌else◌, max_total, first_of_faults, fault_unless, FileFault, chips_header}
+use Rattle.chip_file.proofs.Names.{chips_text_fault, numbers_text_fault}
 use Rattle.chip_file.specs.declared.fault.FileFault.TheVariants as fault
-use Rattle.chip_file.specs.ChipsText.{chips_header, chips_text_fault}
-use Rattle.chip_file.specs.VertexRows.{numbers_text_fault}
 
 -- a text with a fault of its rows has that fault, whatever the total is
 pub rows_fail : (vertices : ℕ) (text : List ℕ) (f : FileFault)

@@ -1,14 +1,9 @@
 -- Serves Rows.antt.
 -- A record compared with the fields of a header, one after another.
-use Rattle.std.proofs.Common.{◌≡◌, ℕ, ◌<◌, ◌≤◌, ◌+◌, Bool, true, false, List, [], length, map, drop, get_or, Option}
-use Rattle.std.proofs.Common.{None, Some, refl, sym, ◌∙◌, arith, Bor, add-one, drop-cons}
-use Rattle.std.specs.Prelude.{◌&&◌, not, bytes_eq, option_map}
-use Rattle.std.specs.Option.{option_eq}
-use Rattle.std.specs.Cmp.Lexicographic.{pointwise}
-use Rattle.std.proofs.lemmas.List.{drop_all, get_or-map, length-map}
-use Rattle.csv.specs.Records.{field_at}
-use Rattle.csv.proofs.RecordFacts.{field-get, field-there}
-use Rattle.chip_file.specs.Rows.{Row}
+use Rattle.chip_file.proofs.Names.{◌≡◌, ℕ, ◌<◌, ◌≤◌, ◌+◌, Bool, true, false, List, [], length, map, drop, get_or}
+use Rattle.chip_file.proofs.Names.{Option, None, Some, refl, sym, ◌∙◌, arith, Bor, add-one, drop-cons, ◌&&◌, not}
+use Rattle.chip_file.proofs.Names.{bytes_eq, option_map, option_eq, pointwise, drop_all, get_or-map, length-map}
+use Rattle.chip_file.proofs.Names.{field_at, field-get, field-there, Row}
 
 -- the fields that a header's references point to
 abbrev pub texts : List (Bor (List ℕ)) → Row

@@ -1,28 +1,15 @@
 -- Serves GraphText.antt.
 -- A text of more edges than a graph has is refused alike, whether all of them are kept or only the first.
-use Rattle.std.proofs.Common.{◌≡◌, ℕ, ◌<◌, ◌≤◌, ◌⊎◌, List, length, Option, Some, None}
-use Rattle.std.proofs.Common.{Ok, Err, refl, sym, ap, ◌∙◌, subst, arith, inl, inr}
-use Rattle.std.proofs.lemmas.Bool.{lt-leb}
-use Rattle.std.specs.Prelude.{option_and_then, Result, nat_lt, nat_le, ◌&&◌}
-use Rattle.std.specs.Result.{IsErrAnd}
-use Rattle.chip_graph.specs.declared.edge.Edge.{Edge}
-use Rattle.chip_graph.specs.declared.fault.GraphFault.{GraphFault}
-use Rattle.chip_graph.specs.declared.fault.GraphFault.TheVariants as graph_fault
-use Rattle.chip_graph.specs.Limits.{SizeLimits}
-use Rattle.chip_graph.specs.Multigraph.{Multigraph, IsGraphWithin}
-use Rattle.chip_graph.specs.Faults.{IsGraphFault, MakesGraph, first_of_faults, fault_unless, fault_of_edges}
-use Rattle.chip_graph.proofs.FaultLemmas.{rows_few}
-use Rattle.chip_json.specs.declared.fault.JsonFault.{JsonFault}
+use Rattle.chip_file.proofs.Names.{◌≡◌, ℕ, ◌<◌, ◌≤◌, ◌⊎◌, List, length, Option, Some, None, Ok, Err, refl, sym, ap, ◌∙◌}
+use Rattle.chip_file.proofs.Names.{subst, arith, inl, inr, lt-leb, option_and_then, Result, nat_lt, nat_le, ◌&&◌}
+use Rattle.chip_file.proofs.Names.{IsErrAnd, Edge, GraphFault, SizeLimits, Multigraph, IsGraphWithin, IsGraphFault}
+use Rattle.chip_file.proofs.Names.{MakesGraph, first_of_faults, fault_unless, fault_of_edges, rows_few, JsonFault}
+use Rattle.chip_file.proofs.Names.{GraphFile, file_of_value, Keeps, FileFault, Gives, of_graph_fault, of_json_fault}
+use Rattle.chip_file.proofs.Names.{file_of_text, graph_of_file, graph_of_text, IsKeptText, MeansGraph, IsGraphTextFault}
 use Rattle.chip_json.specs.declared.file.GraphFile.{GraphFile as Kept}
-use Rattle.chip_json.specs.GraphFile.{GraphFile, file_of_value}
-use Rattle.chip_json.specs.Rows.{Keeps}
 use Rattle.chip_json.specs.Parts.{KeepsGraph, KeepsFile, GivesFile}
-use Rattle.chip_file.specs.declared.fault.FileFault.{FileFault}
+use Rattle.chip_graph.specs.declared.fault.GraphFault.TheVariants as graph_fault
 use Rattle.chip_file.specs.declared.fault.FileFault.TheVariants as fault
-use Rattle.chip_file.specs.Answer.{Gives}
-use Rattle.chip_file.specs.GraphFaults.{of_graph_fault, of_json_fault}
-use Rattle.chip_file.specs.GraphText.{file_of_text, graph_of_file, graph_of_text, IsKeptText, MeansGraph}
-use Rattle.chip_file.specs.GraphText.{IsGraphTextFault}
 
 -- ---- a refusal
 
@@ -67,8 +54,7 @@ not_later : (one other : Option GraphFault) (f : GraphFault) (edges more : Optio
     → first_of_faults (first_of_faults one (first_of_faults other (Some f))) edges
     ≡ first_of_faults (first_of_faults one (first_of_faults other (Some f))) more
 not_later None None f edges more = refl
-not_later None (Some g) f edges more = refl
-not_later (Some g) other f edges more = refl
+not_later _ _ f edges more = refl
 
 -- where there are too many edges, none is looked at
 fault_of_many : (limits : SizeLimits) (v s : ℕ) (all kept : List Edge) (f : GraphFault) → limits.edges < length all

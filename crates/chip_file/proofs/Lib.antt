@@ -1,3 +1,4 @@
+mod Names
 mod NumberLemmas
 mod KeptLemmas
 mod VertexRowLemmas

@@ -1,43 +1,23 @@
 -- Serves LogText.antt, LogSoFar.antt.
 -- How one row after another gives a log, and what holds of it.
-use Rattle.std.proofs.Common.{◌≡◌, ◌≢◌, ℕ, zero, suc, ◌+◌, ◌*◌, ◌≤◌, ◌<◌, max, Bool, true, false, cond, List, [], ◌∷◌}
-use Rattle.std.proofs.Common.{◌++◌, length, map, Option, None, Some, refl, ap, sym, ◌∙◌, subst, arith, append-nil, append_assoc}
-use Rattle.std.specs.Prelude.{◌==◌, ◌&&◌, not, is_some, unwrap_or, slice_index_or, if◌then◌else◌}
-use Rattle.std.proofs.lemmas.Bool.{eqb-true}
-use Rattle.std.proofs.lemmas.List.{map_push, length-map}
-use Rattle.std.proofs.lemmas.List.Elements.{All-nil, All-cons}
-use Rattle.std.proofs.lemmas.Bool.Decides.{nat_tests}
-use Rattle.std.proofs.lemmas.Grind.{common_steps}
-use Rattle.csv.specs.declared.parser.Config.{Config}
-use Rattle.csv.specs.declared.parser.State.{State}
-use Rattle.csv.specs.declared.parser.State.TheVariants as st
-use Rattle.csv.specs.Machine.{Read, next_record}
-use Rattle.csv.specs.Reading.{records_from, records_next, strip_bom, is_bom, default_config}
-use Rattle.chip_graph.specs.Limits.{SizeLimits}
-use Rattle.chip_graph.specs.Faults.{first_of_faults, fault_unless}
-use Rattle.chip_log.specs.declared.past.Sizes.{Sizes}
-use Rattle.chip_log.specs.declared.row.LogRow.{LogRow}
-use Rattle.chip_log.specs.declared.row.Stream.{Stream}
-use Rattle.chip_log.specs.declared.row.Step.{Step}
-use Rattle.chip_log.specs.declared.row.Step.TheVariants.{Out, In, Passive, Active, Over}
-use Rattle.chip_log.specs.Log.{steps_of, same_stream, sends, gets, active_after, begins_active, is_active}
-use Rattle.chip_log.specs.Order.{AreSent, IsWellFormed, may_send}
-use Rattle.chip_log.specs.Past.{Fits, FitsRow}
-use Rattle.chip_log.proofs.CountLemmas.{steps_of-append, active_after-append, same_stream_is}
-use Rattle.chip_log.proofs.MetLemmas.{count_no}
-use Rattle.chip_file.specs.declared.fault.FileFault.{FileFault}
+use Rattle.chip_file.proofs.Names.{◌≡◌, ℕ, zero, suc, ◌+◌, ◌*◌, ◌≤◌, max, Bool, true, false, List, []}
+use Rattle.chip_file.proofs.Names.{◌∷◌, ◌++◌, length, map, Option, None, Some, refl, ap, sym, ◌∙◌, subst, arith}
+use Rattle.chip_file.proofs.Names.{append-nil, append_assoc, ◌==◌, ◌&&◌, not, is_some, unwrap_or, slice_index_or}
+use Rattle.chip_file.proofs.Names.{if◌then◌else◌, eqb-true, map_push, length-map, All-nil, All-cons, nat_tests}
+use Rattle.chip_file.proofs.Names.{common_steps, Config, State, Read, next_record, records_from, records_next}
+use Rattle.chip_file.proofs.Names.{strip_bom, is_bom, default_config, SizeLimits, first_of_faults, Sizes}
+use Rattle.chip_file.proofs.Names.{LogRow, Stream, Step, Out, In, Active, steps_of, sends}
+use Rattle.chip_file.proofs.Names.{gets, active_after, begins_active, AreSent, IsWellFormed, may_send, Fits}
+use Rattle.chip_file.proofs.Names.{FitsRow, steps_of-append, active_after-append, same_stream_is, count_no, FileFault}
+use Rattle.chip_file.proofs.Names.{Row, records_of, rows_under_header, Notes, end_number, activity, active_behind}
+use Rattle.chip_file.proofs.Names.{AreHolders, AreActive, IsPlaced, uses, MayMake, AreMade, IsSound, IsSoFar}
 use Rattle.chip_file.specs.declared.log.LogSoFar.{LogSoFar}
-use Rattle.chip_file.specs.Rows.{Row, records_of, rows_under_header}
 use Rattle.chip_file.specs.LogText.{channels_to, processes_of, channels_of, sizes_of, same_end, holder, may_hold}
 use Rattle.chip_file.specs.LogText.{may_begin, lone_row_fault, placed_fault, log_row_fault, log_row_in}
-use Rattle.chip_file.specs.LogSoFar.{Notes, end_number, activity, active_behind, AreHolders, AreActive, IsPlaced, uses}
-use Rattle.chip_file.specs.LogSoFar.{MayMake, AreMade, IsSound, IsSoFar}
+use Rattle.csv.specs.declared.parser.State.TheVariants as st
+use Rattle.chip_file.proofs.VertexRowLemmas.{push_by}
 
 -- ---- what a row without a fault does
-
-unless_none : (b : Bool) (f : FileFault) → fault_unless b f ≡ None → b ≡ true
-unless_none true f e = refl
-unless_none false f e = cc e
 
 pub first_none : (first later : Option FileFault) → first_of_faults first later ≡ None → (first ≡ None) × (later ≡ None)
 first_none None later e = (refl, e)
@@ -45,9 +25,7 @@ first_none (Some f) later e = cc e
 
 pub is_placed : (index : ℕ) (log : List LogRow) (x : LogRow) → placed_fault index log x ≡ None → IsPlaced log x
 is_placed index log x e =
-    let first = first_none _ _ e in
-    let rest = first_none _ _ first.1 in
-    record { holds = unless_none _ _ first.0; sends = unless_none _ _ rest.0; begins = unless_none _ _ rest.1 }
+    record { holds = grind (arith, common_steps); sends = grind (arith, common_steps); begins = grind (arith, common_steps) }
 
 -- ---- sizes
 
@@ -84,11 +62,6 @@ same_end_is (Out s) (Out t) e = ap Out (same_stream_is s t e)
 same_end_is (In s) (In t) e = ap In (same_stream_is s t e)
 same_end_is a b e = cc e
 
-push_by : (b : Bool) (p : ℕ) (a more last : Option ℕ) → more ≡ (if is_some a then a else last)
-    → (if b then Some p else more) ≡ (if is_some (if b then Some p else a) then (if b then Some p else a) else last)
-push_by true p a more last h = refl
-push_by false p a more last h = h
-
 pub holder-push : (step : Step) (log : List LogRow) (x : LogRow)
     → holder step (log ++ x ∷ []) ≡ (if is_some (holder step log) then holder step log
     else (if same_end step x.step then Some x.process else None))
@@ -99,21 +72,17 @@ holder-push step (y ∷ log) x = push_by (same_end step y.step) y.process (holde
 -- the numbers of two ends are equal if they are one
 same_number : (c d : ℕ) (a b : Bool)
     → (4 * d + (if b then 1 else 0) == 4 * c + (if a then 1 else 0)) ≡ (c == d && (if a then b else not b))
-same_number c d true b = grind (arith, nat_tests)
-same_number c d false b = grind (arith, nat_tests)
+same_number c d a b = grind (arith, nat_tests)
 
 same_number_in : (c d : ℕ) (a b : Bool)
     → (4 * d + (if b then 3 else 2) == 4 * c + (if a then 3 else 2)) ≡ (c == d && (if a then b else not b))
-same_number_in c d true b = grind (arith, nat_tests)
-same_number_in c d false b = grind (arith, nat_tests)
+same_number_in c d a b = grind (arith, nat_tests)
 
 other_number : (c d : ℕ) (a b : Bool) → (4 * d + (if b then 3 else 2) == 4 * c + (if a then 1 else 0)) ≡ false
-other_number c d true b = grind (arith, nat_tests)
-other_number c d false b = grind (arith, nat_tests)
+other_number c d a b = grind (arith, nat_tests)
 
 other_number_in : (c d : ℕ) (a b : Bool) → (4 * d + (if b then 1 else 0) == 4 * c + (if a then 3 else 2)) ≡ false
-other_number_in c d true b = grind (arith, nat_tests)
-other_number_in c d false b = grind (arith, nat_tests)
+other_number_in c d a b = grind (arith, nat_tests)
 
 number_is : (x y : ℕ) → Some x ≡ Some y → y ≡ x
 number_is x y e = cc e

@@ -1,30 +1,16 @@
 -- Serves LogLaws.antt.
 -- How the rows of a log without a fault are mixed again.
-use Rattle.std.proofs.Common.{◌≡◌, ◌≢◌, ℕ, ◌+◌, ◌≤◌, ◌<◌, Bool, true, false, List, [], ◌∷◌, ◌++◌, length, map, Option, None}
-use Rattle.std.proofs.Common.{Some, refl, ap, sym, ◌∙◌, subst, arith, append-nil, append_assoc, eq-eqb}
-use Rattle.std.specs.Prelude.{◌==◌, ◌&&◌, nat_lt, nat_le, is_some, if◌then◌else◌, All}
-use Rattle.std.specs.List.{filter}
-use Rattle.std.proofs.lemmas.Bool.{eqb-true, eqb-false}
-use Rattle.std.proofs.lemmas.List.{map_push, map-append}
-use Rattle.std.proofs.lemmas.List.Elements.{All-nil, All-cons, All-head, All-tail, All-same, All-filter}
-use Rattle.chip_graph.specs.Limits.{SizeLimits}
-use Rattle.chip_graph.specs.Faults.{first_of_faults, fault_unless}
-use Rattle.chip_log.specs.declared.row.LogRow.{LogRow}
-use Rattle.chip_log.specs.declared.row.Step.{Step}
-use Rattle.chip_log.specs.declared.row.Step.TheVariants.{Out, In}
-use Rattle.chip_log.specs.Log.{steps_of, active_after, begins_active, is_active}
-use Rattle.chip_log.specs.Order.{may_send}
-use Rattle.chip_log.proofs.CountLemmas.{steps_of-append}
-use Rattle.chip_log.proofs.MetLemmas.{count_yes, same_self}
-use Rattle.chip_file.specs.declared.fault.FileFault.{FileFault}
-use Rattle.chip_file.specs.declared.fault.FileFault.TheVariants as fault
-use Rattle.chip_file.specs.Kinds.{kind_at}
-use Rattle.chip_file.specs.Numbers.{number_at, number_in}
-use Rattle.chip_file.specs.Rows.{Row, first_row_fault}
-use Rattle.chip_file.specs.LogText.{same_end, holder, may_hold, may_begin, lone_row_fault, placed_fault, log_row_fault}
+use Rattle.chip_file.proofs.Names.{◌≡◌, ℕ, ◌<◌, Bool, true, false, List, [], ◌∷◌, ◌++◌, length, map}
+use Rattle.chip_file.proofs.Names.{Option, None, Some, refl, ap, sym, ◌∙◌, subst, arith, append-nil, append_assoc}
+use Rattle.chip_file.proofs.Names.{eq-eqb, ◌==◌, ◌&&◌, nat_lt, nat_le, is_some, if◌then◌else◌, All, filter, eqb-true}
+use Rattle.chip_file.proofs.Names.{eqb-false, map_push, map-append, All-nil, All-cons, All-head, All-tail, All-same}
+use Rattle.chip_file.proofs.Names.{All-filter, SizeLimits, first_of_faults, fault_unless, LogRow, Step, Out, In}
+use Rattle.chip_file.proofs.Names.{steps_of, steps_of-append}
+use Rattle.chip_file.proofs.Names.{count_yes, same_self, FileFault, kind_at, number_at, number_in, Row, first_row_fault}
+use Rattle.chip_file.proofs.Names.{IsPlaced, MayMake, AreMade, IsSound, uses, MixedLogs}
+use Rattle.chip_file.specs.LogText.{same_end, holder, may_hold, lone_row_fault, placed_fault, log_row_fault}
 use Rattle.chip_file.specs.LogText.{log_row_in, log_kinds, most_processes, most_channels, channels_to}
-use Rattle.chip_file.specs.LogSoFar.{IsPlaced, MayMake, AreMade, IsSound, uses}
-use Rattle.chip_file.specs.LogLaws.{AreMixed, MixedLogs}
+use Rattle.chip_file.specs.declared.fault.FileFault.TheVariants as fault
 use Rattle.chip_file.proofs.LogLemmas.{first_none, first_of, is_placed, no_holder, sound_none, sound_push, uses-append}
 
 -- ---- what is wrong with a row alone does not depend on its index
@@ -149,15 +135,8 @@ placed_at above later x whole =
       begins = may.1;
     }
 
-unless_of : (b : Bool) (f : FileFault) → b ≡ true → fault_unless b f ≡ None
-unless_of true f e = refl
-unless_of false f e = cc e
-
 placed_none : (index : ℕ) (log : List LogRow) (x : LogRow) → IsPlaced log x → placed_fault index log x ≡ None
-placed_none index log x placed =
-    first_of _ _ (unless_of (may_hold (holder x.step log) x.process) (fault.End index) placed.holds)
-    (first_of _ _ (unless_of (may_send (is_active log log x.process) x.step) (fault.Passive index) placed.sends)
-    (unless_of (may_begin (steps_of x.process log) x.step) (fault.Woken index) placed.begins))
+placed_none index log x placed = rw (placed.holds, placed.sends, placed.begins) refl
 
 back : (limits : SizeLimits) (before rows : List Row) → IsWhole (map log_row_in (before ++ rows))
     → All (IsLone limits) rows → first_row_fault (log_row_fault limits) before rows ≡ None

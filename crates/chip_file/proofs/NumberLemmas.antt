@@ -1,18 +1,10 @@
 -- Serves Numbers.antt.
 -- A field as a number.
-use Rattle.std.proofs.Common.{◌≡◌, ℕ, ◌+◌, ◌*◌, ◌<◌, ◌≤◌, ◌^◌, zero, suc, Bool, true, false, List, [], ◌∷◌, length, take}
-use Rattle.std.proofs.Common.{Option, None, Some, refl, ap, ◌∙◌, arith, get_or, inl, inr}
-use Rattle.std.specs.Prelude.{◌&&◌}
-use Rattle.std.specs.Char.{digit_value, is_ascii_digit}
-use Rattle.std.specs.Option.{SomeIff}
-use Rattle.std.specs.Str.{all_ascii_digits}
-use Rattle.std.specs.Str.Parse.{AllDigits, digits_value}
-use Rattle.std.proofs.Math.Nat.{pow-le-pow_right}
-use Rattle.std.proofs.lemmas.List.{take_all}
-use Rattle.std.proofs.lemmas.Int.Digits.{digits_more, digits_value-lt, digits_value_more}
-use Rattle.std.proofs.lemmas.Str.Parse.{IsNumeralModel, numerals_by_value, tells_all_ascii_digits}
-use Rattle.std.proofs.lemmas.Bool.Decides.{leb_tells, nat_tests}
-use Rattle.chip_file.specs.Numbers.{number_of}
+use Rattle.chip_file.proofs.Names.{◌≡◌, ℕ, ◌+◌, ◌*◌, ◌<◌, ◌≤◌, ◌^◌, zero, suc, Bool, true, false, List, [], ◌∷◌, length}
+use Rattle.chip_file.proofs.Names.{take, Option, None, Some, refl, ap, ◌∙◌, arith, get_or, inl, inr, ◌&&◌, digit_value}
+use Rattle.chip_file.proofs.Names.{is_ascii_digit, SomeIff, all_ascii_digits, AllDigits, digits_value, pow-le-pow_right}
+use Rattle.chip_file.proofs.Names.{take_all, digits_more, digits_value-lt, digits_value_more, IsNumeralModel}
+use Rattle.chip_file.proofs.Names.{numerals_by_value, tells_all_ascii_digits, leb_tells, nat_tests, number_of}
 
 decimal_numeral : IsNumeralModel (λ field. all_ascii_digits field ≡ true) (digits_value 10)
 decimal_numeral = numerals_by_value _ tells_all_ascii_digits

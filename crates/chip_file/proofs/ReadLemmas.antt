@@ -1,40 +1,22 @@
 -- Serves Answer.antt, Source.antt, GraphText.antt, ChipsText.antt, ScheduleText.antt, TraceText.antt,
 -- LogText.antt.
 -- What the reads of an input take of it; and that no text is at fault for its source.
-use Rattle.std.proofs.Common.{◌≡◌, ℕ, ◌⊎◌, Bool, true, false, List, [], ◌∷◌, ◌++◌, length, Option, None, Some, Result, Ok}
-use Rattle.std.proofs.Common.{Err, refl, sym, subst, inl, inr, ◌+◌, ◌≤◌, take, arith, length-append, map}
-use Rattle.std.proofs.KnownBytes.{Consumes-trans, Consumes-kept}
-use Rattle.std.proofs.lemmas.Grind.{common_steps}
-use Rattle.std.specs.Io.{ReadsAtMost}
-use Rattle.std.specs.Io.KnownBytes.{Consumes, ReadConsumes}
-use Rattle.std.specs.Prelude.{◌==◌, nat_le, nat_lt, ◌&&◌, is_some, sum, IfSome}
-use Rattle.std.specs.Global.{Vec}
-use Rattle.std.specs.Result.{IsErrAnd}
-use Rattle.chip_graph.specs.Limits.{SizeLimits, max_total}
-use Rattle.chip_graph.specs.Faults.{first_of_faults, fault_unless}
-use Rattle.chip_graph.specs.Multigraph.{Multigraph}
-use Rattle.chip_file.specs.declared.fault.FileFault.{FileFault}
-use Rattle.chip_file.specs.declared.fault.FileFault.TheVariants as fault
-use Rattle.chip_file.specs.declared.source.LastRead.{LastRead}
-use Rattle.chip_file.specs.declared.source.LastRead.TheVariants as last
-use Rattle.chip_file.specs.declared.source.Source.{Source}
-use Rattle.chip_file.specs.Answer.{Answers, Gives, IsOfMachine, ReadsWhole, TakesAtMost, max_chunk}
-use Rattle.chip_file.specs.Source.{ReadsSource, Tells, bytes_left, last_of_whole, last_read, reads}
-use Rattle.chip_file.specs.Rows.{Row, records_of, has_header, rows_under_header, first_row_fault, records_fault}
-use Rattle.chip_file.specs.Rows.{by_index}
-use Rattle.chip_file.specs.ChipsText.{chips_text_fault, chips_of_rows}
-use Rattle.chip_file.specs.VertexRows.{new_row_fault}
+use Rattle.chip_file.proofs.Names.{◌≡◌, ℕ, ◌⊎◌, Bool, true, false, List, [], ◌∷◌, ◌++◌, length, Option, None, Some}
+use Rattle.chip_file.proofs.Names.{Result, Ok, Err, refl, sym, subst, inl, inr, ◌+◌, ◌≤◌, take, arith, length-append}
+use Rattle.chip_file.proofs.Names.{map, Consumes-trans, Consumes-kept, common_steps, ReadsAtMost, Consumes}
+use Rattle.chip_file.proofs.Names.{ReadConsumes, ◌==◌, nat_le, nat_lt, ◌&&◌, is_some, sum, IfSome, Vec, IsErrAnd}
+use Rattle.chip_file.proofs.Names.{SizeLimits, max_total, first_of_faults, fault_unless, Multigraph, FileFault}
+use Rattle.chip_file.proofs.Names.{LastRead, Source, Answers, Gives, IsOfMachine, ReadsWhole, TakesAtMost, max_chunk}
+use Rattle.chip_file.proofs.Names.{ReadsSource, Tells, bytes_left, last_of_whole, last_read, reads, Row, records_of}
+use Rattle.chip_file.proofs.Names.{has_header, rows_under_header, first_row_fault, records_fault, by_index}
+use Rattle.chip_file.proofs.Names.{chips_text_fault, chips_of_rows, new_row_fault, IsGraphTextFault, kind_at, number_at}
+use Rattle.chip_file.proofs.Names.{number_in, trace_text_fault, trace_row_fault, LogRow}
 use Rattle.chip_file.specs.ScheduleText.{schedule_text_fault, event_fault, event_kinds, may_be_at}
-use Rattle.chip_file.specs.ScheduleText as schedule
-use Rattle.chip_file.specs.GraphText.{IsGraphTextFault}
-use Rattle.chip_file.specs.Kinds.{kind_at}
-use Rattle.chip_file.specs.Numbers.{number_at, number_in}
-use Rattle.chip_file.specs.TraceText.{trace_text_fault, trace_row_fault}
-use Rattle.chip_file.specs.LogText.{log_text_fault, log_row_fault, lone_row_fault, placed_fault, holder, may_hold, may_begin}
+use Rattle.chip_file.specs.LogText.{log_text_fault, log_row_fault, lone_row_fault, placed_fault}
 use Rattle.chip_file.specs.LogText.{log_row_in, log_kinds, most_processes, most_channels, channels_to}
-use Rattle.chip_log.specs.declared.row.LogRow.{LogRow}
-use Rattle.chip_log.specs.Log.{steps_of, is_active}
-use Rattle.chip_log.specs.Order.{may_send}
+use Rattle.chip_file.specs.declared.fault.FileFault.TheVariants as fault
+use Rattle.chip_file.specs.declared.source.LastRead.TheVariants as last
+use Rattle.chip_file.specs.ScheduleText as schedule
 
 -- a read into a buffer takes no more than the buffer has room for, above what was taken before it
 pub taken_more : {E : Type 0} (most : ℕ) (a b c : Option (List ℕ)) (done buf : List ℕ) (r : Result ℕ E)
@@ -121,10 +103,7 @@ lone_row_alone limits index row =
     && nat_le (channels_to (log_row_in row).step) (most_channels limits)) (fault.Vertex index) refl)))
 
 placed_alone : (index : ℕ) (log : List LogRow) (x : LogRow) → IsOfText (placed_fault index log x)
-placed_alone index log x =
-    first_of_text _ _ (unless_of_text (may_hold (holder x.step log) x.process) (fault.End index) refl)
-    (first_of_text _ _ (unless_of_text (may_send (is_active log log x.process) x.step) (fault.Passive index) refl)
-    (unless_of_text (may_begin (steps_of x.process log) x.step) (fault.Woken index) refl))
+placed_alone index log x f e = grind (arith, common_steps)
 
 log_row_alone : (limits : SizeLimits) (before : List Row) (row : Row) → IsOfText (log_row_fault limits before row)
 log_row_alone limits before row =

@@ -1,12 +1,10 @@
 -- Serves Rows.antt, Standing.antt.
 -- How visiting the rows under a header, one after another, gives the first fault of the records.
-use Rattle.std.proofs.Common.{◌≡◌, ℕ, ◌+◌, true, List, [], ◌∷◌, ◌++◌, length, refl, ap, sym, ◌∙◌, append_assoc}
-use Rattle.std.proofs.Common.{length-append, Option, None, Some, Result, Ok, Err}
-use Rattle.std.specs.Prelude.{IfOk, is_none, if◌then◌else◌}
+use Rattle.chip_file.proofs.Names.{◌≡◌, ℕ, ◌+◌, true, List, [], ◌∷◌, ◌++◌, length, refl, ap, sym, ◌∙◌, append_assoc}
+use Rattle.chip_file.proofs.Names.{length-append, Option, None, Some, Result, Ok, Err, IfOk, is_none, if◌then◌else◌}
+use Rattle.chip_file.proofs.Names.{FileFault, Gives, Row, RowFault, has_fields, rows_under_header, first_row_fault}
+use Rattle.chip_file.proofs.Names.{records_fault}
 use Rattle.std.proofs.lemmas.List.{append-nil}
-use Rattle.chip_file.specs.declared.fault.FileFault.{FileFault}
-use Rattle.chip_file.specs.Answer.{Gives}
-use Rattle.chip_file.specs.Rows.{Row, RowFault, has_fields, rows_under_header, first_row_fault, records_fault}
 
 -- of these rows some were visited, in which there is no fault, and `left` come next
 pub record HasRead {V : Type 0} (row_fault : RowFault) (HasVisited : List Row → V → Type 0) (first : V)

@@ -1,16 +1,12 @@
 -- Serves Standing.antt, Rows.antt.
 -- How reading one record after another gives the records of a text.
-use Rattle.std.proofs.Common.{◌≡◌, ◌⊎◌, ℕ, zero, suc, ◌<◌, ◌≤◌, ◌+◌, Bool, true, false, List, [], ◌∷◌, ◌++◌, length}
-use Rattle.std.proofs.Common.{Option, None, Some, refl, ap, sym, ◌∙◌, arith, add-one, inl, inr}
-use Rattle.std.specs.Prelude.{IsSome, unwrap_or, if◌then◌else◌}
-use Rattle.csv.specs.declared.parser.Config.{Config}
-use Rattle.csv.specs.declared.parser.State.{State}
-use Rattle.csv.specs.declared.parser.State.TheVariants as st
-use Rattle.csv.specs.Machine.{Read, next_record, step, is_end, ends_at_end, fields_after, field_after}
-use Rattle.csv.specs.Reading.{records_from, records_next, ReadsNext, NextIs, ReadRecord, default_config, took_first}
-use Rattle.csv.specs.Reading.{is_flexible}
-use Rattle.chip_file.specs.Rows.{Row}
+use Rattle.chip_file.proofs.Names.{◌≡◌, ◌⊎◌, ℕ, zero, suc, ◌<◌, ◌≤◌, ◌+◌, Bool, true, false, List, [], ◌∷◌, ◌++◌}
+use Rattle.chip_file.proofs.Names.{length, Option, None, Some, refl, ap, sym, ◌∙◌, arith, add-one, inl, inr, IsSome}
+use Rattle.chip_file.proofs.Names.{unwrap_or, if◌then◌else◌, Config, State, Read, next_record, step, is_end}
+use Rattle.chip_file.proofs.Names.{ends_at_end, fields_after, field_after, records_from, records_next, ReadsNext}
+use Rattle.chip_file.proofs.Names.{NextIs, ReadRecord, default_config, took_first, is_flexible, Row}
 use Rattle.chip_file.specs.Standing.{IsOpen, Records, TakesRow, rows_left, source}
+use Rattle.csv.specs.declared.parser.State.TheVariants as st
 
 -- ---- a record takes at least one byte, but for one that the end of a text ends
 

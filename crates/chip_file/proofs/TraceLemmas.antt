@@ -1,22 +1,11 @@
 -- Serves TraceText.antt, Rows.antt.
 -- How one row after another gives the recorded run of each vertex.
-use Rattle.std.proofs.Common.{◌≡◌, ℕ, ◌<◌, Bool, true, false, List, [], ◌∷◌, ◌++◌, length, map, get_or, set, None}
-use Rattle.std.proofs.Common.{refl, ap, arith, sym, ◌∙◌}
-use Rattle.std.specs.Prelude.{◌==◌, if◌then◌else◌}
-use Rattle.std.specs.Global.{Vec}
-use Rattle.std.specs.List.{filter}
-use Rattle.std.proofs.lemmas.List.{append-nil, map-append, length-map}
-use Rattle.std.proofs.lemmas.List.Elements.{filter-append}
-use Rattle.std.proofs.lemmas.Bool.{eqb-true}
-use Rattle.std.proofs.lemmas.Bool.Decides.{nat_tests}
-use Rattle.std.proofs.lemmas.Grind.{common_steps}
-use Rattle.chip_graph.specs.Multigraph.{Multigraph}
-use Rattle.chip_link.specs.declared.trace.TraceRow.{TraceRow}
-use Rattle.chip_file.specs.Numbers.{number_in}
-use Rattle.chip_file.specs.Rows.{Row}
+use Rattle.chip_file.proofs.Names.{◌≡◌, ℕ, ◌<◌, Bool, true, false, List, [], ◌∷◌, ◌++◌, length, map, get_or, set, None}
+use Rattle.chip_file.proofs.Names.{refl, ap, arith, sym, ◌∙◌, ◌==◌, if◌then◌else◌, Vec, filter, map-append, length-map}
+use Rattle.chip_file.proofs.Names.{filter-append, eqb-true, nat_tests, common_steps, Multigraph, TraceRow, number_in}
+use Rattle.chip_file.proofs.Names.{Row, trace_row_in, trace_row_fault, trace_in, IsByVertex}
+use Rattle.std.proofs.lemmas.List.{append-nil}
 use Rattle.chip_file.proofs.VertexRowLemmas.{by_vertex-set}
-use Rattle.chip_file.specs.TraceText.{trace_row_in, trace_row_fault, trace_in}
-use Rattle.chip_file.specs.VertexRows.{IsByVertex}
 
 -- a row with no fault names a vertex
 pub names_vertex : (G : Multigraph) (index : ℕ) (row : Row) → trace_row_fault G index row ≡ None

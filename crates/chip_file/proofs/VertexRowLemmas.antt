@@ -1,18 +1,11 @@
 -- Serves VertexRows.antt, Rows.antt.
 -- How visiting one row after another gives a list by vertices, and so the numbers of a text.
-use Rattle.std.proofs.Common.{◌≡◌, ℕ, ◌<◌, Bool, true, false, List, [], ◌∷◌, ◌++◌, length, map, get_or, set}
-use Rattle.std.proofs.Common.{Option, None, Some, refl, ap, arith, sym, ◌∙◌, get_or-set_same, get_or-set_other, replicate}
-use Rattle.std.specs.Prelude.{is_some, unwrap_or, ◌==◌, if◌then◌else◌}
-use Rattle.std.specs.List.{range_with_len}
-use Rattle.std.proofs.lemmas.List.{get_or-replicate, get_or_read_under, length-replicate, length-set}
-use Rattle.std.proofs.lemmas.Bool.{eqb-true, eqb-false}
-use Rattle.std.proofs.lemmas.List.FromFn.{fill_by_all}
-use Rattle.std.proofs.lemmas.Simd.{map-map}
-use Rattle.chip_file.specs.VertexRows.{vertex_row_fault, new_row_fault, number_named, vertex_in, given_in}
-use Rattle.chip_file.specs.VertexRows.{numbers_of_rows, IsByVertex}
-use Rattle.std.proofs.lemmas.Bool.Decides.{nat_tests}
-use Rattle.std.proofs.lemmas.Grind.{common_steps}
-use Rattle.chip_file.specs.Rows.{Row}
+use Rattle.chip_file.proofs.Names.{◌≡◌, ℕ, ◌<◌, Bool, true, false, List, [], ◌∷◌, ◌++◌, length, map, get_or, set}
+use Rattle.chip_file.proofs.Names.{Option, None, Some, refl, ap, arith, sym, ◌∙◌, get_or-set_same, get_or-set_other}
+use Rattle.chip_file.proofs.Names.{replicate, is_some, unwrap_or, ◌==◌, if◌then◌else◌, range_with_len, get_or-replicate}
+use Rattle.chip_file.proofs.Names.{get_or_read_under, length-replicate, length-set, eqb-true, eqb-false, fill_by_all}
+use Rattle.chip_file.proofs.Names.{map-map, vertex_row_fault, new_row_fault, number_named, vertex_in, given_in}
+use Rattle.chip_file.proofs.Names.{numbers_of_rows, IsByVertex, nat_tests, common_steps, Row}
 
 -- ---- lists by vertices
 
@@ -50,7 +43,7 @@ pub names_vertex : (vertices index : ℕ) (row : Row) → vertex_row_fault verti
     → vertex_in row < vertices
 names_vertex vertices index row e = grind (arith, nat_tests, common_steps)
 
-push_by : (b : Bool) (x : ℕ) (a more last : Option ℕ) → more ≡ (if is_some a then a else last)
+pub push_by : (b : Bool) (x : ℕ) (a more last : Option ℕ) → more ≡ (if is_some a then a else last)
     → (if b then Some x else more) ≡ (if is_some (if b then Some x else a) then (if b then Some x else a) else last)
 push_by true x a more last h = refl
 push_by false x a more last h = h

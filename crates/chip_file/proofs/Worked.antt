@@ -1,28 +1,17 @@
 -- Serves GraphText.antt, ChipsText.antt, DropsText.antt, GuessText.antt, ScheduleText.antt, TraceText.antt,
 -- LogText.antt.
 -- Worked texts, computed on the definitions.
-use Rattle.std.proofs.Common.{◌≡◌, ℕ, List, [], ◌∷◌, take, codes, None, Some, refl, true, false}
-use Rattle.std.specs.Str.{is_utf8, chars}
-use Rattle.serde_json.proofs.OnLiterals.{serde_json_on_literals}
-use Rattle.csv.proofs.OnLiterals.{csv_on_literals}
-use Rattle.csv.specs.Records.{field_at}
-use Rattle.chip_graph.specs.declared.edge.Edge.{Edge}
-use Rattle.chip_graph.specs.Limits.{standard}
-use Rattle.chip_graph.specs.Multigraph.{Multigraph}
-use Rattle.chip_link.specs.declared.event.Event.TheVariants as event
-use Rattle.chip_link.specs.declared.trace.TraceRow.TheVariants as row
-use Rattle.chip_log.specs.declared.row.LogRow.{LogRow}
-use Rattle.chip_log.specs.declared.row.Step.{Step}
-use Rattle.chip_log.specs.declared.row.Step.TheVariants as step
-use Rattle.chip_file.specs.declared.fault.FileFault.TheVariants as fault
-use Rattle.chip_json.specs.GraphFile.{json_of}
-use Rattle.chip_file.specs.GraphText.{file_of_text, graph_of_text}
-use Rattle.chip_file.specs.ChipsText.{chips_of_text, chips_text_fault}
-use Rattle.chip_file.specs.DropsText.{drops_of_text, drops_text_fault}
+use Rattle.chip_file.proofs.Names.{◌≡◌, ℕ, List, [], ◌∷◌, take, codes, None, Some, refl, true, false, is_utf8, chars}
+use Rattle.chip_file.proofs.Names.{serde_json_on_literals, csv_on_literals, field_at, Edge, standard, Multigraph}
+use Rattle.chip_file.proofs.Names.{LogRow, Step, json_of, file_of_text, graph_of_text, chips_of_text, chips_text_fault}
+use Rattle.chip_file.proofs.Names.{drops_of_text, drops_text_fault, traces_of_text, trace_text_fault}
 use Rattle.chip_file.specs.GuessText.{guess_of_text, guess_text_fault}
 use Rattle.chip_file.specs.ScheduleText.{schedule_of_text, schedule_text_fault}
-use Rattle.chip_file.specs.TraceText.{traces_of_text, trace_text_fault}
 use Rattle.chip_file.specs.LogText.{log_of_text, log_text_fault, stream}
+use Rattle.chip_link.specs.declared.event.Event.TheVariants as event
+use Rattle.chip_link.specs.declared.trace.TraceRow.TheVariants as row
+use Rattle.chip_log.specs.declared.row.Step.TheVariants as step
+use Rattle.chip_file.specs.declared.fault.FileFault.TheVariants as fault
 
 abbrev edge : ℕ → ℕ → ℕ → Edge
 edge tail head mult = record { tail = tail; head = head; mult = mult }

@@ -1,7 +1,5 @@
-use Rattle.std.proofs.Common.{arith, ◌≡◌, ◌<◌, ◌≤◌, Some, ap, sym, inr, true, false, sum, nat_le, le-leb}
-use Rattle.chip_graph.specs.Limits.{max_total}
-use Rattle.chip_file.specs.ChipsText.{chips_header, chips_of_rows}
-use Rattle.chip_file.specs.VertexRows.{numbers_text_fault}
+use Rattle.chip_file.proofs.Names.{arith, ◌≡◌, ◌<◌, ◌≤◌, Some, ap, sym, inr, true, false, sum, nat_le, le-leb}
+use Rattle.chip_file.proofs.Names.{max_total, chips_header, chips_of_rows, numbers_text_fault}
 use Rattle.chip_file.proofs.ChipsLemmas.{rows_fail, total_decides}
 use Rattle.chip_file.proofs.KeptLemmas.{refused}
 use Rattle.chip_file.proofs.chips.chips_of_text.Goals as goal

@@ -1,4 +1,4 @@
-use Rattle.std.proofs.Common.{sym}
+use Rattle.chip_file.proofs.Names.{sym}
 use Rattle.chip_file.proofs.RecordLemmas.{rows_mean}
 use Rattle.chip_file.proofs.drops.drops_of_text.Goals as goal
 

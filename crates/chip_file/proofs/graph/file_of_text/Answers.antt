@@ -1,6 +1,4 @@
-use Rattle.std.proofs.Common.{◌∙◌, inr, sym, ap}
-use Rattle.std.specs.Prelude.{option_and_then}
-use Rattle.chip_file.specs.GraphText.{graph_of_file}
+use Rattle.chip_file.proofs.Names.{◌∙◌, inr, sym, ap, option_and_then, graph_of_file}
 use Rattle.chip_file.proofs.KeptLemmas.{refused, json_fault, text_file, first_version}
 use Rattle.chip_file.proofs.graph.file_of_text.Goals as goal
 

@@ -1,7 +1,5 @@
-use Rattle.std.proofs.Common.{◌≡◌, ℕ, ◌<◌, ◌+◌, Bool, true, false, List, length, drop, get_or, Some, sym, ◌∙◌, refl}
-use Rattle.std.proofs.Common.{add-one, drop-cons, Bor}
-use Rattle.std.specs.Prelude.{bytes_eq, if◌then◌else◌}
-use Rattle.chip_file.specs.Kinds.{kind_named, named_kinds}
+use Rattle.chip_file.proofs.Names.{◌≡◌, ℕ, ◌<◌, ◌+◌, Bool, true, false, List, length, drop, get_or, Some, sym, ◌∙◌}
+use Rattle.chip_file.proofs.Names.{refl, add-one, drop-cons, Bor, bytes_eq, if◌then◌else◌, kind_named, named_kinds}
 use Rattle.chip_file.proofs.kind.kind_at.Goals as goal
 
 -- the kinds from an index on, by a test of the first one's name

@@ -1,5 +1,4 @@
-use Rattle.std.proofs.Common.{◌≡◌, drop}
-use Rattle.chip_file.specs.Kinds.{kind_named, named_kinds}
+use Rattle.chip_file.proofs.Names.{◌≡◌, drop, kind_named, named_kinds}
 use Rattle.chip_file.proofs.kind.kind_at.Given as goal
 
 abbrev pub invariant-loop-kind_name : goal.invariant-loop-kind_name

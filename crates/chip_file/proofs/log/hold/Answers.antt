@@ -1,4 +1,4 @@
-use Rattle.std.proofs.Common.{sym}
+use Rattle.chip_file.proofs.Names.{sym}
 use Rattle.chip_file.proofs.LogLemmas.{holders_noted, holders_kept}
 use Rattle.chip_file.proofs.log.hold.Goals as goal
 

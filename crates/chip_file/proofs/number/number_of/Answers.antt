@@ -1,7 +1,5 @@
-use Rattle.std.proofs.Common.{◌≡◌, ◌∙◌, arith, get_or, None, rules, sym}
-use Rattle.std.specs.Char.{digit_value}
+use Rattle.chip_file.proofs.Names.{◌≡◌, ◌∙◌, arith, get_or, None, rules, sym, digit_value, digit_from_value}
 use Rattle.std.proofs.lemmas.Str.{digit_value_digit}
-use Rattle.std.proofs.lemmas.Str.Parse.{digit_from_value}
 use Rattle.chip_file.proofs.NumberLemmas.{number_of-few, number_of-most, number_of-none}
 use Rattle.chip_file.proofs.number.number_of.Goals as goal
 

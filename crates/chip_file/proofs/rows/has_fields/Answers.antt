@@ -1,4 +1,4 @@
-use Rattle.std.proofs.Common.{sym, ◌∙◌}
+use Rattle.chip_file.proofs.Names.{sym, ◌∙◌}
 use Rattle.chip_file.proofs.FieldLemmas.{one_field, none_more}
 use Rattle.chip_file.proofs.rows.has_fields.Goals as goal
 

@@ -1,8 +1,4 @@
-use Rattle.std.proofs.Common.{◌≡◌, map, drop, length}
-use Rattle.std.specs.Prelude.{bytes_eq}
-use Rattle.std.specs.Cmp.Lexicographic.{pointwise}
-use Rattle.csv.specs.Records.{fields_of}
-use Rattle.chip_file.specs.Rows.{has_fields}
+use Rattle.chip_file.proofs.Names.{◌≡◌, map, drop, length, bytes_eq, pointwise, fields_of, has_fields}
 use Rattle.chip_file.proofs.rows.has_fields.Given as goal
 
 abbrev pub invariant-loop-column : goal.invariant-loop-column

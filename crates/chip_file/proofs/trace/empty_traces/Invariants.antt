@@ -1,4 +1,4 @@
-use Rattle.std.proofs.Common.{◌≡◌, [], map, replicate}
+use Rattle.chip_file.proofs.Names.{◌≡◌, [], map, replicate}
 use Rattle.chip_file.proofs.trace.empty_traces.Given as goal
 
 abbrev pub invariant-loop : goal.invariant-loop

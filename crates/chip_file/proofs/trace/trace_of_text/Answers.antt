@@ -1,4 +1,4 @@
-use Rattle.std.proofs.Common.{refl}
+use Rattle.chip_file.proofs.Names.{refl}
 use Rattle.chip_file.proofs.RecordLemmas.{rows_mean, rows_keep}
 use Rattle.chip_file.proofs.TraceLemmas.{runs_each}
 use Rattle.chip_file.proofs.VertexRowLemmas.{by_vertex-none, by_vertex-all}

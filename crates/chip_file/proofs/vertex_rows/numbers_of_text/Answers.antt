@@ -1,4 +1,4 @@
-use Rattle.std.proofs.Common.{◌≡◌, ◌∙◌, None, Some, ap, refl, replicate, rules, sym}
+use Rattle.chip_file.proofs.Names.{◌≡◌, ◌∙◌, None, Some, ap, refl, replicate, rules, sym}
 use Rattle.chip_file.proofs.KeptLemmas.{refused}
 use Rattle.chip_file.proofs.VertexRowLemmas.{by_vertex-none, named_numbers}
 use Rattle.chip_file.proofs.vertex_rows.numbers_of_text.Goals as goal

@@ -1,5 +1,4 @@
-use Rattle.std.proofs.Common.{arith, rules}
-use Rattle.std.proofs.lemmas.Grind.{common_steps}
+use Rattle.chip_file.proofs.Names.{arith, rules, common_steps}
 use Rattle.chip_file.proofs.ReadLemmas.{taken_more}
 use Rattle.chip_file.proofs.whole.read_source.Goals as goal
 

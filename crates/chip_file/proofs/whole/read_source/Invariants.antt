@@ -1,9 +1,6 @@
-use Rattle.std.proofs.Common.{◌≡◌, ◌-◌, ◌+◌, ◌<◌, ◌≤◌, true, vec_len}
-use Rattle.std.specs.Io.KnownBytes.{Consumes}
+use Rattle.chip_file.proofs.Names.{◌≡◌, ◌-◌, ◌+◌, ◌<◌, ◌≤◌, true, vec_len, Consumes, AreLimits, max_chunk, goes_on}
+use Rattle.chip_file.proofs.Names.{last_read, bytes_left, reads}
 use Rattle.chip_file.specs.declared.source.LastRead.TheVariants as last
-use Rattle.chip_graph.specs.Limits.{AreLimits}
-use Rattle.chip_file.specs.Answer.{max_chunk}
-use Rattle.chip_file.specs.Source.{goes_on, last_read, bytes_left, reads}
 use Rattle.chip_file.proofs.whole.read_source.Given as goal
 
 abbrev pub invariant-loop-chunk : goal.invariant-loop-chunk

@@ -1,7 +1,4 @@
-use Rattle.std.proofs.Common.{sym}
-use Rattle.std.proofs.lemmas.List.{map_push}
-use Rattle.csv.specs.Records.{fields_of}
-use Rattle.chip_file.specs.DropsText.{drop_in}
+use Rattle.chip_file.proofs.Names.{sym, map_push, fields_of, drop_in}
 use Rattle.chip_file.proofs.drops.VecTuple2U64U64RowVisitor.visit.Goals as goal
 
 pub returns : goal.returns

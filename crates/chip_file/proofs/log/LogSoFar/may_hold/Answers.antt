@@ -1,4 +1,4 @@
-use Rattle.std.proofs.Common.{refl, sym}
+use Rattle.chip_file.proofs.Names.{refl, sym}
 use Rattle.chip_file.proofs.LogLemmas.{no_holder}
 use Rattle.chip_file.proofs.log.LogSoFar.may_hold.Goals as goal
 

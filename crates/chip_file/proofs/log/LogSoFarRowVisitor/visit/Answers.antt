@@ -1,4 +1,4 @@
-use Rattle.csv.specs.Records.{fields_of}
+use Rattle.chip_file.proofs.Names.{fields_of}
 use Rattle.chip_file.proofs.LogLemmas.{is_placed, visited}
 use Rattle.chip_file.proofs.log.LogSoFarRowVisitor.visit.Goals as goal
 

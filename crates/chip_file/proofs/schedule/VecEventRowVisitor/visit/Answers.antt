@@ -1,6 +1,4 @@
-use Rattle.std.proofs.Common.{sym}
-use Rattle.std.proofs.lemmas.List.{map_push}
-use Rattle.csv.specs.Records.{fields_of}
+use Rattle.chip_file.proofs.Names.{sym, map_push, fields_of}
 use Rattle.chip_file.specs.ScheduleText.{event_in}
 use Rattle.chip_file.proofs.schedule.VecEventRowVisitor.visit.Goals as goal
 

@@ -1,6 +1,4 @@
-use Rattle.std.proofs.Common.{◌∙◌, [], sym, ap, arith}
-use Rattle.std.proofs.lemmas.List.{length-map, map-set, get_or-map}
-use Rattle.csv.specs.Records.{fields_of}
+use Rattle.chip_file.proofs.Names.{◌∙◌, [], sym, ap, arith, length-map, map-set, get_or-map, fields_of}
 use Rattle.chip_file.proofs.TraceLemmas.{names_vertex, recorded_more}
 use Rattle.chip_file.proofs.trace.VecVecTraceRowRowVisitor.visit.Goals as goal
 

@@ -1,6 +1,4 @@
-use Rattle.std.proofs.Common.{◌≡◌, ◌∙◌, ap}
-use Rattle.csv.specs.Records.{fields_of}
-use Rattle.chip_file.specs.VertexRows.{vertex_in, given_in}
+use Rattle.chip_file.proofs.Names.{◌≡◌, ◌∙◌, ap, fields_of, vertex_in, given_in}
 use Rattle.chip_file.proofs.VertexRowLemmas.{named_more}
 use Rattle.chip_file.proofs.vertex_rows.VecOptionU64RowVisitor.visit.Goals as goal
 

@@ -1,3 +1,3 @@
+mod Names
 pub mod RunLemmas
-pub mod OpeningLemmas
 pub mod FloodLemmas

@@ -1,16 +1,13 @@
 -- Serves Running.antt.
--- An event of a run: the call that notes it may be made, and a run is left.
-use Rattle.std.proofs.Common.{◌≡◌, ℕ, ◌<◌, List, ◌∷◌, get_or, set, length, cond, eqb, refl, sym, ap, ◌∙◌, subst, arith}
-use Rattle.std.proofs.Common.{get_or-set_same, get_or-set_other, length-set}
-use Rattle.std.proofs.lemmas.Bool.{cases_eq}
-use Rattle.std.proofs.lemmas.Bool.Decides.{nat_tests}
-use Rattle.std.proofs.lemmas.List.{get_or_read}
-use Rattle.std.specs.Option.{IfSome}
-use Rattle.chip_detect.specs.Steps.{MayBeMade}
-use Rattle.chip_diffusing.specs.Computation.{Part, Event, May, Notes, Wakes, Happens, part_of, call_of}
-use Rattle.chip_diffusing.proofs.KeptLemmas.{legal_kept, who_inside, may_call}
+-- The parts before anything is sent, and an event of a run: the call that notes it may be made, and a run is left.
+use Rattle.chip_flooding.proofs.Names.{◌≡◌, ◌<◌, ℕ, List, ◌∷◌, get_or, set, length, cond, eqb, refl, ap, ◌∙◌, arith}
+use Rattle.chip_flooding.proofs.Names.{get_or-set_same, get_or-set_other, length-set, ◌≢◌, ◌+◌, [], ◌++◌, rules}
+use Rattle.chip_flooding.proofs.Names.{cases_eq, nat_tests, get_or_read, length_push, get_or_push, get_or_append_left}
+use Rattle.chip_flooding.proofs.Names.{Contains-append_left, Contains-push, Contains-push_cases, IfSome, dite}
+use Rattle.chip_flooding.proofs.Names.{ℕ_discrete, MayBeMade, legal_kept, who_inside, may_call, Event, May, Notes}
+use Rattle.chip_flooding.proofs.Names.{Wakes, part_of, call_of, AreAll, net, world, Process, State, shown, nobody}
+use Rattle.chip_flooding.proofs.Names.{IsRun, Runs, Topology, Opens, AreOpening}
 use Rattle.chip_flooding.specs.declared.run.Run.TheInside.{Inside}
-use Rattle.chip_flooding.specs.Running.{Topology, Process, State, IsTopology, network_of, shown, nobody, world_of, IsRun, Runs}
 
 -- a list after one was written
 pub set_at : {A : Type 0} (xs : List A) (e i : ℕ) (x d : A) → e < length xs
@@ -18,13 +15,37 @@ pub set_at : {A : Type 0} (xs : List A) (e i : ℕ) (x d : A) → e < length xs
 set_at xs e i x d l = let k = cases_eq i e in let a = get_or-set_same xs e x d l in let b = get_or-set_other xs e i x d in
     grind (arith, nat_tests)
 
--- the ends of an edge
-module _ {t : Topology} (is : IsTopology t) where
-  pub tail_at : (e p : ℕ) → e < length t.tails.items → p ≡ get_or t.tails.items e p → p ≡ (network_of t).tail e
-  tail_at e p l at = get_or_read t.tails.items e p l at 0
+-- an edge below n of which the part is this end
+abbrev pub IsEnd : List ℕ → ℕ → ℕ → ℕ → Type 0
+IsEnd ends part n e = (e < n) × (get_or ends e 0 ≡ part)
 
-  pub head_at : (e p : ℕ) → e < length t.tails.items → p ≡ get_or t.heads.items e p → p ≡ (network_of t).head e
-  head_at e p l at = get_or_read t.heads.items e p (let both = is.both_ends in omega arith) at 0
+-- one more edge is looked at: it is listed
+pub listed : (ends es : List ℕ) (part n : ℕ) → AreAll es (IsEnd ends part n) → get_or ends n 0 ≡ part
+    → AreAll (es ++ n ∷ []) (IsEnd ends part (n + 1))
+listed ends es part n all here = record {
+  all = λ e is. dite (ℕ_discrete e n) (λ z. rw z (Contains-push es n))
+      (λ other. Contains-append_left es (n ∷ []) e (all.all e (search (rules, arith))));
+  none_else = λ e m. let was = all.none_else e in let more = Contains-push_cases es n e m in search (rules, arith);
+}
+
+-- or it is not
+pub passed : (ends es : List ℕ) (part n : ℕ) → AreAll es (IsEnd ends part n) → get_or ends n 0 ≢ part
+    → AreAll es (IsEnd ends part (n + 1))
+passed ends es part n all here = record {
+  all = λ e is. all.all e (let same = ap (λ (k : ℕ). get_or ends k 0) {x = e} {y = n} in search (rules, arith));
+  none_else = λ e m. let was = all.none_else e m in search (rules, arith);
+}
+
+-- one more part opens
+pub opened : (t : Topology) (n : ℕ) (ps : List Process) (s : Process) → AreOpening t n ps → Opens t n s
+    → AreOpening t (n + 1) (ps ++ s ∷ [])
+opened t n ps s was opens = let all = was.count_is in record {
+  count_is = let long = length_push ps s in omega arith;
+  each = λ p l. dite (ℕ_discrete p n) (λ z. rw (z, get_or_push ps s nobody n all) opens)
+      (λ other. rw (get_or_append_left ps (s ∷ []) nobody p (omega arith)) (was.each p (omega arith)));
+}
+
+-- ---- an event
 
 abbrev pub state_of : Inside → State
 state_of r = record { topology = r.topology; processes = r.processes.items }
@@ -32,52 +53,43 @@ state_of r = record { topology = r.topology; processes = r.processes.items }
 -- a process is about to do what it may
 pub record Acting (r : Inside) (x : Event) (p : ℕ) (was : Process) : Type 0 where
   pub is : IsRun (state_of r)
-  pub may : May (network_of r.topology) (world_of r.processes.items) x
-  pub at : p ≡ part_of (network_of r.topology) x
+  pub may : May (net (state_of r)) (world (state_of r)) x
+  pub at : p ≡ part_of (net (state_of r)) x
   pub read : was ≡ get_or r.processes.items p was
 
-pub acts : {r : Inside} {x : Event} {p : ℕ} {was : Process} → IsRun (state_of r) → May (network_of r.topology) (world_of r.processes.items) x
-    → p ≡ part_of (network_of r.topology) x → was ≡ get_or r.processes.items p was → Acting r x p was
-acts is may at read = record { is = is; may = may; at = at; read = read }
-
 module _ {r : Inside} {x : Event} {p : ℕ} {was : Process} (a : Acting r x p was) where
-  abbrev t : Topology
-  t = r.topology
+  abbrev s : State
+  s = state_of r
 
-  abbrev ps : List Process
-  ps = r.processes.items
+  abbrev left : Process → State
+  left now = record { topology = r.topology; processes = set r.processes.items p now }
 
-  inside : p < length ps
-  inside = let part = who_inside (network_of t) a.is.topology.network (world_of ps) x a.may in let all = a.is.all_processes in
-      let at = a.at in omega arith
+  inside : p < length s.processes
+  inside = let part = who_inside (net s) a.is.topology.network (world s) x a.may in omega arith
 
-  pub own : shown was ≡ world_of ps (part_of (network_of t) x)
-  own = ap shown (get_or_read ps p was inside a.read nobody) ∙ ap (world_of ps) a.at
+  pub here : was ≡ get_or s.processes p nobody
+  here = get_or_read s.processes p was inside a.read nobody
 
   pub callable : IfSome (call_of x) (MayBeMade was.books)
-  callable = let n = network_of t in let is = a.is.topology.network in subst (λ (s : Part). IfSome (call_of x) (MayBeMade s.books)) (sym own)
-      (may_call n is (world_of ps) (legal_kept n is a.is.log (world_of ps) a.is.legal) x a.may)
+  callable = let is = a.is.topology.network in rw (here, a.at)
+      (may_call (net s) is (world s) (legal_kept (net s) is a.is.log (world s) a.is.legal) x a.may)
 
   -- it does it: one event of a legal log
-  happens : (now : Process) → Notes was.books x now.books → Wakes was.passive x now.passive
-      → Happens (network_of t) (world_of ps) x (world_of (set ps p now))
-  happens now notes wakes = let read = get_or_read ps p was inside a.read nobody in let at = a.at in record {
-    may = a.may;
-    notes = rw (← at, get_or-set_same ps p now nobody inside, ← read) notes;
-    wakes = rw (← at, get_or-set_same ps p now nobody inside, ← read) wakes;
-    others = λ q other. ap shown (get_or-set_other ps p q now nobody (λ z. other (z ∙ at)));
+  pub runs : (now : Process) → Notes was.books x now.books → Wakes was.passive x now.passive → Runs s x (left now)
+  runs now notes wakes = let at = a.at in let same = get_or-set_same s.processes p now nobody inside in record {
+    topology = refl;
+    happens = record {
+      may = a.may;
+      notes = rw (← at, same, ← here) notes;
+      wakes = rw (← at, same, ← here) wakes;
+      others = λ q other. ap shown (get_or-set_other s.processes p q now nobody (λ z. other (z ∙ at)));
+    };
   }
 
-  pub runs : (now : Process) → Notes was.books x now.books → Wakes was.passive x now.passive
-      → Runs (state_of r) x (record { topology = t; processes = set ps p now })
-  runs now notes wakes = record { topology = refl; happens = happens now notes wakes }
-
-  pub goes_on : (now : Process) → Notes was.books x now.books → Wakes was.passive x now.passive
-      → IsRun (record { topology = t; processes = set ps p now })
-  goes_on now notes wakes = record {
+  pub goes_on : (now : Process) → Notes was.books x now.books → Wakes was.passive x now.passive → IsRun (left now)
+  goes_on now notes wakes = let was = a.is.legal in record {
     topology = a.is.topology;
-    all_processes = length-set ps p now ∙ a.is.all_processes;
+    all_processes = length-set s.processes p now ∙ a.is.all_processes;
     log = x ∷ a.is.log;
-    legal = let was = a.is.legal in
-        record { first = was.first; opens = was.opens; leads = (world_of ps, was.leads, happens now notes wakes) };
+    legal = record { first = was.first; opens = was.opens; leads = (world s, was.leads, (runs now notes wakes).happens) };
   }

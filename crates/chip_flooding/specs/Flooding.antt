@@ -1,10 +1,9 @@
 -- Flooding: a part that gets a message for the first time is marked, and sends one message on each of its edges.
 use Rattle.std.specs.Prelude.{◌≡◌, ◌≢◌, ◌↔◌, ℕ, ◌-◌, ◌<◌, ◌≤◌, nat_lt, Bool, true, false, not, ◌&&◌, ◌||◌, ◌==◌}
 use Rattle.std.specs.Prelude.{if◌then◌else◌, List, [], ◌∷◌, length, slice_index, slice_index_or, sum_by}
-use Rattle.chip_detect.specs.Acknowledging.{may_ack}
 use Rattle.chip_diffusing.specs.Network.{Network}
 use Rattle.chip_diffusing.specs.Computation.{World, sent_on, got_on, acked_on, settled_on}
-use Rattle.chip_flooding.specs.Running.{net, world}
+use Rattle.chip_flooding.specs.Running.{net, world, allowed}
 pub use Rattle.chip_flooding.specs.declared.flooding.Marking.{Marking}
 
 -- these edges, the last one first, lead from the root to p
@@ -29,13 +28,6 @@ pub record MarksReached (n : Network) (marked : List Bool) : Type 0 where
 abbrev pub once : Bool → ℕ
 once so = if so then 1 else 0
 
--- the root is marked, and whoever is marked can be reached
-pub record AreMarks (n : Network) (marked : List Bool) (done : List ℕ) : Type 0 where
-  pub count_is : length marked ≡ n.parts
-  pub all_done : length done ≡ n.edges
-  pub root : is_marked marked n.root ≡ true
-  pub reached : (q : ℕ) → is_marked marked q ≡ true → IsReached n q
-
 -- who is marked has sent a message on each of its edges, but p only on those below `first`. Where it was got the head is
 -- marked. The tail hears of acknowledgements at once
 pub record IsFloodedOn (n : Network) (w : World) (marked : List Bool) (done : List ℕ) (p first e : ℕ) : Type 0 where
@@ -45,10 +37,12 @@ pub record IsFloodedOn (n : Network) (w : World) (marked : List Bool) (done : Li
   pub acked_is : acked_on n w e ≡ once (nat_lt 1 (slice_index done e))
   pub settled_is : settled_on n w e ≡ once (nat_lt 1 (slice_index done e))
 
--- p sends its messages, and no other part is at work
+-- the root is marked, and whoever is marked can be reached. p sends its messages, and no other part is at work
 pub record IsFlooding (n : Network) (w : World) (marked : List Bool) (done : List ℕ) (p first : ℕ) : Type 0 where
-  pub marks : AreMarks n marked done
-  pub itself : p < n.parts → is_marked marked p ≡ true
+  pub all_marked : length marked ≡ n.parts
+  pub all_done : length done ≡ n.edges
+  pub root : is_marked marked n.root ≡ true
+  pub reached : (q : ℕ) → is_marked marked q ≡ true → IsReached n q
   pub passive : (q : ℕ) → q < n.parts → q ≢ p → (w q).passive ≡ true
   pub edges : (e : ℕ) → e < n.edges → IsFloodedOn n w marked done p first e
 
@@ -62,6 +56,5 @@ unfinished m = sum_by (λ n. 2 - n) m.done.items
 
 -- so many messages of the edge may be acknowledged, or are to be got
 abbrev pub due_on : Marking → ℕ → ℕ
-due_on m e = let head = world m.run ((net m.run).head e) in
-    if nat_lt 0 (slice_index m.done.items e) then may_ack head.books e head.passive
+due_on m e = if nat_lt 0 (slice_index m.done.items e) then allowed m.run e
     else once (is_marked m.marked.items ((net m.run).tail e))

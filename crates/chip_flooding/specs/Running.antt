@@ -1,5 +1,6 @@
 -- A computation that runs, and the network and the world that it stands for.
 use Rattle.std.specs.Prelude.{◌≡◌, ℕ, ◌<◌, ◌≤◌, true, false, List, [], None, length, slice_index, slice_index_or}
+use Rattle.chip_detect.specs.Acknowledging.{may_ack}
 use Rattle.chip_detect.specs.Tally.{edge_limit}
 use Rattle.chip_diffusing.specs.Network.{Network, IsNetwork}
 use Rattle.chip_diffusing.specs.Computation.{Part, World, Event, Log, OpensPart, IsLegalLog, Happens}
@@ -30,9 +31,6 @@ shown s = record { books = s.books; passive = s.passive }
 abbrev pub nobody : Process
 nobody = record { books = record { ins = []; outs = []; parent = None }; passive = true }
 
-abbrev pub world_of : List Process → World
-world_of processes p = shown (slice_index_or processes p nobody)
-
 -- what a `Run` shows
 pub record State : Type 0 where
   pub topology : Topology
@@ -42,7 +40,11 @@ abbrev pub net : State → Network
 net s = network_of s.topology
 
 abbrev pub world : State → World
-world s = world_of s.processes
+world s p = shown (slice_index_or s.processes p nobody)
+
+-- so many messages of the edge may be acknowledged
+abbrev pub allowed : State → ℕ → ℕ
+allowed s e = let head = world s ((net s).head e) in may_ack head.books e head.passive
 
 -- a legal log leaves the processes
 pub record IsRun (s : State) : Type 0 where

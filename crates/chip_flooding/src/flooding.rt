@@ -91,7 +91,8 @@ impl Marking {
     /// An edge on which there is something to get or to acknowledge.
     fn due_edge(&self) -> Option<usize>
         requires { IsFlooded self.now }
-        ensures due { (e : ℕ) → result ≡ Some e → (e < (net self.now.run).edges) × (0 < due_on self.now e) }
+        ensures edge { (e : ℕ) → result ≡ Some e → e < (net self.now.run).edges }
+        ensures due { (e : ℕ) → result ≡ Some e → 0 < due_on self.now e }
         ensures none { result ≡ None → (e : ℕ) → e < (net self.now.run).edges → due_on self.now e ≡ 0 }
     {
         (0..self.done.len()).find(|edge| self.is_due(*edge))

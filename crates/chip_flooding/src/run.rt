@@ -25,9 +25,8 @@ impl Model for Run {
 }
 
 impl Run {
-    ghost use Rattle.chip_detect.specs.Acknowledging.{may_ack};
     ghost use Rattle.chip_diffusing.specs.Computation.{Send, Get, Ack, Settle, Work, May, IsClosed, IsSilent};
-    ghost use Rattle.chip_flooding.specs.Running.{IsTopology, IsRun, AreOpening, Runs, net, world};
+    ghost use Rattle.chip_flooding.specs.Running.{IsTopology, IsRun, AreOpening, Runs, net, world, allowed};
 
     /// A computation before anything is sent. Only the root is at work.
     pub fn new(alloc: Global, topology: Topology) -> Result<Run, AllocError>
@@ -78,7 +77,7 @@ impl Run {
     /// How many messages of the edge may be acknowledged now.
     pub fn acknowledgeable(&self, edge: usize) -> u64
         requires { edge < (net self.now).edges }
-        ensures { let head = world self.now ((net self.now).head edge) in result ≡ may_ack head.books edge head.passive }
+        ensures { result ≡ allowed self.now edge }
     {
         let head = &self.processes[self.topology.heads[edge]];
         head.books.may_ack(edge as u64, head.passive)
@@ -87,7 +86,7 @@ impl Run {
     /// Acknowledges all that may be acknowledged on the edge now, and answers how many messages these are.
     pub fn acknowledge(&mut self, edge: usize) -> u64
         requires { edge < (net self.old).edges }
-        ensures count { let head = world self.old ((net self.old).head edge) in result ≡ may_ack head.books edge head.passive }
+        ensures count { result ≡ allowed self.old edge }
         ensures runs { Runs self.old (Ack edge result) self.new }
     {
         let head = self.topology.heads[edge];

@@ -1,6 +1,5 @@
-use Rattle.std.proofs.Common.{◌≡◌, [], refl, arith}
-use Rattle.chip_flooding.specs.Running.{world_of}
-use Rattle.chip_flooding.proofs.OpeningLemmas.{opened}
+use Rattle.chip_flooding.proofs.Names.{◌≡◌, [], refl, arith}
+use Rattle.chip_flooding.proofs.RunLemmas.{opened}
 use Rattle.chip_flooding.proofs.run.Run.new.Goals as goal
 
 pub loop-part-preserved : goal.loop-part-preserved
@@ -8,11 +7,10 @@ loop-part-preserved c = rw c.in_ok-push.ensures.items (opened c.args.topology c.
     c.in_ok-opening.field-0 c.loop-part.invariant c.in_ok-opening.ensures)
 
 pub invariant_of-result : goal.invariant_of-result
-invariant_of-result c =
-    let all : c.loop-part.part ≡ c.args.topology.parts = (let past = c.loop-part-test.false in let low = c.loop-part.auto.part-end in omega arith) in
+invariant_of-result c = let all : c.loop-part.part ≡ c.args.topology.parts = omega arith in
     let opening = rw all at c.loop-part.invariant in record {
       topology = c.requires;
       all_processes = opening.count_is;
       log = [];
-      legal = record { first = world_of c.loop-part.processes.items; opens = λ p l. (opening.each p l).part; leads = refl };
+      legal = record { first = _; opens = λ p l. (opening.each p l).part; leads = refl };
     }

@@ -1,11 +1,10 @@
-use Rattle.chip_diffusing.specs.Computation.{Send}
-use Rattle.chip_flooding.proofs.RunLemmas.{Acting, acts, callable, runs, goes_on, tail_at}
+use Rattle.chip_flooding.proofs.Names.{get_or_read, Send}
+use Rattle.chip_flooding.proofs.RunLemmas.{Acting, callable, runs, goes_on}
 use Rattle.chip_flooding.proofs.run.Run.send.Goals as goal
 use Rattle.chip_flooding.proofs.run.Run.send.Goals.{After-index_mut}
 
 acting : (c : After-index_mut) → Acting c.self.inside (Send c.args.edge) c.index-tail.result.now c.index_mut.result.now
-acting c = let may = rw (← c.self.view_is) at c.requires in acts c.self.invariant may
-    (tail_at c.self.invariant.topology c.args.edge _ may.0 c.index-tail.ensures) c.index_mut.ensures.value
+acting c = let may = rw (← c.self.view_is) at c.requires in let at = get_or_read _ _ _ may.0 c.index-tail.ensures 0 in search
 
 pub sent-requires-clause-out : goal.sent-requires-clause-out
 sent-requires-clause-out c = (callable (acting (goal.at.sent-requires-clause-out c).After-index_mut)).0

@@ -1,14 +1,15 @@
 -- Serves Books.antt, Past.antt.
 -- The books of a past, row by row.
 use Rattle.chip_log.proofs.Names.{◌≡◌, ◌≢◌, ℕ, ◌+◌, ◌≤◌, ◌<◌, Bool, true, false, eqb, List, [], ◌∷◌, ◌++◌, length}
-use Rattle.chip_log.proofs.Names.{get_or, refl, sym, ap, ◌∙◌, subst, arith, ◌||◌, nat_lt, slice_index_or, ltb-true}
-use Rattle.chip_log.proofs.Names.{ltb-false, eqb-true, eqb-false, get_or-set_same, get_or-set_other, dite, ℕ_discrete}
-use Rattle.chip_log.proofs.Names.{LogRow, Stream, Step, Out, In, Passive, Active, Over, Said, Books, steps_of, is_out}
-use Rattle.chip_log.proofs.Names.{outs, ins, HasEnds, TallyState, count, said_before, said_of, Passes, rows_at, said_at}
-use Rattle.chip_log.proofs.Names.{is_message_needed, is_needed, Keeps, AreInFlight, AreKept, AreBooks}
-use Rattle.chip_log.proofs.CountLemmas.{outs-append, ins-append, steps_own, steps_other, same_stream_is}
+use Rattle.chip_log.proofs.Names.{get_or, refl, sym, ap, ◌∙◌, subst, arith, ltb-true, ltb-false, eqb-true, eqb-false}
+use Rattle.chip_log.proofs.Names.{nil_from_length, ◌||◌, nat_lt, slice_index_or, said_before, Passes, rows_at, said_at}
+use Rattle.chip_log.proofs.Names.{is_message_needed, is_needed, Keeps, steps_of, is_out, outs, ins, HasEnds, nat_tests}
+use Rattle.chip_log.proofs.Names.{is_in, AreInFlight, AreKept, AreBooks, TallyState, count, Books, Said, LogRow, Step}
+use Rattle.chip_log.proofs.Names.{Out, Stream}
+use Rattle.chip_log.proofs.CountLemmas.{rows-append, same_stream_is}
 use Rattle.chip_log.proofs.MetLemmas.{same_self}
 use Rattle.chip_log.proofs.PastLemmas.{IsSplit, put_behind, keep_claimer, keep_other, keep_message}
+use Rattle.chip_log.proofs.QueuesLemmas.{set_at}
 use Rattle.chip_log.specs.declared.books.Said.TheVariants as said
 
 -- ---- what is on its way
@@ -19,8 +20,8 @@ pub make_flight : (pre : List LogRow) (x : LogRow) (old new : TallyState) → Ar
 make_flight pre x old new was made = λ s.
     let a = was s in
     let b = made.counts s in
-    let c = outs-append s pre (x ∷ []) in
-    let d = ins-append s pre (x ∷ []) in
+    let c = rows-append (is_out s) pre (x ∷ []) in
+    let d = rows-append (is_in s) pre (x ∷ []) in
     omega arith
 
 -- and taken back
@@ -29,8 +30,8 @@ pub pass_flight : (pre : List LogRow) (x : LogRow) (old new : TallyState) → Ar
 pass_flight pre x old new was passed = λ s.
     let a = was s in
     let b = passed.counts s in
-    let c = outs-append s pre (x ∷ []) in
-    let d = ins-append s pre (x ∷ []) in
+    let c = rows-append (is_out s) pre (x ∷ []) in
+    let d = rows-append (is_in s) pre (x ∷ []) in
     omega arith
 
 -- ---- rows that are kept
@@ -40,24 +41,16 @@ pub kept_more : (kept : List LogRow) (x : LogRow) (old new : Books) → x.proces
 kept_more kept x old new within counted was keeps = record {
   taken = λ s. let a = keeps.taken s in let b = was.taken s in omega arith;
   sent = λ s. let a = keeps.sent s in let b = was.sent s in omega arith;
-  rows = λ q. dite (ℕ_discrete q x.process)
-      (λ e. subst (λ (r : ℕ). rows_at new r ≡ length (steps_of r (x ∷ kept))) (sym e)
-      (let a = ap (λ (items : List ℕ). get_or items x.process 0) keeps.rows in
-      let b = get_or-set_same old.rows.items x.process (rows_at old x.process + 1) 0 counted in
-      let c = was.rows x.process in
-      let d = ap length (steps_own x.process x kept refl) in
-      omega arith))
-      (λ ne. ap (λ (items : List ℕ). get_or items q 0) keeps.rows
-      ∙ get_or-set_other old.rows.items x.process q (rows_at old x.process + 1) 0 ne
-      ∙ was.rows q ∙ ap length (sym (steps_other q x kept (λ e. ne (sym e)))));
-  said = λ q. dite (ℕ_discrete q x.process)
-      (λ e. subst (λ (r : ℕ). said_at new r ≡ said_of (steps_of r (x ∷ kept))) (sym e)
-      (ap (λ (items : List Said). slice_index_or items x.process said.Unsaid) keeps.said
-      ∙ get_or-set_same old.said.items x.process (said_before x.step (said_at old x.process)) said.Unsaid within
-      ∙ ap (said_before x.step) (was.said x.process) ∙ ap said_of (sym (steps_own x.process x kept refl))))
-      (λ ne. ap (λ (items : List Said). slice_index_or items q said.Unsaid) keeps.said
-      ∙ get_or-set_other old.said.items x.process q (said_before x.step (said_at old x.process)) said.Unsaid ne
-      ∙ was.said q ∙ ap said_of (sym (steps_other q x kept (λ e. ne (sym e)))));
+  rows = λ q.
+      let a = ap (λ (items : List ℕ). get_or items q 0) keeps.rows in
+      let b = set_at old.rows.items x.process q (rows_at old x.process + 1) 0 counted in
+      let c = was.rows q in
+      grind (arith, nat_tests);
+  said = λ q.
+      let a = ap (λ (items : List Said). slice_index_or items q said.Unsaid) keeps.said in
+      let b = set_at old.said.items x.process q (said_before x.step (said_at old x.process)) said.Unsaid within in
+      let c = was.said q in
+      grind (arith, nat_tests);
 }
 
 kept_same : (kept : List LogRow) (x : LogRow) (old new : Books) → AreKept kept old → Keeps false x old new → AreKept kept new
@@ -69,10 +62,6 @@ kept_same kept x old new was keeps = record {
 }
 
 -- ---- a look at a row
-
-no_steps : (steps : List Step) → length steps ≤ 0 → steps ≡ []
-no_steps [] none = refl
-no_steps (step ∷ steps) none = absurd (omega arith)
 
 module _ (log : List LogRow) (ends : HasEnds log) (p i : ℕ) (pre kept : List LogRow) (x : LogRow) (old new : Books)
     (claimer : old.claimer ≡ p) (within : x.process < length old.said.items) (counted : x.process < length old.rows.items)
@@ -101,10 +90,7 @@ module _ (log : List LogRow) (ends : HasEnds log) (p i : ℕ) (pre kept : List L
       let b = flight s in
       let c = was.keeps.taken s in
       (s, same_self s, omega arith)
-  message_true (In s) is = absurd (cc is)
-  message_true Passive is = absurd (cc is)
-  message_true Active is = absurd (cc is)
-  message_true Over is = absurd (cc is)
+  message_true _ is = absurd (cc is)
 
   message_false : (step : Step) → is_message_needed new.flight old.taken step ≡ false
       → (s : Stream) → is_out s step ≡ true → ins s pre + ins s kept ≤ outs s pre
@@ -114,10 +100,7 @@ module _ (log : List LogRow) (ends : HasEnds log) (p i : ℕ) (pre kept : List L
       let b = flight t in
       let c = was.keeps.taken t in
       omega arith)
-  message_false (In t) is = λ s same. absurd (cc same)
-  message_false Passive is = λ s same. absurd (cc same)
-  message_false Active is = λ s same. absurd (cc same)
-  message_false Over is = λ s same. absurd (cc same)
+  message_false _ is = λ s same. absurd (cc same)
 
   pub looked : Keeps (is_needed x new.flight old) x old new → Found
   looked keeps = by_claimer (eqb x.process old.claimer) refl keeps
@@ -144,7 +127,7 @@ module _ (log : List LogRow) (ends : HasEnds log) (p i : ℕ) (pre kept : List L
           let c = ap length none in
           absurd (omega arith))) keeps
       by_rows false ne is keeps = by_message (is_message_needed new.flight old.taken x.step) ne
-          (no_steps (steps_of x.process kept)
+          (nil_from_length (steps_of x.process kept)
           (let a = ltb-false 0 (rows_at old x.process) is in let b = was.keeps.rows x.process in omega arith)) refl keeps
 
       by_claimer : (a : Bool) → eqb x.process old.claimer ≡ a

@@ -1,19 +1,19 @@
 -- Serves Judge.antt.
 -- What is left, by books.
-use Rattle.chip_log.proofs.Names.{◌≡◌, ℕ, ◌≤◌, ◌<◌, Bool, true, false, cond, List, [], ◌∷◌, ◌++◌, length, refl, sym, ap}
-use Rattle.chip_log.proofs.Names.{◌∙◌, subst, arith, length-set, slice_set, slice_index_or, Option, Some, None, ◌&&◌}
-use Rattle.chip_log.proofs.Names.{not, MatchBool, get_or-set_same, get_or-set_other, get_or_past, All-head, All-tail}
-use Rattle.chip_log.proofs.Names.{ne_eqb, dite, ℕ_discrete, dec_lt, LogRow, Stream, Step, Out, In, Passive, Active}
-use Rattle.chip_log.proofs.Names.{Over, Said, Books, Sizes, ClaimPlace, Verdict, PastRows, steps_of, is_out, sends}
-use Rattle.chip_log.proofs.Names.{outs, ins, active_after, begins_active, is_active, basic, IsPast, IsVerdict}
-use Rattle.chip_log.proofs.Names.{IsOnItsWay, IsBusy, IsSilent, IsOf, said_by, said_before, said_of, IsLog, Fits}
-use Rattle.chip_log.proofs.Names.{FitsRow, AreSized, AreKept, IsPastOf, AreRowsOf, IsOpenEnd, stream_of, NoWay}
-use Rattle.chip_log.proofs.Names.{IsFirstWay, first_step, begins_with, AreBeginners, busy_at, is_busy, IsLeft}
-use Rattle.chip_log.proofs.Names.{AreCounts}
-use Rattle.chip_log.proofs.CountLemmas.{steps_push, steps_push_other, active_after-append, sends-append, sends_le}
+use Rattle.chip_log.proofs.Names.{◌≡◌, ℕ, ◌≤◌, ◌<◌, Bool, true, false, List, [], ◌∷◌, ◌++◌, refl, sym, ap, ◌∙◌, arith}
+use Rattle.chip_log.proofs.Names.{cond, length-set, ne_eqb, get_or_past, All-head, All-tail, slice_index_or, ◌&&◌, not}
+use Rattle.chip_log.proofs.Names.{slice_set, Option, Some, None, MatchBool, dite, dec_lt, said_before, said_of, IsOf}
+use Rattle.chip_log.proofs.Names.{said_by, basic, IsVerdict, stream_of, NoWay, IsFirstWay, first_step, begins_with}
+use Rattle.chip_log.proofs.Names.{AreBeginners, busy_at, is_busy, IsLeft, AreCounts, AreRowsOf, IsOpenEnd, AreShown}
+use Rattle.chip_log.proofs.Names.{steps_of, is_out, outs, ins, sends, nat_tests, active_after, begins_active, is_active}
+use Rattle.chip_log.proofs.Names.{AreKept, IsLog, Fits, FitsRow, AreSized, IsPastOf, Books, Said, PastRows, ClaimPlace}
+use Rattle.chip_log.proofs.Names.{Sizes, LogRow, Step, Out, In, Active, Over, Stream, Verdict}
+use Rattle.chip_log.proofs.CountLemmas.{count-append, steps_of-append, active_after-append, own_few}
 use Rattle.chip_log.proofs.MetLemmas.{count_no}
-use Rattle.chip_log.proofs.PastLemmas.{met_le, now_le, outs_by, rest_of}
+use Rattle.chip_log.proofs.PastLemmas.{met_le, rest_of, now_le, outs_by}
 use Rattle.chip_log.proofs.SilentLemmas.{silent_is_right}
+use Rattle.chip_log.proofs.LeftLemmas.{IsLeftBehind}
+use Rattle.chip_log.proofs.QueuesLemmas.{set_at}
 use Rattle.chip_log.specs.declared.books.Said.TheVariants as said
 use Rattle.chip_log.specs.declared.verdict.Verdict.TheVariants as verdict
 use Rattle.chip_log.specs.declared.judged.LogEnd.TheVariants as end
@@ -32,17 +32,13 @@ pub more_beginners : (sizes : Sizes) (pre : List LogRow) (x : LogRow) (beginners
     (slice_set beginners x.process (first_step (slice_index_or beginners x.process None) x.step))
 more_beginners sizes pre x beginners was within = record {
   each = length-set beginners x.process (first_step (slice_index_or beginners x.process None) x.step) ∙ was.each;
-  begins = λ q. dite (ℕ_discrete q x.process)
-      (λ e. let l : x.process < length beginners = (let a = was.each in omega arith) in
-      subst (λ (r : ℕ). slice_index_or (slice_set beginners x.process
-      (first_step (slice_index_or beginners x.process None) x.step)) r None
-      ≡ begins_with None (steps_of r (pre ++ x ∷ []))) (sym e)
-      (get_or-set_same beginners x.process (first_step (slice_index_or beginners x.process None) x.step) None l
-      ∙ ap (λ (begins : Option Bool). first_step begins x.step) (was.begins x.process)
-      ∙ sym (ap (begins_with None) (steps_push x.process pre x refl)
-      ∙ begins_with-append None (steps_of x.process pre) (x.step ∷ []))))
-      (λ ne. get_or-set_other beginners x.process q (first_step (slice_index_or beginners x.process None) x.step) None ne
-      ∙ was.begins q ∙ ap (begins_with None) (sym (steps_push_other q pre x (λ e. ne (sym e)))));
+  begins = λ q.
+      let a = set_at beginners x.process q (first_step (slice_index_or beginners x.process None) x.step) None
+      (let b = was.each in omega arith) in
+      let b = ap (begins_with None) (steps_of-append q pre (x ∷ [])) in
+      let c = begins_with-append None (steps_of q pre) (steps_of q (x ∷ [])) in
+      let d = was.begins q in
+      grind (arith, nat_tests);
 }
 
 begun : (b : Bool) (steps : List Step) → begins_with (Some b) steps ≡ Some b
@@ -57,15 +53,8 @@ activity was said.Passive = false
 activity was said.Active = true
 
 by_step : (was : Bool) (step : Step) → active_after was (step ∷ []) ≡ activity was (said_by step)
-by_step was (Out s) = refl
-by_step was (In s) = by s.is_control
-  where
-    by : (b : Bool) → cond b was true ≡ activity was (cond b said.Unsaid said.Active)
-    by true = refl
-    by false = refl
-by_step was Passive = refl
-by_step was Active = refl
-by_step was Over = refl
+by_step was (In s) = grind arith
+by_step was _ = refl
 
 earlier : (was : Bool) (step : Step) (later : Said)
     → activity (active_after was (step ∷ [])) later ≡ activity was (said_before step later)
@@ -84,10 +73,7 @@ busy_is said.Passive steps = refl
 busy_is said.Active steps = refl
 busy_is said.Unsaid [] = refl
 busy_is said.Unsaid (Active ∷ steps) = ap (busy_at said.Unsaid) (begun true steps)
-busy_is said.Unsaid (Out s ∷ steps) = ap (busy_at said.Unsaid) (begun false steps)
-busy_is said.Unsaid (In s ∷ steps) = ap (busy_at said.Unsaid) (begun false steps)
-busy_is said.Unsaid (Passive ∷ steps) = ap (busy_at said.Unsaid) (begun false steps)
-busy_is said.Unsaid (Over ∷ steps) = ap (busy_at said.Unsaid) (begun false steps)
+busy_is said.Unsaid (_ ∷ steps) = ap (busy_at said.Unsaid) (begun false steps)
 
 -- ---- what is left
 
@@ -102,10 +88,7 @@ none_beyond sizes s beyond (x ∷ xs) fits =
     by : (step : Step) → IsOf sizes.channels step → is_out s step ≡ false
     by (Out t) inside = ap (λ (b : Bool). b && cond s.is_control t.is_control (not t.is_control))
         (ne_eqb s.channel t.channel (λ e. absurd (omega arith)))
-    by (In t) inside = refl
-    by Passive inside = refl
-    by Active inside = refl
-    by Over inside = refl
+    by _ inside = refl
 
 -- rows of a log that may stand as they do, and their books
 module _ (log : List LogRow) (sizes : Sizes) (fits : Fits sizes log) (now : List LogRow) (b : Books)
@@ -121,18 +104,6 @@ module _ (log : List LogRow) (sizes : Sizes) (fits : Fits sizes log) (now : List
   some_way k c first =
       let a = first.1 in let e = keeps.taken (stream_of k c) in let f = keeps.sent (stream_of k c) in omega arith
 
-  pub way_left : (c k : ℕ) → IsLeft sizes [] b (verdict.OnItsWay c k) → IsOnItsWay now c k
-  way_left c k left = record {
-    next = let a = keeps.taken (basic c) in let d = left.1 in omega arith;
-    sent = let a = some_way false c left.0 in let d = left.1 in let e = keeps.taken (basic c) in omega arith;
-    least = λ d less.
-        let a = left.0.2 d less in
-        let e = keeps.taken (basic d) in
-        let f = keeps.sent (basic d) in
-        let g = le (basic d) in
-        omega arith;
-  }
-
   module _ (sized : AreSized sizes b) (beginners : List (Option Bool)) (made : AreBeginners sizes log beginners) where
     is_busy_is : (q : ℕ) → is_busy beginners b q ≡ is_active log now q
     is_busy_is q =
@@ -141,15 +112,8 @@ module _ (log : List LogRow) (sizes : Sizes) (fits : Fits sizes log) (now : List
         ∙ busy_is (said_of (steps_of q now)) (steps_of q log)
         ∙ sym (active_said (begins_active (steps_of q log)) (steps_of q now))
 
-    pub busy_left : (q : ℕ) → IsLeft sizes beginners b (verdict.Active q) → IsBusy log now q
-    busy_left q left = record {
-      quiet = no_way false left.0;
-      active = sym (is_busy_is q) ∙ left.1.1;
-      least = λ r less. sym (is_busy_is r) ∙ left.1.2 r less;
-    }
-
-    pub none_left : IsLeft sizes beginners b verdict.Right → IsSilent log now
-    none_left left = record {
+    pub left_is : (v : Verdict) → IsLeft sizes beginners b v → IsLeftBehind log now v
+    left_is verdict.Right left = record {
       quiet = no_way false left.0;
       passive = λ q. sym (is_busy_is q) ∙ dite (dec_lt q sizes.processes)
           (λ l. left.1 q l)
@@ -159,6 +123,21 @@ module _ (log : List LogRow) (sizes : Sizes) (fits : Fits sizes log) (now : List
           ap (λ (what : Said). busy_at what (slice_index_or beginners q None))
           (get_or_past b.said.items q said.Unsaid (omega arith))
           ∙ ap (busy_at said.Unsaid) (get_or_past beginners q None (omega arith)));
+    }
+    left_is (verdict.OnItsWay c k) left = record {
+      next = let a = keeps.taken (basic c) in let d = left.1 in omega arith;
+      sent = let a = some_way false c left.0 in let d = left.1 in let e = keeps.taken (basic c) in omega arith;
+      least = λ d less.
+          let a = left.0.2 d less in
+          let e = keeps.taken (basic d) in
+          let f = keeps.sent (basic d) in
+          let g = le (basic d) in
+          omega arith;
+    }
+    left_is (verdict.Active q) left = record {
+      quiet = no_way false left.0;
+      active = sym (is_busy_is q) ∙ left.1.1;
+      least = λ r less. sym (is_busy_is r) ∙ left.1.2 r less;
     }
 
 -- ---- a verdict by the books of the least past
@@ -178,17 +157,15 @@ module _ (log : List LogRow) (is : IsLog log) (sizes : Sizes) (fits : Fits sizes
   few s =
       let a = outs_by log is.ends past behind is_past.is_past.here.whole s in
       let d = ap (sends s) (rest_of log is.ends past behind is_past.is_past.here.whole (is.ends.sender s)) in
-      let e = sends-append s (steps_of (is.ends.sender s) past) (steps_of (is.ends.sender s) behind) in
-      let f = sends_le s (is.ends.sender s) log in
+      let e = count-append (is_out s) (steps_of (is.ends.sender s) past) (steps_of (is.ends.sender s) behind) in
+      let f = own_few (is_out s) (is.ends.sender s) log in
       omega arith
 
   pub verdict_left : (v : Verdict) → IsLeft sizes beginners b v → IsVerdict log claim.process claim.row v
   verdict_left verdict.Right left = silent_is_right log is.ends claim.process claim.row past is_past.is_past
-      (none_left log sizes fits past b is_past.keeps le few is_past.sized beginners made left)
-  verdict_left (verdict.OnItsWay c k) left =
-      (past, is_past.is_past, way_left log sizes fits past b is_past.keeps le few c k left)
-  verdict_left (verdict.Active q) left =
-      (past, is_past.is_past, busy_left log sizes fits past b is_past.keeps le few is_past.sized beginners made q left)
+      (left_is log sizes fits past b is_past.keeps le few is_past.sized beginners made verdict.Right left)
+  verdict_left v left =
+      (past, is_past.is_past, left_is log sizes fits past b is_past.keeps le few is_past.sized beginners made v left)
 
   -- the rows of the past, by process
   pub rows_left : (counts : List PastRows) → AreCounts sizes.processes b counts → AreRowsOf past counts
@@ -204,8 +181,7 @@ module _ (log : List LogRow) (is : IsLog log) (sizes : Sizes) (fits : Fits sizes
 
   pub past_left : (asked : Bool) (counts : List PastRows)
       → MatchBool asked (AreCounts sizes.processes b counts) (counts ≡ [])
-      → MatchBool asked ((before : List LogRow) × IsPast log claim.process claim.row before × AreRowsOf before counts)
-      (counts ≡ [])
+      → AreShown asked log claim.process claim.row counts
   past_left true counts are = (past, is_past.is_past, rows_left counts are)
   past_left false counts none = none
 
@@ -216,24 +192,16 @@ module _ (log : List LogRow) (is : IsLog log) (sizes : Sizes) (fits : Fits sizes
   all_le : (s : Stream) → ins s log ≤ outs s log
   all_le s = met_le s log [] log is.met (omega arith)
 
-  all_few : (s : Stream) → outs s log ≤ outs s log
-  all_few s = omega arith
-
-  pub way_end : (c k : ℕ) → IsLeft sizes beginners b (verdict.OnItsWay c k) → IsOpenEnd log (end.OnItsWay c k)
-  way_end c k left = way_left log sizes fits log b keeps all_le all_few c k left
-
-  pub busy_end : (q : ℕ) → IsLeft sizes beginners b (verdict.Active q) → IsOpenEnd log (end.Active q)
-  busy_end q left = busy_left log sizes fits log b keeps all_le all_few sized beginners made q left
+  pub end_left : (v : Verdict) → IsLeft sizes beginners b v → IsLeftBehind log log v
+  end_left v left = left_is log sizes fits log b keeps all_le (λ s. omega arith) sized beginners made v left
 
   pub missed_end : IsLeft sizes beginners b verdict.Right → IsFirstWay true sizes.channels b None → IsOpenEnd log end.Missed
-  missed_end left first = (
-    none_left log sizes fits log b keeps all_le all_few sized beginners made left,
-    no_way log sizes fits log b keeps all_le all_few true first,
-  )
+  missed_end left first =
+      (end_left verdict.Right left, no_way log sizes fits log b keeps all_le (λ s. omega arith) true first)
 
   pub unclaimed_end : (c : ℕ) → IsLeft sizes beginners b verdict.Right → IsFirstWay true sizes.channels b (Some c)
       → IsOpenEnd log end.Unclaimed
   unclaimed_end c left first = (
-    none_left log sizes fits log b keeps all_le all_few sized beginners made left,
-    (c, some_way log sizes fits log b keeps all_le all_few true c first),
+    end_left verdict.Right left,
+    (c, some_way log sizes fits log b keeps all_le (λ s. omega arith) true c first),
   )

@@ -4,6 +4,7 @@ pub mod CountLemmas
 pub mod MetLemmas
 pub mod PastLemmas
 pub mod SilentLemmas
+mod LeftLemmas
 pub mod VerdictLemmas
 pub mod BooksLemmas
 pub mod LoopLemmas
@@ -14,3 +15,4 @@ mod PlacesLemmas
 mod QueuesLemmas
 mod OrderingLemmas
 mod OrderLemmas
+mod OneLemmas

@@ -1,45 +1,21 @@
 -- Serves Past.antt.
 -- The loops over the rows before a claim.
-use Rattle.chip_log.proofs.Names.{◌≡◌, ℕ, ◌+◌, ◌-◌, ◌≤◌, ◌<◌, ◌^◌, Bool, true, false, List, [], ◌∷◌, ◌++◌, length}
-use Rattle.chip_log.proofs.Names.{get_or, refl, sym, ap, ◌∙◌, subst, arith, append_assoc, append-nil, take, drop, suc}
-use Rattle.chip_log.proofs.Names.{drop-cons, dite, ℕ_discrete, ltb-true, take_more, take-append-drop, All-get_or}
-use Rattle.chip_log.proofs.Names.{get_or_from_slice_get, slice_get_within, LogRow, Stream, Step, Out, In, Passive}
-use Rattle.chip_log.proofs.Names.{Active, Over, Sizes, ClaimPlace, Books, steps_of, is_out, is_in, sends, gets}
-use Rattle.chip_log.proofs.Names.{all_steps, outs, ins, is_met, AreMet, IsInterleaving, HasEnds, TallyState, Passes}
-use Rattle.chip_log.proofs.Names.{is_needed, Keeps, one_if, IsOf, HasMakeRoom, HasFlightRoom, HasCountRoom, HasKeepRoom}
-use Rattle.chip_log.proofs.Names.{HasRoom, IsLog, Fits, FitsRow, IsPlace, AreSized, AreInFlight, AreKept, AreBooks}
-use Rattle.chip_log.proofs.CountLemmas.{outs-append, ins-append, steps_own, steps_other}
-use Rattle.chip_log.proofs.MetLemmas.{same_self, outs_push, ins_push, ins_push_no}
-use Rattle.chip_log.proofs.BooksLemmas.{looked}
+use Rattle.chip_log.proofs.Names.{◌≡◌, ℕ, ◌+◌, ◌≤◌, ◌<◌, Bool, true, false, List, [], ◌∷◌, ◌++◌, length, get_or, refl}
+use Rattle.chip_log.proofs.Names.{sym, ap, ◌∙◌, subst, arith, append-nil, ◌-◌, ◌^◌, append_assoc, take, drop, ltb-true}
+use Rattle.chip_log.proofs.Names.{take_more, take-append-drop, drop_more, All-get_or, get_or_from_slice_get}
+use Rattle.chip_log.proofs.Names.{slice_get_within, Passes, is_needed, Keeps, IsOf, HasMakeRoom, HasFlightRoom}
+use Rattle.chip_log.proofs.Names.{HasCountRoom, HasKeepRoom, HasRoom, steps_of, is_out, outs, ins, HasEnds, nat_tests}
+use Rattle.chip_log.proofs.Names.{is_in, is_met, AreMet, IsInterleaving, IsInOrder, AreInFlight, AreKept, AreBooks}
+use Rattle.chip_log.proofs.Names.{IsLog, FitsRow, AreSized, IsPlace, TallyState, Books, ClaimPlace, Sizes, LogRow, Step}
+use Rattle.chip_log.proofs.Names.{Out, In, Over, Stream}
+use Rattle.chip_log.proofs.CountLemmas.{rows-append, rows_few}
+use Rattle.chip_log.proofs.MetLemmas.{push_yes, push_no, same_self}
 use Rattle.chip_log.proofs.PastLemmas.{are_met_first, are_met_second, met_le, IsSplit}
-
-at_most_one : (b : Bool) → one_if b ≤ 1
-at_most_one true = omega arith
-at_most_one false = omega arith
-
-sends_few : (s : Stream) (steps : List Step) → sends s steps ≤ length steps
-sends_few s [] = omega arith
-sends_few s (step ∷ steps) = let a = sends_few s steps in let b = at_most_one (is_out s step) in omega arith
-
-gets_few : (s : Stream) (steps : List Step) → gets s steps ≤ length steps
-gets_few s [] = omega arith
-gets_few s (step ∷ steps) = let a = gets_few s steps in let b = at_most_one (is_in s step) in omega arith
-
-all_length : (xs : List LogRow) → length (all_steps xs) ≡ length xs
-all_length [] = refl
-all_length (x ∷ xs) = let a = all_length xs in omega arith
-
-pub outs_few : (s : Stream) (xs : List LogRow) → outs s xs ≤ length xs
-outs_few s xs = let a = sends_few s (all_steps xs) in let b = all_length xs in omega arith
-
-ins_few : (s : Stream) (xs : List LogRow) → ins s xs ≤ length xs
-ins_few s xs = let a = gets_few s (all_steps xs) in let b = all_length xs in omega arith
+use Rattle.chip_log.proofs.BooksLemmas.{looked}
 
 pub steps_few : (q : ℕ) (xs : List LogRow) → length (steps_of q xs) ≤ length xs
 steps_few q [] = omega arith
-steps_few q (x ∷ xs) = dite (ℕ_discrete x.process q)
-    (λ e. let a = ap length (steps_own q x xs e) in let b = steps_few q xs in omega arith)
-    (λ ne. let a = ap length (steps_other q x xs ne) in let b = steps_few q xs in omega arith)
+steps_few q (x ∷ xs) = let a = steps_few q xs in grind (arith, nat_tests)
 
 -- there is room for a row beside those that the books keep
 pub keep_room : (sizes : Sizes) (x : LogRow) (kept : List LogRow) (b : Books) → FitsRow sizes x → AreSized sizes b
@@ -54,19 +30,20 @@ keep_room sizes x kept b fits sized was few = record {
 }
   where
     by : (step : Step) → HasCountRoom step b
-    by (Out s) = let a = was.sent s in let e = outs_few s kept in omega arith
-    by (In s) = let a = was.taken s in let e = ins_few s kept in omega arith
-    by Passive = tt
-    by Active = tt
-    by Over = tt
+    by (Out s) = let a = was.sent s in let e = rows_few (is_out s) kept in omega arith
+    by (In s) = let a = was.taken s in let e = rows_few (is_in s) kept in omega arith
+    by _ = tt
+
+-- what is read behind the last row
+abbrev pub no_row : LogRow
+no_row = record { process = 0; step = Out (record { channel = 0; is_control = false }) }
 
 -- the rows before a place, the row there, and those behind it
 pub rows_split : (log : List LogRow) (i : ℕ) (d : LogRow) → i < length log
     → take i log ++ (get_or log i d ∷ drop (i + 1) log) ≡ log
-rows_split log i d l = sym (append_assoc (take i log) (get_or log i d ∷ []) (drop (i + 1) log))
-    ∙ ap (λ (zs : List LogRow). zs ++ drop (i + 1) log) (sym (take_more log i d l)) ∙ take-append-drop (i + 1) log
+rows_split log i d l = ap (λ (zs : List LogRow). take i log ++ zs) (sym (drop_more log i d l)) ∙ take-append-drop i log
 
-module _ (log : List LogRow) (is : IsLog log) (sizes : Sizes) (fits : Fits sizes log) (few : length log < 2 ^ 32) where
+module _ (log : List LogRow) (sizes : Sizes) (order : IsInOrder sizes log) where
   module _ (i : ℕ) (d : LogRow) (l : i < length log) where
     abbrev pre : List LogRow
     pre = take i log
@@ -75,7 +52,7 @@ module _ (log : List LogRow) (is : IsLog log) (sizes : Sizes) (fits : Fits sizes
     x = get_or log i d
 
     met : AreMet log [] (pre ++ (x ∷ drop (i + 1) log))
-    met = subst (AreMet log []) (sym (rows_split log i d l)) is.met
+    met = subst (AreMet log []) (sym (rows_split log i d l)) order.log.met
 
     met_here : is_met log pre x.process x.step ≡ true
     met_here = (are_met_second log [] pre (x ∷ drop (i + 1) log) met).0
@@ -86,12 +63,12 @@ module _ (log : List LogRow) (is : IsLog log) (sizes : Sizes) (fits : Fits sizes
     outs_all : (s : Stream) → outs s (pre ++ x ∷ []) ≤ length log
     outs_all s =
         let a = ap (outs s) (append_assoc pre (x ∷ []) (drop (i + 1) log) ∙ rows_split log i d l) in
-        let b = outs-append s (pre ++ x ∷ []) (drop (i + 1) log) in
-        let c = outs_few s log in
+        let b = rows-append (is_out s) (pre ++ x ∷ []) (drop (i + 1) log) in
+        let c = rows_few (is_out s) log in
         omega arith
 
     fits_here : FitsRow sizes x
-    fits_here = All-get_or (FitsRow sizes) log i d l fits
+    fits_here = All-get_or (FitsRow sizes) log i d l order.fits
 
     pub make_room : (flight : TallyState) → AreInFlight pre flight → HasMakeRoom x.step flight
     make_room flight was = by x.step refl
@@ -99,7 +76,7 @@ module _ (log : List LogRow) (is : IsLog log) (sizes : Sizes) (fits : Fits sizes
         by : (step : Step) → x.step ≡ step → HasMakeRoom step flight
         by (Out s) e =
             let a = was s in
-            let b = outs_push s pre x (ap (is_out s) e ∙ same_self s) in
+            let b = push_yes (is_out s) pre x (ap (is_out s) e ∙ same_self s) in
             let c = outs_all s in
             omega arith
         by (In s) e =
@@ -107,9 +84,7 @@ module _ (log : List LogRow) (is : IsLog log) (sizes : Sizes) (fits : Fits sizes
             let b = ltb-true (ins s pre) (outs s pre)
             (ap (is_met log pre x.process) (sym e) ∙ met_here) in
             omega arith
-        by Passive e = tt
-        by Active e = tt
-        by Over e = tt
+        by _ e = tt
 
     pub look_room : (kept : List LogRow) (b : Books) → AreSized sizes b → AreBooks (pre ++ x ∷ []) kept b
         → length kept + 1 < 2 ^ 32 → HasRoom x b
@@ -122,34 +97,30 @@ module _ (log : List LogRow) (is : IsLog log) (sizes : Sizes) (fits : Fits sizes
         by : (step : Step) → x.step ≡ step → HasFlightRoom step b.flight
         by (Out s) e =
             let a = was.flight s in
-            let f = outs_push s pre x (ap (is_out s) e ∙ same_self s) in
-            let g = ins_push_no s pre x (ap (is_in s) e) in
+            let f = push_yes (is_out s) pre x (ap (is_out s) e ∙ same_self s) in
+            let g = push_no (is_in s) pre x (ap (is_in s) e) in
             let h = pre_le s in
             omega arith
         by (In s) e =
             let a = was.flight s in
-            let f = ins_push s pre x (ap (is_in s) e ∙ same_self s) in
+            let f = push_yes (is_in s) pre x (ap (is_in s) e ∙ same_self s) in
             let g = outs_all s in
             omega arith
-        by Passive e = tt
-        by Active e = tt
-        by Over e = tt
+        by _ e = tt
 
 -- the rows before a place, without the last one, and those from there on
 before_last : (log : List LogRow) (left : ℕ) (d : LogRow) → 0 < left → left ≤ length log
     → take left log ≡ take (left - 1) log ++ get_or log (left - 1) d ∷ []
-before_last log left d some within = ap (λ (n : ℕ). take n log) same ∙ take_more log (left - 1) d (omega arith)
-  where
-    same : left ≡ left - 1 + 1
-    same = omega arith
+before_last log left d some within = ap (λ (n : ℕ). take n log) {x = left} {y = left - 1 + 1} (omega arith)
+    ∙ take_more log (left - 1) d (omega arith)
 
 pub from_last : (log : List LogRow) (left : ℕ) (d : LogRow) → 0 < left → left ≤ length log
     → drop (left - 1) log ≡ get_or log (left - 1) d ∷ drop left log
-from_last log left d some within = drop-cons log (left - 1) d (omega arith)
-    ∙ ap (λ (n : ℕ). get_or log (left - 1) d ∷ drop n log) (let e : suc (left - 1) ≡ left = omega arith in e)
+from_last log left d some within = drop_more log (left - 1) d (omega arith)
+    ∙ ap (λ (n : ℕ). get_or log (left - 1) d ∷ drop n log) {x = left - 1 + 1} {y = left} (omega arith)
 
 -- one turn of the loop that looks at rows
-module _ (log : List LogRow) (is : IsLog log) (sizes : Sizes) (fits : Fits sizes log) (few : length log < 2 ^ 32)
+module _ (log : List LogRow) (sizes : Sizes) (order : IsInOrder sizes log)
     (ends : HasEnds log) (p n left : ℕ) (d : LogRow) (some : 0 < left) (inside : left ≤ length log) (kept : List LogRow)
     (b : Books) (sized : AreSized sizes b) (split : IsSplit log ends p n (take left log) kept)
     (was : AreBooks (take left log) kept b) (short : left + length kept ≤ length log) where
@@ -163,7 +134,7 @@ module _ (log : List LogRow) (is : IsLog log) (sizes : Sizes) (fits : Fits sizes
   books_here = subst (λ (zs : List LogRow). AreBooks zs kept b) (before_last log left d some inside) was
 
   pub turn_room : HasRoom row_here b
-  turn_room = look_room log is sizes fits few (left - 1) d (omega arith) kept b sized books_here (omega arith)
+  turn_room = look_room log sizes order (left - 1) d (omega arith) kept b sized books_here (omega arith)
 
   pub turn_looked : (new : Books) → b.claimer ≡ p → Passes row_here.step b.flight new.flight
       → Keeps (is_needed row_here new.flight b) row_here b new

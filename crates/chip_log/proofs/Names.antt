@@ -7,14 +7,15 @@ pub use Rattle.std.proofs.Math.Seq.{drop-cons, take-append_seam}
 pub use Rattle.std.proofs.lemmas.Bool.{ltb-true, ltb-false, eqb-true, eqb-false, ne_eqb, lt-ltb, le-ltb}
 pub use Rattle.std.proofs.lemmas.List.{get_or-set_same, get_or-set_other, get_or_past, take_more, take-append-drop}
 pub use Rattle.std.proofs.lemmas.List.{append_cancel_left, get_or-map, length-map, map-append, take_all, take-append-le}
-pub use Rattle.std.proofs.lemmas.List.{map-set, get_or-replicate, length-replicate, get_or_default, drop_all}
+pub use Rattle.std.proofs.lemmas.List.{drop_more, nil_from_length, map-set, get_or-replicate, length-replicate, get_or_default, drop_all}
 pub use Rattle.std.proofs.lemmas.List.Elements.{All-head, All-tail, All-get_or, All-same, All-rest, All-push, All-nil}
-pub use Rattle.std.proofs.lemmas.List.Elements.{All-cons, All-weaker}
+pub use Rattle.std.proofs.lemmas.List.Elements.{All-cons, All-weaker, All-append, All-map}
+pub use Rattle.std.proofs.lemmas.List.Folds.{Any-from_list_any, list_any_at}
 pub use Rattle.std.proofs.lemmas.List.Sorted.{IsPermutation-map, All-permutation, sum_by-IsPermutation}
 pub use Rattle.std.proofs.lemmas.List.Sorted.{IsNonDecreasingBy-from_sort_by_key}
-pub use Rattle.std.proofs.lemmas.List.Sums.{sum_by_push, sum_by-cons, get_or-le-sum_by}
+pub use Rattle.std.proofs.lemmas.List.Sums.{sum_by-le, sum_by_push, sum_by-cons, get_or-le-sum_by}
 pub use Rattle.std.proofs.lemmas.Option.{get_or_from_slice_get, slice_get_within, slice_get-get_or}
-pub use Rattle.std.specs.List.{list_any}
+pub use Rattle.std.specs.List.{filter, list_any}
 pub use Rattle.std.specs.List.Sorted.{IsNonDecreasingBy}
 pub use Rattle.std.specs.Option.{ForSome}
 pub use Rattle.std.specs.Prelude.{◌||◌, nat_lt, slice_index_or, ◌&&◌, not, slice_set, Option, Some, None, MatchBool}
@@ -25,18 +26,21 @@ pub use Rattle.chip_log.specs.Agenda.{AgendaState}
 pub use Rattle.chip_log.specs.Books.{said_before, said_of, Passes, rows_at, said_at, is_message_needed, is_needed}
 pub use Rattle.chip_log.specs.Books.{Keeps, IsOf, said_by, one_if, HasMakeRoom, HasFlightRoom, HasCountRoom}
 pub use Rattle.chip_log.specs.Books.{HasKeepRoom, HasRoom}
-pub use Rattle.chip_log.specs.Claims.{basic, IsPast, IsVerdict, IsOnItsWay, IsBusy, IsSilent, IsBefore, IsRight}
+pub use Rattle.chip_log.specs.Claims.{basic, IsQuiet, IsPast, IsVerdict, IsOnItsWay, IsBusy, IsSilent, IsBefore, IsRight}
 pub use Rattle.chip_log.specs.Judge.{stream_of, NoWay, IsFirstWay, first_step, begins_with, AreBeginners, busy_at}
 pub use Rattle.chip_log.specs.Judge.{is_busy, IsLeft, AreCounts, place_at, ArePlaces, IsKnown, Judges}
 pub use Rattle.chip_log.specs.Judged.{AreRowsOf, IsOpenEnd, is_over, is_over_at, is_claim, RowPlace, is_at, IsNoLater}
 pub use Rattle.chip_log.specs.Judged.{is_early, IsJudged, NoneRight, IsEnd, place_of, AreClaims, AreJudged, control}
-pub use Rattle.chip_log.specs.Judged.{IsJudgedLog}
-pub use Rattle.chip_log.specs.Log.{steps_of, is_out, outs, ins, HasEnds, same_stream, sends, gets, all_steps}
+pub use Rattle.chip_log.specs.Judged.{IsJudgedLog, rows_for, told_of, AreShown}
+pub use Rattle.chip_log.specs.Log.{steps_of, is_out, outs, ins, HasEnds, same_stream, sends, gets, count_steps}
+pub use Rattle.chip_log.specs.Log.{count_rows}
+pub use Rattle.std.proofs.lemmas.Bool.Decides.{nat_tests}
+pub use Rattle.std.proofs.lemmas.Grind.{get_or-set_at}
 pub use Rattle.chip_log.specs.Log.{active_after, begins_active, is_active, is_in, is_met, AreMet, IsInterleaving}
 pub use Rattle.chip_log.specs.Order.{IsWellFormed, IsProgress, IsGreatest, IsStuck, may_send, AreSent}
 pub use Rattle.chip_log.specs.Ordering.{is_there, IsReady, Reads, IsKept, GoesOn, IsSettled, IsFirstLeft, IsNext, Makes}
 pub use Rattle.chip_log.specs.Ordering.{work_left}
-pub use Rattle.chip_log.specs.Past.{AreInFlight, AreKept, AreBooks, IsLog, Fits, FitsRow, AreSized, IsPastOf, IsPlace}
+pub use Rattle.chip_log.specs.Past.{IsInOrder, AreInFlight, AreKept, AreBooks, IsLog, Fits, FitsRow, AreSized, IsPastOf, IsPlace}
 pub use Rattle.chip_log.specs.Places.{AreFound}
 pub use Rattle.chip_log.specs.Queues.{queue_of, total, head_of}
 pub use Rattle.chip_log.specs.Tally.{TallyState, count}

@@ -1,20 +1,20 @@
 -- Serves Order.antt.
 -- Where an order ends.
-use Rattle.chip_log.proofs.Names.{◌≡◌, ℕ, ◌+◌, ◌≤◌, ◌<◌, ◌^◌, true, false, cond, List, [], ◌∷◌, ◌++◌, length, refl, sym}
-use Rattle.chip_log.proofs.Names.{ap, ◌∙◌, subst, arith, append_assoc, append-nil, length-append, length-drop, take}
-use Rattle.chip_log.proofs.Names.{drop, get_or, suc, ◌≢◌, None, Some, ltb-true, ltb-false, lt-ltb, le-ltb}
-use Rattle.chip_log.proofs.Names.{append_cancel_left, take_more, All-get_or, drop-cons, dite, ℕ_discrete, dec_lt}
-use Rattle.chip_log.proofs.Names.{LogRow, Stream, Step, Out, In, Passive, Active, Over, Sizes, Order, steps_of, is_in}
-use Rattle.chip_log.proofs.Names.{sends, gets, outs, ins, active_after, begins_active, is_met, AreMet, IsInterleaving}
-use Rattle.chip_log.proofs.Names.{HasEnds, count, queue_of, total, FitsRow, IsWellFormed, IsProgress, IsGreatest}
-use Rattle.chip_log.proofs.Names.{IsStuck, is_there, IsReady, Reads, IsKept, GoesOn, IsSettled, IsFirstLeft}
+use Rattle.chip_log.proofs.Names.{◌≡◌, ℕ, ◌+◌, ◌≤◌, ◌<◌, true, false, eqb, List, [], ◌∷◌, ◌++◌, length, get_or, refl}
+use Rattle.chip_log.proofs.Names.{sym, ap, ◌∙◌, subst, arith, cond, append-nil, ◌^◌, append_assoc, take, drop, suc}
+use Rattle.chip_log.proofs.Names.{length-append, drop-cons, ltb-true, ltb-false, lt-ltb, le-ltb, take_more}
+use Rattle.chip_log.proofs.Names.{append_cancel_left, nil_from_length, drop_all, All-get_or, Some, None, dite, dec_lt}
+use Rattle.chip_log.proofs.Names.{steps_of, is_out, outs, ins, HasEnds, sends, gets, nat_tests, active_after}
+use Rattle.chip_log.proofs.Names.{begins_active, is_in, is_met, AreMet, IsInterleaving, IsWellFormed, IsProgress}
+use Rattle.chip_log.proofs.Names.{IsGreatest, IsStuck, is_there, IsReady, Reads, IsKept, GoesOn, IsSettled, IsFirstLeft}
+use Rattle.chip_log.proofs.Names.{FitsRow, queue_of, total, count, Order, Sizes, LogRow, Step, Out, In, Stream}
 use Rattle.chip_log.proofs.PrefixLemmas.{longer_beginning, same_beginning}
-use Rattle.chip_log.proofs.CountLemmas.{sends-append, gets-append, steps_of-append, steps_push, steps_push_other}
-use Rattle.chip_log.proofs.CountLemmas.{outs_is, ins_is}
-use Rattle.chip_log.proofs.MetLemmas.{same_self, count_yes}
+use Rattle.chip_log.proofs.CountLemmas.{count-append, steps_of-append, steps_push, first_own}
+use Rattle.chip_log.proofs.MetLemmas.{owner_is, same_self}
 use Rattle.chip_log.proofs.PastLemmas.{are_met_first, are_met_second}
+use Rattle.chip_log.proofs.LeftLemmas.{one_number}
 use Rattle.chip_log.proofs.QueuesLemmas.{total_le}
-use Rattle.chip_log.proofs.OrderingLemmas.{read_ready, read_keeps, read_more}
+use Rattle.chip_log.proofs.OrderingLemmas.{read_more, read_ready, read_keeps}
 
 module _ (sizes : Sizes) (log : List LogRow) (o : Order) (ready : IsReady sizes o) (kept : IsKept log [] o) where
   own : (p : ℕ) → steps_of p o.done.items ++ queue_of o.queues p ≡ steps_of p log
@@ -29,14 +29,11 @@ module _ (sizes : Sizes) (log : List LogRow) (o : Order) (ready : IsReady sizes 
 
   module _ (settled : IsSettled o) where
     not_met : (p : ℕ) (step : Step) → is_there o.flight step ≡ false → is_met log o.done.items p step ≡ false
-    not_met p (Out s) off = absurd (cc off)
     not_met p (In s) off =
         let a = ltb-false 0 (count o.flight s) off in
         let b = ready.flight s in
         le-ltb (ins s o.done.items) (outs s o.done.items) (omega arith)
-    not_met p Passive off = absurd (cc off)
-    not_met p Active off = absurd (cc off)
-    not_met p Over off = absurd (cc off)
+    not_met p _ off = absurd (cc off)
 
     pub stuck_order : (p : ℕ) → IsFirstLeft o (Some p)
         → IsStuck log p (length (steps_of p o.done.items))
@@ -90,10 +87,6 @@ module _ (sizes : Sizes) (log : List LogRow) (well : IsWellFormed sizes log) (sh
         (let e : suc n ≡ n + 1 = omega arith in e)) was.kept));
   }
 
-empty : {X : Type 0} (xs : List X) → length xs ≤ 0 → xs ≡ []
-empty [] none = refl
-empty (x ∷ xs) none = absurd (omega arith)
-
 pub none_read : (sizes : Sizes) (log : List LogRow) (o : Order) → IsReady sizes o → o.done.items ≡ [] → total o.queues ≡ 0
     → IsSoFar sizes log 0 o
 none_read sizes log o ready none zero_left = record {
@@ -102,7 +95,7 @@ none_read sizes log o ready none zero_left = record {
   kept = record {
     own = λ p. ap (λ (zs : List LogRow). steps_of p zs ++ (queue_of o.queues p ++ steps_of p log)) none
         ∙ ap (λ (zs : List Step). zs ++ steps_of p log)
-        (empty (queue_of o.queues p) (let a = total_le o.queues p in omega arith));
+        (nil_from_length (queue_of o.queues p) (let a = total_le o.queues p in omega arith));
     met = subst (AreMet log []) (sym none) tt;
   };
 }
@@ -110,58 +103,42 @@ none_read sizes log o ready none zero_left = record {
 pub all_read : (sizes : Sizes) (log : List LogRow) → IsWellFormed sizes log → (n : ℕ) → length log ≤ n
     → (o later : Order) → IsSoFar sizes log n o → GoesOn sizes o later → IsKept log [] later
 all_read sizes log well n past o later was on = subst (λ (zs : List LogRow). IsKept log zs later)
-    (empty (drop n log) (let a = length-drop n log in omega arith)) (on.keeps log (drop n log) well.sent was.kept)
+    (drop_all n log past) (on.keeps log (drop n log) well.sent was.kept)
 
 -- ---- how many rows a process has
 
-pub count_own : (p : ℕ) (log : List LogRow) (n : ℕ) (d : LogRow) → n < length log → (get_or log n d).process ≡ p
-    → length (steps_of p (take (n + 1) log)) ≡ length (steps_of p (take n log)) + 1
-count_own p log n d l e =
+pub count_next : (p : ℕ) (log : List LogRow) (n : ℕ) (d : LogRow) → n < length log
+    → length (steps_of p (take (n + 1) log)) ≡ length (steps_of p (take n log)) + cond (eqb (get_or log n d).process p) 1 0
+count_next p log n d l =
+    let x = get_or log n d in
     let a = ap (λ (zs : List LogRow). length (steps_of p zs)) (take_more log n d l) in
-    let b = ap length (steps_push p (take n log) (get_or log n d) e) in
-    let c = length-append (steps_of p (take n log)) ((get_or log n d).step ∷ []) in
-    omega arith
-
-pub count_other : (p : ℕ) (log : List LogRow) (n : ℕ) (d : LogRow) → n < length log → (get_or log n d).process ≢ p
-    → length (steps_of p (take (n + 1) log)) ≡ length (steps_of p (take n log))
-count_other p log n d l ne =
-    let a = ap (λ (zs : List LogRow). length (steps_of p zs)) (take_more log n d l) in
-    let b = ap length (steps_push_other p (take n log) (get_or log n d) ne) in
-    omega arith
+    let b = ap length (steps_of-append p (take n log) (get_or log n d ∷ [])) in
+    let c = length-append (steps_of p (take n log)) (steps_of p (get_or log n d ∷ [])) in
+    grind (arith, nat_tests)
 
 -- ---- greatest progress is greatest
 
 module _ (log : List LogRow) (ends : HasEnds log) (used : List LogRow) (is : IsProgress log used) where
   pub used_outs : (s : Stream) → outs s used ≡ sends s (steps_of (ends.sender s) used)
-  used_outs s = outs_is s (ends.sender s) used (λ q ne.
-      let a = ap (sends s) (is.own q) in
-      let b = sends-append s (steps_of q used) (is.left q) in
-      let c = ends.sends s q ne in
-      omega arith)
+  used_outs s = first_own (is_out s) (ends.sender s) log used is.left is.own (ends.sends s)
 
   pub used_ins : (s : Stream) → ins s used ≡ gets s (steps_of (ends.receiver s) used)
-  used_ins s = ins_is s (ends.receiver s) used (λ q ne.
-      let a = ap (gets s) (is.own q) in
-      let b = gets-append s (steps_of q used) (is.left q) in
-      let c = ends.gets s q ne in
-      omega arith)
+  used_ins s = first_own (is_in s) (ends.receiver s) log used is.left is.own (ends.gets s)
 
 module _ (log : List LogRow) (ends : HasEnds log) (used : List LogRow) (most : IsGreatest log used) where
   -- another progress, up to a row that is met, with no more rows of any process before it
-  module _ (pre later : List LogRow) (x : LogRow) (other : IsProgress log ((pre ++ x ∷ []) ++ later))
+  module _ (pre : List LogRow) (x : LogRow) (other : IsProgress log (pre ++ x ∷ []))
       (before : IsProgress log pre) (met : is_met log pre x.process x.step ≡ true)
       (fewer : (p : ℕ) → length (steps_of p pre) ≤ length (steps_of p used)) where
     abbrev q : ℕ
     q = x.process
 
     abbrev behind : List Step
-    behind = steps_of q later ++ other.left q
+    behind = other.left q
 
     goes_on : steps_of q pre ++ (x.step ∷ behind) ≡ steps_of q log
-    goes_on = sym (append_assoc (steps_of q pre) (x.step ∷ []) (steps_of q later ++ other.left q))
-        ∙ ap (λ (zs : List Step). zs ++ (steps_of q later ++ other.left q)) (sym (steps_push q pre x refl))
-        ∙ sym (append_assoc (steps_of q (pre ++ x ∷ [])) (steps_of q later) (other.left q))
-        ∙ ap (λ (zs : List Step). zs ++ other.left q) (sym (steps_of-append q (pre ++ x ∷ []) later)) ∙ other.own q
+    goes_on = sym (append_assoc (steps_of q pre) (x.step ∷ []) behind)
+        ∙ ap (λ (zs : List Step). zs ++ behind) (sym (steps_push q pre x refl)) ∙ other.own q
 
     module _ (all : length (steps_of q used) ≤ length (steps_of q pre)) where
       same : steps_of q pre ≡ steps_of q used
@@ -173,13 +150,8 @@ module _ (log : List LogRow) (ends : HasEnds log) (used : List LogRow) (most : I
           (most.progress.own q ∙ sym goes_on ∙ ap (λ (zs : List Step). zs ++ (x.step ∷ behind)) same)
 
       receiver_is : (s : Stream) → x.step ≡ In s → q ≡ ends.receiver s
-      receiver_is s e = dite (ℕ_discrete q (ends.receiver s)) (λ same. same)
-          (λ ne.
-          let a = ap (gets s) (sym goes_on) in
-          let b = gets-append s (steps_of q pre) (x.step ∷ behind) in
-          let c = count_yes (is_in s x.step) (ap (is_in s) e ∙ same_self s) in
-          let d = ends.gets s q ne in
-          absurd (omega arith))
+      receiver_is s e = owner_is (is_in s) (ends.receiver s) q log (steps_of q pre) x.step behind (ends.gets s) goes_on
+          (ap (is_in s) e ∙ same_self s)
 
       still_met : (step : Step) → x.step ≡ step → is_met log pre q step ≡ true → is_met log used q step ≡ true
       still_met (Out s) e was =
@@ -197,11 +169,9 @@ module _ (log : List LogRow) (ends : HasEnds log) (used : List LogRow) (most : I
           (steps_of (ends.sender s) used) (most.progress.left (ends.sender s)) (steps_of (ends.sender s) log)
           (before.own (ends.sender s)) (most.progress.own (ends.sender s)) (fewer (ends.sender s)) in
           let j = ap (sends s) more.1 in
-          let k = sends-append s (steps_of (ends.sender s) pre) more.0 in
+          let k = count-append (is_out s) (steps_of (ends.sender s) pre) more.0 in
           lt-ltb (ins s used) (outs s used) (omega arith)
-      still_met Passive e was = refl
-      still_met Active e was = refl
-      still_met Over e was = refl
+      still_met _ e was = refl
 
       pub not_more : ⊥
       not_more =
@@ -210,31 +180,31 @@ module _ (log : List LogRow) (ends : HasEnds log) (used : List LogRow) (most : I
           cc
 
     one_more : (p : ℕ) → length (steps_of p (pre ++ x ∷ [])) ≤ length (steps_of p used)
-    one_more p = dite (ℕ_discrete q p)
-        (λ e. subst (λ (r : ℕ). length (steps_of r (pre ++ x ∷ [])) ≤ length (steps_of r used)) e
-        (dite (dec_lt (length (steps_of q pre)) (length (steps_of q used)))
+    one_more p = dite (dec_lt (length (steps_of q pre)) (length (steps_of q used)))
         (λ less.
-        let a = ap length (steps_push q pre x refl) in
-        let b = length-append (steps_of q pre) (x.step ∷ []) in
-        omega arith)
-        (λ no. absurd (not_more (omega arith)))))
-        (λ ne. let a = ap length (steps_push_other p pre x ne) in let b = fewer p in omega arith)
+        let a = steps_of-append p pre (x ∷ []) in
+        let b = length-append (steps_of p pre) (steps_of p (x ∷ [])) in
+        let d = fewer p in
+        grind (arith, nat_tests))
+        (λ no. absurd (not_more (omega arith)))
+
+  first_of : (pre later : List LogRow) → IsProgress log (pre ++ later) → IsProgress log pre
+  first_of pre later other = record {
+    left = λ q. steps_of q later ++ other.left q;
+    own = λ q. sym (append_assoc (steps_of q pre) (steps_of q later) (other.left q))
+        ∙ ap (λ (zs : List Step). zs ++ other.left q) (sym (steps_of-append q pre later)) ∙ other.own q;
+    met = are_met_first log [] pre later other.met;
+  }
 
   fewer_through : (pre later : List LogRow) → IsProgress log (pre ++ later)
       → ((p : ℕ) → length (steps_of p pre) ≤ length (steps_of p used))
       → (p : ℕ) → length (steps_of p (pre ++ later)) ≤ length (steps_of p used)
-  fewer_through pre [] other fewer p = let a = ap (λ (zs : List LogRow). length (steps_of p zs)) (append-nil pre) in
-      let b = fewer p in omega arith
+  fewer_through pre [] other fewer p = subst (λ (zs : List LogRow). length (steps_of p zs) ≤ length (steps_of p used))
+      (sym (append-nil pre)) (fewer p)
   fewer_through pre (x ∷ later) other fewer p =
       let on : IsProgress log ((pre ++ x ∷ []) ++ later) = subst (IsProgress log) (sym (append_assoc pre (x ∷ []) later)) other in
-      let before : IsProgress log pre = record {
-        left = λ q. steps_of q (x ∷ later) ++ other.left q;
-        own = λ q. sym (append_assoc (steps_of q pre) (steps_of q (x ∷ later)) (other.left q))
-            ∙ ap (λ (zs : List Step). zs ++ other.left q) (sym (steps_of-append q pre (x ∷ later))) ∙ other.own q;
-        met = are_met_first log [] pre (x ∷ later) other.met;
-      } in
-      let met = (are_met_second log [] pre (x ∷ later) other.met).0 in
-      let a = fewer_through (pre ++ x ∷ []) later on (one_more pre later x on before met fewer) p in
+      let a = fewer_through (pre ++ x ∷ []) later on (one_more pre x (first_of (pre ++ x ∷ []) later on)
+      (first_of pre (x ∷ later) other) (are_met_second log [] pre (x ∷ later) other.met).0 fewer) p in
       let b = ap (λ (zs : List LogRow). length (steps_of p zs)) (append_assoc pre (x ∷ []) later) in
       omega arith
 
@@ -275,8 +245,7 @@ module _ (log : List LogRow) (ends : HasEnds log) where
   one_stuck p i q j one two = (same, place)
     where
       same : p ≡ q
-      same = dite (dec_lt p q) (λ less. absurd (not_less p i q j one two less))
-          (λ no. dite (dec_lt q p) (λ less. absurd (not_less q j p i two one less)) (λ other. omega arith))
+      same = one_number p q (not_less p i q j one two) (not_less q j p i two one)
 
       place : i ≡ j
       place =

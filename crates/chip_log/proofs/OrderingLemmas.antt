@@ -1,17 +1,16 @@
 -- Serves Ordering.antt.
 -- Steps are made as long as they are met.
-use Rattle.chip_log.proofs.Names.{◌≡◌, ◌≢◌, ℕ, ◌+◌, ◌≤◌, ◌<◌, ◌^◌, Bool, true, List, [], ◌∷◌, ◌++◌, length, refl, sym}
-use Rattle.chip_log.proofs.Names.{ap, ◌∙◌, subst, arith, append_assoc, length-append, length-set, drop, All, Some, None}
-use Rattle.chip_log.proofs.Names.{ltb-true, lt-ltb, get_or-set_same, get_or-set_other, All-same, All-rest, All-push}
-use Rattle.chip_log.proofs.Names.{All-head, dite, ℕ_discrete, LogRow, Stream, Step, Out, In, Passive, Active, Over}
-use Rattle.chip_log.proofs.Names.{Sizes, Order, steps_of, outs, ins, active_after, begins_active, is_met, AreMet}
-use Rattle.chip_log.proofs.Names.{TallyState, count, IsOf, FitsRow, AreInFlight, queue_of, head_of, total, AgendaState}
-use Rattle.chip_log.proofs.Names.{may_send, AreSent, is_there, IsReady, Reads, IsNext, Makes, IsKept, GoesOn}
-use Rattle.chip_log.proofs.CountLemmas.{active_after-append, steps_push, steps_push_other, steps_own, steps_other}
+use Rattle.chip_log.proofs.Names.{◌≡◌, ℕ, ◌+◌, ◌≤◌, ◌<◌, Bool, true, false, eqb, List, [], ◌∷◌, ◌++◌, length, refl, sym}
+use Rattle.chip_log.proofs.Names.{ap, ◌∙◌, subst, arith, cond, append-nil, length-set, ◌^◌, append_assoc, drop}
+use Rattle.chip_log.proofs.Names.{length-append, ltb-true, lt-ltb, All-head, All-tail, All-same, All-push, All-nil}
+use Rattle.chip_log.proofs.Names.{All-cons, All-append, Some, None, All, AgendaState, IsOf, steps_of, is_out, outs, ins}
+use Rattle.chip_log.proofs.Names.{nat_tests, active_after, begins_active, is_met, AreMet, may_send, AreSent, is_there}
+use Rattle.chip_log.proofs.Names.{IsReady, Reads, IsKept, GoesOn, IsNext, Makes, AreInFlight, FitsRow, queue_of, total}
+use Rattle.chip_log.proofs.Names.{head_of, TallyState, count, Order, Sizes, LogRow, Step, Out, In, Stream}
+use Rattle.chip_log.proofs.CountLemmas.{rows_few, steps_of-append, active_after-append}
 use Rattle.chip_log.proofs.PastLemmas.{are_met_both}
 use Rattle.chip_log.proofs.BooksLemmas.{make_flight}
-use Rattle.chip_log.proofs.QueuesLemmas.{total-set, total_le}
-use Rattle.chip_log.proofs.LoopLemmas.{outs_few}
+use Rattle.chip_log.proofs.QueuesLemmas.{set_at, total-set, total_le}
 
 -- a step behind others is sent as they leave the process
 sent_at : (was : Bool) (before : List Step) (step : Step) (later : List Step) → AreSent was (before ++ step ∷ later)
@@ -28,13 +27,12 @@ module _ (sizes : Sizes) (x : LogRow) (old new : Order) (ready : IsReady sizes o
   within : x.process < length old.queues
   within = let a = ready.processes in let b = fits.process in omega arith
 
-  own_read : queue_of new.queues x.process ≡ queue_of old.queues x.process ++ x.step ∷ []
-  own_read = ap (λ (qs : List (List Step)). queue_of qs x.process) reads.queues
-      ∙ get_or-set_same old.queues x.process (queue_of old.queues x.process ++ x.step ∷ []) [] within
-
-  other_read : (q : ℕ) → q ≢ x.process → queue_of new.queues q ≡ queue_of old.queues q
-  other_read q ne = ap (λ (qs : List (List Step)). queue_of qs q) reads.queues
-      ∙ get_or-set_other old.queues x.process q (queue_of old.queues x.process ++ x.step ∷ []) [] ne
+  queue_read : (q : ℕ) → queue_of new.queues q ≡ queue_of old.queues q ++ steps_of q (x ∷ [])
+  queue_read q =
+      let a = ap (λ (qs : List (List Step)). queue_of qs q) reads.queues in
+      let b = set_at old.queues x.process q (queue_of old.queues x.process ++ x.step ∷ []) [] within in
+      let c = append-nil (queue_of old.queues q) in
+      grind (arith, nat_tests)
 
   pub read_more : length new.done.items + total new.queues ≡ length old.done.items + total old.queues + 1
   read_more =
@@ -45,11 +43,12 @@ module _ (sizes : Sizes) (x : LogRow) (old new : Order) (ready : IsReady sizes o
       omega arith
 
   read_fits : (q : ℕ) → All (IsOf sizes.channels) (queue_of new.queues q)
-  read_fits q = dite (ℕ_discrete q x.process)
-      (λ e. subst (λ (r : ℕ). All (IsOf sizes.channels) (queue_of new.queues r)) (sym e)
-      (All-same (IsOf sizes.channels) _ _ own_read
-      (All-push (IsOf sizes.channels) (queue_of old.queues x.process) x.step (ready.fits x.process) fits.channel)))
-      (λ ne. All-same (IsOf sizes.channels) _ _ (other_read q ne) (ready.fits q))
+  read_fits q = All-same (IsOf sizes.channels) _ _ (queue_read q)
+      (All-append (IsOf sizes.channels) (queue_of old.queues q) (steps_of q (x ∷ [])) (ready.fits q) (by (eqb x.process q)))
+    where
+      by : (b : Bool) → All (IsOf sizes.channels) (cond b (x.step ∷ []) [])
+      by true = All-cons (IsOf sizes.channels) x.step [] fits.channel (All-nil (IsOf sizes.channels))
+      by false = All-nil (IsOf sizes.channels)
 
   pub read_ready : IsReady sizes new
   read_ready = record {
@@ -59,6 +58,7 @@ module _ (sizes : Sizes) (x : LogRow) (old new : Order) (ready : IsReady sizes o
     channels = reads.channels ∙ ready.channels;
     streams = ap (λ (t : TallyState). t.channels) reads.flight ∙ ready.streams;
     fits = read_fits;
+    done = All-same (FitsRow sizes) _ _ reads.done ready.done;
     flight = λ s.
         let a = ready.flight s in
         let b = ap (λ (t : TallyState). count t s) reads.flight in
@@ -70,17 +70,10 @@ module _ (sizes : Sizes) (x : LogRow) (old new : Order) (ready : IsReady sizes o
 
   pub read_keeps : (log unread : List LogRow) → IsKept log (x ∷ unread) old → IsKept log unread new
   read_keeps log unread kept = record {
-    own = λ q. (λ j. steps_of q (reads.done j) ++ (queue_of new.queues q ++ steps_of q unread))
-        ∙ dite (ℕ_discrete q x.process)
-        (λ e. subst (λ (r : ℕ). steps_of r old.done.items ++ (queue_of new.queues r ++ steps_of r unread) ≡ steps_of r log)
-        (sym e) (ap (λ (zs : List Step). steps_of x.process old.done.items ++ (zs ++ steps_of x.process unread)) own_read
-        ∙ ap (λ (zs : List Step). steps_of x.process old.done.items ++ zs)
-        (append_assoc (queue_of old.queues x.process) (x.step ∷ []) (steps_of x.process unread)
-        ∙ ap (λ (zs : List Step). queue_of old.queues x.process ++ zs) (sym (steps_own x.process x unread refl)))
-        ∙ kept.own x.process))
-        (λ ne. ap (λ (zs : List Step). steps_of q old.done.items ++ (zs ++ steps_of q unread)) (other_read q ne)
-        ∙ ap (λ (zs : List Step). steps_of q old.done.items ++ (queue_of old.queues q ++ zs))
-        (sym (steps_other q x unread (λ e. ne (sym e)))) ∙ kept.own q);
+    own = λ q. (λ j. steps_of q (reads.done j) ++ (queue_read q j ++ steps_of q unread))
+        ∙ ap (λ (zs : List Step). steps_of q old.done.items ++ zs)
+        (append_assoc (queue_of old.queues q) (steps_of q (x ∷ [])) (steps_of q unread)
+        ∙ ap (λ (zs : List Step). queue_of old.queues q ++ zs) (sym (steps_of-append q (x ∷ []) unread))) ∙ kept.own q;
     met = subst (AreMet log []) (sym reads.done) kept.met;
   }
 
@@ -95,14 +88,12 @@ module _ (sizes : Sizes) (old new : Order) (p : ℕ) (step : Step) (later : List
   among : p < length old.queues
   among = let a = ready.processes in omega arith
 
-  own_now : queue_of new.queues p ≡ later
-  own_now = ap (λ (qs : List (List Step)). queue_of qs p) makes.queues
-      ∙ get_or-set_same old.queues p (drop 1 (queue_of old.queues p)) [] among
-      ∙ ap (λ (zs : List Step). drop 1 zs) next
-
-  other_now : (q : ℕ) → q ≢ p → queue_of new.queues q ≡ queue_of old.queues q
-  other_now q ne = ap (λ (qs : List (List Step)). queue_of qs q) makes.queues
-      ∙ get_or-set_other old.queues p q (drop 1 (queue_of old.queues p)) [] ne
+  queue_made : (q : ℕ) → steps_of q (row ∷ []) ++ queue_of new.queues q ≡ queue_of old.queues q
+  queue_made q =
+      let a = ap (λ (qs : List (List Step)). queue_of qs q) makes.queues in
+      let b = set_at old.queues p q (drop 1 (queue_of old.queues p)) [] among in
+      let c = ap (drop 1) next in
+      grind (arith, nat_tests)
 
   one_fewer : total new.queues + 1 ≡ total old.queues
   one_fewer =
@@ -115,16 +106,23 @@ module _ (sizes : Sizes) (old new : Order) (p : ℕ) (step : Step) (later : List
   one_more : length new.done.items ≡ length old.done.items + 1
   one_more = let a = ap length makes.done in let b = length-append old.done.items (row ∷ []) in omega arith
 
+  behind_all : (xs ys : List Step) → All (IsOf sizes.channels) (xs ++ ys) → All (IsOf sizes.channels) ys
+  behind_all [] ys all = all
+  behind_all (y ∷ xs) ys all = behind_all xs ys (All-tail (IsOf sizes.channels) y (xs ++ ys) all)
+
   made_ready : IsReady sizes new
   made_ready = record {
     processes = ap length makes.queues ∙ length-set old.queues p (drop 1 (queue_of old.queues p)) ∙ ready.processes;
     agenda = makes.processes ∙ ready.agenda;
     channels = makes.channels ∙ ready.channels;
     streams = sym makes.flight.same ∙ ready.streams;
-    fits = λ q. dite (ℕ_discrete q p)
-        (λ e. subst (λ (r : ℕ). All (IsOf sizes.channels) (queue_of new.queues r)) (sym e)
-        (All-same (IsOf sizes.channels) _ _ own_now (All-rest (IsOf sizes.channels) step later _ next (ready.fits p))))
-        (λ ne. All-same (IsOf sizes.channels) _ _ (other_now q ne) (ready.fits q));
+    fits = λ q. behind_all (steps_of q (row ∷ [])) (queue_of new.queues q)
+        (All-same (IsOf sizes.channels) _ _ (queue_made q) (ready.fits q));
+    done = All-same (FitsRow sizes) _ _ makes.done (All-push (FitsRow sizes) old.done.items row ready.done (record {
+      process = inside;
+      channel = All-head (IsOf sizes.channels) step later
+          (All-same (IsOf sizes.channels) _ _ (sym next) (ready.fits p));
+    }));
     flight = subst (λ (zs : List LogRow). AreInFlight zs new.flight) (sym makes.done)
         (make_flight old.done.items row old.flight new.flight ready.flight makes.flight);
     few = let a = one_fewer in let b = one_more in let c = ready.few in omega arith;
@@ -146,20 +144,17 @@ module _ (sizes : Sizes) (old new : Order) (p : ℕ) (step : Step) (later : List
             let a = ltb-true 0 (count old.flight s) (ap (is_there old.flight) (sym e) ∙ there) in
             let b = ready.flight s in
             lt-ltb (ins s old.done.items) (outs s old.done.items) (omega arith)
-        by Passive e = refl
-        by Active e = refl
-        by Over e = refl
+        by _ e = refl
 
     made_keeps : IsKept log unread new
     made_keeps = record {
-      own = λ q. dite (ℕ_discrete q p)
-          (λ e. subst (λ (r : ℕ). steps_of r new.done.items ++ (queue_of new.queues r ++ steps_of r unread) ≡ steps_of r log)
-          (sym e) ((λ j. steps_of p (makes.done j) ++ (own_now j ++ steps_of p unread))
-          ∙ ap (λ (zs : List Step). zs ++ (later ++ steps_of p unread)) (steps_push p old.done.items row refl)
-          ∙ append_assoc (steps_of p old.done.items) (step ∷ []) (later ++ steps_of p unread) ∙ own_log))
-          (λ ne. (λ j. steps_of q (makes.done j) ++ (other_now q ne j ++ steps_of q unread))
-          ∙ ap (λ (zs : List Step). zs ++ (queue_of old.queues q ++ steps_of q unread))
-          (steps_push_other q old.done.items row (λ e. ne (sym e))) ∙ kept.own q);
+      own = λ q. (λ j. steps_of q (makes.done j) ++ (queue_of new.queues q ++ steps_of q unread))
+          ∙ ap (λ (zs : List Step). zs ++ (queue_of new.queues q ++ steps_of q unread))
+          (steps_of-append q old.done.items (row ∷ []))
+          ∙ append_assoc (steps_of q old.done.items) (steps_of q (row ∷ [])) (queue_of new.queues q ++ steps_of q unread)
+          ∙ ap (λ (zs : List Step). steps_of q old.done.items ++ zs)
+          (sym (append_assoc (steps_of q (row ∷ [])) (queue_of new.queues q) (steps_of q unread))
+          ∙ ap (λ (zs : List Step). zs ++ steps_of q unread) (queue_made q)) ∙ kept.own q;
       met = subst (AreMet log []) (sym makes.done) (are_met_both log [] old.done.items (row ∷ []) kept.met (is_met_now, tt));
     }
 
@@ -195,6 +190,7 @@ looks sizes o agenda ready processes channels due = record {
     channels = channels ∙ ready.channels;
     streams = ready.streams;
     fits = ready.fits;
+    done = ready.done;
     flight = ready.flight;
     few = ready.few;
   };
@@ -251,7 +247,7 @@ module _ (sizes : Sizes) (o : Order) (ready : IsReady sizes o) (p : ℕ) (step :
   pub out_room : (s : Stream) → count o.flight s + 1 < 2 ^ 32
   out_room s =
       let a = ready.flight s in
-      let b = outs_few s o.done.items in
+      let b = rows_few (is_out s) o.done.items in
       let c = ready.few in
       let d = total_le o.queues p in
       let e = ap length next.1 in

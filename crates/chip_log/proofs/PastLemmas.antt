@@ -1,14 +1,14 @@
 -- Serves Claims.antt.
 -- The least past of a claim: rows before it that it doesn't need go behind it, from the last to the first.
 use Rattle.chip_log.proofs.Names.{◌≡◌, ◌≢◌, ℕ, ◌+◌, ◌≤◌, ◌<◌, Bool, true, false, List, [], ◌∷◌, ◌++◌, length, refl, sym}
-use Rattle.chip_log.proofs.Names.{ap, ◌∙◌, subst, arith, append_assoc, append-nil, length-append, inl, inr, ◌⊎◌}
-use Rattle.chip_log.proofs.Names.{ltb-true, dite, ℕ_discrete, dec_lt, LogRow, Stream, Step, Out, In, Passive, Active}
-use Rattle.chip_log.proofs.Names.{Over, steps_of, is_out, is_in, sends, gets, outs, ins, is_met, AreMet, IsInterleaving}
-use Rattle.chip_log.proofs.Names.{HasEnds, IsBefore, IsPast}
+use Rattle.chip_log.proofs.Names.{ap, ◌∙◌, subst, arith, append-nil, append_assoc, length-append, inl, inr, ltb-true}
+use Rattle.chip_log.proofs.Names.{◌⊎◌, dite, ℕ_discrete, dec_lt, IsPast, IsBefore, steps_of, is_out, outs, ins, HasEnds}
+use Rattle.chip_log.proofs.Names.{sends, gets, count_steps, is_in, is_met, AreMet, IsInterleaving, LogRow, Step, Out}
+use Rattle.chip_log.proofs.Names.{In, Over, Stream}
 use Rattle.chip_log.proofs.PrefixLemmas.{longer_beginning}
-use Rattle.chip_log.proofs.CountLemmas.{ins-append, sends-append, gets-append, steps_of-append, steps_own, steps_other}
-use Rattle.chip_log.proofs.CountLemmas.{outs_is, ins_is, same_stream_is, sends_le, without, steps_moved}
-use Rattle.chip_log.proofs.MetLemmas.{same_self, count_yes, outs_push_le, ins_push, ins_push_no, move}
+use Rattle.chip_log.proofs.CountLemmas.{count-append, rows-append, steps_of-append, steps_own, steps_other, own_few}
+use Rattle.chip_log.proofs.CountLemmas.{all_own, first_own, same_stream_is, without, steps_moved}
+use Rattle.chip_log.proofs.MetLemmas.{owner_is, push_yes, push_no, push_le, same_self, move}
 
 -- ---- lists in which each row is met
 
@@ -39,36 +39,24 @@ met_le s log pre (x ∷ xs) met le = subst (λ (zs : List LogRow). ins s zs ≤ 
     before : (step : Step) (p : ℕ) → is_in s step ≡ true → is_met log pre p step ≡ true → ins s pre < outs s pre
     before (In t) p is here = subst (λ (r : Stream). ins r pre < outs r pre) (sym (same_stream_is s t is))
         (ltb-true (ins t pre) (outs t pre) here)
-    before (Out t) p is here = absurd (cc is)
-    before Passive p is here = absurd (cc is)
-    before Active p is here = absurd (cc is)
-    before Over p is here = absurd (cc is)
+    before _ p is here = absurd (cc is)
 
     by : (b : Bool) → is_in s x.step ≡ b → ins s (pre ++ x ∷ []) ≤ outs s (pre ++ x ∷ [])
     by true is =
         let a = before x.step x.process is met.0 in
-        let b = ins_push s pre x is in
-        let c = outs_push_le s pre x in
+        let b = push_yes (is_in s) pre x is in
+        let c = push_le (is_out s) pre x in
         omega arith
-    by false is = let b = ins_push_no s pre x is in let c = outs_push_le s pre x in omega arith
+    by false is = let b = push_no (is_in s) pre x is in let c = push_le (is_out s) pre x in omega arith
 
 -- ---- what a step needs of those before it
-
-Needs : List LogRow → List LogRow → Step → Type 0
-Needs pre kept step = (s : Stream) × (is_out s step ≡ true) × (outs s pre < ins s pre + ins s kept)
-
-Spares : List LogRow → List LogRow → Step → Type 0
-Spares pre kept step = (s : Stream) → is_out s step ≡ true → ins s pre + ins s kept ≤ outs s pre
 
 pub needs : (pre kept : List LogRow) (step : Step) → ((s : Stream) × (is_out s step ≡ true) × (outs s pre < ins s pre + ins s kept))
     ⊎ ((s : Stream) → is_out s step ≡ true → ins s pre + ins s kept ≤ outs s pre)
 needs pre kept (Out t) = dite (dec_lt (outs t pre) (ins t pre + ins t kept))
     (λ l. inl (t, same_self t, l))
     (λ no. inr (λ s is. subst (λ (r : Stream). ins r pre + ins r kept ≤ outs r pre) (sym (same_stream_is s t is)) (omega arith)))
-needs pre kept (In t) = inr (λ s is. absurd (cc is))
-needs pre kept Passive = inr (λ s is. absurd (cc is))
-needs pre kept Active = inr (λ s is. absurd (cc is))
-needs pre kept Over = inr (λ s is. absurd (cc is))
+needs pre kept _ = inr (λ s is. absurd (cc is))
 
 -- ---- a moment of an interleaving, and what is left behind it
 module _ (log : List LogRow) (ends : HasEnds log) (now rest : List LogRow) (is : IsInterleaving log (now ++ rest)) where
@@ -82,18 +70,10 @@ module _ (log : List LogRow) (ends : HasEnds log) (now rest : List LogRow) (is :
   now_le s = met_le s log [] now now_met (omega arith)
 
   pub outs_by : (s : Stream) → outs s now ≡ sends s (steps_of (ends.sender s) now)
-  outs_by s = outs_is s (ends.sender s) now (λ q ne.
-      let a = ap (sends s) (rest_of q) in
-      let b = sends-append s (steps_of q now) (steps_of q rest) in
-      let c = ends.sends s q ne in
-      omega arith)
+  outs_by s = first_own (is_out s) (ends.sender s) log now (λ q. steps_of q rest) rest_of (ends.sends s)
 
   pub ins_by : (s : Stream) → ins s now ≡ gets s (steps_of (ends.receiver s) now)
-  ins_by s = ins_is s (ends.receiver s) now (λ q ne.
-      let a = ap (gets s) (rest_of q) in
-      let b = gets-append s (steps_of q now) (steps_of q rest) in
-      let c = ends.gets s q ne in
-      omega arith)
+  ins_by s = first_own (is_in s) (ends.receiver s) log now (λ q. steps_of q rest) rest_of (ends.gets s)
 
 module _ (log : List LogRow) (ends : HasEnds log) (p i : ℕ) where
   abbrev claim : LogRow
@@ -139,42 +119,23 @@ module _ (log : List LogRow) (ends : HasEnds log) (p i : ℕ) where
     met : AreMet log [] (pre ++ (x ∷ (through ++ after)))
     met = subst (AreMet log []) all_rows split.before.whole.met
 
-    -- x is of the process that alone gets, or sends, messages of its stream
-    gets_part : (s : Stream) (q : ℕ) → gets s (steps_of q (x ∷ [])) + gets s (steps_of q through) ≤ gets s (steps_of q log)
-    gets_part s q =
-        let a = ap (gets s) (sym (whole q)) in
-        let b = gets-append s (steps_of q pre) (steps_of q (x ∷ (through ++ after))) in
-        let c = ap (gets s) (steps_of-append q (x ∷ []) (through ++ after)) in
-        let d = gets-append s (steps_of q (x ∷ [])) (steps_of q (through ++ after)) in
-        let e = ap (gets s) (steps_of-append q through after) in
-        let f = gets-append s (steps_of q through) (steps_of q after) in
+    counted_part : (test : Step → Bool) (q : ℕ)
+        → count_steps test (steps_of q (x ∷ [])) + count_steps test (steps_of q through) ≤ count_steps test (steps_of q log)
+    counted_part test q =
+        let a = ap (count_steps test) (sym (whole q)) in
+        let b = count-append test (steps_of q pre) (steps_of q (x ∷ (through ++ after))) in
+        let c = ap (count_steps test) (steps_of-append q (x ∷ []) (through ++ after)) in
+        let d = count-append test (steps_of q (x ∷ [])) (steps_of q (through ++ after)) in
+        let e = ap (count_steps test) (steps_of-append q through after) in
+        let f = count-append test (steps_of q through) (steps_of q after) in
         omega arith
 
-    sends_part : (s : Stream) (q : ℕ) → sends s (steps_of q (x ∷ [])) ≤ sends s (steps_of q log)
-    sends_part s q =
-        let a = ap (sends s) (sym (whole q)) in
-        let b = sends-append s (steps_of q pre) (steps_of q (x ∷ (through ++ after))) in
-        let c = ap (sends s) (steps_of-append q (x ∷ []) (through ++ after)) in
-        let d = sends-append s (steps_of q (x ∷ [])) (steps_of q (through ++ after)) in
-        omega arith
-
-    is_receiver : (s : Stream) → is_in s x.step ≡ true → x.process ≡ ends.receiver s
-    is_receiver s is = dite (ℕ_discrete x.process (ends.receiver s)) (λ e. e)
-        (λ ne.
-        let a = ends.gets s x.process ne in
-        let b = gets_part s x.process in
-        let c = ap (gets s) (steps_own x.process x [] refl) in
-        let d = count_yes (is_in s x.step) is in
-        absurd (omega arith))
-
-    is_sender : (s : Stream) → is_out s x.step ≡ true → x.process ≡ ends.sender s
-    is_sender s is = dite (ℕ_discrete x.process (ends.sender s)) (λ e. e)
-        (λ ne.
-        let a = ends.sends s x.process ne in
-        let b = sends_part s x.process in
-        let c = ap (sends s) (steps_own x.process x [] refl) in
-        let d = count_yes (is_out s x.step) is in
-        absurd (omega arith))
+    -- x is of the process that alone has such steps
+    is_owner : (test : Step → Bool) (owner : ℕ) → ((q : ℕ) → q ≢ owner → count_steps test (steps_of q log) ≡ 0)
+        → test x.step ≡ true → x.process ≡ owner
+    is_owner test owner only is = owner_is test owner x.process log (steps_of x.process pre) x.step
+        (steps_of x.process (through ++ after)) only (ap (λ (zs : List Step). steps_of x.process pre ++ zs)
+        (sym (steps_own x.process x (through ++ after) refl)) ∙ whole x.process) is
 
     module _ (none : steps_of x.process kept ≡ []) where
       module _ (ne : x.process ≢ p) (spares : (s : Stream) → is_out s x.step ≡ true → ins s pre + ins s kept ≤ outs s pre) where
@@ -185,13 +146,14 @@ module _ (log : List LogRow) (ends : HasEnds log) (p i : ℕ) where
 
         none_got : (s : Stream) → is_in s x.step ≡ true → ins s through ≡ 0
         none_got s is =
-            ins_is s x.process through
+            all_own (is_in s) x.process through
             (λ q other.
-            let a = gets_part s q in let b = ends.gets s q (λ e. other (e ∙ sym (is_receiver s is))) in omega arith)
+            let a = counted_part (is_in s) q in
+            let b = ends.gets s q (λ e. other (e ∙ sym (is_owner (is_in s) (ends.receiver s) (ends.gets s) is))) in omega arith)
             ∙ ap (gets s) none_through
 
         spared : (s : Stream) → is_out s x.step ≡ true → ins s pre + ins s through ≤ outs s pre
-        spared s is = let a = spares s is in let b = ins-append s kept (claim ∷ []) in omega arith
+        spared s is = let a = spares s is in let b = rows-append (is_in s) kept (claim ∷ []) in omega arith
 
         moved : AreMet log pre (through ++ x ∷ after)
         moved = move log pre through after x none_through none_got spared (are_met_second log [] pre (x ∷ (through ++ after)) met)
@@ -234,11 +196,11 @@ module _ (log : List LogRow) (ends : HasEnds log) (p i : ℕ) where
         pre_le = met_le s log [] pre (are_met_first log [] pre (x ∷ (through ++ after)) met) (omega arith)
 
         kept_by : ins s kept ≡ gets s (steps_of receiver kept)
-        kept_by = ins_is s receiver kept (λ q apart.
-            let a = gets_part s q in
+        kept_by = all_own (is_in s) receiver kept (λ q apart.
+            let a = counted_part (is_in s) q in
             let b = ends.gets s q apart in
             let c = ap (gets s) (steps_of-append q kept (claim ∷ [])) in
-            let d = gets-append s (steps_of q kept) (steps_of q (claim ∷ [])) in
+            let d = count-append (is_in s) (steps_of q kept) (steps_of q (claim ∷ [])) in
             omega arith)
 
         some : steps_of receiver kept ≢ []
@@ -252,7 +214,7 @@ module _ (log : List LogRow) (ends : HasEnds log) (p i : ℕ) where
             (rest_of log ends full (claim ∷ after) split.before.whole receiver)
             (rest_of log ends other (claim ∷ here.after) here.whole receiver) l in
             let a = ap (gets s) more.1 in
-            let b = gets-append s (steps_of receiver full) more.0 in
+            let b = count-append (is_in s) (steps_of receiver full) more.0 in
             let c = ins_by log ends full (claim ∷ after) split.before.whole s in
             let d = ins_by log ends other (claim ∷ here.after) here.whole s in
             omega arith
@@ -270,14 +232,14 @@ module _ (log : List LogRow) (ends : HasEnds log) (p i : ℕ) where
             (steps_of x.process pre) (steps_of x.process (x ∷ (through ++ after))) (steps_of x.process log)
             (rest_of log ends other (claim ∷ here.after) here.whole x.process) (whole x.process) (omega arith) in
             let b = ap (sends s) more.1 in
-            let c = sends-append s (steps_of x.process other) more.0 in
-            let d = sends_le s x.process pre in
+            let c = count-append (is_out s) (steps_of x.process other) more.0 in
+            let d = own_few (is_out s) x.process pre in
             let e = outs_by log ends other (claim ∷ here.after) here.whole s in
-            let f = ap (λ (q : ℕ). sends s (steps_of q other)) (is_sender s is) in
+            let f = ap (λ (q : ℕ). sends s (steps_of q other)) (is_owner (is_out s) (ends.sender s) (ends.sends s) is) in
             let g = now_le log ends other (claim ∷ here.after) here.whole s in
             let h = got in
-            let j = ins-append s (pre ++ x ∷ []) kept in
-            let k = ins-append s pre (x ∷ []) in
+            let j = rows-append (is_in s) (pre ++ x ∷ []) kept in
+            let k = rows-append (is_in s) pre (x ∷ []) in
             absurd (omega arith))
 
   -- ---- all rows, from the last to the first

@@ -1,16 +1,17 @@
 -- Serves Places.antt, Judge.antt.
 -- Claims as they are found, and in order.
-use Rattle.chip_log.proofs.Names.{◌≡◌, ◌≢◌, ℕ, zero, suc, ◌+◌, ◌*◌, ◌^◌, ◌≤◌, ◌<◌, Bool, true, false, cond, eqb, List}
-use Rattle.chip_log.proofs.Names.{[], ◌∷◌, ◌++◌, length, map, take, get_or, set, refl, sym, ap, ◌∙◌, subst, arith}
-use Rattle.chip_log.proofs.Names.{eq-eqb, length-append, length-set, All, AllPairs, ◌&&◌, ◌==◌, count_by, sum_by}
-use Rattle.chip_log.proofs.Names.{slice_get, Some, IsPermutation, IsNonDecreasingBy, ne_eqb, get_or-set_same}
-use Rattle.chip_log.proofs.Names.{get_or-set_other, get_or-map, length-map, map-append, take_more, take_all, All-nil}
-use Rattle.chip_log.proofs.Names.{All-same, All-push, All-get_or, sum_by_push, IsPermutation-map, All-permutation}
-use Rattle.chip_log.proofs.Names.{sum_by-IsPermutation, dite, ℕ_discrete, LogRow, Step, Out, In, Passive, Active, Over}
-use Rattle.chip_log.proofs.Names.{ClaimPlace, steps_of, IsRight, IsPlace, is_over, is_over_at, is_claim, RowPlace}
-use Rattle.chip_log.proofs.Names.{is_at, IsNoLater, place_at, ArePlaces, IsKnown, AreFound}
-use Rattle.chip_log.proofs.CountLemmas.{steps_push, steps_push_other}
-use Rattle.chip_log.proofs.MetLemmas.{count_yes, count_no, count_same}
+use Rattle.chip_log.proofs.Names.{◌≡◌, ℕ, ◌+◌, ◌≤◌, ◌<◌, Bool, true, false, eqb, List, [], ◌∷◌, ◌++◌, length, get_or}
+use Rattle.chip_log.proofs.Names.{refl, sym, ap, ◌∙◌, arith, cond, append-nil, ◌^◌, take, suc, length-append, zero, ◌*◌}
+use Rattle.chip_log.proofs.Names.{map, set, length-take, eqb-true, take_more, get_or-map, length-map, map-append}
+use Rattle.chip_log.proofs.Names.{take_all, All-same, All-push, All-nil, IsPermutation-map, All-permutation}
+use Rattle.chip_log.proofs.Names.{sum_by-IsPermutation, sum_by_push, IsNonDecreasingBy, ◌&&◌, Some, All, AllPairs, ◌==◌}
+use Rattle.chip_log.proofs.Names.{count_by, slice_get, IsPermutation, IsRight, place_at, ArePlaces, IsKnown, is_over}
+use Rattle.chip_log.proofs.Names.{is_over_at, is_claim, RowPlace, is_at, IsNoLater, steps_of, nat_tests, IsPlace}
+use Rattle.chip_log.proofs.Names.{AreFound, ClaimPlace, LogRow, Step, Over}
+use Rattle.chip_log.proofs.CountLemmas.{steps_of-append}
+use Rattle.chip_log.proofs.MetLemmas.{count_same}
+use Rattle.chip_log.proofs.LoopLemmas.{steps_few}
+use Rattle.chip_log.proofs.QueuesLemmas.{set_at}
 
 -- ---- one more step
 
@@ -18,15 +19,12 @@ over_none : (xs : List Step) → is_over_at xs (length xs) ≡ false
 over_none [] = refl
 over_none (x ∷ xs) = over_none xs
 
-over_push : (xs : List Step) (x : Step) → is_over_at (xs ++ x ∷ []) (length xs) ≡ is_over x
-over_push [] x = refl
-over_push (y ∷ xs) x = over_push xs x
-
-over_push_other : (xs : List Step) (x : Step) (i : ℕ) → i ≢ length xs → is_over_at (xs ++ x ∷ []) i ≡ is_over_at xs i
-over_push_other [] x zero ne = absurd (ne refl)
-over_push_other [] x (suc i) ne = refl
-over_push_other (y ∷ xs) x zero ne = refl
-over_push_other (y ∷ xs) x (suc i) ne = over_push_other xs x i (λ e. ne (ap suc e))
+over_next : (xs : List Step) (x : Step) (i : ℕ)
+    → is_over_at (xs ++ x ∷ []) i ≡ cond (eqb i (length xs)) (is_over x) (is_over_at xs i)
+over_next [] x zero = refl
+over_next [] x (suc i) = grind (arith, nat_tests)
+over_next (y ∷ xs) x zero = grind (arith, nat_tests)
+over_next (y ∷ xs) x (suc i) = let a = over_next xs x i in grind (arith, nat_tests)
 
 -- ---- one more row
 
@@ -34,7 +32,14 @@ abbrev pub one_at : ℕ → ℕ → RowPlace → ℕ
 one_at p i x = cond (is_at p i x) 1 0
 
 pub at_itself : (x : RowPlace) → is_at x.process x.row x ≡ true
-at_itself x = ap (λ (b : Bool). b && (x.row == x.row)) (eq-eqb x.process x.process refl) ∙ eq-eqb x.row x.row refl
+at_itself x = grind (arith, nat_tests)
+
+pub at_is : (p i : ℕ) (x : RowPlace) → is_at p i x ≡ true → (x.process ≡ p) × (x.row ≡ i)
+at_is p i x is = (grind (arith, nat_tests), grind (arith, nat_tests))
+
+count_more : (b over was now : Bool) → now ≡ cond b over was → (b ≡ true → was ≡ false)
+    → cond was 1 0 + cond (b && over) 1 0 ≡ cond now 1 0
+count_more b over was now is none = grind arith
 
 -- the claims of the first n rows, and how many rows each process has there
 pub record AreFoundIn (log : List LogRow) (n : ℕ) (claims : List ClaimPlace) (counts : List ℕ) : Type 0 where
@@ -61,12 +66,14 @@ found_all log n claims counts past is = record {
       (ap (λ (rows : List LogRow). is_claim rows p i) (take_all n log past));
 }
 
+pub few_rows : (log : List LogRow) (n : ℕ) (claims : List ClaimPlace) (counts : List ℕ) → AreFoundIn log n claims counts
+    → n < length log → length log < 2 ^ 32 → (q : ℕ) → get_or counts q 0 + 1 < 2 ^ 32
+few_rows log n claims counts was l short q =
+    let a = was.rows q in let b = steps_few q (take n log) in let d = length-take n log in omega arith
+
 pub no_over : (step : Step) → (step ≡ Over → ⊥) → is_over step ≡ false
 no_over Over differs = absurd (differs refl)
-no_over (Out s) differs = refl
-no_over (In s) differs = refl
-no_over Passive differs = refl
-no_over Active differs = refl
+no_over _ differs = refl
 
 module _ (log : List LogRow) (n : ℕ) (d : LogRow) (l : n < length log) (claims : List ClaimPlace) (counts : List ℕ)
     (was : AreFoundIn log n claims counts) where
@@ -76,40 +83,43 @@ module _ (log : List LogRow) (n : ℕ) (d : LogRow) (l : n < length log) (claims
   abbrev row : ℕ
   row = get_or counts x.process 0
 
-  own : steps_of x.process (take (n + 1) log) ≡ steps_of x.process (take n log) ++ x.step ∷ []
-  own = ap (steps_of x.process) (take_more log n d l) ∙ steps_push x.process (take n log) x refl
-
-  other : (q : ℕ) → x.process ≢ q → steps_of q (take (n + 1) log) ≡ steps_of q (take n log)
-  other q ne = ap (steps_of q) (take_more log n d l) ∙ steps_push_other q (take n log) x ne
+  more : (q : ℕ) → steps_of q (take (n + 1) log) ≡ steps_of q (take n log) ++ steps_of q (x ∷ [])
+  more q = ap (steps_of q) (take_more log n d l) ∙ steps_of-append q (take n log) (x ∷ [])
 
   counted : x.process < length counts → (q : ℕ) → get_or (set counts x.process (row + 1)) q 0
       ≡ length (steps_of q (take (n + 1) log))
-  counted within q = dite (ℕ_discrete x.process q)
-      (λ e. subst (λ (r : ℕ). get_or (set counts x.process (row + 1)) r 0 ≡ length (steps_of r (take (n + 1) log))) e
-      (let a = get_or-set_same counts x.process (row + 1) 0 within in
-      let b = ap length own in
-      let c = length-append (steps_of x.process (take n log)) (x.step ∷ []) in
-      let f = was.rows x.process in
-      omega arith))
-      (λ ne. get_or-set_other counts x.process q (row + 1) 0 (λ e. ne (sym e)) ∙ was.rows q
-      ∙ ap length (sym (other q ne)))
+  counted within q =
+      let a = set_at counts x.process q (row + 1) 0 within in
+      let b = ap length (more q) in
+      let c = length-append (steps_of q (take n log)) (steps_of q (x ∷ [])) in
+      let e = was.rows q in
+      grind (arith, nat_tests)
 
-  -- at another place nothing changes
-  claim_other : (p i : ℕ) → (x.process ≡ p → i ≢ row) → is_claim (take (n + 1) log) p i ≡ is_claim (take n log) p i
-  claim_other p i apart = dite (ℕ_discrete x.process p)
-      (λ e. subst (λ (q : ℕ). is_claim (take (n + 1) log) q i ≡ is_claim (take n log) q i) e
-      (ap (λ (steps : List Step). is_over_at steps i) own
-      ∙ over_push_other (steps_of x.process (take n log)) x.step i (λ same. apart e (same ∙ sym (was.rows x.process)))))
-      (λ ne. ap (λ (steps : List Step). is_over_at steps i) (other p ne))
+  abbrev place : RowPlace
+  place = record { process = x.process; row = row }
 
-  none_yet : is_claim (take n log) x.process row ≡ false
-  none_yet = ap (is_over_at (steps_of x.process (take n log))) (was.rows x.process)
-      ∙ over_none (steps_of x.process (take n log))
+  place_is : (p i : ℕ) → is_at p i place ≡ true → i ≡ length (steps_of p (take n log))
+  place_is p i at = let e = at_is p i place at in
+      sym e.1 ∙ was.rows x.process ∙ ap (λ (q : ℕ). length (steps_of q (take n log))) e.0
 
-  claim_here : is_claim (take (n + 1) log) x.process row ≡ is_over x.step
-  claim_here = ap (λ (steps : List Step). is_over_at steps row) own
-      ∙ ap (is_over_at (steps_of x.process (take n log) ++ x.step ∷ [])) (was.rows x.process)
-      ∙ over_push (steps_of x.process (take n log)) x.step
+  claim_next : (p i : ℕ)
+      → is_claim (take (n + 1) log) p i ≡ cond (is_at p i place) (is_over x.step) (is_claim (take n log) p i)
+  claim_next p i = ap (λ (steps : List Step). is_over_at steps i) (more p) ∙ by (eqb x.process p) refl
+    where
+      by : (b : Bool) → eqb x.process p ≡ b → is_over_at (steps_of p (take n log) ++ cond b (x.step ∷ []) []) i
+          ≡ cond (b && (row == i)) (is_over x.step) (is_claim (take n log) p i)
+      by false other = ap (λ (steps : List Step). is_over_at steps i) (append-nil (steps_of p (take n log)))
+      by true own =
+          let a = over_next (steps_of p (take n log)) x.step i in
+          let b = was.rows x.process in
+          let c = ap (λ (q : ℕ). length (steps_of q (take n log))) (eqb-true x.process p own) in
+          grind (arith, nat_tests)
+
+  one_more : (p i : ℕ) → cond (is_claim (take n log) p i) 1 0 + cond (is_at p i place && is_over x.step) 1 0
+      ≡ cond (is_claim (take (n + 1) log) p i) 1 0
+  one_more p i = count_more (is_at p i place) (is_over x.step) (is_claim (take n log) p i)
+      (is_claim (take (n + 1) log) p i) (claim_next p i) (λ at.
+      ap (is_over_at (steps_of p (take n log))) (place_is p i at) ∙ over_none (steps_of p (take n log)))
 
   -- a row that is no claim
   pub found_none : x.process < length counts → is_over x.step ≡ false
@@ -117,45 +127,14 @@ module _ (log : List LogRow) (n : ℕ) (d : LogRow) (l : n < length log) (claims
   found_none within plain = record {
     each = was.each;
     few = was.few;
-    once = λ p i. was.once p i ∙ count_same (is_claim (take n log) p i) (is_claim (take (n + 1) log) p i) (same p i);
+    once = λ p i. let a = was.once p i in let b = one_more p i in grind (arith, nat_tests);
     rows = counted within;
   }
-    where
-      same : (p i : ℕ) → is_claim (take n log) p i ≡ is_claim (take (n + 1) log) p i
-      same p i = dite (ℕ_discrete x.process p)
-          (λ e. subst (λ (q : ℕ). is_claim (take n log) q i ≡ is_claim (take (n + 1) log) q i) e
-          (dite (ℕ_discrete i row)
-          (λ at. subst (λ (k : ℕ). is_claim (take n log) x.process k ≡ is_claim (take (n + 1) log) x.process k) (sym at)
-          (none_yet ∙ sym (claim_here ∙ plain)))
-          (λ ne. sym (claim_other x.process i (λ _. ne)))))
-          (λ ne. sym (claim_other p i (λ e. absurd (ne e))))
 
   -- a claim
   module _ (within : x.process < length counts) (over : x.step ≡ Over) (few : row < 2 ^ 32) where
     abbrev here : ClaimPlace
     here = record { process = x.process; row = row; at = n }
-
-    one_more : (p i : ℕ) → cond (is_claim (take n log) p i) 1 0 + one_at p i (place_at here)
-        ≡ cond (is_claim (take (n + 1) log) p i) 1 0
-    one_more p i = dite (ℕ_discrete x.process p)
-        (λ e. subst (λ (q : ℕ). cond (is_claim (take n log) q i) 1 0 + one_at q i (place_at here)
-        ≡ cond (is_claim (take (n + 1) log) q i) 1 0) e
-        (dite (ℕ_discrete i row)
-        (λ at. subst (λ (k : ℕ). cond (is_claim (take n log) x.process k) 1 0 + one_at x.process k (place_at here)
-        ≡ cond (is_claim (take (n + 1) log) x.process k) 1 0) (sym at)
-        (let a = count_no (is_claim (take n log) x.process row) none_yet in
-        let b = count_yes (is_claim (take (n + 1) log) x.process row) (claim_here ∙ ap is_over over) in
-        let c = count_yes (is_at x.process row (place_at here)) (at_itself (place_at here)) in
-        omega arith))
-        (λ ne.
-        let a = count_same _ _ (claim_other x.process i (λ _. ne)) in
-        let c = count_no (is_at x.process i (place_at here))
-        (ap (λ (b : Bool). b && (row == i)) (eq-eqb x.process x.process refl) ∙ ne_eqb row i (λ e. ne (sym e))) in
-        omega arith)))
-        (λ ne.
-        let a = count_same _ _ (claim_other p i (λ e. absurd (ne e))) in
-        let c = count_no (is_at p i (place_at here)) (ap (λ (b : Bool). b && (row == i)) (ne_eqb x.process p ne)) in
-        omega arith)
 
     pub found_one : slice_get log n ≡ Some x → AreFoundIn log (n + 1) (claims ++ here ∷ []) (set counts x.process (row + 1))
     found_one is = record {
@@ -165,9 +144,12 @@ module _ (log : List LogRow) (n : ℕ) (d : LogRow) (l : n < length log) (claims
       });
       few = All-push (λ (claim : ClaimPlace). claim.row < 2 ^ 32) claims here was.few few;
       once = λ p i.
-          ap (λ (places : List RowPlace). count_by (is_at p i) places) (map-append place_at claims (here ∷ []))
-          ∙ sum_by_push (one_at p i) (map place_at claims) (place_at here)
-          ∙ ap (λ (k : ℕ). k + one_at p i (place_at here)) (was.once p i) ∙ one_more p i;
+          let a = ap (λ (places : List RowPlace). count_by (is_at p i) places) (map-append place_at claims (here ∷ [])) in
+          let b = sum_by_push (one_at p i) (map place_at claims) (place_at here) in
+          let c = was.once p i in
+          let e = one_more p i in
+          let f = ap is_over over in
+          grind (arith, nat_tests);
       rows = counted within;
     }
 
@@ -182,15 +164,10 @@ sorted_places log old new was moves sorted = record {
         ∙ was.once p i;
     sorted = λ i j d less inside.
         let many : j < length new = (let a = length-map new place_at in omega arith) in
+        let first : i < length new = omega arith in
         let e : ClaimPlace = record { process = 0; row = 0; at = 0 } in
-        subst (λ (y : RowPlace). IsNoLater (get_or (map place_at new) i d) y)
-        (sym (get_or-map place_at new j e d many))
-        (subst (λ (x : RowPlace). IsNoLater x (place_at (get_or new j e)))
-        (sym (get_or-map place_at new i e d (omega arith)))
-        (no_later (get_or new i e) (get_or new j e)
-        (All-get_or (λ (claim : ClaimPlace). claim.row < 2 ^ 32) new i e (omega arith) few)
-        (All-get_or (λ (claim : ClaimPlace). claim.row < 2 ^ 32) new j e many few)
-        (sorted i j e (omega arith) many)));
+        rw (get_or-map place_at new i e d first, get_or-map place_at new j e d many)
+        (no_later (get_or new i e) (get_or new j e) (few i e first) (few j e many) (sorted i j e (omega arith) many));
   };
 }
   where
@@ -204,26 +181,21 @@ sorted_places log old new was moves sorted = record {
 -- ---- the right one before a claim
 
 pub record IsRightBefore (log : List LogRow) (places : List ClaimPlace) (n : ℕ) (earlier : ClaimPlace) : Type 0 where
-  pub number : ℕ
-  pub before : number < n
-  pub here : get_or places number earlier ≡ earlier
+  pub place : IsPlace log earlier
   pub right : IsRight log earlier.process earlier.row
+  pub before : (k : ℕ) (d : ClaimPlace) → n ≤ k → k < length places → IsNoLater (place_at earlier) (place_at (get_or places k d))
 
-pub known : (log : List LogRow) (places : List ClaimPlace) (n : ℕ) (d earlier : ClaimPlace) → ArePlaces log places
-    → n < length places → IsRightBefore log places n earlier → IsKnown log (get_or places n d) earlier
-known log places n d earlier are inside is = record {
-  place = subst (IsPlace log) is.here (are.each is.number earlier (let a = is.before in omega arith));
+pub known : (log : List LogRow) (places : List ClaimPlace) (n : ℕ) (d earlier : ClaimPlace) → n < length places
+    → IsRightBefore log places n earlier → IsKnown log (get_or places n d) earlier
+known log places n d earlier inside is = record {
+  place = is.place;
   right = is.right;
-  before = λ same. in_order.row same;
+  before = λ same. (is.before n d (omega arith) inside).row same;
 }
-  where
-    first : get_or (map place_at places) is.number (place_at earlier) ≡ place_at earlier
-    first = get_or-map place_at places is.number earlier (place_at earlier) (let a = is.before in omega arith)
-        ∙ ap place_at is.here
 
-    in_order : IsNoLater (place_at earlier) (place_at (get_or places n d))
-    in_order = subst (λ (y : RowPlace). IsNoLater (place_at earlier) y)
-        (get_or-map place_at places n d (place_at earlier) inside)
-        (subst (λ (x : RowPlace). IsNoLater x (get_or (map place_at places) n (place_at earlier))) first
-        (are.all.sorted is.number n (place_at earlier) is.before
-        (let a = length-map places place_at in omega arith)))
+pub in_order : (places : List ClaimPlace) → AllPairs IsNoLater (map place_at places) → (i j : ℕ) (d : ClaimPlace) → i < j
+    → j < length places → IsNoLater (place_at (get_or places i d)) (place_at (get_or places j d))
+in_order places sorted i j d less inside =
+    let first : i < length places = omega arith in
+    rw (get_or-map place_at places i d (place_at d) first, get_or-map place_at places j d (place_at d) inside)
+    at (sorted i j (place_at d) less (let a = length-map places place_at in omega arith))

@@ -1,6 +1,6 @@
 -- Lists and how they begin (as in chip_trace).
-use Rattle.chip_log.proofs.Names.{◌≡◌, ℕ, ◌≤◌, List, ◌++◌, length, take, drop, sym, ap, ◌∙◌, take-append_seam}
-use Rattle.chip_log.proofs.Names.{take-append-le, take-append-drop}
+use Rattle.chip_log.proofs.Names.{◌≡◌, ℕ, ◌≤◌, List, ◌++◌, length, sym, ap, ◌∙◌, take, drop, take-append_seam}
+use Rattle.chip_log.proofs.Names.{take-append-drop, take-append-le}
 
 module _ {A : Type 0} where
   pub beginning_is : (xs rest all : List A) → xs ++ rest ≡ all → xs ≡ take (length xs) all

@@ -1,8 +1,16 @@
 -- Serves Queues.antt.
 -- One queue changes.
-use Rattle.chip_log.proofs.Names.{◌≡◌, ℕ, zero, suc, ◌+◌, ◌<◌, ◌≤◌, List, [], ◌∷◌, length, map, set, get_or, replicate}
-use Rattle.chip_log.proofs.Names.{refl, sym, ap, ◌∙◌, arith, map-set, get_or-map, length-map, get_or-replicate}
-use Rattle.chip_log.proofs.Names.{get_or_past, length-replicate, dite, dec_lt, Step, queue_of, total}
+use Rattle.chip_log.proofs.Names.{◌≡◌, ℕ, ◌+◌, ◌≤◌, ◌<◌, eqb, List, [], ◌∷◌, length, get_or, refl, sym, ap, ◌∙◌, arith}
+use Rattle.chip_log.proofs.Names.{cond, suc, zero, map, set, replicate, get_or-set_other, get_or_past, get_or-map}
+use Rattle.chip_log.proofs.Names.{length-map, map-set, get_or-replicate, length-replicate, dite, ℕ_discrete, dec_lt}
+use Rattle.chip_log.proofs.Names.{nat_tests, get_or-set_at, queue_of, total, Step}
+
+-- what stands where after one of a list is set
+pub set_at : {A : Type 0} (xs : List A) (i j : ℕ) (x d : A) → i < length xs
+    → get_or (set xs i x) j d ≡ cond (eqb i j) x (get_or xs j d)
+set_at xs i j x d l = dite (ℕ_discrete j i)
+    (λ e. let a = get_or-set_at xs i j x d e l in grind (arith, nat_tests))
+    (λ ne. let a = get_or-set_other xs i j x d ne in grind (arith, nat_tests))
 
 module _ {X : Type 0} (f : X → List Step) (xs : List X) (queues : List (List Step)) (is : map f xs ≡ queues) (p : ℕ)
     (l : p < length queues) (q : X) (here : q ≡ get_or xs p q) where

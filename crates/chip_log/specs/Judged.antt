@@ -1,5 +1,5 @@
 -- The verdicts on all claims of a log, and its end.
-use Rattle.std.specs.Prelude.{◌≡◌, ℕ, zero, suc, ◌<◌, ◌≤◌, ◌==◌, ◌&&◌, Bool, true, false, if◌then◌else◌, MatchBool}
+use Rattle.std.specs.Prelude.{◌≡◌, ℕ, zero, suc, ◌<◌, ◌≤◌, ◌==◌, ◌&&◌, Bool, true, false, if◌then◌else◌}
 use Rattle.std.specs.Prelude.{List, [], ◌∷◌, length, map, All, AllPairs, count_by, sum_by}
 use Rattle.chip_log.specs.declared.row.LogRow.{LogRow}
 use Rattle.chip_log.specs.declared.row.Stream.{Stream}
@@ -65,11 +65,15 @@ abbrev pub is_early : Verdict → Bool
 is_early verdict.Right = false
 is_early _ = true
 
+-- the rows of the least past of step i of p, or none if they are not shown
+abbrev pub AreShown : Bool → List LogRow → ℕ → ℕ → List PastRows → Type 0
+AreShown true log p i past = (before : List LogRow) × IsPast log p i before × AreRowsOf before past
+AreShown false log p i past = past ≡ []
+
 -- the verdict on a claim, and of an early one the rows of its least past if they are asked for
 pub record IsJudged (with_past : Bool) (log : List LogRow) (c : ClaimVerdict) : Type 0 where
   pub verdict : IsVerdict log c.process c.row c.verdict
-  pub past : MatchBool (with_past && is_early c.verdict)
-      ((before : List LogRow) × IsPast log c.process c.row before × AreRowsOf before c.past.items) (c.past.items ≡ [])
+  pub past : AreShown (with_past && is_early c.verdict) log c.process c.row c.past.items
 
 -- ---- the end
 
@@ -97,6 +101,10 @@ IsEnd log other = NoneRight log × IsOpenEnd log other
 
 abbrev pub place_of : ClaimVerdict → RowPlace
 place_of c = record { process = c.process; row = c.row }
+
+-- what is told of a claim
+abbrev pub told_of : ClaimVerdict → RowPlace × Verdict × List PastRows
+told_of c = (place_of c, c.verdict, c.past.items)
 
 -- all claims, each judged
 pub record AreJudged (with_past : Bool) (log : List LogRow) (claims : List ClaimVerdict) : Type 0 where

@@ -1,9 +1,9 @@
 -- The laws of claims.
-use Rattle.std.specs.Prelude.{◌≡◌, ℕ, ◌≤◌, Bool, List, length}
+use Rattle.std.specs.Prelude.{◌≡◌, ℕ, ◌≤◌, Bool, List, length, map}
 use Rattle.chip_log.specs.Log.{steps_of, IsInterleaving, HasEnds}
 use Rattle.chip_log.specs.Order.{IsProgress, IsGreatest, IsStuck}
 use Rattle.chip_log.specs.Claims.{IsBefore, IsPast, IsSilent, IsVerdict}
-use Rattle.chip_log.specs.Judged.{IsJudgedLog}
+use Rattle.chip_log.specs.Judged.{IsJudgedLog, told_of}
 use Rattle.chip_log.specs.declared.row.LogRow.{LogRow}
 use Rattle.chip_log.specs.declared.judged.JudgedLog.{JudgedLog}
 use Rattle.chip_log.specs.declared.verdict.Verdict.{Verdict}
@@ -40,3 +40,9 @@ OnePlace = (log : List LogRow) (p i q j : ℕ) → HasEnds log → IsStuck log p
 abbrev pub SameJudgment : Type 0
 SameJudgment = (with_past : Bool) (log other : List LogRow) (judged : JudgedLog) → HasEnds log
     → ((p : ℕ) → steps_of p log ≡ steps_of p other) → IsJudgedLog with_past log judged → IsJudgedLog with_past other judged
+
+-- a log has one judgment: the same is told of its claims, in one order, and of its end
+abbrev pub OneJudgment : Type 0
+OneJudgment = (with_past : Bool) (log : List LogRow) (one two : JudgedLog) → HasEnds log
+    → IsJudgedLog with_past log one → IsJudgedLog with_past log two
+    → (map told_of one.claims.items ≡ map told_of two.claims.items) × (one.end ≡ two.end)

@@ -1,6 +1,6 @@
 -- Logs of a distributed program, and their interleavings.
 use Rattle.std.specs.Prelude.{◌≡◌, ℕ, ◌+◌, ◌==◌, nat_lt, Bool, true, false, ◌&&◌, not, if◌then◌else◌}
-use Rattle.std.specs.Prelude.{List, [], ◌∷◌, ◌++◌}
+use Rattle.std.specs.Prelude.{List, [], ◌∷◌, ◌++◌, map}
 use Rattle.chip_log.specs.declared.row.LogRow.{LogRow}
 use Rattle.chip_log.specs.declared.row.Stream.{Stream}
 use Rattle.chip_log.specs.declared.row.Step.{Step}
@@ -25,26 +25,27 @@ abbrev pub is_in : Stream → Step → Bool
 is_in s (In t) = same_stream s t
 is_in s _ = false
 
+-- how many of these steps pass a test
+abbrev pub count_steps : (Step → Bool) → List Step → ℕ
+count_steps test [] = 0
+count_steps test (step ∷ steps) = (if test step then 1 else 0) + count_steps test steps
+
 -- how many messages of a stream these steps send, and get
 abbrev pub sends : Stream → List Step → ℕ
-sends s [] = 0
-sends s (step ∷ steps) = (if is_out s step then 1 else 0) + sends s steps
+sends s steps = count_steps (is_out s) steps
 
 abbrev pub gets : Stream → List Step → ℕ
-gets s [] = 0
-gets s (step ∷ steps) = (if is_in s step then 1 else 0) + gets s steps
+gets s steps = count_steps (is_in s) steps
 
--- all steps of these rows, of whatever processes
-abbrev pub all_steps : List LogRow → List Step
-all_steps [] = []
-all_steps (x ∷ xs) = x.step ∷ all_steps xs
+-- of these rows, of whatever processes
+abbrev pub count_rows : (Step → Bool) → List LogRow → ℕ
+count_rows test xs = count_steps test (map (λ x. x.step) xs)
 
--- how many messages of a stream these rows send, and get
 abbrev pub outs : Stream → List LogRow → ℕ
-outs s xs = sends s (all_steps xs)
+outs s xs = count_rows (is_out s) xs
 
 abbrev pub ins : Stream → List LogRow → ℕ
-ins s xs = gets s (all_steps xs)
+ins s xs = count_rows (is_in s) xs
 
 -- ---- activity
 

@@ -4,7 +4,7 @@ use Rattle.std.specs.Prelude.{slice_set, drop, Option, Some, None}
 use Rattle.chip_log.specs.Log.{steps_of, begins_active, AreMet}
 use Rattle.chip_log.specs.Tally.{TallyState, count}
 use Rattle.chip_log.specs.Books.{Passes, IsOf}
-use Rattle.chip_log.specs.Past.{AreInFlight}
+use Rattle.chip_log.specs.Past.{AreInFlight, Fits}
 use Rattle.chip_log.specs.Queues.{queue_of, total}
 use Rattle.chip_log.specs.Order.{AreSent}
 use Rattle.chip_log.specs.declared.row.LogRow.{LogRow}
@@ -25,6 +25,7 @@ pub record IsReady (sizes : Sizes) (o : Order) : Type 0 where
   pub channels : o.agenda.channels ≡ sizes.channels
   pub streams : o.flight.channels ≡ sizes.channels
   pub fits : (p : ℕ) → All (IsOf sizes.channels) (queue_of o.queues p)
+  pub done : Fits sizes o.done.items
   pub flight : AreInFlight o.done.items o.flight
   pub few : length o.done.items + total o.queues < 2 ^ 32
 

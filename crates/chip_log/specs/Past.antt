@@ -1,5 +1,5 @@
 -- What is known of the least past of a claim.
-use Rattle.std.specs.Prelude.{◌≡◌, ℕ, ◌+◌, ◌<◌, List, [], length, take, slice_get, Some}
+use Rattle.std.specs.Prelude.{◌≡◌, ℕ, ◌+◌, ◌^◌, ◌<◌, List, [], length, take, slice_get, Some}
 use Rattle.std.specs.Prelude.{All}
 use Rattle.chip_log.specs.declared.row.LogRow.{LogRow}
 use Rattle.chip_log.specs.declared.row.Stream.{Stream}
@@ -24,6 +24,12 @@ pub record FitsRow (sizes : Sizes) (x : LogRow) : Type 0 where
 
 abbrev pub Fits : Sizes → List LogRow → Type 0
 Fits sizes log = All (FitsRow sizes) log
+
+-- it is one, of these sizes, with fewer rows than a count has room for
+pub record IsInOrder (sizes : Sizes) (rows : List LogRow) : Type 0 where
+  pub log : IsLog rows
+  pub fits : Fits sizes rows
+  pub few : length rows < 2 ^ 32
 
 -- a claim stands at this place
 pub record IsPlace (log : List LogRow) (claim : ClaimPlace) : Type 0 where

@@ -3,7 +3,7 @@
 ghost use Rattle.std.specs.Prelude.{◌≡◌, ◌^◌, ◌<◌, not, [], length, IfOk, MatchBool, MatchResult};
 ghost use Rattle.std.specs.List.{list_any};
 ghost use Rattle.std.specs.Option.{ForSome};
-ghost use Rattle.chip_log.specs.Past.{IsLog, Fits, IsPlace, AreSized};
+ghost use Rattle.chip_log.specs.Past.{IsInOrder, Fits, IsPlace, AreSized};
 ghost use Rattle.chip_log.specs.Order.{IsWellFormed, IsOrderFault};
 ghost use Rattle.chip_log.specs.Judged.{is_early, AreJudged, IsOpenEnd, IsJudgedLog};
 ghost use Rattle.chip_log.specs.Judge.{IsFirstWay, first_step, IsFirstBusy, busy_at, AreBeginners, IsLeft};
@@ -49,9 +49,7 @@ fn judge_ordered<W: ClaimWatch>(
     with_past: bool,
     watch: &mut W,
 ) -> Result<JudgedLog, AllocError>
-    requires log { IsLog rows.now }
-    requires fits { Fits sizes rows.now }
-    requires few { length rows.now < 2 ^ 32 }
+    requires order { IsInOrder sizes rows.now }
     ensures { IfOk result (IsJudgedLog with_past rows.now) }
 {
     let beginners = beginners(alloc, sizes, rows)?;
@@ -73,9 +71,7 @@ fn judge_all<W: ClaimWatch>(
     with_past: bool,
     watch: &mut W,
 ) -> Result<Vec<ClaimVerdict>, AllocError>
-    requires log { IsLog rows.now }
-    requires fits { Fits sizes rows.now }
-    requires few { length rows.now < 2 ^ 32 }
+    requires order { IsInOrder sizes rows.now }
     requires beginners { AreBeginners sizes rows.now beginners.now }
     ensures { IfOk result (λ claims. AreJudged with_past rows.now claims.items) }
 {
@@ -106,9 +102,7 @@ fn judge_next(
     right: Option<ClaimPlace>,
     with_past: bool,
 ) -> Result<ClaimVerdict, AllocError>
-    requires log { IsLog rows.now }
-    requires fits { Fits sizes rows.now }
-    requires few { length rows.now < 2 ^ 32 }
+    requires order { IsInOrder sizes rows.now }
     requires beginners { AreBeginners sizes rows.now beginners.now }
     requires place { IsPlace rows.now place }
     requires right { ForSome right (IsKnown rows.now place) }
@@ -134,9 +128,7 @@ fn judge_claim(
     place: ClaimPlace,
     with_past: bool,
 ) -> Result<ClaimVerdict, AllocError>
-    requires log { IsLog rows.now }
-    requires fits { Fits sizes rows.now }
-    requires few { length rows.now < 2 ^ 32 }
+    requires order { IsInOrder sizes rows.now }
     requires beginners { AreBeginners sizes rows.now beginners.now }
     requires place { IsPlace rows.now place }
     ensures { IfOk result (Judges with_past rows.now place) }
@@ -190,9 +182,7 @@ fn open_end(
     rows: &[LogRow],
     beginners: &[Option<bool>],
 ) -> Result<LogEnd, AllocError>
-    requires log { IsLog rows.now }
-    requires fits { Fits sizes rows.now }
-    requires few { length rows.now < 2 ^ 32 }
+    requires order { IsInOrder sizes rows.now }
     requires beginners { AreBeginners sizes rows.now beginners.now }
     ensures { IfOk result (IsOpenEnd rows.now) }
 {
@@ -277,12 +267,9 @@ fn beginners(alloc: Global, sizes: Sizes, rows: &[LogRow]) -> Result<Vec<Option<
     ensures { IfOk result (λ beginners. AreBeginners sizes rows.now beginners.items) }
 {
     let mut beginners = vec![in alloc; None; sizes.processes as usize]?;
-    let mut next = 0;
-    while next < rows.len() {
-        let row = rows[next];
+    for row in rows {
         let begins = beginners[row.process as usize];
         beginners[row.process as usize] = first_of(begins, row.step);
-        next += 1;
     }
     Ok(beginners)
 }

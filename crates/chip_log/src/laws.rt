@@ -1,7 +1,7 @@
 //! The laws of logs.
 
-ghost use Rattle.chip_log.specs.Laws.{LeastPast, MostProgress, OnePlace, OneVerdict, SameJudgment, SilentPast};
-ghost use Rattle.chip_log.specs.Laws.{StuckOrder};
+ghost use Rattle.chip_log.specs.Laws.{LeastPast, MostProgress, OneJudgment, OnePlace, OneVerdict};
+ghost use Rattle.chip_log.specs.Laws.{SameJudgment, SilentPast, StuckOrder};
 ghost use Rattle.chip_log.specs.Worked.{WorkedLog};
 
 /// Who is active in a small log, by the definitions.
@@ -42,4 +42,9 @@ pub fn one_place()
 /// What is judged does not depend on how the rows of processes are mixed.
 pub fn same_judgment()
     ensures { SameJudgment }
+{}
+
+/// A log has one judgment: the same is told of its claims, in one order, and of its end.
+pub fn one_judgment()
+    ensures { OneJudgment }
 {}

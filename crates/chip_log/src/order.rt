@@ -3,6 +3,7 @@
 ghost use Rattle.std.specs.Prelude.{◌≡◌, ◌+◌, ◌^◌, ◌<◌, true, [], length, ℕ, IfOk, MatchOption, MatchResult};
 ghost use Rattle.chip_log.specs.Log.{IsInterleaving, steps_of};
 ghost use Rattle.chip_log.specs.Books.{IsOf};
+ghost use Rattle.chip_log.specs.Past.{Fits};
 ghost use Rattle.chip_log.specs.Queues.{total};
 ghost use Rattle.chip_log.specs.Order.{IsWellFormed, IsOrderFault};
 ghost use Rattle.chip_log.specs.Ordering.{is_there, IsReady, Reads, IsNext, Makes, IsKept, GoesOn, IsSettled, IsFirstLeft};
@@ -162,12 +163,8 @@ fn rows_of(rows: &[LogRow], process: u32) -> u64
     ensures { result ≡ length (steps_of process rows.now) }
 {
     let mut count = 0;
-    let mut next = 0;
-    while next < rows.len() {
-        if rows[next].process == process {
-            count += 1;
-        }
-        next += 1;
+    for row in rows {
+        count += u64::from(row.process == process);
     }
     count
 }
@@ -179,14 +176,13 @@ pub fn ordered(alloc: Global, sizes: Sizes, rows: &[LogRow]) -> Result<Vec<LogRo
     requires well_formed { IsWellFormed sizes rows.now }
     requires few { length rows.now < 2 ^ 32 }
     ensures order { MatchResult result (λ ordered. IsInterleaving rows.now ordered.items) (IsOrderFault rows.now) }
+    ensures fits { IfOk result (λ ordered. Fits sizes ordered.items) }
     ensures few { IfOk result (λ ordered. length ordered.items < 2 ^ 32) }
 {
     let mut order = Order::new(alloc, sizes)?;
-    let mut next = 0;
-    while next < rows.len() {
-        order.read(rows[next])?;
+    for row in rows {
+        order.read(*row)?;
         order.run(sizes)?;
-        next += 1;
     }
     order.settle(sizes)?;
     match order.first_left(sizes) {

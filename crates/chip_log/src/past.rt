@@ -1,7 +1,7 @@
 //! The least past of a claim.
 
 ghost use Rattle.std.specs.Prelude.{◌≡◌, ◌^◌, ◌<◌, ◌≤◌, [], length, take, IfOk};
-ghost use Rattle.chip_log.specs.Past.{IsLog, Fits, IsPlace, IsPastOf, AreSized, AreBooks, AreKept};
+ghost use Rattle.chip_log.specs.Past.{IsInOrder, Fits, IsPlace, IsPastOf, AreSized, AreBooks, AreKept};
 
 use crate::books::Books;
 use crate::row::LogRow;
@@ -31,9 +31,7 @@ pub(crate) fn past_of(
     rows: &[LogRow],
     claim: ClaimPlace,
 ) -> Result<Books, AllocError>
-    requires log { IsLog rows.now }
-    requires fits { Fits sizes rows.now }
-    requires few { length rows.now < 2 ^ 32 }
+    requires order { IsInOrder sizes rows.now }
     requires claim { IsPlace rows.now claim }
     ensures { IfOk result (IsPastOf rows.now sizes claim) }
 {
@@ -45,9 +43,7 @@ pub(crate) fn past_of(
 
 /// Makes the steps of all rows before a place.
 fn make_all(books: &mut Books, sizes: Sizes, rows: &[LogRow], at: usize)
-    requires log { IsLog rows.now }
-    requires fits { Fits sizes rows.now }
-    requires few { length rows.now < 2 ^ 32 }
+    requires order { IsInOrder sizes rows.now }
     requires place { at ≤ length rows.now }
     requires sized { AreSized sizes books.old }
     requires none { AreBooks [] [] books.old }
@@ -64,9 +60,7 @@ fn make_all(books: &mut Books, sizes: Sizes, rows: &[LogRow], at: usize)
 
 /// Looks at all rows before a claim, from the last to the first.
 fn look_at_all(books: &mut Books, sizes: Sizes, rows: &[LogRow], claim: ClaimPlace)
-    requires log { IsLog rows.now }
-    requires fits { Fits sizes rows.now }
-    requires few { length rows.now < 2 ^ 32 }
+    requires order { IsInOrder sizes rows.now }
     requires claim { IsPlace rows.now claim }
     requires claimer { books.old.claimer ≡ claim.process }
     requires sized { AreSized sizes books.old }

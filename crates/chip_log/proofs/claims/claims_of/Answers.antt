@@ -1,4 +1,4 @@
-use Rattle.chip_log.proofs.Names.{ℕ, ◌+◌, ◌*◌, rules, IsNonDecreasingBy-from_sort_by_key, ClaimPlace}
+use Rattle.chip_log.proofs.Names.{◌+◌, ◌*◌, rules, IsNonDecreasingBy-from_sort_by_key, ClaimPlace}
 use Rattle.chip_log.proofs.PlacesLemmas.{sorted_places}
 use Rattle.chip_log.proofs.claims.claims_of.Goals as goal
 

@@ -1,16 +1,11 @@
-use Rattle.chip_log.proofs.Names.{◌≡◌, ℕ, ◌+◌, ◌^◌, ◌<◌, List, false, ◌++◌, ◌∷◌, [], length, set, get_or, take}
-use Rattle.chip_log.proofs.Names.{replicate, length-take, ap, sym, ◌∙◌, subst, arith, length-set, Vec, Global}
-use Rattle.chip_log.proofs.Names.{get_or_default, length-replicate, take_all, All-get_or, slice_get-get_or, LogRow, Out}
-use Rattle.chip_log.proofs.Names.{ClaimPlace, FitsRow, AreFound}
-use Rattle.chip_log.proofs.LoopLemmas.{steps_few}
+use Rattle.chip_log.proofs.Names.{◌≡◌, ℕ, ◌+◌, ◌<◌, List, [], ◌∷◌, ◌++◌, length, get_or, sym, ap, ◌∙◌, subst, arith}
+use Rattle.chip_log.proofs.Names.{length-set, ◌^◌, set, replicate, Vec, Global, length-replicate, get_or_default}
+use Rattle.chip_log.proofs.Names.{All-get_or, slice_get-get_or, FitsRow, ClaimPlace}
+use Rattle.chip_log.proofs.LoopLemmas.{no_row}
+use Rattle.chip_log.proofs.PlacesLemmas.{AreFoundIn, found_nothing, found_all, few_rows, no_over, found_none, found_one}
 use Rattle.chip_log.proofs.QueuesLemmas.{all_same}
-use Rattle.chip_log.proofs.PlacesLemmas.{AreFoundIn, found_nothing, found_all, found_none, found_one, no_over}
 use Rattle.chip_log.proofs.claims.found.Goals.{in-Over+in_ok-push, in_default}
 use Rattle.chip_log.proofs.claims.found.Goals as goal
-
--- what is read behind the last row
-abbrev none : LogRow
-none = record { process = 0; step = Out (record { channel = 0; is_control = false }) }
 
 pub loop-at-init : goal.loop-at-init
 loop-at-init c =
@@ -25,36 +20,28 @@ loop-at-init c =
 
 pub overflow_add-count : goal.overflow_add-count
 overflow_add-count c =
-    let x = get_or c.args.rows.now c.loop-at.at none in
-    let fits = All-get_or (FitsRow c.args.sizes) c.args.rows.now c.loop-at.at none c.loop-at-test.true c.requires.fits in
-    let within : x.process < length c.loop-at.counts.items =
+    let x = get_or c.args.rows.now c.loop-at.at no_row in
+    let fits = All-get_or (FitsRow c.args.sizes) c.args.rows.now c.loop-at.at no_row c.loop-at-test.true c.requires.fits in
+    let count = c.index-count.ensures ∙ get_or_default c.loop-at.counts.items x.process _ 0
     (let a = c.loop-at.invariant.sized in let b = fits.process in omega arith) in
-    let count = c.index-count.ensures ∙ get_or_default c.loop-at.counts.items x.process _ 0 within in
-    let a = c.loop-at.invariant.found.rows x.process in
-    let b = steps_few x.process (take c.loop-at.at c.args.rows.now) in
-    let d = length-take c.loop-at.at c.args.rows.now in
-    let e = c.loop-at-test.true in
-    let f = c.requires.few in
+    let a = few_rows c.args.rows.now c.loop-at.at c.loop-at.claims.items c.loop-at.counts.items c.loop-at.invariant.found
+    c.loop-at-test.true c.requires.few x.process in
     omega arith
 
 pub loop-at-preserved : goal.loop-at-preserved
 loop-at-preserved c =
     let rows = c.args.rows.now in
     let at = c.loop-at.at in
-    let x = get_or c.args.rows.now c.loop-at.at none in
+    let x = get_or c.args.rows.now c.loop-at.at no_row in
     let counts = c.loop-at.counts.items in
     let inv = c.loop-at.invariant in
     let l = c.loop-at-test.true in
-    let fits = All-get_or (FitsRow c.args.sizes) rows at none l c.requires.fits in
+    let fits = All-get_or (FitsRow c.args.sizes) rows at no_row l c.requires.fits in
     let within : x.process < length counts = (let a = inv.sized in let b = fits.process in omega arith) in
     let count : c.index-count.result.now ≡ get_or counts x.process 0 =
     (c.index-count.ensures ∙ get_or_default counts x.process _ 0 within) in
     let few : get_or counts x.process 0 < 2 ^ 32 =
-    (let a = inv.found.rows x.process in
-    let b = steps_few x.process (take at rows) in
-    let d = length-take at rows in
-    let f = c.requires.few in
-    omega arith) in
+    (let a = few_rows rows at c.loop-at.claims.items counts inv.found l c.requires.few x.process in omega arith) in
     record {
       place = omega arith;
       sized = length-set counts x.process (c.index-count.result.now + 1) ∙ inv.sized;
@@ -65,13 +52,13 @@ loop-at-preserved c =
                 (set counts x.process (get_or counts x.process 0 + 1)))
                 (sym (ap (λ (v : Vec ClaimPlace Global). v.items) w.claims-is ∙ w.in_ok-push.ensures.items
                 ∙ ap (λ (n : ℕ). c.loop-at.claims.items ++ record { process = x.process; row = n; at = at } ∷ []) count))
-                (found_one rows at none l c.loop-at.claims.items counts inv.found within w.in-Over.is few
-                (slice_get-get_or rows at none l))
+                (found_one rows at no_row l c.loop-at.claims.items counts inv.found within w.in-Over.is few
+                (slice_get-get_or rows at no_row l))
             | in_default w ↦
                 subst (λ (claims : List ClaimPlace). AreFoundIn rows (at + 1) claims
                 (set counts x.process (get_or counts x.process 0 + 1)))
                 (sym (ap (λ (v : Vec ClaimPlace Global). v.items) w.claims-is))
-                (found_none rows at none l c.loop-at.claims.items counts inv.found within (no_over x.step w.in_default.not-Over))
+                (found_none rows at no_row l c.loop-at.claims.items counts inv.found within (no_over x.step w.in_default.not-Over))
           ]);
     }
 

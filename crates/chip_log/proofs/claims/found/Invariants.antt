@@ -1,4 +1,4 @@
-use Rattle.chip_log.proofs.Names.{◌≡◌, ◌≤◌, ◌-◌, length}
+use Rattle.chip_log.proofs.Names.{◌≡◌, ◌≤◌, length, ◌-◌}
 use Rattle.chip_log.proofs.PlacesLemmas.{AreFoundIn}
 use Rattle.chip_log.proofs.claims.found.Given as goal
 

@@ -1,11 +1,5 @@
-use Rattle.chip_log.proofs.Names.{◌≤◌, ◌-◌, length, take, AreBeginners}
+use Rattle.chip_log.proofs.Names.{take, AreBeginners}
 use Rattle.chip_log.proofs.judge.beginners.Given as goal
 
-abbrev pub invariant-loop-next : goal.invariant-loop-next
-invariant-loop-next l = record {
-  place : l.next ≤ length l.rows;
-  made : AreBeginners l.fn.sizes (take l.next l.rows) l.beginners.items;
-}
-
-abbrev pub decreases-loop-next : goal.decreases-loop-next
-decreases-loop-next l = length l.rows - l.next
+abbrev pub invariant-loop-row : goal.invariant-loop-row
+invariant-loop-row l = AreBeginners l.fn.sizes (take l.row-index l.rows) l.beginners.items

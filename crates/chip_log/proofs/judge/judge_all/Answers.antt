@@ -1,6 +1,6 @@
-use Rattle.chip_log.proofs.Names.{◌≡◌, ℕ, ◌+◌, ◌<◌, List, ◌∷◌, ◌++◌, [], length, map, take, get_or, sym, ap, ◌∙◌, subst}
-use Rattle.chip_log.proofs.Names.{arith, Some, All-same, All-push, ClaimPlace, ClaimVerdict, IsPlace, IsJudged}
-use Rattle.chip_log.proofs.Names.{place_of, place_at, Judges, IsKnown}
+use Rattle.chip_log.proofs.Names.{◌≡◌, ◌+◌, ◌<◌, List, [], ◌∷◌, ◌++◌, length, get_or, sym, ◌∙◌, subst, arith, take, map}
+use Rattle.chip_log.proofs.Names.{All-same, All-push, Some, place_at, IsKnown, Judges, IsJudged, place_of, IsPlace}
+use Rattle.chip_log.proofs.Names.{ClaimVerdict, ClaimPlace}
 use Rattle.chip_log.proofs.PlacesLemmas.{known}
 use Rattle.chip_log.proofs.RightLemmas.{one_judged, right_now, right_more, all_judged}
 use Rattle.chip_log.proofs.judge.judge_all.Goals.{then-not-is_early, else-not-is_early}
@@ -16,13 +16,11 @@ judge_next-requires g c =
     let inside : c.loop-next.next < length c.in_ok-places.places.items =
     (let a = c.loop-next-test.true in let b = c.len.ensures in omega arith) in
     record {
-      log = c.requires.log;
-      fits = c.requires.fits;
-      few = c.requires.few;
+      order = c.requires.order;
       beginners = c.requires.beginners;
       place = subst (IsPlace rows) (sym c.index-place.ensures) (c.in_ok-places.ensures.each n d inside);
       right = λ x is. subst (λ (place : ClaimPlace). IsKnown rows place x) (sym c.index-place.ensures)
-          (known rows places n d x c.in_ok-places.ensures inside (c.loop-next.invariant.right x is));
+          (known rows places n d x inside (c.loop-next.invariant.right x is));
     }
 
 pub loop-next-preserved : goal.loop-next-preserved
@@ -49,7 +47,7 @@ loop-next-preserved g c =
       each = All-same (IsJudged c.args.with_past rows) c.push.new.self.items (claims ++ claim ∷ []) c.in_ok-push.ensures.items
           (All-push (IsJudged c.args.with_past rows) claims claim inv.each judges.judged);
       right = elim c.if-not-is_early.branch [
-        | then-not-is_early w ↦ λ x is. right_now c.args.with_past rows places n d inside claims claim judges
+        | then-not-is_early w ↦ λ x is. right_now c.args.with_past rows places n d inside claims claim judges c.in_ok-places.ensures
             (sym c.is_early.ensures ∙ w.if-not-is_early.true) x
             (sym c.index-place.ensures ∙ (let e : Some d ≡ Some x = sym w.right-is ∙ is in cc))
         | else-not-is_early w ↦ λ x is. right_more rows places n x (inv.right x (sym w.right-is ∙ is))

@@ -1,4 +1,4 @@
-use Rattle.chip_log.proofs.Names.{◌≡◌, ◌≤◌, ◌-◌, length, map, take, All, ForSome, IsJudged, place_of, place_at}
+use Rattle.chip_log.proofs.Names.{◌≡◌, ◌≤◌, length, ◌-◌, take, map, ForSome, All, place_at, IsJudged, place_of}
 use Rattle.chip_log.proofs.PlacesLemmas.{IsRightBefore}
 use Rattle.chip_log.proofs.judge.judge_all.Given as goal
 

@@ -1,5 +1,4 @@
-use Rattle.chip_log.proofs.Names.{◌≡◌, Bool, List, [], ap, sym, ◌∙◌, subst, refl, MatchBool, ◌&&◌, LogRow, IsPast}
-use Rattle.chip_log.proofs.Names.{is_early, AreRowsOf}
+use Rattle.chip_log.proofs.Names.{◌≡◌, Bool, sym, ap, ◌∙◌, subst, ◌&&◌, is_early, AreShown}
 use Rattle.chip_log.proofs.JudgeLemmas.{verdict_left, past_left}
 use Rattle.chip_log.proofs.RightLemmas.{judges}
 use Rattle.chip_log.proofs.judge.judge_claim.Goals.{then-with_past, else-with_past}
@@ -20,12 +19,11 @@ returns c =
       row = c.from.result;
       verdict = c.left_of-verdict.result;
       past = c.in_ok-counts_of.field-0;
-    }) refl c.from.ensures (
-      verdict_left c.args.rows.now c.requires.log c.args.sizes c.requires.fits c.args.place c.in_ok-books.books
+    }) (λ k. record { process = c.args.place.process; row = c.from.ensures k }) (
+      verdict_left c.args.rows.now c.requires.order.log c.args.sizes c.requires.order.fits c.args.place c.in_ok-books.books
           c.in_ok-books.ensures c.args.beginners.now c.requires.beginners v c.left_of-verdict.ensures,
-      subst (λ (b : Bool). MatchBool b ((before : List LogRow)
-          × IsPast c.args.rows.now c.args.place.process c.args.place.row before × AreRowsOf before past) (past ≡ [])) asked
-          (past_left c.args.rows.now c.requires.log c.args.sizes c.requires.fits c.args.place c.in_ok-books.books
+      subst (λ (b : Bool). AreShown b c.args.rows.now c.args.place.process c.args.place.row past) asked
+          (past_left c.args.rows.now c.requires.order.log c.args.sizes c.requires.order.fits c.args.place c.in_ok-books.books
           c.in_ok-books.ensures c.args.beginners.now c.requires.beginners c.if-with_past.counts_of past
           c.in_ok-counts_of.ensures),
     )

@@ -1,14 +1,16 @@
-use Rattle.chip_log.proofs.Names.{ℕ, ◌<◌, ◌^◌, List, length, ap, sym, ◌∙◌, subst, LogRow, IsInterleaving}
-use Rattle.chip_log.proofs.SameLemmas.{judged_log_as, fits_as, is_log, ends_as}
+use Rattle.chip_log.proofs.Names.{◌<◌, List, length, sym, subst, ◌^◌, IsInterleaving, Fits, LogRow}
+use Rattle.chip_log.proofs.SameLemmas.{ends_as, judged_log_as, is_log}
 use Rattle.chip_log.proofs.judge.judge_log.Goals as goal
 
 pub judge_ordered-requires : goal.judge_ordered-requires
 judge_ordered-requires g c =
     let is = subst (IsInterleaving c.args.rows.now) (sym c.deref.ensures.value) c.in_ok-order.ensures.order in
     record {
-      log = is_log c.args.rows.now c.deref.result.now is c.requires.well_formed.ends;
-      fits = fits_as c.args.sizes c.args.rows.now c.deref.result.now (λ p. sym (is.whole p)) c.requires.well_formed.fits;
-      few = subst (λ (zs : List LogRow). length zs < 2 ^ 32) (sym c.deref.ensures.value) c.in_ok-order.ensures.few;
+      order = record {
+        log = is_log c.args.rows.now c.deref.result.now is c.requires.well_formed.ends;
+        fits = subst (Fits c.args.sizes) (sym c.deref.ensures.value) c.in_ok-order.ensures.fits;
+        few = subst (λ (zs : List LogRow). length zs < 2 ^ 32) (sym c.deref.ensures.value) c.in_ok-order.ensures.few;
+      };
     }
 
 pub returns : goal.returns

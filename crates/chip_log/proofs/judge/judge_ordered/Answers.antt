@@ -1,11 +1,11 @@
-use Rattle.chip_log.proofs.Names.{List, sym, ap, ◌∙◌, not, list_any, ClaimVerdict, is_early}
+use Rattle.chip_log.proofs.Names.{List, sym, ap, ◌∙◌, list_any, not, is_early, ClaimVerdict}
 use Rattle.chip_log.proofs.RightLemmas.{none_right, one_right, open_is_end}
 use Rattle.chip_log.proofs.judge.judge_ordered.Goals as goal
 
 pub returns-then-is_one_right : goal.returns-then-is_one_right
 returns-then-is_one_right g c = record {
   claims = c.in_ok-claims.ensures;
-  end = one_right c.args.rows.now c.requires.log.ends c.args.with_past c.in_ok-claims.claims.items c.in_ok-claims.ensures
+  end = one_right c.args.rows.now c.requires.order.log.ends c.args.with_past c.in_ok-claims.claims.items c.in_ok-claims.ensures
       (ap (λ (claims : List ClaimVerdict). list_any (λ claim. not (is_early claim.verdict)) claims)
       (sym c.deref-2.ensures.value) ∙ sym c.is_one_right.ensures ∙ c.if-is_one_right.true);
 }
@@ -14,7 +14,7 @@ pub returns : goal.returns
 returns g c = record {
   claims = c.in_ok-claims.ensures;
   end = open_is_end c.args.rows.now c.in_ok-end.end
-      (none_right c.args.rows.now c.requires.log.ends c.args.with_past c.in_ok-claims.claims.items c.in_ok-claims.ensures
+      (none_right c.args.rows.now c.requires.order.log.ends c.args.with_past c.in_ok-claims.claims.items c.in_ok-claims.ensures
       (ap (λ (claims : List ClaimVerdict). list_any (λ claim. not (is_early claim.verdict)) claims)
       (sym c.deref-2.ensures.value) ∙ sym c.is_one_right.ensures ∙ c.if-is_one_right.false))
       c.in_ok-end.ensures;

@@ -1,19 +1,15 @@
-use Rattle.chip_log.proofs.Names.{◌≡◌, ◌-◌, ℕ, List, false, arith, get_or, drop, length-drop, ap, sym, subst, drop_all}
-use Rattle.chip_log.proofs.Names.{All-get_or, LogRow, Out, TallyState, FitsRow, AreKept}
+use Rattle.chip_log.proofs.Names.{◌≡◌, ℕ, List, get_or, sym, ap, subst, arith, ◌-◌, drop, length-drop, drop_all}
+use Rattle.chip_log.proofs.Names.{All-get_or, AreKept, FitsRow, TallyState, LogRow}
 use Rattle.chip_log.proofs.BooksLemmas.{kept_more}
-use Rattle.chip_log.proofs.LoopLemmas.{keep_room, kept_sized, from_last}
+use Rattle.chip_log.proofs.LoopLemmas.{keep_room, no_row, from_last, kept_sized}
 use Rattle.chip_log.proofs.past.books_of_all.Goals as goal
-
--- what is read behind the last row
-abbrev none : LogRow
-none = record { process = 0; step = Out (record { channel = 0; is_control = false }) }
 
 pub keep-requires : goal.keep-requires
 keep-requires c =
     let inv = c.loop-left.invariant in
     let a = length-drop c.loop-left.left c.args.rows.now in
-    keep_room c.args.sizes (get_or c.args.rows.now (c.loop-left.left - 1) none) (drop c.loop-left.left c.args.rows.now)
-    c.loop-left.books (All-get_or (FitsRow c.args.sizes) c.args.rows.now (c.loop-left.left - 1) none (omega arith) c.requires.fits)
+    keep_room c.args.sizes (get_or c.args.rows.now (c.loop-left.left - 1) no_row) (drop c.loop-left.left c.args.rows.now)
+    c.loop-left.books (All-get_or (FitsRow c.args.sizes) c.args.rows.now (c.loop-left.left - 1) no_row (omega arith) c.requires.fits)
     inv.sized inv.keeps (omega arith)
 
 pub loop-left-init : goal.loop-left-init
@@ -28,14 +24,14 @@ pub loop-left-preserved : goal.loop-left-preserved
 loop-left-preserved c =
     let inv = c.loop-left.invariant in
     let a = length-drop c.loop-left.left c.args.rows.now in
-    let fits = All-get_or (FitsRow c.args.sizes) c.args.rows.now (c.loop-left.left - 1) none (omega arith) c.requires.fits in
+    let fits = All-get_or (FitsRow c.args.sizes) c.args.rows.now (c.loop-left.left - 1) no_row (omega arith) c.requires.fits in
     record {
       place = omega arith;
       sized = kept_sized c.args.sizes _ _ c.loop-left.books c.keep.new.self inv.sized
           (ap (λ (t : TallyState). t.channels) c.keep.ensures.flight) c.keep.ensures.keeps;
       keeps = subst (λ (zs : List LogRow). AreKept zs c.keep.new.self)
-          (sym (from_last c.args.rows.now c.loop-left.left none (omega arith) (omega arith)))
-          (kept_more (drop c.loop-left.left c.args.rows.now) (get_or c.args.rows.now (c.loop-left.left - 1) none)
+          (sym (from_last c.args.rows.now c.loop-left.left no_row (omega arith) (omega arith)))
+          (kept_more (drop c.loop-left.left c.args.rows.now) (get_or c.args.rows.now (c.loop-left.left - 1) no_row)
           c.loop-left.books c.keep.new.self
           (let b = fits.process in let d = inv.sized.processes in omega arith)
           (let b = fits.process in let d = inv.sized.counted in omega arith) inv.keeps c.keep.ensures.keeps);

@@ -1,4 +1,4 @@
-use Rattle.chip_log.proofs.Names.{◌≤◌, length, drop, AreSized, AreKept}
+use Rattle.chip_log.proofs.Names.{◌≤◌, length, drop, AreKept, AreSized}
 use Rattle.chip_log.proofs.past.books_of_all.Given as goal
 
 abbrev pub invariant-loop-left : goal.invariant-loop-left

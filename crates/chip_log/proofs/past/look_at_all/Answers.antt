@@ -1,35 +1,31 @@
-use Rattle.chip_log.proofs.Names.{◌≡◌, ℕ, [], false, take, arith, ◌∙◌, subst, LogRow, Out}
+use Rattle.chip_log.proofs.Names.{◌≡◌, ℕ, [], ◌∙◌, subst, arith, take}
 use Rattle.chip_log.proofs.PastLemmas.{IsSplit, past_of_split}
-use Rattle.chip_log.proofs.LoopLemmas.{turn_room, turn_looked, kept_sized, within, start_split}
+use Rattle.chip_log.proofs.LoopLemmas.{no_row, turn_room, turn_looked, kept_sized, within, start_split}
 use Rattle.chip_log.proofs.past.look_at_all.Goals as goal
-
--- what is read behind the last row
-abbrev none : LogRow
-none = record { process = 0; step = Out (record { channel = 0; is_control = false }) }
 
 pub look-requires : goal.look-requires
 look-requires c =
     let inv = c.loop-left.invariant in
-    turn_room c.args.rows.now c.requires.log c.args.sizes c.requires.fits c.requires.few inv.ends c.args.claim.process
-    c.args.claim.row c.loop-left.left none (omega arith) (omega arith) inv.kept c.loop-left.books inv.sized inv.split inv.books
+    turn_room c.args.rows.now c.args.sizes c.requires.order inv.ends c.args.claim.process
+    c.args.claim.row c.loop-left.left no_row (omega arith) (omega arith) inv.kept c.loop-left.books inv.sized inv.split inv.books
     inv.short
 
 pub loop-left-init : goal.loop-left-init
 loop-left-init c = record {
   claimer = c.requires.claimer;
   sized = c.requires.sized;
-  ends = c.requires.log.ends;
+  ends = c.requires.order.log.ends;
   kept = [];
-  short = let a = within c.args.rows.now c.requires.log c.args.claim c.requires.claim in omega arith;
-  split = start_split c.args.rows.now c.requires.log c.args.claim c.requires.claim;
+  short = let a = within c.args.rows.now c.requires.order.log c.args.claim c.requires.claim in omega arith;
+  split = start_split c.args.rows.now c.requires.order.log c.args.claim c.requires.claim;
   books = c.requires.made;
 }
 
 pub loop-left-preserved : goal.loop-left-preserved
 loop-left-preserved c =
     let inv = c.loop-left.invariant in
-    let found = turn_looked c.args.rows.now c.requires.log c.args.sizes c.requires.fits c.requires.few inv.ends
-    c.args.claim.process c.args.claim.row c.loop-left.left none (omega arith) (omega arith) inv.kept c.loop-left.books
+    let found = turn_looked c.args.rows.now c.args.sizes c.requires.order inv.ends
+    c.args.claim.process c.args.claim.row c.loop-left.left no_row (omega arith) (omega arith) inv.kept c.loop-left.books
     inv.sized inv.split inv.books inv.short c.look.new.self inv.claimer c.look.ensures.passes c.look.ensures.keeps in
     record {
       claimer = c.look.ensures.keeps.claimer ∙ inv.claimer;

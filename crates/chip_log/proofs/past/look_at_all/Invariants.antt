@@ -1,4 +1,4 @@
-use Rattle.chip_log.proofs.Names.{◌≡◌, ◌≤◌, ◌+◌, List, length, take, LogRow, HasEnds, AreSized, AreBooks}
+use Rattle.chip_log.proofs.Names.{◌≡◌, ◌+◌, ◌≤◌, List, length, take, HasEnds, AreBooks, AreSized, LogRow}
 use Rattle.chip_log.proofs.PastLemmas.{IsSplit}
 use Rattle.chip_log.proofs.past.look_at_all.Given as goal
 

@@ -1,18 +1,14 @@
-use Rattle.chip_log.proofs.Names.{ℕ, ◌<◌, List, length, take, get_or, false, arith, ap, sym, ◌∙◌, subst, take_more}
-use Rattle.chip_log.proofs.Names.{LogRow, Out, Said, slice_index_or, TallyState, count, AreInFlight}
+use Rattle.chip_log.proofs.Names.{ℕ, ◌<◌, List, length, get_or, sym, ap, ◌∙◌, subst, arith, take, take_more}
+use Rattle.chip_log.proofs.Names.{slice_index_or, AreInFlight, TallyState, count, Said, LogRow}
 use Rattle.chip_log.proofs.BooksLemmas.{make_flight}
-use Rattle.chip_log.proofs.LoopLemmas.{make_room}
+use Rattle.chip_log.proofs.LoopLemmas.{no_row, make_room}
 use Rattle.chip_log.specs.declared.books.Said.TheVariants as said
 use Rattle.chip_log.proofs.past.make_all.Goals as goal
-
--- what is read behind the last row
-abbrev none : LogRow
-none = record { process = 0; step = Out (record { channel = 0; is_control = false }) }
 
 pub make-requires-clause-room : goal.make-requires-clause-room
 make-requires-clause-room c =
     let l : c.loop-next.next < length c.args.rows.now = omega arith in
-    make_room c.args.rows.now c.requires.log c.args.sizes c.requires.fits c.requires.few c.loop-next.next none l
+    make_room c.args.rows.now c.args.sizes c.requires.order c.loop-next.next no_row l
     c.loop-next.books.flight c.loop-next.invariant.made.flight
 
 pub loop-next-preserved : goal.loop-next-preserved
@@ -32,8 +28,8 @@ loop-next-preserved c =
       };
       made = record {
         flight = subst (λ (zs : List LogRow). AreInFlight zs c.make.new.self.flight)
-            (sym (take_more c.args.rows.now c.loop-next.next none l))
-            (make_flight (take c.loop-next.next c.args.rows.now) (get_or c.args.rows.now c.loop-next.next none)
+            (sym (take_more c.args.rows.now c.loop-next.next no_row l))
+            (make_flight (take c.loop-next.next c.args.rows.now) (get_or c.args.rows.now c.loop-next.next no_row)
             c.loop-next.books.flight c.make.new.self.flight inv.made.flight made.makes);
         keeps = record {
           taken = λ s. ap (λ (t : TallyState). count t s) made.taken ∙ inv.made.keeps.taken s;

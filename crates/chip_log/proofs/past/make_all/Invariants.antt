@@ -1,4 +1,4 @@
-use Rattle.chip_log.proofs.Names.{◌≡◌, ◌≤◌, ◌-◌, [], take, AreSized, AreBooks}
+use Rattle.chip_log.proofs.Names.{◌≡◌, ◌≤◌, [], ◌-◌, take, AreBooks, AreSized}
 use Rattle.chip_log.proofs.past.make_all.Given as goal
 
 abbrev pub invariant-loop-next : goal.invariant-loop-next

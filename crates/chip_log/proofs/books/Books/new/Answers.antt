@@ -1,4 +1,4 @@
-use Rattle.chip_log.proofs.Names.{ℕ, List, get_or, arith, ap, ◌∙◌, Said}
+use Rattle.chip_log.proofs.Names.{ℕ, List, get_or, ap, ◌∙◌, arith, Said}
 use Rattle.chip_log.proofs.QueuesLemmas.{all_same}
 use Rattle.chip_log.specs.declared.books.Said.TheVariants as said
 use Rattle.chip_log.proofs.books.Books.new.Goals as goal

@@ -1,4 +1,4 @@
-use Rattle.chip_log.proofs.Names.{below_more, arith, sym, ◌∙◌, [], get_or_past, dite, dec_lt, queue_of}
+use Rattle.chip_log.proofs.Names.{[], sym, ◌∙◌, arith, below_more, get_or_past, dite, dec_lt, queue_of}
 use Rattle.chip_log.proofs.OrderingLemmas.{head_none, some_left}
 use Rattle.chip_log.proofs.order.Order.first_left.Goals as goal
 

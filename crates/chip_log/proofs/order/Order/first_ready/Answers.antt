@@ -1,5 +1,5 @@
-use Rattle.chip_log.proofs.Names.{below_more, arith, sym, ap, ◌∙◌, [], get_or_past, dite, dec_lt, queue_of, is_there}
-use Rattle.chip_log.proofs.OrderingLemmas.{head_some, head_none, next_in_flight, one_next, no_next}
+use Rattle.chip_log.proofs.Names.{[], sym, ap, ◌∙◌, arith, below_more, get_or_past, dite, dec_lt, is_there, queue_of}
+use Rattle.chip_log.proofs.OrderingLemmas.{head_some, head_none, one_next, no_next, next_in_flight}
 use Rattle.chip_log.proofs.order.Order.first_ready.Goals.{in-Some+else-may, in_default}
 use Rattle.chip_log.proofs.order.Order.first_ready.Goals as goal
 

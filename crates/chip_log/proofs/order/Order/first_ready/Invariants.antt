@@ -1,4 +1,4 @@
-use Rattle.chip_log.proofs.Names.{◌≡◌, ◌<◌, ℕ, false, Step, IsNext, is_there}
+use Rattle.chip_log.proofs.Names.{◌≡◌, ℕ, ◌<◌, false, is_there, IsNext, Step}
 use Rattle.chip_log.proofs.order.Order.first_ready.Given as goal
 
 abbrev pub invariant-loop-process : goal.invariant-loop-process

@@ -1,5 +1,5 @@
-use Rattle.chip_log.proofs.Names.{List, [], length, ap, ◌∙◌, arith, length-replicate, All-same, All-nil, Step, outs}
-use Rattle.chip_log.proofs.Names.{ins, IsOf, queue_of, total}
+use Rattle.chip_log.proofs.Names.{List, [], length, ap, ◌∙◌, arith, length-replicate, All-same, All-nil, IsOf, outs}
+use Rattle.chip_log.proofs.Names.{ins, FitsRow, queue_of, total, Step}
 use Rattle.chip_log.proofs.QueuesLemmas.{all_same, none_in_total}
 use Rattle.chip_log.proofs.order.Order.new.Goals as goal
 
@@ -11,6 +11,7 @@ returns-clause-ready c = record {
   streams = c.in_ok-new.ensures.channels;
   fits = λ p. All-same (IsOf c.args.sizes.channels) _ _ (ap (λ (qs : List (List Step)). queue_of qs p) c.in_ok-new-2.ensures
       ∙ all_same c.args.sizes.processes p []) (All-nil (IsOf c.args.sizes.channels));
+  done = All-same (FitsRow c.args.sizes) _ _ c.new.ensures.items (All-nil (FitsRow c.args.sizes));
   flight = λ s.
       let a = c.in_ok-new.ensures.none s in
       let b = ap (outs s) c.new.ensures.items in

@@ -1,5 +1,5 @@
 use Rattle.chip_log.proofs.Names.{arith}
-use Rattle.chip_log.proofs.OrderingLemmas.{looks, stays, GoesOn-trans}
+use Rattle.chip_log.proofs.OrderingLemmas.{GoesOn-trans, looks, stays}
 use Rattle.chip_log.proofs.order.Order.run.Goals as goal
 
 pub loop-process-init : goal.loop-process-init

@@ -1,23 +1,9 @@
 use Rattle.chip_log.proofs.Names.{arith}
-use Rattle.chip_log.proofs.OrderingLemmas.{stays, GoesOn-trans, made, made_fewer}
+use Rattle.chip_log.proofs.OrderingLemmas.{made, made_fewer, GoesOn-trans, stays}
 use Rattle.chip_log.proofs.order.Order.settle.Goals as goal
 
 pub loop-self-init : goal.loop-self-init
 loop-self-init c = stays c.args.sizes c.args.self.now c.requires
-
-pub run-requires : goal.run-requires
-run-requires c = c.loop-self.invariant.ready
-
-pub first_ready-requires : goal.first_ready-requires
-first_ready-requires c = c.in_ok-run.ensures.ready
-
-pub make-requires : goal.make-requires
-make-requires c = record {
-  ready = c.in_ok-run.ensures.ready;
-  process = c.in-Some.ensures.0;
-  next = c.in-Some.ensures.1;
-  there = c.in-Some.ensures.2;
-}
 
 pub loop-self-smaller : goal.loop-self-smaller
 loop-self-smaller c =

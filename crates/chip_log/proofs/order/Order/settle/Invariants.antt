@@ -1,4 +1,4 @@
-use Rattle.chip_log.proofs.Names.{total, GoesOn}
+use Rattle.chip_log.proofs.Names.{GoesOn, total}
 use Rattle.chip_log.proofs.order.Order.settle.Given as goal
 
 abbrev pub invariant-loop-self : goal.invariant-loop-self

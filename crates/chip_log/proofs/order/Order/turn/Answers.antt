@@ -1,5 +1,5 @@
-use Rattle.chip_log.proofs.Names.{arith, sym, ◌∙◌, queue_of}
-use Rattle.chip_log.proofs.OrderingLemmas.{head_some, next_in_flight, in_channel, made}
+use Rattle.chip_log.proofs.Names.{sym, ◌∙◌, arith, queue_of}
+use Rattle.chip_log.proofs.OrderingLemmas.{made, head_some, next_in_flight, in_channel}
 use Rattle.chip_log.proofs.order.Order.turn.Goals as goal
 
 pub may-requires : goal.may-requires

@@ -1,4 +1,4 @@
-use Rattle.chip_log.proofs.Names.{◌≡◌, [], replicate, map}
+use Rattle.chip_log.proofs.Names.{◌≡◌, [], map, replicate}
 use Rattle.chip_log.proofs.queues.Queues.new.Given as goal
 
 abbrev pub invariant-loop-process : goal.invariant-loop-process

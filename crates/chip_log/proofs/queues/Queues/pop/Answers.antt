@@ -1,4 +1,4 @@
-use Rattle.chip_log.proofs.Names.{List, ap, ◌∙◌, drop, Step, queue_of}
+use Rattle.chip_log.proofs.Names.{List, ap, ◌∙◌, drop, queue_of, Step}
 use Rattle.chip_log.proofs.QueuesLemmas.{own, changed}
 use Rattle.chip_log.proofs.queues.Queues.pop.Goals as goal
 

@@ -1,0 +1,58 @@
+-- Serves Claims.antt, Judged.antt.
+-- What is left behind rows: it is one thing, and the same behind others with the same counts and activity.
+use Rattle.chip_log.proofs.Names.{◌≡◌, ℕ, ◌<◌, List, refl, sym, ap, ◌∙◌, arith, dite, dec_lt, basic, IsQuiet}
+use Rattle.chip_log.proofs.Names.{IsOnItsWay, IsBusy, IsSilent, outs, ins, is_active, LogRow, Stream, Verdict}
+use Rattle.chip_log.specs.declared.verdict.Verdict.TheVariants as verdict
+
+-- two least numbers are one
+pub one_number : (a b : ℕ) → (a < b → ⊥) → (b < a → ⊥) → a ≡ b
+one_number a b not_less not_more = dite (dec_lt a b) (λ l. absurd (not_less l))
+    (λ no. dite (dec_lt b a) (λ l. absurd (not_more l)) (λ other. omega arith))
+
+-- a verdict on the moment behind these rows
+abbrev pub IsLeftBehind : List LogRow → List LogRow → Verdict → Type 0
+IsLeftBehind log now verdict.Right = IsSilent log now
+IsLeftBehind log now (verdict.OnItsWay c k) = IsOnItsWay now c k
+IsLeftBehind log now (verdict.Active q) = IsBusy log now q
+
+no_way : (now : List LogRow) (c k : ℕ) → IsQuiet now → IsOnItsWay now c k → ⊥
+no_way now c k quiet way = let a = quiet c in let b = way.next in let d = way.sent in omega arith
+
+pub one_left : (log now : List LogRow) (v w : Verdict) → IsLeftBehind log now v → IsLeftBehind log now w → v ≡ w
+one_left log now verdict.Right verdict.Right a b = refl
+one_left log now verdict.Right (verdict.OnItsWay d l) a b = absurd (no_way now d l a.quiet b)
+one_left log now verdict.Right (verdict.Active r) a b = absurd (let d = a.passive r in let e = b.active in cc)
+one_left log now (verdict.OnItsWay c k) verdict.Right a b = absurd (no_way now c k b.quiet a)
+one_left log now (verdict.OnItsWay c k) (verdict.OnItsWay d l) a b =
+    let e : c ≡ d = one_number c d (λ less. let f = b.least c less in let g = a.next in let h = a.sent in omega arith)
+    (λ less. let f = a.least d less in let g = b.next in let h = b.sent in omega arith) in
+    λ j. verdict.OnItsWay (e j) ((sym a.next ∙ ap (λ (s : ℕ). ins (basic s) now) e ∙ b.next) j)
+one_left log now (verdict.OnItsWay c k) (verdict.Active r) a b = absurd (no_way now c k b.quiet a)
+one_left log now (verdict.Active q) verdict.Right a b = absurd (let d = b.passive q in let e = a.active in cc)
+one_left log now (verdict.Active q) (verdict.OnItsWay d l) a b = absurd (no_way now d l a.quiet b)
+one_left log now (verdict.Active q) (verdict.Active r) a b = ap verdict.Active
+    (one_number q r (λ less. let f = b.least q less in let g = a.active in cc)
+    (λ less. let f = a.least r less in let g = b.active in cc))
+
+-- behind rows of one log, and others of another
+pub record SameBehind (log now other later : List LogRow) : Type 0 where
+  pub outs : (s : Stream) → outs s now ≡ outs s later
+  pub ins : (s : Stream) → ins s now ≡ ins s later
+  pub active : (q : ℕ) → is_active log now q ≡ is_active other later q
+
+module _ (log now other later : List LogRow) (same : SameBehind log now other later) where
+  quiet_as : IsQuiet now → IsQuiet later
+  quiet_as quiet c = sym (same.outs (basic c)) ∙ quiet c ∙ same.ins (basic c)
+
+  pub left_as : (v : Verdict) → IsLeftBehind log now v → IsLeftBehind other later v
+  left_as verdict.Right is = record { quiet = quiet_as is.quiet; passive = λ q. sym (same.active q) ∙ is.passive q }
+  left_as (verdict.OnItsWay c k) is = record {
+    next = sym (same.ins (basic c)) ∙ is.next;
+    sent = let a = same.outs (basic c) in let b = is.sent in omega arith;
+    least = λ d less. sym (same.outs (basic d)) ∙ is.least d less ∙ same.ins (basic d);
+  }
+  left_as (verdict.Active q) is = record {
+    quiet = quiet_as is.quiet;
+    active = sym (same.active q) ∙ is.active;
+    least = λ r less. sym (same.active r) ∙ is.least r less;
+  }

@@ -48,6 +48,7 @@ class Log:
         self.processes = sorted({process for process, _, _ in rows})
         self.steps = {p: [(kind, channel) for q, kind, channel in rows if q == p] for p in self.processes}
         self.begun = {p: self.steps[p][0][0] == "active" for p in self.processes}
+        self.empty, self.whole = tuple(0 for _ in self.processes), tuple(len(self.steps[p]) for p in self.processes)
 
     def flight(self, cut):
         """How many messages of each stream are on their way."""
@@ -89,6 +90,12 @@ class Log:
                 if delta(kind) >= 0 or flight[stream(kind, channel)] > 0:
                     yield at, cut[:at] + (count + 1,) + cut[at + 1:]
 
+    def reached(self, furthest):
+        """Raises the fault of a log whose greatest progress is this cut, where that is not the whole."""
+        for p, count in zip(self.processes, furthest):
+            if count < len(self.steps[p]):
+                raise Fault(70, p, count)
+
     def cuts(self, begin):
         """The cuts that can be reached from this one."""
         seen, todo = {begin}, [begin]
@@ -100,54 +107,52 @@ class Log:
         return seen
 
 
-def judged(rows, with_past=False):
-    """The lines and the status, or the fault that is raised."""
-    row_faults(rows)
-    log = Log(rows)
-    empty = tuple(0 for _ in log.processes)
-    whole = tuple(len(log.steps[p]) for p in log.processes)
-    cuts = log.cuts(empty)
-    if whole not in cuts:
-        furthest = max(cuts, key=sum)
-        assert all(all(map(int.__ge__, furthest, cut)) for cut in cuts)
-        at = min(at for at in range(len(whole)) if furthest[at] < whole[at])
-        raise Fault(70, log.processes[at], furthest[at])
-    # (where all rows can be met, each cut that can be reached can go on to the whole)
+def lines_of(log, least_of, with_past):
+    """The lines and the status; `least_of` finds the least cut before a claim, of a process at a place and its row."""
     lines, early, right = [], 0, 0
     for at, p in enumerate(log.processes):
-        for row, (kind, _) in enumerate(log.steps[p]):
-            if kind != "over":
-                continue
-            moments = [cut for cut in cuts if cut[at] == row and any(q == at for q, _ in log.nexts(cut))]
-            least = tuple(map(min, *moments)) if len(moments) > 1 else moments[0]
-            assert least in moments
-            behind = log.cuts(least[:at] + (row + 1,) + least[at + 1:])
-            bad = any(log.left(cut) for cut in moments) or any(log.left(cut) for cut in behind)
-            assert bad == bool(log.left(least))
-            if bad:
-                early += 1
-                lines.append(f"over {p} {row} early: {log.left(least)}")
-                if with_past:
-                    lines += [f"past {q} {count}" for q, count in zip(log.processes, least) if count]
-            else:
-                right += 1
-                lines.append(f"over {p} {row} right")
-    heard = not any(log.flight(whole).values())
-    left = log.left(whole)
+        for row in [it for it, (kind, _) in enumerate(log.steps[p]) if kind == "over"]:
+            least = least_of(at, row)
+            left = log.left(least)
+            lines.append(f"over {p} {row} " + (f"early: {left}" if left else "right"))
+            early, right = early + bool(left), right + (not left)
+            if left and with_past:
+                lines += [f"past {q} {count}" for q, count in zip(log.processes, least) if count]
+    heard, left = not any(log.flight(log.whole).values()), log.left(log.whole)
     lines.append("end claimed" if right else f"end open: {left}" if left else "end missed" if heard else "end unclaimed")
     return lines, 2 if early else 0 if right else 3
 
 
-def random_log(draw):
-    """A log of up to 13 rows, most of them right."""
+def judged(log, with_past):
+    """The lines and the status by all cuts, or the fault that is raised."""
+    cuts = log.cuts(log.empty)
+    furthest = max(cuts, key=sum)
+    assert all(all(map(int.__ge__, furthest, cut)) for cut in cuts)
+    log.reached(furthest)
+
+    # (where all rows can be met, each cut that can be reached can go on to the whole)
+    def least_of(at, row):
+        moments = [cut for cut in cuts if cut[at] == row and any(q == at for q, _ in log.nexts(cut))]
+        least = tuple(map(min, *moments)) if len(moments) > 1 else moments[0]
+        assert least in moments
+        behind = log.cuts(least[:at] + (row + 1,) + least[at + 1:])
+        assert bool(log.left(least)) == any(log.left(cut) for cut in [*moments, *behind])
+        return least
+
+    return lines_of(log, least_of, with_past)
+
+
+def random_log(draw, most=9, slips=0.05):
+    """A log of up to so many rows and an `active` of each of up to four processes. Slips are how many of them may be
+    wrong."""
     processes = draw.randint(1, 4)
     rows = [(p, "active", 0) for p in range(processes) if draw.random() < 0.5]
     active = {p: True for p, _, _ in rows}
     flight, ends = Counter(), {}
-    for _ in range(draw.randint(0, 9)):
+    for _ in range(draw.randint(0, most)):
         p, channel = draw.randrange(processes), draw.randrange(3)
         kind = draw.choice(["send", "send", "receive", "receive", "tell", "hear", "passive", "over"])
-        if draw.random() < 0.95:
+        if draw.random() >= slips:
             end = (stream(kind, channel), delta(kind))
             if kind == "send" and not active.get(p) or delta(kind) < 0 and not flight[stream(kind, channel)]:
                 continue
@@ -186,7 +191,8 @@ def answer(program, room, rows, with_past):
 def expected(rows, with_past):
     """What it must write."""
     try:
-        return *judged(rows, with_past), ""
+        row_faults(rows)
+        return *judged(Log(rows), with_past), ""
     except Fault as fault:
         number, *place = fault.args
         return [], 1, f"chipfire: fault {number} {NAMES[number]} {' '.join(map(str, place))}\n"

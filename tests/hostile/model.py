@@ -1,10 +1,12 @@
 """What chipfire must answer to files with whatever bytes: the answer, or the first fault.
 
 It shares nothing with the program. JSON is read by Python's own reader, rows by the automaton of `Rows`, and the games
-are played by chipfire.model and by `play` below, which fires a vertex as often as it can at a time.
+are played by chipfire.model and by `play` below, which fires a vertex as often as it can at a time. Logs are judged by
+all their cuts, as tests/cli/logs.py does, or where there are too many by `least_cut` below.
 """
 import dataclasses
 import json
+import math
 import re
 
 MAX_MULT = 1 << 20
@@ -13,23 +15,29 @@ MAX_PRIOR = 1 << 60
 MAX_DEPTH = 127
 # A play that takes more rounds than this is not judged.
 MAX_ROUNDS = 20_000
+# How many cuts a log may have to be judged by all of them.
+MAX_CUTS = 500
 
 EVENTS_OF_VERTICES = {b"fire", b"halt", b"read"}
 EVENTS_OF_EDGES = {b"take", b"ack", b"clear", b"claim", b"put", b"settle", b"seal", b"feed"}
 EVENTS_ANYWHERE = {b"end"}
+KINDS_OF_MESSAGES = {b"send", b"receive", b"tell", b"hear"}
+KINDS_ALONE = {b"passive", b"active", b"over"}
 
 
 @dataclasses.dataclass(frozen=True)
 class Limits:
-    """How many vertices and edges a graph may have, and how many bytes a file."""
+    """How many vertices and edges a graph may have, how many bytes a file, how many processes and channels a log."""
 
     vertices: int
     edges: int
     bytes: int
+    processes: int
+    channels: int
 
 
-STANDARD = Limits(4_096, 65_536, 16_777_216)
-LARGE = Limits(2_097_152, 8_388_608, 268_435_456)
+STANDARD = Limits(4_096, 65_536, 16_777_216, 8_192, 131_072)
+LARGE = Limits(2_097_152, 8_388_608, 268_435_456, 4_194_304, 16_777_216)
 
 
 class Fault(Exception):
@@ -62,17 +70,32 @@ class Answer:
 
 
 class Model:
-    """The program, made of examples/play.py and of chipfire.model."""
+    """The program, made of examples/play.py, of chipfire.model and of tests/cli/logs.py."""
 
-    def __init__(self, play, simulate):
-        self.play, self.simulate_script = play, simulate
+    def __init__(self, play, simulate, logs):
+        self.play, self.simulate_script, self.logs = play, simulate, logs
 
-    def answer(self, command, files, limit=MAX_CHIPS, large=False, ring=1, rounds=0, fed=False, complete=False, **_):
+    def judged(self, text, past, limits):
+        """What `judge` must answer to a text."""
+        try:
+            log = self.logs.Log(read_log(text, self.logs.row_faults, limits))
+            lines, status = verdicts(self.logs, log, past)
+            return Answer("".join(f"{it}\n" for it in lines).encode(), status=status)
+        except Fault as fault:
+            return Answer(fault=str(fault), status=1)
+        except self.logs.Fault as fault:
+            number, *place = fault.args
+            return Answer(fault=f"{number} {self.logs.NAMES[number]} {' '.join(map(str, place))}", status=1)
+
+    def answer(self, command, files, limit=MAX_CHIPS, large=False, ring=1, rounds=0, fed=False, complete=False, past=False,
+               **_):
         """What the program must answer to a command and its files, each some bytes; threads change nothing.
 
         A third file of `run` is the one of its feeds, and one of `plain` a guess, which changes nothing either.
         """
         limits = LARGE if large else STANDARD
+        if command == "judge":
+            return self.judged(files[0], past, limits)
         try:
             graph = read_graph(files[0], limits)
             if command == "check":
@@ -359,6 +382,49 @@ def read_traces(text, graph):
             raise Fault(f"26 Vertex {i}")
         traces[vertex].append((kind.decode(), edge, count))
     return traces
+
+
+def log_rows(text, limits):
+    """The rows of a log, each once it is read: its process, kind and channel."""
+    for i, (process, kind, channel) in read_rows(text, [b"process", b"kind", b"channel"], limits):
+        if kind not in KINDS_OF_MESSAGES | KINDS_ALONE:
+            raise Fault(f"28 Kind {i}")
+        process, channel = numbers(i, process, channel)
+        if process >= limits.processes or kind in KINDS_OF_MESSAGES and channel >= limits.channels:
+            raise Fault(f"26 Vertex {i}")
+        yield process, kind.decode(), channel
+
+
+def read_log(text, row_faults, limits):
+    """The rows of a log. What the rows before a fault decide comes first."""
+    rows = []
+    try:
+        for row in log_rows(text, limits):
+            rows.append(row)
+    finally:
+        row_faults(rows)
+    return rows
+
+
+def least_cut(log, at, row):
+    """The least cut with so many rows of a process: where more is got than sent, its sender has made one more row."""
+    tails = {("tell" == kind, channel): it for it, p in enumerate(log.processes)
+             for kind, channel in log.steps[p] if kind in ("send", "tell")}
+    cut = [row if it == at else 0 for it in range(len(log.processes))]
+    while lacking := [stream for stream, count in log.flight(cut).items() if count < 0]:
+        cut[tails[lacking[0]]] += 1
+    return tuple(cut)
+
+
+def verdicts(logs, log, with_past):
+    """The lines and the status for a log without faults in its rows."""
+    if math.prod(count + 1 for count in log.whole) <= MAX_CUTS:
+        return logs.judged(log, with_past)
+    cut = log.empty
+    while step := next(log.nexts(cut), None):
+        cut = step[1]
+    log.reached(cut)
+    return logs.lines_of(log, lambda at, row: least_cut(log, at, row), with_past)
 
 
 def degrees(graph):

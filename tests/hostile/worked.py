@@ -57,10 +57,10 @@ class Worked:
         return found
 
     def options(self):
-        """The options of the run that a model takes, by their names: those that are numbers, and `complete`."""
+        """The options of the run that a model takes, by their names: numbers, `complete` and `past`."""
         pairs = zip(self.words, self.words[1:])
         numbers = {word[2:]: int(value) for word, value in pairs if word.startswith("--") and value.isdigit()}
-        return numbers | {"complete": "--complete" in self.words}
+        return numbers | {name: f"--{name}" in self.words for name in ("complete", "past")}
 
     def line(self):
         return line_of(self.fault) if self.fault else b""
@@ -178,6 +178,8 @@ def worked_runs(examples):
         run("left open", f"simulate {triangle} detector/left-open.csv", "detector/left-open.txt", status=3),
         run("replayed to its end", f"replay --complete {triangle} triangle/trace.csv", out=b"fire 0 2\nfire 1 1\n"),
         run("replayed run", f"replay {triangle} triangle/trace.csv", out=b"fire 0 2\nfire 1 1\n"),
+        run("judged", "judge --past logs/early.csv", "logs/early.txt", status=2),
+        run("a log that is a graph", "judge triangle/graph.json", fault="23 Header", status=1),
         run(
             "on two threads",
             f"run {triangle} --trace {FILE}",

@@ -1,25 +1,28 @@
 /* Runs examples/c/steal.c many times, or what an edit makes of it, and compares when it ends with the truth: how many
  * tasks there are, counted under a lock of their own, which the books know nothing of.
  *
- *     soak RUNS EARLY
+ *     soak RUNS EARLY FOLDER
  *
  * There are so many runs, or fewer if so many ended early. It writes how many there were; how many ended early, while
  * there were tasks; how many were missed, which had not ended 10 seconds after the last task; and how many of the others
- * found another number of ways than there are. The test edits calls of `opened` and `finished` into the example, and uses
+ * found another number of ways than there are. The first runs leave logs for `chipfire judge` in the folder: a part is a
+ * process, and an edge a channel. The test edits calls of `opened`, `received` and `finished` into the example, and uses
  * of `late` into one that is wrong. */
 #define _POSIX_C_SOURCE 200809L
 #include <chipfire.h>
+#include <inttypes.h>
 #include <pthread.h>
 #include <stdbool.h>
+#include <stdio.h>
 #include <string.h>
 #include <time.h>
 
-enum { MISSED_AFTER = 10, NO_EDGE = -1 };
+enum { MISSED_AFTER = 10, LOGS = 100, NO_EDGE = -1 };
 
 struct part;
-static void opened(void);
+static void opened(struct part *me);
+static void received(struct part *me, uint64_t edge);
 static void finished(struct part *me);
-static void got_late(struct part *me);
 static _Thread_local int64_t late = NO_EDGE;
 
 /* Draws one of so many numbers: others in each thread. */
@@ -45,54 +48,65 @@ static void pause_at_times(void)
     if (drawn(8) == 0) linger(10);
 }
 
-/* The truth. */
+/* The truth, and the log of this run, if it has one. Who writes a row holds the lock. */
 static pthread_mutex_t truth = PTHREAD_MUTEX_INITIALIZER;
 static long tasks, early, missed;
 static time_t last_task;
+static FILE *rows;
 
-static void opened(void)
+/* Writes so many rows. */
+static void write_rows(uint64_t count, uint64_t part, const char *kind, uint64_t edge)
 {
-    pause_at_times();
-    pthread_mutex_lock(&truth);
-    tasks++;
-    pthread_mutex_unlock(&truth);
-    pause_at_times();
+    while (rows != NULL && count-- > 0) fprintf(rows, "%" PRIu64 ",%s,%" PRIu64 "\n", part, kind, edge);
 }
 
-static void finished(struct part *me)
-{
-    got_late(me);
-    if (drawn(8) == 0) linger(100);
-    pthread_mutex_lock(&truth);
-    tasks--;
-    last_task = time(NULL);
-    pthread_mutex_unlock(&truth);
-    pause_at_times();
-}
+/* Keeps the books, between pauses: rows of what others then see come before, and rows of what was seen behind. */
+static uint64_t sent(struct chipfire_tally *outs, size_t length, uint64_t edge);
+static uint64_t acknowledged(struct chipfire_tally *ins, size_t length, struct chipfire_tally *outs, size_t outs_length,
+                             uint64_t *parent, uint64_t edge, uint64_t passive, uint64_t count);
+static uint64_t settled(struct chipfire_tally *outs, size_t length, uint64_t edge, uint64_t word, uint64_t *more);
+static uint64_t judged(const struct chipfire_tally *outs, size_t length, uint64_t ended, uint64_t *over);
 
-/* Asks the root, and judges its answer. A run that is missed ends here. */
-static uint64_t judged(const struct chipfire_tally *outs, size_t length, uint64_t ended, uint64_t *over)
-{
-    pthread_mutex_lock(&truth);
-    uint64_t refusal = chipfire_is_over(outs, length, ended, over);
-    if (*over != 0 && tasks > 0) early++;
-    if (*over == 0 && tasks == 0 && time(NULL) > last_task + MISSED_AFTER) {
-        missed++;
-        *over = 1;
-    }
-    pthread_mutex_unlock(&truth);
-    return refusal;
-}
-
-#define PAUSED(call) (pause_at_times(), (call))
-#define chipfire_sent(...) PAUSED((chipfire_sent)(__VA_ARGS__))
-#define chipfire_got(...) PAUSED((chipfire_got)(__VA_ARGS__))
-#define chipfire_acked(...) PAUSED((chipfire_acked)(__VA_ARGS__))
-#define chipfire_settled(...) PAUSED((chipfire_settled)(__VA_ARGS__))
+#define chipfire_sent sent
+#define chipfire_got(...) (pause_at_times(), (chipfire_got)(__VA_ARGS__))
+#define chipfire_acked acknowledged
+#define chipfire_settled settled
 #define chipfire_is_over judged
 #define main example
 #include "steal.c"
 #undef main
+#undef chipfire_sent
+#undef chipfire_got
+#undef chipfire_acked
+#undef chipfire_settled
+#undef chipfire_is_over
+
+/* How many tasks each part has, which wait or are worked on. */
+static unsigned tasks_of[PARTS + 1];
+
+/* Notes that a part has a task fewer, by a thread that holds the truth. */
+static void closed(uint64_t part)
+{
+    if (--tasks_of[part] == 0) write_rows(1, part, "passive", 0);
+}
+
+static void opened(struct part *me)
+{
+    pause_at_times();
+    pthread_mutex_lock(&truth);
+    if (tasks++ == 0) write_rows(1, ROOT, "active", 0);
+    tasks_of[me - parts]++;
+    pthread_mutex_unlock(&truth);
+    pause_at_times();
+}
+
+static void received(struct part *me, uint64_t edge)
+{
+    pthread_mutex_lock(&truth);
+    write_rows(1, (uint64_t)(me - parts), "receive", edge);
+    tasks_of[me - parts]++;
+    pthread_mutex_unlock(&truth);
+}
 
 /* Notes a message at last, if one was got. */
 static void got_late(struct part *me)
@@ -105,17 +119,88 @@ static void got_late(struct part *me)
     late = NO_EDGE;
 }
 
+static void finished(struct part *me)
+{
+    got_late(me);
+    if (drawn(8) == 0) linger(100);
+    pthread_mutex_lock(&truth);
+    tasks--;
+    closed((uint64_t)(me - parts));
+    last_task = time(NULL);
+    pthread_mutex_unlock(&truth);
+    pause_at_times();
+}
+
+static uint64_t sent(struct chipfire_tally *outs, size_t length, uint64_t edge)
+{
+    pause_at_times();
+    pthread_mutex_lock(&truth);
+    write_rows(1, edge / PARTS, "send", edge);
+    closed(edge / PARTS);
+    pthread_mutex_unlock(&truth);
+    return chipfire_sent(outs, length, edge);
+}
+
+static uint64_t acknowledged(struct chipfire_tally *ins, size_t length, struct chipfire_tally *outs, size_t outs_length,
+                             uint64_t *parent, uint64_t edge, uint64_t passive, uint64_t count)
+{
+    pause_at_times();
+    pthread_mutex_lock(&truth);
+    write_rows(count, edge % PARTS, "tell", edge);
+    pthread_mutex_unlock(&truth);
+    return chipfire_acked(ins, length, outs, outs_length, parent, edge, passive, count);
+}
+
+static uint64_t settled(struct chipfire_tally *outs, size_t length, uint64_t edge, uint64_t word, uint64_t *more)
+{
+    pause_at_times();
+    uint64_t refusal = chipfire_settled(outs, length, edge, word, more);
+    pthread_mutex_lock(&truth);
+    if (refusal == 0) write_rows(*more, edge / PARTS, "hear", edge);
+    pthread_mutex_unlock(&truth);
+    return refusal;
+}
+
+/* Asks the root, and judges its answer. A run that is missed ends here. */
+static uint64_t judged(const struct chipfire_tally *outs, size_t length, uint64_t ended, uint64_t *over)
+{
+    pthread_mutex_lock(&truth);
+    uint64_t refusal = chipfire_is_over(outs, length, ended, over);
+    write_rows(refusal == 0 && *over != 0, ROOT, "over", 0);
+    if (*over != 0 && tasks > 0) early++;
+    if (*over == 0 && tasks == 0 && time(NULL) > last_task + MISSED_AFTER) {
+        missed++;
+        *over = 1;
+    }
+    pthread_mutex_unlock(&truth);
+    return refusal;
+}
+
+/* Begins a log in a folder, of the run with this number. */
+static bool begin_log(const char *folder, long run)
+{
+    char path[4096];
+    if (snprintf(path, sizeof path, "%s/%ld.csv", folder, run) >= (int)sizeof path) return false;
+    rows = fopen(path, "w");
+    return rows != NULL && fputs("process,kind,channel\n", rows) >= 0;
+}
+
 int main(int count, char **words)
 {
-    long runs = count == 3 ? atol(words[1]) : 0, most = count == 3 ? atol(words[2]) : 0, run = 0, wrong = 0;
+    if (count != 4) return 1;
+    long runs = atol(words[1]), most = atol(words[2]), run = 0, wrong = 0;
     for (; run < runs && early < most; run++) {
         long before = early + missed;
         memset(parts, 0, sizeof parts);
         memset(acked, 0, sizeof acked);
+        memset(tasks_of, 0, sizeof tasks_of);
         is_over = false;
         ways = 0;
         tasks = 0;
+        if (run < LOGS && !begin_log(words[3], run)) return 1;
         if (example() != 0) return 1;
+        if (rows != NULL && fclose(rows) != 0) return 1;
+        rows = NULL;
         wrong += early + missed == before && ways != WAYS;
     }
     printf("%ld %ld %ld %ld\n", run, early, missed, wrong);

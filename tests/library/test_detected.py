@@ -3,18 +3,21 @@
 When they end is compared with the truth, a count of open tasks or messages under a lock of its own. A run ends *early*
 if the root says that it is over while some are open, and is *missed* if it does not say so 10 seconds after the last
 one. There are 300 runs, and a wrong use is run until one ends early. With CHIPFIRE_SOAK there are so many runs of each.
+The first 100 runs of each leave logs: `chipfire judge` calls no claim of the right ones early, and of a wrong use at
+least those that were.
 """
 import collections
 import math
 import os
 import random
 import sys
+import tempfile
 import threading
 import time
 import types
 import unittest
 
-from library import BUILT, INCLUDE, ROOT, SHARED, STATIC, Room, need
+from library import BUILT, INCLUDE, PROGRAM, ROOT, SHARED, STATIC, Room, need, run
 
 sys.path.append(f"{ROOT}/python")  # (knight.py finds the library by the package, if it is not told)
 
@@ -22,14 +25,16 @@ sys.path.append(f"{ROOT}/python")  # (knight.py finds the library by the package
 SOAK = int(os.environ.get("CHIPFIRE_SOAK") or 0)
 RUNS, WRONG_RUNS, MOST_EARLY = (SOAK, SOAK, SOAK) if SOAK else (300, 10000, 1)
 STEAL, KNIGHT = f"{ROOT}/examples/c/steal.c", f"{ROOT}/examples/python/knight.py"
-MISSED_AFTER = 10
+MISSED_AFTER, LOGS = 10, 100
 COMPILE = ["gcc", "-std=c11", "-O2", "-Wall", "-Wextra", "-Werror", "-pedantic", "-pthread", f"-I{INCLUDE}"]
 WITH_SHARED = [f"-L{BUILT}", "-lchipfire", f"-Wl,-rpath,{BUILT}"]
 #: How an example is counted, and made wrong: texts that stand once in it, and what stands there instead.
 STEAL_COUNTED = [
     ("SIDE = 8,", "SIDE = 5, WAYS = 10,"),
     ('    printf("%" PRIu64 " ways\\n", ways);\n', ""),
-    ("    if (has_room) me->tasks", "    if (has_room) opened();\n    if (has_room) me->tasks"),
+    ("    if (has_room) me->tasks", "    if (has_room) opened(me);\n    if (has_room) me->tasks"),
+    ("return false;\n    pthread_mutex_lock(&me->lock);", "return false;\n    pthread_mutex_lock(&me->lock);\n"
+     "    received(me, edge);"),
     ("search(me, task);\n        pthread", "search(me, task);\n        if (has_task) finished(me);\n        pthread"),
 ]
 STEAL_WRONG = {
@@ -38,9 +43,13 @@ STEAL_WRONG = {
     "passive too early": [("me->count == 0 && me->busy == 0", "me->count == 0")],
 }
 KNIGHT_COUNTED = [
-    ("        self.mail.put((edge, moves, None))", "        opened()\n        self.mail.put((edge, moves, None))"),
+    ("        self.mail.put((edge, moves, None))", "        opened(edge)\n        self.mail.put((edge, moves, None))"),
+    ("            is_nearer =", "            received(edge)\n            is_nearer ="),
     ("        with part.lock:\n            part.busy -=",
-     "        finished()\n        with part.lock:\n            part.busy -="),
+     "        finished(edge)\n        with part.lock:\n            part.busy -="),
+    ("            self.mail.put((edge, None, word))", "            told(edge, word)\n"
+     "                self.mail.put((edge, None, word))"),
+    ("part.books.settle(edge, word)", "part.books.settle(edge, word)\n            heard(edge, word)"),
     ("part.books.is_over(True)", "judged(part.books)"),
 ]
 KNIGHT_WRONG = {
@@ -51,6 +60,7 @@ KNIGHT_WRONG = {
                                       "            part.busy += 1\n        for out in")],
     "passive too early": [("acknowledge(part.busy == 0)", "acknowledge(True)")],
 }
+EDITED_IN = ["opened", "received", "finished", "told", "heard", "judged"]
 Outcome = collections.namedtuple("Outcome", "runs early missed wrong")
 
 
@@ -76,7 +86,8 @@ def moves_of_a_knight(side):
 
 
 class Judge:
-    """Knows the truth of one run of knight.py after another."""
+    """Knows the truth of one run of knight.py after another, and writes the rows of its log: a square is a process, and
+    an edge a channel."""
 
     def __init__(self):
         self.lock, self.draw = threading.Lock(), random.Random("library: knight")
@@ -89,20 +100,46 @@ class Judge:
         if self.draw.random() < 0.3:
             time.sleep(self.draw.choice([0, 1e-4, 1e-3]))
 
-    def opened(self):
+    def row(self, kind, edge, end, count=1):
+        """Writes so many rows of the part at the tail of an edge, end 0, or at its head, end 1."""
+        self.rows += [f"{self.numbers[self.ends[edge][end]]},{kind},{edge}\n"] * count
+
+    def opened(self, edge):
         with self.lock:
             self.tasks += 1
+            self.row("send", edge, 0)
+            if edge == 0:
+                self.row("passive", edge, 0)
         self.pause()
 
-    def finished(self):
+    def received(self, edge):
+        with self.lock:
+            self.row("receive", edge, 1)
+            self.at_work[self.ends[edge][1]] += 1
+
+    def finished(self, edge):
         self.pause()
         with self.lock:
             self.tasks -= 1
+            self.at_work[self.ends[edge][1]] -= 1
+            if self.at_work[self.ends[edge][1]] == 0:
+                self.row("passive", edge, 1)
             self.last = time.monotonic()
+
+    def told(self, edge, word):
+        with self.lock:
+            self.row("tell", edge, 1, word - self.acknowledged[1, edge])
+            self.acknowledged[1, edge] = word
+
+    def heard(self, edge, word):
+        with self.lock:
+            self.row("hear", edge, 0, word - self.acknowledged[0, edge])
+            self.acknowledged[0, edge] = max(word, self.acknowledged[0, edge])
 
     def judged(self, books):
         with self.lock:
             over = books.is_over(True)
+            self.row("over", 0, 0, over)
             self.early += over and self.tasks > 0
         return over
 
@@ -121,39 +158,52 @@ class Judge:
         before = self.early + self.missed
         with self.lock:
             self.search, self.tasks, self.last = search, 0, math.inf
+            self.ends, self.numbers = search.ends, {part: number for number, part in enumerate(search.parts)}
+            self.at_work, self.acknowledged, self.rows = collections.Counter(), collections.Counter(), []
+            self.row("active", 0, 0)
         found = search.find(4)
         with self.lock:
             self.search = None
         return found, self.early + self.missed == before
 
 
-def knights(edits, runs, most_early):
-    """Runs knight.py after edits on 3 by 3 squares so many times, or fewer if so many have ended early."""
+def knights(edits, runs, most_early, folder):
+    """Runs knight.py after edits on 3 by 3 squares so many times, or fewer if so many have ended early. The first leave
+    logs in a folder."""
     judge, example = Judge(), types.ModuleType("knight")
-    example.__dict__.update(opened=judge.opened, finished=judge.finished, judged=judge.judged)
+    example.__dict__.update({it: getattr(judge, it) for it in EDITED_IN})
     exec(compile(edited(KNIGHT, KNIGHT_COUNTED + edits), KNIGHT, "exec"), example.__dict__)
     library, right, run, wrong = example.load(SHARED), moves_of_a_knight(3), 0, 0
     while run < runs and judge.early < most_early:
         found, is_timely = judge.run(example.Search(library, 3))
+        if run < LOGS:
+            with open(f"{folder}/{run}.csv", "w", encoding="ascii") as file:
+                file.writelines(["process,kind,channel\n", *judge.rows])
         run, wrong = run + 1, wrong + (is_timely and found != right)
     return Outcome(run, judge.early, judge.missed, wrong)
 
 
 class Soak(Room):
     def told(self, name, *words):
-        """Returns the outcome that a command writes, and shows it with the seconds that it took."""
-        begun = time.monotonic()
-        outcome = Outcome(*map(int, self.runs(*words).split()))
+        """Returns the outcome that a command writes, and how many of its logs the judge ends with each status. Shows
+        both, with the seconds that the command took."""
+        begun, folder = time.monotonic(), tempfile.mkdtemp(dir=self.room)
+        outcome = Outcome(*map(int, self.runs(*words, folder).split()))
         shown = ", ".join(f"{number} {word}" for word, number in outcome._asdict().items())
-        print(f"{name}: {shown}, {time.monotonic() - begun:.0f} s", flush=True)
-        return outcome
+        seconds = time.monotonic() - begun
+        judged = collections.Counter(run(PROGRAM, "judge", it.path).returncode for it in os.scandir(folder))
+        print(f"{name}: {shown}, {judged[2]} of {sum(judged.values())} logs early, {seconds:.0f} s", flush=True)
+        return outcome, judged
 
     def is_right(self):
-        self.assertEqual(self.outcome("right", RUNS), Outcome(RUNS, 0, 0, 0))
+        self.assertEqual(self.outcome("right", RUNS), (Outcome(RUNS, 0, 0, 0), {0: min(LOGS, RUNS)}))
 
     def are_caught(self, wrong_uses):
         for name in wrong_uses:
-            self.assertGreater(self.outcome(name, WRONG_RUNS).early, 0, name)
+            outcome, judged = self.outcome(name, WRONG_RUNS)
+            self.assertGreater(outcome.early, 0, name)
+            self.assertGreaterEqual(judged[2], outcome.early if outcome.runs <= LOGS else 1, name)
+            self.assertLessEqual(set(judged), {0, 2, 3}, name)
 
 
 class Steal(Soak):
@@ -198,4 +248,4 @@ class Knight(Soak):
 
 
 if __name__ == "__main__":
-    print(*knights(KNIGHT_WRONG.get(sys.argv[1], []), *map(int, sys.argv[2:])))
+    print(*knights(KNIGHT_WRONG.get(sys.argv[1], []), *map(int, sys.argv[2:4]), sys.argv[4]))

@@ -27,8 +27,7 @@ def choice_page(
     """Writes a page on which one picks each event among those that may happen, from the start of a game on.
 
     detector  a name of `chipfire.detectors.DETECTORS` or a class; the events of others than the machine's have no words
-    setting   the game, if not the one that stands there; it has at most 2,000 states, if a send is one event
-    """
+    setting   the game, if not the one that stands there; it has at most 2,000 states, if a send is one event"""
     write(file, choice_page_text(detector, setting, title=title, positions=positions))
 
 
@@ -40,6 +39,8 @@ def choice_page_text(
     name = detector_name(detector)
     known = known_detector(name if name in DETECTORS else "right")
     setting = setting or known.game
+    if not isinstance(setting, Setting):
+        raise TypeError(f"one picks the events of a chipfire.Setting, and not of {type(setting).__name__}")
     choices = _Choices(setting, detector)
     data = page_data(Simulation((), None, setting=setting), positions)
     data |= {"steps": [], "choices": choices.data(), "words": list(choices.words.numbers), "end": None}

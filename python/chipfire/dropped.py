@@ -5,7 +5,7 @@ from __future__ import annotations
 import time
 from array import array
 from collections import Counter
-from collections.abc import Iterator, Sequence
+from collections.abc import Iterable, Iterator, Sequence
 from dataclasses import dataclass
 from typing import Any
 
@@ -61,6 +61,9 @@ class Drops:
 def dropped_on(graph: Graph, vertices: Any, amounts: Any) -> tuple[array[int], array[int]]:
     """The numbers of the vertices, and how many chips fall on each: one, if there are no amounts."""
     vertices, amounts = (it.tolist() if hasattr(it, "tolist") else it for it in (vertices, amounts))
+    for what, them in [("vertices", vertices), ("amounts", () if amounts is None else amounts)]:
+        if not isinstance(them, Iterable):
+            raise TypeError(f"the {what} of drops are one for each drop, and not {them!r}")
     at = array("Q", map(graph.number, vertices))
     many = [1] * len(at) if amounts is None else wholes([*amounts], lambda drop: f"the number of chips of drop {drop}")
     if len(many) != len(at):

@@ -8,7 +8,7 @@ import random
 from array import array
 from bisect import bisect
 from collections import Counter
-from collections.abc import Mapping, Sequence
+from collections.abc import Callable, Sequence
 from dataclasses import dataclass
 from typing import Any, NamedTuple
 
@@ -17,22 +17,21 @@ from chipfire.chips import Chips, Configuration
 from chipfire.dropped import in_calls
 from chipfire.graphs import Graph
 from chipfire.process import ProgramNotFound
-from chipfire.program import AnyGraph, known_graph
-from chipfire.values import imported, side_by_side, whole
+from chipfire.program import AnyGraph, known_graph, read_chips
+from chipfire.values import FILE, generator, imported, side_by_side, whole
 
 #: Of each vertex the heads of its edges, and how many chips one firing sends on the edges up to each of them.
 Outs = list[tuple[list[int], list[int]]]
 
 
 def random_recurrent(graph: AnyGraph, seed: Any, count: int | None = None) -> Any:
-    """A recurrent configuration of an undirected graph, each as probable as every other; with a `count` a list of so
-    many, drawn one after the other.
+    """A recurrent configuration of an undirected graph, each equally probable; or a list of `count`, drawn one by one.
 
     Wilson's algorithm (1996) draws a spanning tree by `random.Random(seed)`, and the burning bijection of Majumdar and
-    Dhar (1992) makes chips of it. Edges into the sink need none back; a graph that is else directed is a ValueError. A
-    grid of 60 by 60 takes some 20 ms.
+    Dhar (1992) makes chips of it. Edges into the sink need none back; a graph that is else directed is a ValueError.
+    60 by 60 squares take some 20 ms.
     Nothing of this is proved, and the program is not asked."""
-    known, draw = known_graph(graph), random.Random(seed)
+    known, draw = known_graph(graph), generator(seed)
     outs, least = _undirected(known), known.loops or 0
     many = range(1 if count is None else whole(count, "the number of configurations"))
     found = [Configuration(known, _burnt(known, outs, *_tree(known.sink, outs, draw))) + least for _ in many]
@@ -130,13 +129,12 @@ def chains(
     graph: AnyGraph, n: int, drops: int, seed: Any, *, chips: Chips | None = None, workers: int | None = None,
     fired: bool = False, until: str | None = None,
 ) -> Chains:
-    """Drops chips on random vertices in n chains, each with its own seed and so many drops, each drop on what the play
+    """Drops chips on random vertices in n chains, each with its own seed and `drops` drops, each drop on what the play
     of the one before it left. It takes the library: without it that is a `ProgramNotFound`.
 
     Each chain begins with `chips`: in one of their forms for all, or rows of an array or list, one for each. Without
     them each begins with a `random_recurrent` configuration of its own, from which on the drops are stationary.
-    `workers` threads play, as many as there are processors if that is not said. An interrupt waits for chains that
-    have begun.
+    `workers` threads play, by default as many as there are processors. An interrupt waits for chains that have begun.
 
     If it is asked for what `fired`, or `until` a drop has a "loss" of chips, or "spans" a grid, which is that the
     vertices that fired touch two opposite borders, each call makes one drop of many chains, by NumPy. `until` stops a
@@ -152,6 +150,8 @@ def chains(
     known.require()
     if known.vertices < 2 and drops:
         raise ValueError("the graph has only its sink, and so no vertex to drop on")
+    seed = random.getrandbits(64) if seed is None else seed
+    chips = read_chips(chips, known) if isinstance(chips, FILE) else chips
     play = _Chains(known, n, drops, seed, random_recurrent(known, seed, n) if chips is None else chips)
     workers = min(n, min(os.cpu_count() or 1, 64) if workers is None else whole(workers, "workers", 1, 64))
     pieces = []
@@ -198,7 +198,7 @@ class _Chains:
     def step(self, group: range, until: str | None, wants_fired: bool) -> list[Any]:
         """Plays some chains, one drop of each after the other; gets the drop, vertex and count of each that fired."""
         numpy, width, drops = imported("numpy"), self.graph.vertices, self.drops
-        live, pieces, spans = numpy.array(group), [], _Spans(self.graph) if until == "spans" else None
+        live, pieces, spans = numpy.array(group), [], _spans(self.graph) if until == "spans" else None
         chips, made, *columns = (numpy.frombuffer(it, "u8") for it in (self.chips, self.made, *self.columns))
         chips = chips.reshape(-1, width)
         at = numpy.array([self.drawn(chain) for chain in group])
@@ -215,7 +215,7 @@ class _Chains:
                 chain, vertex = numpy.nonzero(fired)
                 pieces.append((live[chain] * drops + drop, vertex.astype("i4"), fired[chain, vertex].astype("i8")))
             if until:
-                ended = spans.by(fired) if spans else lost > 0
+                ended = spans(fired) if spans else lost > 0
                 made[live[ended]] = drop + 1
                 live = live[~ended]
                 if not len(live):
@@ -237,30 +237,34 @@ def _stabilize(graph: Graph, chips: Any, fired: Any, stopped: Any) -> None:
         raise ValueError("a vertex fired 2^40 times, and the chips are not stable then")
 
 
-class _Spans:
-    """Where the borders of a grid are."""
+def _spans(graph: Graph) -> Callable[[Any], Any]:
+    """What tells of each game whether the vertices that fired touch two opposite borders of the grid."""
+    if graph.shape is None:
+        raise ValueError("the graph is no grid, so nothing spans it")
+    height, width = graph.shape
+    places = [divmod(square, width) for square in graph.squares]
+    borders = [
+        [vertex for vertex, place in enumerate(places) if place[way] == end and vertex != graph.sink]
+        for way, last in enumerate((height - 1, width - 1)) for end in (0, last)
+    ]
 
-    def __init__(self, graph: Graph) -> None:
-        if graph.shape is None:
-            raise ValueError("the graph is no grid, so nothing spans it")
-        height, width = graph.shape
-        places = [divmod(square, width) for square in graph.squares]
-        self.borders = [
-            [vertex for vertex, place in enumerate(places) if place[way] == end and vertex != graph.sink]
-            for way, last in enumerate((height - 1, width - 1)) for end in (0, last)
-        ]
-
-    def by(self, fired: Any) -> Any:
-        """Of each game whether the vertices that fired touch two opposite borders."""
-        top, bottom, left, right = (fired[:, border].any(1) for border in self.borders)
+    def by(fired: Any) -> Any:
+        top, bottom, left, right = (fired[:, border].any(1) for border in borders)
         return top & bottom | left & right
+
+    return by
 
 
 def _are_rows(graph: Graph, chips: Any) -> bool:
-    """Whether chips are rows for chains, and not those of all."""
-    if not isinstance(chips, (list, tuple)) and getattr(chips, "ndim", 1) != 2:
+    """Whether chips are rows for chains, and not those of all: numbers, or rows of them in the graph's shape."""
+    if not isinstance(chips, (list, tuple)) and getattr(chips, "ndim", 1) < 2:
         return False
-    return all(isinstance(row, Mapping) or hasattr(row, "__len__") and len(row) == graph.vertices for row in chips)
+    if any(hasattr(row, "items") or hasattr(row, "fired") for row in chips):
+        return True
+    if not all(hasattr(row, "__len__") for row in chips):
+        return False
+    is_deep = any(hasattr(next(iter(row), 0), "__len__") for row in chips)
+    return is_deep or graph.shape != (len(chips), *{*map(len, chips)})
 
 
 def _by_rows(numpy: Any, numbers: array[int], n: int) -> Any:
@@ -272,7 +276,7 @@ def _by_rows(numpy: Any, numbers: array[int], n: int) -> Any:
 
 
 def _in_order(pieces: Sequence[Sequence[Any]], count: int) -> Firings:
-    """The vertices that fired by each drop, by the numbers of so many drops."""
+    """The vertices that fired by each drop, by the numbers of `count` drops."""
     numpy = imported("numpy")
     found = [it for piece in pieces for it in piece] or [[numpy.zeros(0, "i8")] * 3]
     drop, vertices, counts = (numpy.concatenate(column) for column in zip(*found))

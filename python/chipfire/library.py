@@ -75,6 +75,12 @@ def most(graph: Graph) -> int:
     return MOST_WORK // (graph.vertices + len(graph.columns.tails) or 1)
 
 
+def at_once(graph: Graph, chips: Sequence[int]) -> int:
+    """How many of these games, one after another, a call in this process may have; 0 if one is too long."""
+    width = graph.vertices or 1
+    return most(graph) // (1 + max([sum(chips[it : it + width]) for it in range(0, len(chips), width)], default=0))
+
+
 def _slice(name: str, numbers: Any) -> tuple[int, int]:
     """Where an array begins, and how many numbers it has."""
     if isinstance(numbers, array) and numbers.typecode == "Q":
@@ -138,13 +144,12 @@ def play(
     """The chips and the counts at the end of one game after another, and how many vertices the limit stopped; or None
     if one of them is the program's."""
     found, width, at_most = _loaded() if program is None else None, graph.vertices or 1, most(graph)
-    starts = range(0, len(chips), width)
-    at_once = at_most // (1 + max([sum(chips[it : it + width]) for it in starts], default=0))
-    if not found or not at_once:
+    if not found or not (some := at_once(graph, chips)):
         return None
+    starts = range(0, len(chips), width)
     ended = left, fired, stopped = array("Q"), array("Q"), array("Q")
-    for first in range(0, len(starts) or 1, at_once):
-        part, games = slice(first * width, (first + at_once) * width), len(starts[first : first + at_once])
+    for first in range(0, len(starts) or 1, some):
+        part, games = slice(first * width, (first + some) * width), len(starts[first : first + some])
         start = chips[part] if isinstance(chips, array) else array("Q", chips[part])
         here = start, _ZERO * len(start), _ZERO * games
         _call(found.chipfire_stabilize_all, graph, min(limit, at_most), array("Q", guess[part]), *here)

@@ -1,7 +1,7 @@
 """Pictures of chips and of counts: files, notebooks, NumPy and Matplotlib.
 
-A picture has a square for each vertex, placed by the graph's shape, or in the order of the numbers, so many in a row. A
-sink that is the last vertex has no square; another one has a colour of its own, which all outside of a region has too.
+A picture has a square for each vertex, placed by the graph's shape, or in the order of the numbers, `columns` in a row.
+A sink that is the last vertex has no square; another one has a colour of its own, as all outside of a region has too.
 """
 
 from __future__ import annotations
@@ -24,7 +24,7 @@ if TYPE_CHECKING:
 
 
 def _blend(corners: Sequence[str], count: int) -> tuple[str, ...]:
-    """So many colours, from the first of these to the last."""
+    """`count` colours, from the first of these to the last."""
     found = []
     for step in range(count):
         place, share = divmod(step * (len(corners) - 1), count - 1)
@@ -42,7 +42,7 @@ PALETTES: dict[str, Sequence[str]] = {
 }
 SINK_COLOUR = "#a5d8c2"
 SCALE = 8
-#: In notebooks, what is more than so many squares wide or high is shown as points, and at most so many points wide.
+#: In notebooks, a picture wider or higher than the first, in squares, is shown as points, at most the second wide.
 _MOST_SQUARES, _MOST_POINTS = 100, 800
 
 #: The name of a palette, or its colours, each `#rrggbb`.
@@ -70,14 +70,14 @@ class Picture:
     most: int | None = None
 
     def save(self, file: FileName, scale: int = SCALE) -> None:
-        """Writes the picture with so many points for a square's side: `.svg`, `.png`, or what Pillow knows."""
+        """Writes the picture with `scale` points for a square's side: `.svg`, `.png`, or what Pillow knows."""
         if os.fspath(file).lower().endswith(".svg"):
             write(file, self.svg(scale))
         else:
             rasters.write(file, [self.points(scale)], self.colours())
 
     def points(self, scale: int) -> list[bytes]:
-        """The rows of points, with so many for a square's side."""
+        """The rows of points, with `scale` for a square's side."""
         scale, lines = whole(scale, "the scale", 1), []
         for row in self.rows:
             line = bytearray(scale * len(row))
@@ -164,7 +164,7 @@ def colours_of(palette: Palette) -> tuple[str, ...]:
 
 
 def in_rows(graph: Graph | None, values: Sequence[int], columns: int | None, empty: int) -> list[Sequence[int]]:
-    """Values of all vertices but a last sink in rows: of so many, or of the graph's shape, with what is `empty`."""
+    """Values of all vertices but a last sink in rows: of `columns`, or of the graph's shape, with what is `empty`."""
     if columns is not None:
         columns = whole(columns, "the number of columns", 1)
         is_last = len(values) % columns == 1 if graph is None else graph.sink == len(values) - 1

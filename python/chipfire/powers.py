@@ -7,7 +7,7 @@ from collections import Counter
 from collections.abc import Iterable, Mapping
 from typing import Any, NamedTuple
 
-from chipfire.values import imported, whole
+from chipfire.values import imported, whole, wholes
 
 
 class PowerLaw(NamedTuple):
@@ -32,7 +32,7 @@ def power_law(sizes: Iterable[int] | Mapping[int, int], least: int = 1, most: in
     A border ends the law of avalanches, so `most` is best far below the largest one."""
     told = _counts(sizes)
     least = whole(least, "the least size", 1)
-    most = whole(max(told, default=0) if most is None else most, "the greatest size", least)
+    most = max([least, *told]) if most is None else whole(most, "the greatest size", least)
     seen = {size: count for size, count in told.items() if least <= size <= most}
     if len(seen) < 2:
         raise ValueError(f"a power law takes two sizes that differ, from {least} to {most}")
@@ -79,6 +79,9 @@ def plot_sizes(
 def _counts(sizes: Any) -> Counter[int]:
     """How many there are of each size; those of an array of several rows too."""
     if isinstance(sizes, Mapping):
-        return Counter(dict(sizes))
+        named = wholes([*sizes], lambda place: f"size {place}", None)
+        counts = wholes([*sizes.values()], lambda place: f"the count of size {named[place]}")
+        return Counter(dict(zip(named, counts)))
     values = sizes.ravel() if hasattr(sizes, "ravel") else sizes
-    return Counter(values.tolist() if hasattr(values, "tolist") else map(int, values))
+    values = values.tolist() if hasattr(values, "tolist") else list(values)
+    return Counter(wholes(values, lambda place: f"size {place}", None))

@@ -45,14 +45,14 @@ class Fault(ValueError):
 
     number       the number of the fault, as in `fault 24 Row 3`: 24
     name         its name: "Row"
-    place        the numbers after the name: (3,)
+    place        the numbers after the name: (3,); in a log whose processes have names, the name of a process
     explanation  what `chipfire explain` says of the number; empty if the program does not say
     status       the exit status: 1, or 3 if a run was not finished
     words        which file is meant, or what is wrong with the graph, by the names of its vertices
     """
 
     def __init__(
-        self, number: int, name: str, place: tuple[int, ...], explanation: str, status: int, words: str = ""
+        self, number: int, name: str, place: tuple[Any, ...], explanation: str, status: int, words: str = ""
     ) -> None:
         super().__init__(number, name, place, explanation, status, words)
         self.number, self.name, self.place = number, name, place
@@ -132,7 +132,7 @@ def start_program() -> None:
 
 def ask(
     program: FileName | None, command: str, inputs: Sequence[Input] = (), options: Mapping[str, Any] | None = None,
-    graph: Graph | None = None, begins: str = '{"chips":[',
+    graph: Graph | None = None, begins: str | tuple[str, ...] = '{"chips":[',
 ) -> str:
     """Runs a command, and returns what it writes, which `begins` so; a fault is raised. `graph` is the one that is
     asked about, if Python has it. An option that is None or False is left out, and one that is True has no value."""
@@ -177,8 +177,8 @@ def _meant(
     if number <= 8 and graph is not None:
         return f"{graph.wrong}."
     if number in (1, 3, 30):
-        most = f"{MAX_LARGE_VERTICES} vertices, up to {MAX_LARGE_EDGES} edges, and files of up to {2**28} bytes"
-        return f"{words[0]} takes 1 to {most}."
+        most = "" if words[0] == "judge" else f"1 to {MAX_LARGE_VERTICES} vertices, up to {MAX_LARGE_EDGES} edges, and "
+        return f"{words[0]} takes {most}files of up to {2**28} bytes."
     if number == 91:
         kept = {f"/dev/fd/{file.number}": f"({kind})" for kind, file in inputs if isinstance(file, Kept)}
         no_utf8 = [ascii(word)[1:-1] for word in words if re.search("[\ud800-\udfff]", word)]

@@ -14,6 +14,7 @@ from chipfire.chips import CHIPS_HEADER, GUESS_HEADER, Chips, Configuration, cap
 from chipfire.chips import identity as identity_numbers
 from chipfire.dropped import ROWS_HEADER, Drops, columns_of, dropped_on, parts_of, played_drops
 from chipfire.graphs import Graph
+from chipfire.logs import judge_log
 from chipfire.machine import (
     Firing, Schedule, Setting, Simulation, has_notes, read_schedule, schedule_text, trace_text,
 )
@@ -152,7 +153,7 @@ def verify(
 ) -> bool:
     """Whether a report is what `plain` finds for this game and limit; or, in a form of chips, whether counts are those.
     A name is that of the file of a report. One that was stopped by a smaller limit may be honest, and is not verified.
-    Proved: the verdict on a file, and on the counts and chips of a report where the library answers; else the play.
+    Proved: the verdict on a file, and on the counts and chips of a report if the library answers; else the play.
     Not proved: what Python compares."""
     question = _Question(graph, program)
     if isinstance(report, FILE):
@@ -166,7 +167,7 @@ def verify(
         return True
     told = report if isinstance(report, Report) else None
     counts = question.graph.numbers(told.total if told else report, of="firings")
-    if min(counts) < 0 or told and min(told.chips) < 0:
+    if min((*counts, *(told.chips if told else ())), default=0) < 0:
         return False
     start, own = question.numbers(chips), question.own
     if told and own and not own.loops and not progress and isinstance(start, tuple):
@@ -216,7 +217,7 @@ def run(
     dealt: bool = False, turns: int | None = None, feed: Chips | None = None, trace: FileName | None = None,
     trace_rows: int | None = None, progress: bool = False, program: AnyProgram = None,
 ) -> Report:
-    """Plays as `plain` does, with an actor for each vertex, on so many threads, by a program that has this command.
+    """Plays as `plain` does, with an actor for each vertex, on `workers` threads, by a program that has this command.
 
     The threads share one queue of all vertices. If the vertices are `dealt` out, each thread keeps its own: large
     graphs are then played quicker, by as many threads as there are processors. The report is the same.
@@ -336,3 +337,4 @@ class Program:
     resume = _method(resume)
     explain = _method(explain)
     identity = _method(identity)
+    judge_log = _method(judge_log)

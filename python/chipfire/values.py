@@ -9,6 +9,7 @@ import io
 import itertools
 import operator
 import os
+import random
 from array import array
 from collections.abc import Callable, Iterable, Iterator, Sequence
 from concurrent.futures import ThreadPoolExecutor
@@ -72,8 +73,13 @@ def imported(name: str, wanted: str = "") -> Any:
         return None
 
 
+def generator(seed: Any) -> random.Random:
+    """What draws by a seed of Python's `random`, or by a whole number of NumPy."""
+    return random.Random(operator.index(seed) if hasattr(seed, "__index__") else seed)
+
+
 def side_by_side(work: Callable[[int], T], count: int, workers: int) -> list[T]:
-    """What work is for each number from 0 on, by so many threads. After an error or an interrupt none is begun."""
+    """What work is for each number below `count`, on `workers` threads. After an error or interrupt none is begun."""
     if workers == 1:
         return [work(it) for it in range(count)]
     pool = ThreadPoolExecutor(workers)
@@ -84,7 +90,7 @@ def side_by_side(work: Callable[[int], T], count: int, workers: int) -> list[T]:
 
 
 def counted(count: int, word: str) -> str:
-    """So many of something: "1 chip", "4 chips"."""
+    """A number of something: "1 chip", "4 chips"."""
     return f"{count:,} {word}" + ("" if count == 1 else "s")
 
 

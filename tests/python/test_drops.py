@@ -123,6 +123,18 @@ class Random(unittest.TestCase):
         for count in (-1, 0.5):
             with self.assertRaises((TypeError, ValueError)):
                 chipfire.random_drops(graph, count, 1)
+        self.assertEqual(list(chipfire.random_drops(chipfire.Graph(1, 0, []), 0, 1)), [])
+        with self.assertRaisesRegex(ValueError, "only its sink"):
+            chipfire.random_drops(chipfire.Graph(1, 0, []), 1, 1)
+
+    @unittest.skipUnless(has("numpy"), "NumPy is not here")
+    def test_a_seed_may_be_a_number_of_numpy(self):
+        import numpy
+
+        grid = chipfire.grid(4, 3)
+        for seed in numpy.arange(3):
+            self.assertEqual(*(list(chipfire.random_drops(grid, 99, it)) for it in (seed, int(seed))))
+            self.assertEqual(*(chipfire.random_recurrent(grid, it) for it in (seed, int(seed))))
 
 
 if __name__ == "__main__":

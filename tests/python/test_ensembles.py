@@ -11,7 +11,7 @@ from unittest import mock
 import chipfire
 from test_counts import slow_report
 from test_drops import rows_of, slow_rows
-from test_package import TRIANGLE
+from test_package import CHIPS_FILE, TRIANGLE
 from test_sandpile_words import recurrent_ones
 from test_sandpiles import has
 
@@ -83,16 +83,23 @@ class Chains(unittest.TestCase):
         grid = chipfire.grid(4, 4)
         starts = chipfire.random_recurrent(grid, 3, 4)
         found = chipfire.chains(grid, 4, 30, 3)
-        forms = [starts, tuple(starts), [[*it.numbers] for it in starts]]
+        rows = [[*it.values()] for it in starts]
+        squares = [[row[at : at + 4] for at in range(0, 16, 4)] for row in rows]
+        reports = [chipfire.plain(grid, it) for it in starts]
+        forms = [starts, tuple(starts), [[*it.numbers] for it in starts], rows, squares, reports]
         if has("numpy"):
             import numpy
-            forms.append(numpy.array([it.numbers for it in starts]))
+            forms += [numpy.array([it.numbers for it in starts]), numpy.array(rows), numpy.array(squares)]
         for chips in forms:
             again = chipfire.chains(grid, 4, 30, 3, chips=chips)
             self.assertEqual([it.tolist() for it in again.size], [it.tolist() for it in found.size])
         for chain, start in enumerate(starts):
             alone = chipfire.drops(grid, start, chipfire.random_drops(grid, 30, found.seeds[chain]))
             self.assertEqual(alone.size.tolist(), found.size[chain].tolist())
+        files = [chipfire.chains(TRIANGLE, 2, 30, 3, chips=it).chips for it in (CHIPS_FILE, [4, 0, 0])]
+        self.assertEqual(*([it.tolist() for it in rows] for rows in files))
+        one = chipfire.chains(grid, 4, 30, 3, chips=squares[0])
+        self.assertEqual(one.size[0].tolist(), found.size[0].tolist())
 
     @unittest.skipUnless(has("numpy"), "NumPy is not here")
     def test_the_numbers_without_numpy_are_the_same(self):
@@ -171,6 +178,11 @@ class Chains(unittest.TestCase):
         with mock.patch("chipfire.ensembles.imported", side_effect=ImportError("which is not installed")):
             with self.assertRaises(ImportError):
                 chipfire.chains(TRIANGLE, 1, 1, 1, chips=0, fired=True)
+
+    def test_without_a_seed_no_two_calls_draw_the_same(self):
+        one, other = (chipfire.chains(chipfire.grid(9, 9), 2, 50, None, chips=0) for _ in range(2))
+        self.assertEqual(len({*one.seeds, *other.seeds}), 4)
+        self.assertNotEqual([it.tolist() for it in one.chips], [it.tolist() for it in other.chips])
 
     def test_few_drops_and_none(self):
         found = chipfire.chains(TRIANGLE, 2, 0, 1, chips=[4, 0, 0])

@@ -92,7 +92,7 @@ class Lattices(unittest.TestCase):
     def test_what_is_refused(self):
         for sizes, options, words in [
             ((3, 3), {"periodic": True}, "takes a loss"), ((1, 3), {"periodic": True, "loss": 1}, "2 or more"),
-            ((3, 4), {"periodic": True, "loss": 1, "lattice": "hexagonal"}, "even if hexagonal"),
+            ((3, 4), {"periodic": True, "loss": 1, "lattice": "hexagonal"}, "has an even size"),
             ((3, 4, 5), {"lattice": "triangular"}, "3 directions"), ((3, 3), {"lattice": "cubic"}, "cubic"),
             ((3, 3), {"periodic": (True,)}, "2 directions, and 1"), ((3, 3), {"loss": -1}, "below 0"),
             ((0, 3), {"periodic": True, "loss": 1}, "the width is below 1"),

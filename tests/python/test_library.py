@@ -22,7 +22,7 @@ import chipfire
 from chipfire import library
 from test_counts import GRAPHS, slow_report
 from test_drops import rows_of, slow_rows
-from test_package import TRIANGLE, TRIANGLE_FILE, WithFolder
+from test_package import CHIPS_FILE, TRIANGLE, TRIANGLE_FILE, WithFolder
 from test_sandpile_words import DIRECTED, recurrent_ones
 from test_sandpiles import has
 
@@ -70,11 +70,11 @@ class Many(unittest.TestCase):
         self.assertEqual(chipfire.are_recurrent(TRIANGLE, iter([])), [])
 
     def test_configurations_come_in_every_form(self):
-        wanted = [(1, 0, 3)] * 4 + [(1, 0, 0)]
-        rows = [[4, 0, 0], [4, 0], {0: 4}, array("q", [4, 0, 0]), chipfire.Configuration(TRIANGLE, [1, 0])]
+        wanted = [(1, 0, 3)] * 5 + [(1, 0, 0)]
+        rows = [[4, 0, 0], [4, 0], {0: 4}, array("q", [4, 0, 0]), CHIPS_FILE, chipfire.Configuration(TRIANGLE, [1, 0])]
         for graph in (TRIANGLE, TRIANGLE_FILE):
             self.assertEqual([tuple(row) for row in chipfire.stabilize_many(graph, iter(rows))], wanted)
-            self.assertEqual(chipfire.are_recurrent(graph, rows), [False] * 4 + [True])
+            self.assertEqual(chipfire.are_recurrent(graph, rows), [False] * 5 + [True])
         grid = chipfire.grid(3, 2)
         found = chipfire.stabilize_many(grid, [[[4, 0, 0], [0, 0, 0]]])
         self.assertEqual(tuple(found[0]), slow_report(grid, [4, 0, 0, 0, 0, 0, 0]).chips)
@@ -100,6 +100,10 @@ class Many(unittest.TestCase):
         ]:
             with self.subTest(row=row), self.assertRaisesRegex(refusal, said):
                 chipfire.stabilize_many(TRIANGLE, [[0, 0, 0], row])
+        for call in (chipfire.stabilize_many, chipfire.are_recurrent):
+            for given in ({0: 4}, chipfire.Configuration(TRIANGLE, [4, 0]), CHIPS_FILE):
+                with self.assertRaisesRegex(TypeError, "configurations are rows"):
+                    call(TRIANGLE, given)
         with self.assertRaisesRegex(TypeError, "row 0 .* no whole number: 0.5"):
             chipfire.are_recurrent(TRIANGLE, [[0.5, 0, 0]])
         with self.assertRaises(chipfire.Fault) as raised:
@@ -266,6 +270,7 @@ class Ways(WithFolder):
         for call in (
             "chipfire.stabilize_many(grid, (9 for _ in range(10**5)))", "chipfire.plain(chipfire.grid(511, 511), 4)",
             "chipfire.drops(grid, grid.max_stable(), [1800] * 10**7)",
+            "chipfire.stabilize_many(chipfire.grid(20, 20), [{190: 100_000}] * 8000, workers=2)",
         ):
             with self.subTest(call):
                 words = [sys.executable, "-c", begins + call]

@@ -46,6 +46,13 @@ class PowerLaw(unittest.TestCase):
                                ([1, 9], {"most": 0}), ([], {})]:
             with self.assertRaises(ValueError):
                 chipfire.power_law(sizes, **options)
+        for sizes, refusal, said in [([], ValueError, "two sizes that differ"), ([0, 0], ValueError, "two sizes"),
+                                     ([1, 2.5], TypeError, "size 1 is no whole number: 2.5"), ("12", TypeError, "'1'"),
+                                     ([1, 2, float("nan")], TypeError, "size 2 is no whole number: nan"),
+                                     ({1: 2, 3: -1}, ValueError, "the count of size 3 is below 0: -1"),
+                                     ({1: 0.5, 3: 1}, TypeError, "the count of size 1 is no whole number: 0.5")]:
+            with self.assertRaisesRegex(refusal, said):
+                chipfire.power_law(sizes)
 
     @unittest.skipUnless(has("numpy"), "NumPy is not here")
     def test_arrays(self):
@@ -55,6 +62,9 @@ class PowerLaw(unittest.TestCase):
         wanted = chipfire.power_law(sizes)
         self.assertEqual(chipfire.power_law(numpy.array(sizes)), wanted)
         self.assertEqual(chipfire.power_law(numpy.array(sizes).reshape(20, 100)), wanted)
+        self.assertEqual(chipfire.power_law(numpy.array(sizes, float)), wanted)
+        with self.assertRaisesRegex(TypeError, "size 1 is no whole number: 1.5"):
+            chipfire.power_law(numpy.array([1, 1.5, 2]))
 
     @unittest.skipUnless(has("matplotlib"), "Matplotlib is not here")
     def test_the_plot(self):

@@ -1,20 +1,16 @@
 """Detectors that answer the exercises of docs/tasks/exercises.md. `python -m chipfire explore` ends with 0 for each."""
-import os
-import runpy
-
 from chipfire.model import Core
+from given import Arrived, TwoCounters
 
-given = runpy.run_path(os.path.join(os.path.dirname(os.path.abspath(__file__)), "given.py"))
 
-
-class Repaired(given["Arrived"]):
+class Repaired(Arrived):
     """A message that was taken is not acknowledged: whoever took it may still send."""
 
     def may_let_go(self, edge):
         return self.is_passive(edge.head) and self.deficit(self.outs(edge.head)) == 0
 
 
-class FourCounters(given["TwoCounters"]):
+class FourCounters(TwoCounters):
     """The sums of the wave before have to be the same."""
 
     before = None

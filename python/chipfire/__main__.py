@@ -9,18 +9,22 @@
     python -m chipfire explore NAME [GRAPH CHIPS]
     python -m chipfire explore FILE.py:CLASS [GRAPH CHIPS]
     python -m chipfire judge GRAPH CHIPS LOG
+    python -m chipfire judge LOG
 
 `explore` ends with status 0 if the detector never closes the root too early and can always close it, 2 if it can close
 it too early, 3 if it can miss the end, and 4 if there are too many states to tell. `judge` ends with 0 if all claims of
-the log are true, 2 if one is false, and 3 if the log misses the end. An error is 1.
+the log are true, 2 if one is false, and 3 if the log misses the end; with LOG alone it is the program's `judge`. An
+error is 1.
 """
 
 from __future__ import annotations
 
 import argparse
+import os
 import runpy
+import subprocess
 import sys
-from typing import Any
+from typing import Any, NoReturn
 
 from chipfire.choosing import choice_page_text
 from chipfire.detectors import DETECTORS, known_detector
@@ -31,6 +35,7 @@ from chipfire.ledger import Disagreement
 from chipfire.machine import SCHEDULE_HEADER, TRACE_HEADER, Setting
 from chipfire.model import Core
 from chipfire.pages import page_text, recorded, refuse_more
+from chipfire.process import find_program
 from chipfire.program import known_chips, known_graph, simulate
 from chipfire.schedules import Detector
 from chipfire.values import MAX_LIMIT, begins, read_rows, rows_text
@@ -59,7 +64,7 @@ def _page(asked: argparse.Namespace) -> str:
 def _setting(files: list[str], asked: argparse.Namespace, **options: Any) -> Setting:
     """The game of two files."""
     if len(files) != 2:
-        raise ValueError("another game is GRAPH and CHIPS, two files")
+        raise ValueError("a game is GRAPH and CHIPS, two files")
     known = known_graph(files[0], asked.program)
     return Setting(known, known_chips(known, files[1], asked.program), **options)
 
@@ -70,9 +75,10 @@ def _detector(name: str) -> Detector:
     if not colon:
         known_detector(name)
         return name
+    sys.path.insert(0, os.path.dirname(os.path.abspath(file)))  # (as for a file that Python starts)
     try:
         made = runpy.run_path(file).get(wanted)
-    except Exception as error:  # (whatever the file does)
+    except (Exception, SystemExit) as error:  # (whatever the file does)
         raise ValueError(f"{file}: {type(error).__name__}: {error}") from error
     if not (isinstance(made, type) and issubclass(made, Core)):
         raise ValueError(f"{file} has no class {wanted} that is made of chipfire.model.Core")
@@ -107,7 +113,11 @@ def _explore(asked: argparse.Namespace) -> tuple[str, int]:
 
 def _judge(asked: argparse.Namespace) -> tuple[str, int]:
     """The verdict on a log, and the status."""
-    judged = judge(_setting([asked.graph, asked.chips], asked, fed=asked.fed), asked.log, also=asked.also)
+    *game, log = asked.files
+    if not game:
+        ran = subprocess.run([asked.program or find_program(), "judge", log], stdout=subprocess.PIPE, encoding="utf-8")
+        return ran.stdout, ran.returncode
+    judged = judge(_setting(game, asked, fed=asked.fed), log, also=asked.also)
     if not judged.fits and judged.is_true is None:
         raise ValueError(str(judged))
     return f"{judged}\n", 2 if not judged.is_true else 3 if judged.is_missed else 0
@@ -158,17 +168,23 @@ def _add_verdicts(commands: Any) -> list[argparse.ArgumentParser]:
     found.set_defaults(make=_explore)
     says = "judges a log: status 0 if its claims are true, 2 if one is false, 3 if it misses the end"
     log = commands.add_parser("judge", help=says, description=says)
-    log.add_argument("graph", metavar="GRAPH", help="a graph file")
-    log.add_argument("chips", metavar="CHIPS", help="a chips file")
-    log.add_argument("log", metavar="LOG", help="rows event,at,count,reply")
+    says = "GRAPH, CHIPS and a log of rows event,at,count,reply; or a log of any program alone"
+    log.add_argument("files", metavar="FILE", nargs="+", help=says)
     log.add_argument("--also", action="append", default=[], metavar="EVENT", help="an event of its own detector")
     log.add_argument("--fed", action="store_true", help="the root may feed chips")
     log.set_defaults(make=_judge)
     return [found, log]
 
 
+class _Parser(argparse.ArgumentParser):
+    """A parser of arguments by which an error is 1, since 2 is a verdict."""
+
+    def error(self, message: str) -> NoReturn:
+        self.exit(1, f"{self.format_usage()}{self.prog}: error: {message}\n")
+
+
 def _arguments() -> argparse.ArgumentParser:
-    parser = argparse.ArgumentParser(prog="python -m chipfire", description="chipfire's Python package.")
+    parser = _Parser(prog="python -m chipfire", description="chipfire's Python package.")
     commands = parser.add_subparsers(required=True, metavar="COMMAND")
     for command in [*_add_pages(commands), *_add_verdicts(commands)]:
         command.add_argument("--program", metavar="FILE", help="the program chipfire, if not the one that is found")
@@ -183,6 +199,9 @@ def main() -> int:
         sys.stdout.buffer.write(text.encode())
     except (Disagreement, OSError, ValueError) as error:
         print(f"chipfire: {error}", file=sys.stderr)
+        return 1
+    except SystemExit as error:
+        print(f"chipfire: the detector ended the command with exit({error})", file=sys.stderr)
         return 1
     return int(status)
 

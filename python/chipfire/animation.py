@@ -73,7 +73,7 @@ def frames(
     graph: AnyGraph, chips: Chips, limits: Iterable[int] | None = None, *, columns: int | None = None,
     palette: Palette | None = None, program: AnyProgram = None,
 ) -> Frames:
-    """The play of these chips as it stands at growing limits: each vertex may fire so often at most.
+    """The play of these chips as it stands at growing limits: each vertex may fire that often at most.
 
     Without `limits`, up to 24 are spread evenly from 0, the start, to the end of the play. `columns` and `palette` are
     those of `Report.picture`. Each limit is a play of its own.
@@ -85,13 +85,9 @@ def frames(
         known, most = {max(last.fired): last}, max(last.fired)
         limits = sorted({most * step // (COUNT - 1) for step in range(COUNT)})
     limits = tuple(limits)
-
-    def at(limit: int) -> Report:
-        return known.get(limit) or plain(graph, chips, limit=limit, program=program)
-
     # (side by side, the plays of large graphs would take too much memory)
     with ThreadPoolExecutor(1 if graph.vertices > 200_000 else os.cpu_count()) as pool:
-        reports = tuple(pool.map(at, limits))
+        reports = tuple(pool.map(lambda it: known.get(it) or plain(graph, chips, limit=it, program=program), limits))
     return Frames(limits, reports, tuple(report.picture(columns, palette) for report in reports))
 
 
@@ -99,7 +95,7 @@ def frames_by_chips(
     graph: AnyGraph, vertex: Hashable, counts: Iterable[int], *, columns: int | None = None,
     palette: Palette | None = None, program: AnyProgram = None,
 ) -> Frames:
-    """What becomes of so many chips that are dropped on a vertex, for each of these growing numbers of chips.
+    """What becomes of chips that are dropped on a vertex, for each of these growing numbers of chips.
     Proved: each position, to which all orders of drops and firings lead. Not proved: that the pictures show it."""
     graph, counts, reports, held = known_graph(graph, program), tuple(counts), [], 0
     at, chips, total = graph.number(vertex), [0] * graph.vertices, (0,) * graph.vertices

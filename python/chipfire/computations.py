@@ -6,6 +6,7 @@ A `Computation` takes the place of a `chipfire.Setting` in `explore`, `random_sc
 
 from __future__ import annotations
 
+import copy
 from collections.abc import Iterable, Mapping, Sequence
 from typing import Any, ClassVar
 
@@ -23,7 +24,8 @@ class Computation:
     long as it is, it goes on of itself, once all is sent, each time in one of some ways.
 
     A state is a vertex of the model: what the computation knows stands in its attributes, and nowhere else. It has the
-    `number` of the vertex, and in `outs` the numbers of the edges from there. States and loads are plain values.
+    `number` of the vertex, and in `outs` the numbers of the edges from there; `chips`, `fired`, `halt` and `parent` are
+    the model's. States and loads are plain values.
     """
 
     #: The attributes that each state has at the start.
@@ -56,7 +58,8 @@ class Computation:
 
     def show(self, state: Any) -> str:
         """The state in a few letters, for pages: its values, but for those that are empty."""
-        own = [(name, value) for name, value in vars(state).items() if name not in _OF_MODEL]
+        of_model = {*vars(Vertex()), "number", "outs"}
+        own = [(name, value) for name, value in vars(state).items() if name not in of_model]
         full = [(name, value) for name, value in own if value is not None and value is not False and value != ()]
         return " ".join(name if value is True else str(value) for name, value in full)
 
@@ -79,8 +82,11 @@ class Computed(Core):
         super().__init__(graph, [0] * graph["vertices"], *options)
         self.computation: Computation = graph["computation"]
         for number, state in enumerate(self.vertices):
-            outs = tuple(e.number for e in self.outs(number))
-            vars(state).update(self.computation.begins, number=number, outs=outs)
+            vars(state).update(number=number, outs=tuple(e.number for e in self.outs(number)))
+            if taken := [name for name in self.computation.begins if name in vars(state)]:
+                made = type(self.computation).__name__
+                raise ValueError(f"{made}.begins has {taken[0]!r}, which the model keeps: choose another name")
+            vars(state).update(copy.deepcopy(dict(self.computation.begins)))
         self.claim_all(-1, [(self.graph_edges + vertex, load) for vertex, load in self.computation.on_start()])
         for e in self.outs(-1):
             e.put = len(e.sent)
@@ -121,10 +127,14 @@ class Computed(Core):
 
     def claim_all(self, v: int, sends: Sends) -> None:
         """A vertex, or the root, claims places for messages."""
+        own = [e.number for e in self.outs(v)]
         for at, load in sends:
+            if at not in own:
+                raise ValueError(
+                    f"vertex {v} sends on edge {at}, which is none of its own" if v >= 0 else
+                    f"the root sends to vertex {at - self.graph_edges}, which is not there"
+                )
             e = self.edges[at]
-            if e.tail != v:
-                raise ValueError(f"vertex {v} sends on edge {at}, which is none of its own")
             e.sent = (*e.sent, load)
             self.on_send(e)
 
@@ -226,7 +236,7 @@ class Firing(Computation):
     def __init__(self, graph: Graph, chips: Any) -> None:
         super().__init__(graph)
         self.chips = graph.chips(chips)
-        self.degrees = [sum(mult for tail, _, mult in graph.edges if tail == v) for v in range(graph.vertices)]
+        self.degrees = graph.degrees()
 
     def on_start(self) -> Sends:
         return [(vertex, count) for vertex, count in enumerate(self.chips) if count]
@@ -248,7 +258,3 @@ class Firing(Computation):
 
     def show(self, state: Any) -> str:
         return str(state.chips)
-
-
-#: What stands at a vertex besides what a computation keeps there.
-_OF_MODEL = {*vars(Vertex()), "number", "outs"}

@@ -115,6 +115,9 @@ class Safra(_Otherwise):
             )
         return "done"
 
+    def tells(self, kind: str, at: int) -> list[tuple[int, int]]:
+        return [(at, (at or len(self.vertices) + 1) - 1)]
+
     def blackens(self, at: int) -> bool:
         return at in self.own.black
 
@@ -183,8 +186,14 @@ class Credit(_Otherwise):
         self._give(-1, back)
         return "done"
 
+    def tells(self, kind: str, at: int) -> list[tuple[int, int]]:
+        return [(at, len(self.vertices))]
+
     def is_closed(self) -> bool:
         return self.ended and self.own.root == 1
+
+
+_TRIANGLE = Graph(3, 2, ((0, 1), (0, 2), (1, 0), (1, 2)))
 
 
 class Known(NamedTuple):
@@ -192,35 +201,34 @@ class Known(NamedTuple):
 
     make: type[Core]
     says: str
-    game: Setting
+    game: Setting = Setting(_TRIANGLE, (4, 0, 0))
 
-
-_TRIANGLE = Graph(3, 2, ((0, 1), (0, 2), (1, 0), (1, 2)))
-_FOUR = Setting(_TRIANGLE, (4, 0, 0))
 
 DETECTORS = {
-    "right": Known(Core, "the detector of Dijkstra and Scholten", _FOUR),
-    "at-once": Known(AtOnce, "a vertex acknowledges each message as soon as it has taken it", _FOUR),
+    "right": Known(Core, "the detector of Dijkstra and Scholten"),
+    "at-once": Known(AtOnce, "a vertex acknowledges each message as soon as it has taken it"),
     "without-passive": Known(
-        WithoutPassive, "a vertex acknowledges the engaging message last, but also while it is at work", _FOUR
+        WithoutPassive, "a vertex acknowledges the engaging message last, but also while it is at work"
     ),
     "without-deficit": Known(
-        WithoutDeficit, "a passive vertex acknowledges the engaging message, whatever it waits for", _FOUR
+        WithoutDeficit, "a passive vertex acknowledges the engaging message, whatever it waits for"
     ),
-    "any-order": Known(AnyOrder, "a passive vertex that waits for nothing acknowledges in any order", _FOUR),
+    "any-order": Known(AnyOrder, "a passive vertex that waits for nothing acknowledges in any order"),
     "one-edge": Known(
         OneEdge, "the root looks at the first edge alone on which it sent something", Setting(_TRIANGLE, (1, 2, 0))
     ),
-    "safra": Known(Safra, "Safra's token", _FOUR),
-    "safra-colourless": Known(SafraColourless, "a token that adds up what was sent and taken, without colours", _FOUR),
-    "credit": Known(Credit, "credit that the root gives out and gets back", _FOUR),
+    "safra": Known(Safra, "Safra's token"),
+    "safra-colourless": Known(SafraColourless, "a token that adds up what was sent and taken, without colours"),
+    "credit": Known(Credit, "credit that the root gives out and gets back"),
 }
 
 
 def known_detector(name: str | type[Core]) -> Known:
     """The detector of a name; of a class, what its docstring says."""
     if not isinstance(name, str):
-        return Known(name, (name.__doc__ or name.__name__).strip().partition("\n")[0].rstrip("."), _FOUR)
+        if not (isinstance(name, type) and issubclass(name, Core)):
+            raise TypeError(f"a detector is a name or a class that is made of chipfire.model.Core, and not {name!r}")
+        return Known(name, (name.__doc__ or name.__name__).strip().partition("\n")[0].rstrip("."))
     if name not in DETECTORS:
         raise ValueError(f"there is no detector {name!r}, but {', '.join(DETECTORS)}")
     return DETECTORS[name]

@@ -12,12 +12,10 @@ from typing import Any
 from chipfire.graphs import Graph
 from chipfire.machine import Event, Schedule, Setting
 from chipfire.model import Core
-from chipfire.schedules import Detector, Game, detector_name, opened
+from chipfire.schedules import Detector, Game, detector_name, is_early, opened, played
 from chipfire.states import States, frozen
 from chipfire.values import counted, whole
 
-#: What a tail does to send, as one step.
-_SEND = ("clear", "claim", "put")
 #: How many random schedules of each search are played once more.
 REPLAYS = 200
 
@@ -82,13 +80,13 @@ def explore(
     The state is all that stands in attributes of the game, its edges and its vertices, but for those that the class of
     the detector names in `not_state`. An attribute that cannot be compared is a ValueError. So is a detector that does
     not do the same again when a schedule is played once more on a game of its own, because its state stands elsewhere
-    or because it asks chance or the clock; the schedules found are tried so, and 200 random ones.
-    """
+    or because it asks chance or the clock; the schedules found are tried so, and 200 random ones."""
     return _Search(setting, detector, most, whole_sends, feeds, seals).result()
 
 
 class _Search:
-    """A search over numbered states. A move is a step with its replies, and has a number too."""
+    """A search over numbered states. A move is a step with its replies, and has a number too. What a tail does to send
+    is one step."""
 
     def __init__(
         self, setting: Game, detector: Detector, most: int, whole_sends: bool, feeds: Iterable[Sequence[int]],
@@ -99,7 +97,7 @@ class _Search:
         self.core: Core = opened(setting, detector)
         self.shared = _shared(self.core, setting)
         self.feeds, self.seals = self._known_feeds(feeds), self._known_seals(seals)
-        self.opening = self._messages(self.core)
+        self.opening = sum(len(e.sent) for e in self.core.outs(-1))
         self.states = States(self.core)
         start = self.states.noted()
         #: The states in their order, their numbers, from which one and by which move the search came to each, and
@@ -129,35 +127,31 @@ class _Search:
             raise ValueError("there are seals, and the game is not one of chip-firing")
         return found
 
-    @staticmethod
-    def _messages(core: Core) -> int:
-        """How many messages the root has sent."""
-        return sum(len(e.sent) for e in core.edges[core.graph_edges :])
-
     def result(self) -> Explored:
         """Searches, and plays what was found once more."""
         early, stuck = self._searched()
+        self.known = [*self.numbers]
         self._play_again()
-        lost = self._lost() if self.is_whole and early is None else None
-        schedule, *open_ways = [None if at is None else self._way(at) for at in (early, stuck, lost)]
+        is_whole = self.is_whole and early is None
+        ends = early, stuck, self._lost() if is_whole else None
+        schedule, stays, never = (None if at is None else self._way(at) for at in ends)
         left: tuple[str, ...] = ()
         if schedule is not None:
-            core = self._played(schedule)
-            left = tuple(core.left()) if core.is_closed() else ()
-            if not left:
+            core = played(self.setting, self.detector, schedule)
+            if not is_early(core):
                 raise self._other(len(schedule), "end")
-        for way in open_ways:
-            if way is not None and self._played(way).is_closed():
+            left = tuple(core.left())
+        for way in (stays, never):
+            if way is not None and played(self.setting, self.detector, way).is_closed():
                 raise self._other(len(way), "end")
-        is_whole = self.is_whole and early is None
-        return Explored(len(self.order), schedule, left, open_ways[0], open_ways[1], is_whole)
+        return Explored(len(self.order), schedule, left, stays, never, is_whole)
 
     def _searched(self) -> tuple[int | None, int | None]:
         """The first state in which the root is closed too early, and the first in which nothing can happen."""
         stuck, core, states = None, self.core, self.states
         for at, state in enumerate(self.order):
             states.load(state)
-            self.closed[at] = core.is_closed()
+            self.closed[at] = bool(core.is_closed())
             if self.closed[at] and core.left():
                 return at, stuck
             if self.is_whole:
@@ -179,9 +173,7 @@ class _Search:
             load(state)
             replies = tuple([step_of(*event) for event in self.steps[step]])
             reached, head = noted(), len(self.order)
-            move = self.numbers.setdefault((step, replies), len(self.known))
-            if move == len(self.known):
-                self.known.append((step, replies))
+            move = self.numbers.setdefault((step, replies), len(self.numbers))
             found = places.get(reached)
             if found is None:
                 if head == self.most:
@@ -205,20 +197,19 @@ class _Search:
         except KeyError:  # (there are others than ever before)
             return [self._number(*event) for event in events]
 
-    def _number(self, kind: str, at: int, count: int) -> int:
+    def _number(self, kind: str, at: int, count: int = 0) -> int:
         """The number of the step that begins with an event."""
-        parts = _SEND if at < self.core.graph_edges else ("clear", "feed", "put")
+        step: Step = (Event(kind, at, count),)
         if kind == "clear" and self.whole_sends:
-            step = tuple(Event(part, at, count if part == "feed" else 0) for part in parts)
-        else:
-            step = (Event(kind, at, count),)
+            middle = Event("claim", at) if at < self.core.graph_edges else Event("feed", at, count)
+            step = Event("clear", at), middle, Event("put", at)
         number = self.places_of_steps.setdefault((kind, at, count), len(self.steps))
         self.steps += [step] if number == len(self.steps) else []
         return number
 
     def _outside(self, core: Core) -> Iterator[tuple[str, int, int]]:
         """How the next feed begins, if there is room, and the seals."""
-        fed = self._messages(core) - self.opening
+        fed = sum(len(e.sent) for e in core.outs(-1)) - self.opening
         if not core.ended and fed < len(self.feeds):
             at, count = self.feeds[fed]
             e = core.edges[at]
@@ -234,13 +225,10 @@ class _Search:
         waiting, before = [at for at in reversed(range(len(able))) if not able[at]], -1
         # (most moves lead to later states, so that a few rounds from the last one back do)
         while waiting and len(waiting) != before:
-            before, rest = len(waiting), []
+            before = len(waiting)
             for at in waiting:
-                if any([able[head] for head in heads[firsts[at] : firsts[at + 1]]]):
-                    able[at] = True
-                else:
-                    rest.append(at)
-            waiting = rest
+                able[at] = any([able[head] for head in heads[firsts[at] : firsts[at + 1]]])
+            waiting = [at for at in waiting if not able[at]]
         return waiting[-1] if waiting else None
 
     def _way(self, at: int) -> Schedule:
@@ -250,13 +238,6 @@ class _Search:
             at, move = self.came[at]
             steps.append(self.steps[self.known[move][0]])
         return Schedule(event for step in reversed(steps) for event in step)
-
-    def _played(self, events: Iterable[Event]) -> Core:
-        """A game of its own after a schedule."""
-        core: Core = opened(self.setting, self.detector)
-        for event in events:
-            core.step(*event)
-        return core
 
     def _other(self, count: int, what: str) -> ValueError:
         return ValueError(
@@ -277,13 +258,13 @@ class _Search:
             self._walk(core, States(core, self.states), draw, most)
 
     def _walk(self, core: Core, states: States, draw: random.Random, most: int) -> None:
-        """Plays one random schedule of at most so many steps, and compares all that comes with the search."""
+        """Plays one random schedule of at most `most` steps, and compares all that comes with the search."""
         at = made = 0
         if states.noted() != self.order[0]:
             raise self._other(0, "state")
         while at < len(self.firsts) - 1 and most:
             moves = self.moves[self.firsts[at] : self.firsts[at + 1]]
-            if core.is_closed() != self.closed[at]:
+            if bool(core.is_closed()) != self.closed[at]:
                 raise self._other(made, "end")
             if self._steps(core) != [self.known[move][0] for move in moves]:
                 raise self._other(made, "choice of events")
@@ -301,7 +282,8 @@ class _Search:
 
 def _shared(core: Core, setting: Game) -> dict[str, Any]:
     """What all games share, in classes and in the setting, but for what cannot be compared."""
-    held = [(f"{made.__name__}.{{}} stands in a class", made) for made in type(core).__mro__]
+    classes = (*type(core).__mro__, *type(setting).__mro__)
+    held = [(f"{made.__name__}.{{}} stands in a class", made) for made in classes]
     found = {}
     for says, holder in [*held, (f"{type(setting).__name__}.{{}} stands in a computation", setting)]:
         for name, value in vars(holder).items():

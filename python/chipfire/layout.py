@@ -12,7 +12,7 @@ from chipfire.graphs import Graph, grid
 
 Point = tuple[float, float]
 
-#: Up to so many vertices the places come from distances; more are put in rows.
+#: Up to this number of vertices the places come from distances; more are put in rows.
 MOST_BY_DISTANCE = 100
 
 

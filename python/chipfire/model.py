@@ -27,6 +27,8 @@ RULES = {
 
 #: The events that have a count.
 COUNTED = ("fire", "feed", "work")
+#: How many firings at a time are listed at most.
+MOST_FIRINGS = 1_000_000
 #: A kind of event, the edge or vertex that it is at, and a count.
 Event = tuple[str, int, int]
 
@@ -69,9 +71,7 @@ class Core:
     #: Attributes that say nothing of what will happen, such as a count of polls: they are no part of the state.
     not_state: tuple[str, ...] = ()
     #: Attributes that a game has for good: they do not stand in its `__dict__`.
-    HELD: tuple[str, ...] = (
-        "sink", "limit", "ring", "graph_edges", "vertices", "edges", "_ins", "_outs", "_degrees",
-    )
+    HELD: tuple[str, ...] = ("sink", "limit", "ring", "graph_edges", "vertices", "edges", "_ins", "_outs", "_degrees")
     __slots__ = (*HELD, "__dict__")
 
     def __init__(
@@ -158,6 +158,10 @@ class Core:
         """The events of a detector of another kind that would do something now."""
         return iter(())
 
+    def tells(self, kind: str, at: int) -> Iterable[tuple[int, int]]:
+        """Who tells whom in such an event, for `chipfire.model_log`; the root is the part behind the vertices."""
+        raise ValueError(f"{kind} is an event of {type(self).__name__}, whose `tells` does not say who tells whom")
+
     # What may happen, and what is left.
 
     def enabled(self) -> list[Event]:
@@ -188,6 +192,8 @@ class Core:
                 continue
             if vertex.chips >= self._degrees[v] and not self.is_pending(v):
                 most = min(vertex.chips // self._degrees[v], self.limit - vertex.fired)
+                if most > MOST_FIRINGS:
+                    raise ValueError(f"vertex {v} may fire any number of times up to {most}, which are too many to list")
                 found += [("fire", v, count) for count in range(1, most + 1)]
             if self.cause(v):
                 found.append(("halt", v, 0))

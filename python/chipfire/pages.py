@@ -26,7 +26,7 @@ from chipfire.machine import WORDS, Event, Reply, Schedule, Setting, Simulation,
 from chipfire.model import Core
 from chipfire.program import AnyGraph, AnyProgram, known_chips, known_graph, replay, simulate
 from chipfire.schedules import Game, Play, opened, played
-from chipfire.sentences import ModelSentences, Sentences
+from chipfire.sentences import Sentences
 from chipfire.values import FILE, MAX_LIMIT, FileName, counted, own_text, write
 
 #: The sizes of rings that are tried for a trace, which does not tell its own.
@@ -47,8 +47,7 @@ def page(
                 `play` answered, for which nothing is asked
     positions   where the vertices stand, by names: (to the right, down); else a grid is drawn as one, and other graphs
                 by the distances of their vertices, the same graph always alike
-    program     the program to ask, if not the one that is found
-    """
+    program     the program to ask, if not the one that is found"""
     write(file, page_text(simulation, title=title, positions=positions, program=program))
 
 
@@ -58,7 +57,8 @@ def page_text(
 ) -> str:
     """The text of the page that `page` writes."""
     if isinstance(simulation, Play):
-        words = Words(simulation.game, ModelSentences(simulation.game))
+        refuse_more(simulation.schedule)
+        words = Words(simulation.game)
         data = model_data(simulation, words, positions) | {"words": list(words.numbers)}
         return filled(title, data, model_parts(simulation), "run-model.html", "drawing.html")
     if not simulation.made_up:  # (the rows of a recorded run are counted already)
@@ -140,8 +140,7 @@ def recorded(
 
     No trace tells when a vertex sent and acknowledged, nor how the rows of different vertices lie beside each other:
     such events are made up, as early as they can be. Rows that do not fit together the program refuses (fault 70). The
-    ring is that of the run; if it is not told, the least of 1, 2, 4 and so on that plays all rows.
-    """
+    ring is that of the run; if it is not told, the least of 1, 2, 4 and so on that plays all rows."""
     if isinstance(trace, FILE):
         refuse_more(trace)
     rows = read_trace(trace) if isinstance(trace, FILE) else [TraceRow(*row) for row in trace]
@@ -174,7 +173,7 @@ class _Spelled(Core):
 
 
 def spell_rounds(setting: Setting, schedule: Sequence[Event], rounds: int) -> tuple[Event, ...]:
-    """A schedule, and after it the events of so many rounds of turns, or of those until the root is closed."""
+    """A schedule, and after it the events of `rounds` rounds of turns, or of those until the root is closed."""
     core = played(setting, _Spelled, schedule)
     core.events, before = Schedule(), -1
     while rounds and len(core.events) > before:
@@ -217,8 +216,7 @@ def spell_trace(setting: Setting, trace: Sequence[TraceRow]) -> tuple[Event, ...
     """Events in which each vertex takes and fires what its rows in a trace say, and in their order.
 
     Sends come as soon as there is room in the rings, acknowledgements as soon as they are allowed. The rows of a run
-    are all played, if the rings of the setting have as many cells as those of the run had; else it may be None.
-    """
+    are all played, if the rings of the setting have as many cells as those of the run had; else it may be None."""
     core, made = opened(setting, _Recorded), -1
     core.rows = [deque() for _ in core.vertices]
     for row in trace:
@@ -233,8 +231,7 @@ def spelled_out(simulation: Simulation, program: AnyProgram = None) -> Simulatio
     """What the program answers to a simulation now: a reply and a board for each event, and no rounds after them.
 
     It is asked in any case, so that a page tells answers of the program and nothing else. If the simulation was told
-    others, that is a Disagreement.
-    """
+    others, that is a Disagreement."""
     setting, schedule, made_up = simulation.game, simulation.schedule, simulation.made_up
     if simulation.rounds:
         schedule = spell_rounds(setting, schedule, simulation.rounds)
@@ -287,8 +284,8 @@ def compared(told: Simulation, ledger: Ledger) -> Iterator[tuple[Event, Reply]]:
 class Words:
     """The sentences of a page, each once, by numbers."""
 
-    def __init__(self, setting: Game, sentences: Sentences | None = None) -> None:
-        self.sentences = sentences or Sentences(setting.graph)
+    def __init__(self, setting: Game) -> None:
+        self.sentences = Sentences(setting.graph, isinstance(setting, Setting))
         self.numbers: dict[str, int] = {}
 
     def number(self, text: str) -> int:

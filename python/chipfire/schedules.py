@@ -1,4 +1,4 @@
-"""Games of a detector on the model: random schedules, a shrinker, and logs for ShiViz.
+"""Games of a detector on the model: random schedules, a shrinker, and logs for ShiViz and `judge_log`.
 
 A game is a `Setting` of chip-firing, or a `Computation` of another kind. A detector is a name of
 `chipfire.detectors.DETECTORS` or a class of your own, made of `chipfire.model.Core`. Everything here is computed on
@@ -27,6 +27,8 @@ Detector = Union[str, type[Core]]
 EVENTS = ("take", "ack", "fire", "clear", "claim", "put", "halt", "settle", "seal", "read", "feed", "end")
 #: The event of a computation in which a vertex goes on.
 WORK = "work"
+#: Rows of a log: process, kind, channel.
+_Acts = list[tuple[int, str, int]]
 
 
 def detector_name(detector: Detector) -> str:
@@ -36,14 +38,13 @@ def detector_name(detector: Detector) -> str:
 
 def opened(setting: Game, detector: Detector = "right") -> Any:
     """A game at its start, on the model: a `Core` of the detector's class."""
-    make = known_detector(detector).make
     if isinstance(setting, Computation):
-        return setting.opened(make)
+        return setting.opened(known_detector(detector).make)
     if not isinstance(setting, Setting):
         known = "a chipfire.Setting of graph and chips, or a Computation"
         raise TypeError(f"a game is {known}, and no {type(setting).__name__}")
     graph = {"vertices": setting.graph.vertices, "sink": setting.graph.sink, "edges": setting.graph.edges}
-    return make(graph, setting.chips, setting.limit, setting.ring, setting.fed)
+    return known_detector(detector).make(graph, setting.chips, setting.limit, setting.ring, setting.fed)
 
 
 def is_early(core: Core) -> bool:
@@ -55,14 +56,10 @@ def random_schedule(setting: Game, seed: Any, detector: Detector = "right", *, m
     """A schedule in which each event does something, drawn until the root is closed; the same seed draws the same.
 
     With the right detector each such schedule closes the root. With another it may end because nothing can happen any
-    more. After `most` events it is cut, and its `ended` is False: the events of a detector may go round for ever.
-    """
+    more. After `most` events it is cut, and its `ended` is False: the events of a detector may go round for ever."""
     core, draw, made = opened(setting, detector), random.Random(seed), Schedule()
     whole(most, "most")
-    while not core.is_closed():
-        events = core.enabled()
-        if not events:
-            break
+    while not core.is_closed() and (events := core.enabled()):
         if len(made) == most:
             made.ended = False
             break
@@ -111,8 +108,7 @@ def shrink(
 ) -> Schedule:
     """A schedule after which the game is still bad, and no longer so if any one of its events is left out.
 
-    Bad is, if nothing else is said, that the root is closed and something is left.
-    """
+    Bad is, if nothing else is said, that the root is closed and something is left."""
     kept = [Event(*event) for event in events]
     if not is_bad(played(setting, detector, kept)):
         raise ValueError("nothing is wrong after this schedule, so there is nothing to shrink")
@@ -133,8 +129,7 @@ def shiviz(setting: Game, events: Iterable[Sequence[Any]], detector: Detector = 
     """A log that ShiViz draws: of each event two lines, the part with its vector clock, and what happened.
 
     Events of a detector's own, such as those of a token, are a ValueError: their clocks are not known. ShiViz reads the
-    log with the expression `(?<host>\\S*) (?<clock>{.*})\\n(?<event>.*)`.
-    """
+    log with the expression `(?<host>\\S*) (?<clock>{.*})\\n(?<event>.*)`."""
     core, lines = opened(setting, detector), []
     clocks: dict[str, dict[str, int]] = {name: {} for name in ["root", *map(str, range(setting.graph.vertices))]}
     #: The clocks that travel with the messages of an edge, and with its acknowledgements.
@@ -158,6 +153,56 @@ def shiviz(setting: Game, events: Iterable[Sequence[Any]], detector: Detector = 
         told = ", ".join(f'"{name}":{count}' for name, count in sorted(clock.items()))
         lines += [f"{host} {{{told}}}", f"{kind} {at}: {reply}"]
     return "".join(f"{line}\n" for line in lines)
+
+
+def model_log(setting: Game, detector: Detector, events: Iterable[Sequence[Any]]) -> list[tuple[int, str, int]]:
+    """A schedule as a log for `chipfire.judge_log`: vertices are processes, and the root is the one behind them.
+
+    Messages of edge e are on channel e, and its acknowledgements go back there. With m edges, those of the root with
+    them, what a tail sees of the cells of e is told on m + e, and what it sees of a seal on 2m + e. A detector with
+    events of its own says in `tells` who tells whom. The root claims that all is over when it closes first.
+    """
+    core = opened(setting, detector)
+    root, is_over, seen = len(core.vertices), False, dict[tuple[str, int, int], _Acts]()
+    log: list[_Acts] = [[(root, "active", 0)], *([(root, "send", e.number)] * e.put for e in core.edges)]
+    active = {root}
+    for event in [None, *events]:
+        log.append(_acts(core, Event(*event), seen) if event else [])
+        active.update(process for process, kind, _ in log[-1] if kind == "receive")
+        rests = core.ended and not core.has_unput(root)
+        passive = [it for it in sorted(active) if (rests if it == root else core.is_passive(it))]
+        active.difference_update(passive)
+        log.append([(it, "passive", 0) for it in passive])
+        if core.is_closed() and not is_over:
+            is_over = True
+            log.append([(root, "over", 0)])
+    return [act for acts in log for act in acts]
+
+
+def _acts(core: Any, event: Event, seen: dict[tuple[str, int, int], _Acts]) -> _Acts:
+    """What an event adds to a log. A take or a seal is told if a tail sees it: until then its acts are in `seen`."""
+    (kind, at, _), root, many = event, len(core.vertices), len(core.edges)
+    own = [] if kind in (*EVENTS, WORK) else core.tells(kind, at)
+    said, *numbers = core.step(*event).split() or ["done"]
+    if said in ("not-now", "empty", "full") or kind in ("fire", "halt", "read", "feed", WORK):
+        return []
+    if kind not in EVENTS:
+        told = [(*pair, 3 * many + pair[0] * (root + 1) + pair[1]) for pair in own]
+        return [act for teller, hearer, it in told for act in ((teller, "tell", it), (hearer, "hear", it))]
+    e = core.edges[core.graph_edges if kind == "end" else at]
+    tail = root if e.tail < 0 else e.tail
+    if kind in ("take", "seal"):
+        new = (kind, at, e.delivered) if kind == "take" else (kind, at, 0)
+        return seen.setdefault(new, [(e.head, "receive", at)] if kind == "take" else [])
+    if kind in ("ack", "settle", "end"):
+        return [(e.head, "tell", at) if kind == "ack" else (tail, "hear", e.number)] * int(numbers[0])
+    old = ("seal", at, 0) if said == "sealed" else ("take", at, len(e.sent) - core.ring + 1)
+    acts = seen.pop(old, None) if kind == "clear" or said == "sealed" else None
+    if acts is None:
+        return [(tail, "send", at)] if kind == "put" else []
+    channel = many * (1 + (said == "sealed")) + at
+    acts.append((root if said == "sealed" else e.head, "tell", channel))
+    return [(tail, "hear", channel)]
 
 
 def _host(core: Core, kind: str, at: int) -> str:

@@ -6,9 +6,9 @@ from typing import Any
 
 from chipfire.graphs import Graph
 from chipfire.ledger import Change
-from chipfire.machine import WORDS, Event, Reply, Setting
+from chipfire.machine import WORDS, Event, Reply
 from chipfire.model import Core
-from chipfire.schedules import EVENTS, WORK, Game
+from chipfire.schedules import EVENTS, WORK
 from chipfire.values import counted
 
 _COUNTED = ("chip", "firing", "message", "acknowledgement")
@@ -20,16 +20,18 @@ def _numbers(count: Any) -> dict[str, str]:
 
 
 class Sentences:
-    """The words for what happens on one graph."""
+    """The words for what happens on one graph: in chip-firing, or in another computation, of which no vertex is a sink
+    and loads are told as they are."""
 
-    def __init__(self, graph: Graph) -> None:
-        self.graph = graph
-        self.words: dict[str, dict[str, str]] = WORDS
+    def __init__(self, graph: Graph, is_firing: bool = True) -> None:
+        self.graph, self.is_firing = graph, is_firing
+        own = {} if is_firing else {name: said for name, said in WORDS["computation"].items() if name in WORDS}
+        self.words: dict[str, dict[str, str]] = {**WORDS, **{name: {**WORDS[name], **own[name]} for name in own}}
 
     def vertex(self, vertex: int) -> str:
         """What a vertex is called."""
         name = self.graph.names[vertex]
-        if vertex == self.graph.sink:
+        if vertex == self.graph.sink and self.is_firing:
             return "the sink" if name == "sink" else f"the sink {name}"
         return f"vertex {name}"
 
@@ -42,6 +44,10 @@ class Sentences:
 
     def event(self, event: Event, reply: Reply | None = None) -> str:
         """What happens, or what is tried, if the reply says that it was refused or found nothing."""
+        if event.kind == WORK:
+            return f"Vertex {self.graph.names[event.at]} goes on, in way {event.count}."
+        if event.kind not in EVENTS:
+            return f"The detector's own event {event.kind} {event.at}."
         is_vain = reply is not None and reply.kind in ("not-now", "empty")
         return self._said(self.words["tries" if is_vain else "events"][event.kind], event) + "."
 
@@ -78,6 +84,8 @@ class Sentences:
 
     def reply(self, event: Event, reply: Reply, core: Core | None = None) -> str:
         """What the reply to an event was; with the game before it, also why exactly it was refused."""
+        if event.kind not in EVENTS and not reply.numbers:
+            return "Done." if reply.is_done else "Refused. Nothing was done."
         kind = event.kind if reply.kind == "done" else reply.kind
         last = reply.numbers[-1] if reply.numbers else 0
         why = "; ".join(it for _, it in self.reasons(event, core)) if core and reply.name == "Engaged" else ""
@@ -106,7 +114,7 @@ class Sentences:
 
     def load(self, load: Any) -> str:
         """What a message carries."""
-        return counted(load, "chip")
+        return counted(load, "chip") if self.is_firing else str(load)
 
     def change(self, change: Change) -> str:
         """What one fact has become."""
@@ -121,32 +129,3 @@ class Sentences:
             value = list(value)
         said = (known.get(f"{key} {value}") or known[key]).format(**words)
         return said if kind == "root" else f"{self.vertex(index) if kind == 'vertices' else f'edge {index}'}: {said}"
-
-
-class ModelSentences(Sentences):
-    """The words for a run that the model alone plays: also of other computations, and of a detector's own events."""
-
-    def __init__(self, game: Game) -> None:
-        super().__init__(game.graph)
-        self.is_firing = isinstance(game, Setting)
-        if not self.is_firing:
-            own = WORDS["computation"].items()
-            self.words = {**WORDS, **{name: {**WORDS[name], **said} for name, said in own if name in WORDS}}
-
-    def vertex(self, vertex: int) -> str:
-        return super().vertex(vertex) if self.is_firing else f"vertex {self.graph.names[vertex]}"
-
-    def load(self, load: Any) -> str:
-        return super().load(load) if self.is_firing else str(load)
-
-    def event(self, event: Event, reply: Reply | None = None) -> str:
-        if event.kind in EVENTS:
-            return super().event(event, reply)
-        if event.kind == WORK:
-            return f"Vertex {self.graph.names[event.at]} goes on, in way {event.count}."
-        return f"The detector's own event {event.kind} {event.at}."
-
-    def reply(self, event: Event, reply: Reply, core: Core | None = None) -> str:
-        if event.kind in EVENTS or reply.numbers:
-            return super().reply(event, reply, core)
-        return "Done." if reply.is_done else "Refused. Nothing was done."

@@ -35,17 +35,11 @@ def frozen(value: Any, is_part: Callable[[int], Any]) -> Any:
         return "part", name
     if isinstance(value, _CODE):
         raise TypeError("a function")
-    if isinstance(value, (tuple, frozenset)):
-        items = [frozen(item, is_part) for item in value]
-        if all(item is it for item, it in zip(items, value)):
+    if isinstance(value, (tuple, frozenset, list, set, dict)):
+        items = [frozen(item, is_part) for item in (value.items() if isinstance(value, dict) else value)]
+        if isinstance(value, (tuple, frozenset)) and all(item is it for item, it in zip(items, value)):
             return value
-        return made, tuple(items) if isinstance(value, tuple) else frozenset(items)
-    if isinstance(value, list):
-        return made, tuple([frozen(item, is_part) for item in value])
-    if isinstance(value, set):
-        return made, frozenset([frozen(item, is_part) for item in value])
-    if isinstance(value, dict):
-        return made, frozenset([(frozen(key, is_part), frozen(it, is_part)) for key, it in value.items()])
+        return made, tuple(items) if isinstance(value, (tuple, list)) else frozenset(items)
     reduced = value.__reduce_ex__(4)
     if isinstance(reduced, str):
         return value
@@ -61,6 +55,8 @@ class States:
 
     def __init__(self, core: Core, like: States | None = None) -> None:
         self.parts: list[Any] = [*core.edges, *core.vertices, core]
+        if isinstance(core.not_state, str):
+            raise ValueError(f"not_state is a tuple of names: not_state = ({core.not_state!r},)")
         #: What the detector leaves out; what the parts have for good; and what is not gone into, by its `id`.
         self.left_out = {*core.not_state}
         self.good = [(part, name, getattr(part, name)) for part in self.parts for name in getattr(part, "HELD", ())]
@@ -115,7 +111,7 @@ class States:
             plain = {name: value for name, value in values.items() if said[name] is value}
             moving = {name: value for name, value in values.items() if name not in plain}
             numbers[key] = len(self.values[index])
-            self.values[index].append((plain, self._copied(moving), is_usual))
+            self.values[index].append((plain, copy.deepcopy(moving, dict(self.same)), is_usual))
         return numbers[key]
 
     def _frozen(self, part: Any, values: dict[str, Any]) -> dict[str, Any]:
@@ -131,9 +127,6 @@ class States:
             ) from None
         return said
 
-    def _copied(self, values: dict[str, Any]) -> dict[str, Any]:
-        return copy.deepcopy(values, dict(self.same)) if values else values
-
     def load(self, state: tuple[int, ...]) -> None:
         """Makes the game that of a state that was noted."""
         if state == self.now:
@@ -146,7 +139,7 @@ class States:
                     del held[name]
             held.update(plain)
             if moving:
-                held.update(self._copied(moving))
+                held.update(copy.deepcopy(moving, dict(self.same)))
         self.now = state
 
     def check(self) -> None:

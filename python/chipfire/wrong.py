@@ -13,7 +13,6 @@ from chipfire.machine import Schedule, Setting
 from chipfire.pages import Words, asked, compared, filled, model_data, model_parts
 from chipfire.program import AnyProgram
 from chipfire.schedules import EVENTS, WORK, Detector, Game, detector_name, play
-from chipfire.sentences import ModelSentences
 from chipfire.values import FileName, counted, write
 
 
@@ -24,8 +23,7 @@ def wrong_page(
     """Writes a page of the shortest schedule after which a wrong detector says too early that all is over.
 
     detector  one of `chipfire.detectors.DETECTORS`, or a class
-    setting   the game to search, if not the one that stands there: a `Setting` or a `Computation`
-    """
+    setting   the game to search, if not the one that stands there: a `Setting` or a `Computation`"""
     write(file, wrong_page_text(detector, setting, title=title, positions=positions, program=program))
 
 
@@ -36,12 +34,11 @@ def wrong_page_text(
     """The text of the page that `wrong_page` writes."""
     name, setting = detector_name(detector), setting or known_detector(detector).game
     found = explore(setting, detector)
-    if found.schedule is None and not found.is_whole:
-        raise ValueError(f"{name}: {found}")
     if found.schedule is None:
         states = counted(found.states, "state")
-        raise ValueError(f"{name} closes the root too early in no schedule of this game, which has {states}")
-    told, words = play(setting, found.schedule, detector), Words(setting, ModelSentences(setting))
+        none = f"{name} closes the root too early in no schedule of this game, which has {states}"
+        raise ValueError(none if found.is_whole else f"{name}: {found}")
+    told, words = play(setting, found.schedule, detector), Words(setting)
     data = model_data(told, words, positions)
     beside = _beside(setting, found.schedule, words, program)
     data |= {"beside": {"steps": beside}, "words": list(words.numbers)}

@@ -50,6 +50,41 @@ class Stranger(Counts):
         return [(1, 0)]
 
 
+class InTheClass(Counts):
+    """Keeps the count in its class."""
+
+    def on_message(self, state, edge, load):
+        InTheClass.count += 1
+        return ()
+
+
+class Heard(chipfire.Computation):
+    """Floods, and keeps in a set what it heard of."""
+
+    begins = {"heard": set()}
+
+    def on_start(self):
+        return [(0, 0)]
+
+    def on_message(self, state, edge, load):
+        is_first = not state.heard
+        state.heard.add(edge)
+        return [(out, 0) for out in state.outs if is_first]
+
+
+class Tree(Heard):
+    """Has a name that the model has."""
+
+    begins = {"heard": set(), "parent": None}
+
+
+class Lost(computations.Flooding):
+    """Sends on an edge that is not there."""
+
+    def on_message(self, state, edge, load):
+        return [(9, 0)]
+
+
 def plain_edges(graph):
     return [edge[:2] for edge in graph.edges]
 
@@ -111,6 +146,13 @@ class Explorer(unittest.TestCase):
                 else:
                     self.assertEqual(len(found.schedule), least)
 
+    def test_each_state_has_a_set_of_its_own(self):
+        # (what was heard follows from what was taken, so it adds no states to those of a mark)
+        for graph in (TRIANGLE, ROW):
+            marks, sets = (chipfire.explore(make(graph)) for make in (computations.Flooding, Heard))
+            self.assertEqual((sets.states, sets.schedule, sets.lost), (marks.states, None, None))
+        self.assertEqual(Heard.begins, {"heard": set()})
+
     def test_the_right_ones_never_close_too_early_and_always_close(self):
         for name, game in itertools.product(RIGHT, [FIRING, *itertools.chain(*GAMES.values())]):
             found = chipfire.explore(game, name)
@@ -148,8 +190,16 @@ class Explorer(unittest.TestCase):
         self.assertEqual((list(found.schedule), found.left), ([("take", 4, 0)], ("vertex 0 is at work",)))
         with self.assertRaisesRegex(ValueError, "Counts.count stands in a computation, and changed"):
             chipfire.explore(Counts(ROW))
-        with self.assertRaisesRegex(ValueError, "vertex 0 sends on edge 1, which is none of its own"):
-            chipfire.explore(Stranger(ROW))
+        for game, said in (
+            (Stranger(ROW), "vertex 0 sends on edge 1, which is none of its own"),
+            (Lost(ROW), "vertex 0 sends on edge 9, which is none of its own"),
+            (computations.Flooding(ROW, (3,)), "the root sends to vertex 3, which is not there"),
+            (computations.Flooding(ROW, (-1,)), "the root sends to vertex -1, which is not there"),
+            (InTheClass(ROW), "InTheClass.count stands in a class, and changed"),
+            (Tree(ROW), "Tree.begins has 'parent', which the model keeps"),
+        ):
+            with self.assertRaisesRegex(ValueError, said):
+                chipfire.explore(game)
         for options, said in (({"seals": (0,)}, "the game is not one of chip-firing"),
                               ({"feeds": ((4, 1),)}, "the setting is not fed")):
             with self.assertRaisesRegex(ValueError, said):
@@ -195,6 +245,15 @@ class Told(unittest.TestCase):
         self.assertIn(["edges", 0, "claimed", "3"], taken)
         self.assertIn(["edges", 0, "cells", [[0, "3"]]], [change[:4] for change in data["steps"][1]["changes"]])
         self.assertEqual(data["end"], {"text": "The root is open.", "isWrong": False})
+
+    def test_a_message_that_carries_0_is_claimed(self):
+        # Vertex 0 claims one on each of its edges, and puts that of edge 0.
+        told = chipfire.play(GAMES["flooding"][0], [("take", 4), ("put", 0)])
+        data = self.data(self.page(lambda file: chipfire.page(told, file)))
+        said = [[data["words"][word] for *_, word in step["changes"]] for step in data["steps"]]
+        self.assertEqual([it for it in said[0] if "claimed" in it],
+                         ["edge 0: 0 claimed and not put", "edge 1: 0 claimed and not put"])
+        self.assertIn("edge 0: nothing claimed", said[1])
 
     def test_a_page_of_a_wrong_detector_is_one_of_a_class_too(self):
         class Hasty(model.Core):

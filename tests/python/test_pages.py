@@ -464,6 +464,8 @@ class Pages(unittest.TestCase):
         said = "a page shows at most 10,000 "
         with self.assertRaisesRegex(ValueError, f"{said}rows of a schedule or a trace"):
             chipfire.pages.page_text(chipfire.simulate(TRIANGLE, {0: 4}, [("settle", 4)] * 10_001))
+        with self.assertRaisesRegex(ValueError, f"{said}rows"):
+            chipfire.pages.page_text(chipfire.play(chipfire.Setting(TRIANGLE, {0: 4}), [("settle", 4)] * 10_001))
         self.assertEqual(len(data_of(chipfire.pages.page_text(
             chipfire.simulate(TRIANGLE, {0: 4}, [("settle", 4)] * 10_000)))["steps"]), 10_000)
         with self.assertRaisesRegex(ValueError, f"{said}events of rounds"):
@@ -668,6 +670,8 @@ class Choices(unittest.TestCase):
                                     ("safra", None, "events of its own"), ("hasty", None, "no detector 'hasty'")]:
             with self.assertRaisesRegex(ValueError, said):
                 choosing.choice_page_text(name, setting)
+        with self.assertRaisesRegex(TypeError, "the events of a chipfire.Setting, and not of Flooding"):
+            choosing.choice_page_text("right", chipfire.computations.Flooding(TRIANGLE))
 
 
 class CommandLine(unittest.TestCase):

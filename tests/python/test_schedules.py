@@ -3,6 +3,7 @@
 What a wrong detector does was worked out by hand first: the shortest schedule of each stands here with its reason. The
 numbers of states come from a search of another kind (second_search.py).
 """
+import functools
 import os
 import random
 import subprocess
@@ -250,6 +251,19 @@ class ComesAndGoes(model.Core):
         super().on_take(e)
 
 
+class SaysLittle(model.Core):
+    """Says that it is closed or nothing, and has an event without a count that changes nothing."""
+
+    def is_closed(self):
+        return super().is_closed() or None
+
+    def own_events(self):
+        yield "look", 0
+
+    def look(self, at):
+        return "done"
+
+
 class IgnoresTheEnd(model.Core):
     """A root that is fed, and closes whenever it waits for nothing."""
 
@@ -346,7 +360,7 @@ class Explorer(unittest.TestCase):
                 chipfire.explore(TWO, detector)
 
     def test_what_follows_from_the_state_adds_none(self):
-        for detector in (AskedAndSaysSo, ComesAndGoes):
+        for detector in (AskedAndSaysSo, ComesAndGoes, SaysLittle):
             found = chipfire.explore(FOUR, detector)
             self.assertEqual((found.states, found.schedule, found.lost), (1405, None, None))
 
@@ -424,6 +438,22 @@ class Explorer(unittest.TestCase):
             chipfire.explore(TRIANGLE, (4, 0, 0))
         with self.assertRaisesRegex(ValueError, "no detector 'hasty', but right, at-once"):
             chipfire.explore(FOUR, "hasty")
+        for detector in (None, 4, object, schedules.opened(FOUR)):
+            with self.assertRaisesRegex(TypeError, "a detector is a name or a class that is made of chipfire.model"):
+                chipfire.explore(FOUR, detector)
+        with self.assertRaisesRegex(ValueError, r"not_state is a tuple of names: not_state = \('polls',\)"):
+            chipfire.explore(FOUR, type("Asked", (Asked,), {"not_state": "polls"}))
+
+    def test_more_firings_at_a_time_than_are_listed(self):
+        questions = functools.partial(chipfire.explore, most=8), functools.partial(chipfire.random_schedule, seed=1, most=8)
+        for question in questions:
+            question(chipfire.Setting(TRIANGLE, (2 * 10**6 + 1, 0, 0)))
+            with self.assertRaisesRegex(ValueError, "^vertex 0 may fire any number of times up to 1000001, which"):
+                question(chipfire.Setting(TRIANGLE, (2 * 10**6 + 2, 0, 0)))
+
+    def test_numbers_of_a_setting_are_whole(self):
+        floats, whole = (chipfire.explore(chipfire.Setting(TRIANGLE, (4, 0, 0), one, one)) for one in (1.0, 1))
+        self.assertEqual((floats.states, floats.schedule), (whole.states, None))
 
 
 class Model(unittest.TestCase):
@@ -632,6 +662,31 @@ class AtTheShell(unittest.TestCase):
         told, said = self.asked("explore", "at-once")
         self.assertEqual((told, said.splitlines()[1:]), (2, ["event,at,count", "take,4,0", "ack,4,0", "settle,4,0"]))
 
+    def test_a_file_imports_what_stands_beside_it(self):
+        with tempfile.TemporaryDirectory(prefix="chipfire-python-") as folder:
+            for name, text in (("given", self.OWN.format("True")), ("own", "from given import Mine\n")):
+                with open(f"{folder}/{name}.py", "w", encoding="utf-8") as file:
+                    file.write(text)
+            told, said = self.asked("explore", f"{folder}/own.py:Mine")
+        self.assertEqual(told, 2, said)
+
+    def test_an_error_is_no_verdict(self):
+        for words, said in ((["explore"], "the following arguments are required: DETECTOR"),
+                            (["explore", "right", "--most", "x"], "argument --most: invalid int value: 'x'"),
+                            (["judge", "graph.json", "log.csv"], "a game is GRAPH and CHIPS, two files"),
+                            (["judge", "a", "b", "c", "--what"], "unrecognized arguments: --what"),
+                            (["explode"], "invalid choice: 'explode'")):
+            told, reason = self.asked(*words)
+            self.assertEqual((told, said in reason), (1, True), reason)
+        with tempfile.TemporaryDirectory(prefix="chipfire-python-") as folder:
+            for text, said in ((self.OWN.format("exit(0)"), "the detector ended the command with exit(0)"),
+                               (self.OWN.format("True") + "exit(0)\n", "mine.py: SystemExit: 0"),
+                               (self.OWN.format("1 / 0"), "ZeroDivisionError")):
+                with open(f"{folder}/mine.py", "w", encoding="utf-8") as file:
+                    file.write(text)
+                told, reason = self.asked("explore", f"{folder}/mine.py:Mine")
+                self.assertEqual((told, said in reason), (1, True), reason)
+
     def test_the_status_of_judge(self):
         with tempfile.TemporaryDirectory(prefix="chipfire-python-") as folder:
             graph, chips = f"{folder}/graph.json", f"{folder}/chips.csv"
@@ -644,6 +699,14 @@ class AtTheShell(unittest.TestCase):
                     file.write("event,at,count,reply\n" + "".join(",".join(map(str, row)) + "\n" for row in rows))
                 told, said = self.asked("judge", graph, chips, f"{folder}/log.csv")
                 self.assertEqual(told, status, said)
+            # (of any program: process 0 claims before it is passive, behind that, and never)
+            for rows, answer in (("0,over,0\n0,passive,0\n", (2, "over 0 1 early: process 0 is active\nend missed\n")),
+                                 ("0,passive,0\n0,over,0\n", (0, "over 0 2 right\nend claimed\n")),
+                                 ("0,passive,0\n", (3, "end missed\n")), ("0,stop,0\n", (1, "fault 28 Kind 1"))):
+                with open(f"{folder}/log.csv", "w", encoding="utf-8") as file:
+                    file.write(f"process,kind,channel\n0,active,0\n{rows}")
+                told, said = self.asked("judge", f"{folder}/log.csv")
+                self.assertEqual((told, said.partition("chipfire: ")[2].strip() or said), answer)
 
 
 class ShiViz(unittest.TestCase):

@@ -447,15 +447,16 @@ class Drawing {
         if (facts.pending) boxes.push(["pending", `+${facts.pending.toLocaleString("en")}`, null]);
         if (!boxes.length) return [];
         const widths = boxes.map(([, text]) => size.box * (0.75 + 0.65 * text.length));
-        const all = { width: widths.reduce((sum, width) => sum + width + 3, -3), height: 1.4 * size.box };
+        const below = boxes.map(([, , place]) => isRoomy && boxes.length > 1 && place !== null ? `place ${place}` : null);
+        const rooms = widths.map((width, index) => Math.max(width, textWidth(below[index] ?? "", size.note * 0.8)));
+        const all = { width: rooms.reduce((sum, room) => sum + room + 3, -3), height: 1.4 * size.box };
         const middles = isRoomy ? [0.5, 0.56, 0.44, 0.62, 0.38] : [0.47, 0.4, 0.55, 0.33, 0.62];
         const room = roomFor(all, middles.map(way.on), taken);
         let x = room.x - all.width / 2;
-        return boxes.map(([name, text, place], index) => {
-            const middle = x + widths[index] / 2;
-            x += widths[index] + 3;
-            const numbered = isRoomy && boxes.length > 1 && place !== null ? `place ${place}` : null;
-            return boxOf(name, text, numbered, middle, room.y, widths[index]);
+        return boxes.map(([name, text], index) => {
+            const middle = x + rooms[index] / 2;
+            x += rooms[index] + 3;
+            return boxOf(name, text, below[index], middle, room.y, widths[index]);
         });
     }
 

@@ -41,6 +41,9 @@ one watches a run of the distributed machine, event by event, `wrong_page` one o
 books, traces). `explore`, `judge`, `play` and `random_schedule` compute in Python, on the small model of
 `chipfire.model`, and but for `judge` also on a `Computation` of another kind: `chipfire.computations` has some.
 
+`judge_log` judges the logs of any distributed program, with the program's verdicts. `read_json_lines` and `read_shiviz`
+read such logs, and `model_log` makes one of a schedule of the model.
+
 A graph, chips, a schedule, a trace or a report may be the name of its file. `Graph.chips` tells in which forms chips
 come, and `Report.picture` what can be drawn. A vertex has a number from 0 on, and may have a name. Sequences and arrays
 go by numbers, dicts and Series of pandas by names. Numbers of chips and firings go up to 2^40. A graph has up to
@@ -62,6 +65,7 @@ from chipfire.graphs import (
 from chipfire.groups import Group
 from chipfire.judging import judge
 from chipfire.library import find_library as find_library
+from chipfire.logs import judge_log, read_json_lines, read_shiviz
 from chipfire.machine import (
     RULES as RULES, SCHEDULE_HEADER as SCHEDULE_HEADER, TRACE_HEADER as TRACE_HEADER, Board as Board, Books as Books,
     Event as Event, Firing as Firing, Reply as Reply, Schedule as Schedule, Setting as Setting,
@@ -85,7 +89,7 @@ from chipfire.sandpiles import (
     is_recurrent, is_stable, is_superstable, laplacian, order, random_drops, recurrent_representative, recurrents,
     reduced_laplacian, stabilize, stabilize_many, superstable_representative, superstables, to_networkx, to_scipy,
 )
-from chipfire.schedules import play, random_schedule, shiviz, shrink
+from chipfire.schedules import model_log, play, random_schedule, shiviz, shrink
 from chipfire.values import (
     MAX_CHIPS as MAX_CHIPS, MAX_EDGES as MAX_EDGES, MAX_LARGE_EDGES as MAX_LARGE_EDGES,
     MAX_LARGE_VERTICES as MAX_LARGE_VERTICES, MAX_LIMIT as MAX_LIMIT, MAX_MULT as MAX_MULT,
@@ -95,17 +99,17 @@ from chipfire.wrong import wrong_page
 
 __version__ = version()
 
-#: What is handed on besides is reachable too, and told of by `chipfire.machine`.
+#: What is imported besides is reachable too; `chipfire.machine` describes it.
 __all__ = [
     "Avalanche", "Chains", "Check", "Chips", "Computation", "Configuration", "Divisor", "Drops", "Fault", "Firings",
     "Frames", "Graph", "Group", "PALETTES", "Picture", "PowerLaw", "Program", "ProgramNotFound", "Report", "TraceCut",
     "add", "are_recurrent", "avalanche", "avalanche_polynomial", "avalanches", "aztec", "burning_configuration",
     "burning_script", "canonical_divisor", "chains", "check", "choice_page", "complete", "cycle", "drops", "explain",
     "explore", "frames", "frames_by_chips", "from_edges", "from_networkx", "from_sage", "genus", "grid", "grid_for",
-    "identity", "invariant_factors", "is_recurrent", "is_stable", "is_superstable", "judge", "laplacian",
-    "level_polynomial", "machine", "order", "page", "path", "plain", "play", "plot_sizes", "power_law", "random_drops",
-    "random_recurrent", "random_schedule", "read_chips", "recorded", "recurrent_representative", "recurrents",
-    "reduced_laplacian", "region", "replay", "resume", "run", "shiviz", "shrink", "simulate", "stabilize",
-    "stabilize_many", "superstable_representative", "superstables", "to_networkx", "to_scipy", "torus",
-    "tutte_polynomial", "verify", "wheel", "write_chips", "wrong_page",
+    "identity", "invariant_factors", "is_recurrent", "is_stable", "is_superstable", "judge", "judge_log", "laplacian",
+    "level_polynomial", "machine", "model_log", "order", "page", "path", "plain", "play", "plot_sizes", "power_law",
+    "random_drops", "random_recurrent", "random_schedule", "read_chips", "read_json_lines", "read_shiviz", "recorded",
+    "recurrent_representative", "recurrents", "reduced_laplacian", "region", "replay", "resume", "run", "shiviz",
+    "shrink", "simulate", "stabilize", "stabilize_many", "superstable_representative", "superstables", "to_networkx",
+    "to_scipy", "torus", "tutte_polynomial", "verify", "wheel", "write_chips", "wrong_page",
 ]

@@ -80,6 +80,10 @@ class Sums(Mapping[Hashable, int]):
     def __hash__(self) -> int:
         return hash(frozenset(self.items()))
 
+    def __repr__(self) -> str:
+        said = f"<{type(self).__name__} of {len(self)} vertices: {counted(self.degree, 'chip')}>"
+        return repr(dict(self)) if len(self) <= 20 else said
+
     @property
     def degree(self) -> int:
         """How many chips there are."""
@@ -114,10 +118,6 @@ class Configuration(Drawn, Sums):
     def __len__(self) -> int:
         return self.graph.vertices - 1
 
-    def __repr__(self) -> str:
-        said = f"<Configuration of {len(self)} vertices: {self._title('chips')}>"
-        return repr(dict(self)) if len(self) <= 20 else said
-
     def stabilize(self, *, program: FileName | None = None) -> Configuration:
         """What lies there when no vertex can fire any more: `chipfire.stabilize`."""
         return Configuration(self.graph, played(self, program)[0])
@@ -149,7 +149,7 @@ class Configuration(Drawn, Sums):
 
 def played(chips: Configuration, program: FileName | None = None) -> tuple[Sequence[int], Sequence[int]]:
     """What lies there when no vertex can fire any more, and how often each fired, by numbers."""
-    if min(chips.numbers) < 0:
+    if any(count < 0 for count in chips.numbers):
         name = next(name for name, count in chips.items() if count < 0)
         others = "recurrent_representative and superstable_representative take such chips"
         raise ValueError(f"the chips of vertex {name!r} are below 0, so nothing is played; {others}")

@@ -37,7 +37,8 @@ class Divisor(Sums):
     @classmethod
     def _numbers(cls, graph: Graph, chips: Chips) -> tuple[int, ...]:
         if not hasattr(chips, "items") and not hasattr(chips, "fired"):
-            given: Any = chips if isinstance(chips, Iterable) else [chips] * graph.vertices
+            given: Any = chips.tolist() if hasattr(chips, "tolist") else chips
+            given = given if isinstance(given, Iterable) else [given] * graph.vertices
             chips = given = given if hasattr(given, "__len__") else [*given]
             if len(given) == graph.vertices - 1:
                 raise ValueError(f"a divisor has chips on the sink too, and there are {len(given)} numbers")
@@ -52,16 +53,12 @@ class Divisor(Sums):
     def __len__(self) -> int:
         return self.graph.vertices
 
-    def __repr__(self) -> str:
-        said = f"<Divisor of {len(self)} vertices: {counted(self.degree, 'chip')}>"
-        return repr(dict(self)) if len(self) <= 20 else said
-
     def is_effective(self) -> bool:
         """Whether no vertex has fewer than 0 chips."""
         return min(self.numbers) >= 0
 
     def fire(self, counts: Chips) -> Divisor:
-        """What lies there after so many firings of each vertex, the sink too, legal or not; counts below 0 borrow."""
+        """What lies there after these firings of the vertices, the sink too, legal or not; counts below 0 borrow."""
         left = list(self.numbers)
         for count, row in zip(Divisor(self.graph, counts).numbers, smith.undirected(self.graph)):
             for vertex, less in row.items():

@@ -49,6 +49,8 @@ class Columns(NamedTuple):
 def _rows(edges: Iterable[Any]) -> list[tuple[Any, ...]]:
     """Edges (tail, head) or (tail, head, mult), all with their multiplicity."""
     rows = []
+    if isinstance(edges, Mapping):
+        raise TypeError(f"edges are rows (tail, head, mult), and this is a {type(edges).__name__}")
     for edge, row in enumerate(edges):
         fields = tuple(row) if isinstance(row, Iterable) else ()
         if len(fields) not in (2, 3):
@@ -261,7 +263,7 @@ class Graph:
         return tuple(found)
 
     def position_after(self, chips: Sequence[int], counts: Sequence[int]) -> list[int]:
-        """The chips of each vertex after so many firings of each, legal or not; counts below 0 take firings back."""
+        """The chips of each vertex after these counts of firings, legal or not; counts below 0 take firings back."""
         found = [there - count * degree for there, count, degree in zip(chips, counts, self.degrees())]
         for tail, head, mult in zip(*self.columns):
             found[head] += mult * counts[tail]
@@ -429,7 +431,7 @@ def grid(
     picture of it the layers one below the other. In a `periodic` direction, of 2 at least, the borders are joined: in
     all, or as said of each, as `(True, False)` of a cylinder. A firing loses `loss` more chips, one number for all, or
     in a form of chips one for each vertex. If all directions are periodic some is needed. The `lattice` is as in
-    `region`; that of "hexagonal" has an even size where it is periodic."""
+    `region`; that of "hexagonal" has an even size if it is periodic."""
     given = [whole(it, f"the {word}", 1) for it, word in zip((width, height, *more), _WORDS)]
     joined = [*periodic] if isinstance(periodic, Iterable) else [periodic] * len(given)
     if not any(joined) and not more and lattice == "square" and isinstance(loss, int) and loss == 0:
@@ -439,7 +441,8 @@ def grid(
     if len(joined) != len(given) or len(given) < 2 + len(more):
         raise ValueError(f"there are {2 + len(more)} directions, and {len(joined)} are periodic or not")
     if any(is_joined and (size < 2 or size % 2 and lattice == "hexagonal") for is_joined, size in zip(joined, given)):
-        raise ValueError(f"a periodic direction has a size of 2 or more, even if hexagonal, and not as {given}")
+        least = "an even size" if lattice == "hexagonal" else "a size of 2 or more"
+        raise ValueError(f"a periodic direction has {least}, and the sizes are {given}")
     extents, sink = given[::-1], math.prod(given)
     shape = (sink // given[0], given[0])
     losses = Graph(sink + 1, sink, Columns(*(array("i") for _ in range(3))), shape=shape).numbers(loss, 0, "lost chips")
@@ -452,7 +455,7 @@ def grid(
 def _lattice_edges(
     extents: Sequence[int], joined: Sequence[bool], lattice: str, losses: Sequence[int]
 ) -> list[tuple[int, int, int]]:
-    """The edges of a lattice by rows, with so many chips lost besides by each vertex."""
+    """The edges of a lattice by rows, and the `losses` of each vertex besides."""
     units = [tuple(int(it == place) for it in range(len(extents))) for place in range(len(extents))]
     square = [*(tuple(-it for it in unit) for unit in units), *reversed(units)]
     ways = [square, square] if lattice == "square" else [[*some] for some in _BESIDE[lattice]]
@@ -478,7 +481,7 @@ def _moved(extents: Sequence[int], joined: Sequence[bool], way: Sequence[int]) -
 
 
 def grid_for(chips: int) -> Graph:
-    """A square grid that so many chips on its middle do not leave; the middle is vertex `graph.sink // 2`.
+    """A square grid that `chips` chips on its middle do not leave; the middle is vertex `graph.sink // 2`.
 
     By Levine and Peres (2009, theorem 4.1), pi r^2 chips stay in a circle of radius (1 / sqrt(2) + e) r + c, for each e
     above 0 and a number c that depends on e. Here e is 0 and c is 2, which is tried for all piles of up to 9,000 chips
@@ -558,7 +561,7 @@ def aztec(size: int) -> Graph:
 
 
 def path(length: int) -> Graph:
-    """A path of so many vertices whose two ends lose a chip to the sink, which is the last vertex."""
+    """A path of `length` vertices whose two ends lose a chip to the sink, which is the last vertex."""
     length = whole(length, "the length of a path", 1)
     edges = [(v, u, 1) for v in range(length) for u in (v - 1, v + 1) if 0 <= u < length]
     edges += [(0, length, 1), (length - 1, length, 1)]
@@ -566,7 +569,7 @@ def path(length: int) -> Graph:
 
 
 def cycle(length: int) -> Graph:
-    """A cycle of so many vertices, 3 at least, with edges both ways; vertex 0 is the sink."""
+    """A cycle of `length` vertices, 3 at least, with edges both ways; vertex 0 is the sink."""
     length = whole(length, "the length of a cycle", 3)
     return _both_ways(length, 0, ((v, (v + 1) % length) for v in range(length)))
 
@@ -580,16 +583,16 @@ def wheel(vertices: int) -> Graph:
 def torus(width: int, height: int) -> Graph:
     """A grid whose borders are joined, 3 by 3 at least: vertex `width * row + column`; vertex 0 is the sink."""
     width, height = whole(width, "the width of a torus", 3), whole(height, "the height of a torus", 3)
-    cells = [(row, column) for row in range(height) for column in range(width)]
-    right = ((width * row + column, width * row + (column + 1) % width) for row, column in cells)
-    below = ((width * row + column, width * ((row + 1) % height) + column) for row, column in cells)
-    return _both_ways(width * height, 0, (*right, *below), (height, width))
+    size = width * height
+    right = ((v, v - v % width + (v + 1) % width) for v in range(size))
+    below = ((v, (v + width) % size) for v in range(size))
+    return _both_ways(size, 0, (*right, *below), (height, width))
 
 
 def complete(vertices: int) -> Graph:
     """The complete graph: an edge each way between any two vertices; vertex 0 is the sink."""
     vertices = whole(vertices, "the number of vertices", 1)
-    return _both_ways(vertices, 0, ((u, v) for u in range(vertices) for v in range(u)))
+    return _both_ways(vertices, 0, itertools.combinations(range(vertices), 2))
 
 
 def _ordered(names: Iterable[Any]) -> list[Any]:
@@ -636,7 +639,7 @@ def _named(
 
 
 def _scaled(weight: Any, scale: int) -> Any:
-    """So many times a weight. A float is the fraction of this denominator that it is the nearest float to."""
+    """`scale` times a weight. A float is the fraction of this denominator that it is the nearest float to."""
     if scale == 1:
         return weight
     many = weight * scale
@@ -656,7 +659,7 @@ def from_networkx(
 
     Loops are refused when something is played, or left out with `loops="drop"`. With `loops="sage"` they are those of
     SageMath: a vertex needs a chip more to fire for each, or two for an undirected one, and keeps it. The game is that
-    without loops then, with so many chips more on each vertex: so are plays, drops, and what is stable or recurrent;
+    without loops then, with the chips that vertices keep more: so are plays, drops, and what is stable or recurrent;
     but not sums, orders, the identity and what is superstable. Nothing is played on fewer chips than loops.
 
     Rational weights are taken `weight_scale` times: 0.25 and `Fraction(3, 4)` with 4, and a chip is a quarter then."""
@@ -673,6 +676,9 @@ def from_edges(
     `source` and `target` name the columns of the ends, and `weight` that of how many chips the edge sends, one if there
     is no such column. Each edge leads both ways, unless they are `directed`. The order of the names, or else that in
     which they come, gives the numbers. All else is as in `from_networkx`."""
+    if isinstance(table, (list, tuple, str)):
+        kind = type(table).__name__
+        raise TypeError(f"a table of edges is a DataFrame or a dict of columns, and no {kind}; see Graph.undirected")
     columns = [table[name] for name in (source, target, weight) if name in (source, target) or name in table]
     columns = [column.tolist() if hasattr(column, "tolist") else list(column) for column in columns]
     if len({*map(len, columns)}) > 1:

@@ -74,7 +74,7 @@ class Schedule(list[Event]):
         return self
 
     def fire(self, vertex: int, count: int = 1) -> Schedule:
-        """A vertex fires so many times in a row."""
+        """A vertex fires `count` times in a row."""
         self.append(Event("fire", vertex, count))
         return self
 
@@ -108,7 +108,7 @@ class TraceRow(NamedTuple):
 
 
 class Firing(NamedTuple):
-    """So many firings of a vertex in a row."""
+    """`count` firings of a vertex in a row."""
 
     vertex: int
     count: int  # type: ignore[assignment]
@@ -237,8 +237,8 @@ class Setting:
             raise TypeError(f"the graph of a setting is a chipfire.Graph, and not of {type(self.graph).__name__}")
         self.graph.refuse_loops()
         object.__setattr__(self, "chips", self.graph.chips(self.chips))
-        whole(self.limit, "limit", 0, MAX_LIMIT)
-        whole(self.ring, "ring", 1, 64)
+        object.__setattr__(self, "limit", whole(self.limit, "limit", 0, MAX_LIMIT))
+        object.__setattr__(self, "ring", whole(self.ring, "ring", 1, 64))
 
 
 @dataclass(frozen=True)

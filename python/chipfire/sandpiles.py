@@ -7,18 +7,17 @@ stabilized, the program is asked, whose answer is proved. What stands here, what
 from __future__ import annotations
 
 import itertools
-import random
 from array import array
 from collections.abc import Callable, Hashable, Iterable, Iterator, Sequence
 from dataclasses import dataclass, field
 from typing import Any, cast
 
-from chipfire import smith
+from chipfire import library, smith
 from chipfire.chips import Chips, Configuration, burning, come_back, identity, played, played_many
 from chipfire.dropped import PART
 from chipfire.graphs import Graph
 from chipfire.program import AnyGraph, AnyProgram, known_graph, read_chips
-from chipfire.values import FILE, MAX_CHIPS, imported, side_by_side, whole
+from chipfire.values import FILE, MAX_CHIPS, generator, imported, side_by_side, whole
 
 
 def _held(graph: AnyGraph, chips: Chips, program: AnyProgram) -> Configuration:
@@ -81,7 +80,7 @@ def stabilize_many(
     vertex by numbers, where the sink has its chips too.
 
     The configurations are rows of an array, or come in any form of chips. The answer is an array of NumPy if that is
-    installed, else a list of rows. So many `workers` play side by side, on threads of their own.
+    installed, else a list of rows. `workers` threads play side by side.
     Proved: the chips. Not proved: that Python passes them on."""
     known, given = known_graph(graph, program), cast(Any, configurations)
     width, numpy = known.vertices, imported("numpy")
@@ -89,11 +88,12 @@ def stabilize_many(
     if is_array and ((given >= 0) & (given <= MAX_CHIPS)).all() and (given % 1 == 0).all():
         start: Sequence[int] = array("Q", given.astype("u8").tobytes())
     else:
-        rows = (known.numbers(row, 0, f"chips in row {place}") for place, row in enumerate(given))
-        start = [*itertools.chain.from_iterable(rows)]
+        start = [*itertools.chain.from_iterable(_rows(known, given, 0, program))]
     count, workers = len(start) // (width or 1), whole(workers, "workers", 1, 64)
-    ends = [width * (count * it // workers) for it in range(workers + 1)]
-    parts = side_by_side(lambda it: played_many(known, start[ends[it] : ends[it + 1]], program)[0], workers, workers)
+    # (an interrupt waits for the parts that have begun, so each is about one call)
+    many = 1 if workers == 1 else max(workers, -(-count // (library.at_once(known, start) or 1)))
+    ends = [width * (count * it // many) for it in range(many + 1)]
+    parts = side_by_side(lambda it: played_many(known, start[ends[it] : ends[it + 1]], program)[0], many, workers)
     left = array("Q", b"".join(part.tobytes() for part in parts))
     if numpy:
         return numpy.frombuffer(left, "q").reshape(-1, width)
@@ -104,8 +104,18 @@ def are_recurrent(graph: AnyGraph, configurations: Iterable[Chips], *, program: 
     """Of many configurations whether each is recurrent; they come as in `stabilize_many`.
     Proved and not proved: as of `is_recurrent`."""
     known = known_graph(graph, program)
-    rows = (known.numbers(row, of=f"chips in row {place}") for place, row in enumerate(configurations))
+    rows = _rows(known, configurations, None, program)
     return come_back(known, [Configuration(known, row).numbers for row in rows], program)
+
+
+def _rows(graph: Graph, configurations: Any, least: int | None, program: AnyProgram) -> Iterator[tuple[int, ...]]:
+    """The numbers of one configuration after the other."""
+    if hasattr(configurations, "items") or isinstance(configurations, FILE):
+        kind = type(configurations).__name__
+        raise TypeError(f"configurations are rows of an array, or stand in a list, and are no {kind}")
+    for place, row in enumerate(configurations):
+        is_file = isinstance(row, FILE)
+        yield read_chips(row, graph, program=program) if is_file else graph.numbers(row, least, f"chips in row {place}")
 
 
 def recurrent_representative(graph: AnyGraph, chips: Chips, *, program: AnyProgram = None) -> Configuration:
@@ -164,20 +174,16 @@ def _burns(graph: Graph, program: AnyProgram) -> Callable[[Sequence[int]], bool]
     """A test of chips. They are superstable if all firings of the burning script are given back, when each vertex gives
     one back as long as it has less than nothing."""
     script, fuel = burning(graph, program)
-    outs: list[list[tuple[int, int]]] = [[] for _ in range(graph.vertices)]
-    for tail, head, mult in zip(*graph.columns):
-        if head != graph.sink:
-            outs[tail].append((head, mult))
+    rows = [{head: less for head, less in row.items() if head != graph.sink} for row in smith.laplacian(graph)]
 
     def burns(chips: Sequence[int]) -> bool:
         left, firings = list(map(int.__sub__, chips, fuel)), sum(script)
         poor = [vertex for vertex, count in enumerate(left) if count < 0]
         for vertex in poor:
             while left[vertex] < 0:
-                left[vertex] += graph.degrees()[vertex]
                 firings -= 1
-                for head, mult in outs[vertex]:
-                    left[head] -= mult
+                for head, less in rows[vertex].items():
+                    left[head] += less
                     poor += [head] * (left[head] < 0)
         return firings == 0
 
@@ -252,9 +258,11 @@ def order(graph: AnyGraph) -> int:
 
 
 def random_drops(graph: AnyGraph, count: int, seed: Any, *, program: AnyProgram = None) -> Iterator[Hashable]:
-    """The names of so many vertices but the sink, drawn evenly by `random.Random(seed)`, one after the other."""
-    known, draw, count = known_graph(graph, program), random.Random(seed), whole(count, "the number of drops")
+    """The names of `count` vertices but the sink, drawn evenly by `random.Random(seed)`, one after the other."""
+    known, draw, count = known_graph(graph, program), generator(seed), whole(count, "the number of drops")
     inner = [name for vertex, name in enumerate(known.names) if vertex != known.sink]
+    if count and not inner:
+        raise ValueError("the graph has only its sink, and so no vertex to drop on")
     parts = (draw.choices(inner, k=min(PART, count - done)) for done in range(0, count, PART))
     return itertools.chain.from_iterable(parts)
 

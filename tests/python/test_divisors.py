@@ -9,6 +9,7 @@ import chipfire
 import model
 from chipfire import divisors
 from small_graphs import graphs_of_sage, simple_graphs, undirected
+from test_sandpiles import has
 
 K4 = chipfire.complete(4)
 
@@ -108,8 +109,8 @@ class Ranks(unittest.TestCase):
             self.assertEqual(chipfire.Divisor(ring, {2: degree}).rank(), max(degree - 1, min(degree, 0), -1))
         for graph in (K4, chipfire.complete(6), chipfire.grid(3, 3)):
             self.assertEqual(chipfire.canonical_divisor(graph).rank(), chipfire.genus(graph) - 1)
-        # (with three edges between two vertices, one chip on each is the canonical divisor, to which a firing leads from
-        # 4 and -2, and not from 2 and 0; no firing leads from 1 and -1 to none)
+        # (with three edges between two vertices, one chip on each is the canonical divisor, to which a firing leads
+        # from 4 and -2, and not from 2 and 0; no firing leads from 1 and -1 to none)
         two = chipfire.Graph.undirected([("a", "b", 3)], "a")
         given = (1, {"a": 4, "b": -2}, {"a": 2}, {"a": 1, "b": -1})
         self.assertEqual([chipfire.Divisor(two, it).rank() for it in given], [1, 1, 0, -1])
@@ -138,13 +139,14 @@ class Reduced(unittest.TestCase):
             self.assertTrue(any(lost[it] > chips[it] for it in fired), (chips, edges, fired))
 
     def test_what_is_reduced_at_each_vertex(self):
-        for classes, (vertices, edges) in zip(all_classes(), simple_graphs()):
-            chips = [(7 * vertex + 3 * len(edges)) % 11 - 5 for vertex in range(vertices)]
-            divisor = chipfire.Divisor(classes.graph, chips)
-            for vertex in range(vertices):
-                found = divisor.reduced(vertex)
-                self.assertEqual((found.degree, classes.of(found.numbers)), (sum(chips), classes.of(chips)))
-                self.assert_reduced(found.numbers, edges, vertex)
+        # (a program that is started for each play takes long)
+        for classes, (vertices, edges) in zip(all_classes(), simple_graphs(5 if chipfire.find_library() else 3)):
+            for chips in itertools.product(range(-1, 2), repeat=vertices):
+                divisor = chipfire.Divisor(classes.graph, chips)
+                for vertex in range(vertices):
+                    found = divisor.reduced(vertex)
+                    self.assertEqual((found.degree, classes.of(found.numbers)), (sum(chips), classes.of(chips)))
+                    self.assert_reduced(found.numbers, edges, vertex)
 
     def test_what_the_search_reduces(self):
         for classes, (vertices, edges) in zip(all_classes(), simple_graphs()):
@@ -155,9 +157,10 @@ class Reduced(unittest.TestCase):
                 self.assert_reduced(found, edges, 0)
 
     def test_effective_and_equivalent_ones(self):
-        for classes in all_classes()[:10]:
+        # (a program that is started for each play takes long)
+        for classes in all_classes()[: None if chipfire.find_library() else 4]:
             graph = classes.graph
-            for chips in itertools.islice(small_divisors(graph), 0, None, 7):
+            for chips in small_divisors(graph):
                 found = chipfire.Divisor(graph, chips).effective()
                 self.assertEqual(found is not None, classes.of(chips) in classes.effective(sum(chips)))
                 if found is not None:
@@ -183,6 +186,14 @@ class Sums(unittest.TestCase):
         self.assertEqual(chipfire.Divisor(graph, chipfire.Configuration(graph, {"b": 3})), {"a": 0, "b": 3, "c": 0})
         self.assertEqual(repr(divisor), "{'a': 1, 'b': 0, 'c': -2}")
         self.assertEqual(repr(chipfire.Divisor(chipfire.grid(9, 9), 1)), "<Divisor of 82 vertices: 82 chips>")
+
+    @unittest.skipUnless(has("numpy"), "NumPy is not here")
+    def test_numbers_of_numpy(self):
+        import numpy
+
+        cycle = chipfire.cycle(3)
+        for one in (2, numpy.int64(2), numpy.array(2), numpy.array([2, 2, 2])):
+            self.assertEqual(chipfire.Divisor(cycle, one), {0: 2, 1: 2, 2: 2})
 
     def test_genus_and_canonical_divisor(self):
         # (a grid of 2 by 2 has four edges within and two to the sink from each square)

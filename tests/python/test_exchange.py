@@ -44,7 +44,7 @@ class ToNetworkX(unittest.TestCase):
 class ToSciPy(unittest.TestCase):
     @unittest.skipUnless(has("scipy") and has("numpy"), "SciPy is not here")
     def test_the_laplacian_in_coordinates(self):
-        for graph in [chipfire.grid(3, 2), chipfire.complete(5), *itertools.islice(directed_graphs(), 0, None, 20)]:
+        for graph in [chipfire.grid(3, 2), chipfire.complete(5), *directed_graphs()]:
             found = chipfire.to_scipy(graph)
             self.assertEqual((found.format, found.toarray().tolist()), ("coo", chipfire.laplacian(graph)))
 

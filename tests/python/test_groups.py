@@ -10,10 +10,10 @@ from small_graphs import directed_graphs, simple_graphs, undirected
 from test_sandpile_words import random_graph
 
 
-def small_graphs():
-    """All directed multigraphs of up to 3 vertices, and all simple graphs of up to 5 with the first and last sink."""
-    yield from directed_graphs()
-    for vertices, edges in simple_graphs():
+def small_graphs(directed=3, simple=5):
+    """All directed multigraphs of up to so many vertices, and all simple ones with the first or last vertex as sink."""
+    yield from directed_graphs(directed)
+    for vertices, edges in simple_graphs(simple):
         for sink in {0, vertices - 1}:
             yield undirected(vertices, edges, sink)
 
@@ -29,30 +29,27 @@ class Groups(unittest.TestCase):
             self.assertEqual({group.coordinates(chips) for chips in found}, every, graph.edges)
 
     def test_firings_change_no_coordinates_and_sums_have_the_sums(self):
-        draw = random.Random(1)
         for graph in small_graphs():
-            group = chipfire.Group(graph)
+            group, inner = chipfire.Group(graph), [vertex for vertex in range(graph.vertices) if vertex != graph.sink]
             for row in model.reduced(graph):
                 self.assertFalse(any(group.coordinates(row)), graph.edges)
-            first, second = ([draw.randint(-9, 9) for _ in range(graph.vertices)] for _ in range(2))
-            sums = map(int.__add__, group.coordinates(first), group.coordinates(second))
-            wanted = tuple(it % factor for it, factor in zip(sums, group.factors))
-            self.assertEqual(group.coordinates([*map(int.__add__, first, second)]), wanted)
+            columns = [*zip(group.factors, *(group.coordinates({vertex: 1}) for vertex in inner))]
+            # (all chips from -1 to 3 on each vertex)
+            for chips in itertools.product(range(-1, 4), repeat=len(inner)):
+                wanted = tuple(sum(map(int.__mul__, chips, column)) % factor for factor, *column in columns)
+                self.assertEqual(group.coordinates(chips), wanted, (graph.edges, chips))
 
     def test_orders(self):
-        draw = random.Random(2)
         for graph in small_graphs():
-            chips, of = [draw.randint(-3, 9) for _ in range(graph.vertices)], model.classes(graph)
-            chips[graph.sink] = 0
-            wanted = next(it for it in itertools.count(1) if not any(of([it * count for count in chips])))
-            self.assertEqual(chipfire.Group(graph).order(chips), wanted, graph.edges)
+            group, of = chipfire.Group(graph), model.classes(graph)
+            for chips in model.recurrents(graph):
+                self.assertEqual(group.order(chips), model.order_of(of(chips)), (graph.edges, chips))
 
     def test_elements_are_the_recurrent_ones_of_their_coordinates(self):
         # (a program that is started for each play takes long)
-        step = 1 if chipfire.find_library() else 25
-        for graph in itertools.islice(small_graphs(), 0, None, step):
-            group, found = chipfire.Group(graph), sorted(model.recurrents(graph))
-            for chips in found[:: max(step, 3)]:
+        for graph in small_graphs() if chipfire.find_library() else small_graphs(2, 3):
+            group, found = chipfire.Group(graph), model.recurrents(graph)
+            for chips in found:
                 self.assertEqual(group.element(group.coordinates(chips)).numbers, chips, graph.edges)
             for place, chips in enumerate(group.generators):
                 self.assertIn(chips.numbers, found)

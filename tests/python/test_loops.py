@@ -1,4 +1,5 @@
 """Loops as SageMath has them, left out and refused: all small graphs against brute force. And rational weights."""
+import collections
 import decimal
 import fractions
 import functools
@@ -27,18 +28,20 @@ def loop_free():
 
 
 def looped():
-    """The same with one loop or two: their rows, and the graph of the package."""
+    """The same with one loop or two, up to which vertex is 0 and which 2: their rows, and the graph of the package."""
     for graph in loop_free():
         for loops in itertools.product(range(3), repeat=graph.vertices):
-            if sum(loops) in (1, 2):
-                edges = [*graph.edges, *((at, at, count) for at, count in enumerate(loops) if count)]
+            edges = [*graph.edges, *((at, at, count) for at, count in enumerate(loops) if count)]
+            # (it begins with the number 0, so that it is the lesser one if there is no vertex 2)
+            turned = [(2 * graph.sink - tail, 2 * graph.sink - head, count) for tail, head, count in edges]
+            if sum(loops) in (1, 2) and sorted(edges) <= sorted(turned):
                 plain = types.SimpleNamespace(vertices=graph.vertices, sink=graph.sink, edges=edges, loops=loops)
                 yield plain, chipfire.from_edges(table(edges), graph.sink, directed=True, loops="sage")
 
 
-def some(step):
-    """Each of so many of them; fewer if each play starts a program, which takes long."""
-    return itertools.islice(looped(), 0, None, step if chipfire.find_library() else 20 * step)
+def played():
+    """All of them; those of up to 2 vertices if each play starts a program, which takes long."""
+    return [it for it in looped() if it[0].vertices < 3 or chipfire.find_library()]
 
 
 def around(plain, below, above):
@@ -49,21 +52,40 @@ def around(plain, below, above):
     ))
 
 
-def summed(plain, first, second):
+def twice(plain):
+    """All chips of a sum up to that with which each vertex fires twice: for each its loops, and twice what it sends.
+    None lies on the sink."""
+    rows = model.laplacian(plain)
+    most = sum(2 * rows[at][at] + count for at, count in enumerate(plain.loops) if at != plain.sink)
+    places = [(0,) if at == plain.sink else range(most + 1) for at in range(plain.vertices)]
+    return [chips for chips in itertools.product(*places) if sum(chips) <= most]
+
+
+def player(plain):
+    """A function that plays chips to the end, each once: what is left, and how often each vertex fired."""
+    return functools.lru_cache(maxsize=None)(lambda chips: tuple(map(tuple, model.stabilized(plain, chips))))
+
+
+def summed(plain, play, first, second):
     """The stable sum."""
-    left, _ = model.stabilized(plain, map(int.__add__, first, second))
-    left[plain.sink] = 0
-    return tuple(left)
+    left, _ = play(tuple(map(int.__add__, first, second)))
+    return (*left[: plain.sink], 0, *left[plain.sink + 1 :])
+
+
+def poor(plain, chips):
+    """The first vertex that has fewer chips than loops, if there is one."""
+    return next((at for at in range(plain.vertices) if at != plain.sink and chips[at] < plain.loops[at]), None)
 
 
 class Words(unittest.TestCase):
     def test_there_are_all_graphs(self):
-        # (each of the graphs of n vertices has a loop at one of them, or two, or one at two of them)
-        counts = [sum(graph.vertices == n for graph in loop_free()) for n in (1, 2, 3)]
-        self.assertEqual(sum(1 for _ in looped()), sum(n * count for n, count in zip((2, 5, 9), counts)))
+        # (one or two edges between two vertices have 5 choices of loops each; 0 to 2 edges on the 4 ways between three
+        # are 81 choices, less 21 by which a vertex does not reach the sink, with 9 of loops: 540, of which 18 are the
+        # same the other way round, and the others are twice 261)
+        self.assertEqual(collections.Counter(plain.vertices for plain, _ in looped()), {1: 2, 2: 10, 3: 279})
 
     def test_stable_recurrent_and_superstable(self):
-        for plain, graph in some(1):
+        for plain, graph in played():
             found, least = model.recurrents(plain), model.needs(plain)
             self.assertEqual({chips.numbers for chips in chipfire.recurrents(graph)}, found, plain)
             superstables = model.superstables(plain)
@@ -73,24 +95,36 @@ class Words(unittest.TestCase):
                 self.assertEqual(is_it, chips in found, (plain, chips))
                 is_stable = all(count < least[at] for at, count in enumerate(chips) if at != plain.sink)
                 self.assertEqual(chipfire.is_stable(graph, chips), is_stable, (plain, chips))
-            for chips in every[::5]:
+            for chips in every:
                 of_inner = tuple(count for at, count in enumerate(chips) if at != plain.sink)
                 self.assertEqual(chipfire.is_superstable(graph, chips), of_inner in superstables, (plain, chips))
 
-    def test_the_identity_sums_and_orders(self):
-        for plain, graph in some(1):
-            found = model.recurrents(plain)
-            zero, = (chips for chips in found if summed(plain, chips, chips) == chips)
+    def test_the_identity_and_orders(self):
+        for plain, graph in played():
+            found, play, of = model.recurrents(plain), player(plain), model.classes(plain)
+            zero, = (chips for chips in found if summed(plain, play, chips, chips) == chips)
             self.assertEqual(chipfire.identity(graph).numbers, zero, plain)
             self.assertEqual(chipfire.order(graph), len(found), plain)
             for chips in found:
                 times, all_in_all = 1, chips
                 while all_in_all != zero:
-                    times, all_in_all = times + 1, summed(plain, all_in_all, chips)
+                    times, all_in_all = times + 1, summed(plain, play, all_in_all, chips)
                 self.assertEqual(chipfire.Configuration(graph, chips).order(), times, (plain, chips))
-            for first, second in itertools.islice(itertools.product(found, repeat=2), 0, None, 7):
-                both = chipfire.add(graph, first, second).numbers
-                self.assertEqual(both, summed(plain, first, second), (plain, first, second))
+            group = chipfire.Group(graph)
+            for chips in around(plain, 2, 1):
+                told = chipfire.Configuration(graph, chips).order(), group.order(chips)
+                self.assertEqual(told, (model.order_of(of(chips)),) * 2, (plain, chips))
+
+    def test_sums_of_all_stable_chips(self):
+        for plain, graph in played():
+            play = player(plain)
+            for first, second in itertools.product(around(plain, 0, 0), repeat=2):
+                if (at := poor(plain, [*map(int.__add__, first, second)])) is None:
+                    both = chipfire.add(graph, first, second).numbers
+                    self.assertEqual(both, summed(plain, play, first, second), (plain, first, second))
+                else:
+                    with self.assertRaisesRegex(ValueError, f"^vertex {at} has .*: nothing is played on fewer chips"):
+                        chipfire.add(graph, first, second)
 
     def test_two_edges_and_a_loop_by_hand(self):
         graph = chipfire.from_edges(ONE, "out", directed=True, loops="sage")
@@ -103,10 +137,10 @@ class Words(unittest.TestCase):
         self.assertEqual(chipfire.laplacian(graph), [[2, -2], [0, 0]])
 
     def test_representatives(self):
-        for plain, graph in some(1):
+        for plain, graph in played():
             found, of = model.recurrents(plain), model.classes(plain)
             superstables = model.superstables(plain)
-            for chips in itertools.islice(around(plain, 2, 1), 0, None, 5):
+            for chips in around(plain, 2, 1):
                 told = chipfire.recurrent_representative(graph, chips)
                 self.assertEqual((told.numbers in found, of(told.numbers)), (True, of(chips)), (plain, chips))
                 told = chipfire.superstable_representative(graph, chips)
@@ -114,7 +148,7 @@ class Words(unittest.TestCase):
                 self.assertEqual(of(told.numbers), of(chips), (plain, chips))
 
     def test_the_group_and_polynomials(self):
-        for plain, graph in some(2):
+        for plain, graph in played():
             found, group = model.recurrents(plain), chipfire.Group(graph)
             self.assertEqual(len({group.coordinates(chips) for chips in found}), len(found))
             for chips in found:
@@ -125,25 +159,47 @@ class Words(unittest.TestCase):
 
 
 class Plays(unittest.TestCase):
-    def test_plays_and_drops(self):
-        for plain, graph in some(1):
-            inner = [vertex for vertex in range(plain.vertices) if vertex != plain.sink]
-            for chips in itertools.islice(around(plain, 0, 5), 0, None, 23):
-                if any(chips[vertex] < plain.loops[vertex] for vertex in inner):
-                    with self.assertRaisesRegex(ValueError, r"^vertex \d has [01] chips? and [12] loops?"):
-                        chipfire.plain(graph, chips)
+    def test_plays(self):
+        for plain, graph in played():
+            play, starts = player(plain), [chips for chips in twice(plain) if poor(plain, chips) is None]
+            wanted = [play(chips) for chips in starts]
+            often = max(min(fired[: plain.sink] + fired[plain.sink + 1 :], default=2) for _, fired in wanted)
+            self.assertGreaterEqual(often, 2, plain)
+            together = chipfire.stabilize_many(graph, starts)
+            self.assertEqual([*map(tuple, together)], [left for left, _ in wanted], plain)
+            for chips, (left, fired) in zip(starts, wanted):
+                report = chipfire.plain(graph, chips)
+                self.assertEqual((report.chips, report.fired, report.graph), (left, fired, graph), (plain, chips))
+                self.assertTrue(chipfire.verify(graph, chips, report) and chipfire.verify(graph, chips, fired))
+                once_more = [count + (at != plain.sink) for at, count in enumerate(fired)]
+                self.assertEqual(chipfire.verify(graph, chips, once_more), plain.vertices == 1, (plain, chips))
+
+    def test_fewer_chips_than_loops(self):
+        questions = chipfire.plain, chipfire.stabilize, functools.partial(chipfire.drops, vertices=[])
+        for plain, graph in played():
+            for chips in twice(plain):
+                if (at := poor(plain, chips)) is not None:
+                    says = f"^vertex {at} has {chips[at]} chips? and {plain.loops[at]} loops?: nothing is played"
+                    for question in questions:
+                        with self.assertRaisesRegex(ValueError, says):
+                            question(graph, chips)
+
+    def test_drops_and_avalanches(self):
+        for plain, graph in played():
+            play, inner = player(plain), [vertex for vertex in range(plain.vertices) if vertex != plain.sink]
+            for chips in twice(plain):
+                if poor(plain, chips) is not None:
                     continue
-                left, fired = model.stabilized(plain, chips)
-                report, told = chipfire.plain(graph, chips), chipfire.drops(graph, chips, inner)
-                self.assertEqual((report.chips, report.fired, report.graph), (tuple(left), tuple(fired), graph))
-                self.assertEqual([*map(list, chipfire.stabilize_many(graph, [chips, chips]))], [left, left])
-                self.assertTrue(chipfire.verify(graph, chips, report) and chipfire.verify(graph, chips, report.fired))
-                for vertex, size, extent, lost in zip(inner, told.size, told.extent, told.lost):
+                told, (left, fired), wanted = chipfire.drops(graph, chips, inner), play(chips), []
+                for vertex in inner:
                     before = left[plain.sink]
-                    left, fired = model.stabilized(plain, [count + (at == vertex) for at, count in enumerate(left)])
-                    wanted = sum(fired), sum(map(bool, fired)), left[plain.sink] - before
-                    self.assertEqual((size, extent, lost), wanted)
-                self.assertEqual((told.report.chips, told.report.graph), (tuple(left), graph))
+                    left, fired = play((*left[:vertex], left[vertex] + 1, *left[vertex + 1 :]))
+                    wanted.append((sum(fired), sum(map(bool, fired)), left[plain.sink] - before))
+                self.assertEqual([*zip(told.size, told.extent, told.lost)], wanted, (plain, chips))
+                self.assertEqual((told.report.chips, told.report.graph), (left, graph), (plain, chips))
+                if chipfire.is_stable(graph, chips):
+                    found = chipfire.avalanches(graph, chips, inner)
+                    self.assertEqual([(it.size, it.extent, it.lost) for it in found], wanted, (plain, chips))
 
     def test_limits_avalanches_and_what_is_far_from_the_loops(self):
         graph = chipfire.from_edges(ONE, "out", directed=True, loops="sage")

@@ -13,7 +13,9 @@ import chipfire
 
 PACKAGE = os.path.dirname(chipfire.__file__)
 MODULES = sorted(name[:-3] for name in os.listdir(PACKAGE) if name.endswith(".py"))
-COMMANDS = ("check", "plain", "run", "simulate", "replay", "resume", "explain", "identity", "verify", "drops")
+COMMANDS = (
+    "check", "plain", "run", "simulate", "replay", "resume", "explain", "identity", "verify", "drops", "judge_log",
+)
 
 #: What somebody writes who has his own code checked.
 USE = """
@@ -37,6 +39,8 @@ print(chipfire.random_schedule(setting, 1, Own).note("last"), chipfire.judge(set
 print(chipfire.drops(grid, chips, chipfire.random_drops(grid, 9, 1), amounts=[1] * 9).histogram()[0], setting)
 print(chipfire.stabilize_many(grid, [chips, 4])[0], chipfire.are_recurrent(grid, [chips])[0], chipfire.find_library())
 print(chipfire.chains(grid, 2, 3, 1).size, chipfire.random_recurrent(grid, 1))
+log = chipfire.model_log(setting, Own, []) + chipfire.read_json_lines([], channel=lambda it: it["to"])
+print(chipfire.judge_log(log, cut=True).claims, chipfire.read_shiviz("", str.strip), chipfire.judge_log("log").is_right)
 print(chipfire.Schedule().take(4), chipfire.MAX_CHIPS, chipfire.find_program(), chipfire.CHIPS_HEADER, chipfire.RULES)
 """
 

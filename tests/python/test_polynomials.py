@@ -111,7 +111,8 @@ class Plays(unittest.TestCase):
             self.assertEqual(chipfire.level_polynomial(graph), levels(graph), drawn)
 
     def test_levels_of_directed_graphs(self):
-        for graph in itertools.islice(directed_graphs(), 0, None, 1 if chipfire.find_library() else 9):
+        # (a program that is started for each play takes long)
+        for graph in directed_graphs(3 if chipfire.find_library() else 2):
             self.assertEqual(chipfire.level_polynomial(graph), levels(graph), graph.edges)
 
     def test_avalanches(self):

@@ -1,7 +1,8 @@
 """Games whose counts are searched for long: the chips that are still to move, as `--progress` tells them.
 
 A line comes once a second at most. So each program is stopped for a second time and again, and tells something whenever
-it goes on. The chips are at least 1 and at most those of the game.
+it goes on. Each search lasts some ten times as long as a program runs between two stops. The chips are at least 1 and at
+most those of the game.
 """
 import json
 import os
@@ -11,7 +12,7 @@ import subprocess
 import tempfile
 import time
 
-SECONDS, RUN, STOPPED = 120, 0.06, 1.02
+SECONDS, RUN, STOPPED, TRIES = 120, 0.02, 1.02, 5
 GUESSING = re.compile(rb"chipfire: progress: guessing, [0-9]+ steps, ([0-9]+) chips still to move\n")
 
 
@@ -28,7 +29,7 @@ def grid(rows, columns):
 GAMES = {
     "a heap on a grid": (grid(250, 250), {125 * 251: 2**17}),
     "four on each square": (grid(150, 150), {v: 4 for v in range(150 * 150)}),
-    "two heaps on a strip": (grid(20, 2000), {10 * 2000 + 500: 2**15, 10 * 2000 + 1500: 2**15}),
+    "two heaps on a strip": (grid(60, 2000), {30 * 2000 + 500: 2**18, 30 * 2000 + 1500: 2**18}),
 }
 
 
@@ -54,18 +55,21 @@ def slowly(processes):
 
 def play_slowly(program):
     """Plays each game, and yields its place, its name and what is wrong with what it told."""
+    words = [program, "plain", "graph.json", "chips.csv", "--large", "--progress"]
+    how = {"stdout": subprocess.DEVNULL, "stderr": subprocess.PIPE}
     with tempfile.TemporaryDirectory(prefix="chipfire-estimates-") as room:
-        rooms = [f"{room}/{number}" for number in range(len(GAMES))]
-        for game, folder in zip(GAMES.values(), rooms):
-            write(game, folder)
-        words = [program, "plain", "graph.json", "chips.csv", "--large", "--progress"]
-        how = {"stdout": subprocess.DEVNULL, "stderr": subprocess.PIPE}
-        processes = [subprocess.Popen(words, cwd=folder, **how) for folder in rooms]
-        slowly(processes)
-        said = [process.communicate()[1] for process in processes]
-    for (name, (_, chips)), process, lines in zip(GAMES.items(), processes, said):
-        told = [int(it) for it in GUESSING.findall(lines)]
-        wrong = [] if told and process.returncode == 0 else [f"status {process.returncode} after {lines!r}"]
-        total = sum(chips.values())
+        rooms, said, statuses = {name: f"{room}/{number}" for number, name in enumerate(GAMES)}, {}, {}
+        for name, folder in rooms.items():
+            write(GAMES[name], folder)
+        # (on a busy machine a search may end before its program is stopped)
+        for _ in range(TRIES):
+            left = [name for name in GAMES if not GUESSING.search(said.get(name, b""))]
+            processes = {name: subprocess.Popen(words, cwd=rooms[name], **how) for name in left}
+            slowly(processes.values())
+            said |= {name: process.communicate()[1] for name, process in processes.items()}
+            statuses |= {name: process.returncode for name, process in processes.items()}
+    for name, (_, chips) in GAMES.items():
+        told, total = [int(it) for it in GUESSING.findall(said[name])], sum(chips.values())
+        wrong = [] if told and statuses[name] == 0 else [f"status {statuses[name]} after {said[name]!r}"]
         wrong += [f"{it} of {total} chips still to move" for it in told if not 1 <= it <= total]
         yield "estimates.py", f"the chips still to move of {name}", wrong

@@ -82,7 +82,7 @@ pub(crate) fn legal_vertices(
 {
     let mut legal = Vec::new(alloc);
     for vertex in 0..graph.vertices() {
-        if vertex != graph.sink() && graph.out_degree(vertex) <= chips[vertex as usize] {
+        if is_legal(graph, chips, vertex) {
             legal.push(vertex)?;
         }
     }

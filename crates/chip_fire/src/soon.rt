@@ -6,6 +6,7 @@ ghost use Rattle.chip_fire.specs.Search.{FewLooks};
 use crate::play::Play;
 use crate::tuning::{FEW_LOOKS, FIRST_LOOKS, LOOKS_OF_FEW, VERTICES_PER_CHIP};
 use crate::watch::Watch;
+use crate::work_list::is_legal;
 use chip_graph::Graph;
 use std::alloc::Global;
 
@@ -59,10 +60,9 @@ impl Play<'_> {
         let mut waits = 0u64;
         for vertex in 0..graph.vertices() {
             let v = vertex as usize;
-            let degree = graph.out_degree(vertex);
-            let has = self.chips[v];
-            if vertex != graph.sink() && has >= degree && self.fired[v] < limit {
-                waits = waits.saturating_add(has.saturating_sub(degree).saturating_add(1));
+            if is_legal(graph, &self.chips, vertex) && self.fired[v] < limit {
+                let above = self.chips[v].saturating_sub(graph.out_degree(vertex));
+                waits = waits.saturating_add(above.saturating_add(1));
             }
         }
         waits

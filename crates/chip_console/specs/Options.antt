@@ -7,7 +7,7 @@ use Rattle.chip_arguments.specs.declared.arguments.SimulationArguments.{Simulati
 use Rattle.chip_arguments.specs.declared.arguments.JudgeArguments.{JudgeArguments}
 use Rattle.chip_judge.specs.declared.judge.JudgeOptions.{JudgeOptions}
 use Rattle.chip_command.specs.declared.options.PlayOptions.{PlayOptions}
-use Rattle.chip_simulate.specs.declared.simulate.SimulateOptions.{SimulateOptions}
+use Rattle.chip_engine.specs.declared.simulate.SimulateOptions.{SimulateOptions}
 
 -- how large a graph and the files of its game may be
 abbrev pub limits_of : Bool → SizeLimits

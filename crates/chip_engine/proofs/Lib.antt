@@ -1,6 +1,8 @@
-pub mod ChainLemmas
+mod ChainLemmas
 pub mod SittingLemmas
-pub mod GuessLemmas
-pub mod VerifyLemmas
-pub mod DropLemmas
-pub mod SameLemmas
+mod GuessLemmas
+mod VerifyLemmas
+mod DropLemmas
+mod SameLemmas
+mod ScheduleLemmas
+mod SimulateLemmas

@@ -7,3 +7,7 @@ pub mod AvalanchesCommand
 pub mod Sittings
 pub mod Worked
 pub mod SimulatedBytes
+pub mod Board
+pub mod ReplayCommand
+pub mod SimulateCommand
+pub mod SimulateReport

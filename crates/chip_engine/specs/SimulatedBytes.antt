@@ -7,8 +7,8 @@ use Rattle.chip_report.specs.ReportText.{report_text}
 use Rattle.chip_command.specs.Inputs.{MeansGame}
 use Rattle.chip_command.specs.OneReport.{PlainWrote}
 use Rattle.chip_command.specs.declared.ended.Ended.{Ended}
-use Rattle.chip_simulate.specs.SimulateReport.{SimulateWrites, EndsOpen, EndsAsPlain, fed_by_replies}
-use Rattle.chip_simulate.specs.declared.simulate.SimulateOptions.{SimulateOptions}
+use Rattle.chip_engine.specs.SimulateReport.{SimulateWrites, EndsOpen, EndsAsPlain, fed_by_replies}
+use Rattle.chip_engine.specs.declared.simulate.SimulateOptions.{SimulateOptions}
 
 -- the report of an outcome and a status are those that `plain` writes for any texts that mean this game
 abbrev pub IsWhatPlainWrites : ChipGame → Outcome → ℕ → Type 0

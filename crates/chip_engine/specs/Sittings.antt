@@ -13,7 +13,7 @@ use Rattle.chip_command.specs.Inputs.{Reads, MeansGame}
 use Rattle.chip_command.specs.OneReport.{PlainWrote}
 use Rattle.chip_command.specs.Sitting.{TellsPlayFrom}
 use Rattle.chip_engine.specs.ResumeCommand.{LeadsToTheEnd, ResumeAnswers}
-use Rattle.chip_simulate.specs.SimulateCommand.{EndsClosed}
+use Rattle.chip_engine.specs.SimulateCommand.{EndsClosed}
 use Rattle.chip_command.specs.declared.ended.Ended.{Ended}
 
 -- `resume` wrote this report, by whatever limits, given the one before it

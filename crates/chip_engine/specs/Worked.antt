@@ -22,8 +22,8 @@ use Rattle.chip_command.specs.Faults.{fault_of_resume}
 use Rattle.chip_command.specs.FaultNumbers.{number_of, location_of}
 use Rattle.chip_command.specs.Reports.{plain_status}
 use Rattle.chip_command.specs.Statuses.{number_of_status}
-use Rattle.chip_simulate.specs.ReplayCommand.{left_text, status_of_left, told_left}
-use Rattle.chip_simulate.specs.SimulateReport.{fed_by_replies, told_text}
+use Rattle.chip_engine.specs.ReplayCommand.{left_text, status_of_left, told_left}
+use Rattle.chip_engine.specs.SimulateReport.{fed_by_replies, told_text}
 use Rattle.chip_engine.specs.ExplainCommand.{explanation}
 use Rattle.chip_command.specs.declared.fault.Fault.TheVariants.{NotReport}
 use Rattle.chip_command.specs.declared.fault.Location.TheVariants.{Nowhere, At}

@@ -7,20 +7,22 @@
 pub use avalanches::{avalanches_engine, avalanches_engine_with};
 pub use check::{check_engine, check_engine_with};
 pub use chip_command::PlayOptions;
-pub use chip_simulate::{
-    ReplayOptions, SimulateOptions, replay_engine, replay_engine_with, simulate_engine,
-    simulate_engine_with,
-};
 pub use explain::explain_engine;
 pub use plain::{plain_engine, plain_engine_with, plain_guess_engine_with};
+pub use replay::{ReplayOptions, replay_engine, replay_engine_with};
 pub use resume::{resume_engine, resume_engine_with};
+pub use simulate::{SimulateOptions, simulate_engine, simulate_engine_with};
 pub use verify::{verify_engine, verify_engine_with};
 
 mod avalanches;
+mod board;
 mod check;
 mod explain;
 mod guess;
 pub mod laws;
+mod lines;
 mod plain;
+mod replay;
 mod resume;
+mod simulate;
 mod verify;

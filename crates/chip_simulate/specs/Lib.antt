@@ -1,4 +1,0 @@
-pub mod Board
-pub mod ReplayCommand
-pub mod SimulateCommand
-pub mod SimulateReport

@@ -1,9 +1,8 @@
 -- From the bytes of a log to the lines of its claims and its end.
-use Rattle.std.specs.Prelude.{◌≡◌, ℕ, List, [], ◌∷◌, ◌++◌, codes, flat_map, Bool, if◌then◌else◌, Option, Some, Result}
+use Rattle.std.specs.Prelude.{◌≡◌, ℕ, List, ◌++◌, codes, flat_map, Bool, if◌then◌else◌, Option, Some, Result}
 use Rattle.std.specs.Fmt.{decimal}
 use Rattle.std.specs.List.{list_any}
 use Rattle.chip_log.specs.declared.row.LogRow.{LogRow}
-use Rattle.chip_log.specs.declared.past.Sizes.{Sizes}
 use Rattle.chip_log.specs.declared.verdict.Verdict.{Verdict}
 use Rattle.chip_log.specs.declared.verdict.Verdict.TheVariants as verdict
 use Rattle.chip_log.specs.declared.judged.PastRows.{PastRows}

@@ -1,1 +1,2 @@
 pub mod JudgeCommand
+pub mod Laws

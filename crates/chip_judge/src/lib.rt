@@ -7,3 +7,4 @@ pub use chip_log::{ClaimWatch, Unwatched};
 pub use judge::{JudgeOptions, judge_engine, judge_engine_with};
 
 mod judge;
+pub mod laws;

@@ -1,4 +1,4 @@
-use Rattle.std.proofs.Common.{◌≡◌, ◌∙◌, ℕ, Bool, List, inl, inr, refl, ap, Vec, Global}
+use Rattle.std.proofs.Common.{◌∙◌, ℕ, Bool, List, inl, inr, refl, ap, Vec, Global}
 use Rattle.chip_log.specs.declared.row.LogRow.{LogRow}
 use Rattle.chip_log.specs.declared.fault.OrderFault.{OrderFault}
 use Rattle.chip_log.specs.declared.fault.OrderFault.TheVariants as order

@@ -1,4 +1,4 @@
-"""Each line of `--progress` and its numbers, of small games whose plays and files are known by hand.
+"""Each line of `--progress` and its numbers, of small games and a log whose answers are known by hand.
 
 A line comes once a second at most. So standard error is a pipe that has room for one line, and a line is taken out only
 when the program has waited for a second to write the next one: then it tells of whatever it does after that, too.
@@ -121,6 +121,19 @@ class Turns(Play):
         return 0 < turns[0] and [*turns] == sorted({*turns}) and max(deficits) <= self.messages
 
 
+class Claims(Play):
+    """What `judge` tells of a log, which is standard input: each claim, of so many."""
+
+    numbers = re.compile("claim ([0-9]+) of ([0-9]+)")
+
+    def __init__(self, log, output, claims, status):
+        super().__init__("judge -", {"graph": log}, output, status=status)
+        self.claims = claims
+
+    def are_true(self, found):
+        return found == [[claim, self.claims] for claim in range(1, self.claims + 1)]
+
+
 def rows(name, *numbers):
     return f"vertex,{name}\n" + "".join(f"{vertex},{number}\n" for vertex, number in numbers)
 
@@ -150,6 +163,10 @@ def plays():
     yield "avalanches", Play("avalanches - chips drops --report report", files, answer, lines, 3)
     yield "run", Turns("run - chips", ON_PAIRS, END_OF_PAIRS, 2)
     yield "run, dealt out", Turns("run - chips --dealt", ON_PAIRS, END_OF_PAIRS, 2)
+    steps = ["0,active", "0,over", "0,passive", "1,over", "0,tell", "1,hear", "1,over"]
+    log = "".join(f"{row}\n" for row in ["process,kind,channel", *(f"{step},0" for step in steps)])
+    lines = ["over 0 1 early: process 0 is active", "over 1 0 early: process 0 is active", "over 1 2 right", "end claimed"]
+    yield "judge", Claims(log, "".join(f"{line}\n" for line in lines), 3, 2)
     yield "run, fed", Turns("run - chips --feed feed", {**NO_CHIPS, "feed": rows("chips", (0, 4), (2, 0))}, END, 2)
 
 

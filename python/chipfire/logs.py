@@ -6,6 +6,7 @@ A log is rows (process, kind, channel), those of a process in its order; docs/FO
 from __future__ import annotations
 
 import contextlib
+import csv
 import json
 import os
 import re
@@ -15,7 +16,7 @@ from dataclasses import dataclass
 from typing import Any, NamedTuple, Union
 
 from chipfire.process import Fault, Kept, ask
-from chipfire.values import FILE, FileName, read_rows, rows_text
+from chipfire.values import FILE, FileName, rows_text
 
 _HEADER = ("process", "kind", "channel")
 _SENDS, _GETS = ("send", "tell"), ("receive", "hear")
@@ -87,27 +88,27 @@ def judge_log(
             told = rows.fault(fault)
             if not cut or told.number != _STUCK:
                 raise told from None
-            name = told.place[0]
-            gone[name], place = told.place[1], rows.places[name][fault.place[1]]
-            rows.rows = [it for it in rows.rows if it[1][0] != name or it[0] < place]
+            name, gone[name] = told.place
+            rows.rows = [it for it in rows.rows if it[1][0] != name or it[0] < rows.places[name][fault.place[1]]]
 
 
 def _read(file: FileName, program: FileName | None) -> list[Row]:
-    """The rows of a file. The program says what is wrong with it."""
+    """The rows of a file, if the program finds no fault in their fields, whatever they mean together."""
     try:
-        rows = list(read_rows(file, _HEADER))
-    except (OSError, ValueError):
-        rows = [[""] * len(_HEADER)]
-    if not all(name.isdecimal() for row in rows for name in row[::2]):
+        with open(file, encoding="utf-8-sig", errors="replace", newline="") as text:
+            header, *rows = filter(None, csv.reader(text))
+    except (OSError, ValueError, csv.Error):
         ask(program, "judge", [("log", file)], begins=_BEGINS)
+        raise
+    fields = [[*row[:1], *("passive" if kind in _KINDS else kind for kind in row[1:2]), *row[2:]] for row in rows]
+    ask(program, "judge", [("log", Kept([rows_text(header, fields).encode()]))], begins=_BEGINS)
     return [(int(process), kind, int(channel)) for process, kind, channel in rows]
 
 
 def _judged(text: str, rows: _Rows | None, gone: Mapping[Hashable, int]) -> JudgedLog:
     """What the program wrote, with the names of rows in place of numbers, if it did not read them in a file."""
-    names: dict[str, Sequence[Any]] = {"process": range(2**22), "channel": range(2**24)}
-    if rows:
-        names = {"process": list(rows.processes), "channel": list(rows.channels)}
+    processes, channels = (list(rows.processes), list(rows.channels)) if rows else (range(2**22), range(2**24))
+    names: dict[str, Sequence[Any]] = {"process": processes, "channel": channels}
 
     def named(words: str) -> str:
         return re.sub("(process|channel) ([0-9]+)", lambda it: f"{it[1]} {names[it[1]][int(it[2])]}", words)
@@ -182,8 +183,7 @@ def _numbered(names: Iterable[Hashable]) -> dict[Any, int]:
 def _activity(rows: Iterable[tuple[int, Sequence[Any]]]) -> Iterator[tuple[int, Row]]:
     """What is put in: `active` before the first row of a process that sends before it gets a message, and `passive`
     behind the last that a process sends before it gets the next one."""
-    first: dict[Hashable, int] = {}
-    last: dict[Hashable, int] = {}
+    first, last = dict[Hashable, int](), dict[Hashable, int]()
     for place, (process, kind, _) in (it for it in rows if it[1]):
         begin = first.setdefault(process, place)
         if kind == "receive" and process in last:

@@ -194,6 +194,17 @@ class Faults(WithFolder):
         self.assertIn("judge takes files of up to 268435456 bytes.", str(fault_of(self, file)))
 
 
+    def test_fields_of_a_file_before_what_its_rows_mean(self):
+        for row, number in [
+            ("1,over", 24), ("1,over,x", 25), (f"1,over,{'1' * 5000}", 25), ("1,tell,\u0661", 25),
+            (f"1,over,{2**64}", 25), (f"{2**22},over,0", 26), ("1,Over,0", 28), (f"1,{'s' * 200_000},0", 28),
+        ]:
+            file = self.file("log.csv", f"process,kind,channel\n0,passive,0\n1,hear,0\n{row}\n")
+            for options in ({"reactive": True}, {"cut": True}):
+                fault = fault_of(self, file, **options)
+                self.assertEqual((fault.number, fault.place), (number, (2,)), row[:40])
+
+
 class Random(unittest.TestCase):
     """Random logs: what is said of them by all consistent cuts."""
 

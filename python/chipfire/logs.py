@@ -25,8 +25,8 @@ _KINDS = (*_SENDS, *_GETS, "passive", "active", "over")
 _BEGINS, _STUCK = ("over ", "end "), 70
 
 Row = tuple[Any, Any, Any]
-#: The key of a value in an object, or a function that finds the value there.
-Key = Union[str, Callable[[Any], Any]]
+#: The key of a value in an object, its place in a list, or a function that finds the value there.
+Key = Union[str, int, Callable[[Any], Any]]
 
 
 class LogClaim(NamedTuple):
@@ -226,7 +226,7 @@ def read_json_lines(
 
 def _value(of: Any, key: Key) -> Any:
     value = key(of) if callable(key) else of[key]
-    return tuple(value) if isinstance(value, list) else value
+    return tuple(_value(value, it) for it in range(len(value))) if isinstance(value, (list, tuple)) else value
 
 
 def _known(kind: Any) -> Any:

@@ -335,7 +335,7 @@ class JsonLines(WithFolder):
         back, files = {kind: word for word, kind in self.WORDS.items()}, []
         for name in "abc":
             mine = [row for row in rows if row[0] == name]
-            lines = [json.dumps({"event": back[kind], "on": ["c", it]}) for _, kind, it in mine]
+            lines = [json.dumps({"event": back[kind], "on": [["c"], it]}) for _, kind, it in mine]
             files.append(self.file(f"{name}.log", "\n".join(['{"event": "debug"}', *lines, ""])))
         return files
 
@@ -345,7 +345,7 @@ class JsonLines(WithFolder):
         names = dict(zip("abc", files))
         wanted = [row for name in "abc" for row in AT_ONCE if row[0] == name]
         of = ("send", "receive", "tell", "hear")
-        self.assertEqual(rows, [(names[name], kind, ("c", it) if kind in of else 0) for name, kind, it in wanted])
+        self.assertEqual(rows, [(names[name], kind, (("c",), it) if kind in of else 0) for name, kind, it in wanted])
         self.assertEqual(chipfire.judge_log(rows).claims[0].left, f"process {files[1]} is active")
 
     def test_one_file_of_all(self):
@@ -354,6 +354,9 @@ class JsonLines(WithFolder):
         self.assertEqual(chipfire.read_json_lines([]), [])
         file = self.file("log", '{"kind": null}\n{"kind": "over", "process": 3}')
         self.assertEqual(chipfire.read_json_lines(file), [(3, "over", 0)])
+        file = self.file("log", '["tell", [1, [2]]]\n')
+        rows = chipfire.read_json_lines(file, process=1, kind=0, channel=lambda it: (it[1], "b"))
+        self.assertEqual(rows, [((1, (2,)), "tell", ((1, (2,)), "b"))])
 
     def test_what_is_wrong_is_told_with_file_and_line(self):
         for line, words in [
@@ -362,7 +365,7 @@ class JsonLines(WithFolder):
             ('{"kind": "Send"}', "ValueError: there is no kind 'Send', but send, tell"),
             ('{"kind": "over"}', "KeyError: 'process'"), ('{"kind": "tell", "process": 1}', "KeyError: 'channel'"),
             ('{"kind": "over", "process": {}}', "TypeError: unhashable"), ("[" * 100_000, "RecursionError"),
-            ('{"kind": "tell", "process": 1, "channel": [[]]}', "TypeError: unhashable"),
+            ('{"kind": "tell", "process": 1, "channel": [{}]}', "TypeError: unhashable"),
         ]:
             file = self.file("log")
             with open(file, "wb") as out:

@@ -258,7 +258,7 @@ def read_shiviz(
     expression  as ShiViz takes it; if not said, that for GoVector. Where the event stands above its clock it is
                 `(?<event>.*)\n(?<host>\S*) (?<clock>{.*})`
 
-    A message has a channel for each process that gets it. What is wrong is a ValueError that names the line.
+    A message has a channel for each process that gets it; no others are seen. A ValueError names a wrong line.
     """
     events = sorted(_events(log, kind_of, message_of, expression), key=lambda it: sum(it.clock.values()))
     places: dict[tuple[str, int], _Event] = {}
@@ -292,7 +292,7 @@ def _events(
     log: FileName, kind_of: Callable[[str], str | None], message_of: Callable[[str], Hashable], expression: str
 ) -> Iterator[_Event]:
     """The events of a log, at whose head its expression may stand."""
-    pattern, text = re.compile(re.sub(r"\(\?<(?![=!])", "(?P<", expression)), str(log)
+    pattern, text = re.compile(re.sub(r"\(\?<(?![=!])", "(?P<", expression)), str(log).replace("\r\n", "\n")
     if text and "\n" not in text:
         with open(log, encoding="utf-8-sig") as file:
             text = file.read()

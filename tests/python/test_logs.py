@@ -452,6 +452,7 @@ class ShiViz(WithFolder):
 
     def test_both_layouts_from_a_text_and_a_file(self):
         wanted = chipfire.read_shiviz(govector(self.BROADCAST), kind_of)
+        self.assertEqual(chipfire.read_shiviz(govector(self.BROADCAST).replace("\n", "\r\n"), kind_of), wanted)
         other = "".join(f"{text}\n{host} {json.dumps(clock)}\n" for host, clock, text in self.BROADCAST)
         self.assertEqual(chipfire.read_shiviz(other, kind_of, expression=SHIVIZ), wanted)
         shuffled = [(host, clock, f"INFO {text}\n") for host, clock, text in self.BROADCAST]

@@ -273,6 +273,24 @@ class Random(unittest.TestCase):
                 count += len(lines)
         self.assertGreater(count, 10)
 
+    def test_rows_that_are_not_there(self):
+        """docs/tasks/judge-a-log.md says which can make an early claim right."""
+        found = Counter()
+        for _, rows in self.drawn(7, 800, slips=0):
+            for at, (_, kind, channel) in enumerate(rows):
+                gone = {at}
+                if kind == "tell":
+                    hears = [it for it, row in enumerate(rows) if row[1:] == ("hear", channel)]
+                    gone |= {*hears[sum(row[1:] == ("tell", channel) for row in rows[:at]):][:1]}
+                both = (expected(rows), expected([row for it, row in enumerate(rows) if it not in gone]))
+                if kind != "over" and all(isinstance(lines[0], str) for lines in both):
+                    was, now = ([line.split(" ")[3] for line in lines if line.startswith("over")] for lines in both)
+                    found.update((kind, *it) for it in zip(was, now))
+        self.assertEqual({it[0] for it in found if it[1:] == ("early:", "right")}, {"send", "active"})
+        rows = [*(("b", kind, 0) for kind in ("active", "tell", "passive", "tell")), ("a", "hear", 0), ("a", "over", 0)]
+        self.assertEqual(told(rows), ["over a 1 early: process b is active", "end unclaimed"])
+        self.assertEqual(told([rows[0], *rows[2:]]), ["over a 1 right", "end claimed"])
+
     def test_reactive_processes(self):
         found = Counter()
         for draw, rows in self.drawn(5, 500):

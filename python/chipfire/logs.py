@@ -307,7 +307,7 @@ def _events(
             clock, kind = json.loads(match["clock"]), _known(kind_of(said))
             if not isinstance(clock, dict) or not {int} >= {*map(type, clock.values())} or clock.get(host, 0) < 1:
                 raise ValueError(f"{clock} is no clock of {host!r}")
-            message = message_of(said) if kind in _SENDS + _GETS else None
+            message, = {message_of(said) if kind in _SENDS + _GETS else None}  # (a set takes what can be a name)
         except Exception as error:  # (whatever a function does)
             raise ValueError(f"line {line}: {type(error).__name__}: {error}") from error
         place = None if kind in _GETS else (host, clock[host])

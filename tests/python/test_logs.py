@@ -521,6 +521,8 @@ class ShiViz(WithFolder):
         ]:
             with self.assertRaisesRegex(ValueError, f"^{words}"):
                 chipfire.read_shiviz(text, kind_of)
+        with self.assertRaisesRegex(ValueError, "^line 1: TypeError: unhashable"):
+            chipfire.read_shiviz(good, kind_of, message_of=lambda _: [])
         with self.assertRaises(FileNotFoundError):
             chipfire.read_shiviz(self.file("none"), kind_of)
         with self.assertRaises(re.error):

@@ -265,13 +265,13 @@ def read_shiviz(
     clocks: dict[str, Mapping[str, int]] = defaultdict(dict)
     hosts: dict[tuple[bool, Hashable], dict[str | None, None]] = defaultdict(dict)
     for number, it in enumerate(events):
-        if places.setdefault((it.host, it.clock[it.host]), it) is not it:
+        if it.clock[it.host] <= clocks[it.host].get(it.host, 0):
             raise ValueError(f"line {it.line}: the clock is no further than in an event before it")
         if it.kind in _GETS:
             message = _sent(it, clocks[it.host], places) if it.message is None else it.message
             events[number] = it = it._replace(message=message)
             hosts[it.kind == "hear", message][it.host] = None
-        clocks[it.host] = it.clock
+        clocks[it.host], places[it.host, it.clock[it.host]] = it.clock, it
     rows: list[Row] = []
     for it in events:
         its = hosts[it.kind == "tell", it.message] or {None: None} if it.kind in _SENDS else {it.host: None}

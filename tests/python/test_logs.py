@@ -514,7 +514,9 @@ class ShiViz(WithFolder):
             *((f"{good}b {{{it}}}\nreceive\n", "line 3: .* is no clock of 'b'") for it in (
                 '"a": 1', '"b": 1.5', '"b": 0', '"b": null')),
             (f'{good}b {{"b": 1}}\nOver\n', "line 3: ValueError: there is no kind 'Over'"),
-            (f"{good}{good}", "line 3: the clock is no further"), (f"{good}b {{\"b\": 1}}\n\n", "line 3: IndexError"),
+            (f"{good}{good}", "line 3: the clock is no further"),
+            ('a {"a": 1, "b": 3}\nsend\na {"a": 2}\npassive\n', "line 1: the clock is no further"),
+            (f"{good}b {{\"b\": 1}}\n\n", "line 3: IndexError"),
             (f'{good}b {{"b": 1}}\nreceive\n', "line 3: .* give message_of"),
             (f'{good}b {{"a": 2, "b": 1}}\nreceive\n', "line 3: .* give message_of"),
             (f'a {{"a": 1}}\nover\nb {{"a": 1, "b": 1}}\nhear\n', "line 3: .* give message_of"),

@@ -347,13 +347,13 @@ The log is of any program whose processes send messages and detect when their co
 over. A row of the kind `over` claims that. The claim is early exactly if in some order of the
 rows that fits, when it is made or behind it, a message is on its way or a process is active.
 Else it is right. The line of an early claim says what is left when it is made, in the order
-with the fewest rows before it. `end missed` says that all is over and no claim was made.
+with the fewest rows before it. `end missed` says that all is over and no claim is right.
 
 The rows of each process are in its order, and may be mixed with those of others. The answer
 does not depend on how they are mixed.
 
-Exit status: 0 a claim is right, and none is early; 2 a claim is early; 3 no claim is right,
-and none is early; 1 a fault, which `chipfire explain N` explains: 70 if the rows do not fit.
+Exit status: 0 a claim is right, and none is early; 2 a claim is early; 3 there is no claim; 1 a
+fault, which `chipfire explain N` explains: 70 if the rows do not fit.
 
 Example: (echo process,kind,channel; cat process-*.rows) | chipfire judge -",
     arguments: &[LOG, PAST, LARGE_LOG, CLAIM_PROGRESS],

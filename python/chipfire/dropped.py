@@ -88,16 +88,20 @@ def played_drops(
     return None if sum(found[1]) + sum(columns[0]) > MAX_LIMIT else _shown(columns)
 
 
-def in_calls(graph: Graph, left: Any, at: Any, amounts: Any, columns: Sequence[Any], limit: int = MAX_LIMIT) -> None:
+def in_calls(
+    graph: Graph, left: Any, at: Any, amounts: Any, columns: Sequence[Any], limit: int = MAX_LIMIT, some: int = 1
+) -> int:
     """Drops on what is left, by calls in each of which a vertex fires `limit` times at most. One drop may be long, so
-    the first call has one; later calls have more, or fewer if one takes a tenth of a second."""
-    start, some = 0, 1
+    the first call has one if no other number is said; later calls have more, or fewer if one takes a tenth of a second.
+    How many the next one would have is returned."""
+    start = 0
     while start < len(at):
         begun, part = time.monotonic(), slice(start, start + some)
         where, many, *rows = (memoryview(it)[part] for it in (at, amounts, *columns))
         library.avalanches(graph, where, many, left, rows[0], rows[1], rows[2], limit=limit)
         start, took = part.stop, time.monotonic() - begun
         some = 32 * some if took < 0.003 else 2 * some if took < 0.1 else some // 2 or 1
+    return min(some, len(at) or 1)
 
 
 def parts_of(at: array[int], amounts: array[int]) -> Iterator[bytes]:

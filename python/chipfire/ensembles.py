@@ -5,6 +5,7 @@ from __future__ import annotations
 import itertools
 import os
 import random
+import threading
 from array import array
 from bisect import bisect
 from collections import Counter
@@ -25,17 +26,28 @@ Outs = list[tuple[list[int], list[int]]]
 
 
 def random_recurrent(graph: AnyGraph, seed: Any, count: int | None = None) -> Any:
-    """A recurrent configuration of an undirected graph, each equally probable; or a list of `count`, drawn one by one.
+    """A recurrent configuration of an undirected graph, each equally probable; or a list of `count`.
 
-    Wilson's algorithm (1996) draws a spanning tree by `random.Random(seed)`, and the burning bijection of Majumdar and
-    Dhar (1992) makes chips of it. Edges into the sink need none back; a graph that is else directed is a ValueError.
-    60 by 60 squares take some 20 ms.
+    Wilson's algorithm (1996) draws a spanning tree, and the burning bijection of Majumdar and Dhar (1992) makes chips
+    of it. Each has a `random.Random` of its own, whose seed `random.Random(seed)` makes. Edges into the sink need none
+    back; a graph that is else directed is a ValueError. 60 by 60 squares take some 20 ms, and many by NumPy 5 ms each.
     Nothing of this is proved, and the program is not asked."""
-    known, draw = known_graph(graph), generator(seed)
-    outs, least = _undirected(known), known.loops or 0
-    many = range(1 if count is None else whole(count, "the number of configurations"))
-    found = [Configuration(known, _burnt(known, outs, *_tree(known.sink, outs, draw))) + least for _ in many]
+    known, n = known_graph(graph), 1 if count is None else whole(count, "the number of configurations")
+    chips, width = known.with_loops(_recurrent(known, seed, n)), known.vertices
+    found = [Configuration(known, chips[it * width : (it + 1) * width]) for it in range(n)]
     return found[0] if count is None else found
+
+
+def _recurrent(graph: Graph, seed: Any, n: int) -> array[int]:
+    """The chips of n of them, one behind another, without the graph's loops. From 32 on NumPy draws many together."""
+    outs, base, numpy = _undirected(graph), generator(seed).getrandbits(64), imported("numpy")
+    draws = (random.Random(f"{base} {it}") for it in range(n))
+    some = min(n, 2**10, 2**21 // (graph.vertices + sum(graph.columns.mults)))
+    if numpy and some >= 32:
+        parts = (_burnt_together(numpy, graph, [*itertools.islice(draws, some)]) for _ in range(0, n, some))
+        return array("Q", b"".join(part.tobytes() for part in parts))
+    rows = (_burnt(graph, outs, *_tree(graph.sink, outs, draw)) for draw in draws)
+    return array("Q", itertools.chain.from_iterable(rows))
 
 
 def _undirected(graph: Graph) -> Outs:
@@ -57,21 +69,22 @@ def _undirected(graph: Graph) -> Outs:
 
 def _tree(sink: int, outs: Outs, draw: random.Random) -> tuple[list[int], list[int]]:
     """A random spanning tree: which of its chips goes to the next vertex, and how many edges lead to the sink."""
-    chance, (steps, depth) = draw.random, ([0] * len(outs), [-1] * len(outs))
-    depth[sink] = 0
-    for vertex in range(len(outs)):
-        at, way = vertex, list[int]()
-        while depth[at] < 0:
+    chance, (steps, depth) = draw.random, ([0] * len(outs), [0] * len(outs))
+    order, places, fixed = [*range(len(outs))], [*range(len(outs))], 1
+    order[0], order[sink], places[0], places[sink] = sink, 0, sink, 0
+    while fixed < len(outs):  # (those of the tree are the first, then those of the walk, which has no loops)
+        at, size, place = order[fixed], fixed + 1, fixed
+        while place >= fixed:
             heads, ends = outs[at]
             steps[at] = step = int(chance() * ends[-1])
             at = heads[bisect(ends, step)]
-        at = vertex
-        while depth[at] < 0:
-            way.append(at)
-            heads, ends = outs[at]
-            at = heads[bisect(ends, steps[at])]
-        for level, passed in enumerate(reversed(way), depth[at] + 1):
+            if (place := places[at]) >= fixed:
+                top = min(place, size)
+                other, size = order[top], top + 1
+                order[place], places[other], order[top], places[at] = other, place, at, top
+        for level, passed in enumerate(reversed(order[fixed:size]), depth[at] + 1):
             depth[passed] = level
+        fixed = size
     return steps, depth
 
 
@@ -88,6 +101,47 @@ def _burnt(graph: Graph, outs: Outs, steps: Sequence[int], depth: Sequence[int])
             start = end
         found[vertex] = left
     return found
+
+
+def _burnt_together(numpy: Any, graph: Graph, draws: list[random.Random]) -> Any:
+    """What `_tree` and `_burnt` make by each generator, as rows of an array."""
+    stays = graph.sink, graph.vertices  # (a vertex more, where a walk stays if all others are in its tree)
+    tails, heads, mults = map(numpy.append, graph.columns, (stays, stays, (1, 1)))
+    order, sizes = numpy.argsort(tails, kind="stable"), numpy.bincount(tails, mults).astype(int)
+    tails, heads = (numpy.repeat(ends[order], mults[order]) for ends in (tails, heads))
+    first, most, chip = numpy.cumsum(sizes) - sizes, sizes.max(), numpy.arange(len(heads))
+    taken = _taken(numpy, graph.sink, sizes, first, heads - tails, draws)
+    after = (heads - tails)[taken]
+    depth, after = (after != 0).astype(int), after + numpy.arange(len(after))
+    while (further := depth[after]).any():
+        depth, after = depth + further, after[after]
+    depth, taken = most * depth.reshape(len(draws), -1), taken.reshape(len(draws), -1)
+    # (a chip is burnt that leads to what burns before the next vertex, or with it and is not before the chip taken)
+    is_burnt = depth.take(heads, 1) - chip <= (depth - most - taken).take(tails, 1)
+    sizes[graph.sink] = 0
+    return (sizes - numpy.add.reduceat(is_burnt, first, 1, "i8"))[:, :-1]
+
+
+def _taken(numpy: Any, sink: int, sizes: Any, first: Any, ways: Any, draws: list[random.Random]) -> Any:
+    """The chips that `_tree` takes last from each vertex, in step: one by each generator at a time."""
+    zero, order = numpy.arange(len(draws)) * len(sizes), numpy.arange(len(draws) * len(sizes))
+    order[zero], order[zero + sink] = zero + sink, zero
+    places, taken, last = order.copy(), numpy.tile(first, len(draws)), zero + len(sizes) - 1
+    at, fixed, size = order[zero + 1], zero + 1, zero + 2
+    while len(live := numpy.flatnonzero(fixed < last)):
+        zero, last, fixed, size, at = (it[live] for it in (zero, last, fixed, size, at))
+        draws = [draws[it] for it in live.tolist()]
+        for _ in range(32):
+            vertex, chance = at - zero, numpy.fromiter(map(random.Random.random, draws), "f8", len(draws))
+            taken[at] = chip = first[vertex] + (chance * sizes[vertex]).astype(int)
+            place = places[(at := at + ways[chip])]
+            ended = numpy.flatnonzero(place < fixed)
+            fixed[ended] = place[ended] = size[ended]
+            top = numpy.minimum(place, size)
+            at, other = order[place], order[top]
+            order[place], order[top], places[other], places[at] = other, at, place, top
+            size = top + 1
+    return taken
 
 
 class Firings(NamedTuple):
@@ -152,7 +206,7 @@ def chains(
         raise ValueError("the graph has only its sink, and so no vertex to drop on")
     seed = random.getrandbits(64) if seed is None else seed
     chips = read_chips(chips, known) if isinstance(chips, FILE) else chips
-    play = _Chains(known, n, drops, seed, random_recurrent(known, seed, n) if chips is None else chips)
+    play = _Chains(known, n, drops, seed, chips)
     workers = min(n, min(os.cpu_count() or 1, 64) if workers is None else whole(workers, "workers", 1, 64))
     pieces = []
     if fired or until:
@@ -170,8 +224,12 @@ class _Chains:
         self.known, self.graph, self.drops = graph, graph.loop_free, drops
         self.seeds = [f"{seed} {chain}" for chain in range(n)]
         self.inner = array("Q", (it for it in range(graph.vertices) if it != graph.sink))
-        self.made = array("Q", [drops]) * n
-        self.columns = [array("Q", bytes(8 * n * drops)) for _ in range(3)]
+        self.made, self.ones, self.some = array("Q", [drops]) * n, array("Q", [1]) * drops, 1
+        self.here, numpy = threading.local(), imported("numpy")  # (what each thread has for itself)
+        self.columns = [numpy.zeros(n * drops, "u8") if numpy else array("Q", bytes(8 * n * drops)) for _ in range(3)]
+        if chips is None:
+            self.chips = _recurrent(graph, seed, n)
+            return
         rows = [graph.chips(row) for row in chips] if _are_rows(graph, chips) else [graph.chips(chips)] * n
         if len(rows) != n:
             raise ValueError(f"there are chips for {len(rows)} chains, and {n} chains")
@@ -183,17 +241,19 @@ class _Chains:
         draw, numpy = random.Random(self.seeds[chain]), imported("numpy")
         if not numpy:
             return array("Q", draw.choices(self.inner, k=self.drops))
-        state, twister = draw.getstate()[1], numpy.random.RandomState(0)
-        twister.set_state(("MT19937", state[:-1], state[-1]))
-        places = (twister.random_sample(self.drops) * len(self.inner)).astype("i8")
+        if not hasattr(self.here, "twister"):
+            self.here.twister = numpy.random.RandomState(0)
+        state = draw.getstate()[1]
+        self.here.twister.set_state(("MT19937", state[:-1], state[-1]))
+        places = (self.here.twister.random_sample(self.drops) * len(self.inner)).astype("i8")
         return numpy.frombuffer(self.inner, "u8")[places]
 
     def whole(self, chain: int) -> None:
-        """Plays a chain from its beginning to its end."""
+        """Plays a chain to its end. Its first call has as many drops as the last one of another chain."""
         width, drops = self.graph.vertices, self.drops
         left = memoryview(self.chips)[chain * width : (chain + 1) * width]
         rows = [memoryview(column)[chain * drops : (chain + 1) * drops] for column in self.columns]
-        in_calls(self.graph, left, self.drawn(chain), array("Q", [1]) * drops, rows)
+        self.some = in_calls(self.graph, left, self.drawn(chain), self.ones, rows, some=self.some)
 
     def step(self, group: range, until: str | None, wants_fired: bool) -> list[Any]:
         """Plays some chains, one drop of each after the other; gets the drop, vertex and count of each that fired."""

@@ -351,7 +351,7 @@ class Graph:
 
     def with_loops(self, chips: Sequence[int]) -> array[int]:
         """The chips of one game after another, of which plays of `loop_free` leave some: more by the loops."""
-        return array("Q", map(operator.add, chips, itertools.cycle(self.loops or [0])))
+        return array("Q", map(operator.add, chips, itertools.cycle(self.loops)) if self.loops else chips)
 
     def max_stable(self) -> Configuration:
         """The maximal stable configuration: each vertex but the sink has one chip less than it needs to fire."""

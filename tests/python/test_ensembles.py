@@ -37,11 +37,20 @@ class Recurrent(unittest.TestCase):
 
     def test_a_seed_draws_one_or_many(self):
         grid = chipfire.grid(9, 7)
-        many = chipfire.random_recurrent(grid, 5, 20)
+        many = chipfire.random_recurrent(grid, 5, 40)
         self.assertEqual(chipfire.random_recurrent(grid, 5), many[0])
-        self.assertEqual(chipfire.random_recurrent(grid, 5, 20), many)
-        self.assertEqual((chipfire.are_recurrent(grid, many), len({*many})), ([True] * 20, 20))
+        self.assertEqual(chipfire.random_recurrent(grid, 5, 20), many[:20])
+        self.assertEqual((chipfire.are_recurrent(grid, many), len({*many})), ([True] * 40, 40))
         self.assertEqual(chipfire.random_recurrent(chipfire.Graph(1, 0, []), 1), {})
+
+    @unittest.skipUnless(has("numpy"), "NumPy is not here")
+    def test_those_that_numpy_draws_together_are_those_that_are_drawn_one_by_one(self):
+        heavy = chipfire.Graph.undirected([(1, 0, 200), (1, 2, 3), (2, 0), (2, 3), (3, 0, 77)], 0)
+        lonely = chipfire.Graph(1, 0, [])
+        for graph in (chipfire.grid(20, 20), chipfire.cycle(60), MULTIGRAPH, LOSSY, heavy, lonely):
+            together = chipfire.random_recurrent(graph, 1, 1100)
+            with mock.patch("chipfire.ensembles.imported", return_value=None):
+                self.assertEqual(chipfire.random_recurrent(graph, 1, 1100), together)
 
     def test_what_is_refused(self):
         with self.assertRaisesRegex(ValueError, "'a' sends 2 to 'b' and gets 1 back"):

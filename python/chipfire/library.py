@@ -4,7 +4,7 @@
     chipfire.library.stabilize_all(chipfire.grid(2, 2), chips, fired, stopped)
 
 An array is an `array.array("Q")`, or one of NumPy of `uint64` in C's order that can be written. No two arrays of a call
-overlap. On a fault all stay as they were.
+overlap, and no other thread writes to one meanwhile. On a fault all stay as they were.
 
 `plain`, `verify` of a report, and what stands on them go this way if neither the call nor CHIPFIRE names a program, the
 library lies where the program does and has the package's version, and the play is short. Else the program answers, as a
@@ -98,8 +98,11 @@ def _slice(name: str, numbers: Any) -> tuple[int, int]:
 def _call(call: Any, graph: Graph, limit: int, *arrays: Any, but: int = 0) -> int:
     """Makes a call of the library. A fault is raised, `but` this one, whose number is returned; 0 if there is none."""
     place, of_graph = _NUMBER(), (min(graph.vertices, 2**64 - 1), min(graph.sink, 2**64 - 1))
+    views = [memoryview(numbers) for numbers in arrays]  # (as long as there are views no array gets another length)
     words = [word for numbers in (*graph.long_columns, *arrays) for word in _slice("numbers", numbers)]
     number: int = call(*of_graph, *words[:6], limit, *words[6:], place)
+    for view in views:
+        view.release()
     if number not in (0, but):
         raise refused(number, place.value, graph)
     return number

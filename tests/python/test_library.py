@@ -378,6 +378,21 @@ class Arrays(unittest.TestCase):
             with self.assertRaisesRegex(ValueError, "^limit is"):
                 library.stabilize_all(TRIANGLE, **good, limit=limit)
 
+    def test_no_array_gets_another_length_meanwhile(self):
+        arrays = zeros(3), zeros(3), zeros(1)
+
+        def grow(*words):
+            for it in arrays:
+                with self.assertRaises(BufferError):
+                    it.append(0)
+            return 12
+        with mock.patch.object(library, "_loaded", return_value=mock.Mock(chipfire_stabilize_all=grow)):
+            with self.assertRaises(chipfire.Fault) as told:
+                library.stabilize_all(TRIANGLE, *arrays)
+        self.assertEqual(told.exception.number, 12)
+        for it in arrays:
+            it.append(0)
+
     def test_arrays_do_not_overlap(self):
         both = zeros(4)
         parts = memoryview(both)

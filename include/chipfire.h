@@ -19,13 +19,16 @@
  *     1 vertices, 2 sink, 3 number of edges                              no place
  *     4 end of an edge, 5 mult, 6 loop, 7 edge out of the sink           the edge, from 0
  *     8 no way leads to the sink                                         the least such vertex
- *     9 chips are not one number for each vertex                         no place
+ *     9 chips are not one number for each vertex; of many games: 12      no place
  *     10 more than 2^40 chips, 11 limit                                  the game or the drop, from 0
  *     12 slices that belong together have other lengths                  no place
- *     13 the limit stopped the play of a drop                            the drop; 0 also for the play before all
+ *     13 the limit stopped the play of a drop                            the drop
  *     26 a drop on no vertex                                             the drop
  *     53 what was claimed is not how the game ends                       the least vertex that differs
  *     90 memory ran out                                                  no place
+ *
+ * The faults of one game, or of one drop, come before those of the next. A drop has 26 first, then 10, then 13. The game
+ * on which drops fall comes before all of them, and its place is 0 too.
  *
  * The caller sees to this, which no call can check:
  *

@@ -66,7 +66,7 @@ class Linked(Room):
 class Explained(Room):
     def test_each_fault_of_the_header(self):
         with open(HEADER, encoding="ascii") as file:
-            table = file.read().partition("then the chips.")[2].partition("The caller sees")[0]
+            table = file.read().partition("then the chips.")[2].partition("The faults of one game")[0]
         numbers = re.findall(r"(?<![\^\d])([1-9]\d*) [a-z]", table)
         self.assertEqual(numbers, [*map(str, range(1, 14)), "26", "53", "90"])
         for number in numbers:

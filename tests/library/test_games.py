@@ -122,6 +122,32 @@ class Small(unittest.TestCase):
         self.assertEqual(avalanches(alone, [5], [(0, 3)]), (0, 0, ([8], [(0, 0, 0)])))
 
 
+class First(unittest.TestCase):
+    """Which of two faults is told, as the header says."""
+
+    def test_of_games(self):
+        few, many = [4, 0, 0], [4, 0, LARGEST]
+        for games, limit, wanted in [
+            ([few, many, many], LARGEST, (10, 1)), ([few, many], LARGEST + 1, (11, 0)), ([many, few], LARGEST + 1, (10, 0)),
+            ([few[:2], many], LARGEST, (12, 0)), ([], LARGEST + 1, (0, 0)),
+        ]:
+            self.assertEqual(stabilize_all(TRIANGLE, games, limit)[:2], wanted)
+
+    def test_of_drops(self):
+        nowhere, too_many, stopped, made = (3, LARGEST), (1, LARGEST), (0, 2), (2, 1)
+        faults = {nowhere: 26, too_many: 10, stopped: 13}
+        for first, second in itertools.product(faults, faults):
+            for before in range(3):
+                found = avalanches(TRIANGLE, [1, 1, 0], [*[made] * before, first, second], 0)
+                self.assertEqual(found[:2], (faults[first], before))
+        for chips, limit, wanted in [
+            ([0, 0, LARGEST + 1], LARGEST, (10, 0)), ([0, 0, LARGEST + 1], LARGEST + 1, (10, 0)),
+            ([4, 0, 0], LARGEST + 1, (11, 0)), ([4, 0, 0], 1, (13, 0)), ([4, 0], 1, (9, 0)),
+        ]:
+            for drops in ([], [nowhere], [too_many]):
+                self.assertEqual(avalanches(TRIANGLE, chips, drops, limit)[:2], wanted)
+
+
 class Random(Room):
     def program_answers(self, graph, chips, limit):
         """Returns what the program answers to a game: (0, 0, [(chips, fired, stopped)]), or number and place of a fault."""

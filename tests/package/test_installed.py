@@ -2,6 +2,7 @@
 import functools
 import json
 import os
+import re
 import shutil
 import sys
 import unittest
@@ -88,6 +89,14 @@ class Linked(Answers):
 class Archive(Linked):
     def test_a_program_in_c_is_linked_with_it(self):
         self.is_linked(f"{made.unpacked()}/lib", made.version())
+
+    def test_a_program_in_c_is_linked_with_it_as_the_page_says(self):
+        made.need("gcc", "pkg-config")
+        page, room = made.read(f"{made.ROOT}/docs/tasks/from-c.md").decode(), made.room()
+        shutil.copy(f"{made.ROOT}/examples/c/grid.c", room)
+        linked, where = (re.search(f"^    {it} .*$", page, re.MULTILINE)[0] for it in ("gcc grid.c", "export"))
+        shown = made.run("bash", "-c", f"{where}\n{linked} && ./grid", cwd=room, check=True, here=made.unpacked()).stdout
+        self.assertTrue(shown.startswith("0320230\n"), shown)
 
     def test_it_is_one_folder_and_answers(self):
         self.assertEqual(os.path.basename(made.unpacked()), f"chipfire-{made.version()}")

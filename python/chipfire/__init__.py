@@ -12,6 +12,7 @@ alone: `pip install ./python` installs it, and a copy of its folder works too. T
 carries, `target/chipfire` of the repository that the package lies in or was installed from, the program in the
 `release` there, if `./chipfire` would take it, and `chipfire` on the PATH. Where its library lies too, which has the
 same bodies and proofs, short plays start no program: `chipfire.library` has the calls, and `find_library()` its file.
+A copy of the folder has no version to compare with the library's, and does not call it.
 
 The usual words of sandpiles are found under these names:
 

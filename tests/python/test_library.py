@@ -240,6 +240,18 @@ class Ways(WithFolder):
         self.assertRegex(str(told[0].message), r"libchipfire.so has version [0-9.]+, and the package 0.0.1")
 
     @unittest.skipUnless(IS_HERE, "the library is not called")
+    def test_a_copy_of_the_folder_has_no_version_and_calls_none(self):
+        copied = os.path.join(self.folder, "chipfire")
+        shutil.copytree(os.path.dirname(chipfire.__file__), copied, ignore=shutil.ignore_patterns("program", "version"))
+        built = os.path.dirname(os.path.realpath(chipfire.find_program()))
+        ask = "import chipfire; print(chipfire.find_library(), chipfire.plain(chipfire.path(2), [5, 0, 0]).fired)"
+        path = f"{built}:{os.environ['PATH']}"
+        environment = {"PYTHONPATH": self.folder, "PATH": path, "PYTHONDONTWRITEBYTECODE": "1"}
+        ran = subprocess.run([sys.executable, "-c", ask], env=environment, capture_output=True, encoding="utf-8")
+        self.assertRegex(ran.stderr, "libchipfire.so has version [0-9.]+, and the package unknown")
+        self.assertEqual(ran.stdout, f"None {chipfire.plain(chipfire.path(2), [5, 0, 0]).fired}\n")
+
+    @unittest.skipUnless(IS_HERE, "the library is not called")
     def test_it_lies_beside_the_program_or_where_one_installs_it(self):
         file, program = os.path.realpath(chipfire.find_library()), os.path.realpath(chipfire.find_program())
         ask = "import chipfire; print(chipfire.find_library())"

@@ -14,6 +14,11 @@ PAGE = f"{ROOT}/docs/tasks/from-c.md"
 EXAMPLE = f"{ROOT}/examples/c/grid.c"
 
 
+def text_of(path):
+    with open(path, encoding="utf-8") as file:
+        return file.read()
+
+
 class Names(Room):
     def names(self, path, *words):
         """Returns the names in a file that nm shows with these words."""
@@ -65,12 +70,21 @@ class Linked(Room):
 
 class Explained(Room):
     def test_each_fault_of_the_header(self):
-        with open(HEADER, encoding="ascii") as file:
-            table = file.read().partition("then the chips.")[2].partition("The faults of one game")[0]
+        table = text_of(HEADER).partition("then the chips.")[2].partition("The faults of one game")[0]
         numbers = re.findall(r"(?<![\^\d])([1-9]\d*) [a-z]", table)
         self.assertEqual(numbers, [*map(str, range(1, 14)), "26", "53", "90"])
         for number in numbers:
             self.assertRegex(self.runs(library.PROGRAM, "explain", number), rf"^fault {number} ")
+
+    def test_each_refusal_of_books(self):
+        """The program explains it, and FORMATS.md names the page that has it."""
+        header, formats = map(text_of, (HEADER, f"{ROOT}/docs/FORMATS.md"))
+        numbers = re.findall(r"^ \*     (4\d)  ", header, re.MULTILINE)
+        self.assertEqual(numbers, ["46", "47"])
+        page = re.search(r"^\| 46, 47 \|.*\(`(.*)`\) \|$", formats, re.MULTILINE)[1]
+        for number in numbers:
+            self.assertRegex(self.runs(library.PROGRAM, "explain", number), rf"^fault {number} ")
+            self.assertIn(f" with {number} if ", text_of(f"{ROOT}/docs/{page}"))
 
 
 class Built(Room):
@@ -93,7 +107,6 @@ class Built(Room):
             self.assertEqual(self.runs(program), "")
 
     def test_the_example_answers_what_the_page_shows(self):
-        with open(PAGE, encoding="utf-8") as file:
-            shown = re.search(r"^\$ \./grid\n(.*?)^(?:\$|```)", file.read(), re.DOTALL | re.MULTILINE)[1]
+        shown = re.search(r"^\$ \./grid\n(.*?)^(?:\$|```)", text_of(PAGE), re.DOTALL | re.MULTILINE)[1]
         for program in self.programs(EXAMPLE):
             self.assertEqual(self.runs(program), shown)

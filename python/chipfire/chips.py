@@ -163,6 +163,8 @@ def played_many(graph: Graph, chips: Sequence[int], program: FileName | None) ->
         return graph.with_loops(left), fired
     found = library.play(graph, chips, program)
     left, fired, stopped = found or (array("Q"), array("Q"), 0)
+    if not found and not chips:
+        ask(program, "check", [("graph", graph.kept)], graph=graph, begins="vertices ")
     for start in () if found else range(0, len(chips), graph.vertices or 1):
         files = [("graph", graph.kept), ("chips", Kept([chips_text(chips[start : start + graph.vertices]).encode()]))]
         told = json.loads(ask(program, "plain", files, graph=graph))

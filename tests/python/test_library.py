@@ -57,6 +57,8 @@ class Many(unittest.TestCase):
                 wanted = [slow_report(graph, row).chips for row in rows]
                 self.assertEqual([tuple(row) for row in chipfire.stabilize_many(graph, rows)], wanted)
         self.assertEqual(len(chipfire.stabilize_many(TRIANGLE, [])), 0)
+        with self.assertRaisesRegex(chipfire.Fault, "fault 2 Sink"):
+            chipfire.stabilize_many(chipfire.Graph(2, 2, [(0, 1)]), [])
 
     def test_all_small_configurations_are_recurrent_that_more_chips_lead_to(self):
         for graph in SMALL:

@@ -119,8 +119,8 @@ uint64_t chipfire_verify(uint64_t vertices, uint64_t sink,
  *
  * Each call answers 0, or 46 or 47, and then nothing has changed:
  *
- *     46      there is no such edge, or a count is too high, or the books are not sound, where that is seen
- *     47      so many messages may not be acknowledged yet
+ *     46      there is no such edge, or a count is too high, or the books are not sound, if that is seen
+ *     47      not all of these messages may be acknowledged yet
  *
  * A call that answers 0 keeps sound books sound. Of others nothing is promised, but it touches no memory except theirs.
  * chipfire_books_check tells which are sound; the other calls look at one edge, and at all only if they must add up.

@@ -29,7 +29,7 @@ def are_sound(ins, outs, parent):
 
 
 def changed(side, edge, messages, answered):
-    """The side with so many more messages and answers on the edge."""
+    """The side with this number of messages and answers more on the edge."""
     return tuple((e, m + messages * (e == edge), a + answered * (e == edge)) for e, m, a in side)
 
 
@@ -93,6 +93,11 @@ class Small(unittest.TestCase):
     def test_which_are_sound(self):
         for books in self.books():
             self.assertEqual(check(*books), 0 if are_sound(*books) else 46, books)
+
+    def test_no_edge_has_the_number_of_none(self):
+        for last, status in (NEUTRAL - 1, 0), (NEUTRAL, 46):
+            self.assertEqual(check(((3, 1, 0), (last, 1, 0)), (), 3), status)
+            self.assertEqual(check((), ((3, 1, 0), (last, 0, 0)), NEUTRAL), status)
 
     def test_each_call_on_sound_ones(self):
         for books in filter(lambda it: are_sound(*it), self.books()):

@@ -2,12 +2,12 @@
 
 ghost use Rattle.std.specs.Prelude.{◌≡◌, ℕ, ◌↔◌, true, List, IsTrue, MatchResult};
 ghost use Rattle.chip_detect.specs.declared.tallies.Tally.{Tally};
-ghost use Rattle.chip_detect.specs.Books.{IsSound, in_edges, deficit};
+ghost use Rattle.chip_detect.specs.Books.{in_edges, deficit};
 ghost use Rattle.chip_detect.specs.Acknowledging.{may_ack};
 ghost use Rattle.chip_detect.specs.Steps.{Got, Acked, Sent};
 ghost use Rattle.chip_diffusing.specs.Laws.{IsOver};
 ghost use Rattle.chip_library.specs.declared.detector.BooksFault.TheVariants.{NotSound};
-ghost use Rattle.chip_library.specs.PartBooks.{books_of, HasEdge, Notes, Tells, Settling};
+ghost use Rattle.chip_library.specs.PartBooks.{AreBooks, books_of, HasEdge, Notes, Tells, Settling};
 ghost use Rattle.chip_exports.specs.Status.{Status, status_of, count_of, flag_of, is_true};
 
 use chip_detect::Tally;
@@ -99,11 +99,11 @@ pub extern "C" fn chipfire_is_over(outs: &[Tally], ended: u64, over: &mut u64) -
     }
 }
 
-/// Whether the books are sound (`chip_library::detector::check`).
+/// Whether the books are sound, and no edge has the number of none (`chip_library::detector::check`).
 #[unsafe(no_mangle)]
 pub extern "C" fn chipfire_books_check(ins: &[Tally], outs: &[Tally], parent: u64) -> u64
-    ensures { Status {T = Unit {0}} result (λ done. MatchResult done (λ _. IsSound (books_of ins.now outs.now parent))
-        (λ fault. (fault ≡ NotSound) × (IsSound (books_of ins.now outs.now parent) → ⊥))) }
+    ensures { Status {T = Unit {0}} result (λ done. MatchResult done (λ _. AreBooks ins.now outs.now parent)
+        (λ fault. (fault ≡ NotSound) × (AreBooks ins.now outs.now parent → ⊥))) }
 {
     status(check(ins, outs, parent))
 }

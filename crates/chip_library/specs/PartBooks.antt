@@ -87,3 +87,13 @@ pub record IsFound (ts : List Tally) (e : ℕ) (slot : Slot) (t : Tally) : Type 
 pub record Suits (ins : List Tally) (parent : Option ℕ) : Type 0 where
   pub engaged : (p : ℕ) → parent ≡ Some p → 0 < open_on ins p
   pub neutral_owes : parent ≡ None → all_open ins ≡ 0
+
+-- each has the number of an edge
+abbrev pub AreNumbered : List Tally → Type 0
+AreNumbered ts = (i : ℕ) → i < length ts → (tally_at ts i).edge < neutral
+
+-- sound books of edges that have numbers
+pub record AreBooks (ins outs : List Tally) (parent : ℕ) : Type 0 where
+  pub ins_have : AreNumbered ins
+  pub outs_have : AreNumbered outs
+  pub sound : IsSound (books_of ins outs parent)

@@ -8,12 +8,13 @@ ghost use Rattle.std.specs.Prelude.{◌≡◌, ℕ, ◌↔◌, true, List, IsTru
 ghost use Rattle.std.specs.List.Sorted.{IsStrictlyIncreasing};
 ghost use Rattle.chip_detect.specs.declared.tallies.Tally.{Tally};
 ghost use Rattle.chip_detect.specs.Tally.{AreTallies, edges_of, all_open};
-ghost use Rattle.chip_detect.specs.Books.{IsSound, in_edges, deficit};
+ghost use Rattle.chip_detect.specs.Books.{in_edges, deficit};
 ghost use Rattle.chip_detect.specs.Acknowledging.{may_ack};
 ghost use Rattle.chip_detect.specs.Steps.{Got, Acked, Sent};
 ghost use Rattle.chip_diffusing.specs.Laws.{IsOver};
 ghost use Rattle.chip_library.specs.declared.detector.BooksFault.TheVariants.{NotSound};
 ghost use Rattle.chip_library.specs.PartBooks.{books_of, parent_of, HasEdge, Notes, Tells, IsPossible, ArePossible, IsFound, Suits, Settling};
+ghost use Rattle.chip_library.specs.PartBooks.{AreNumbered, AreBooks};
 
 use chip_detect::{
     EDGE_LIMIT, MESSAGE_LIMIT, Slot, Tally, add_answers_at, add_message_at, may_ack_on_parent,
@@ -181,11 +182,17 @@ pub fn is_over(outs: &[Tally], ended: bool) -> Result<bool, BooksFault>
     }
 }
 
-/// Whether the books are sound.
+/// Whether the books are sound, and no edge has the number `NEUTRAL`.
 pub fn check(ins: &[Tally], outs: &[Tally], parent: u64) -> Result<(), BooksFault>
-    ensures { MatchResult result (λ _. IsSound (books_of ins.now outs.now parent))
-        (λ fault. (fault ≡ NotSound) × (IsSound (books_of ins.now outs.now parent) → ⊥)) }
+    ensures { MatchResult result (λ _. AreBooks ins.now outs.now parent)
+        (λ fault. (fault ≡ NotSound) × (AreBooks ins.now outs.now parent → ⊥)) }
 {
+    if !are_numbered(ins) {
+        return Err(BooksFault::NotSound);
+    }
+    if !are_numbered(outs) {
+        return Err(BooksFault::NotSound);
+    }
     if !are_sound(ins) {
         return Err(BooksFault::NotSound);
     }
@@ -240,6 +247,13 @@ fn all_open(tallies: &[Tally]) -> Option<u64>
         total += tally.open();
     }
     Some(total)
+}
+
+/// Whether each tally has the number of an edge.
+fn are_numbered(tallies: &[Tally]) -> bool
+    ensures { IsTrue result ↔ AreNumbered tallies.now }
+{
+    tallies.iter().all(|tally| tally.edge != NEUTRAL)
 }
 
 /// Whether the tallies of one side are sound.

@@ -80,6 +80,11 @@ fn garbage(rt: HostRuntime) {
         "an edge stands twice"
     );
     assert!(&rt;
+        check(&[tally(2, 1, 0), tally(NEUTRAL, 0, 0)], &[], 2) == refused
+            && check(&[], &[tally(NEUTRAL, 0, 0)], NEUTRAL) == refused,
+        "no edge has the number of none"
+    );
+    assert!(&rt;
         check(&[], &[tally(1, 0, 1)], NEUTRAL) == refused,
         "more is answered than there was"
     );

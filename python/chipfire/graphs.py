@@ -225,31 +225,23 @@ class Graph:
         try:
             return self._numbers[name]
         except (KeyError, TypeError):
-            is_square = isinstance(name, tuple) and isinstance(self.names, range) and len(name) == 2
-            found = self._on(name) if is_square and self.shape else None
-            if found is None:
-                hint = f": a square of it is (row, column), below {self.shape}" if is_square and self.shape else ""
-                raise KeyError(f"the graph has no vertex {name!r}{hint}") from None
-            return found
-
-    def _on(self, place: Any) -> int | None:
-        """The vertex on a square (row, column), if there is one."""
-        height, width = self.shape or (0, 0)
-        row, column = place
-        if row not in range(height) or column not in range(width):
-            return None
-        square = width * int(row) + int(column)
-        if isinstance(self.squares, range):
-            return square if square in self.squares else None
-        return self._by_square.get(square)
+            hint = ""
+            if isinstance(name, tuple) and len(name) == 2 and isinstance(self.names, range) and self.shape:
+                hint, (height, width) = f": a square of it is (row, column), below {self.shape}", self.shape
+                if name[0] in range(height) and name[1] in range(width):
+                    square = width * int(name[0]) + int(name[1])
+                    if square in self._by_square:
+                        return self._by_square[square]
+            raise KeyError(f"the graph has no vertex {name!r}{hint}") from None
 
     @functools.cached_property
-    def _by_square(self) -> dict[int, int]:
-        return {square: vertex for vertex, square in enumerate(self.squares)}
+    def _by_square(self) -> Sequence[int] | dict[int, int]:
+        """The vertices by their squares."""
+        return self.squares if isinstance(self.squares, range) else dict(zip(self.squares, itertools.count()))
 
     @functools.cached_property
     def _numbers(self) -> dict[Hashable, int]:
-        return {name: vertex for vertex, name in enumerate(self.names)}
+        return dict(zip(self.names, itertools.count()))
 
     def degrees(self) -> tuple[int, ...]:
         """How many chips each vertex sends away when it fires, by numbers; 0 for the sink."""
@@ -330,13 +322,10 @@ class Graph:
     @property
     def loop_free(self) -> Graph:
         """The same graph without loops."""
-        if not self.loops:
-            return self
-        if "loop_free" not in self.answers:
+        if self.loops and "loop_free" not in self.answers:
             self.answers["loop_free"] = copy.copy(self)
             vars(self.answers["loop_free"]).update(loops=(), answers={})
-        found: Graph = self.answers["loop_free"]
-        return found
+        return self.answers.get("loop_free", self)
 
     def without_loops(self, chips: Sequence[int]) -> Sequence[int]:
         """The chips of one game after another, as plays of `loop_free` begin: less by the loops. A vertex that has
@@ -435,7 +424,7 @@ def grid(
     given = [whole(it, f"the {word}", 1) for it, word in zip((width, height, *more), _WORDS)]
     joined = [*periodic] if isinstance(periodic, Iterable) else [periodic] * len(given)
     if not any(joined) and not more and lattice == "square" and isinstance(loss, int) and loss == 0:
-        return _plain_grid(width, height)
+        return _plain_grid(*given)
     if lattice not in _BESIDE or more and lattice != "square":
         raise ValueError(f"no lattice of {len(given)} directions is named {lattice!r}; there are {', '.join(_BESIDE)}")
     if len(joined) != len(given) or len(given) < 2 + len(more):
@@ -448,29 +437,30 @@ def grid(
     losses = Graph(sink + 1, sink, Columns(*(array("i") for _ in range(3))), shape=shape).numbers(loss, 0, "lost chips")
     if all(joined) and not any(losses):
         raise ValueError("no chip leaves a grid that is periodic on all sides: it takes a loss")
-    edges = _lattice_edges(extents, joined[::-1], lattice, losses)
+    edges = _lattice_edges(extents, joined[::-1], lattice, range(sink), losses)
     return Graph(sink + 1, sink, edges, shape=shape, from_sink=None)
 
 
 def _lattice_edges(
-    extents: Sequence[int], joined: Sequence[bool], lattice: str, losses: Sequence[int]
+    extents: Sequence[int], joined: Sequence[bool], lattice: str, squares: Sequence[int], losses: Sequence[int]
 ) -> list[tuple[int, int, int]]:
-    """The edges of a lattice by rows, and the `losses` of each vertex besides."""
+    """The edges of the `squares` of a lattice that are vertices, by rows, and the `losses` of each vertex besides."""
     units = [tuple(int(it == place) for it in range(len(extents))) for place in range(len(extents))]
     square = [*(tuple(-it for it in unit) for unit in units), *reversed(units)]
     ways = [square, square] if lattice == "square" else [[*some] for some in _BESIDE[lattice]]
     heads = {way: _moved(extents, joined, way) for some in ways for way in some}
-    edges, sink = [], math.prod(extents)
-    for vertex, place in enumerate(itertools.product(*map(range, extents))):
-        beside = [heads[way][vertex] for way in ways[sum(place) % 2]]
-        edges += [(vertex, head, 1) for head in beside if head >= 0]
-        if lost := losses[vertex] + sum(head < 0 for head in beside):
-            edges.append((vertex, sink, lost))
+    edges, numbers = [], dict(zip(squares, itertools.count()))
+    for at, place in enumerate(itertools.product(*map(range, extents))):
+        if at in numbers:
+            vertex, beside = numbers[at], [numbers.get(heads[way][at]) for way in ways[sum(place) % 2]]
+            edges += [(vertex, head, 1) for head in beside if head is not None]
+            if lost := losses[vertex] + beside.count(None):
+                edges.append((vertex, len(squares), lost))
     return edges
 
 
 def _moved(extents: Sequence[int], joined: Sequence[bool], way: Sequence[int]) -> list[int]:
-    """The number of the vertex that lies one way from each; below 0 if there is none."""
+    """The square that lies one way from each; below 0 if there is none."""
     axes: list[list[int]] = []
     stride = 1
     for extent, is_joined, step in [*zip(extents, joined, way)][::-1]:
@@ -494,44 +484,25 @@ def grid_for(chips: int) -> Graph:
 
 
 def _plain_grid(width: int, height: int) -> Graph:
-    """The grid of two directions, whose every border loses chips."""
-    width, height = whole(width, "the width", 1), whole(height, "the height", 1)
-    sink, inner = width * height, range(width, width * (height - 1)) if width > 1 else range(0)
+    """The grid of two directions, whose every border loses chips: rows between the first and the last are alike."""
+    sink, few, alike = width * height, width * min(height, 3), max(height - 2, 1)
+    squares, columns = array("i", range(sink)), Columns(array("i"), array("i"), array("i"))
+    edges = _lattice_edges((min(height, 3), width), (False, False), "square", range(few), [0] * few)
+    for row, first, rows in ((0, 0, 1), (1, 0, alike), (2, alike - 1, 1)):
 
-    def at(row: int, column: int) -> int | None:
-        return width * row + column if 0 <= row < height and 0 <= column < width else None
+        def below(vertex: int) -> array[int]:
+            """A vertex and those below it in these rows, or the sink as often."""
+            start = vertex + width * first
+            return array("i", [sink]) * rows if vertex == few else squares[start : start + width * rows : width]
 
-    def edges(squares: range) -> Columns:
-        return _columns(_beside([(it, *divmod(it, width)) for it in squares], at, "square", sink))
-
-    if not inner:
-        return Graph(sink + 1, sink, edges(range(sink)), shape=(height, width), from_sink=None)
-    # (between the first row and the last each square has four edges: up, left, right, down, or some to the sink)
-    squares, tails = array("i", range(sink)), array("i", [0]) * (4 * len(inner))
-    heads = tails[:]
-    for place, way in enumerate((-width, -1, 1, width)):
-        tails[place::4] = squares[width:-width]
-        heads[place::4] = squares[width + way : width + way + len(inner)]
-    step, sinks = 4 * width, array("i", [sink]) * (height - 2)
-    heads[1::step], heads[2::step], heads[3::step] = heads[2::step], heads[3::step], sinks
-    heads[step - 2 :: step], heads[step - 1 :: step] = heads[step - 1 :: step], sinks
-    middle = Columns(tails, heads, array("i", [1]) * len(tails))
-    parts = zip(edges(range(width)), middle, edges(range(sink - width, sink)))
-    columns = Columns(*(one + two + three for one, two, three in parts))
+        one = [edge for edge in edges if edge[0] // width == row]
+        part = [array("i", [0]) * (rows * len(one)) for _ in columns]
+        for place, (tail, head, mult) in enumerate(one):
+            for numbers, its in zip(part, (below(tail), below(head), array("i", [mult]) * rows)):
+                numbers[place :: len(one)] = its
+        for column, more in zip(columns, part):
+            column.extend(more)
     return Graph(sink + 1, sink, columns, shape=(height, width), from_sink=None)
-
-
-def _beside(
-    squares: Iterable[tuple[int, int, int]], at: Callable[[int, int], int | None], lattice: str, sink: int
-) -> list[tuple[int, int, int]]:
-    """The edges out of squares (vertex, row, column) to those beside them, and to the sink if there is none."""
-    edges = []
-    for vertex, row, column in squares:
-        beside = [at(row + down, column + right) for down, right in _BESIDE[lattice][(row + column) % 2]]
-        edges += [(vertex, head, 1) for head in beside if head is not None]
-        if None in beside:
-            edges.append((vertex, sink, beside.count(None)))
-    return edges
 
 
 def region(mask: Iterable[Iterable[Any]], lattice: str = "square") -> Graph:
@@ -547,9 +518,7 @@ def region(mask: Iterable[Iterable[Any]], lattice: str = "square") -> Graph:
     squares = [width * y + x for y, row in enumerate(rows) for x, is_there in enumerate(row) if is_there]
     if {*map(len, rows)} != {width} or not squares:
         raise ValueError("a mask has rows of one length, and a square that is true")
-    numbers = {divmod(square, width): vertex for vertex, square in enumerate(squares)}
-    found = ((vertex, *place) for place, vertex in numbers.items())
-    edges = _beside(found, lambda row, column: numbers.get((row, column)), lattice, len(squares))
+    edges = _lattice_edges((len(rows), width), (False, False), lattice, squares, [0] * len(squares))
     return Graph(len(squares) + 1, len(squares), edges, shape=(len(rows), width), squares=squares, from_sink=None)
 
 

@@ -2,19 +2,16 @@
 
     python -m chipfire page GRAPH CHIPS SCHEDULE >run.html
     python -m chipfire page GRAPH CHIPS TRACE >run.html
-    python -m chipfire wrong NAME [GRAPH CHIPS] >wrong.html
-    python -m chipfire wrong FILE.py:CLASS [GRAPH CHIPS] >wrong.html
-    python -m chipfire choose NAME [GRAPH CHIPS] >choose.html
-    python -m chipfire choose FILE.py:CLASS [GRAPH CHIPS] >choose.html
-    python -m chipfire explore NAME [GRAPH CHIPS]
-    python -m chipfire explore FILE.py:CLASS [GRAPH CHIPS]
+    python -m chipfire wrong DETECTOR [GRAPH CHIPS] >wrong.html
+    python -m chipfire choose DETECTOR [GRAPH CHIPS] >choose.html
+    python -m chipfire explore DETECTOR [GRAPH CHIPS]
     python -m chipfire judge GRAPH CHIPS LOG
     python -m chipfire judge LOG
 
-`explore` ends with status 0 if the detector never closes the root too early and can always close it, 2 if it can close
-it too early, 3 if it can miss the end, and 4 if there are too many states to tell. `judge` ends with 0 if all claims of
-the log are true, 2 if one is false, and 3 if the log misses the end; with LOG alone it is the program's `judge`. An
-error is 1.
+DETECTOR is a name or FILE.py:CLASS. `explore` ends with status 0 if the detector never closes the root too early and
+can always close it, 2 if it can close it too early, 3 if it can miss the end, and 4 if there are too many states to
+tell. `judge` ends with 0 if all claims of the log are true, 2 if one is false, and 3 if the log misses the end; with
+LOG alone it is the program's `judge`. An error is 1.
 """
 
 from __future__ import annotations
@@ -85,24 +82,19 @@ def _detector(name: str) -> Detector:
     return made
 
 
-def _wrong(asked: argparse.Namespace) -> str:
+def _tried(asked: argparse.Namespace) -> str:
+    """The page of a detector that is tried."""
     setting = _setting(asked.game, asked) if asked.game else None
-    places = asked.positions and _positions(asked.positions)
-    return wrong_page_text(_detector(asked.name), setting, title=asked.title, positions=places, program=asked.program)
-
-
-def _choose(asked: argparse.Namespace) -> str:
-    setting = _setting(asked.game, asked) if asked.game else None
-    places = asked.positions and _positions(asked.positions)
-    return choice_page_text(_detector(asked.name), setting, title=asked.title, positions=places)
+    options = {"title": asked.title, "positions": asked.positions and _positions(asked.positions)}
+    options |= {"program": asked.program} if asked.text is wrong_page_text else {}
+    return str(asked.text(_detector(asked.name), setting, **options))
 
 
 def _explore(asked: argparse.Namespace) -> tuple[str, int]:
     """What is found, with the shortest schedule, and the status."""
     detector, known = _detector(asked.name), known_detector(asked.name if asked.name in DETECTORS else "right").game
     options: dict[str, Any] = {"limit": asked.limit, "ring": asked.ring, "fed": bool(asked.feed)}
-    files = asked.game
-    setting = _setting(files, asked, **options) if files else Setting(known.graph, known.chips, **options)
+    setting = _setting(asked.game, asked, **options) if asked.game else Setting(known.graph, known.chips, **options)
     found = explore(setting, detector, most=asked.most, feeds=asked.feed, seals=asked.seal)
     missed = found.lost if found.lost is not None else found.stuck
     shown = missed if found.schedule is None else found.schedule
@@ -123,59 +115,6 @@ def _judge(asked: argparse.Namespace) -> tuple[str, int]:
     return f"{judged}\n", 2 if not judged.is_true else 3 if judged.is_missed else 0
 
 
-def _add_pages(commands: Any) -> list[argparse.ArgumentParser]:
-    """The commands that write a page."""
-    says = "writes a page of HTML on which a run can be watched event by event"
-    page = commands.add_parser("page", help=says, description=says)
-    page.add_argument("graph", metavar="GRAPH", help="a graph file")
-    page.add_argument("chips", metavar="CHIPS", help="a chips file")
-    page.add_argument("events", metavar="SCHEDULE", help="a schedule, or the trace of a recorded run (run --trace)")
-    page.add_argument("--limit", type=int, metavar="F", help="how often each vertex may fire")
-    page.add_argument("--ring", type=int, metavar="R", help="how many cells the ring of an edge has")
-    page.add_argument("--rounds", type=int, metavar="N", help="how many rounds of turns follow a schedule at most")
-    page.add_argument("--fed", action="store_true", help="the schedule may feed chips")
-    page.set_defaults(make=_page)
-    says = "writes a page of the shortest schedule on which a wrong detector says too early that all is over"
-    wrong = commands.add_parser("wrong", help=says, description=f"{says}, beside the right one")
-    wrong.add_argument("name", metavar="DETECTOR", help=f"FILE.py:CLASS, or one of {', '.join(DETECTORS)}")
-    wrong.add_argument("game", metavar="GRAPH CHIPS", nargs="*", help="another game than that of the detector")
-    wrong.set_defaults(make=_wrong)
-    says = "writes a page on which one picks each event among those that may happen"
-    choose = commands.add_parser("choose", help=says, description=f"{says}, on a game of at most 2,000 states")
-    choose.add_argument("name", metavar="DETECTOR", help=f"FILE.py:CLASS, or one of {', '.join(DETECTORS)}")
-    choose.add_argument("game", metavar="GRAPH CHIPS", nargs="*", help="another game than that of the detector")
-    choose.set_defaults(make=_choose)
-    for command in (page, wrong, choose):
-        command.add_argument("--title", metavar="TEXT", help="what stands above the page")
-        command.add_argument("--positions", metavar="FILE", help="where the vertices stand: rows vertex,right,down")
-    return [page, wrong, choose]
-
-
-def _add_verdicts(commands: Any) -> list[argparse.ArgumentParser]:
-    """The commands that tell by their status what they found."""
-    says = "tries all schedules of a small game: status 0 right, 2 too early, 3 can miss the end, 4 too many states"
-    found = commands.add_parser("explore", help=says, description=says)
-    found.add_argument("name", metavar="DETECTOR", help=f"FILE.py:CLASS, or one of {', '.join(DETECTORS)}")
-    found.add_argument("game", metavar="GRAPH CHIPS", nargs="*", help="another game than that of the detector")
-    found.add_argument("--most", type=int, default=100_000, metavar="N", help="how many states are looked at")
-    found.add_argument("--limit", type=int, default=MAX_LIMIT, metavar="F", help="how often each vertex may fire")
-    found.add_argument("--ring", type=int, default=1, metavar="R", help="how many cells the ring of an edge has")
-    says = "the root feeds so many chips on its edge, each feed after the others"
-    found.add_argument(
-        "--feed", type=int, nargs=2, action="append", default=[], metavar=("EDGE", "CHIPS"), help=says
-    )
-    found.add_argument("--seal", type=int, action="append", default=[], metavar="EDGE", help="it may be sealed")
-    found.set_defaults(make=_explore)
-    says = "judges a log: status 0 if its claims are true, 2 if one is false, 3 if it misses the end"
-    log = commands.add_parser("judge", help=says, description=says)
-    says = "GRAPH, CHIPS and a log of rows event,at,count,reply; or a log of any program alone"
-    log.add_argument("files", metavar="FILE", nargs="+", help=says)
-    log.add_argument("--also", action="append", default=[], metavar="EVENT", help="an event of its own detector")
-    log.add_argument("--fed", action="store_true", help="the root may feed chips")
-    log.set_defaults(make=_judge)
-    return [found, log]
-
-
 class _Parser(argparse.ArgumentParser):
     """A parser of arguments by which an error is 1, since 2 is a verdict."""
 
@@ -183,10 +122,49 @@ class _Parser(argparse.ArgumentParser):
         self.exit(1, f"{self.format_usage()}{self.prog}: error: {message}\n")
 
 
+def _add(commands: Any, name: str, says: str, more: str = "", **defaults: Any) -> argparse.ArgumentParser:
+    """Adds a command, what the list of all and its own help say of it, and what only its own help says more."""
+    command: argparse.ArgumentParser = commands.add_parser(name, help=says, description=says + more)
+    command.set_defaults(**defaults)
+    return command
+
+
 def _arguments() -> argparse.ArgumentParser:
     parser = _Parser(prog="python -m chipfire", description="chipfire's Python package.")
     commands = parser.add_subparsers(required=True, metavar="COMMAND")
-    for command in [*_add_pages(commands), *_add_verdicts(commands)]:
+    says = "writes a page of HTML on which a run can be watched event by event"
+    page = _add(commands, "page", says, make=_page)
+    says = "writes a page of the shortest schedule on which a wrong detector says too early that all is over"
+    wrong = _add(commands, "wrong", says, ", beside the right one", make=_tried, text=wrong_page_text)
+    says = "writes a page on which one picks each event among those that may happen"
+    choose = _add(commands, "choose", says, ", on a game of at most 2,000 states", make=_tried, text=choice_page_text)
+    says = "tries all schedules of a small game: status 0 right, 2 too early, 3 can miss the end, 4 too many states"
+    found = _add(commands, "explore", says, make=_explore)
+    says = "judges a log: status 0 if its claims are true, 2 if one is false, 3 if it misses the end"
+    log = _add(commands, "judge", says, make=_judge)
+    page.add_argument("graph", metavar="GRAPH", help="a graph file")
+    page.add_argument("chips", metavar="CHIPS", help="a chips file")
+    page.add_argument("events", metavar="SCHEDULE", help="a schedule, or the trace of a recorded run (run --trace)")
+    for command in (wrong, choose, found):
+        command.add_argument("name", metavar="DETECTOR", help=f"FILE.py:CLASS, or one of {', '.join(DETECTORS)}")
+        command.add_argument("game", metavar="GRAPH CHIPS", nargs="*", help="another game than that of the detector")
+    found.add_argument("--most", type=int, default=100_000, metavar="N", help="how many states are looked at")
+    for it, limit, ring in ((page, None, None), (found, MAX_LIMIT, 1)):
+        it.add_argument("--limit", type=int, default=limit, metavar="F", help="how often each vertex may fire")
+        it.add_argument("--ring", type=int, default=ring, metavar="R", help="how many cells the ring of an edge has")
+    page.add_argument("--rounds", type=int, metavar="N", help="how many rounds of turns follow a schedule at most")
+    page.add_argument("--fed", action="store_true", help="the schedule may feed chips")
+    for command in (page, wrong, choose):
+        command.add_argument("--title", metavar="TEXT", help="what stands above the page")
+        command.add_argument("--positions", metavar="FILE", help="where the vertices stand: rows vertex,right,down")
+    says = "the root feeds so many chips on its edge, each feed after the others"
+    found.add_argument("--feed", type=int, nargs=2, action="append", default=[], metavar=("EDGE", "CHIPS"), help=says)
+    found.add_argument("--seal", type=int, action="append", default=[], metavar="EDGE", help="it may be sealed")
+    says = "GRAPH, CHIPS and a log of rows event,at,count,reply; or a log of any program alone"
+    log.add_argument("files", metavar="FILE", nargs="+", help=says)
+    log.add_argument("--also", action="append", default=[], metavar="EVENT", help="an event of its own detector")
+    log.add_argument("--fed", action="store_true", help="the root may feed chips")
+    for command in (page, wrong, choose, found, log):
         command.add_argument("--program", metavar="FILE", help="the program chipfire, if not the one that is found")
     return parser
 

@@ -6,7 +6,6 @@ import json
 import operator
 from collections.abc import Sequence
 from dataclasses import dataclass
-from typing import Any
 
 from chipfire.chips import Configuration
 from chipfire.graphs import Graph

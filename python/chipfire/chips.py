@@ -202,8 +202,7 @@ def once(question: Callable[[Graph, FileName | None], T]) -> Callable[[Graph, Fi
 
 @once
 def burning(graph: Graph, program: FileName | None) -> tuple[Sequence[int], Sequence[int]]:
-    """The least burning script, and the chips that it takes away, by numbers. The script is one more than the counts of
-    a play that begins with one chip less on each vertex than edges lead into it."""
+    """The least burning script, and the chips that it takes away, by numbers; `chipfire.burning_script` tells how."""
     graph, none = graph.loop_free, [0] * graph.vertices
     entering = graph.position_after(graph.degrees(), [1] * graph.vertices)
     start = Configuration(graph, [max(count - 1, 0) for count in entering])

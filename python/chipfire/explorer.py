@@ -85,8 +85,7 @@ def explore(
 
 
 class _Search:
-    """A search over numbered states. A move is a step with its replies, and has a number too. What a tail does to send
-    is one step."""
+    """A search over numbered states. A move is a step with its replies, and has a number too."""
 
     def __init__(
         self, setting: Game, detector: Detector, most: int, whole_sends: bool, feeds: Iterable[Sequence[int]],

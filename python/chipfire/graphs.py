@@ -328,8 +328,7 @@ class Graph:
         return self.answers.get("loop_free", self)
 
     def without_loops(self, chips: Sequence[int]) -> Sequence[int]:
-        """The chips of one game after another, as plays of `loop_free` begin: less by the loops. A vertex that has
-        fewer chips than loops is refused by name."""
+        """The chips of one game after another, as plays of `loop_free` begin: less by the loops, or else refused."""
         found = [*map(operator.sub, chips, itertools.cycle(self.loops))] if self.loops else chips
         for at, (left, loops) in enumerate(zip(found, itertools.cycle(self.loops))):
             if left < 0 < loops:

@@ -35,8 +35,7 @@ def columns_of(graph: Graph) -> int | None:
 
 
 def places_of(graph: Graph, started: Iterable[int], given: Mapping[Any, Point] | None = None) -> Places:
-    """The places of a graph of which the root sends chips to the vertices `started`: those that are given, by names;
-    else those of a grid; else they come from distances along edges."""
+    """The places of a graph whose root sends chips to the vertices `started`: given by names, of a grid, or found."""
     if given is not None:
         for name in graph.names:
             if name not in given or not all(map(math.isfinite, given[name])):
@@ -65,8 +64,7 @@ def _in_rows(count: int, columns: int) -> list[Point]:
 
 
 def _from_distances(graph: Graph, started: Sequence[int]) -> Places:
-    """Places as far from each other as the walks between them are long: who gets the first chips up, and the sink down.
-    The root stands above who gets its chips. What would be much higher than wide is laid on its side."""
+    """Places as far from each other as the walks between them are long, the sink below who gets the root's chips."""
     points = _stressed(_distances(graph))
     down = points[graph.sink]
     away = down - (sum(points[vertex] for vertex in started) / len(started) if started else down)
@@ -75,7 +73,7 @@ def _from_distances(graph: Graph, started: Sequence[int]) -> Places:
     across = [vertices[vertex][0] for vertex in started or [graph.sink]]
     root = (round(sum(across) / len(across), 3), min(down for _, down in vertices) - 1)
     widths, heights = zip(*vertices, root)
-    if max(heights) - min(heights) > 2 * (max(widths) - min(widths)) + 1:
+    if max(heights) - min(heights) > 2 * (max(widths) - min(widths)) + 1:  # (what is so high is laid on its side)
         vertices, root = [(down, across) for across, down in vertices], root[::-1]
     return Places(vertices, root)
 
@@ -98,10 +96,9 @@ def _distances(graph: Graph) -> list[list[int]]:
 
 
 def _stressed(distances: Sequence[Sequence[int]]) -> list[complex]:
-    """Points whose distances come near to those that are wanted, near ones above all: stress majorization. It begins on
-    a circle, and moves each point to the mean of the places that the others want, each weighed by its nearness."""
+    """Points whose distances come near to those that are wanted, near ones above all: stress majorization."""
     size = len(distances)
-    points = [cmath.rect(size / 6, 2 * math.pi * vertex / size) for vertex in range(size)]
+    points = [cmath.rect(size / 6, 2 * math.pi * vertex / size) for vertex in range(size)]  # (on a circle at first)
     for _ in range(min(2000, 1_000_000 // size**2 + 1) if size > 1 else 0):
         for vertex, wanted in enumerate(distances):
             total, weights = 0j, 0.0

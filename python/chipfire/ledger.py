@@ -1,8 +1,7 @@
 """What stands where after each event of a simulation: a game of the model that is compared with the program's answers.
 
-A `Ledger` plays the schedule on `chipfire.model`, and shows the chips and firings of each vertex, the messages of each
-edge, and what the detector has in its books. It compares each reply with that of the program (`note`), after each event
-the books (`compare`), and at the end the report (`close`). docs/CORE.md says what each event does.
+A `Ledger` plays the schedule on `chipfire.model`, and shows what stands in vertices, edges and books. It compares each
+reply with the program's (`note`), after each event the books (`compare`), and at the end the report (`close`).
 """
 
 from __future__ import annotations
@@ -61,9 +60,7 @@ class Ledger:
         return {"chips": its.chips, "fired": its.fired, "halted": halted, "parent": its.parent, "deficit": deficit}
 
     def _edges(self, edge: int) -> dict[str, Any]:
-        """An edge: what is pending on it, the chips of the message that is claimed and not put, the messages in its
-        cells as (place, chips), what its tail noted of cell and claim, its seal; and how many messages were sent,
-        taken, acknowledged and settled, and how many acknowledgements its head owes."""
+        """An edge: its chips, its messages, those in cells as (place, chips), and what its ends noted of them."""
         its = self.core.edges[edge]
         return {
             "pending": its.pending, "claimed": self._carried(its.sent[its.put :]),

@@ -126,8 +126,7 @@ def _judged(text: str, rows: _Rows | None, gone: Mapping[Hashable, int]) -> Judg
 
 
 class _Rows:
-    """Rows with any names. The place of row `i` of those that were given is 2i, and an odd one is that of a row that is
-    put in; a row that is none is empty."""
+    """Rows with any names. Row `i` of those that were given has place 2i, one that is put in an odd one."""
 
     def __init__(self, log: Iterable[Any], is_reactive: bool) -> None:
         self.given = list(log)
@@ -181,8 +180,7 @@ def _numbered(names: Iterable[Hashable]) -> dict[Any, int]:
 
 
 def _activity(rows: Iterable[tuple[int, Sequence[Any]]]) -> Iterator[tuple[int, Row]]:
-    """What is put in: `active` before the first row of a process that sends before it gets a message, and `passive`
-    behind the last that a process sends before it gets the next one."""
+    """What is put in: `active` before a first row that sends, `passive` behind the last one before a process gets."""
     first, last = dict[Hashable, int](), dict[Hashable, int]()
     for place, (process, kind, _) in (it for it in rows if it[1]):
         begin = first.setdefault(process, place)
@@ -236,8 +234,7 @@ def _known(kind: Any) -> Any:
 
 
 class _Event(NamedTuple):
-    """An event of a log with clocks: its line, its host with the clock there, its kind, and its message: what its text
-    names, or the host and its count there, or None if it is got."""
+    """An event of a log with clocks. If its text does not name its message, that is the host and its count there."""
 
     line: int
     host: str

@@ -213,10 +213,7 @@ class _Recorded(_Spelled):
 
 
 def spell_trace(setting: Setting, trace: Sequence[TraceRow]) -> tuple[Event, ...] | None:
-    """Events in which each vertex takes and fires what its rows in a trace say, and in their order.
-
-    Sends come as soon as there is room in the rings, acknowledgements as soon as they are allowed. The rows of a run
-    are all played, if the rings of the setting have as many cells as those of the run had; else it may be None."""
+    """Events in which each vertex takes and fires what its rows in a trace say; None if the rings are too small."""
     core, made = opened(setting, _Recorded), -1
     core.rows = [deque() for _ in core.vertices]
     for row in trace:
@@ -228,10 +225,8 @@ def spell_trace(setting: Setting, trace: Sequence[TraceRow]) -> tuple[Event, ...
 
 
 def spelled_out(simulation: Simulation, program: AnyProgram = None) -> Simulation:
-    """What the program answers to a simulation now: a reply and a board for each event, and no rounds after them.
-
-    It is asked in any case, so that a page tells answers of the program and nothing else. If the simulation was told
-    others, that is a Disagreement."""
+    """What the program answers to a simulation now, with books, and the events of its rounds spelled out. If the
+    simulation was told anything else, that is a Disagreement."""
     setting, schedule, made_up = simulation.game, simulation.schedule, simulation.made_up
     if simulation.rounds:
         schedule = spell_rounds(setting, schedule, simulation.rounds)

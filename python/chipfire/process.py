@@ -68,8 +68,7 @@ class Fault(ValueError):
 
 
 class Kept:
-    """A file without a name that the program reads or writes. It goes with this object, or with Python, however that
-    ends."""
+    """A file without a name that the program reads or writes; it goes with this object, or when Python ends."""
 
     def __init__(self, parts: Iterable[bytes]) -> None:
         file = tempfile.TemporaryFile()
@@ -104,8 +103,7 @@ def version() -> str:
 
 @functools.cache
 def _released(repository: str) -> str | None:
-    """What starts the program in the release of a repository, if `./chipfire` there takes it: target/chipfire, once
-    that has put it there, or `./chipfire` itself."""
+    """What starts the program in the release of a repository, if `./chipfire` takes it: target/chipfire, or itself."""
     starter, taken = (os.path.join(repository, name) for name in ("chipfire", os.path.join("target", "chipfire")))
     if not os.path.isfile(os.path.join(repository, "release", "PROVED")) or not os.access(starter, os.X_OK):
         return None
@@ -216,11 +214,8 @@ def _bind(parent: int) -> None:
 
 
 def _started(words: Sequence[str], kept: Sequence[int] = ()) -> tuple[int, str, list[str]]:
-    """Runs the program to its end, or to that of this Python, and returns its status, its output, and the lines of its
-    errors. What it tells meanwhile of its progress goes to `sys.stderr`.
-
-    The signal that the end of this Python sends comes only to who has asked for it before. If this Python ends sooner,
-    setpriv, which asks first, does not find the program."""
+    """Runs the program to its end, or to that of this Python: its status, its output, and the lines of its errors."""
+    # (a signal of this Python's end comes to who has asked for it; if it ended sooner, setpriv finds no program)
     errors: list[str] = []
     program = shutil.which(words[0])
     if program is None:

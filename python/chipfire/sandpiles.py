@@ -171,8 +171,7 @@ def superstables(graph: AnyGraph, *, program: AnyProgram = None) -> Iterator[Con
 
 
 def _burns(graph: Graph, program: AnyProgram) -> Callable[[Sequence[int]], bool]:
-    """A test of chips. They are superstable if all firings of the burning script are given back, when each vertex gives
-    one back as long as it has less than nothing."""
+    """A test of chips: vertices below 0 give firings of the burning script back, all of them if it is superstable."""
     script, fuel = burning(graph, program)
     rows = [{head: less for head, less in row.items() if head != graph.sink} for row in smith.laplacian(graph)]
 

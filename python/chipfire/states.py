@@ -24,10 +24,8 @@ _CODE = (FunctionType, MethodType)
 
 
 def frozen(value: Any, is_part: Callable[[int], Any]) -> Any:
-    """A value that can be compared, equal for equal values: the value itself exactly if it cannot be changed.
-
-    `is_part` names the parts of the game by their `id`, which are not gone into. A TypeError says what is not compared.
-    """
+    """A value that can be compared, equal for equal values: the value itself exactly if it cannot be changed. `is_part`
+    names parts by their `id` that are not gone into; what cannot be compared is a TypeError."""
     made = type(value)
     if made in _PLAIN or isinstance(value, _FIXED):
         return value

@@ -31,14 +31,13 @@ class Ledger:
 
     def __init__(self, setting: Game, detector: Detector = "right") -> None:
         self.core = opened(setting, detector)
-        self.facts: State = {}
         #: The books of the engaged vertices.
         self._books: dict[int, Books] = {}
         self.look()
 
     def look(self) -> None:
         """Takes all facts from the game, which somebody else has changed."""
-        self.facts = {
+        self.facts: State = {
             "root": [self._root(0)],
             "vertices": list(map(self._vertices, range(len(self.core.vertices)))),
             "edges": list(map(self._edges, range(len(self.core.edges)))),
@@ -77,12 +76,13 @@ class Ledger:
     def note(self, event: Event, reply: Reply) -> list[Change]:
         """Makes an event that has this reply, and returns what it changed."""
         self._agree(f"{event.kind} {event.at}", str(reply), self.core.step(*event))
-        if not reply.is_done:
-            return []
+        return self._changes(self._touched(event)) if reply.is_done else []
+
+    def _changes(self, touched: list[tuple[str, int]]) -> list[Change]:
         changes = []
-        for kind, index in self._touched(event):
+        for kind, index in touched:
             before, now = self.facts[kind][index], getattr(self, f"_{kind}")(index)
-            changes += [(kind, index, name, value) for name, value in now.items() if before[name] != value]
+            changes += [(kind, index, name, value) for name, value in now.items() if before.get(name) != value]
             self.facts[kind][index] = now
             if kind == "vertices":
                 self._books.pop(index, None)
@@ -137,9 +137,4 @@ class ModelLedger(Ledger):
     def note(self, event: Event, reply: Reply) -> list[Change]:
         """Makes an event, and returns what it changed."""
         self.core.step(*event)
-        changes = []
-        for kind, rows in self.facts.items():
-            for index, before in enumerate(rows):
-                rows[index] = getattr(self, f"_{kind}")(index)
-                changes += [(kind, index, name, it) for name, it in rows[index].items() if before.get(name) != it]
-        return changes
+        return self._changes([(kind, index) for kind, rows in self.facts.items() for index in range(len(rows))])

@@ -16,8 +16,6 @@ from chipfire.values import FILE, MAX_CHIPS, FileName, read_rows, whole
 LOG_HEADER = ("event", "at", "count", "reply")
 CLAIM = "root"
 
-_Row = tuple[str, int, int, str]
-
 
 class Claim(NamedTuple):
     """What a row says of the root: "closed" or "open". It is false if the root is closed, and something is left."""
@@ -117,9 +115,13 @@ def judge(setting: Setting, log: Iterable[Sequence[Any]] | FileName, *, also: Co
     return Judged(row, told, right, True, tuple(claims), is_missed)
 
 
-def _rows(log: Iterable[Sequence[Any]] | FileName, also: Collection[str]) -> Iterator[_Row]:
+def _rows(log: Iterable[Sequence[Any]] | FileName, also: Collection[str]) -> Iterator[tuple[str, int, int, str]]:
     """The rows of a log, each with its numbers."""
-    for index, row in enumerate(_told(log)):
+    try:
+        told = list(read_rows(log, LOG_HEADER)) if isinstance(log, FILE) else log
+    except ValueError as error:
+        raise ValueError(f"{error}: this is no log of a detector of chip-firing") from None
+    for index, row in enumerate(told):
         if isinstance(row, str) or len(row) != len(LOG_HEADER):
             raise ValueError(f"row {index} has not {len(LOG_HEADER)} fields: {', '.join(LOG_HEADER)}")
         kind, at, count, reply = str(row[0]), *row[1:3], str(row[3]).strip()
@@ -131,16 +133,6 @@ def _rows(log: Iterable[Sequence[Any]] | FileName, also: Collection[str]) -> Ite
             raise ValueError(f"row {index} claims that the root is {reply!r}, which is neither closed nor open")
         numbers = [_number(value, f"row {index}: {name}") for name, value in (("at", at), ("count", count or 0))]
         yield kind, numbers[0], numbers[1], reply
-
-
-def _told(log: Iterable[Sequence[Any]] | FileName) -> Iterable[Sequence[Any]]:
-    """The rows as they come."""
-    if not isinstance(log, FILE):
-        return log
-    try:
-        return list(read_rows(log, LOG_HEADER))
-    except ValueError as error:
-        raise ValueError(f"{error}: this is no log of a detector of chip-firing") from None
 
 
 def _number(value: Any, what: str) -> int:

@@ -9,7 +9,7 @@ from __future__ import annotations
 import itertools
 import math
 from collections import Counter, defaultdict
-from typing import TypeVar
+from typing import Any, TypeVar
 
 from chipfire import smith
 from chipfire.chips import played_many
@@ -67,18 +67,13 @@ def avalanche_polynomial(
     _require_few(known, most)
     width, sink = known.vertices, known.sink
     inner = [vertex for vertex in range(width) if vertex != sink]
-    found: Counter[tuple[int, ...]] = Counter()
+    found: Counter[Any] = Counter()
     for chips in recurrents(known, program=program):
         dropped = ([count + (at == vertex) for at, count in enumerate(chips.numbers)] for vertex in inner)
         _, fired = played_many(known, [*itertools.chain.from_iterable(dropped)], program)
-        rows = (fired[at : at + width] for at in range(0, len(fired), width))
-        found.update(tuple(row[vertex] for vertex in inner) for row in rows)
-    if multivariable:
-        return _sorted(found)
-    sizes: Counter[int] = Counter()
-    for odometer, count in found.items():
-        sizes[sum(odometer)] += count
-    return _sorted(sizes)
+        odometers = ([fired[at + vertex] for vertex in inner] for at in range(0, len(fired), width))
+        found.update(tuple(counts) if multivariable else sum(counts) for counts in odometers)
+    return _sorted(found)
 
 
 def _require_few(graph: Graph, most: int) -> None:

@@ -23,9 +23,8 @@ class Computation:
     A vertex is passive until a message comes. It answers with messages on its own edges, and may then be at work: as
     long as it is, it goes on of itself, once all is sent, each time in one of some ways.
 
-    A state is a vertex of the model: what the computation knows stands in its attributes, and nowhere else. It has the
-    `number` of the vertex, and in `outs` the numbers of the edges from there; `chips`, `fired`, `halt` and `parent` are
-    the model's. States and loads are plain values.
+    A state is a vertex of the model: what the computation knows stands in its attributes alone, as plain values. It has
+    the vertex's `number`, and in `outs` its edges; `chips`, `fired`, `halt`, `parent` are the model's. Loads are plain.
     """
 
     #: The attributes that each state has at the start.
@@ -157,8 +156,7 @@ class Flooding(Computation):
 
 
 class ShortestPaths(Flooding):
-    """Finds how far it is to each vertex from the nearest start, if the multiplicity of an edge is its length: a vertex
-    that hears of a shorter way tells it on."""
+    """Finds how far it is to each vertex from the nearest start, if the multiplicity of an edge is its length."""
 
     begins: ClassVar[Mapping[str, Any]] = {"distance": None}
 

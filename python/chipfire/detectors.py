@@ -62,8 +62,7 @@ class _Otherwise(Core):
 
 
 class Probe(NamedTuple):
-    """What Safra's detector keeps: of each part what it sent less what it took, which parts are black, who has the
-    token, and what stands on it. The root is the last part."""
+    """What each part sent less what it took, the root last; which are black; who has the token, and what is on it."""
 
     counts: tuple[int, ...]
     black: frozenset[int]

@@ -1,7 +1,6 @@
 """Divisors of undirected graphs: chips on all vertices, the sink among them, which any vertex gives and takes.
 
-Whenever chips are stabilized, the program is asked, whose answer is proved. Sums and ranks are not; the tests compare
-them with what the words mean.
+Stabilizations are the program's, whose answer is proved. Sums and ranks are not; tests compare them with their words.
 """
 
 from __future__ import annotations

@@ -33,8 +33,7 @@ class Explored:
     stuck      a shortest schedule after which the root is open and nothing can happen; None if none was found
     lost       a shortest schedule after which the root is open and stays so, whatever happens, be it that nothing can
                happen or that events go on for ever; None if there is none, or if that was not tried
-    is_whole   whether these are all states. Else a schedule was found, or there are more than `most`; then `lost` was
-               not tried
+    is_whole   whether these are all states; else a schedule was found, or there are more than `most`, and no `lost`
     """
 
     states: int

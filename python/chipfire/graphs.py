@@ -220,8 +220,7 @@ class Graph:
         yield f'],"sink":{self.sink},"version":1,"vertices":{self.vertices}}}\n'.encode()
 
     def number(self, name: Hashable) -> int:
-        """The number of the vertex with this name, or on this square (row, column) of a graph with a shape and without
-        names; a KeyError says that there is none."""
+        """The number of the vertex with this name or, without names, on this square (row, column); else a KeyError."""
         try:
             return self._numbers[name]
         except (KeyError, TypeError):

@@ -23,9 +23,8 @@ class Group:
     graph    the graph, of up to 401 vertices, the sink among them; a ValueError tells if there are more
     factors  the invariant factors of the group, above 1 and ascending: each divides the next
 
-    The group has a generator for each factor. They are found in 0.1 s for 20 by 20 squares, and in 4 s for a
-    random graph of 400 vertices and degree 4; the generators as configurations take 2 s of the former.
-    Nothing of this is proved but the plays of `element`.
+    The group has a generator for each factor, found in 0.1 s for 20 by 20 squares, and as configurations in 2 s; in 4 s
+    for a random graph of 400 vertices and degree 4. Nothing of this is proved but the plays of `element`.
     """
 
     def __init__(self, graph: AnyGraph) -> None:
@@ -48,9 +47,8 @@ class Group:
     def element(self, coordinates: Sequence[int], *, program: AnyProgram = None) -> Configuration:
         """The recurrent configuration of these coordinates, of which there is a number for each factor.
 
-        It comes of the identity by chips that fall and are multiplied by 4, again and again: as many plays as half the
-        digits that the largest factor has in base 2.
-        Proved: the plays. Not proved: which chips fall."""
+        It comes of the identity by chips that fall and are multiplied by 4, again and again: in as many plays as the
+        largest factor has digits in base 4. Proved: the plays. Not proved: which chips fall."""
         times = wholes(list(coordinates), lambda at: f"coordinate {at}", None)
         if len(times) != len(self.factors):
             raise ValueError(f"there are {len(times)} coordinates, and the group has {len(self.factors)} factors")

@@ -124,8 +124,7 @@ def trace_text(trace: Iterable[Sequence[Any]]) -> str:
 
 def write_schedule(file: FileName, schedule: Iterable[Sequence[Any]], *, notes: bool = True) -> None:
     """Writes a schedule: a row for each event, which is a tuple of a kind, an edge or a vertex, and perhaps a count.
-    Notes, if there are any, are a fourth column, which this package and its page read. The program reads none (fault
-    23): without `notes` they are left out."""
+    Notes are a fourth column, which this package reads and the program does not (fault 23), but if `notes` is False."""
     events = Schedule(schedule)
     noted = ((*event, events.notes.get(index, "")) for index, event in enumerate(events))
     write(file, rows_text(NOTED_HEADER, noted) if events.notes and notes else rows_text(SCHEDULE_HEADER, events))
@@ -159,8 +158,7 @@ def read_trace(file: FileName) -> list[TraceRow]:
 
 @dataclass(frozen=True)
 class Reply:
-    """The reply to one event of a schedule: `kind` is its first word ("done", "got", "sent", "empty", "full", "sealed"
-    or "not-now"), `numbers` are those after it."""
+    """The reply to an event: "done", "got", "sent", "empty", "full", "sealed" or "not-now", and numbers after it."""
 
     kind: str
     numbers: tuple[int, ...] = ()
@@ -191,8 +189,7 @@ class Reply:
 
 @dataclass(frozen=True)
 class Books:
-    """The books of an engaged vertex: its parent edge, how many acknowledgements it waits for, and how many it owes on
-    each edge on which it owes some."""
+    """The books of an engaged vertex: its parent edge, how many acknowledgements it awaits, and owes on each edge."""
 
     parent: int | None
     deficit: int
@@ -222,9 +219,8 @@ def _engaged(line: str) -> tuple[int, Books]:
 
 @dataclass(frozen=True)
 class Setting:
-    """How a game is set up that a schedule plays: the graph, the chips of each vertex at the start, how often each may
-    fire, how many cells the ring of each edge has, and whether the schedule may feed chips. Chips of any form become
-    numbers by vertex."""
+    """A game that a schedule plays: the graph, the chips at the start, which may have any form, how often each vertex
+    may fire, how many cells the ring of each edge has, and whether the schedule may feed chips."""
 
     graph: Graph
     chips: tuple[int, ...]
@@ -246,8 +242,7 @@ class Simulation:
     """What a schedule came to: a reply for each event, the report if the root closed, and a board for each reply if the
     books were asked for. The rest is what was asked, and in words what of the schedule nobody wrote.
 
-    That the root is closed says that all is over. `report.closed` says besides that no limit and no seal stopped a
-    vertex."""
+    A closed root says that all is over; `report.closed` says besides that no limit and no seal stopped a vertex."""
 
     replies: tuple[Reply, ...]
     report: Report | None

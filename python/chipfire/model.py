@@ -7,8 +7,7 @@ It shares nothing with chipfire: every message stands in a row of its edge for g
 acknowledged and settled are numbers beside it. It expects files that are right, and checks nothing. It is not proved.
 
 A `Core` is one game. `step` makes an event, `enabled` lists those that would do something now, and `left` says what is
-still to do. The rule of the detector is in `may_ack` and `is_closed`; `chipfire.detectors` has classes with other
-rules.
+still to do. The detector's rule is in `may_ack` and `is_closed`; `chipfire.detectors` has others.
 """
 
 from __future__ import annotations
@@ -64,8 +63,7 @@ class Core:
     """A game, with the detector of Dijkstra and Scholten.
 
     What a detector of your own keeps stands in attributes of the game, of its edges or of its vertices, under any name:
-    all of them belong to the state that `chipfire.explore` tells from others. What the class has, globals, chance and
-    the clock do not.
+    they are the state that `chipfire.explore` tells from others. Classes, globals, chance and the clock are not.
     """
 
     #: Attributes that say nothing of what will happen, such as a count of polls: they are no part of the state.

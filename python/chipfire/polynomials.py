@@ -1,7 +1,6 @@
 """Polynomials of small graphs, as dicts from powers to coefficients: `sympy.Poly.from_dict` takes each of them.
 
-Avalanches are played by the program, whose answer is proved. All else here is not; the tests compare it with sums over
-all sets of edges and over all recurrent configurations.
+Avalanches are the program's, whose answer is proved. All else is not; tests compare it with sums over all cases.
 """
 
 from __future__ import annotations

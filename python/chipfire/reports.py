@@ -95,8 +95,7 @@ class Report(Drawn):
 
     @classmethod
     def read(cls, file: FileName, graph: Graph | None = None) -> Report:
-        """The report of a file. A graph that it cannot be of is refused: a vertex would have begun with less than no
-        chip, or could still fire, though nothing stopped it."""
+        """The report of a file. A graph that it cannot be of, as `fits` tells, is refused."""
         with open(file, encoding="utf-8", newline="") as text:
             report = cls.parse(text.read(), graph)
         if graph is not None and not report.fits(graph):

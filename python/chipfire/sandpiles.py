@@ -138,8 +138,7 @@ def recurrent_representative(graph: AnyGraph, chips: Chips, *, program: AnyProgr
 
 def superstable_representative(graph: AnyGraph, chips: Chips, *, program: AnyProgram = None) -> Configuration:
     """The one superstable configuration that is equivalent to this one, the q-reduced one; chips may be below 0.
-    With `m` the maximal stable configuration, it is `m` less the recurrent representative of `m` less this one. So it
-    is tested too.
+    With `m` the maximal stable one, it is `m` less the recurrent representative of `m` less this one, and so tested.
     Proved: the stabilizations. Not proved: the sums between them."""
     held = _held(graph, chips, program)
     most = held.graph.max_stable()

@@ -1,8 +1,7 @@
 """Games of a detector on the model: random schedules, a shrinker, and logs for ShiViz and `judge_log`.
 
-A game is a `Setting` of chip-firing, or a `Computation` of another kind. A detector is a name of
-`chipfire.detectors.DETECTORS` or a class of your own, made of `chipfire.model.Core`. Everything here is computed on
-that model and is not proved.
+A game is a `Setting` of chip-firing, or another `Computation`. A detector is a name of `chipfire.detectors.DETECTORS`
+or a class of your own, made of `chipfire.model.Core`. Everything here is computed on that model and is not proved.
 """
 
 from __future__ import annotations

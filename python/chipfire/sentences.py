@@ -20,8 +20,7 @@ def _numbers(count: Any) -> dict[str, str]:
 
 
 class Sentences:
-    """The words for what happens on one graph: in chip-firing, or in another computation, of which no vertex is a sink
-    and loads are told as they are."""
+    """The words for what happens on a graph: in chip-firing, or in a computation without a sink and with any loads."""
 
     def __init__(self, graph: Graph, is_firing: bool = True) -> None:
         self.graph, self.is_firing = graph, is_firing

@@ -20,7 +20,9 @@ from typing import Any, NamedTuple
 
 from chipfire.chips import Chips, Configuration, Sums
 from chipfire.process import Kept
-from chipfire.values import MAX_LARGE_EDGES, MAX_LARGE_VERTICES, MAX_MULT, FileName, counted, imported, whole, wholes
+from chipfire.values import (
+    MAX_LARGE_EDGES, MAX_LARGE_VERTICES, MAX_MULT, FileName, counted, imported, ordered, whole, wholes,
+)
 
 #: Which squares lie beside one of a lattice, as (rows down, columns to the right) by the parity of its row and column.
 _BESIDE: dict[str, Sequence[Sequence[tuple[int, int]]]] = {
@@ -169,7 +171,7 @@ class Graph:
         """The graph of edges (name, name) or (name, name, mult), each of which is one edge each way.
         The order of the names, or else that in which they come, gives the numbers. Sinks are as in `from_networkx`."""
         rows = _rows(edges)
-        return _named(_ordered(dict.fromkeys(name for row in rows for name in row[:2])), sink, rows, False)
+        return _named(ordered(dict.fromkeys(name for row in rows for name in row[:2])), sink, rows, False)
 
     @classmethod
     def read(cls, file: FileName) -> Graph:
@@ -562,15 +564,6 @@ def complete(vertices: int) -> Graph:
     return _both_ways(vertices, 0, itertools.combinations(range(vertices), 2))
 
 
-def _ordered(names: Iterable[Any]) -> list[Any]:
-    """Names in their order, or in that in which they come if they have none."""
-    names = list(names)
-    try:
-        return sorted(names)
-    except TypeError:
-        return names
-
-
 def _named(
     names: Iterable[Hashable], sink: Any, edges: Iterable[tuple[Any, ...]], is_directed: bool, loops: str | None = None,
     scale: int = 1,
@@ -651,7 +644,7 @@ def from_edges(
     if len({*map(len, columns)}) > 1:
         raise ValueError(f"the columns of edges have {' and '.join(str(len(it)) for it in columns)} rows")
     rows = _rows(zip(*columns))
-    names = _ordered(dict.fromkeys(name for row in rows for name in row[:2]))
+    names = ordered(dict.fromkeys(name for row in rows for name in row[:2]))
     return _named(names, sink, rows, directed, loops, weight_scale)
 
 
@@ -665,4 +658,4 @@ def from_sage(graph: Any, sink: Any = None, *, loops: str | None = None, weight_
         sink = graph.sink()
     labelled = ((tail, head, 1 if label is None else label) for tail, head, label in graph.edge_iterator(labels=True))
     edges = (edge for edge in labelled if edge[2] != 0)
-    return _named(_ordered(graph.vertex_iterator()), sink, edges, graph.is_directed(), loops, weight_scale)
+    return _named(ordered(graph.vertex_iterator()), sink, edges, graph.is_directed(), loops, weight_scale)

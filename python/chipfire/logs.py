@@ -5,8 +5,8 @@ A log is rows (process, kind, channel), those of a process in its order; docs/FO
 
 from __future__ import annotations
 
-import contextlib
 import csv
+import itertools
 import json
 import os
 import re
@@ -16,7 +16,7 @@ from dataclasses import dataclass
 from typing import Any, NamedTuple, Union
 
 from chipfire.process import Fault, Kept, ask
-from chipfire.values import FILE, FileName, rows_text
+from chipfire.values import FILE, FileName, ordered, rows_text
 
 _HEADER = ("process", "kind", "channel")
 _SENDS, _GETS = ("send", "tell"), ("receive", "hear")
@@ -133,8 +133,10 @@ class _Rows:
         self.rows = [(2 * index, _fields(row)) for index, row in enumerate(self.given)]
         if is_reactive:
             self.rows = sorted([*self.rows, *_activity(self.rows)], key=lambda it: it[0])
-        self.processes = _numbered(row[0] for _, row in self.rows if row)
-        self.channels = _numbered(row[2] for _, row in self.rows if row and row[1] in _SENDS + _GETS)
+        processes = dict.fromkeys(row[0] for _, row in self.rows if row)
+        channels = dict.fromkeys(row[2] for _, row in self.rows if row and row[1] in _SENDS + _GETS)
+        #: The numbers of names.
+        self.processes, self.channels = (dict(zip(ordered(it), itertools.count())) for it in (processes, channels))
         self.places: dict[Hashable, list[int]] = defaultdict(list)
         for place, row in self.rows:
             self.places[row[0] if row else None].append(place)
@@ -169,14 +171,6 @@ def _fields(row: Any) -> Sequence[Any]:
     """The fields of a row, or nothing if they are not three."""
     fields = tuple(row) if isinstance(row, Iterable) and not isinstance(row, (str, bytes)) else ()
     return fields if len(fields) == len(_HEADER) else ()
-
-
-def _numbered(names: Iterable[Hashable]) -> dict[Any, int]:
-    """A number for each name, in the order of names; or in that of the rows, if names have none."""
-    found: Iterable[Any] = dict.fromkeys(names)
-    with contextlib.suppress(TypeError):
-        found = sorted(found)
-    return {name: number for number, name in enumerate(found)}
 
 
 def _activity(rows: Iterable[tuple[int, Sequence[Any]]]) -> Iterator[tuple[int, Row]]:

@@ -63,6 +63,14 @@ def wholes(
     return [whole(value, what(place), least, most) for place, value in enumerate(values)]
 
 
+def ordered(names: Iterable[Any]) -> list[Any]:
+    """Names in their order, or in that in which they come if they have none."""
+    names = list(names)
+    with contextlib.suppress(TypeError):
+        return sorted(names)
+    return names
+
+
 def imported(name: str, wanted: str = "") -> Any:
     """A module of a library. If it is not installed, None, or an ImportError that says what was `wanted` of it."""
     try:

@@ -76,9 +76,19 @@ class Ledger:
     def note(self, event: Event, reply: Reply) -> list[Change]:
         """Makes an event that has this reply, and returns what it changed."""
         self._agree(f"{event.kind} {event.at}", str(reply), self.core.step(*event))
-        return self._changes(self._touched(event)) if reply.is_done else []
+        if not reply.is_done:
+            return []
+        core = self.core
+        if event.kind in ("fire", "halt", "read"):
+            edges, vertices = core.outs(event.at), [event.at]
+        else:
+            edge = core.edges[core.graph_edges if event.kind == "end" else event.at]
+            edges, vertices = [edge], [vertex for vertex in (edge.head, edge.tail) if vertex >= 0]
+        touched = [*(("edges", edge.number) for edge in edges), *(("vertices", it) for it in vertices), ("root", 0)]
+        return self._changes(touched)
 
     def _changes(self, touched: list[tuple[str, int]]) -> list[Change]:
+        """What has changed of these facts: edges, vertices, and the root."""
         changes = []
         for kind, index in touched:
             before, now = self.facts[kind][index], getattr(self, f"_{kind}")(index)
@@ -91,16 +101,6 @@ class Ledger:
                     owed = {edge: count for edge, count in owed.items() if count}
                     self._books[index] = Books(now["parent"], now["deficit"], owed)
         return changes
-
-    def _touched(self, event: Event) -> list[tuple[str, int]]:
-        """What an event may change: edges, vertices, and the root."""
-        core = self.core
-        if event.kind in ("fire", "halt", "read"):
-            edges, vertices = core.outs(event.at), [event.at]
-        else:
-            edge = core.edges[core.graph_edges if event.kind == "end" else event.at]
-            edges, vertices = [edge], [vertex for vertex in (edge.head, edge.tail) if vertex >= 0]
-        return [*(("edges", edge.number) for edge in edges), *(("vertices", it) for it in vertices), ("root", 0)]
 
     def compare(self, board: Board) -> None:
         """Compares what the detector has in its books with what the program says that it has."""

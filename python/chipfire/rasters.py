@@ -39,11 +39,8 @@ def write(file: FileName, frames: Sequence[Rows], colours: bytes, milliseconds: 
 
 def png(rows: Rows, colours: bytes) -> bytes:
     """The bytes of a PNG file: a table of colours, and a byte for each point."""
-
-    def chunk(kind: bytes, data: bytes) -> bytes:
-        return struct.pack(">I", len(data)) + kind + data + struct.pack(">I", zlib.crc32(kind + data))
-
     header = struct.pack(">IIBBBBB", len(rows[0]), len(rows), 8, 3, 0, 0, 0)
     points = zlib.compress(b"".join(b"\0" + row for row in rows))
     parts = (b"IHDR", header), (b"PLTE", colours), (b"IDAT", points), (b"IEND", b"")
-    return b"\x89PNG\r\n\x1a\n" + b"".join(chunk(*part) for part in parts)
+    chunks = (struct.pack(f">I4s{len(it)}sI", len(it), kind, it, zlib.crc32(kind + it)) for kind, it in parts)
+    return b"\x89PNG\r\n\x1a\n" + b"".join(chunks)

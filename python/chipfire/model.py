@@ -216,9 +216,8 @@ class Core:
 
     def cause(self, v: int) -> Union[str, None]:
         """What makes a vertex halt."""
-        for e in self._outs[v]:
-            if e.refused:
-                return "sealed"
+        if any([e.refused for e in self._outs[v]]):
+            return "sealed"
         is_over = self.vertices[v].fired == self.limit and self.is_legal(v) and not self.is_pending(v)
         return "over" if is_over else None
 

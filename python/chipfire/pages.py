@@ -56,13 +56,12 @@ def page_text(
     program: AnyProgram = None,
 ) -> str:
     """The text of the page that `page` writes."""
-    if isinstance(simulation, Play):
+    if isinstance(simulation, Play) or not simulation.made_up:  # (the rows of a recorded run are counted already)
         refuse_more(simulation.schedule)
+    if isinstance(simulation, Play):
         words = Words(simulation.game)
         data = model_data(simulation, words, positions) | {"words": list(words.numbers)}
         return filled(title, data, model_parts(simulation), "run-model.html", "drawing.html")
-    if not simulation.made_up:  # (the rows of a recorded run are counted already)
-        refuse_more(simulation.schedule)
     told = spelled_out(simulation, program)
     ledger, words = Ledger(told.game), Words(told.game)
     steps = [words.step(ledger, *row) for row in compared(told, ledger)]

@@ -78,13 +78,12 @@ class _Question:
     """What the program is asked about a graph, which may stand in a file."""
 
     def __init__(self, graph: AnyGraph, program: AnyProgram) -> None:
-        self.program, self.given, self.own = program, graph, None
-        if not isinstance(graph, FILE):
-            self.own = self.graph = known_graph(graph)
+        self.program, self.given = program, graph
+        self.own = None if isinstance(graph, FILE) else known_graph(graph)
 
     @functools.cached_property
     def graph(self) -> Graph:
-        return known_graph(self.given, self.program)
+        return self.own or known_graph(self.given, self.program)
 
     def numbers(self, given: Chips, of: str = "chips") -> Any:
         """What is given by the numbers of the vertices, if it is not the name of a file."""

@@ -113,12 +113,11 @@ def shrink(
         raise ValueError("nothing is wrong after this schedule, so there is nothing to shrink")
     size = len(kept)
     while size:
-        at = before = len(kept)
-        while at > 0:
+        before = len(kept)
+        for at in range(before, 0, -size):
             fewer = kept[: max(at - size, 0)] + kept[at:]
             if is_bad(played(setting, detector, fewer)):
                 kept = fewer
-            at -= size
         # (smaller pieces are tried then; one event at a time until none can be left out)
         size = size // 2 if size > 1 else int(len(kept) < before)
     return Schedule(kept)

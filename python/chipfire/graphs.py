@@ -20,9 +20,7 @@ from typing import Any, NamedTuple
 
 from chipfire.chips import Chips, Configuration, Sums
 from chipfire.process import Kept
-from chipfire.values import (
-    MAX_LARGE_EDGES, MAX_LARGE_VERTICES, MAX_MULT, FileName, counted, imported, ordered, whole, wholes,
-)
+from chipfire.values import MAX_LARGE_EDGES, MAX_LARGE_VERTICES, MAX_MULT, FileName, counted, ordered, whole, wholes
 
 #: Which squares lie beside one of a lattice, as (rows down, columns to the right) by the parity of its row and column.
 _BESIDE: dict[str, Sequence[Sequence[tuple[int, int]]]] = {
@@ -69,18 +67,6 @@ def _columns(edges: Iterable[Any]) -> Columns:
         return array("i", wholes([row[place] for row in rows], lambda edge: f"the {what} of edge {edge}", 0, 2**31 - 1))
 
     return Columns(column(0, "tail"), column(1, "head"), column(2, "multiplicity"))
-
-
-def _digits(numpy: Any, numbers: Any, end: bytes) -> Any:
-    """Numbers as rows of bytes, by an array of NumPy: their digits, after zero bytes, and an end."""
-    width = len(str(numbers.max()))
-    text = numpy.empty((len(numbers), width + len(end)), "u1")
-    text[:, width:] = numpy.frombuffer(end, "u1")
-    for place in reversed(range(width)):
-        left = numbers // 10
-        text[:, place] = (numbers - 10 * left + 48) * ((numbers > 0) | (place == width - 1))
-        numbers = left
-    return text
 
 
 class Graph:
@@ -208,17 +194,12 @@ class Graph:
         """The text of the graph file in parts."""
         self.refuse_loops()
         yield b'{"edges":['
-        numpy = imported("numpy")
         for start in range(0, len(self.columns.tails), _PART):
             part = [column[start : start + _PART] for column in self.columns]
-            if numpy:
-                fields = [_digits(numpy, numpy.array(column), end) for column, end in zip(part, (b",", b",", b"],["))]
-                text = numpy.hstack(fields).tobytes().translate(None, b"\0")
-            else:
-                numbers = array("i", bytes(4)) * (3 * len(part[0]))
-                numbers[::3], numbers[1::3], numbers[2::3] = part
-                text = ("%d,%d,%d],[" * len(part[0]) % tuple(numbers)).encode()
-            yield (b",[" if start else b"[") + text[:-2]
+            numbers = array("i", bytes(4)) * (3 * len(part[0]))
+            numbers[::3], numbers[1::3], numbers[2::3] = part
+            text = ("[%d,%d,%d]," * len(part[0]) % tuple(numbers)).encode()
+            yield b"," * (start > 0) + text[:-1]
         yield f'],"sink":{self.sink},"version":1,"vertices":{self.vertices}}}\n'.encode()
 
     def number(self, name: Hashable) -> int:

@@ -89,10 +89,10 @@ class Divisor(Sums):
         divisor, but not so if any r + 1 are; -1 if it is equivalent to none itself.
 
         By Riemann and Roch, r(D) - r(K - D) = degree - genus + 1 with K the canonical divisor. So the one of lower
-        degree is searched: what is left of it, up to equivalence, after one chip less and less. Of each degree there
-        are up to `order(graph)`, exponential in the number of vertices. A ValueError tells if more than `most` divisors
-        would be looked at. The usual 100,000 take some 15 s of 5 by 5 squares, and are enough for each graph of up to
-        10,000 spanning trees and genus 10. Nothing of this is proved, and the program is not asked."""
+        degree is searched: what is left of it, up to equivalence, after one chip less and less: of each degree up to
+        `order(graph)`. A ValueError tells if more than `most` divisors would be looked at. The usual 100,000 take some
+        15 s of 5 by 5 squares, and do for each graph of up to 10,000 spanning trees and genus 10.
+        Nothing of this is proved, and the program is not asked."""
         most, other = whole(most, "the most divisors", 1), canonical_divisor(self.graph) - self
         if other.degree < self.degree:
             return self.degree - genus(self.graph) + 1 + other.rank(most=most)

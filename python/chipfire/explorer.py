@@ -27,12 +27,11 @@ class Explored:
     """What all schedules of a game come to.
 
     states     how many states the game has, or had until a schedule was found, or `most`
-    schedule   a shortest schedule after which the root is closed and something is left; None if there is none among
-               these states
+    schedule   a shortest schedule after which the root is closed and something is left; None if none was found
     left       what is left then
     stuck      a shortest schedule after which the root is open and nothing can happen; None if none was found
-    lost       a shortest schedule after which the root is open and stays so, whatever happens, be it that nothing can
-               happen or that events go on for ever; None if there is none, or if that was not tried
+    lost       a shortest schedule after which the root is open and stays so, be it that nothing can happen or that
+               events go on for ever; None if there is none, or if that was not tried
     is_whole   whether these are all states; else a schedule was found, or there are more than `most`, and no `lost`
     """
 
@@ -73,13 +72,12 @@ def explore(
            any time, and feeds no more after that
     seals  edges of the graph that may be sealed, each at any time
 
-    Not tried are other chips, feeds and seals, other limits and rings than those of the setting, and messages that are
-    lost, come twice, or overtake one another on an edge.
+    Not tried are other chips, feeds, seals, limits and rings, and messages that are lost, come twice, or overtake.
 
     The state is all that stands in attributes of the game, its edges and its vertices, but for those that the class of
     the detector names in `not_state`. An attribute that cannot be compared is a ValueError. So is a detector that does
-    not do the same again when a schedule is played once more on a game of its own, because its state stands elsewhere
-    or because it asks chance or the clock; the schedules found are tried so, and 200 random ones."""
+    not do the same again on a game of its own, because its state stands elsewhere or it asks chance or the clock: the
+    schedules found are tried so, and 200 random ones."""
     return _Search(setting, detector, most, whole_sends, feeds, seals).result()
 
 

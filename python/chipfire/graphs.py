@@ -332,9 +332,9 @@ class Graph:
     def chips(self, chips: Chips) -> tuple[int, ...]:
         """Chips as one number for each vertex, 0 or more.
 
-        They come by names from what has items, as dicts and Series of pandas; as an array of the graph's shape, or rows
-        of one; as a sequence with a number for each vertex, or for each but the sink; as one number for each but the
-        sink; and a report has its own. A configuration goes by names. Both are refused if they are of another graph."""
+        They come by names from what has items, as dicts and Series of pandas, and from a configuration; as an array of
+        the graph's shape, or rows of one; as a sequence with a number for each vertex, or for each but the sink; as one
+        number for each but the sink; or from a report. Configurations and reports of another graph are refused."""
         return self.numbers(chips, least=0)
 
     def numbers(self, values: Any, least: int | None = None, of: str = "chips") -> tuple[int, ...]:
@@ -393,9 +393,8 @@ def _both_ways(vertices: int, sink: int, pairs: Iterable[tuple[int, int]], shape
 def grid(
     width: int, height: int, *more: int, periodic: bool | Sequence[bool] = False, loss: Any = 0, lattice: str = "square"
 ) -> Graph:
-    """The grid: vertex `width * row + column`, also called `(row, column)`, and the sink after them all.
-    A vertex on the border loses a chip to the sink on each side without a neighbour, so each has degree 4.
-    Sage: `sandpiles.Grid(height, width)`.
+    """The grid, in Sage `sandpiles.Grid(height, width)`: vertex `width * row + column`, or `(row, column)`, and the
+    sink after them all. On the border it loses a chip to the sink on each side without a neighbour: each has degree 4.
 
     With more sizes there are more directions: a third one has vertex `width * (height * layer + row) + column`, and a
     picture of it the layers one below the other. In a `periodic` direction, of 2 at least, the borders are joined: in
@@ -455,9 +454,8 @@ def grid_for(chips: int) -> Graph:
     """A square grid that `chips` chips on its middle do not leave; the middle is vertex `graph.sink // 2`.
 
     By Levine and Peres (2009, theorem 4.1), pi r^2 chips stay in a circle of radius (1 / sqrt(2) + e) r + c, for each e
-    above 0 and a number c that depends on e. Here e is 0 and c is 2, which is tried for all piles of up to 9,000 chips
-    and some greater ones, and not proved: a report whose sink has no chip says that it was enough. A million chips get
-    801 by 801 squares, and spread over 729 by 729."""
+    above 0 and some c. Here e is 0 and c is 2, tried for all piles of up to 9,000 chips and some greater ones, and not
+    proved: a report whose sink has no chip says that it was enough. A million chips get 801 by 801, and need 729."""
     half = math.isqrt(int(whole(chips, "the number of chips") / (2 * math.pi))) + 2
     if (2 * half + 1) ** 2 >= MAX_LARGE_VERTICES:
         raise ValueError(f"a square for {chips} chips has more than {MAX_LARGE_VERTICES} vertices")

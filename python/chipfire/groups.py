@@ -48,7 +48,8 @@ class Group:
         """The recurrent configuration of these coordinates, of which there is a number for each factor.
 
         It comes of the identity by chips that fall and are multiplied by 4, again and again: in as many plays as the
-        largest factor has digits in base 4. Proved: the plays. Not proved: which chips fall."""
+        largest factor has digits in base 4.
+        Proved: the plays. Not proved: which chips fall."""
         times = wholes(list(coordinates), lambda at: f"coordinate {at}", None)
         if len(times) != len(self.factors):
             raise ValueError(f"there are {len(times)} coordinates, and the group has {len(self.factors)} factors")

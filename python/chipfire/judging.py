@@ -30,8 +30,7 @@ class Claim(NamedTuple):
 class Judged:
     """What a log came to.
 
-    row       the index of the first row whose reply is not that of the right detector or does not fit the game; None if
-              there is none
+    row       the index of the first row whose reply is not the right detector's or does not fit the game, or None
     told      the log's reply there
     right     the right detector's
     fits      whether the game can go as the log says. If not, there is no verdict on what comes from that row on
@@ -94,8 +93,7 @@ def judge(setting: Setting, log: Iterable[Sequence[Any]] | FileName, *, also: Co
 
     Messages may be acknowledged and settled one by one. An edge holds as many messages as the log puts there, and may
     be said to be full when it holds one. A row that is none, an event that is neither known nor listed, and a log of
-    another computation are a ValueError.
-    """
+    another computation are a ValueError."""
     core = opened(setting)
     core.ring = MAX_CHIPS
     claims: list[Claim] = []

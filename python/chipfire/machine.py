@@ -49,8 +49,7 @@ def _event(kind: str, says: str) -> Callable[[Schedule, int], Schedule]:
 
 
 class Schedule(list[Event]):
-    """A list of events, with a method for each kind of event that adds one at the end. A note to an event is for those
-    who read the schedule or its page; the program never sees it."""
+    """A list of events, with a method that adds one for each kind. Notes to events are for readers alone."""
 
     def __init__(self, events: Iterable[Sequence[Any]] = ()) -> None:
         super().__init__(Event(*event) for event in events)

@@ -1,10 +1,8 @@
 """A page that shows a run of the machine event by event: one file of HTML, which asks for nothing else.
 
-`page(simulation, file)` writes it, `recorded(graph, chips, trace)` makes a simulation of a run that was recorded, and
-`play` plays on the model alone, which nothing is compared with then.
-Replies and books are the program's. What stands where is the model's, and so are the events of rounds and of recorded
-runs that nobody wrote down: a `Ledger` compares each reply, the books after each event, and the report at the end. The
-page simulates nothing: it gets the facts that each event changed.
+Replies and books are the program's, but for what `play` played on the model alone. What stands where is the model's,
+and so are the events of rounds and of recorded runs that nobody wrote down: a `Ledger` compares each reply, the books
+after each event, and the report at the end. The page simulates nothing: it gets the facts that each event changed.
 """
 
 from __future__ import annotations
@@ -43,8 +41,7 @@ def page(
     """Writes a page on which a run can be watched, event by event.
 
     simulation  what `simulate` or `recorded` answered, of at most 10,000 rows; the program is asked once more, with
-                books, and with the events of the rounds spelled out, if rounds of turns followed the schedule; or what
-                `play` answered, for which nothing is asked
+                books, and the events of rounds are spelled out; or what `play` answered, for which nothing is asked
     positions   where the vertices stand, by names: (to the right, down); else a grid is drawn as one, and other graphs
                 by the distances of their vertices, the same graph always alike
     program     the program to ask, if not the one that is found"""
@@ -138,8 +135,8 @@ def recorded(
     """A recorded run (`run` with `trace`) as a simulation with books: each vertex takes and fires what it wrote down.
 
     No trace tells when a vertex sent and acknowledged, nor how the rows of different vertices lie beside each other:
-    such events are made up, as early as they can be. Rows that do not fit together the program refuses (fault 70). The
-    ring is that of the run; if it is not told, the least of 1, 2, 4 and so on that plays all rows."""
+    such events are made up, as early as they can be. Rows that do not fit together are fault 70. The ring is that of
+    the run; if it is not told, the least of 1, 2, 4 and so on that plays all rows."""
     if isinstance(trace, FILE):
         refuse_more(trace)
     rows = read_trace(trace) if isinstance(trace, FILE) else [TraceRow(*row) for row in trace]

@@ -216,8 +216,7 @@ class Drawn:
         `columns` is how many squares stand in a row; a graph with a shape knows that. `positions` has the places of
         vertices by names instead, (to the right, down), each of which becomes a square. `palette` names colours,
         "colours", "greys" or "viridis", or has them, each as `#rrggbb`: of 0, 1, 2 .. chips, and the last one of all
-        larger numbers. With a `scale`, "linear" or "log", they are spread from 0 to the largest number instead; an
-        odometer has the linear one."""
+        larger numbers. With a `scale`, "linear" (of an odometer) or "log", they are spread from 0 to the largest."""
         values, sink = self._values(of), None if self.graph is None else self.graph.sink
         scale = "linear" if scale is None and of == "odometer" else scale
         colours = colours_of(palette or ("viridis" if scale else "colours"))

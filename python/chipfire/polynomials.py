@@ -27,8 +27,7 @@ MOST = 100_000
 
 
 def tutte_polynomial(graph: AnyGraph, *, most: int = MOST) -> dict[tuple[int, int], int]:
-    """The Tutte polynomial T(x, y) of an undirected graph, which counts multiplicities: the coefficient of x^i y^j at
-    (i, j).
+    """The Tutte polynomial T(x, y) of an undirected graph with multiplicities: the coefficient of x^i y^j at (i, j).
 
     The edges of one vertex after the other are deleted and contracted; smaller graphs that come out the same are one. A
     ValueError tells if there are more than `most` of them with one number of vertices. A complete graph of 8

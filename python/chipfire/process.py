@@ -133,7 +133,7 @@ def ask(
     graph: Graph | None = None, begins: str | tuple[str, ...] = '{"chips":[',
 ) -> str:
     """Runs a command, and returns what it writes, which `begins` so; a fault is raised. `graph` is the one that is
-    asked about, if Python has it. An option that is None or False is left out, and one that is True has no value."""
+    asked about, if Python has it. An option that is None or False is left out, and True is one without a value."""
     path = find_program() if program is None else os.fspath(program)
     options = {"large": command != "explain", **(options or {})}
     given = {name: value for name, value in options.items() if value is not None and value is not False}

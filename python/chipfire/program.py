@@ -183,9 +183,9 @@ def drops(
 ) -> Drops:
     """Drops one chip after another, or several at a time, each on what the play of the one before it left.
 
-    Before the first the chips are played to their end, if they are not stable. `vertices` are the names of the vertices
-    in the order of the drops, from an array or anything that can be gone through once, as `random_drops`; `amounts` are
-    as many numbers of chips. Or a name is that of a file of rows `vertex,chips`.
+    Before the first the chips are played to their end. `vertices` are names of vertices in the order of the drops, as
+    an array or gone through once, as `random_drops`; `amounts` are as many numbers of chips. Or a name is that of a
+    file of rows `vertex,chips`.
     Proved: each row, and the report. Not proved: that Python passes them on, and the histogram."""
     if isinstance(graph, Graph) and graph.loops:
         start = graph.without_loops(known_chips(graph, chips, program))
@@ -238,8 +238,8 @@ def simulate(
     program: AnyProgram = None,
 ) -> Simulation:
     """Runs a schedule on the detector: a reply for each event, and the report if the root is closed then, or after so
-    many rounds of turns. With `books` there is also what stands in the books after each event; if it is `fed`, the
-    schedule may give the vertices more chips, on the edges that come from the root."""
+    many rounds of turns; with `books` also what stands in the books after each event. If it is `fed`, the schedule may
+    give the vertices more chips, on the edges that come from the root."""
     question = _Question(graph, program)
     if not isinstance(schedule, FILE):
         schedule = Schedule(schedule)

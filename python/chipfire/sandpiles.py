@@ -48,10 +48,9 @@ def is_stable(graph: AnyGraph, chips: Chips) -> bool:
 
 
 def burning_script(graph: AnyGraph, *, program: AnyProgram = None) -> Configuration:
-    """The least burning script, by Speer: how often each vertex fires when a recurrent configuration burns.
-
-    It fires each vertex at least once, on an undirected graph exactly once, and leaves no vertex with more chips than
-    before. It is one more than the counts of a play that begins with one chip less on each vertex than edges lead in.
+    """The least burning script, by Speer: how often each vertex fires when a recurrent configuration burns: at least
+    once, on an undirected graph exactly once, and so that no vertex has more chips than before. It is one more than the
+    counts of a play that begins with one chip less on each vertex than edges lead in.
     Proved: the counts of that play. Not proved: that they are the script."""
     known = known_graph(graph, program)
     return Configuration(known, burning(known, program)[0])
@@ -79,8 +78,8 @@ def stabilize_many(
     """What lies there when no vertex can fire any more, of many configurations: a row for each, with a column for each
     vertex by numbers, where the sink has its chips too.
 
-    The configurations are rows of an array, or come in any form of chips. The answer is an array of NumPy if that is
-    installed, else a list of rows. `workers` threads play side by side.
+    They are rows of an array, or come in any form of chips. The answer is an array of NumPy if that is installed, else
+    a list of rows. `workers` threads play side by side.
     Proved: the chips. Not proved: that Python passes them on."""
     known, given = known_graph(graph, program), cast(Any, configurations)
     width, numpy = known.vertices, imported("numpy")
@@ -119,9 +118,8 @@ def _rows(graph: Graph, configurations: Any, least: int | None, program: AnyProg
 
 
 def recurrent_representative(graph: AnyGraph, chips: Chips, *, program: AnyProgram = None) -> Configuration:
-    """The one recurrent configuration to which firings, also backward, lead from this one; chips may be below 0.
-    It is the stable sum with the recurrent identity, after chips that are equivalent to none lifted all to 0 or more.
-    Whether it is recurrent is tested before it is returned.
+    """The one recurrent configuration to which firings, also backward, lead from this one; chips may be below 0. It is
+    the stable sum with the identity, after chips that are equivalent to none lifted all to 0 or more, and is tested.
     Proved: the stabilizations. Not proved: the sums between them."""
     held = _held(graph, chips, program)
     if min(held.numbers) < 0:
@@ -216,9 +214,9 @@ def to_scipy(graph: AnyGraph) -> Any:
 def to_networkx(graph: AnyGraph) -> Any:
     """The graph in NetworkX: a `Graph` if each edge leads both ways, and else a `DiGraph`.
 
-    Vertices have their names. The attribute "weight" of an edge is its multiplicity, with parallel edges as one, and
-    the graph's attribute "sink" is the name of the sink, which has its edges of `laplacian`. So
-    `from_networkx(it, it.graph["sink"])` plays the same. Loops are refused."""
+    Vertices have their names. The attribute "weight" of an edge is its multiplicity, parallel edges are one, and the
+    graph's attribute "sink" names the sink, which has its edges of `laplacian`. So `from_networkx(it,
+    it.graph["sink"])` plays the same. Loops are refused."""
     known, networkx = known_graph(graph), imported("networkx", "a graph of NetworkX is one of NetworkX")
     known.refuse_loops()
     kind, names = networkx.Graph if smith.is_undirected(known) else networkx.DiGraph, known.names
@@ -242,9 +240,8 @@ def _matrix(rows: list[smith.Row], sparse: bool) -> Any:
 def invariant_factors(graph: AnyGraph) -> tuple[int, ...]:
     """The invariant factors of the sandpile group, above 1 and ascending; each divides the next.
 
-    (4, 4) says that the group is that of the pairs of numbers modulo 4. A group of one element has none. A grid of 40
-    by 40 takes a second, one of 50 by 50 some four.
-    Nothing of this is proved, and the program is not asked."""
+    (4, 4) says that the group is that of the pairs of numbers modulo 4; one of one element has none. A grid of 40 by 40
+    takes a second, one of 50 by 50 some four. Nothing of this is proved, and the program is not asked."""
     return tuple(smith.invariant_factors(smith.reduced(known_graph(graph))))
 
 

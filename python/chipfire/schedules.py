@@ -54,8 +54,8 @@ def is_early(core: Core) -> bool:
 def random_schedule(setting: Game, seed: Any, detector: Detector = "right", *, most: int = 100_000) -> Schedule:
     """A schedule in which each event does something, drawn until the root is closed; the same seed draws the same.
 
-    With the right detector each such schedule closes the root. With another it may end because nothing can happen any
-    more. After `most` events it is cut, and its `ended` is False: the events of a detector may go round for ever."""
+    The right detector closes the root in each. With another it may end because nothing can happen any more. After
+    `most` events it is cut, and its `ended` is False: the events of a detector may go round for ever."""
     core, draw, made = opened(setting, detector), random.Random(seed), Schedule()
     whole(most, "most")
     while not core.is_closed() and (events := core.enabled()):
@@ -157,9 +157,8 @@ def model_log(setting: Game, detector: Detector, events: Iterable[Sequence[Any]]
     """A schedule as a log for `chipfire.judge_log`: vertices are processes, and the root is the one behind them.
 
     Messages of edge e are on channel e, and its acknowledgements go back there. With m edges, those of the root with
-    them, what a tail sees of the cells of e is told on m + e, and what it sees of a seal on 2m + e. A detector with
-    events of its own says in `tells` who tells whom. The root claims that all is over when it closes first.
-    """
+    them, what a tail sees of the cells of e is told on m + e, and of a seal on 2m + e. A detector with events of its
+    own says in `tells` who tells whom. The root claims that all is over when it closes first."""
     core = opened(setting, detector)
     root, is_over, seen = len(core.vertices), False, dict[tuple[str, int, int], _Acts]()
     log: list[_Acts] = [[(root, "active", 0)], *([(root, "send", e.number)] * e.put for e in core.edges)]

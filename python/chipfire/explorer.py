@@ -92,7 +92,15 @@ class _Search:
         self.most = whole(most, "most", 1)
         self.core: Core = opened(setting, detector)
         self.shared = _shared(self.core, setting)
-        self.feeds, self.seals = self._known_feeds(feeds), self._known_seals(seals)
+        self.feeds = [(whole(at, "the edge of a feed"), whole(count, "a feed", 1)) for at, count in feeds]
+        if self.feeds and not setting.fed:
+            raise ValueError("there are feeds, and the setting is not fed")
+        edges = range(self.core.graph_edges, len(self.core.edges))
+        if strange := [at for at, _ in self.feeds if at not in edges]:
+            raise ValueError(f"edge {strange[0]} is none of the root's, which are {edges.start} to {edges.stop - 1}")
+        self.seals = [whole(at, "the edge of a seal", 0, self.core.graph_edges - 1) for at in seals]
+        if self.seals and not isinstance(setting, Setting):
+            raise ValueError("there are seals, and the game is not one of chip-firing")
         self.opening = sum(len(e.sent) for e in self.core.outs(-1))
         self.states = States(self.core)
         start = self.states.noted()
@@ -107,21 +115,6 @@ class _Search:
         self.steps: list[Step] = []
         self.places_of_steps: dict[tuple[str, int, int], int] = {}
         self.is_whole = True
-
-    def _known_feeds(self, feeds: Iterable[Sequence[int]]) -> tuple[tuple[int, int], ...]:
-        found = tuple((whole(at, "the edge of a feed"), whole(count, "a feed", 1)) for at, count in feeds)
-        if found and not self.setting.fed:
-            raise ValueError("there are feeds, and the setting is not fed")
-        edges = range(self.core.graph_edges, len(self.core.edges))
-        if strange := [at for at, _ in found if at not in edges]:
-            raise ValueError(f"edge {strange[0]} is none of the root's, which are {edges.start} to {edges.stop - 1}")
-        return found
-
-    def _known_seals(self, seals: Iterable[int]) -> tuple[int, ...]:
-        found = tuple(whole(at, "the edge of a seal", 0, self.core.graph_edges - 1) for at in seals)
-        if found and not isinstance(self.setting, Setting):
-            raise ValueError("there are seals, and the game is not one of chip-firing")
-        return found
 
     def result(self) -> Explored:
         """Searches, and plays what was found once more."""

@@ -68,7 +68,11 @@ class Divisor(Sums):
         """The one equivalent divisor that is q-reduced, with q the vertex, or the sink if none is named: no vertex but
         q is below 0, and no vertices without q can fire together and stay so.
         Proved: the stabilizations. Not proved: the sums between them."""
-        graph = self.graph if vertex is None else _with_sink(self.graph, self.graph.number(vertex))
+        graph = self.graph
+        if vertex is not None:
+            sink, rows = graph.number(vertex), enumerate(smith.undirected(graph))
+            edges = [(u, v, -less) for u, row in rows if u != sink for v, less in row.items() if less < 0]
+            graph = Graph(graph.vertices, sink, edges, graph.names, from_sink=None)
         left = [*superstable_representative(graph, self.numbers, program=program).numbers]
         left[graph.sink] = self.degree - sum(left)
         return Divisor(self.graph, left)
@@ -156,10 +160,3 @@ def _reducer(graph: Graph) -> Callable[[list[int]], tuple[int, ...]]:
         return tuple(chips)
 
     return reduced
-
-
-def _with_sink(graph: Graph, sink: int) -> Graph:
-    """The same undirected graph with another sink."""
-    rows = enumerate(smith.undirected(graph))
-    edges = [(tail, head, -less) for tail, row in rows if tail != sink for head, less in row.items() if less < 0]
-    return Graph(graph.vertices, sink, edges, graph.names, from_sink=None)

@@ -139,7 +139,11 @@ def shiviz(setting: Game, events: Iterable[Sequence[Any]], detector: Detector = 
         kind, at, reply = event[0], event[1], core.step(*event)
         if reply.startswith("not-now") or reply in ("empty", "full"):
             continue
-        host = _host(core, kind, at)
+        host = str(at) if kind in ("fire", "halt", WORK) else "root"  # (who also writes down the stopper's seals)
+        if kind in ("take", "ack"):
+            host = str(core.edges[at].head)
+        elif kind in ("clear", "claim", "put", "settle") and core.edges[at].tail >= 0:
+            host = str(core.edges[at].tail)
         clock, seen = clocks[host], messages[at].popleft() if kind == "take" else {}
         seen = answers.get(at, {}) if kind == "settle" else seen
         clock |= {name: max(clock.get(name, 0), count) for name, count in seen.items()}
@@ -200,12 +204,3 @@ def _acts(core: Any, event: Event, seen: dict[tuple[str, int, int], _Acts]) -> _
     channel = many * (1 + (said == "sealed")) + at
     acts.append((root if said == "sealed" else e.head, "tell", channel))
     return [(tail, "hear", channel)]
-
-
-def _host(core: Core, kind: str, at: int) -> str:
-    """Who makes an event; the stopper's seals are written down for the root."""
-    if kind in ("take", "ack"):
-        return str(core.edges[at].head)
-    if kind in ("clear", "claim", "put", "settle") and core.edges[at].tail >= 0:
-        return str(core.edges[at].tail)
-    return str(at) if kind in ("fire", "halt", WORK) else "root"

@@ -113,10 +113,6 @@ class Firing(NamedTuple):
     count: int  # type: ignore[assignment]
 
 
-def schedule_text(schedule: Iterable[Sequence[Any]]) -> str:
-    return rows_text(SCHEDULE_HEADER, (Event(*event) for event in schedule))
-
-
 def trace_text(trace: Iterable[Sequence[Any]]) -> str:
     return rows_text(TRACE_HEADER, (TraceRow(*row) for row in trace))
 

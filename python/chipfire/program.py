@@ -16,11 +16,11 @@ from chipfire.dropped import ROWS_HEADER, Drops, columns_of, dropped_on, parts_o
 from chipfire.graphs import Graph
 from chipfire.logs import judge_log
 from chipfire.machine import (
-    Firing, Schedule, Setting, Simulation, has_notes, read_schedule, schedule_text, trace_text,
+    SCHEDULE_HEADER, Firing, Schedule, Setting, Simulation, has_notes, read_schedule, trace_text,
 )
 from chipfire.process import Fault, Input, Kept, ask, find_program
 from chipfire.reports import Report
-from chipfire.values import FILE, MAX_LIMIT, FileName, whole, write
+from chipfire.values import FILE, MAX_LIMIT, FileName, rows_text, whole, write
 
 if TYPE_CHECKING:
     from typing_extensions import Concatenate, ParamSpec
@@ -246,7 +246,7 @@ def simulate(
     elif has_notes(schedule):
         schedule = read_schedule(schedule)
     chips = chips if isinstance(chips, FILE) else question.graph.chips(chips)
-    files = [question.chips(chips), _input("schedule", schedule, schedule_text)]
+    files = [question.chips(chips), _input("schedule", schedule, lambda events: rows_text(SCHEDULE_HEADER, events))]
     text = question.ask("simulate", files, "", limit=limit, ring=ring, rounds=rounds, books=books, fed=fed)
     given = {name: int(value) for name, value in (("limit", limit), ("ring", ring)) if value is not None}
     setting = Setting(question.graph, known_chips(question.graph, chips, program), fed=fed, **given)

@@ -105,16 +105,10 @@ class Core:
         return v != self.sink and self.vertices[v].chips >= self._degrees[v]
 
     def is_pending(self, v: int) -> bool:
-        for e in self._outs[v]:  # (this is asked most often, and twice as fast as with any)
-            if e.pending:
-                return True
-        return False
+        return any([e.pending for e in self._outs[v]])  # (this is asked most often, and a list is quicker)
 
     def has_unput(self, v: int) -> bool:
-        for e in self._outs[v]:
-            if e.put < len(e.sent):
-                return True
-        return False
+        return any([e.put < len(e.sent) for e in self._outs[v]])
 
     def is_passive(self, v: int) -> bool:
         """Whether a vertex has nothing to do until another message comes."""

@@ -197,7 +197,8 @@ def read_json_lines(
     """The rows of logs of JSON lines, of one file or several, for `judge_log`.
 
     Each argument is a key of the object in a line, or a function that finds its value there; lists become tuples. If
-    `process` is None, each file is a process of its name. Lines of kind None are passed over. Errors name the line.
+    `process` is None, each file is a process of its name. A line whose kind is None is passed over. What is wrong is a
+    ValueError that names file and line.
     """
     rows: list[Row] = []
     for file in [files] if isinstance(files, FILE) else files:

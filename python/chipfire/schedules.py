@@ -7,7 +7,7 @@ or a class of your own, made of `chipfire.model.Core`. Everything here is comput
 from __future__ import annotations
 
 import random
-from collections import deque
+from collections import Counter, defaultdict, deque
 from collections.abc import Callable, Iterable, Sequence
 from dataclasses import dataclass
 from typing import Any, Union
@@ -129,10 +129,10 @@ def shiviz(setting: Game, events: Iterable[Sequence[Any]], detector: Detector = 
     Events of a detector's own, such as those of a token, are a ValueError: their clocks are not known. ShiViz reads the
     log with the expression `(?<host>\\S*) (?<clock>{.*})\\n(?<event>.*)`."""
     core, lines = opened(setting, detector), []
-    clocks: dict[str, dict[str, int]] = {name: {} for name in ["root", *map(str, range(setting.graph.vertices))]}
+    clocks: dict[str, Counter[str]] = defaultdict(Counter)
     #: The clocks that travel with the messages of an edge, and with its acknowledgements.
-    messages: dict[int, deque[dict[str, int]]] = {e.number: deque([{}] * e.put) for e in core.edges}
-    answers: dict[int, dict[str, int]] = {}
+    messages: dict[int, deque[Counter[str]]] = {e.number: deque([Counter()] * e.put) for e in core.edges}
+    answers: dict[int, Counter[str]] = defaultdict(Counter)
     for event in events:
         if event[0] not in (*EVENTS, WORK):
             raise ValueError(f"{event[0]} is an event of {detector_name(detector)}: what it carries is not known")
@@ -144,14 +144,14 @@ def shiviz(setting: Game, events: Iterable[Sequence[Any]], detector: Detector = 
             host = str(core.edges[at].head)
         elif kind in ("clear", "claim", "put", "settle") and core.edges[at].tail >= 0:
             host = str(core.edges[at].tail)
-        clock, seen = clocks[host], messages[at].popleft() if kind == "take" else {}
-        seen = answers.get(at, {}) if kind == "settle" else seen
-        clock |= {name: max(clock.get(name, 0), count) for name, count in seen.items()}
-        clock[host] = clock.get(host, 0) + 1
+        clock = clocks[host]
+        if kind in ("take", "settle"):
+            clock |= messages[at].popleft() if kind == "take" else answers[at]
+        clock[host] += 1
         if kind == "put":
-            messages[at].append(dict(clock))
+            messages[at].append(clock.copy())
         elif kind == "ack":
-            answers[at] = dict(clock)
+            answers[at] = clock.copy()
         told = ", ".join(f'"{name}":{count}' for name, count in sorted(clock.items()))
         lines += [f"{host} {{{told}}}", f"{kind} {at}: {reply}"]
     return "".join(f"{line}\n" for line in lines)

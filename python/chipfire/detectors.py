@@ -1,7 +1,6 @@
 """Detectors to try on `chipfire.model`: the right one with a condition left out, and two of another kind.
 
-`DETECTORS` has each by its name, with a small game on which `chipfire.explore` finds what is wrong with it. None of
-this is proved; `explore` looks at all schedules of one game.
+`DETECTORS` has each by its name, with a small game on which `chipfire.explore` finds what is wrong. None is proved.
 """
 
 from __future__ import annotations

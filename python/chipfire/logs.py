@@ -130,7 +130,8 @@ class _Rows:
 
     def __init__(self, log: Iterable[Any], is_reactive: bool) -> None:
         self.given = list(log)
-        self.rows = [(2 * index, _fields(row)) for index, row in enumerate(self.given)]
+        rows = [tuple(it) if isinstance(it, Iterable) and not isinstance(it, (str, bytes)) else () for it in self.given]
+        self.rows = [(2 * index, row if len(row) == len(_HEADER) else ()) for index, row in enumerate(rows)]
         if is_reactive:
             self.rows = sorted([*self.rows, *_activity(self.rows)], key=lambda it: it[0])
         processes = dict.fromkeys(row[0] for _, row in self.rows if row)
@@ -165,12 +166,6 @@ class _Rows:
             return told
         words = f"row {index} of the log is {self.given[index]!r}"
         return Fault(told.number, told.name, place, told.explanation, told.status, words)
-
-
-def _fields(row: Any) -> Sequence[Any]:
-    """The fields of a row, or nothing if they are not three."""
-    fields = tuple(row) if isinstance(row, Iterable) and not isinstance(row, (str, bytes)) else ()
-    return fields if len(fields) == len(_HEADER) else ()
 
 
 def _activity(rows: Iterable[tuple[int, Sequence[Any]]]) -> Iterator[tuple[int, Row]]:

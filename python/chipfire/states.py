@@ -1,8 +1,4 @@
-"""The state of a game on the model as a short tuple of numbers, and back.
-
-Of a detector it is all that stands in attributes of the game, its edges and its vertices, whatever their names and
-types. What is copied is copied deeply, and what cannot be compared is refused by its name.
-"""
+"""The state of a game on the model as a short tuple of numbers, and back; `explore` tells what belongs to it."""
 
 from __future__ import annotations
 
@@ -102,17 +98,6 @@ class States:
                 return numbers[key]
         except TypeError:
             self.readers[index] = numbers.get, ()
-        said = self._frozen(part, values)
-        if not all(map(operator.is_, said.values(), values.values())):
-            key = "attributes", frozenset(said.items())
-        if key not in numbers:
-            plain = {name: value for name, value in values.items() if said[name] is value}
-            moving = {name: value for name, value in values.items() if name not in plain}
-            numbers[key] = len(self.values[index])
-            self.values[index].append((plain, copy.deepcopy(moving, dict(self.same)), is_usual))
-        return numbers[key]
-
-    def _frozen(self, part: Any, values: dict[str, Any]) -> dict[str, Any]:
         said: dict[str, Any] = {}
         try:
             for name, value in values.items():
@@ -123,7 +108,14 @@ class States:
                 f"{type(part).__name__}.{name}, of type {type(value).__name__}, cannot be compared, so no state can be "
                 f"told from another: leave it out by not_state = ({name!r},), or keep what stands in it in plain values"
             ) from None
-        return said
+        if not all(map(operator.is_, said.values(), values.values())):
+            key = "attributes", frozenset(said.items())
+        if key not in numbers:
+            plain = {name: value for name, value in values.items() if said[name] is value}
+            moving = {name: value for name, value in values.items() if name not in plain}
+            numbers[key] = len(self.values[index])
+            self.values[index].append((plain, copy.deepcopy(moving, dict(self.same)), is_usual))
+        return numbers[key]
 
     def load(self, state: tuple[int, ...]) -> None:
         """Makes the game that of a state that was noted."""

@@ -36,11 +36,10 @@ The usual words of sandpiles are found under these names:
                                drops(graph, chips, vertices), with random_drops(graph, count, seed)
     many series of drops       chains(graph, n, drops, seed), from random_recurrent(graph, seed); power_law(sizes)
 
-`image` and `show` draw reports and configurations, `frames` draws plays. `page` makes a page for the browser on which
-one watches a run of the distributed machine, event by event, `wrong_page` one on which a wrong detector fails, and
-`choice_page` one on which one picks each event; `chipfire.machine` has the words of the machine (schedules, replies,
-books, traces). `explore`, `judge`, `play` and `random_schedule` compute in Python, on the small model of
-`chipfire.model`, and but for `judge` also on a `Computation` of another kind: `chipfire.computations` has some.
+`image` and `show` draw reports and configurations, `frames` draws plays. `page` makes a page on which one watches a run
+of the distributed machine, `wrong_page` one on which a wrong detector fails, `choice_page` one on which one picks each
+event; `chipfire.machine` has the machine's words (schedules, replies, books, traces). `explore`, `judge`, `play` and
+`random_schedule` compute on `chipfire.model`, all but `judge` also on a `Computation`: see `chipfire.computations`.
 
 `judge_log` judges the logs of any distributed program, with the program's verdicts. `read_json_lines` and `read_shiviz`
 read such logs, and `model_log` makes one of a schedule of the model.

@@ -85,9 +85,8 @@ def judge(setting: Setting, log: Iterable[Sequence[Any]] | FileName, *, also: Co
 
     It is a list of such rows, or a file whose header is event,at,count,reply. A row `root,0,0,closed` claims that the
     root is closed, and one with `open` that it is not. A claim is judged where it stands and by the game alone: what
-    was taken, fired and sent. So a detector that acknowledges otherwise than the right one has a first row that
-    differs, and may be right all the same. A log that ends with an open root has missed the end if nothing is left: log
-    until your machine is at rest.
+    was taken, fired and sent. So a detector that acknowledges otherwise than the right one has a row that differs, and
+    may be right. A log that ends with an open root missed the end if nothing is left: log until your machine rests.
 
     also  the events of the machine's own detector, such as those of a token, which are passed over
 

@@ -18,13 +18,10 @@ from chipfire.machine import Event, Reply, Schedule, Setting
 from chipfire.model import Core
 from chipfire.values import whole
 
-#: Chip-firing, or another computation.
 Game = Union[Setting, Computation]
-#: A name of DETECTORS, or a class.
 Detector = Union[str, type[Core]]
-#: The events of the machine; a detector of another kind has more.
+#: The events of the machine, and that of a computation in which a vertex goes on; a detector may have others.
 EVENTS = ("take", "ack", "fire", "clear", "claim", "put", "halt", "settle", "seal", "read", "feed", "end")
-#: The event of a computation in which a vertex goes on.
 WORK = "work"
 #: Rows of a log: process, kind, channel.
 _Acts = list[tuple[int, str, int]]

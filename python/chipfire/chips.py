@@ -93,8 +93,11 @@ class Sums(Mapping[Hashable, int]):
 class Configuration(Drawn, Sums):
     """The chips of all vertices of a graph but the sink, by names; they may be below 0. It is never changed.
 
-    `numbers` are the chips by the numbers of the vertices of its `graph`, 0 for the sink. NumPy takes it as the array
-    of its picture, and pandas as a Series, or in a DataFrame as `dict(configuration)`."""
+    graph    the graph
+    numbers  the chips by the numbers of the vertices, 0 for the sink
+
+    NumPy takes it as the array of its picture, and pandas as a Series, or in a DataFrame as `dict(configuration)`.
+    """
 
     graph: Graph
 

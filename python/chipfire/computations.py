@@ -197,8 +197,9 @@ class RandomWalk(Computation):
 class WorkStealing(Computation):
     """Fork and join on a tree of tasks: one of depth d forks into two of depth d - 1, and one of depth 0 is done.
 
-    A vertex works on its newest task. As long as it has more than one, a neighbour may steal the oldest and begin it at
-    once. All tasks are joined when the root is closed."""
+    A vertex works on its newest task. As long as it has more than one, a neighbour may steal the oldest, which begins
+    with it at once. All tasks are joined when the root is closed.
+    """
 
     begins: ClassVar[Mapping[str, Any]] = {"tasks": (), "done": 0}
 

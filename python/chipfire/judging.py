@@ -92,7 +92,8 @@ def judge(setting: Setting, log: Iterable[Sequence[Any]] | FileName, *, also: Co
 
     Messages may be acknowledged and settled one by one. An edge holds as many messages as the log puts there, and may
     be said to be full when it holds one. A row that is none, an event that is neither known nor listed, and a log of
-    another computation are a ValueError."""
+    another computation are a ValueError.
+    """
     core = opened(setting)
     core.ring = MAX_CHIPS
     claims: list[Claim] = []

@@ -18,8 +18,10 @@ MOST_BY_DISTANCE = 100
 
 @dataclass(frozen=True)
 class Places:
-    """Where each vertex stands, and the root, as (right, down); and the corners, upper left and lower right, of a frame
-    that stands for the sink, None if the sink has a place."""
+    """Where each vertex stands, and the root; a step to the right is 1 in the first number, one down in the second.
+
+    frame  the corners, upper left and lower right, of a frame that stands for the sink; None if the sink has a place
+    """
 
     vertices: Sequence[Point]
     root: Point

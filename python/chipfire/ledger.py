@@ -97,8 +97,8 @@ class Ledger:
             if kind == "vertices":
                 self._books.pop(index, None)
                 if now["parent"] is not None:
-                    owed = {edge.number: edge.delivered - edge.acked for edge in self.core.ins(index)}
-                    owed = {edge: count for edge, count in owed.items() if count}
+                    owing = (edge for edge in self.core.ins(index) if edge.delivered > edge.acked)
+                    owed = {edge.number: edge.delivered - edge.acked for edge in owing}
                     self._books[index] = Books(now["parent"], now["deficit"], owed)
         return changes
 

@@ -393,8 +393,7 @@ class Core:
         lines = [f"  root deficit {self.deficit(self.edges[self.graph_edges :])}"]
         for v, vertex in enumerate(self.vertices):
             if vertex.parent is not None:
-                owed = [(e.number, e.delivered - e.acked) for e in self.ins(v)]
-                owes = "".join(f" {edge}:{count}" for edge, count in owed if count)
+                owes = "".join(f" {e.number}:{e.delivered - e.acked}" for e in self.ins(v) if e.delivered > e.acked)
                 lines.append(f"  vertex {v} parent {vertex.parent} deficit {self.deficit(self.outs(v))} owes{owes}")
         return "\n".join(lines)
 

@@ -24,9 +24,10 @@ class Report(Drawn):
     over    the vertices that could fire once more and had fired as often as the limit allows
     sealed  the vertices that stopped because an edge was sealed
     prior   how often each vertex fired in the sittings before; None in a report of the first one
-    graph   the graph that was played on, if it is known, which is not in the report's text
+    graph   the graph that was played on, if it is known; it is not part of the report's text
 
-    Two reports are equal if all their numbers are, and so are their graphs, if both are known."""
+    Two reports are equal if all their numbers are, and so are their graphs, if both are known.
+    """
 
     chips: tuple[int, ...]
     fired: tuple[int, ...]

@@ -159,7 +159,8 @@ def model_log(setting: Game, detector: Detector, events: Iterable[Sequence[Any]]
 
     Messages of edge e are on channel e, and its acknowledgements go back there. With m edges, those of the root with
     them, what a tail sees of the cells of e is told on m + e, and of a seal on 2m + e. A detector with events of its
-    own says in `tells` who tells whom. The root claims that all is over when it closes first."""
+    own says in `tells` who tells whom. The root claims that all is over when it closes first.
+    """
     core = opened(setting, detector)
     root, is_over, seen = len(core.vertices), False, dict[tuple[str, int, int], _Acts]()
     log: list[_Acts] = [[(root, "active", 0)], *([(root, "send", e.number)] * e.put for e in core.edges)]

@@ -1,6 +1,7 @@
 """Detectors to try on `chipfire.model`: the right one with a condition left out, and two of another kind.
 
-`DETECTORS` has each by its name, with a small game on which `chipfire.explore` finds what is wrong. None is proved.
+`DETECTORS` has each by its name, with a small game on which `chipfire.explore` finds what is wrong. None is proved;
+`explore` looks at all schedules of one game.
 """
 
 from __future__ import annotations

@@ -76,7 +76,8 @@ def explore(
 
     The state is all that stands in attributes of the game, its edges and its vertices, but for those that the class of
     the detector names in `not_state`. An attribute that cannot be compared is a ValueError. So is a detector that does
-    not do the same again on a game of its own: the schedules found are played so, and 200 random ones."""
+    not do the same again on a game of its own, because its state stands elsewhere or it asks chance or the clock: the
+    schedules found are played so, and 200 random ones."""
     return _Search(setting, detector, most, whole_sends, feeds, seals).result()
 
 

@@ -310,7 +310,7 @@ class Graph:
         return self.answers.get("loop_free", self)
 
     def without_loops(self, chips: Sequence[int]) -> Sequence[int]:
-        """The chips of one game after another, as plays of `loop_free` begin: less by the loops, or else refused."""
+        """The chips of one game after another, as plays of `loop_free` begin: less by the loops. Fewer are refused."""
         found = [*map(operator.sub, chips, itertools.cycle(self.loops))] if self.loops else chips
         for at, (left, loops) in enumerate(zip(found, itertools.cycle(self.loops))):
             if left < 0 < loops:
@@ -597,8 +597,9 @@ def from_networkx(
     alone. Vertices keep their names; a list or a set of sinks becomes one vertex, the last, whose name is "sink".
 
     Loops are refused when something is played, or left out with `loops="drop"`. With `loops="sage"` they are those of
-    SageMath: a vertex needs a chip more to fire for each, or two for an undirected one, and keeps it in plays, drops,
-    and what is stable or recurrent; sums, orders, the identity and what is superstable are those without loops.
+    SageMath: a vertex needs a chip more to fire for each, or two for an undirected one, and keeps it. The game is that
+    without loops then, with the chips that vertices keep more: so are plays, drops, and what is stable or recurrent;
+    but not sums, orders, the identity and what is superstable. Nothing is played on fewer chips than loops.
 
     Rational weights are taken `weight_scale` times: 0.25 and `Fraction(3, 4)` with 4, and a chip is a quarter then."""
     edges = graph.edges(data=weight, default=1)

@@ -142,8 +142,8 @@ def _number(value: Any, what: str) -> int:
 
 
 def _answer(core: Core, kind: str, at: int, count: int, told: str) -> str:
-    """Makes an event of a log, and answers what the log says if that is right, and else what is. Right may be too to
-    acknowledge or settle less than one could, an edge full with one message, and a read once nothing is left."""
+    """Makes an event of a log, and answers what the log says if that is right, and else what is. A part may acknowledge
+    or settle less than it could, an edge be full with one message, and the root be read once nothing is left."""
     e = core.edges[at] if at < len(core.edges) else None
     word, *numbers = told.split() or [""]
     done = int(numbers[0]) if word == "done" and len(numbers) == 1 and numbers[0].isdecimal() else -1

@@ -169,7 +169,7 @@ class _Rows:
 
 
 def _activity(rows: Iterable[tuple[int, Sequence[Any]]]) -> Iterator[tuple[int, Row]]:
-    """What is put in: `active` before a first row that sends, `passive` behind the last one before a process gets."""
+    """What is put in: `active` before a first row that sends, `passive` behind the last sent before the next is got."""
     first, last = dict[Hashable, int](), dict[Hashable, int]()
     for place, (process, kind, _) in (it for it in rows if it[1]):
         begin = first.setdefault(process, place)

@@ -119,7 +119,7 @@ def trace_text(trace: Iterable[Sequence[Any]]) -> str:
 
 def write_schedule(file: FileName, schedule: Iterable[Sequence[Any]], *, notes: bool = True) -> None:
     """Writes a schedule: a row for each event, which is a tuple of a kind, an edge or a vertex, and perhaps a count.
-    Notes are a fourth column, which this package reads and the program does not (fault 23), but if `notes` is False."""
+    Notes are a fourth column, which only this package reads (the program: fault 23), and left out without `notes`."""
     events = Schedule(schedule)
     noted = ((*event, events.notes.get(index, "")) for index, event in enumerate(events))
     write(file, rows_text(NOTED_HEADER, noted) if events.notes and notes else rows_text(SCHEDULE_HEADER, events))

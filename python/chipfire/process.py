@@ -68,7 +68,7 @@ class Fault(ValueError):
 
 
 class Kept:
-    """A file without a name that the program reads or writes; it goes with this object, or when Python ends."""
+    """A file without a name that the program reads or writes. It goes with this object, or however Python ends."""
 
     def __init__(self, parts: Iterable[bytes]) -> None:
         file = tempfile.TemporaryFile()

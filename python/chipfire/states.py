@@ -1,4 +1,7 @@
-"""The state of a game on the model as a short tuple of numbers, and back; `explore` tells what belongs to it."""
+"""The state of a game on the model as a short tuple of numbers, and back; `explore` tells what belongs to it.
+
+What is copied is copied deeply, and what cannot be compared is refused by its name.
+"""
 
 from __future__ import annotations
 

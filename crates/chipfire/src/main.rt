@@ -144,8 +144,7 @@ fn serve<
     }
 }
 
-/// Plays a game on threads. It is never inlined: so the loop of `Root::poll` lies where it is quick (`docs/BENCHMARKS.md`).
-#[inline(never)]
+/// Plays a game on threads.
 fn play_on_threads<
     R: Files<File = File> + Input + Clock + Eprint + AllocGlobal + Threads + Wait + Sync,
     W: io::Write,

@@ -637,11 +637,11 @@ class Killed(WithFolder):
         return [int(line) for line in text_of(self.file(name)).splitlines(True) if line.endswith("\n")]
 
     def wait(self, is_so):
-        for _ in range(500):
+        for _ in range(2000):
             if is_so():
                 return
             time.sleep(0.02)
-        self.fail("it took more than ten seconds")
+        self.fail("it took more than forty seconds")
 
     @staticmethod
     def is_running(process):

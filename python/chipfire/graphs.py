@@ -402,6 +402,7 @@ def grid(
     in a form of chips one for each vertex. If all directions are periodic some is needed. The `lattice` is as in
     `region`; that of "hexagonal" has an even size if it is periodic."""
     given = [whole(it, f"the {word}", 1) for it, word in zip((width, height, *more), _WORDS)]
+    whole(math.prod(given), "the number of squares", 1, MAX_LARGE_VERTICES - 1)
     joined = [*periodic] if isinstance(periodic, Iterable) else [periodic] * len(given)
     if not any(joined) and not more and lattice == "square" and isinstance(loss, int) and loss == 0:
         return _plain_grid(*given)
@@ -510,7 +511,7 @@ def aztec(size: int) -> Graph:
 
 def path(length: int) -> Graph:
     """A path of `length` vertices whose two ends lose a chip to the sink, which is the last vertex."""
-    length = whole(length, "the length of a path", 1)
+    length = whole(length, "the length of a path", 1, MAX_LARGE_VERTICES - 1)
     edges = [(v, u, 1) for v in range(length) for u in (v - 1, v + 1) if 0 <= u < length]
     edges += [(0, length, 1), (length - 1, length, 1)]
     return Graph(length + 1, length, edges, shape=(1, length), from_sink=None)
@@ -518,20 +519,20 @@ def path(length: int) -> Graph:
 
 def cycle(length: int) -> Graph:
     """A cycle of `length` vertices, 3 at least, with edges both ways; vertex 0 is the sink."""
-    length = whole(length, "the length of a cycle", 3)
+    length = whole(length, "the length of a cycle", 3, MAX_LARGE_VERTICES)
     return _both_ways(length, 0, ((v, (v + 1) % length) for v in range(length)))
 
 
 def wheel(vertices: int) -> Graph:
     """A cycle of the vertices from 1 on, 3 at least, each beside the hub 0 too; the hub is the sink."""
-    rim = range(1, whole(vertices, "the number of vertices of a wheel", 4))
+    rim = range(1, whole(vertices, "the number of vertices of a wheel", 4, MAX_LARGE_VERTICES))
     return _both_ways(vertices, 0, [*((v, v % len(rim) + 1) for v in rim), *((v, 0) for v in rim)])
 
 
 def torus(width: int, height: int) -> Graph:
     """A grid whose borders are joined, 3 by 3 at least: vertex `width * row + column`; vertex 0 is the sink."""
     width, height = whole(width, "the width of a torus", 3), whole(height, "the height of a torus", 3)
-    size = width * height
+    size = whole(width * height, "the number of squares", 9, MAX_LARGE_VERTICES)
     right = ((v, v - v % width + (v + 1) % width) for v in range(size))
     below = ((v, (v + width) % size) for v in range(size))
     return _both_ways(size, 0, (*right, *below), (height, width))
@@ -539,7 +540,7 @@ def torus(width: int, height: int) -> Graph:
 
 def complete(vertices: int) -> Graph:
     """The complete graph: an edge each way between any two vertices; vertex 0 is the sink."""
-    vertices = whole(vertices, "the number of vertices", 1)
+    vertices = whole(vertices, "the number of vertices", 1, math.isqrt(MAX_LARGE_EDGES) + 1)
     return _both_ways(vertices, 0, itertools.combinations(range(vertices), 2))
 
 

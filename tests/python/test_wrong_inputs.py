@@ -34,6 +34,13 @@ GRAPHS = [
     (lambda: chipfire.grid(0, 3), ValueError, "the width is below 1: 0"),
     (lambda: chipfire.grid(3, 2.5), TypeError, "the height is no whole number: 2.5"),
     (lambda: chipfire.region([[1, 1], [1]]), ValueError, "a mask has rows of one length"),
+    (lambda: chipfire.grid(2**20, 2**20), ValueError, "the number of squares is above 2097151: 1099511627776"),
+    (lambda: chipfire.grid(2**21, 1, loss=1), ValueError, "the number of squares is above 2097151: 2097152"),
+    (lambda: chipfire.torus(2**20, 3), ValueError, "the number of squares is above 2097152: 3145728"),
+    (lambda: chipfire.path(2**40), ValueError, "the length of a path is above 2097151: 1099511627776"),
+    (lambda: chipfire.cycle(2**40), ValueError, "the length of a cycle is above 2097152: 1099511627776"),
+    (lambda: chipfire.wheel(2**40), ValueError, "the number of vertices of a wheel is above 2097152: 1099511627776"),
+    (lambda: chipfire.complete(2898), ValueError, "the number of vertices is above 2897: 2898"),
 ]
 NO_GRAPHS = [
     ((3, 5, [(1, 0)]), "the sink is 5, and there are 3 vertices"),

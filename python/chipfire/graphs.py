@@ -49,7 +49,7 @@ class Columns(NamedTuple):
 def _rows(edges: Iterable[Any]) -> list[tuple[Any, ...]]:
     """Edges (tail, head) or (tail, head, mult), all with their multiplicity."""
     rows = []
-    if isinstance(edges, Mapping):
+    if isinstance(edges, Mapping) or not isinstance(edges, Iterable):
         raise TypeError(f"edges are rows (tail, head, mult), and this is a {type(edges).__name__}")
     for edge, row in enumerate(edges):
         fields = tuple(row) if isinstance(row, Iterable) else ()
@@ -491,6 +491,9 @@ def region(mask: Iterable[Iterable[Any]], lattice: str = "square") -> Graph:
     A vertex loses a chip to the sink for each neighbour that it lacks. The lattice is "square"; "triangular", with 6
     neighbours: also those above to the right and below to the left; or "hexagonal", with 3: left, right, and below if
     row and column together are even, else above."""
+    mask = [*mask] if isinstance(mask, Iterable) else [mask]
+    if wrong := [row for row in mask if isinstance(row, str) or not isinstance(row, Iterable)]:
+        raise TypeError(f"a row of a mask has true and false, and is not {wrong[0]!r}")
     rows = [[bool(it) for it in row] for row in mask]
     if lattice not in _BESIDE:
         raise ValueError(f"no lattice is named {lattice!r}; there are {', '.join(_BESIDE)}")

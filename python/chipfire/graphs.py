@@ -619,7 +619,7 @@ def from_edges(
     `source` and `target` name the columns of the ends, and `weight` that of how many chips the edge sends, one if there
     is no such column. Each edge leads both ways, unless they are `directed`. The order of the names, or else that in
     which they come, gives the numbers. All else is as in `from_networkx`."""
-    if isinstance(table, (list, tuple, str)):
+    if not hasattr(table, "__getitem__") or isinstance(table, (list, tuple, str)):
         kind = type(table).__name__
         raise TypeError(f"a table of edges is a DataFrame or a dict of columns, and no {kind}; see Graph.undirected")
     columns = [table[name] for name in (source, target, weight) if name in (source, target) or name in table]
@@ -628,6 +628,8 @@ def from_edges(
         raise ValueError(f"the columns of edges have {' and '.join(str(len(it)) for it in columns)} rows")
     rows = _rows(zip(*columns))
     names = ordered(dict.fromkeys(name for row in rows for name in row[:2]))
+    if lacking := [name for name in names if repr(name) in ("None", "nan", "NaT", "<NA>")]:
+        raise ValueError(f"an edge of the table lacks an end, which is {lacking[0]!r} there")
     return _named(names, sink, rows, directed, loops, weight_scale)
 
 

@@ -8,6 +8,7 @@ from test_package import TRIANGLE
 GRID = chipfire.grid(3, 2)
 TURNED = chipfire.grid(2, 3)
 ABC = [("a", "b"), ("b", "c")]
+LACKING = {"source": ["a", "b"], "target": ["b", float("nan")]}
 NO_EDGE = "is neither (tail, head) nor (tail, head, mult): "
 
 GRAPHS = [
@@ -39,6 +40,8 @@ GRAPHS = [
     (lambda: chipfire.region(None), TypeError, "a row of a mask has true and false, and is not None"),
     (lambda: Graph(3, 0, None), TypeError, "edges are rows (tail, head, mult), and this is a NoneType"),
     (lambda: Graph.undirected(None, 0), TypeError, "edges are rows (tail, head, mult), and this is a NoneType"),
+    (lambda: chipfire.from_edges(None, 0), TypeError, "a table of edges is a DataFrame or a dict of columns"),
+    (lambda: chipfire.from_edges(LACKING, "a"), ValueError, "an edge of the table lacks an end, which is nan there"),
     (lambda: chipfire.grid(2**20, 2**20), ValueError, "the number of squares is above 2097151: 1099511627776"),
     (lambda: chipfire.grid(2**21, 1, loss=1), ValueError, "the number of squares is above 2097151: 2097152"),
     (lambda: chipfire.torus(2**20, 3), ValueError, "the number of squares is above 2097152: 3145728"),

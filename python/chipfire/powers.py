@@ -28,11 +28,12 @@ class PowerLaw(NamedTuple):
 def power_law(sizes: Iterable[int] | Mapping[int, int], least: int = 1, most: int | None = None) -> PowerLaw:
     """The power law of sizes from `least`, 1 or more, to `most`, or to the largest, by maximum likelihood. Sizes out of
     that range are left out, as those of 0 are. They come one by one, or as a histogram; two at least must differ.
+    The range has up to 10,000,000 sizes.
 
     A border ends the law of avalanches, so `most` is best far below the largest one."""
     told = _counts(sizes)
     least = whole(least, "the least size", 1)
-    most = max([least, *told]) if most is None else whole(most, "the greatest size", least)
+    most = whole(max([least, *told]) if most is None else most, "the greatest size", least, least + 10**7 - 1)
     seen = {size: count for size, count in told.items() if least <= size <= most}
     if len(seen) < 2:
         raise ValueError(f"a power law takes two sizes that differ, from {least} to {most}")
@@ -82,6 +83,8 @@ def _counts(sizes: Any) -> Counter[int]:
         named = wholes([*sizes], lambda place: f"size {place}", None)
         counts = wholes([*sizes.values()], lambda place: f"the count of size {named[place]}")
         return Counter(dict(zip(named, counts)))
+    if not isinstance(sizes, Iterable):
+        raise TypeError(f"sizes come one by one, or as a histogram, and not as {sizes!r}")
     values = sizes.ravel() if hasattr(sizes, "ravel") else sizes
     values = values.tolist() if hasattr(values, "tolist") else list(values)
     return Counter(wholes(values, lambda place: f"size {place}", None))

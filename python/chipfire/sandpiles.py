@@ -109,7 +109,7 @@ def are_recurrent(graph: AnyGraph, configurations: Iterable[Chips], *, program: 
 
 def _rows(graph: Graph, configurations: Any, least: int | None, program: AnyProgram) -> Iterator[tuple[int, ...]]:
     """The numbers of one configuration after the other."""
-    if hasattr(configurations, "items") or isinstance(configurations, FILE):
+    if hasattr(configurations, "items") or isinstance(configurations, FILE) or not hasattr(configurations, "__iter__"):
         kind = type(configurations).__name__
         raise TypeError(f"configurations are rows of an array, or stand in a list, and are no {kind}")
     for place, row in enumerate(configurations):

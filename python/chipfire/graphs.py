@@ -236,8 +236,10 @@ class Graph:
             found[tail] += mult
         return tuple(found)
 
-    def position_after(self, chips: Sequence[int], counts: Sequence[int]) -> list[int]:
-        """The chips of each vertex after these counts of firings, legal or not; counts below 0 take firings back."""
+    def position_after(self, chips: Any, counts: Any) -> list[int]:
+        """The chips of each vertex after these counts of firings, legal or not; counts below 0 take firings back.
+        Both come in the forms of chips."""
+        chips, counts = self.numbers(chips), self.numbers(counts, of="firings")
         found = [there - count * degree for there, count, degree in zip(chips, counts, self.degrees())]
         for tail, head, mult in zip(*self.columns):
             found[head] += mult * counts[tail]

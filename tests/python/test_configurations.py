@@ -76,6 +76,14 @@ class Forms(unittest.TestCase):
         self.assertEqual(chipfire.torus(3, 3).chips(2), (0,) + (2,) * 8)
         self.assertEqual(chipfire.torus(3, 3).chips([1] * 8), (0,) + (1,) * 8)
 
+    def test_chips_and_counts_of_firings_come_in_each_form(self):
+        wanted = [8 - 4, 8 + 1, 8, 8 + 1, 8, 8, 2]
+        forms = ({0: 1}, {(0, 0): 1}, [1, 0, 0, 0, 0, 0], [1, 0, 0, 0, 0, 0, 0], [[1, 0, 0], [0, 0, 0]])
+        for counts in forms:
+            with self.subTest(counts=counts):
+                self.assertEqual(GRID.position_after(8, counts), wanted)
+                self.assertEqual(GRID.position_after(chipfire.Configuration(GRID, 8), counts), wanted)
+
     def test_the_square_of_a_sink_counts_for_nothing(self):
         self.assertEqual(chipfire.torus(3, 3).chips([[9, 1, 1], [1, 1, 1], [1, 1, 1]]), (0,) + (1,) * 8)
 

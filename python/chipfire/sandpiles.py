@@ -298,11 +298,13 @@ def avalanches(
     start = _held(graph, chips, program)
     if not start.is_stable():
         raise ValueError("the chips are not stable: stabilize them first")
+    if not isinstance(vertices, Iterable):
+        raise TypeError(f"the vertices of avalanches are one for each drop, and not {vertices!r}")
 
     def dropped() -> Iterator[Avalanche]:
         held = start
         for name in vertices:
-            left, counts = played(held + {name: 1}, program)
+            left, counts = played(held + {held.graph.names[held.graph.number(name)]: 1}, program)
             fired = {it: count for it, count in zip(held.graph.names, counts) if count}
             lost, held = left[held.graph.sink], Configuration(held.graph, left)
             yield Avalanche(name, sum(counts), len(fired), lost, fired, held)

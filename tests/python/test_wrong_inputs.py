@@ -87,6 +87,8 @@ CALLS = [
     (lambda: drops(GRID, {}, 3), TypeError, "the vertices of drops are one for each drop, and not 3"),
     (lambda: drops(GRID, {}, [0], amounts=2), TypeError, "the amounts of drops are one for each drop, and not 2"),
     (lambda: drops(GRID, TURNED.max_stable(), [0]), ValueError, "the configuration is one of another graph"),
+    (lambda: chipfire.avalanches(GRID, 3, 4), TypeError, "the vertices of avalanches are one for each drop, and not 4"),
+    (lambda: chipfire.avalanche(GRID, 3, [1, 1]), KeyError, "the graph has no vertex [1, 1]"),
     (lambda: GRID.position_after(3, [1] * 5), ValueError, "there are firings for 5 vertices, and the graph has 7"),
     (lambda: chipfire.stabilize_many(GRID, None), TypeError, "configurations are rows of an array, or stand in a list"),
     (lambda: chipfire.are_recurrent(GRID, 5), TypeError, "stand in a list, and are no int"),

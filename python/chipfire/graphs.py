@@ -493,10 +493,10 @@ def region(mask: Iterable[Iterable[Any]], lattice: str = "square") -> Graph:
     A vertex loses a chip to the sink for each neighbour that it lacks. The lattice is "square"; "triangular", with 6
     neighbours: also those above to the right and below to the left; or "hexagonal", with 3: left, right, and below if
     row and column together are even, else above."""
-    mask = [*mask] if isinstance(mask, Iterable) else [mask]
-    if wrong := [row for row in mask if isinstance(row, str) or not isinstance(row, Iterable)]:
-        raise TypeError(f"a row of a mask has true and false, and is not {wrong[0]!r}")
-    rows = [[bool(it) for it in row] for row in mask]
+    mask = mask if isinstance(mask, Iterable) else [mask]
+    rows = [[*row] if isinstance(row, Iterable) else [str(row)] for row in mask]
+    if wrong := [row for row in rows if any(isinstance(it, str) for it in row)]:
+        raise TypeError(f"a row of a mask has true and false, and is not {wrong[0]}")
     if lattice not in _BESIDE:
         raise ValueError(f"no lattice is named {lattice!r}; there are {', '.join(_BESIDE)}")
     width = len(rows[0]) if rows else 0

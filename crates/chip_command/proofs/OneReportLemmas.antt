@@ -64,7 +64,7 @@ one_game limits others graph_text chips_text limit a b p q =
     (sym x.start.1 ∙ ap (λ (G : Multigraph). chips_of_text G.vertices chips_text) graph ∙ y.start.1) in
     same_games a b graph start (x.limited ∙ sym y.limited)
 
--- a game has one game with so many more chips at the start
+-- adding chips to the start of a game gives one game
 pub one_more : (g : ChipGame) (more : List (ℕ × ℕ)) (a b : ChipGame) → HasMore g more a → HasMore g more b → a ≡ b
 one_more g more a b p q = same_games a b (p.same_graph ∙ sym q.same_graph)
     (same_numbers a.start b.start (p.start_each ∙ sym q.start_each)

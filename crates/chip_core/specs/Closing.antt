@@ -1,5 +1,5 @@
--- It closes: there is always something to do until the root is closed, and a schedule that asks for everything, often
--- enough, closes it.
+-- It closes: once the end of feeding is noted there is something to do until the root is closed, and a schedule that asks
+-- for everything, often enough, closes it.
 use Rattle.std.specs.Prelude.{◌≡◌, ◌≤◌, ℕ, zero, suc, ◌+◌, ◌<◌, ◌==◌, ◌&&◌, ◌||◌, Bool, true, false, not, List}
 use Rattle.std.specs.Prelude.{◌++◌, length, Contains, None, ◌⊎◌, ◌≢◌}
 use Rattle.chip_link.specs.Link.{claims_of}

@@ -155,7 +155,8 @@ pub fn few_steps_count()
     ensures refusals { FewRefusals }
 {}
 
-/// Until the root is closed there is something to do, and if everything was asked for in vain it is closed.
+/// Once the end of feeding is noted there is something to do until the root is closed, and if everything was asked for
+/// in vain it is closed.
 pub fn never_stuck()
     ensures advances { NeverStuck }
     ensures in_vain { AskedInVain }

@@ -73,7 +73,7 @@ turn_counts old new answer makes =
 
 -- ---- by the queue
 
--- after so many turns a worker has the actor that it kept, and no other, and in its hands no more turns were made
+-- after k turns a worker has the actor that it kept, and no other, and no more turns were made of those that it had
 abbrev AreMade : ℕ → Ledger → Option ActorKnown → Type 0
 AreMade k l kept = HasJust l kept × (gave_turns l + kept_turns kept ≤ got_turns l + k)
 

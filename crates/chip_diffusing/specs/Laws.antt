@@ -33,7 +33,7 @@ EngagedIsATree = ForEveryLog (λ net w. (ps : List ℕ) × IsDetectionOrder net 
 abbrev pub NeverStuck : Type 0
 NeverStuck = ForEveryLog (λ net w. IsSilent net w → (IsClosed net w → ⊥) → (x : Event) × IsDue net w x)
 
--- before, the computation itself has something to do: a part is at work, or a message is on its way
+-- until the root is closed a part is at work, a message is on its way, or something is due
 abbrev pub NotOverYet : Type 0
 NotOverYet = ForEveryLog (λ net w. (IsClosed net w → ⊥)
     → ((p : ℕ) × (p < net.parts) × ((w p).passive ≡ false)) ⊎ ((e : ℕ) × May net w (Get e)) ⊎ ((x : Event) × IsDue net w x))

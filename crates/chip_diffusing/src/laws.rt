@@ -29,14 +29,16 @@ pub fn trees()
     ensures { EngagedIsATree }
 {}
 
-/// If it is over and the root is not closed something is due, and not much is left.
+/// If it is over and the root is not closed something is due, and not much is left. Until the root is closed there is
+/// something to do at all times.
 pub fn endings()
     ensures never_stuck { NeverStuck }
     ensures not_over_yet { NotOverYet }
     ensures few_are_left { FewAreLeft }
 {}
 
-/// If it is over, as many rounds as the tree is deep and one more close the root.
+/// If it is over, as many rounds as the tree is deep and one more close the root, once it has heard what was
+/// acknowledged in them.
 pub fn soon_after_the_end()
     ensures depth { DepthCloses }
     ensures counted { DepthIsCounted }

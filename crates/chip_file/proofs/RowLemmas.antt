@@ -10,7 +10,7 @@ use Rattle.csv.specs.declared.parser.State.TheVariants as st
 
 -- ---- a record takes at least one byte, but for one that the end of a text ends
 
--- so many turns are enough for the records of these bytes
+-- n turns are enough for the records of these bytes
 abbrev IsEnough : ℕ → State → List ℕ → Type 0
 IsEnough n s xs = (length xs < n) ⊎ ((s ≡ st.StartRecord) × (xs ≡ []))
 

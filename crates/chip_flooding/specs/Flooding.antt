@@ -54,7 +54,7 @@ IsFlooded m = let n = net m.run in IsFlooding n (world m.run) m.marked.items m.d
 abbrev pub unfinished : Marking → ℕ
 unfinished m = sum_by (λ n. 2 - n) m.done.items
 
--- so many messages of the edge may be acknowledged, or are to be got
+-- how many messages of the edge may be acknowledged, or are to be got
 abbrev pub due_on : Marking → ℕ → ℕ
 due_on m e = if nat_lt 0 (slice_index m.done.items e) then allowed m.run e
     else once (is_marked m.marked.items ((net m.run).tail e))

@@ -42,7 +42,7 @@ net s = network_of s.topology
 abbrev pub world : State → World
 world s p = shown (slice_index_or s.processes p nobody)
 
--- so many messages of the edge may be acknowledged
+-- how many messages of the edge may be acknowledged
 abbrev pub allowed : State → ℕ → ℕ
 allowed s e = let head = world s ((net s).head e) in may_ack head.books e head.passive
 

@@ -27,7 +27,7 @@ pub fn flood(alloc: Global, topology: Topology) -> Result<Vec<bool>, AllocError>
     Ok(marking.marked)
 }
 
-/// So many times false.
+/// `count` times false.
 fn all_false(alloc: Global, count: usize) -> Result<Vec<bool>, AllocError>
     ensures { IfOk result (λ list. list.items ≡ replicate count false) }
 {

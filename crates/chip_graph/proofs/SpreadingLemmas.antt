@@ -40,7 +40,7 @@ pub record IsListed (f : Found) (v d : ℕ) : Type 0 where
   pub inside : place < length f.reached
   pub is : reached_at f place ≡ record { vertex = v; distance = d }
 
--- a search from which so many of the reached vertices have left: the edges into them have been looked at.
+-- a search that `left` of the reached vertices have left: the edges into them have been looked at.
 -- Walks are found nearest first, and no distance is more than one above that of the next vertex to leave.
 pub record IsSpread (G : Multigraph) (f : Found) (left : ℕ) : Type 0 where
   pub one_each : length f.distances ≡ G.vertices

@@ -53,7 +53,7 @@ append_next : (before : List Edge) (edge : Edge) (o : Option (List Edge))
 append_next before edge None = refl
 append_next before edge (Some more) = ap Some (sym (append_assoc before (edge ∷ []) more))
 
--- the items behind some are so many edges more than those
+-- these items in front put these edges in front
 abbrev pub EdgesBefore : (Items → Items) → List Edge → Type 0
 EdgesBefore before all = (rest : Items) → edges_of_rows (before rest) ≡ option_map (λ more. all ++ more)
     (edges_of_rows rest)

@@ -54,7 +54,7 @@ module _ (sizes : Sizes) (log : List LogRow) (o : Order) (ready : IsReady sizes 
 
 -- ---- one more row
 
--- so far so many rows were read
+-- so far n rows were read
 pub record IsSoFar (sizes : Sizes) (log : List LogRow) (n : ℕ) (o : Order) : Type 0 where
   pub ready : IsReady sizes o
   pub few : length o.done.items + total o.queues ≤ n

@@ -12,7 +12,7 @@ pub record AgendaState : Type 0 where
 abbrev pub state_of : Inside → AgendaState
 state_of a = record { processes = a.processes; channels = length a.basic.items; due = length a.due.items }
 
--- who waits is one of so many
+-- who waits, if anybody does, is below n
 abbrev pub IsBelow : ℕ → Option ℕ → Type 0
 IsBelow n None = Unit {0}
 IsBelow n (Some p) = p < n

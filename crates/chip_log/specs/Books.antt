@@ -69,7 +69,7 @@ pub record Keeps (needed : Bool) (x : LogRow) (old new : Books) : Type 0 where
   pub said : new.said.items
       ≡ (if needed then slice_set old.said.items x.process (said_before x.step (said_at old x.process)) else old.said.items)
 
--- the channel of a step is one of so many
+-- the channel of a step, if it has one, is below `channels`
 abbrev pub IsOf : ℕ → Step → Type 0
 IsOf channels (Out s) = s.channel < channels
 IsOf channels (In s) = s.channel < channels

@@ -9,12 +9,12 @@ use Rattle.chip_log.specs.declared.judged.JudgedLog.{JudgedLog}
 use Rattle.chip_log.specs.declared.verdict.Verdict.{Verdict}
 use Rattle.chip_log.specs.declared.verdict.Verdict.TheVariants as verdict
 
--- each claim has a least past
+-- each claim that stands in an interleaving has a least past
 abbrev pub LeastPast : Type 0
 LeastPast = (log : List LogRow) (p i : ℕ) (before : List LogRow) → HasEnds log → IsBefore log p i before
     → (past : List LogRow) × IsPast log p i past
 
--- a claim is right exactly if all is silent in its least past
+-- a claim is right if all is silent in its least past
 abbrev pub SilentPast : Type 0
 SilentPast = (log : List LogRow) (p i : ℕ) (past : List LogRow) → HasEnds log → IsPast log p i past
     → IsSilent log past → IsVerdict log p i verdict.Right

@@ -17,7 +17,7 @@ pub record IsLog (log : List LogRow) : Type 0 where
   pub ends : HasEnds log
   pub met : AreMet log [] log
 
--- its processes and channels are among so many
+-- its process and channel are within these sizes
 pub record FitsRow (sizes : Sizes) (x : LogRow) : Type 0 where
   pub process : x.process < sizes.processes
   pub channel : IsOf sizes.channels x.step
@@ -36,7 +36,7 @@ pub record IsPlace (log : List LogRow) (claim : ClaimPlace) : Type 0 where
   pub over : slice_get log claim.at ≡ Some (record { process = claim.process; step = Over })
   pub row : length (steps_of claim.process (take claim.at log)) ≡ claim.row
 
--- books of so many processes and channels
+-- books of these sizes
 pub record AreSized (sizes : Sizes) (b : Books) : Type 0 where
   pub processes : length b.said.items ≡ sizes.processes
   pub counted : length b.rows.items ≡ sizes.processes

@@ -9,7 +9,7 @@ pub fn worked()
     ensures { WorkedLog }
 {}
 
-/// Each claim has a least past.
+/// Each claim that stands in an interleaving has a least past.
 pub fn least_past()
     ensures { LeastPast }
 {}
@@ -19,7 +19,7 @@ pub fn silent_past()
     ensures { SilentPast }
 {}
 
-/// A claim has one verdict.
+/// No claim has two verdicts.
 pub fn one_verdict()
     ensures { OneVerdict }
 {}

@@ -23,7 +23,7 @@ impl Queues {
     ghost use Rattle.std.specs.Prelude.{◌≡◌, ◌+◌, ◌<◌, ◌++◌, ◌∷◌, [], length, replicate, slice_set, drop, IfOk};
     ghost use Rattle.chip_log.specs.Queues.{queue_of, head_of};
 
-    /// Nothing is read of so many processes.
+    /// Nothing is read of `processes` processes.
     pub(crate) fn new(alloc: Global, processes: u32) -> Result<Queues, AllocError>
         ensures { IfOk result (λ queues. queues ≡ replicate processes []) }
     {

@@ -25,7 +25,7 @@ impl Tally {
     ghost use Rattle.std.specs.Prelude.{◌≡◌, ◌+◌, ◌-◌, ◌^◌, ◌<◌, IfOk};
     ghost use Rattle.chip_log.specs.Tally.{count, IsMore, IsLess};
 
-    /// 0 for each of so many channels.
+    /// 0 for each of `channels` channels.
     pub(crate) fn new(alloc: Global, channels: u32) -> Result<Tally, AllocError>
         ensures channels { IfOk result (λ tally. tally.channels ≡ channels) }
         ensures none { IfOk result (λ tally. (s : Stream) → count tally s ≡ 0) }

@@ -183,7 +183,7 @@ abbrev pub is_plain : List ℕ → Bool
 is_plain [] = true
 is_plain (b ∷ bs) = (nat_lt b 128 && not (eqb b opening_bracket)) && is_plain bs
 
--- a part whose list has at most so many numbers
+-- a part whose list has at most `most` numbers
 pub record IsPart (most : ℕ) (part : Part) : Type 0 where
   pub plain : is_plain part.0 ≡ true
   pub listed : AreListed most part.1

@@ -111,7 +111,7 @@ sitting_if r h = record { outcome_fits = outcome_if r.outcome h.0; prior_each = 
 
 -- ---- the lists that such numbers make
 
--- numbers that a report lists, at most so many of each kind
+-- numbers that a report lists, at most `most` of each kind
 pub record AreListedAll (most : ℕ) (t : SittingContent) : Type 0 where
   pub fired : AreListed most t.last.fired
   pub chips : AreListed most t.last.chips

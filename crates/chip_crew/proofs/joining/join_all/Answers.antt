@@ -6,7 +6,7 @@ use Rattle.chip_crew.proofs.DealingLemmas.{cut_first}
 use Rattle.chip_crew.specs.declared.worker.Share.TheVariants as share
 use Rattle.chip_crew.proofs.joining.join_all.Goals as goal
 
--- so many turns make a round of worker 0
+-- `turns` turns make a round of worker 0
 first_round : {B : Type 0} (asked : Asked) (turns : ℕ) (h : Share B) → HasMade asked 0 turns h
     → IsRound asked.crew (round_of h) × (0 < round_of h)
 first_round asked turns (share.Queue queue pass kept) made = (rw made.0 refl, omega arith)

@@ -4,8 +4,8 @@
 use Rattle.std.proofs.Common.{◌≡◌, ◌≢◌, ◌⊎◌, inl, inr, ⊎_elim, option_map, ℕ, ◌+◌, ◌-◌, ◌%◌, ◌^◌, ◌<◌, ◌≤◌, Bool, true}
 use Rattle.std.proofs.Common.{false, ◌&&◌, cond, ltb, List, [], ◌∷◌, ◌++◌, length, take, drop, get_or, set, replicate}
 use Rattle.std.proofs.Common.{Option, Some, None, option_to_list, is_none, is_some, refl, sym, ap, ◌∙◌, subst, arith}
-use Rattle.std.proofs.Common.{append_assoc, append-nil, true≢false, ltb-true, rules}
-use Rattle.std.proofs.lemmas.Bool.{and_parts}
+use Rattle.std.proofs.Common.{append_assoc, append-nil, true≢false, ltb-true, eq-eqb, ne_eqb, rules}
+use Rattle.std.proofs.lemmas.Bool.{and_parts, cases_Bool, cond-true, cond-false}
 use Rattle.std.proofs.lemmas.Bool.Decides.{nat_tests}
 use Rattle.std.proofs.lemmas.List.{get_or-set_same, get_or-set_other, length-set, length-replicate, get_or-replicate}
 use Rattle.std.proofs.lemmas.List.{get_or_past, take-append-drop}
@@ -22,7 +22,7 @@ use Rattle.chip_link.specs.Link.{after_take, after_seal, word_of, tail_state, he
 use Rattle.chip_link.specs.Edge.{LiveEdge, EdgeStep, Clear, Claim, Put, Take, Seal, new_edge, step, steps}
 use Rattle.chip_link.specs.Edge.{cells_after_store, claim_on, take_on}
 use Rattle.chip_link.specs.Laws.{AreInOrder, TakesPrefix, ClaimsInOrder, NothingAfterSeal, WordTells, SealsAllClaims}
-use Rattle.chip_link.proofs.SoundsLemmas.{cond_yes, cond_no, none_held, length-sent_counts, none-some, clear_sound}
+use Rattle.chip_link.proofs.SoundsLemmas.{none_held, length-sent_counts, none-some, clear_sound}
 use Rattle.chip_link.proofs.SoundsLemmas.{claim_sound, put_sound, take_sound, seal_sound, fresh_sound}
 use Rattle.chip_link.proofs.ShownLemmas.{clear_sees, clear_shows, claim_shows, put_shows, take_sees, take_shows}
 use Rattle.chip_link.proofs.ShownLemmas.{seal_shows, fresh_shows}
@@ -46,11 +46,6 @@ pub record Follows (edge ring : ℕ) (s : LiveEdge) (t : Tail) (got : List ℕ) 
 abbrev pub HasLists : ℕ → ℕ → LiveEdge → Type 0
 HasLists edge ring s = (t : Tail) × (got : List ℕ) × Follows edge ring s t got
 
--- by the two answers of a test
-by_test : {A : Type 0} (b : Bool) → (b ≡ true → A) → (b ≡ false → A) → A
-by_test true t f = t refl
-by_test false t f = f refl
-
 cond_is : {A : Type 0} (b c : Bool) (x y : A) → b ≡ c → cond b x y ≡ cond c x y
 cond_is b c x y e = ap (λ (t : Bool). cond t x y) e
 
@@ -70,7 +65,7 @@ module _ (edge ring : ℕ) (some_ring : 0 < ring) (s : LiveEdge) (t : Tail) (got
       let seen : ℕ = get_or s.cells (tail_cell s.tail) 0 in
       let cell_is : seen ≡ get_or s.cells (claims_of t % ring) 0 =
       ap (λ (u : TailState). get_or s.cells (tail_cell u) 0) f.tail_is in
-      by_test (may_clear (tail_state edge ring t))
+      ⊎_elim
       (λ may.
       let parts = and_parts _ _ may in
       let none : t.held ≡ None = is_none-true t.held (and_parts _ _ parts.0).0 in
@@ -87,6 +82,7 @@ module _ (edge ring : ℕ) (some_ring : 0 < ring) (s : LiveEdge) (t : Tail) (got
       let same : s.tail ≡ tail_after_clear seen s.tail =
       f.tail_is ∙ sym (ap (tail_after_clear seen) f.tail_is ∙ cond_is _ false _ _ no) in
       subst (HasLists edge ring) (λ j. record s { tail = same j }) (t, got, f))
+      (cases_Bool (may_clear (tail_state edge ring t)))
 
   -- the claim that a look allows
   claimed_on : (count : ℕ) → 0 < count → t.clear ≡ true → HasLists edge ring (claim_on count s)
@@ -100,7 +96,8 @@ module _ (edge ring : ℕ) (some_ring : 0 < ring) (s : LiveEdge) (t : Tail) (got
       let tail_is = ap (tail_after_claim s.word count) f.tail_is ∙ tail_claims edge ring t count s.word none in
       let sound = claim_sound ring some_ring t got s.stop f.sound count s.word some_count is_clear f.shows.word_is in
       let shows = claim_shows ring some_ring s.word _ t got s.stop f.sound f.shows count word' none
-      (λ hit. word_is ∙ cond_yes s.word (claims_of t) _ _ hit) (λ miss. word_is ∙ cond_no s.word (claims_of t) _ _ miss)
+      (λ hit. word_is ∙ cond-true _ _ _ (eq-eqb s.word (claims_of t) hit))
+      (λ miss. word_is ∙ cond-false _ _ _ (ne_eqb s.word (claims_of t) miss))
       in
       let message_is : option_to_list (message_claimed s.word count s.tail)
       ≡ option_to_list (message_claimed s.word count (tail_state edge ring t))
@@ -127,11 +124,11 @@ module _ (edge ring : ℕ) (some_ring : 0 < ring) (s : LiveEdge) (t : Tail) (got
       (λ hit.
       let m : Message = record { edge = edge; place = claims_of t; count = count } in
       let one : option_to_list (message_claimed s.word count s.tail) ≡ m ∷ [] = message_is
-      ∙ ap option_to_list (cond_yes s.word (claims_of t) _ _ hit) in
+      ∙ ap option_to_list (cond-true _ _ _ (eq-eqb s.word (claims_of t) hit)) in
       let old : s.claimed ≡ numbered edge 0 t.put = f.claimed_is
       ∙ ap (λ (h : Option ℕ). numbered edge 0 (t.put ++ option_to_list h)) none
       ∙ ap (numbered edge 0) (append-nil t.put) in
-      claimed_as (record t { held = Some count; clear = false }) (cond_yes s.word (claims_of t) _ _ hit)
+      claimed_as (record t { held = Some count; clear = false }) (cond-true _ _ _ (eq-eqb s.word (claims_of t) hit))
       (ap (λ (ms : List Message). s.claimed ++ ms) one ∙ ap (λ (ms : List Message). ms ++ m ∷ []) old
       ∙ ap (λ (n : ℕ). numbered edge 0 t.put ++ numbered edge n (count ∷ []))
       (let place : claims_of t ≡ 0 + length t.put = omega arith in place)
@@ -139,19 +136,20 @@ module _ (edge ring : ℕ) (some_ring : 0 < ring) (s : LiveEdge) (t : Tail) (got
       (omega arith) refl)
       (λ miss.
       let nothing : option_to_list (message_claimed s.word count s.tail) ≡ [] = message_is
-      ∙ ap option_to_list (cond_no s.word (claims_of t) _ _ miss) in
-      claimed_as (record t { clear = false; refused = true }) (cond_no s.word (claims_of t) _ _ miss)
+      ∙ ap option_to_list (cond-false _ _ _ (ne_eqb s.word (claims_of t) miss)) in
+      claimed_as (record t { clear = false; refused = true }) (cond-false _ _ _ (ne_eqb s.word (claims_of t) miss))
       (ap (λ (ms : List Message). s.claimed ++ ms) nothing ∙ append-nil s.claimed ∙ f.claimed_is) f.few refl)
 
   -- a claim, whether it is allowed or not
   after_claiming : (count : ℕ) → HasLists edge ring (step (Claim count) s)
-  after_claiming count = by_test (s.tail.clear && is_count count)
+  after_claiming count = ⊎_elim
       (λ may.
       let parts = and_parts _ _ may in
       let some_count : 0 < count = ltb-true 0 count (and_parts _ _ parts.1).0 in
       let is_clear : t.clear ≡ true = sym (ap (λ (u : TailState). u.clear) f.tail_is) ∙ parts.0 in
       rw may (claimed_on count some_count is_clear))
       (λ no. rw no (t, got, f))
+      (cases_Bool (s.tail.clear && is_count count))
 
   -- a put with nothing to put, and of what is held
   after_putting : HasLists edge ring (step Put s)
@@ -228,7 +226,7 @@ module _ (edge ring : ℕ) (some_ring : 0 < ring) (s : LiveEdge) (t : Tail) (got
 
   -- a take, whether it is allowed or not
   after_taking : HasLists edge ring (step Take s)
-  after_taking = by_test (ltb s.head.taken (2 ^ 62)) (λ may. rw may taken_on) (λ no. rw no (t, got, f))
+  after_taking = ⊎_elim (λ may. rw may taken_on) (λ no. rw no (t, got, f)) (cases_Bool (ltb s.head.taken (2 ^ 62)))
 
   -- a seal, the first or another
   after_sealing : HasLists edge ring (step Seal s)
@@ -250,7 +248,7 @@ module _ (edge ring : ℕ) (some_ring : 0 < ring) (s : LiveEdge) (t : Tail) (got
       let bit : word_of t s.stop ≡ claims_of t + 2 ^ 63 = ap (λ (o : Option ℕ). word_of t o) stop in
       let other : s.word ≢ s.tail.claims = λ same. (let w = f.shows.word_is in
       let n : s.tail.claims ≡ claims_of t = ap (λ (u : TailState). u.claims) f.tail_is in absurd (omega arith)) in
-      let nothing : message_claimed s.word count s.tail ≡ None = cond_no s.word s.tail.claims _ _ other in
+      let nothing : message_claimed s.word count s.tail ≡ None = cond-false _ _ _ (ne_eqb s.word s.tail.claims other) in
       grind (arith, nat_tests, append-nil)
 
 get_or-zeros : (zeros : List ℕ) (n i : ℕ) → zeros ≡ replicate n 0 → get_or zeros i 0 ≡ 0

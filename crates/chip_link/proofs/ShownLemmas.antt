@@ -3,16 +3,17 @@
 -- The edge word and the cells are any number and any function, so that a table of words may stand behind them.
 use Rattle.std.proofs.Common.{◌≡◌, ℕ, suc, ◌+◌, ◌*◌, ◌/◌, ◌%◌, ◌<◌, ◌≤◌, sym, ap, ◌∙◌, arith, mul-le-mul_right, suc-mul}
 use Rattle.std.proofs.Common.{lt_of_not-le, div-add-mod', ◌≢◌, zero, ◌^◌, true, false, List, [], ◌∷◌, ◌++◌, length}
-use Rattle.std.proofs.Common.{get_or, Option, Some, None, is_some, refl, subst, length-append, bit_or}
+use Rattle.std.proofs.Common.{get_or, Option, Some, None, is_some, refl, subst, length-append, bit_or, eq-eqb, ne_eqb}
 use Rattle.std.proofs.Math.Nat.{add-mul-mod_self_right, zero-mod, mod-eq_of_lt}
 use mathlib.Core.Logic.{dite}
 use native.Mathlib.Decide.{dec_le, ℕ_discrete}
+use Rattle.std.proofs.lemmas.Bool.{cond-true, cond-false}
 use Rattle.std.proofs.lemmas.List.{get_or_past}
 use Rattle.std.proofs.lemmas.Nat.{mod_below}
 use Rattle.chip_link.specs.Words.{edge_word}
 use Rattle.chip_link.specs.Link.{Tail, fresh_tail, first_tail, sent_counts, claims_of, after_clear, after_claim}
 use Rattle.chip_link.specs.Link.{after_put, after_take, after_seal, cell_at_tail, cell_at_head, Sound, Shows}
-use Rattle.chip_link.proofs.SoundsLemmas.{cond_yes, cond_no, none_held, one_held, length-sent_counts, put_at, put_last}
+use Rattle.chip_link.proofs.SoundsLemmas.{none_held, one_held, length-sent_counts, put_at, put_last}
 use Rattle.chip_link.proofs.WordLawsLemmas.{seals_word}
 
 -- a later turn begins at least one turn later
@@ -53,9 +54,9 @@ module _ (ring : ℕ) (some_ring : 0 < ring) (word : ℕ) (cell : ℕ → ℕ) (
       dite (ℕ_discrete (claims_of t) (length got + ring))
       (λ full. ap cell (ap (λ (n : ℕ). n % ring) full ∙ next_turn (length got) ring)
       ∙ is.ring_is (length got) (omega arith) (omega arith)
-      ∙ sym (cond_yes (claims_of t) (length got + ring) _ _ full))
+      ∙ sym (cond-true _ _ _ (eq-eqb (claims_of t) (length got + ring) full)))
       (λ free. is.ring_is (claims_of t) (omega arith) (omega arith) ∙ get_or_past t.put (claims_of t) 0 (omega arith)
-      ∙ sym (cond_no (claims_of t) (length got + ring) _ _ free))
+      ∙ sym (cond-false _ _ _ (ne_eqb (claims_of t) (length got + ring) free)))
 
   pub clear_shows : (seen : ℕ) → Shows ring word cell (after_clear seen t) got stop
   clear_shows seen = record { word_is = is.word_is; ring_is = is.ring_is }
@@ -69,10 +70,10 @@ module _ (ring : ℕ) (some_ring : 0 < ring) (word : ℕ) (cell : ℕ → ℕ) (
       dite (ℕ_discrete word (claims_of t))
       (λ same. let new = hit same in
       subst (λ (u : Tail). Shows ring word' cell u got stop)
-      (sym (cond_yes word (claims_of t) _ _ same)) record { word_is = omega arith; ring_is = is.ring_is })
+      (sym (cond-true _ _ _ (eq-eqb word (claims_of t) same))) record { word_is = omega arith; ring_is = is.ring_is })
       (λ other. let kept = miss other in
       subst (λ (u : Tail). Shows ring word' cell u got stop)
-      (sym (cond_no word (claims_of t) _ _ other)) record { word_is = kept ∙ is.word_is; ring_is = is.ring_is })
+      (sym (cond-false _ _ _ (ne_eqb word (claims_of t) other))) record { word_is = kept ∙ is.word_is; ring_is = is.ring_is })
 
   -- the store of a put changes the cell of the last claim, and no other
   pub put_shows : (count : ℕ) (cell' : ℕ → ℕ) → t.held ≡ Some count → cell' (length t.put % ring) ≡ count
@@ -103,7 +104,7 @@ module _ (ring : ℕ) (some_ring : 0 < ring) (word : ℕ) (cell : ℕ → ℕ) (
   take_shows cell' here others = let d : ℕ = length got in let y : ℕ = cell (d % ring) in
       let back = ok.behind in let near = ok.within in
       dite (ℕ_discrete y 0)
-      (λ none. subst (λ (g : List ℕ). Shows ring word cell' t g stop) (sym (cond_yes y 0 _ _ none)) record {
+      (λ none. subst (λ (g : List ℕ). Shows ring word cell' t g stop) (sym (cond-true _ _ _ (eq-eqb y 0 none))) record {
         word_is = is.word_is;
         ring_is = λ p lo hi. dite (ℕ_discrete p d)
             (λ same. ap cell' (ap (λ (n : ℕ). n % ring) same) ∙ here ∙ sym none ∙ take_sees
@@ -113,7 +114,7 @@ module _ (ring : ℕ) (some_ring : 0 < ring) (word : ℕ) (cell : ℕ → ℕ) (
       })
       (λ found.
       let longer : length (got ++ y ∷ []) ≡ d + 1 = omega (arith, length-append got (y ∷ [])) in
-      subst (λ (g : List ℕ). Shows ring word cell' t g stop) (sym (cond_no y 0 _ _ found)) record {
+      subst (λ (g : List ℕ). Shows ring word cell' t g stop) (sym (cond-false _ _ _ (ne_eqb y 0 found))) record {
         word_is = is.word_is;
         ring_is = λ p lo hi. dite (ℕ_discrete p (d + ring))
             (λ same. ap cell' (ap (λ (n : ℕ). n % ring) same ∙ next_turn d ring) ∙ here

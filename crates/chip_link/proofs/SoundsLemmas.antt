@@ -2,9 +2,10 @@
 -- One edge by its lists, with no word: each step that is allowed keeps it sound. What a step sees is taken by an
 -- equation.
 use Rattle.std.proofs.Common.{◌≡◌, ◌≢◌, ℕ, ◌+◌, ◌<◌, Bool, true, false, cond, eqb, List, [], ◌∷◌, ◌++◌, length}
-use Rattle.std.proofs.Common.{get_or, Option, Some, None, option_to_list, is_some, refl, sym, ap, subst}
+use Rattle.std.proofs.Common.{get_or, Option, Some, None, option_to_list, is_some, refl, sym, subst}
 use Rattle.std.proofs.Common.{arith, length-append, eq-eqb, ne_eqb, rules}
 use Rattle.std.proofs.lemmas.List.{get_or_past, get_or_push, get_or_append_left, take_more, take-append-le}
+use Rattle.std.proofs.lemmas.Bool.{cond-true, cond-false}
 use Rattle.std.proofs.lemmas.Bool.Decides.{nat_tests}
 use mathlib.Core.Logic.{dite}
 use native.Mathlib.Decide.{ℕ_discrete}
@@ -12,13 +13,6 @@ use Rattle.chip_link.specs.Words.{top_bit}
 use Rattle.chip_link.specs.Link.{Tail, fresh_tail, first_tail, sent_counts, claims_of, after_clear, after_claim}
 use Rattle.chip_link.specs.Link.{after_put, after_take, after_seal, word_of, cell_at_tail, cell_at_head, IsSealedAt}
 use Rattle.chip_link.specs.Link.{Sound}
-
--- a choice by a test of two numbers, if the test is decided
-pub cond_yes : {A : Type 0} (a b : ℕ) (x y : A) → a ≡ b → cond (eqb a b) x y ≡ x
-cond_yes a b x y e = ap (λ (t : Bool). cond t x y) (eq-eqb a b e)
-
-pub cond_no : {A : Type 0} (a b : ℕ) (x y : A) → a ≢ b → cond (eqb a b) x y ≡ y
-cond_no a b x y e = ap (λ (t : Bool). cond t x y) (ne_eqb a b e)
 
 -- ---- what is held
 
@@ -65,9 +59,11 @@ module _ (ring : ℕ) (some_ring : 0 < ring) (t : Tail) (got : List ℕ) (stop :
       → Sound ring (after_claim count seen t) got stop
   claim_sound count seen some_count is_clear is = dite (ℕ_discrete seen (claims_of t))
       (λ hit. let clear = unsealed (claims_of t + 1) stop (omega arith) in
-      rw (cond_yes seen (claims_of t) (record t { held = Some count; clear = false }) (record t { clear = false; refused = true }) hit) (search (rules, arith, nat_tests)))
+      rw (cond-true (eqb seen (claims_of t)) (record t { held = Some count; clear = false })
+      (record t { clear = false; refused = true }) (eq-eqb seen (claims_of t) hit)) (search (rules, arith, nat_tests)))
       (λ miss.
-      rw (cond_no seen (claims_of t) (record t { held = Some count; clear = false }) (record t { clear = false; refused = true }) miss) (search (rules, arith, nat_tests)))
+      rw (cond-false (eqb seen (claims_of t)) (record t { held = Some count; clear = false })
+      (record t { clear = false; refused = true }) (ne_eqb seen (claims_of t) miss)) (search (rules, arith, nat_tests)))
 
   pub put_at : (count : ℕ) → t.held ≡ Some count → (p : ℕ) → p ≢ length t.put
       → get_or (sent_counts t) p 0 ≡ get_or t.put p 0
@@ -89,11 +85,11 @@ module _ (ring : ℕ) (some_ring : 0 < ring) (t : Tail) (got : List ℕ) (stop :
 
   pub take_sound : (seen : ℕ) → seen ≡ cell_at_head t got → Sound ring t (after_take seen got) stop
   take_sound seen is = dite (ℕ_discrete seen 0)
-      (λ none. rw (cond_yes seen 0 got (got ++ seen ∷ []) none) ok)
+      (λ none. rw (cond-true (eqb seen 0) got (got ++ seen ∷ []) (eq-eqb seen 0 none)) ok)
       (λ found.
       let full : length got < length t.put = grind (arith, get_or_past) in
       let longer = length-append got (seen ∷ []) in let more = take_more t.put (length got) 0 full in
-      rw (cond_no seen 0 got (got ++ seen ∷ []) found) (search (rules, arith, nat_tests)))
+      rw (cond-false (eqb seen 0) got (got ++ seen ∷ []) (ne_eqb seen 0 found)) (search (rules, arith, nat_tests)))
 
 pub seal_sound : (ring : ℕ) (t : Tail) (got : List ℕ) (stop : Option ℕ) (seen : ℕ) → seen ≡ word_of t stop
     → Sound ring t got stop → Sound ring t got (after_seal seen stop)

@@ -15,7 +15,6 @@ use Rattle.std.proofs.lemmas.Fmt.{digits_decimal, digits_value-decimal, decimal_
 use Rattle.std.proofs.lemmas.List.Elements.{All-nil, All-append, All-map, All-filter, All-from_recursion}
 use Rattle.std.proofs.lemmas.List.Elements.{recursion_from_All}
 use Rattle.std.proofs.lemmas.List.FromFn.{fill_by_all, length-map-range_with_len}
-use Rattle.std.proofs.lemmas.Str.Parse.{IsNumeralModel, numerals_by_value, tells_all_ascii_digits}
 use Rattle.csv.specs.Machine.{next_record}
 use Rattle.csv.specs.Reading.{default_config, records_from, strip_bom}
 use Rattle.csv.specs.Records.{field_at}
@@ -38,6 +37,7 @@ use Rattle.chip_file.specs.TraceText.{trace_header, trace_kinds, row_of_kind, tr
 use Rattle.chip_file.specs.TraceText.{kind_in, trace_in, trace_text_fault, traces_of_text}
 use Rattle.chip_file.specs.declared.fault.FileFault.{FileFault}
 use Rattle.chip_file.specs.declared.fault.FileFault.TheVariants as fault
+use Rattle.chip_file.proofs.NumberLemmas.{decimal_numeral}
 use Rattle.chip_trace.specs.Interleaving.{Placed, rows_of}
 use Rattle.chip_trace.specs.TraceText as written
 use Rattle.chip_trace.specs.TraceText.{trace_text, lines_from}
@@ -46,9 +46,6 @@ use Rattle.chip_command.specs.Laws.{IsRowIn, AreTracesIn, WrittenIsRead, ReadIsI
 use Rattle.chip_command.proofs.InputLemmas.{passed, alone_passed, none_parts}
 
 -- ---- a number as a field
-
-decimal_numeral : IsNumeralModel (λ field. all_ascii_digits field ≡ true) (digits_value 10)
-decimal_numeral = numerals_by_value _ tells_all_ascii_digits
 
 -- digits that make a number of 64 bits are read as it
 number_by : (field : List ℕ) (n : ℕ) → 0 < length field → length field ≤ 20 → all_ascii_digits field ≡ true

@@ -1,7 +1,7 @@
 mod Names
-mod NumberLemmas
+pub mod NumberLemmas
 mod KeptLemmas
-mod VertexRowLemmas
+pub mod VertexRowLemmas
 mod ChipsLemmas
 mod RowLemmas
 mod RecordLemmas

@@ -6,7 +6,7 @@ use Rattle.chip_file.proofs.Names.{is_ascii_digit, SomeIff, all_ascii_digits, Al
 use Rattle.chip_file.proofs.Names.{take_all, digits_more, digits_value-lt, digits_value_more, IsNumeralModel}
 use Rattle.chip_file.proofs.Names.{numerals_by_value, tells_all_ascii_digits, leb_tells, nat_tests, number_of}
 
-decimal_numeral : IsNumeralModel (λ field. all_ascii_digits field ≡ true) (digits_value 10)
+pub decimal_numeral : IsNumeralModel (λ field. all_ascii_digits field ≡ true) (digits_value 10)
 decimal_numeral = numerals_by_value _ tells_all_ascii_digits
 
 -- too many digits, and something that is no digit

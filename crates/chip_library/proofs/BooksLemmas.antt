@@ -11,6 +11,7 @@ use Rattle.std.proofs.lemmas.Bool.Decides.{nat_tests, eqb_tells}
 use Rattle.chip_detect.specs.declared.tallies.Tally.{Tally}
 use Rattle.chip_detect.specs.declared.slot.Slot.{Slot}
 use Rattle.chip_diffusing.specs.Laws.{IsOver}
+use Rattle.chip_diffusing.proofs.KeptLemmas.{more_when_passive}
 use Rattle.chip_diffusing.proofs.OrderLemmas.{tells_over}
 use Rattle.chip_detect.specs.Tally.{AreTallies, fresh_tally, edges_of, tally_at, look, messages_on, answered_on, open_on, all_open, message_limit}
 use Rattle.chip_detect.specs.Slot.{IsSlotOf}
@@ -211,13 +212,6 @@ leaves parent parent' e false is_edge goes stays = rw (stays (λ here. refl)) (s
       | inr (test, other) ↦ rw test refl
     ]
 
--- a passive part may acknowledge at least as many
-pub passive_may_more : (e : ℕ) (parent : Option ℕ) (here all waiting : ℕ) (passive : Bool)
-    → acknowledgeable_count e parent here all waiting passive ≤ acknowledgeable_count e parent here all waiting true
-passive_may_more e None here all waiting passive = omega arith
-passive_may_more e (Some p) here all waiting true = omega arith
-passive_may_more e (Some p) here all waiting false = grind (arith, nat_tests)
-
 pub acked_noted : (ts ts' outs : List Tally) (parent parent' e count : ℕ) (passive : Bool) (slot : Slot) (t : Tally)
     → IsFound ts e slot t → count ≤ open_of t
     → (IsSound (books_of ts outs parent) → count ≤ may_ack (books_of ts outs parent) e passive)
@@ -243,7 +237,7 @@ acked_noted ts ts' outs parent parent' e count passive slot t is few allowed add
     record { ins = made; outs = refl; parent = parent_is } in
     let due = allowed sound in
     let ever : count ≤ may_ack old e true = omega
-    (arith, due, passive_may_more e (parent_of parent) (owed old e) (all_owed old) (deficit old) passive) in (
+    (arith, due, more_when_passive e (parent_of parent) (owed old e) (all_owed old) (deficit old) passive) in (
       (among ts e slot t is, enough),
       due,
       step,

@@ -228,7 +228,7 @@ A vertex is a number from 0 to below \"vertices\" of the graph file. In a schedu
 an edge is a number too: edges of the graph come first, from 0 on, and then a root edge for
 each vertex. With m edges, m + v brings vertex v its first chips. A log has processes from 0
 to 8191 and channels from 0 to 131071. With `--large` a command takes those up to 4194303
-and 16777215.
+and 16777215. For libchipfire i is a drop, from 0.
 ");
 
 static REPEATED: Explanation = row!(27 Repeated ROW:
@@ -306,12 +306,12 @@ Only callers of the library chip_net meet this. Try again after the vertex made 
 static BOOKS: Explanation = row!(46 Books NOWHERE:
     "no such edge, a count is too high, or the books of the part are not sound", "\
 Only callers of libchipfire meet this. `chipfire_books_check` looks at all edges of the part:
-each slice ascends by edges, no more is answered than there was, and a part has a parent
-exactly if it owes something there.
+each slice ascends by edges, which are below 2^64 - 1, no more is answered than there was,
+and a part has a parent exactly if it owes something there.
 ");
 
 static NOT_YET: Explanation = row!(47 NotYet NOWHERE:
-    "so many messages may not be acknowledged yet", "\
+    "not all of these messages may be acknowledged yet", "\
 Only callers of libchipfire meet this. `chipfire_may_ack` tells how many may be. The message
 that engaged a part waits until the part is passive, owes nothing else and has no deficit.
 ");

@@ -406,6 +406,8 @@ def grid(
     given = [whole(it, f"the {word}", 1) for it, word in zip((width, height, *more), _WORDS)]
     whole(math.prod(given), "the number of squares", 1, MAX_LARGE_VERTICES - 1)
     joined = [*periodic] if isinstance(periodic, Iterable) else [periodic] * len(given)
+    if wrong := [it for it in joined if it not in (False, True)]:
+        raise TypeError(f"a direction is periodic or not, True or False, and not {wrong[0]!r}")
     if not any(joined) and not more and lattice == "square" and isinstance(loss, int) and loss == 0:
         return _plain_grid(*given)
     if lattice not in _BESIDE or more and lattice != "square":
@@ -418,6 +420,8 @@ def grid(
     extents, sink = given[::-1], math.prod(given)
     shape = (sink // given[0], given[0])
     losses = Graph(sink + 1, sink, Columns(*(array("i") for _ in range(3))), shape=shape).numbers(loss, 0, "lost chips")
+    if losses[sink]:
+        raise ValueError(f"the sink loses no chips, and {losses[sink]} are said")
     if all(joined) and not any(losses):
         raise ValueError("no chip leaves a grid that is periodic on all sides: it takes a loss")
     edges = _lattice_edges(extents, joined[::-1], lattice, range(sink), losses)
@@ -495,7 +499,7 @@ def region(mask: Iterable[Iterable[Any]], lattice: str = "square") -> Graph:
     row and column together are even, else above."""
     mask = mask if isinstance(mask, Iterable) else [mask]
     rows = [[*row] if isinstance(row, Iterable) else [str(row)] for row in mask]
-    if wrong := [row for row in rows if any(isinstance(it, str) for it in row)]:
+    if wrong := [row for row in rows if any(isinstance(it, str) or it != it for it in row)]:
         raise TypeError(f"a row of a mask has true and false, and is not {wrong[0]}")
     if lattice not in _BESIDE:
         raise ValueError(f"no lattice is named {lattice!r}; there are {', '.join(_BESIDE)}")

@@ -1,30 +1,25 @@
 -- Serves AvalanchesCommand.antt.
 -- Drops that a file names, and what playing them comes to.
 use Rattle.std.proofs.Common.{◌≡◌, ℕ, ◌<◌, Bool, true, false, List, [], ◌∷◌, length, map, take, slice_index, None, Some}
-use Rattle.std.proofs.Common.{All, sym, ◌∙◌, subst, arith, inl, inr}
+use Rattle.std.proofs.Common.{All, sym, ◌∙◌, subst, inl, inr}
 use Rattle.std.proofs.lemmas.Bool.{false_from_ne_true}
-use Rattle.std.proofs.lemmas.Bool.Decides.{nat_tests}
-use Rattle.std.proofs.lemmas.Grind.{common_steps}
 use Rattle.std.proofs.lemmas.List.Elements.{All-nil, All-cons}
 use Rattle.chip_graph.specs.ChipGame.{ChipGame}
 use Rattle.chip_file.specs.DropsText.{drop_in, drops_of_text, drops_text_fault}
 use Rattle.chip_file.specs.Rows.{Row, by_index, first_row_fault}
-use Rattle.chip_file.specs.VertexRows.{vertex_in, vertex_row_fault}
+use Rattle.chip_file.specs.VertexRows.{vertex_row_fault}
+use Rattle.chip_file.proofs.VertexRowLemmas.{names_vertex}
 use Rattle.chip_sequence.specs.Play.{IsPlayed}
 use Rattle.chip_sequence.specs.declared.outcome.Outcome.{Outcome}
 use Rattle.chip_sequence.proofs.CertificateLemmas.{end_of_the_way}
 use Rattle.chip_engine.proofs.SittingLemmas.{none_legal}
-use Rattle.chip_drops.specs.declared.pile.Pile.{Pile}
-use Rattle.chip_drops.specs.Pile.{IsPile, IsStable}
-use Rattle.chip_drops.specs.Rows.{LeavesRows, EndsAt}
+use Rattle.chip_fire.specs.declared.pile.Pile.{Pile}
+use Rattle.chip_fire.specs.Pile.{IsPile, IsStable}
+use Rattle.chip_engine.specs.DropRows.{LeavesRows, EndsAt}
 use Rattle.chip_report.specs.ReportText.{is_closed}
 use Rattle.chip_command.proofs.InputLemmas.{none_parts}
 use Rattle.chip_command.proofs.RoundTripLemmas.{given}
 use Rattle.chip_engine.specs.AvalanchesCommand.{TellsDrops, ComesTo}
-
--- a row with no fault of its own names a vertex
-names_vertex : (n index : ℕ) (row : Row) → vertex_row_fault n index row ≡ None → vertex_in row < n
-names_vertex n index row e = grind (arith, nat_tests, common_steps)
 
 rows_vertices : (n : ℕ) (before rows : List Row) → first_row_fault (by_index (vertex_row_fault n)) before rows ≡ None
     → All (λ (d : ℕ × ℕ). d.0 < n) (map drop_in rows)

@@ -10,10 +10,8 @@ use Rattle.chip_graph.specs.declared.fault.GameFault.TheVariants.{Total}
 use Rattle.chip_file.specs.DropsText.{drops_of_text, drops_text_fault}
 use Rattle.chip_sequence.specs.Play.{IsPlayed}
 use Rattle.chip_sequence.specs.declared.outcome.Outcome.{Outcome}
-use Rattle.chip_drops.specs.Pile.{IsStable}
-use Rattle.chip_drops.specs.Rows.{TellsRows, FailsOut, rows_text}
-use Rattle.chip_drops.specs.declared.rows.RowsFault.{RowsFault}
-use Rattle.chip_drops.specs.declared.rows.RowsFault.TheVariants as rows_fault
+use Rattle.chip_fire.specs.Pile.{IsStable}
+use Rattle.chip_engine.specs.DropRows.{TellsRows, FailsOut, rows_text}
 use Rattle.chip_report.specs.ReportText.{is_closed, report_text}
 use Rattle.chip_report.specs.Written.{WritesAll}
 use Rattle.chip_report.specs.declared.write.WriteFault.{WriteFault}
@@ -33,11 +31,6 @@ reading_drops limits drops g =
       refuses = λ fault. named.refuses fault
           ⊎ ((ds : List (ℕ × ℕ)) × named.gives ds × (max_total < sum g.start + all_brought ds) × (fault ≡ Game Total));
     }
-
--- a fault of the rows, among those of commands
-abbrev pub fault_of_rows : RowsFault → Fault
-fault_of_rows (rows_fault.Write w) = Write w
-fault_of_rows rows_fault.NoMemory = NoMemory
 
 -- the limit does not stop the play of the game with these drops: it ends with no vertex legal
 abbrev pub Closes : ChipGame → List (ℕ × ℕ) → Type 0
@@ -73,8 +66,7 @@ PlaysDrops g ds old new (Ok outcome) = (text : List ℕ) × (g' : ChipGame) × C
 PlaysDrops g ds old new (Err fault) =
     ((fault ≡ NoMemory) × Keeps old new)
     ⊎ ((w : WriteFault) × (fault ≡ Write w) × WritesAll old new (rows_text []) (Err w))
-    ⊎ ((n : ℕ) × (text : List ℕ) × TellsDrops g (take n ds) text
-    × (f : RowsFault) × (fault ≡ fault_of_rows f) × FailsOut old new text f)
+    ⊎ ((n : ℕ) × (text : List ℕ) × TellsDrops g (take n ds) text × FailsOut old new text fault)
 
 -- how a command ends that tells an outcome
 abbrev pub ended_of : Outcome → Ended

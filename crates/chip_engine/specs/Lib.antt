@@ -3,6 +3,7 @@ pub mod ExplainCommand
 pub mod ResumeCommand
 pub mod VerifyCommand
 pub mod GuessCommand
+pub mod DropRows
 pub mod AvalanchesCommand
 pub mod Sittings
 pub mod Worked

@@ -6,12 +6,12 @@ ghost use Rattle.chip_graph.specs.ChipGame.{IsGame};
 ghost use Rattle.chip_graph.specs.More.{AreOfVertices, HasRoom};
 ghost use Rattle.chip_sequence.specs.Play.{IsPlayed};
 ghost use Rattle.chip_engine.specs.AvalanchesCommand.{AvalanchesAnswers, PlaysDrops, ReportAnswer};
-ghost use Rattle.chip_engine.specs.AvalanchesCommand.{fault_of_rows, reading_drops};
+ghost use Rattle.chip_engine.specs.AvalanchesCommand.{reading_drops};
 
+use crate::drop_rows::{HEADER, write_rows};
 use chip_command::{Ended, Fault, PlayOptions, read_game, status_of};
-use chip_drops::{HEADER, Pile, RowsFault, write_rows};
 use chip_file::{drops_of_text, read_whole_within};
-use chip_fire::{Unwatched, Watch, plain_watched};
+use chip_fire::{Pile, Unwatched, Watch, plain_watched};
 use chip_graph::{Game, GameFault, Limits};
 use chip_report::{is_closed, report, write_all_of};
 use chip_sequence::Outcome;
@@ -114,17 +114,7 @@ fn play_drops<P: Watch, W: Write>(
     let (pile, written) = write_rows(alloc, pile, drops, watch, output);
     match written {
         Ok(_) => Ok(pile.outcome(alloc)?),
-        Err(fault) => Err(fault_of_rows(fault)),
-    }
-}
-
-/// A fault of the rows, among those of commands.
-fn fault_of_rows(fault: RowsFault) -> Fault
-    ensures { result ≡ fault_of_rows fault }
-{
-    match fault {
-        RowsFault::Write(fault) => Fault::Write(fault),
-        RowsFault::NoMemory => Fault::NoMemory,
+        Err(fault) => Err(fault),
     }
 }
 

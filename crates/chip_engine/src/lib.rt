@@ -7,6 +7,7 @@
 pub use avalanches::{avalanches_engine, avalanches_engine_with};
 pub use check::{check_engine, check_engine_with};
 pub use chip_command::PlayOptions;
+pub use drop_rows::write_rows;
 pub use explain::explain_engine;
 pub use plain::{plain_engine, plain_engine_with, plain_guess_engine_with};
 pub use replay::{ReplayOptions, replay_engine, replay_engine_with};
@@ -17,6 +18,7 @@ pub use verify::{verify_engine, verify_engine_with};
 mod avalanches;
 mod board;
 mod check;
+pub mod drop_rows;
 mod explain;
 mod guess;
 pub mod laws;

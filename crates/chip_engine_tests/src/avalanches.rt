@@ -1,13 +1,12 @@
 //! Chips dropped one after another, by hand on the triangle.
 
 ghost use Rattle.std.specs.Prelude.{◌≡◌, sum, slice_index};
-ghost use Rattle.chip_drops.specs.Pile.{IsPile, IsStable};
+ghost use Rattle.chip_fire.specs.Pile.{IsPile, IsStable};
 
 use crate::engines::{Heard, NO_LIMIT, TRIANGLE, closed};
 use chip_command::{Ended, Fault, read_game};
-use chip_drops::{Avalanche, Pile, write_rows};
-use chip_engine::{PlayOptions, avalanches_engine, avalanches_engine_with};
-use chip_fire::{Unwatched, plain};
+use chip_engine::{PlayOptions, avalanches_engine, avalanches_engine_with, write_rows};
+use chip_fire::{Avalanche, Pile, Unwatched, plain};
 use chip_graph::Limits;
 use chip_report::{WriteFault, is_closed};
 use std::alloc::Global;

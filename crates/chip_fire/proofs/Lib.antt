@@ -2,3 +2,4 @@ pub mod LooksLemmas
 pub mod PlayLemmas
 pub mod WorkLemmas
 pub mod ResumeLemmas
+pub mod DropLemmas

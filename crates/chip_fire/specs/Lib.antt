@@ -10,3 +10,6 @@ pub mod WorkList
 pub mod Player
 pub mod Given
 pub mod Search
+pub mod Avalanches
+pub mod Pile
+pub mod Worked

@@ -1,10 +1,13 @@
-//! The plain player of chip-firing games, its steps, and going on with a play that was stopped.
+//! The plain player of chip-firing games, its steps, going on with a play that was stopped, and chips dropped one after
+//! another on a game that has ended.
 #![tactic(auto)]
 
+pub use avalanche::Avalanche;
 pub use chip_guess::Search;
 pub use chip_sequence::{
     AfterFault, NotLegal, Outcome, ResumeFault, Resumed, after, after_into, enough, fire,
 };
+pub use pile::{BegunDrop, Pile};
 pub use play::Play;
 pub use player::{plain, plain_given, plain_watched};
 pub use rounds::make_rounds;
@@ -13,9 +16,12 @@ pub use watch::{GivenUse, Unwatched, Watch};
 pub use work_list::{is_legal, work_off};
 
 mod advance;
+mod avalanche;
 mod burning;
 mod certificate;
 mod given;
+pub mod laws;
+pub mod pile;
 mod play;
 pub mod player;
 mod rounds;

@@ -9,10 +9,10 @@ use Rattle.chip_sequence.specs.Counted.{game_from}
 use Rattle.chip_sequence.specs.Play.{IsPlayed}
 use Rattle.chip_sequence.specs.Sequence.{IsWholePlay, HasEnded}
 use Rattle.chip_sequence.specs.declared.outcome.Outcome.{Outcome}
-use Rattle.chip_drops.specs.declared.avalanche.Avalanche.{Avalanche}
-use Rattle.chip_drops.specs.declared.pile.Pile.{Pile}
-use Rattle.chip_drops.specs.Avalanches.{AreAvalanches}
-use Rattle.chip_drops.specs.Pile.{IsPile, IsStable}
+use Rattle.chip_fire.specs.declared.avalanche.Avalanche.{Avalanche}
+use Rattle.chip_fire.specs.declared.pile.Pile.{Pile}
+use Rattle.chip_fire.specs.Avalanches.{AreAvalanches}
+use Rattle.chip_fire.specs.Pile.{IsPile, IsStable}
 use Rattle.chip_library.specs.declared.edges.EdgeLists.{EdgeLists}
 use Rattle.chip_library.specs.declared.fault.CallFault.{CallFault}
 use Rattle.chip_library.specs.declared.fault.CallFault.TheVariants.{Lengths, Vertex, Total, Stopped, NoMemory}

@@ -4,8 +4,8 @@ ghost use Rattle.std.specs.Prelude.{◌≡◌, ◌↔◌, ◌⊎◌, ◌+◌, �
 ghost use Rattle.chip_graph.specs.Limits.{max_total};
 ghost use Rattle.chip_graph.specs.Multigraph.{IsGraph};
 ghost use Rattle.chip_sequence.specs.Counted.{game_from};
-ghost use Rattle.chip_drops.specs.Pile.{IsPile, IsStable};
-ghost use Rattle.chip_drops.specs.declared.pile.Pile.{Pile};
+ghost use Rattle.chip_fire.specs.Pile.{IsPile, IsStable};
+ghost use Rattle.chip_fire.specs.declared.pile.Pile.{Pile};
 ghost use Rattle.chip_library.specs.declared.fault.CallFault.TheVariants.{NoMemory};
 ghost use Rattle.chip_library.specs.Drops.{Told, AreOn, AreTold, Avalanches, IsFaultAfter, Leaves};
 ghost use Rattle.chip_library.specs.Drops.{AreDrops, BeginsPile, IsNoPile};
@@ -13,8 +13,7 @@ ghost use Rattle.chip_library.specs.Drops.{AreDrops, BeginsPile, IsNoPile};
 use crate::edges::EdgeLists;
 use crate::fault::CallFault;
 use crate::game::game_of;
-use chip_drops::{Avalanche, Pile};
-use chip_fire::plain;
+use chip_fire::{Avalanche, Pile, plain};
 use chip_graph::Graph;
 use chip_graph::game::MAX_TOTAL;
 use std::alloc::{AllocError, Global};
@@ -23,7 +22,7 @@ use std::alloc::{AllocError, Global};
 /// vertex, and plays on to the end each time.
 ///
 /// `chips` has a number for each vertex. The other slices have one for each drop: its vertex, how many chips fall there,
-/// and the size, the extent and the loss of the avalanche (`chip_drops::Avalanche`). The chips of the game and of all
+/// and the size, the extent and the loss of the avalanche (`chip_fire::Avalanche`). The chips of the game and of all
 /// drops are 2^40 at most.
 ///
 /// Then `chips` are those at the end, and the other slices have the avalanches. On a fault all four stay as they were.

@@ -16,9 +16,9 @@ use Rattle.chip_sequence.specs.declared.outcome.Outcome.{Outcome}
 use Rattle.chip_sequence.specs.declared.resumed.Resumed.{Resumed}
 use Rattle.chip_sequence.proofs.SittingLemmas.{leads_both, played_is_sitting}
 use Rattle.chip_fire.specs.Player.{PlaysOut}
-use Rattle.chip_drops.specs.Avalanches.{dropped, IsAvalanche, TellsAvalanche}
-use Rattle.chip_drops.specs.declared.avalanche.Avalanche.{Avalanche}
-use Rattle.chip_drops.specs.declared.pile.Pile.{Pile}
+use Rattle.chip_fire.specs.Avalanches.{dropped, IsAvalanche, TellsAvalanche}
+use Rattle.chip_fire.specs.declared.avalanche.Avalanche.{Avalanche}
+use Rattle.chip_fire.specs.declared.pile.Pile.{Pile}
 use Rattle.chip_report.specs.Reportable.{content}
 use Rattle.chip_trace.specs.Interleaving.{Placed, rows_of, fires, firings, with_firing}
 use Rattle.chip_link.specs.declared.trace.TraceRow.{TraceRow}
@@ -27,7 +27,7 @@ use Rattle.chip_command.proofs.OneReportLemmas.{same_numbers}
 use Rattle.chip_library.specs.Batch.{Games, ArePlayed, row, game_at}
 use Rattle.chip_report.specs.ReportText.{is_closed}
 use Rattle.chip_engine.proofs.SittingLemmas.{none_legal}
-use Rattle.chip_drops.specs.Pile.{IsStable}
+use Rattle.chip_fire.specs.Pile.{IsStable}
 use Rattle.chip_part.specs.Setting.{Setting, setting_with}
 use Rattle.chip_core.specs.Positions.{firings as firings_in}
 use Rattle.chip_core.specs.Outcomes.{ComesTo}

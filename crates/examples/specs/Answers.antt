@@ -6,8 +6,8 @@ use Rattle.chip_sequence.specs.Sequence.{position_after, IsFiringSequence, count
 use Rattle.chip_sequence.specs.Sittings.{fired_in_all}
 use Rattle.chip_sequence.specs.declared.outcome.Outcome.{Outcome}
 use Rattle.chip_sequence.specs.declared.resumed.Resumed.{Resumed}
-use Rattle.chip_drops.specs.Avalanches.{dropped, Tells}
-use Rattle.chip_drops.specs.declared.avalanche.Avalanche.{Avalanche}
+use Rattle.chip_fire.specs.Avalanches.{dropped, Tells}
+use Rattle.chip_fire.specs.declared.avalanche.Avalanche.{Avalanche}
 use Rattle.chip_report.specs.ReportText.{report_text}
 use Rattle.chip_report.specs.ReportTwo.{IsAnyReportWithin}
 use Rattle.chip_command.specs.Inputs.{MeansGame}

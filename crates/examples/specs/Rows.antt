@@ -3,7 +3,7 @@ use Rattle.std.specs.Prelude.{◌≡◌, ◌⊎◌, ℕ, ◌+◌, ◌<◌, List,
 use Rattle.chip_graph.specs.Limits.{standard}
 use Rattle.chip_graph.specs.ChipGame.{ChipGame}
 use Rattle.chip_file.specs.DropsText.{drops_of_text}
-use Rattle.chip_drops.specs.Rows.{rows_text}
+use Rattle.chip_engine.specs.DropRows.{rows_text}
 use Rattle.chip_command.specs.Inputs.{MeansGame}
 use Rattle.chip_engine.specs.AvalanchesCommand.{Closes, TellsDrops}
 

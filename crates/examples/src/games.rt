@@ -9,8 +9,7 @@ ghost use Rattle.chip_library.specs.EdgeLists.{graph_of};
 ghost use Rattle.chip_library.specs.Batch.{row, game_at};
 ghost use Rattle.examples.specs.Answers.{IsEveryEnd, SetsOff};
 
-use chip_drops::{Avalanche, Pile};
-use chip_fire::{Outcome, ResumeFault, Resumed, plain, resume};
+use chip_fire::{Avalanche, Outcome, Pile, ResumeFault, Resumed, plain, resume};
 use chip_graph::{Edge, Game, Graph};
 use chip_library::{CallFault, EdgeLists, stabilize_all};
 use chip_report::is_closed;

@@ -1,8 +1,7 @@
 use Rattle.std.proofs.Common.{◌≡◌, [], true, length, refl, sym, ◌∙◌, arith, inl, inr}
 use Rattle.std.proofs.lemmas.List.{take_all}
 use Rattle.chip_command.proofs.CommandLemmas.{handed_on}
-use Rattle.chip_drops.specs.Rows.{rows_text}
-use Rattle.chip_drops.specs.declared.rows.RowsFault.TheVariants.{NoMemory}
+use Rattle.chip_engine.specs.DropRows.{rows_text}
 use Rattle.chip_report.specs.ReportText.{is_closed}
 use Rattle.chip_engine.proofs.DropLemmas.{tells, comes_to}
 use Rattle.chip_engine.proofs.SittingLemmas.{none_legal}
@@ -28,7 +27,7 @@ returns-in_err-outcome-in-Ok g c =
     let (n, text, left, leaves, ends, went) = rw c.in-Ok.is at c.write_rows-pile.ensures in
     let told = tells _ _ c.requires.played _ c.in_ok-pile.ensures.game c.in_ok-pile.ensures.chips _ left text leaves in
     rw (handed_on _ c.from_residual-in_err-outcome-in-Ok.ensures.1)
-    (inr (inr (n, text, told, NoMemory, refl, (length text, rw (take_all (length text) text (omega arith)) went, omega arith))))
+    (inr (inr (n, text, told, (length text, rw (take_all (length text) text (omega arith)) went, omega arith))))
 
 pub returns-in_ok-outcome-in-Ok : goal.returns-in_ok-outcome-in-Ok
 returns-in_ok-outcome-in-Ok g c =
@@ -42,4 +41,4 @@ pub returns-in-Err : goal.returns-in-Err
 returns-in-Err g c =
     let (n, text, left, leaves, drops, fails) = rw c.in-Err.is at c.write_rows-pile.ensures in
     let told = tells _ _ c.requires.played _ c.in_ok-pile.ensures.game c.in_ok-pile.ensures.chips _ left text leaves in
-    inr (inr (n, text, told, c.in-Err.fault, c.fault_of_rows.ensures, fails))
+    inr (inr (n, text, told, fails))

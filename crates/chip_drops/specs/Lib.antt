@@ -1,4 +1,0 @@
-pub mod Avalanches
-pub mod Pile
-pub mod Rows
-pub mod Worked

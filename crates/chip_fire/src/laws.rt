@@ -1,0 +1,14 @@
+//! Laws of drops: functions that do nothing, whose contracts are the laws.
+
+ghost use Rattle.chip_fire.specs.Avalanches.{DropsAddUp};
+ghost use Rattle.chip_fire.specs.Worked.{ThreeDrops};
+
+/// Three drops on the triangle, as the definitions tell them.
+pub fn three_drops()
+    ensures { ThreeDrops }
+{}
+
+/// The avalanches of drops, one after another, are together the play of all chips at the start.
+pub fn drops_add_up()
+    ensures { DropsAddUp }
+{}

@@ -1,10 +1,10 @@
 -- Serves Books.antt, Past.antt.
 -- The books of a past, row by row.
 use Rattle.chip_log.proofs.Names.{◌≡◌, ◌≢◌, ℕ, ◌+◌, ◌≤◌, ◌<◌, Bool, true, false, eqb, List, [], ◌∷◌, ◌++◌, length}
-use Rattle.chip_log.proofs.Names.{get_or, refl, sym, ap, ◌∙◌, subst, arith, ltb-true, ltb-false, eqb-true, eqb-false}
-use Rattle.chip_log.proofs.Names.{nil_from_length, ◌||◌, nat_lt, slice_index_or, said_before, Passes, rows_at, said_at}
+use Rattle.chip_log.proofs.Names.{refl, ap, arith, ltb-true, ltb-false}
+use Rattle.chip_log.proofs.Names.{nil_from_length, ◌||◌, nat_lt, said_before, Passes, rows_at, said_at}
 use Rattle.chip_log.proofs.Names.{is_message_needed, is_needed, Keeps, steps_of, is_out, outs, ins, HasEnds, nat_tests}
-use Rattle.chip_log.proofs.Names.{is_in, AreInFlight, AreKept, AreBooks, TallyState, count, Books, Said, LogRow, Step}
+use Rattle.chip_log.proofs.Names.{is_in, AreInFlight, AreKept, AreBooks, TallyState, count, Books, LogRow, Step}
 use Rattle.chip_log.proofs.Names.{Out, Stream}
 use Rattle.chip_log.proofs.CountLemmas.{rows-append, same_stream_is}
 use Rattle.chip_log.proofs.MetLemmas.{same_self}
@@ -18,21 +18,15 @@ use Rattle.chip_log.specs.declared.books.Said.TheVariants as said
 pub make_flight : (pre : List LogRow) (x : LogRow) (old new : TallyState) → AreInFlight pre old → Passes x.step new old
     → AreInFlight (pre ++ x ∷ []) new
 make_flight pre x old new was made = λ s.
-    let a = was s in
-    let b = made.counts s in
-    let c = rows-append (is_out s) pre (x ∷ []) in
-    let d = rows-append (is_in s) pre (x ∷ []) in
-    omega arith
+    let c = rows-append (is_out s) pre (x ∷ []) in let d = rows-append (is_in s) pre (x ∷ []) in
+    omega (arith, was s, made.counts s)
 
 -- and taken back
 pub pass_flight : (pre : List LogRow) (x : LogRow) (old new : TallyState) → AreInFlight (pre ++ x ∷ []) old
     → Passes x.step old new → AreInFlight pre new
 pass_flight pre x old new was passed = λ s.
-    let a = was s in
-    let b = passed.counts s in
-    let c = rows-append (is_out s) pre (x ∷ []) in
-    let d = rows-append (is_in s) pre (x ∷ []) in
-    omega arith
+    let c = rows-append (is_out s) pre (x ∷ []) in let d = rows-append (is_in s) pre (x ∷ []) in
+    omega (arith, was s, passed.counts s)
 
 -- ---- rows that are kept
 
@@ -42,23 +36,19 @@ kept_more kept x old new within counted was keeps = record {
   taken = λ s. let a = keeps.taken s in let b = was.taken s in omega arith;
   sent = λ s. let a = keeps.sent s in let b = was.sent s in omega arith;
   rows = λ q.
-      let a = ap (λ (items : List ℕ). get_or items q 0) keeps.rows in
-      let b = set_at old.rows.items x.process q (rows_at old x.process + 1) 0 counted in
-      let c = was.rows q in
-      grind (arith, nat_tests);
+      let b = set_at old.rows.items x.process q (rows_at old x.process + 1) 0 counted in let c = was.rows q in
+      rw keeps.rows (grind (arith, nat_tests));
   said = λ q.
-      let a = ap (λ (items : List Said). slice_index_or items q said.Unsaid) keeps.said in
       let b = set_at old.said.items x.process q (said_before x.step (said_at old x.process)) said.Unsaid within in
-      let c = was.said q in
-      grind (arith, nat_tests);
+      let c = was.said q in rw keeps.said (grind (arith, nat_tests));
 }
 
 kept_same : (kept : List LogRow) (x : LogRow) (old new : Books) → AreKept kept old → Keeps false x old new → AreKept kept new
 kept_same kept x old new was keeps = record {
   taken = λ s. let a = keeps.taken s in let b = was.taken s in omega arith;
   sent = λ s. let a = keeps.sent s in let b = was.sent s in omega arith;
-  rows = λ q. ap (λ (items : List ℕ). get_or items q 0) keeps.rows ∙ was.rows q;
-  said = λ q. ap (λ (items : List Said). slice_index_or items q said.Unsaid) keeps.said ∙ was.said q;
+  rows = rw keeps.rows was.rows;
+  said = rw keeps.said was.said;
 }
 
 -- ---- a look at a row
@@ -87,19 +77,13 @@ module _ (log : List LogRow) (ends : HasEnds log) (p i : ℕ) (pre kept : List L
       → (s : Stream) × (is_out s step ≡ true) × (outs s pre < ins s pre + ins s kept)
   message_true (Out s) is =
       let a = ltb-true (count new.flight s) (count old.taken s) is in
-      let b = flight s in
-      let c = was.keeps.taken s in
-      (s, same_self s, omega arith)
+      (s, same_self s, omega (arith, flight s, was.keeps.taken s))
   message_true _ is = absurd (cc is)
 
   message_false : (step : Step) → is_message_needed new.flight old.taken step ≡ false
       → (s : Stream) → is_out s step ≡ true → ins s pre + ins s kept ≤ outs s pre
-  message_false (Out t) is = λ s same.
-      subst (λ (r : Stream). ins r pre + ins r kept ≤ outs r pre) (sym (same_stream_is s t same))
-      (let a = ltb-false (count new.flight t) (count old.taken t) is in
-      let b = flight t in
-      let c = was.keeps.taken t in
-      omega arith)
+  message_false (Out t) is = λ s same. rw (same_stream_is s t same)
+      (let a = ltb-false (count new.flight t) (count old.taken t) is in omega (arith, flight t, was.keeps.taken t))
   message_false _ is = λ s same. absurd (cc same)
 
   pub looked : Keeps (is_needed x new.flight old) x old new → Found
@@ -122,10 +106,8 @@ module _ (log : List LogRow) (ends : HasEnds log) (p i : ℕ) (pre kept : List L
       by_rows : (b : Bool) → x.process ≢ p → nat_lt 0 (rows_at old x.process) ≡ b
           → Keeps (b || is_message_needed new.flight old.taken x.step) x old new → Found
       by_rows true ne is keeps = kept_row (keep_other log ends p i pre kept x split (λ none.
-          let a = ltb-true 0 (rows_at old x.process) is in
-          let b = was.keeps.rows x.process in
-          let c = ap length none in
-          absurd (omega arith))) keeps
+          let a = ltb-true 0 (rows_at old x.process) is in let b = was.keeps.rows x.process in
+          absurd (omega (arith, ap length none)))) keeps
       by_rows false ne is keeps = by_message (is_message_needed new.flight old.taken x.step) ne
           (nil_from_length (steps_of x.process kept)
           (let a = ltb-false 0 (rows_at old x.process) is in let b = was.keeps.rows x.process in omega arith)) refl keeps
@@ -133,6 +115,5 @@ module _ (log : List LogRow) (ends : HasEnds log) (p i : ℕ) (pre kept : List L
       by_claimer : (a : Bool) → eqb x.process old.claimer ≡ a
           → Keeps (a || (nat_lt 0 (rows_at old x.process) || is_message_needed new.flight old.taken x.step)) x old new → Found
       by_claimer true is keeps = kept_row
-          (keep_claimer log ends p i pre kept x split (eqb-true x.process old.claimer is ∙ claimer)) keeps
-      by_claimer false is keeps = by_rows (nat_lt 0 (rows_at old x.process))
-          (λ e. eqb-false x.process old.claimer is (e ∙ sym claimer)) refl keeps
+          (keep_claimer log ends p i pre kept x split (grind (arith, nat_tests))) keeps
+      by_claimer false is keeps = by_rows (nat_lt 0 (rows_at old x.process)) (λ e. grind (arith, nat_tests)) refl keeps

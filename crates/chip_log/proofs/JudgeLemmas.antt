@@ -1,7 +1,7 @@
 -- Serves Judge.antt.
 -- What is left, by books.
-use Rattle.chip_log.proofs.Names.{◌≡◌, ℕ, ◌≤◌, ◌<◌, Bool, true, false, List, [], ◌∷◌, ◌++◌, refl, sym, ap, ◌∙◌, arith}
-use Rattle.chip_log.proofs.Names.{cond, length-set, ne_eqb, get_or_past, All-head, All-tail, slice_index_or, ◌&&◌, not}
+use Rattle.chip_log.proofs.Names.{◌≡◌, ℕ, ◌≤◌, ◌<◌, Bool, true, false, List, [], ◌∷◌, ◌++◌, refl, ap, ◌∙◌, arith}
+use Rattle.chip_log.proofs.Names.{length-set, get_or_past, All-head, All-tail, slice_index_or}
 use Rattle.chip_log.proofs.Names.{slice_set, Option, Some, None, MatchBool, dite, dec_lt, said_before, said_of, IsOf}
 use Rattle.chip_log.proofs.Names.{said_by, basic, IsVerdict, stream_of, NoWay, IsFirstWay, first_step, begins_with}
 use Rattle.chip_log.proofs.Names.{AreBeginners, busy_at, is_busy, IsLeft, AreCounts, AreRowsOf, IsOpenEnd, AreShown}
@@ -31,11 +31,11 @@ pub more_beginners : (sizes : Sizes) (pre : List LogRow) (x : LogRow) (beginners
     → AreBeginners sizes (pre ++ x ∷ [])
     (slice_set beginners x.process (first_step (slice_index_or beginners x.process None) x.step))
 more_beginners sizes pre x beginners was within = record {
-  each = length-set beginners x.process (first_step (slice_index_or beginners x.process None) x.step) ∙ was.each;
+  each = rw length-set was.each;
   begins = λ q.
       let a = set_at beginners x.process q (first_step (slice_index_or beginners x.process None) x.step) None
       (let b = was.each in omega arith) in
-      let b = ap (begins_with None) (steps_of-append q pre (x ∷ [])) in
+      let b = steps_of-append q pre (x ∷ []) in
       let c = begins_with-append None (steps_of q pre) (steps_of q (x ∷ [])) in
       let d = was.begins q in
       grind (arith, nat_tests);
@@ -64,16 +64,17 @@ earlier was step said.Active = refl
 
 active_said : (was : Bool) (steps : List Step) → active_after was steps ≡ activity was (said_of steps)
 active_said was [] = refl
-active_said was (step ∷ steps) = active_after-append was (step ∷ []) steps
-    ∙ active_said (active_after was (step ∷ [])) steps ∙ earlier was step (said_of steps)
+active_said was (step ∷ steps) =
+    rw (active_after-append was (step ∷ []) steps, active_said (active_after was (step ∷ [])) steps)
+    (earlier was step (said_of steps))
 
 -- a process without rows does not begin active
 busy_is : (what : Said) (steps : List Step) → busy_at what (begins_with None steps) ≡ activity (begins_active steps) what
 busy_is said.Passive steps = refl
 busy_is said.Active steps = refl
 busy_is said.Unsaid [] = refl
-busy_is said.Unsaid (Active ∷ steps) = ap (busy_at said.Unsaid) (begun true steps)
-busy_is said.Unsaid (_ ∷ steps) = ap (busy_at said.Unsaid) (begun false steps)
+busy_is said.Unsaid (Active ∷ steps) = rw (begun true steps)
+busy_is said.Unsaid (_ ∷ steps) = rw (begun false steps)
 
 -- ---- what is left
 
@@ -86,8 +87,7 @@ none_beyond sizes s beyond (x ∷ xs) fits =
     omega arith
   where
     by : (step : Step) → IsOf sizes.channels step → is_out s step ≡ false
-    by (Out t) inside = ap (λ (b : Bool). b && cond s.is_control t.is_control (not t.is_control))
-        (ne_eqb s.channel t.channel (λ e. absurd (omega arith)))
+    by (Out t) inside = grind (arith, nat_tests)
     by _ inside = refl
 
 -- rows of a log that may stand as they do, and their books
@@ -107,37 +107,24 @@ module _ (log : List LogRow) (sizes : Sizes) (fits : Fits sizes log) (now : List
   module _ (sized : AreSized sizes b) (beginners : List (Option Bool)) (made : AreBeginners sizes log beginners) where
     is_busy_is : (q : ℕ) → is_busy beginners b q ≡ is_active log now q
     is_busy_is q =
-        ap (λ (what : Said). busy_at what (slice_index_or beginners q None)) (keeps.said q)
-        ∙ ap (busy_at (said_of (steps_of q now))) (made.begins q)
-        ∙ busy_is (said_of (steps_of q now)) (steps_of q log)
-        ∙ sym (active_said (begins_active (steps_of q log)) (steps_of q now))
+        rw (keeps.said q, made.begins q, active_said (begins_active (steps_of q log)) (steps_of q now))
+        (busy_is (said_of (steps_of q now)) (steps_of q log))
 
     pub left_is : (v : Verdict) → IsLeft sizes beginners b v → IsLeftBehind log now v
     left_is verdict.Right left = record {
       quiet = no_way false left.0;
-      passive = λ q. sym (is_busy_is q) ∙ dite (dec_lt q sizes.processes)
-          (λ l. left.1 q l)
-          (λ beyond.
-          let a = sized.processes in
-          let e = made.each in
-          ap (λ (what : Said). busy_at what (slice_index_or beginners q None))
-          (get_or_past b.said.items q said.Unsaid (omega arith))
-          ∙ ap (busy_at said.Unsaid) (get_or_past beginners q None (omega arith)));
+      passive = λ q. rw (← is_busy_is q) (dite (dec_lt q sizes.processes) (λ l. left.1 q l) (λ beyond.
+          rw (get_or_past b.said.items q said.Unsaid (omega arith), get_or_past beginners q None (omega arith))));
     }
     left_is (verdict.OnItsWay c k) left = record {
-      next = let a = keeps.taken (basic c) in let d = left.1 in omega arith;
-      sent = let a = some_way false c left.0 in let d = left.1 in let e = keeps.taken (basic c) in omega arith;
-      least = λ d less.
-          let a = left.0.2 d less in
-          let e = keeps.taken (basic d) in
-          let f = keeps.sent (basic d) in
-          let g = le (basic d) in
-          omega arith;
+      next = omega (arith, keeps.taken (basic c), left.1);
+      sent = omega (arith, some_way false c left.0, left.1, keeps.taken (basic c));
+      least = λ d less. omega (arith, left.0.2 d less, keeps.taken (basic d), keeps.sent (basic d), le (basic d));
     }
     left_is (verdict.Active q) left = record {
       quiet = no_way false left.0;
-      active = sym (is_busy_is q) ∙ left.1.1;
-      least = λ r less. sym (is_busy_is r) ∙ left.1.2 r less;
+      active = rw (is_busy_is q) at left.1.1;
+      least = λ r less. rw (is_busy_is r) at (left.1.2 r less);
     }
 
 -- ---- a verdict by the books of the least past
@@ -158,8 +145,7 @@ module _ (log : List LogRow) (is : IsLog log) (sizes : Sizes) (fits : Fits sizes
       let a = outs_by log is.ends past behind is_past.is_past.here.whole s in
       let d = ap (sends s) (rest_of log is.ends past behind is_past.is_past.here.whole (is.ends.sender s)) in
       let e = count-append (is_out s) (steps_of (is.ends.sender s) past) (steps_of (is.ends.sender s) behind) in
-      let f = own_few (is_out s) (is.ends.sender s) log in
-      omega arith
+      omega (arith, own_few (is_out s) (is.ends.sender s) log)
 
   pub verdict_left : (v : Verdict) → IsLeft sizes beginners b v → IsVerdict log claim.process claim.row v
   verdict_left verdict.Right left = silent_is_right log is.ends claim.process claim.row past is_past.is_past
@@ -173,8 +159,8 @@ module _ (log : List LogRow) (is : IsLog log) (sizes : Sizes) (fits : Fits sizes
     each = λ q. dite (dec_lt q sizes.processes)
         (λ l. are.each q l ∙ is_past.keeps.rows q)
         (λ beyond.
-        let a = is_past.sized.counted in
-        are.none q (omega arith) ∙ sym (get_or_past b.rows.items q 0 (omega arith)) ∙ is_past.keeps.rows q);
+        let a = is_past.sized.counted in let e = get_or_past b.rows.items q 0 (omega arith) in
+        omega (arith, are.none q (omega arith), is_past.keeps.rows q));
     some = are.some;
     sorted = are.sorted;
   }

@@ -1,6 +1,6 @@
 -- Serves Claims.antt, Judged.antt.
 -- What is left behind rows: it is one thing, and the same behind others with the same counts and activity.
-use Rattle.chip_log.proofs.Names.{◌≡◌, ℕ, ◌<◌, List, refl, sym, ap, ◌∙◌, arith, dite, dec_lt, basic, IsQuiet}
+use Rattle.chip_log.proofs.Names.{◌≡◌, ℕ, ◌<◌, List, refl, ap, arith, dite, dec_lt, basic, IsQuiet}
 use Rattle.chip_log.proofs.Names.{IsOnItsWay, IsBusy, IsSilent, outs, ins, is_active, LogRow, Stream, Verdict}
 use Rattle.chip_log.specs.declared.verdict.Verdict.TheVariants as verdict
 
@@ -26,7 +26,7 @@ one_left log now (verdict.OnItsWay c k) verdict.Right a b = absurd (no_way now c
 one_left log now (verdict.OnItsWay c k) (verdict.OnItsWay d l) a b =
     let e : c ≡ d = one_number c d (λ less. let f = b.least c less in let g = a.next in let h = a.sent in omega arith)
     (λ less. let f = a.least d less in let g = b.next in let h = b.sent in omega arith) in
-    λ j. verdict.OnItsWay (e j) ((sym a.next ∙ ap (λ (s : ℕ). ins (basic s) now) e ∙ b.next) j)
+    let g = a.next in let h = b.next in cc
 one_left log now (verdict.OnItsWay c k) (verdict.Active r) a b = absurd (no_way now c k b.quiet a)
 one_left log now (verdict.Active q) verdict.Right a b = absurd (let d = b.passive q in let e = a.active in cc)
 one_left log now (verdict.Active q) (verdict.OnItsWay d l) a b = absurd (no_way now d l a.quiet b)
@@ -41,18 +41,21 @@ pub record SameBehind (log now other later : List LogRow) : Type 0 where
   pub active : (q : ℕ) → is_active log now q ≡ is_active other later q
 
 module _ (log now other later : List LogRow) (same : SameBehind log now other later) where
-  quiet_as : IsQuiet now → IsQuiet later
-  quiet_as quiet c = sym (same.outs (basic c)) ∙ quiet c ∙ same.ins (basic c)
+  pub got_as : (s : Stream) → outs s now ≡ ins s now → outs s later ≡ ins s later
+  got_as s is = let a = same.outs s in let b = same.ins s in cc
 
   pub left_as : (v : Verdict) → IsLeftBehind log now v → IsLeftBehind other later v
-  left_as verdict.Right is = record { quiet = quiet_as is.quiet; passive = λ q. sym (same.active q) ∙ is.passive q }
+  left_as verdict.Right is = record {
+    quiet = λ c. got_as (basic c) (is.quiet c);
+    passive = λ q. rw (same.active q) at (is.passive q);
+  }
   left_as (verdict.OnItsWay c k) is = record {
-    next = sym (same.ins (basic c)) ∙ is.next;
-    sent = let a = same.outs (basic c) in let b = is.sent in omega arith;
-    least = λ d less. sym (same.outs (basic d)) ∙ is.least d less ∙ same.ins (basic d);
+    next = rw (same.ins (basic c)) at is.next;
+    sent = rw (same.outs (basic c)) at is.sent;
+    least = λ d less. got_as (basic d) (is.least d less);
   }
   left_as (verdict.Active q) is = record {
-    quiet = quiet_as is.quiet;
-    active = sym (same.active q) ∙ is.active;
-    least = λ r less. sym (same.active r) ∙ is.least r less;
+    quiet = λ c. got_as (basic c) (is.quiet c);
+    active = rw (same.active q) at is.active;
+    least = λ r less. rw (same.active r) at (is.least r less);
   }

@@ -1,11 +1,11 @@
 -- Serves Past.antt.
 -- The loops over the rows before a claim.
 use Rattle.chip_log.proofs.Names.{◌≡◌, ℕ, ◌+◌, ◌≤◌, ◌<◌, Bool, true, false, List, [], ◌∷◌, ◌++◌, length, get_or, refl}
-use Rattle.chip_log.proofs.Names.{sym, ap, ◌∙◌, subst, arith, append-nil, ◌-◌, ◌^◌, append_assoc, take, drop, ltb-true}
+use Rattle.chip_log.proofs.Names.{ap, arith, append-nil, ◌-◌, ◌^◌, take, drop, ltb-true}
 use Rattle.chip_log.proofs.Names.{take_more, take-append-drop, drop_more, All-get_or, get_or_from_slice_get}
-use Rattle.chip_log.proofs.Names.{slice_get_within, Passes, is_needed, Keeps, IsOf, HasMakeRoom, HasFlightRoom}
+use Rattle.chip_log.proofs.Names.{slice_get_within, Passes, is_needed, Keeps, HasMakeRoom, HasFlightRoom}
 use Rattle.chip_log.proofs.Names.{HasCountRoom, HasKeepRoom, HasRoom, steps_of, is_out, outs, ins, HasEnds, nat_tests}
-use Rattle.chip_log.proofs.Names.{is_in, is_met, AreMet, IsInterleaving, IsInOrder, AreInFlight, AreKept, AreBooks}
+use Rattle.chip_log.proofs.Names.{is_in, is_met, AreMet, IsInOrder, AreInFlight, AreKept, AreBooks}
 use Rattle.chip_log.proofs.Names.{IsLog, FitsRow, AreSized, IsPlace, TallyState, Books, ClaimPlace, Sizes, LogRow, Step}
 use Rattle.chip_log.proofs.Names.{Out, In, Over, Stream}
 use Rattle.chip_log.proofs.CountLemmas.{rows-append, rows_few}
@@ -21,10 +21,10 @@ steps_few q (x ∷ xs) = let a = steps_few q xs in grind (arith, nat_tests)
 pub keep_room : (sizes : Sizes) (x : LogRow) (kept : List LogRow) (b : Books) → FitsRow sizes x → AreSized sizes b
     → AreKept kept b → length kept + 1 < 2 ^ 32 → HasKeepRoom x b
 keep_room sizes x kept b fits sized was few = record {
-  process = let a = fits.process in let e = sized.processes in omega arith;
-  counted = let a = fits.process in let e = sized.counted in omega arith;
-  taken = subst (λ (m : ℕ). IsOf m x.step) (sym sized.taken) fits.channel;
-  sent = subst (λ (m : ℕ). IsOf m x.step) (sym sized.sent) fits.channel;
+  process = omega arith;
+  counted = omega arith;
+  taken = rw sized.taken fits.channel;
+  sent = rw sized.sent fits.channel;
   counts = by x.step;
   rows = let a = was.rows x.process in let e = steps_few x.process kept in omega arith;
 }
@@ -41,7 +41,7 @@ no_row = record { process = 0; step = Out (record { channel = 0; is_control = fa
 -- the rows before a place, the row there, and those behind it
 pub rows_split : (log : List LogRow) (i : ℕ) (d : LogRow) → i < length log
     → take i log ++ (get_or log i d ∷ drop (i + 1) log) ≡ log
-rows_split log i d l = ap (λ (zs : List LogRow). take i log ++ zs) (sym (drop_more log i d l)) ∙ take-append-drop i log
+rows_split log i d l = rw (← drop_more log i d l) (take-append-drop i log)
 
 module _ (log : List LogRow) (sizes : Sizes) (order : IsInOrder sizes log) where
   module _ (i : ℕ) (d : LogRow) (l : i < length log) where
@@ -52,7 +52,7 @@ module _ (log : List LogRow) (sizes : Sizes) (order : IsInOrder sizes log) where
     x = get_or log i d
 
     met : AreMet log [] (pre ++ (x ∷ drop (i + 1) log))
-    met = subst (AreMet log []) (sym (rows_split log i d l)) order.log.met
+    met = rw (rows_split log i d l) order.log.met
 
     met_here : is_met log pre x.process x.step ≡ true
     met_here = (are_met_second log [] pre (x ∷ drop (i + 1) log) met).0
@@ -61,11 +61,7 @@ module _ (log : List LogRow) (sizes : Sizes) (order : IsInOrder sizes log) where
     pre_le s = met_le s log [] pre (are_met_first log [] pre (x ∷ drop (i + 1) log) met) (omega arith)
 
     outs_all : (s : Stream) → outs s (pre ++ x ∷ []) ≤ length log
-    outs_all s =
-        let a = ap (outs s) (append_assoc pre (x ∷ []) (drop (i + 1) log) ∙ rows_split log i d l) in
-        let b = rows-append (is_out s) (pre ++ x ∷ []) (drop (i + 1) log) in
-        let c = rows_few (is_out s) log in
-        omega arith
+    outs_all s = let a = ap (outs s) (rows_split log i d l) in omega (arith, rows-append, rows_few)
 
     fits_here : FitsRow sizes x
     fits_here = All-get_or (FitsRow sizes) log i d l order.fits
@@ -74,50 +70,35 @@ module _ (log : List LogRow) (sizes : Sizes) (order : IsInOrder sizes log) where
     make_room flight was = by x.step refl
       where
         by : (step : Step) → x.step ≡ step → HasMakeRoom step flight
-        by (Out s) e =
-            let a = was s in
-            let b = push_yes (is_out s) pre x (ap (is_out s) e ∙ same_self s) in
-            let c = outs_all s in
-            omega arith
-        by (In s) e =
-            let a = was s in
-            let b = ltb-true (ins s pre) (outs s pre)
-            (ap (is_met log pre x.process) (sym e) ∙ met_here) in
-            omega arith
+        by (Out s) e = let b = push_yes (is_out s) pre x (rw e (same_self s)) in omega (arith, was s, outs_all s)
+        by (In s) e = let b = ltb-true (ins s pre) (outs s pre) (rw e at met_here) in omega (arith, was s)
         by _ e = tt
 
     pub look_room : (kept : List LogRow) (b : Books) → AreSized sizes b → AreBooks (pre ++ x ∷ []) kept b
         → length kept + 1 < 2 ^ 32 → HasRoom x b
     look_room kept b sized was short = record {
-      flight = subst (λ (m : ℕ). IsOf m x.step) (sym sized.flight) fits_here.channel;
+      flight = rw sized.flight fits_here.channel;
       in_flight = by x.step refl;
       keep = keep_room sizes x kept b fits_here sized was.keeps short;
     }
       where
         by : (step : Step) → x.step ≡ step → HasFlightRoom step b.flight
         by (Out s) e =
-            let a = was.flight s in
-            let f = push_yes (is_out s) pre x (ap (is_out s) e ∙ same_self s) in
-            let g = push_no (is_in s) pre x (ap (is_in s) e) in
-            let h = pre_le s in
-            omega arith
-        by (In s) e =
-            let a = was.flight s in
-            let f = push_yes (is_in s) pre x (ap (is_in s) e ∙ same_self s) in
-            let g = outs_all s in
-            omega arith
+            let f = push_yes (is_out s) pre x (rw e (same_self s)) in let g = push_no (is_in s) pre x (rw e) in
+            omega (arith, was.flight s, pre_le s)
+        by (In s) e = let f = push_yes (is_in s) pre x (rw e (same_self s)) in omega (arith, was.flight s, outs_all s)
         by _ e = tt
 
 -- the rows before a place, without the last one, and those from there on
 before_last : (log : List LogRow) (left : ℕ) (d : LogRow) → 0 < left → left ≤ length log
     → take left log ≡ take (left - 1) log ++ get_or log (left - 1) d ∷ []
-before_last log left d some within = ap (λ (n : ℕ). take n log) {x = left} {y = left - 1 + 1} (omega arith)
-    ∙ take_more log (left - 1) d (omega arith)
+before_last log left d some within =
+    let e : left - 1 + 1 ≡ left = omega arith in rw e at (take_more log (left - 1) d (omega arith))
 
 pub from_last : (log : List LogRow) (left : ℕ) (d : LogRow) → 0 < left → left ≤ length log
     → drop (left - 1) log ≡ get_or log (left - 1) d ∷ drop left log
-from_last log left d some within = drop_more log (left - 1) d (omega arith)
-    ∙ ap (λ (n : ℕ). get_or log (left - 1) d ∷ drop n log) {x = left - 1 + 1} {y = left} (omega arith)
+from_last log left d some within =
+    let e : left - 1 + 1 ≡ left = omega arith in rw e at (drop_more log (left - 1) d (omega arith))
 
 -- one turn of the loop that looks at rows
 module _ (log : List LogRow) (sizes : Sizes) (order : IsInOrder sizes log)
@@ -128,10 +109,10 @@ module _ (log : List LogRow) (sizes : Sizes) (order : IsInOrder sizes log)
   row_here = get_or log (left - 1) d
 
   split_here : IsSplit log ends p n (take (left - 1) log ++ row_here ∷ []) kept
-  split_here = subst (λ (zs : List LogRow). IsSplit log ends p n zs kept) (before_last log left d some inside) split
+  split_here = rw (before_last log left d some inside) at split
 
   books_here : AreBooks (take (left - 1) log ++ row_here ∷ []) kept b
-  books_here = subst (λ (zs : List LogRow). AreBooks zs kept b) (before_last log left d some inside) was
+  books_here = rw (before_last log left d some inside) at was
 
   pub turn_room : HasRoom row_here b
   turn_room = look_room log sizes order (left - 1) d (omega arith) kept b sized books_here (omega arith)
@@ -146,13 +127,7 @@ module _ (log : List LogRow) (sizes : Sizes) (order : IsInOrder sizes log)
 -- books of the same sizes
 pub kept_sized : (sizes : Sizes) (needed : Bool) (x : LogRow) (old new : Books) → AreSized sizes old
     → new.flight.channels ≡ old.flight.channels → Keeps needed x old new → AreSized sizes new
-kept_sized sizes needed x old new sized flight keeps = record {
-  processes = keeps.processes ∙ sized.processes;
-  counted = keeps.counted ∙ sized.counted;
-  flight = flight ∙ sized.flight;
-  taken = keeps.taken_channels ∙ sized.taken;
-  sent = keeps.sent_channels ∙ sized.sent;
-}
+kept_sized sizes needed x old new sized flight keeps = omega arith
 
 -- where the look at rows begins
 module _ (log : List LogRow) (is : IsLog log) (claim : ClaimPlace) (place : IsPlace log claim) where
@@ -163,19 +138,17 @@ module _ (log : List LogRow) (is : IsLog log) (claim : ClaimPlace) (place : IsPl
   within = slice_get_within log claim.at row place.over
 
   pub at_place : take claim.at log ++ (row ∷ drop (claim.at + 1) log) ≡ log
-  at_place = ap (λ (y : LogRow). take claim.at log ++ (y ∷ drop (claim.at + 1) log))
-      (sym (get_or_from_slice_get log claim.at row row place.over))
-      ∙ rows_split log claim.at row within
+  at_place = rw (get_or_from_slice_get log claim.at row row place.over) at (rows_split log claim.at row within)
 
   all : (take claim.at log ++ []) ++ row ∷ drop (claim.at + 1) log ≡ log
-  all = ap (λ (zs : List LogRow). zs ++ row ∷ drop (claim.at + 1) log) (append-nil (take claim.at log)) ∙ at_place
+  all = rw append-nil at_place
 
   pub start_split : IsSplit log is.ends claim.process claim.row (take claim.at log) []
   start_split = record {
     before = record {
       after = drop (claim.at + 1) log;
-      whole = subst (IsInterleaving log) (sym all) (record { whole = λ p. refl; met = is.met });
-      place = ap (λ (zs : List LogRow). length (steps_of claim.process zs)) (append-nil (take claim.at log)) ∙ place.row;
+      whole = rw all (record { whole = λ p. refl; met = is.met });
+      place = rw append-nil place.row;
     };
     least = λ other here q some. absurd (some refl);
   }

@@ -1,22 +1,19 @@
 -- Serves Log.antt.
 -- Rows that are met, and what stands before them.
 use Rattle.chip_log.proofs.Names.{◌≡◌, ◌≢◌, ℕ, ◌+◌, ◌≤◌, ◌<◌, Bool, true, false, List, [], ◌∷◌, ◌++◌, refl, sym, ap}
-use Rattle.chip_log.proofs.Names.{◌∙◌, arith, cond, append-nil, ltb-true, lt-ltb, nat_lt, dite, ℕ_discrete, steps_of}
+use Rattle.chip_log.proofs.Names.{arith, cond, append-nil, dite, ℕ_discrete, steps_of}
 use Rattle.chip_log.proofs.Names.{is_out, outs, ins, same_stream, sends, gets, count_steps, count_rows, nat_tests}
-use Rattle.chip_log.proofs.Names.{active_after, begins_active, is_in, is_met, AreMet, LogRow, Step, Out, In, Stream}
+use Rattle.chip_log.proofs.Names.{is_in, is_met, AreMet, LogRow, Step, Out, In, Stream}
 use Rattle.chip_log.proofs.CountLemmas.{count-append, rows-append, steps_of-append, steps_own, steps_other}
 use Rattle.chip_log.proofs.CountLemmas.{steps_push_other}
 
 -- ---- one more row
 
 pub count_yes : (b : Bool) → b ≡ true → ◌≡◌ {A = ℕ} (cond b 1 0) 1
-count_yes b is = ap (λ (t : Bool). cond t 1 0) is
+count_yes b is = rw is
 
 pub count_no : (b : Bool) → b ≡ false → ◌≡◌ {A = ℕ} (cond b 1 0) 0
-count_no b is = ap (λ (t : Bool). cond t 1 0) is
-
-pub count_same : (a b : Bool) → a ≡ b → ◌≡◌ {A = ℕ} (cond a 1 0) (cond b 1 0)
-count_same a b is = ap (λ (t : Bool). cond t 1 0) is
+count_no b is = rw is
 
 pub not_counted : (b : Bool) → ◌≡◌ {A = ℕ} (cond b 1 0) 0 → b ≡ false
 not_counted true e = absurd (omega arith)
@@ -54,25 +51,20 @@ pub record SameCounts (pre later : List LogRow) : Type 0 where
 
 pub met_same : (log pre later : List LogRow) (p : ℕ) (step : Step) → SameCounts pre later
     → is_met log pre p step ≡ is_met log later p step
-met_same log pre later p (Out s) same =
-    ap (λ (steps : List Step). cond s.is_control true (active_after (begins_active (steps_of p log)) steps)) (same.steps p)
-met_same log pre later p (In s) same = ap (λ (n : ℕ). nat_lt n (outs s pre)) (same.counts (is_in s))
-    ∙ ap (λ (n : ℕ). nat_lt (ins s later) n) (same.counts (is_out s))
+met_same log pre later p (Out s) same = rw (same.steps p)
+met_same log pre later p (In s) same = rw (same.counts (is_in s), same.counts (is_out s))
 met_same log pre later p _ same = refl
 
 same_push : (pre later : List LogRow) (x : LogRow) → SameCounts pre later → SameCounts (pre ++ x ∷ []) (later ++ x ∷ [])
 same_push pre later x same = record {
-  steps = λ p. steps_of-append p pre (x ∷ []) ∙ ap (λ (zs : List Step). zs ++ steps_of p (x ∷ [])) (same.steps p)
-      ∙ sym (steps_of-append p later (x ∷ []));
-  counts = λ test.
-      let a = rows-append test pre (x ∷ []) in let b = rows-append test later (x ∷ []) in
-      let c = same.counts test in omega arith;
+  steps = λ p. simp (steps_of-append, same.steps);
+  counts = λ test. simp (rows-append, same.counts);
 }
 
 pub are_met_same : (log pre later zs : List LogRow) → SameCounts pre later → AreMet log pre zs → AreMet log later zs
 are_met_same log pre later [] same met = tt
 are_met_same log pre later (z ∷ zs) same met = (
-  sym (met_same log pre later z.process z.step same) ∙ met.0,
+  rw (met_same log pre later z.process z.step same) at met.0,
   are_met_same log (pre ++ z ∷ []) (later ++ z ∷ []) zs (same_push pre later z same) met.1,
 )
 
@@ -80,53 +72,34 @@ are_met_same log pre later (z ∷ zs) same met = (
 swapped : (pre : List LogRow) (x y : LogRow) → x.process ≢ y.process
     → SameCounts ((pre ++ x ∷ []) ++ y ∷ []) ((pre ++ y ∷ []) ++ x ∷ [])
 swapped pre x y ne = record {
-  steps = λ p.
-      let a = steps_of-append p (pre ++ x ∷ []) (y ∷ []) in let b = steps_of-append p pre (x ∷ []) in
-      let c = steps_of-append p (pre ++ y ∷ []) (x ∷ []) in let d = steps_of-append p pre (y ∷ []) in
-      let e = append-nil (steps_of p pre) in let f = append-nil (steps_of p pre ++ x.step ∷ []) in
-      let g = append-nil (steps_of p pre ++ y.step ∷ []) in
-      grind (arith, nat_tests);
-  counts = λ test.
-      let a = rows-append test pre (x ∷ []) in let b = rows-append test (pre ++ x ∷ []) (y ∷ []) in
-      let c = rows-append test pre (y ∷ []) in let d = rows-append test (pre ++ y ∷ []) (x ∷ []) in omega arith;
+  steps = λ p. simp steps_of-append (grind (arith, nat_tests, append-nil));
+  counts = λ test. simp rows-append (omega arith);
 }
 
 -- ---- a row stays met behind a further row of another process, unless both get messages of one stream
 pub met_later : (log pre : List LogRow) (k : LogRow) (p : ℕ) (step : Step) → k.process ≢ p
     → ((s : Stream) → is_in s step ≡ true → is_in s k.step ≡ false) → is_met log pre p step ≡ true
     → is_met log (pre ++ k ∷ []) p step ≡ true
-met_later log pre k p (Out s) ne apart met =
-    ap (λ (steps : List Step). cond s.is_control true (active_after (begins_active (steps_of p log)) steps))
-    (steps_push_other p pre k ne) ∙ met
+met_later log pre k p (Out s) ne apart met = rw (steps_push_other p pre k ne) met
 met_later log pre k p (In s) ne apart met =
-    let a = ltb-true (ins s pre) (outs s pre) met in
-    let b = push_no (is_in s) pre k (apart s (same_self s)) in
-    let c = push_le (is_out s) pre k in
-    lt-ltb (ins s (pre ++ k ∷ [])) (outs s (pre ++ k ∷ [])) (omega arith)
+    let b = push_no (is_in s) pre k (apart s (same_self s)) in let c = push_le (is_out s) pre k in
+    grind (arith, nat_tests)
 met_later log pre k p _ ne apart met = refl
 
 -- a row is met without a row of another process before it, unless it needs the message of that
 pub met_without : (log pre : List LogRow) (x : LogRow) (p : ℕ) (step : Step) → x.process ≢ p
     → ((s : Stream) → is_in s step ≡ true → is_out s x.step ≡ true → ins s pre < outs s pre)
     → is_met log (pre ++ x ∷ []) p step ≡ true → is_met log pre p step ≡ true
-met_without log pre x p (Out s) ne there met =
-    ap (λ (steps : List Step). cond s.is_control true (active_after (begins_active (steps_of p log)) steps))
-    (sym (steps_push_other p pre x ne)) ∙ met
-met_without log pre x p (In s) ne there met = lt-ltb (ins s pre) (outs s pre) (by (is_out s x.step) refl)
-  where
-    by : (b : Bool) → is_out s x.step ≡ b → ins s pre < outs s pre
-    by true is = there s (same_self s) is
-    by false is =
-        let a = ltb-true (ins s (pre ++ x ∷ [])) (outs s (pre ++ x ∷ [])) met in
-        let b = push_no (is_out s) pre x is in
-        let c = push_le (is_in s) pre x in
-        omega arith
+met_without log pre x p (Out s) ne there met = rw (steps_push_other p pre x ne) at met
+met_without log pre x p (In s) ne there met =
+    let a = there s (same_self s) in let b = rows-append (is_out s) pre (x ∷ []) in let c = push_le (is_in s) pre x in
+    grind (arith, nat_tests)
 met_without log pre x p _ ne there met = refl
 
 -- ---- a row goes behind others, of other processes, that don't need it
 
 none_head : (p : ℕ) (k : LogRow) (ks : List LogRow) → steps_of p (k ∷ ks) ≡ [] → k.process ≢ p
-none_head p k ks none e = let a = sym (steps_own p k ks e) ∙ none in cc
+none_head p k ks none e = let a = steps_own p k ks e in cc
 
 pub move : (log pre ks rest : List LogRow) (x : LogRow) → steps_of x.process ks ≡ []
     → ((s : Stream) → is_in s x.step ≡ true → ins s ks ≡ 0)
@@ -135,12 +108,10 @@ pub move : (log pre ks rest : List LogRow) (x : LogRow) → steps_of x.process k
 move log pre [] rest x none gets sends met = met
 move log pre (k ∷ ks) rest x none gets sends met = (
   met_without log pre x k.process k.step (λ e. ne (sym e))
-      (λ s is_k is_x.
-      let a = sends s is_x in let b = count_yes (is_in s k.step) is_k in omega arith) met.1.0,
+      (λ s is_k is_x. let b = count_yes (is_in s k.step) is_k in omega (arith, sends s is_x)) met.1.0,
   move log (pre ++ k ∷ []) ks rest x none_later
-      (λ s is_x. let a = gets s is_x in omega arith)
-      (λ s is_x.
-      let a = sends s is_x in let b = rows-append (is_in s) pre (k ∷ []) in let c = push_le (is_out s) pre k in omega arith) (
+      (λ s is_x. omega (arith, gets s is_x))
+      (λ s is_x. let b = rows-append (is_in s) pre (k ∷ []) in omega (arith, sends s is_x, push_le (is_out s) pre k)) (
         met_later log pre k x.process x.step ne (λ s is_x. not_counted (is_in s k.step) (let a = gets s is_x in omega arith)) met.0,
         are_met_same log ((pre ++ x ∷ []) ++ k ∷ []) ((pre ++ k ∷ []) ++ x ∷ []) (ks ++ rest)
             (swapped pre x k (λ e. ne (sym e))) met.1.1,
@@ -151,4 +122,4 @@ move log pre (k ∷ ks) rest x none gets sends met = (
     ne = none_head x.process k ks none
 
     none_later : steps_of x.process ks ≡ []
-    none_later = sym (steps_other x.process k ks ne) ∙ none
+    none_later = rw (steps_other x.process k ks ne) at none

@@ -2,20 +2,20 @@
 pub use Rattle.std.proofs.Common.{◌≡◌, ◌≢◌, ℕ, ◌+◌, ◌≤◌, ◌<◌, Bool, true, false, eqb, List, [], ◌∷◌, ◌++◌, length}
 pub use Rattle.std.proofs.Common.{get_or, refl, sym, ap, ◌∙◌, subst, arith, cond, eq-eqb, append-nil, length-set, ◌-◌}
 pub use Rattle.std.proofs.Common.{◌^◌, append_assoc, take, drop, suc, length-append, length-drop, inl, inr, zero, ◌*◌}
-pub use Rattle.std.proofs.Common.{map, set, replicate, rules, length-take, Vec, Global, below_more}
-pub use Rattle.std.proofs.Math.Seq.{drop-cons, take-append_seam}
-pub use Rattle.std.proofs.lemmas.Bool.{ltb-true, ltb-false, eqb-true, eqb-false, ne_eqb, lt-ltb, le-ltb}
-pub use Rattle.std.proofs.lemmas.List.{get_or-set_same, get_or-set_other, get_or_past, take_more, take-append-drop}
+pub use Rattle.std.proofs.Common.{map, set, replicate, rules, length-take, below_more}
+pub use Rattle.std.proofs.Math.Seq.{take-append_seam}
+pub use Rattle.std.proofs.lemmas.Bool.{ltb-true, ltb-false, ne_eqb}
+pub use Rattle.std.proofs.lemmas.List.{get_or-set_other, get_or_past, take_more, take-append-drop}
 pub use Rattle.std.proofs.lemmas.List.{append_cancel_left, get_or-map, length-map, map-append, take_all, take-append-le}
 pub use Rattle.std.proofs.lemmas.List.{drop_more, nil_from_length, map-set, get_or-replicate, length-replicate, get_or_default, drop_all}
-pub use Rattle.std.proofs.lemmas.List.Elements.{All-head, All-tail, All-get_or, All-same, All-rest, All-push, All-nil}
+pub use Rattle.std.proofs.lemmas.List.Elements.{All-head, All-tail, All-get_or, All-push, All-nil}
 pub use Rattle.std.proofs.lemmas.List.Elements.{All-cons, All-weaker, All-append, All-map}
 pub use Rattle.std.proofs.lemmas.List.Folds.{Any-from_list_any, list_any_at}
 pub use Rattle.std.proofs.lemmas.List.Sorted.{IsPermutation-map, All-permutation, sum_by-IsPermutation}
 pub use Rattle.std.proofs.lemmas.List.Sorted.{IsNonDecreasingBy-from_sort_by_key}
 pub use Rattle.std.proofs.lemmas.List.Sums.{sum_by-le, sum_by_push, sum_by-cons, get_or-le-sum_by}
 pub use Rattle.std.proofs.lemmas.Option.{get_or_from_slice_get, slice_get_within, slice_get-get_or}
-pub use Rattle.std.specs.List.{filter, list_any}
+pub use Rattle.std.specs.List.{list_any}
 pub use Rattle.std.specs.List.Sorted.{IsNonDecreasingBy}
 pub use Rattle.std.specs.Option.{ForSome}
 pub use Rattle.std.specs.Prelude.{◌||◌, nat_lt, slice_index_or, ◌&&◌, not, slice_set, Option, Some, None, MatchBool}
@@ -24,7 +24,7 @@ pub use mathlib.Core.Logic.{dite}
 pub use native.Mathlib.Decide.{ℕ_discrete, dec_lt}
 pub use Rattle.chip_log.specs.Agenda.{AgendaState}
 pub use Rattle.chip_log.specs.Books.{said_before, said_of, Passes, rows_at, said_at, is_message_needed, is_needed}
-pub use Rattle.chip_log.specs.Books.{Keeps, IsOf, said_by, one_if, HasMakeRoom, HasFlightRoom, HasCountRoom}
+pub use Rattle.chip_log.specs.Books.{Keeps, IsOf, said_by, HasMakeRoom, HasFlightRoom, HasCountRoom}
 pub use Rattle.chip_log.specs.Books.{HasKeepRoom, HasRoom}
 pub use Rattle.chip_log.specs.Claims.{basic, IsQuiet, IsPast, IsVerdict, IsOnItsWay, IsBusy, IsSilent, IsBefore, IsRight}
 pub use Rattle.chip_log.specs.Judge.{stream_of, NoWay, IsFirstWay, first_step, begins_with, AreBeginners, busy_at}

@@ -1,6 +1,6 @@
 -- Serves Judged.antt.
 -- What is judged of a log is one.
-use Rattle.chip_log.proofs.Names.{◌≡◌, ℕ, ◌<◌, Bool, true, false, List, [], ◌∷◌, length, get_or, refl, sym, ap, ◌∙◌}
+use Rattle.chip_log.proofs.Names.{◌≡◌, ℕ, ◌<◌, Bool, true, false, List, [], ◌∷◌, get_or, refl, sym, ap, ◌∙◌}
 use Rattle.chip_log.proofs.Names.{subst, arith, cond, suc, inl, inr, map, All-head, All-tail, All-cons, sum_by-le}
 use Rattle.chip_log.proofs.Names.{sum_by-cons, ◌&&◌, All, ◌⊎◌, AllPairs, ◌==◌, sum_by, dite, dec_lt, AreRowsOf}
 use Rattle.chip_log.proofs.Names.{IsOpenEnd, RowPlace, is_at, IsNoLater, is_early, IsJudged, NoneRight, IsEnd, place_of}
@@ -87,7 +87,7 @@ one_past : (m n : List LogRow) (xs ys : List PastRows) → ((q : ℕ) → steps_
     → AreRowsOf n ys → xs ≡ ys
 one_past m n xs ys same are other = same_list rows_if IsEarlier no_rows IsEarlier (λ x y z first second. omega arith)
     one_row xs ys are.sorted other.sorted (some xs are.some) (some ys other.some)
-    (λ x. are.each x.process ∙ ap length (same x.process) ∙ sym (other.each x.process))
+    (λ x. rw (are.each x.process, same x.process, other.each x.process))
   where
     some : (zs : List PastRows) → All (λ z. 0 < z.rows) zs → All (λ z. 0 < rows_if z z) zs
     some zs all k d inside = let a = own_rows (get_or zs k d) in let b = all k d inside in omega arith
@@ -119,7 +119,8 @@ one_place x y xs ys not_less not_more later others same = λ j. record { process
 
 one_order : (log : List LogRow) (xs ys : List RowPlace) → AreClaims log xs → AreClaims log ys → xs ≡ ys
 one_order log xs ys are other = same_list (λ x y. one_at x.process x.row y) IsBeforePlace not_there IsNoLater later_place
-    one_place xs ys are.sorted other.sorted (here xs) (here ys) (λ x. are.once x.process x.row ∙ sym (other.once x.process x.row))
+    one_place xs ys are.sorted other.sorted (here xs) (here ys)
+    (λ x. rw (are.once x.process x.row, other.once x.process x.row))
   where
     here : (zs : List RowPlace) → All (λ z. 0 < one_at z.process z.row z) zs
     here zs k d inside = let z = get_or zs k d in let a = count_yes (is_at z.process z.row z) (at_itself z) in omega arith
@@ -137,7 +138,7 @@ module _ (log : List LogRow) (ends : HasEnds log) (w : Bool) where
       verdict_is = one_verdict log ends c.process c.row c.verdict d.verdict a.verdict there.0
 
       shown : AreShown (w && is_early c.verdict) log c.process c.row d.past.items
-      shown = subst (λ (v : Verdict). AreShown (w && is_early v) log c.process c.row d.past.items) (sym verdict_is) there.1
+      shown = rw verdict_is there.1
 
       past_is : (b : Bool) → AreShown b log c.process c.row c.past.items → AreShown b log c.process c.row d.past.items
           → c.past.items ≡ d.past.items

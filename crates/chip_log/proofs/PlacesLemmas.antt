@@ -1,15 +1,14 @@
 -- Serves Places.antt, Judge.antt.
 -- Claims as they are found, and in order.
 use Rattle.chip_log.proofs.Names.{◌≡◌, ℕ, ◌+◌, ◌≤◌, ◌<◌, Bool, true, false, eqb, List, [], ◌∷◌, ◌++◌, length, get_or}
-use Rattle.chip_log.proofs.Names.{refl, sym, ap, ◌∙◌, arith, cond, append-nil, ◌^◌, take, suc, length-append, zero, ◌*◌}
-use Rattle.chip_log.proofs.Names.{map, set, length-take, eqb-true, take_more, get_or-map, length-map, map-append}
-use Rattle.chip_log.proofs.Names.{take_all, All-same, All-push, All-nil, IsPermutation-map, All-permutation}
+use Rattle.chip_log.proofs.Names.{refl, sym, ap, arith, cond, append-nil, ◌^◌, take, suc, length-append, zero, ◌*◌}
+use Rattle.chip_log.proofs.Names.{map, set, length-take, take_more, get_or-map, length-map, map-append}
+use Rattle.chip_log.proofs.Names.{take_all, All-push, All-nil, IsPermutation-map, All-permutation}
 use Rattle.chip_log.proofs.Names.{sum_by-IsPermutation, sum_by_push, IsNonDecreasingBy, ◌&&◌, Some, All, AllPairs, ◌==◌}
 use Rattle.chip_log.proofs.Names.{count_by, slice_get, IsPermutation, IsRight, place_at, ArePlaces, IsKnown, is_over}
 use Rattle.chip_log.proofs.Names.{is_over_at, is_claim, RowPlace, is_at, IsNoLater, steps_of, nat_tests, IsPlace}
 use Rattle.chip_log.proofs.Names.{AreFound, ClaimPlace, LogRow, Step, Over}
 use Rattle.chip_log.proofs.CountLemmas.{steps_of-append}
-use Rattle.chip_log.proofs.MetLemmas.{count_same}
 use Rattle.chip_log.proofs.LoopLemmas.{steps_few}
 use Rattle.chip_log.proofs.QueuesLemmas.{set_at}
 
@@ -51,9 +50,9 @@ pub record AreFoundIn (log : List LogRow) (n : ℕ) (claims : List ClaimPlace) (
 pub found_nothing : (log : List LogRow) (claims : List ClaimPlace) (counts : List ℕ) → claims ≡ []
     → ((q : ℕ) → get_or counts q 0 ≡ 0) → AreFoundIn log 0 claims counts
 found_nothing log claims counts none zeros = record {
-  each = All-same (IsPlace log) claims [] none (All-nil (IsPlace log));
-  few = All-same (λ (claim : ClaimPlace). claim.row < 2 ^ 32) claims [] none (All-nil (λ (claim : ClaimPlace). claim.row < 2 ^ 32));
-  once = λ p i. ap (λ (found : List ClaimPlace). count_by (is_at p i) (map place_at found)) none;
+  each = rw none (All-nil (IsPlace log));
+  few = rw none (All-nil (λ (claim : ClaimPlace). claim.row < 2 ^ 32));
+  once = λ p i. rw none;
   rows = zeros;
 }
 
@@ -62,8 +61,7 @@ pub found_all : (log : List LogRow) (n : ℕ) (claims : List ClaimPlace) (counts
 found_all log n claims counts past is = record {
   each = is.each;
   few = is.few;
-  once = λ p i. is.once p i ∙ count_same (is_claim (take n log) p i) (is_claim log p i)
-      (ap (λ (rows : List LogRow). is_claim rows p i) (take_all n log past));
+  once = rw (take_all n log past) at is.once;
 }
 
 pub few_rows : (log : List LogRow) (n : ℕ) (claims : List ClaimPlace) (counts : List ℕ) → AreFoundIn log n claims counts
@@ -84,42 +82,37 @@ module _ (log : List LogRow) (n : ℕ) (d : LogRow) (l : n < length log) (claims
   row = get_or counts x.process 0
 
   more : (q : ℕ) → steps_of q (take (n + 1) log) ≡ steps_of q (take n log) ++ steps_of q (x ∷ [])
-  more q = ap (steps_of q) (take_more log n d l) ∙ steps_of-append q (take n log) (x ∷ [])
+  more q = rw (take_more log n d l) (steps_of-append q (take n log) (x ∷ []))
 
   counted : x.process < length counts → (q : ℕ) → get_or (set counts x.process (row + 1)) q 0
       ≡ length (steps_of q (take (n + 1) log))
   counted within q =
-      let a = set_at counts x.process q (row + 1) 0 within in
-      let b = ap length (more q) in
-      let c = length-append (steps_of q (take n log)) (steps_of q (x ∷ [])) in
-      let e = was.rows q in
-      grind (arith, nat_tests)
+      let a = set_at counts x.process q (row + 1) 0 within in let e = was.rows q in
+      rw (more q, length-append) (grind (arith, nat_tests))
 
   abbrev place : RowPlace
   place = record { process = x.process; row = row }
 
   place_is : (p i : ℕ) → is_at p i place ≡ true → i ≡ length (steps_of p (take n log))
-  place_is p i at = let e = at_is p i place at in
-      sym e.1 ∙ was.rows x.process ∙ ap (λ (q : ℕ). length (steps_of q (take n log))) e.0
+  place_is p i at = let a = was.rows x.process in grind (arith, nat_tests)
 
   claim_next : (p i : ℕ)
       → is_claim (take (n + 1) log) p i ≡ cond (is_at p i place) (is_over x.step) (is_claim (take n log) p i)
-  claim_next p i = ap (λ (steps : List Step). is_over_at steps i) (more p) ∙ by (eqb x.process p) refl
+  claim_next p i = rw (more p) (by (eqb x.process p) refl)
     where
       by : (b : Bool) → eqb x.process p ≡ b → is_over_at (steps_of p (take n log) ++ cond b (x.step ∷ []) []) i
           ≡ cond (b && (row == i)) (is_over x.step) (is_claim (take n log) p i)
-      by false other = ap (λ (steps : List Step). is_over_at steps i) (append-nil (steps_of p (take n log)))
+      by false other = rw append-nil
       by true own =
           let a = over_next (steps_of p (take n log)) x.step i in
           let b = was.rows x.process in
-          let c = ap (λ (q : ℕ). length (steps_of q (take n log))) (eqb-true x.process p own) in
           grind (arith, nat_tests)
 
   one_more : (p i : ℕ) → cond (is_claim (take n log) p i) 1 0 + cond (is_at p i place && is_over x.step) 1 0
       ≡ cond (is_claim (take (n + 1) log) p i) 1 0
   one_more p i = count_more (is_at p i place) (is_over x.step) (is_claim (take n log) p i)
-      (is_claim (take (n + 1) log) p i) (claim_next p i) (λ at.
-      ap (is_over_at (steps_of p (take n log))) (place_is p i at) ∙ over_none (steps_of p (take n log)))
+      (is_claim (take (n + 1) log) p i) (claim_next p i)
+      (λ at. rw (place_is p i at) (over_none (steps_of p (take n log))))
 
   -- a row that is no claim
   pub found_none : x.process < length counts → is_over x.step ≡ false
@@ -139,12 +132,12 @@ module _ (log : List LogRow) (n : ℕ) (d : LogRow) (l : n < length log) (claims
     pub found_one : slice_get log n ≡ Some x → AreFoundIn log (n + 1) (claims ++ here ∷ []) (set counts x.process (row + 1))
     found_one is = record {
       each = All-push (IsPlace log) claims here was.each (record {
-        over = is ∙ ap (λ (step : Step). Some (record { process = x.process; step = step })) over;
+        over = rw (← over) is;
         row = sym (was.rows x.process);
       });
       few = All-push (λ (claim : ClaimPlace). claim.row < 2 ^ 32) claims here was.few few;
       once = λ p i.
-          let a = ap (λ (places : List RowPlace). count_by (is_at p i) places) (map-append place_at claims (here ∷ [])) in
+          let a = map-append place_at claims (here ∷ []) in
           let b = sum_by_push (one_at p i) (map place_at claims) (place_at here) in
           let c = was.once p i in
           let e = one_more p i in
@@ -160,8 +153,8 @@ pub sorted_places : (log : List LogRow) (old new : List ClaimPlace) → AreFound
 sorted_places log old new was moves sorted = record {
   each = All-permutation (IsPlace log) old new moves was.each;
   all = record {
-    once = λ p i. sum_by-IsPermutation (one_at p i) (map place_at old) (map place_at new) (IsPermutation-map place_at old new moves)
-        ∙ was.once p i;
+    once = λ p i. rw (sum_by-IsPermutation (one_at p i) (map place_at old) (map place_at new)
+        (IsPermutation-map place_at old new moves)) (was.once p i);
     sorted = λ i j d less inside.
         let many : j < length new = (let a = length-map new place_at in omega arith) in
         let first : i < length new = omega arith in

@@ -1,6 +1,6 @@
 -- Serves Queues.antt.
 -- One queue changes.
-use Rattle.chip_log.proofs.Names.{◌≡◌, ℕ, ◌+◌, ◌≤◌, ◌<◌, eqb, List, [], ◌∷◌, length, get_or, refl, sym, ap, ◌∙◌, arith}
+use Rattle.chip_log.proofs.Names.{◌≡◌, ℕ, ◌+◌, ◌≤◌, ◌<◌, eqb, List, [], ◌∷◌, length, get_or, refl, ap, ◌∙◌, arith}
 use Rattle.chip_log.proofs.Names.{cond, suc, zero, map, set, replicate, get_or-set_other, get_or_past, get_or-map}
 use Rattle.chip_log.proofs.Names.{length-map, map-set, get_or-replicate, length-replicate, dite, ℕ_discrete, dec_lt}
 use Rattle.chip_log.proofs.Names.{nat_tests, get_or-set_at, queue_of, total, Step}
@@ -15,8 +15,7 @@ set_at xs i j x d l = dite (ℕ_discrete j i)
 module _ {X : Type 0} (f : X → List Step) (xs : List X) (queues : List (List Step)) (is : map f xs ≡ queues) (p : ℕ)
     (l : p < length queues) (q : X) (here : q ≡ get_or xs p q) where
   pub own : f q ≡ queue_of queues p
-  own = ap f here ∙ sym (get_or-map f xs p q [] (let a = ap length is in let b = length-map xs f in omega arith))
-      ∙ ap (λ (zs : List (List Step)). queue_of zs p) is
+  own = let a = get_or-map f xs p q [] (omega (arith, ap length is, length-map xs f)) in cc
 
   pub changed : (new : X) (steps : List Step) → f new ≡ steps → map f (set xs p new) ≡ set queues p steps
   changed new steps e = map-set f xs p new ∙ (λ j. set (is j) p (e j))
@@ -28,7 +27,7 @@ total-set (mine ∷ queues) zero steps l = omega arith
 total-set (mine ∷ queues) (suc p) steps l = let a = total-set queues p steps (omega arith) in omega arith
 
 pub total_le : (queues : List (List Step)) (p : ℕ) → length (queue_of queues p) ≤ total queues
-total_le [] p = let a = ap (λ (steps : List Step). length steps) (get_or_past [] p [] (omega arith)) in omega arith
+total_le [] p = omega (arith, ap length (get_or_past {X = List Step} [] p [] (omega arith)))
 total_le (mine ∷ queues) zero = omega arith
 total_le (mine ∷ queues) (suc p) = let a = total_le queues p in omega arith
 

@@ -1,12 +1,12 @@
 -- Serves Judged.antt, Judge.antt.
 -- Right claims among all.
 use Rattle.chip_log.proofs.Names.{◌≡◌, ℕ, ◌+◌, ◌≤◌, ◌<◌, Bool, true, false, List, [], ◌∷◌, ◌++◌, length, get_or, refl}
-use Rattle.chip_log.proofs.Names.{sym, ap, ◌∙◌, subst, arith, append-nil, append_assoc, take, drop, suc, zero, map}
+use Rattle.chip_log.proofs.Names.{sym, subst, arith, append-nil, append_assoc, take, drop, suc, zero, map}
 use Rattle.chip_log.proofs.Names.{take_more, get_or-map, length-map, map-append, take_all, get_or_default, All-map}
 use Rattle.chip_log.proofs.Names.{Any-from_list_any, list_any_at, sum_by-le, get_or-le-sum_by, list_any, ◌&&◌, not, All}
 use Rattle.chip_log.proofs.Names.{dite, ℕ_discrete, dec_lt, IsVerdict, IsSilent, IsRight, place_at, ArePlaces, IsKnown}
-use Rattle.chip_log.proofs.Names.{Judges, IsOpenEnd, is_over, is_over_at, is_claim, RowPlace, is_at, IsNoLater}
-use Rattle.chip_log.proofs.Names.{is_early, IsJudged, NoneRight, IsEnd, place_of, AreClaims, AreJudged, AreShown}
+use Rattle.chip_log.proofs.Names.{Judges, IsOpenEnd, is_over, is_over_at, is_claim, RowPlace, is_at}
+use Rattle.chip_log.proofs.Names.{is_early, IsJudged, NoneRight, IsEnd, place_of, AreJudged, AreShown}
 use Rattle.chip_log.proofs.Names.{steps_of, HasEnds, IsInterleaving, IsLog, IsPlace, ClaimVerdict, LogEnd, PastRows}
 use Rattle.chip_log.proofs.Names.{ClaimPlace, LogRow, Step, Over, Verdict}
 use Rattle.chip_log.proofs.CountLemmas.{steps_of-append, steps_own, steps_other}
@@ -21,8 +21,7 @@ use Rattle.chip_log.specs.declared.judged.LogEnd.TheVariants as end
 -- ---- behind a right claim each claim of its process is right
 
 over_is : (step : Step) → is_over step ≡ true → step ≡ Over
-over_is Over is = refl
-over_is _ is = absurd (cc is)
+over_is step is = grind arith
 
 over_first : (xs ys : List Step) (i : ℕ) → i < length xs → is_over_at (xs ++ ys) i ≡ is_over_at xs i
 over_first [] ys i less = absurd (omega arith)
@@ -42,18 +41,18 @@ own_over p x xs e later (suc i) over =
     let found = later i over in (
       x ∷ found.0,
       found.1,
-      ap (λ (zs : List LogRow). x ∷ zs) found.2,
-      let a = ap length (steps_own p x found.0 e) in let b = found.3 in omega arith,
+      λ k. x ∷ found.2 k,
+      rw (steps_own p x found.0 e) (omega (arith, found.3)),
     )
 
 find_over : (p : ℕ) (xs : List LogRow) (i : ℕ) → is_over_at (steps_of p xs) i ≡ true → HasOver p xs i
 find_over p [] i is = absurd (cc is)
 find_over p (x ∷ xs) i is = dite (ℕ_discrete x.process p)
     (λ e. own_over p x xs e (λ j over. find_over p xs j over) i
-    (ap (λ (steps : List Step). is_over_at steps i) (sym (steps_own p x xs e)) ∙ is))
+    (rw (steps_own p x xs e) at is))
     (λ ne.
-    let found = find_over p xs i (ap (λ (steps : List Step). is_over_at steps i) (sym (steps_other p x xs ne)) ∙ is) in
-    (x ∷ found.0, found.1, ap (λ (zs : List LogRow). x ∷ zs) found.2, ap length (steps_other p x found.0 ne) ∙ found.3))
+    let found = find_over p xs i (rw (steps_other p x xs ne) at is) in
+    (x ∷ found.0, found.1, λ k. x ∷ found.2 k, rw (steps_other p x found.0 ne) found.3))
 
 module _ (log : List LogRow) (ends : HasEnds log) (p i j : ℕ) (is : is_claim log p i ≡ true) (less : i < j)
     (right : IsRight log p i) where
@@ -62,29 +61,25 @@ module _ (log : List LogRow) (ends : HasEnds log) (p i j : ℕ) (is : is_claim l
 
   silent_later : (before between after : List LogRow) → length (steps_of p before) ≡ j
       → IsInterleaving log ((before ++ between) ++ after) → IsSilent log (before ++ between)
-  silent_later before between after place whole = subst (IsSilent log) (sym all)
-      (right.behind found.0 (found.1 ++ between) after
-      (subst (λ (zs : List LogRow). IsInterleaving log (zs ++ after)) all whole) found.3)
+  silent_later before between after place whole =
+      rw all (right.behind found.0 (found.1 ++ between) after (rw all at whole) found.3)
     where
       rest : steps_of p before ++ steps_of p (between ++ after) ≡ steps_of p log
-      rest = rest_of log ends before (between ++ after)
-          (subst (IsInterleaving log) (append_assoc before between after) whole) p
+      rest = rest_of log ends before (between ++ after) (rw append_assoc at whole) p
 
       here : is_over_at (steps_of p before) i ≡ true
-      here = sym (over_first (steps_of p before) (steps_of p (between ++ after)) i (omega arith))
-          ∙ ap (λ (steps : List Step). is_over_at steps i) rest ∙ is
+      here = rw (← over_first (steps_of p before) (steps_of p (between ++ after)) i (omega arith), rest) is
 
       found : HasOver p before i
       found = find_over p before i here
 
       all : before ++ between ≡ found.0 ++ claim ∷ (found.1 ++ between)
-      all = ap (λ (zs : List LogRow). zs ++ between) found.2 ∙ append_assoc found.0 (claim ∷ found.1) between
+      all = let a = found.2 in let b = append_assoc found.0 (claim ∷ found.1) between in cc
 
   pub right_stays : IsRight log p j
   right_stays = record {
-    at = λ before here. subst (IsSilent log) (append-nil before)
-        (silent_later before [] (claim ∷ here.after) here.place
-        (subst (λ (zs : List LogRow). IsInterleaving log (zs ++ claim ∷ here.after)) (sym (append-nil before)) here.whole));
+    at = λ before here. rw append-nil at
+        (silent_later before [] (claim ∷ here.after) here.place (rw append-nil here.whole));
     behind = λ before between after whole place. silent_later before (claim ∷ between) after place whole;
   }
 
@@ -97,29 +92,23 @@ pub place_claim : (log : List LogRow) → IsLog log → (claim : ClaimPlace) →
     → is_claim log claim.process claim.row ≡ true
 place_claim log is claim place =
     let row : LogRow = record { process = claim.process; step = Over } in
-    let before = steps_of claim.process (take claim.at log) in
-    let behind = steps_of claim.process (drop (claim.at + 1) log) in
-    let steps : steps_of claim.process log ≡ before ++ Over ∷ behind =
-    (ap (steps_of claim.process) (sym (at_place log is claim place))
-    ∙ steps_of-append claim.process (take claim.at log) (row ∷ drop (claim.at + 1) log)
-    ∙ ap (λ (zs : List Step). before ++ zs) (steps_own claim.process row (drop (claim.at + 1) log) refl)) in
-    ap (λ (zs : List Step). is_over_at zs claim.row) steps ∙ ap (is_over_at (before ++ Over ∷ behind)) (sym place.row)
-    ∙ over_at before behind
+    let a = at_place log is claim place in
+    let b = steps_of-append claim.process (take claim.at log) (row ∷ drop (claim.at + 1) log) in
+    let c = steps_own claim.process row (drop (claim.at + 1) log) refl in
+    let d = over_at (steps_of claim.process (take claim.at log)) (steps_of claim.process (drop (claim.at + 1) log)) in
+    let e = place.row in cc
 
 pub right_known : (log : List LogRow) → IsLog log → (claim earlier : ClaimPlace) → IsKnown log claim earlier
     → earlier.process ≡ claim.process → IsRight log claim.process claim.row
-right_known log is claim earlier known same = subst (λ (q : ℕ). IsRight log q claim.row) same
-    (dite (dec_lt earlier.row claim.row)
+right_known log is claim earlier known same = rw (← same) (dite (dec_lt earlier.row claim.row)
     (λ less. right_stays log is.ends earlier.process earlier.row claim.row (place_claim log is earlier known.place) less
     known.right)
-    (λ no. subst (IsRight log earlier.process)
-    (let e : earlier.row ≡ claim.row = (let a = known.before same in omega arith) in e) known.right))
+    (λ no. let e : earlier.row ≡ claim.row = omega (arith, known.before same) in rw e at known.right))
 
 -- ---- whether a claim is right
 
 early_is : (v : Verdict) → is_early v ≡ false → v ≡ verdict.Right
-early_is verdict.Right is = refl
-early_is _ is = absurd (cc is)
+early_is v is = grind arith
 
 module _ (log : List LogRow) (ends : HasEnds log) (w : Bool) where
   abbrev is_right : ClaimVerdict → Bool
@@ -130,9 +119,7 @@ module _ (log : List LogRow) (ends : HasEnds log) (w : Bool) where
       → is_early c.verdict ≡ false
   right_here c judged p i right at =
       let place = at_is p i (place_of c) at in
-      let here = subst (λ (q : ℕ). IsVerdict log q i c.verdict) place.0
-      (subst (λ (k : ℕ). IsVerdict log c.process k c.verdict) place.1 judged.verdict) in
-      ap is_early (one_verdict log ends p i c.verdict verdict.Right here right)
+      rw (one_verdict log ends p i c.verdict verdict.Right (rw (place.0, place.1) at judged.verdict) right)
 
   pub none_right : (claims : List ClaimVerdict) → AreJudged w log claims → list_any is_right claims ≡ false → NoneRight log
   none_right claims judged none p i is right =
@@ -150,7 +137,7 @@ module _ (log : List LogRow) (ends : HasEnds log) (w : Bool) where
   is_one claims judged c k inside here =
       let a = get_or-le-sum_by (one_at c.process c.row) (map place_of claims) k (place_of c)
       (let e = length-map claims place_of in omega arith) in
-      let b = ap (one_at c.process c.row) (get_or-map place_of claims k c (place_of c) inside ∙ ap place_of here) in
+      let b = get_or-map place_of claims k c (place_of c) inside in
       let e = count_yes (is_at c.process c.row (place_of c)) (at_itself (place_of c)) in
       let f = judged.all.once c.process c.row in
       grind arith
@@ -164,8 +151,7 @@ module _ (log : List LogRow) (ends : HasEnds log) (w : Bool) where
         c.process,
         c.row,
         is_one claims judged c found.0 found.2 found.3,
-        subst (IsVerdict log c.process c.row) (early_is c.verdict (grind arith))
-            (subst (IsJudged w log) found.3 (judged.each found.0 c found.2)).verdict,
+        rw (early_is c.verdict (grind arith)) at (rw found.3 at (judged.each found.0 c found.2)).verdict,
       )
 
 pub open_is_end : (log : List LogRow) (e : LogEnd) → NoneRight log → IsOpenEnd log e → IsEnd log e
@@ -193,17 +179,16 @@ module _ (w : Bool) (log : List LogRow) (places : List ClaimPlace) (n : ℕ) (d 
     (claims : List ClaimVerdict) (claim : ClaimVerdict) (judges : Judges w log (get_or places n d) claim) where
   pub one_judged : map place_of claims ≡ map place_at (take n places)
       → map place_of (claims ++ claim ∷ []) ≡ map place_at (take (n + 1) places)
-  one_judged same = map-append place_of claims (claim ∷ []) ∙ (λ k. same k ++ judges.place k ∷ [])
-      ∙ sym (ap (map place_at) (take_more places n d inside) ∙ map-append place_at (take n places) (get_or places n d ∷ []))
+  one_judged same = rw (take_more places n d inside) (simp map-append (λ k. same k ++ judges.place k ∷ []))
 
   pub right_now : ArePlaces log places → is_early claim.verdict ≡ false → (earlier : ClaimPlace) → get_or places n d ≡ earlier
       → IsRightBefore log places (n + 1) earlier
-  right_now are early earlier is = subst (IsRightBefore log places (n + 1)) is (record {
+  right_now are early earlier is = rw (← is) (record {
     place = are.each n d inside;
     right = subst (λ (x : RowPlace). IsRight log x.process x.row) judges.place
-        (subst (IsVerdict log claim.process claim.row) (early_is claim.verdict early) judges.judged.verdict);
-    before = λ k e less within. subst (λ (x : ClaimPlace). IsNoLater (place_at x) (place_at (get_or places k e)))
-        (get_or_default places n e d inside) (in_order places are.all.sorted n k e (omega arith) within);
+        (rw (early_is claim.verdict early) at judges.judged.verdict);
+    before = λ k e less within.
+        rw (get_or_default places n e d inside) at (in_order places are.all.sorted n k e (omega arith) within);
   })
 
 pub right_more : (log : List LogRow) (places : List ClaimPlace) (n : ℕ) (earlier : ClaimPlace)
@@ -217,7 +202,5 @@ right_more log places n earlier is = record {
 pub all_judged : (w : Bool) (log : List LogRow) (places : List ClaimPlace) (n : ℕ) (claims : List ClaimVerdict)
     → ArePlaces log places → length places ≤ n → map place_of claims ≡ map place_at (take n places)
     → All (IsJudged w log) claims → AreJudged w log claims
-all_judged w log places n claims are past same each = record {
-  all = subst (AreClaims log) (sym (same ∙ ap (map place_at) (take_all n places past))) are.all;
-  each = each;
-}
+all_judged w log places n claims are past same each =
+    record { all = rw (same, take_all n places past) are.all; each = each }

@@ -1,14 +1,13 @@
 -- Serves Log.antt, Claims.antt, Judged.antt.
 -- What is said of a log depends on the rows of each process alone.
-use Rattle.chip_log.proofs.Names.{◌≡◌, ℕ, Bool, true, false, List, [], ◌∷◌, ◌++◌, refl, sym, ap, ◌∙◌, arith, cond}
+use Rattle.chip_log.proofs.Names.{◌≡◌, ℕ, Bool, true, false, List, [], ◌∷◌, ◌++◌, refl, sym, ◌∙◌}
 use Rattle.chip_log.proofs.Names.{All-weaker, ◌&&◌, IsPast, IsVerdict, IsSilent, IsBefore, IsRight, IsOpenEnd}
-use Rattle.chip_log.proofs.Names.{is_over_at, is_claim, is_early, IsJudged, NoneRight, IsEnd, control, IsJudgedLog}
-use Rattle.chip_log.proofs.Names.{AreShown, steps_of, is_out, outs, ins, HasEnds, sends, gets, active_after}
-use Rattle.chip_log.proofs.Names.{begins_active, is_active, is_in, is_met, AreMet, IsInterleaving, IsLog, ClaimVerdict}
-use Rattle.chip_log.proofs.Names.{JudgedLog, LogEnd, LogRow, Step, Out, Over, Stream, Verdict}
+use Rattle.chip_log.proofs.Names.{is_claim, is_early, IsJudged, NoneRight, IsEnd, control, IsJudgedLog}
+use Rattle.chip_log.proofs.Names.{AreShown, steps_of, is_out, HasEnds}
+use Rattle.chip_log.proofs.Names.{is_active, is_in, is_met, AreMet, IsInterleaving, IsLog, ClaimVerdict}
+use Rattle.chip_log.proofs.Names.{JudgedLog, LogEnd, LogRow, Step, Out, Over, Verdict, count_rows, count_steps}
 use Rattle.chip_log.proofs.CountLemmas.{all_own}
-use Rattle.chip_log.proofs.MetLemmas.{count_same}
-use Rattle.chip_log.proofs.LeftLemmas.{SameBehind, left_as}
+use Rattle.chip_log.proofs.LeftLemmas.{SameBehind, got_as, left_as}
 use Rattle.chip_log.specs.declared.verdict.Verdict.TheVariants as verdict
 use Rattle.chip_log.specs.declared.judged.LogEnd.TheVariants as end
 
@@ -20,16 +19,16 @@ SameRows log other = (p : ℕ) → steps_of p log ≡ steps_of p other
 
 module _ (log other : List LogRow) (same : SameRows log other) where
   active_as : (before : List LogRow) (p : ℕ) → is_active log before p ≡ is_active other before p
-  active_as before p = ap (λ (steps : List Step). active_after (begins_active steps) (steps_of p before)) (same p)
+  active_as before p = rw (same p)
 
   met_as : (before : List LogRow) (p : ℕ) (step : Step) → is_met log before p step ≡ is_met other before p step
-  met_as before p (Out s) = ap (λ (b : Bool). cond s.is_control true b) (active_as before p)
+  met_as before p (Out s) = rw (active_as before p)
   met_as before p _ = refl
 
   pub are_met_as : (before xs : List LogRow) → AreMet log before xs → AreMet other before xs
   are_met_as before [] met = tt
   are_met_as before (x ∷ xs) met =
-      (sym (met_as before x.process x.step) ∙ met.0, are_met_as (before ++ x ∷ []) xs met.1)
+      (rw (met_as before x.process x.step) at met.0, are_met_as (before ++ x ∷ []) xs met.1)
 
   interleaving_as : (xs : List LogRow) → IsInterleaving log xs → IsInterleaving other xs
   interleaving_as xs is = record { whole = λ p. is.whole p ∙ same p; met = are_met_as [] xs is.met }
@@ -48,25 +47,22 @@ module _ (log other : List LogRow) (same : SameRows log other) where
   silent_as before is = left_as log before other before (same_behind before) verdict.Right is
 
   claim_as : (p i : ℕ) → is_claim log p i ≡ is_claim other p i
-  claim_as p i = ap (λ (steps : List Step). is_over_at steps i) (same p)
+  claim_as p i = rw (same p)
 
   pub ends_as : HasEnds log → HasEnds other
   ends_as ends = record {
     sender = ends.sender;
     receiver = ends.receiver;
-    sends = λ s p ne. ap (sends s) (sym (same p)) ∙ ends.sends s p ne;
-    gets = λ s p ne. ap (gets s) (sym (same p)) ∙ ends.gets s p ne;
+    sends = λ s p ne. rw (same p) at (ends.sends s p ne);
+    gets = λ s p ne. rw (same p) at (ends.gets s p ne);
   }
 
-  outs_as : HasEnds log → (s : Stream) → outs s log ≡ outs s other
-  unfolding ends_as
-  outs_as ends s = all_own (is_out s) (ends.sender s) log (ends.sends s) ∙ ap (sends s) (same (ends.sender s))
-      ∙ sym (all_own (is_out s) (ends.sender s) other ((ends_as ends).sends s))
-
-  ins_as : HasEnds log → (s : Stream) → ins s log ≡ ins s other
-  unfolding ends_as
-  ins_as ends s = all_own (is_in s) (ends.receiver s) log (ends.gets s) ∙ ap (gets s) (same (ends.receiver s))
-      ∙ sym (all_own (is_in s) (ends.receiver s) other ((ends_as ends).gets s))
+  -- steps that one process alone has
+  count_as : (test : Step → Bool) (q : ℕ) → ((p : ℕ) → (p ≡ q → ⊥) → count_steps test (steps_of p log) ≡ 0)
+      → count_rows test log ≡ count_rows test other
+  count_as test q only =
+      let a = all_own test q log only in let b = all_own test q other (λ p ne. rw (same p) at (only p ne)) in
+      let c = same q in cc
 
 -- ---- verdicts
 
@@ -106,38 +102,39 @@ module _ (log other : List LogRow) (same : SameRows log other) where
 module _ (log other : List LogRow) (same : SameRows log other) where
   none_right_as : NoneRight log → NoneRight other
   none_right_as none p i is right =
-      none p i (claim_as log other same p i ∙ is) (right_as other log (λ q. sym (same q)) p i right)
+      none p i (rw (claim_as log other same p i) is) (right_as other log (back log other same) p i right)
 
   module _ (ends : HasEnds log) where
     same_end : SameBehind log log other other
     same_end = record {
-      outs = outs_as log other same ends;
-      ins = ins_as log other same ends;
-      active = λ p. ap (λ (steps : List Step). active_after (begins_active steps) steps) (same p);
+      outs = λ s. count_as log other same (is_out s) (ends.sender s) (ends.sends s);
+      ins = λ s. count_as log other same (is_in s) (ends.receiver s) (ends.gets s);
+      active = λ p. rw (same p);
     }
 
     open_as : (e : LogEnd) → IsOpenEnd log e → IsOpenEnd other e
     open_as end.Claimed is = is
     open_as end.Missed is = (
       left_as log log other other same_end verdict.Right is.0,
-      λ c. sym (same_end.outs (control c)) ∙ is.1 c ∙ same_end.ins (control c),
+      λ c. got_as log log other other same_end (control c) (is.1 c),
     )
     open_as end.Unclaimed is = (
       left_as log log other other same_end verdict.Right is.0,
-      (is.1.0, let a = same_end.outs (control is.1.0) in let b = same_end.ins (control is.1.0) in let d = is.1.1 in omega arith),
+      (is.1.0, rw (same_end.outs (control is.1.0), same_end.ins (control is.1.0)) at is.1.1),
     )
     open_as (end.OnItsWay c k) is = left_as log log other other same_end (verdict.OnItsWay c k) is
     open_as (end.Active q) is = left_as log log other other same_end (verdict.Active q) is
 
     end_as : (e : LogEnd) → IsEnd log e → IsEnd other e
-    end_as end.Claimed is = (is.0, is.1, sym (claim_as log other same is.0 is.1) ∙ is.2, right_as log other same is.0 is.1 is.3)
+    end_as end.Claimed is =
+        (is.0, is.1, rw (claim_as log other same is.0 is.1) at is.2, right_as log other same is.0 is.1 is.3)
     end_as e is = (none_right_as is.0, open_as e is.1)
 
     pub judged_log_as : (w : Bool) (judged : JudgedLog) → IsJudgedLog w log judged → IsJudgedLog w other judged
     judged_log_as w judged is = record {
       claims = record {
         all = record {
-          once = λ p i. is.claims.all.once p i ∙ count_same (is_claim log p i) (is_claim other p i) (claim_as log other same p i);
+          once = λ p i. rw (claim_as log other same p i) at (is.claims.all.once p i);
           sorted = is.claims.all.sorted;
         };
         each = All-weaker (IsJudged w log) (IsJudged w other) (judged_as log other same w) judged.claims.items is.claims.each;
@@ -148,11 +145,8 @@ module _ (log other : List LogRow) (same : SameRows log other) where
 -- ---- rows in order
 
 module _ (log order : List LogRow) (is : IsInterleaving log order) where
-  pub same_order : SameRows order log
-  same_order p = is.whole p
-
   pub is_log : HasEnds log → IsLog order
   is_log ends = record {
-    ends = ends_as log order (λ p. sym (is.whole p)) ends;
-    met = are_met_as log order (λ p. sym (is.whole p)) [] order is.met;
+    ends = ends_as log order (back order log is.whole) ends;
+    met = are_met_as log order (back order log is.whole) [] order is.met;
   }

@@ -1,13 +1,13 @@
 -- Serves Claims.antt.
 -- Once all is silent it stays so.
-use Rattle.chip_log.proofs.Names.{◌≡◌, ◌≢◌, ℕ, ◌≤◌, ◌<◌, Bool, true, false, List, [], ◌∷◌, ◌++◌, length, refl, sym, ap}
-use Rattle.chip_log.proofs.Names.{◌∙◌, subst, arith, cond, append-nil, append_assoc, length-append, ltb-true}
+use Rattle.chip_log.proofs.Names.{◌≡◌, ◌≢◌, ℕ, ◌≤◌, ◌<◌, Bool, true, false, List, [], ◌∷◌, ◌++◌, length, refl}
+use Rattle.chip_log.proofs.Names.{arith, cond, append-nil, append_assoc, length-append, ltb-true}
 use Rattle.chip_log.proofs.Names.{nil_from_length, dite, ℕ_discrete, dec_lt, basic, IsPast, IsSilent, IsBefore, IsRight}
-use Rattle.chip_log.proofs.Names.{control, steps_of, is_out, outs, ins, HasEnds, sends, gets, count_steps, active_after}
-use Rattle.chip_log.proofs.Names.{begins_active, is_active, is_in, is_met, AreMet, IsInterleaving, LogRow, Step, Out}
+use Rattle.chip_log.proofs.Names.{control, steps_of, is_out, outs, ins, HasEnds, sends, count_steps, active_after}
+use Rattle.chip_log.proofs.Names.{is_active, is_in, is_met, AreMet, IsInterleaving, LogRow, Step, Out}
 use Rattle.chip_log.proofs.Names.{In, Over, Stream}
-use Rattle.chip_log.proofs.PrefixLemmas.{longer_beginning, same_beginning}
-use Rattle.chip_log.proofs.CountLemmas.{count-append, steps_of-append, active_after-append, steps_own, steps_push}
+use Rattle.chip_log.proofs.PrefixLemmas.{same_beginning}
+use Rattle.chip_log.proofs.CountLemmas.{longer_counts, steps_of-append, active_after-append, steps_own, steps_push}
 use Rattle.chip_log.proofs.CountLemmas.{steps_push_other, own_few, same_stream_is}
 use Rattle.chip_log.proofs.MetLemmas.{owner_is, push_no, same_self}
 use Rattle.chip_log.proofs.PastLemmas.{rest_of, now_met, now_le, outs_by, ins_by}
@@ -39,76 +39,60 @@ module _ (log : List LogRow) (ends : HasEnds log) (p i : ℕ) (past : List LogRo
     now = pre ++ x ∷ []
 
     before : IsInterleaving log (pre ++ x ∷ later)
-    before = subst (IsInterleaving log) (append_assoc pre (x ∷ []) later) all
+    before = rw append_assoc at all
 
     owner : (test : Step → Bool) (o : ℕ) → ((r : ℕ) → r ≢ o → count_steps test (steps_of r log) ≡ 0)
         → test x.step ≡ true → q ≡ o
     owner test o only is = owner_is test o q log (steps_of q pre) x.step (steps_of q later) only
-        (ap (λ (zs : List Step). steps_of q pre ++ zs) (sym (steps_own q x later refl)) ∙ rest_of log ends pre (x ∷ later) before q) is
+        (rw (steps_own q x later refl) at (rest_of log ends pre (x ∷ later) before q)) is
 
     -- not all rows of q in the least past were used: with x they begin it
     module _ (less : length (steps_of q pre) < length (steps_of q past)) where
       within : length (steps_of q now) ≤ length (steps_of q past)
-      within =
-          let a = ap length (steps_push q pre x refl) in
-          let b = length-append (steps_of q pre) (x.step ∷ []) in
-          omega arith
+      within = rw (steps_push q pre x refl, length-append) (omega arith)
 
       sent_within : (s : Stream) → sends s (steps_of q now) ≤ outs s past
       sent_within s =
-          let begins = longer_beginning (steps_of q now) (steps_of q later) (steps_of q past) (rest q) (steps_of q log)
-          (rest_of log ends now later all q) (rest_is q) within in
-          let a = ap (sends s) begins.1 in
-          let b = count-append (is_out s) (steps_of q now) begins.0 in
-          let c = own_few (is_out s) q past in
-          omega arith
+          let a = longer_counts (is_out s) (steps_of q now) (steps_of q later) (steps_of q past) (rest q)
+          (steps_of q log) (rest_of log ends now later all q) (rest_is q) within in
+          omega (arith, own_few (is_out s) q past)
 
       all_used : length (steps_of q past) ≤ length (steps_of q now) → is_active log now q ≡ false
-      all_used enough = ap (active_after (begins_active (steps_of q log)))
-          (same_beginning (steps_of q now) (steps_of q later) (steps_of q past) (rest q) (steps_of q log)
-          (rest_of log ends now later all q) (rest_is q) (let a = within in omega arith)) ∙ silent.passive q
+      all_used enough =
+          rw (same_beginning (steps_of q now) (steps_of q later) (steps_of q past) (rest q) (steps_of q log)
+          (rest_of log ends now later all q) (rest_is q) (omega (arith, within))) (silent.passive q)
 
     -- all of them were used: q is passive, and no basic message is there for it
     module _ (enough : length (steps_of q past) ≤ length (steps_of q pre)) where
       none_there : (c : ℕ) → q ≡ ends.receiver (basic c) → outs (basic c) pre ≤ ins (basic c) pre
       none_there c e =
-          let more = longer_beginning (steps_of q past) (rest q) (steps_of q pre) (steps_of q (x ∷ later)) (steps_of q log)
-          (rest_is q) (rest_of log ends pre (x ∷ later) before q) enough in
-          let a = ap (gets (basic c)) more.1 in
-          let b = count-append (is_in (basic c)) (steps_of q past) more.0 in
-          let d = own_few (is_in (basic c)) q pre in
-          let f = ins_by log ends past (claim ∷ is.here.after) is.here.whole (basic c) in
-          let g = ap (λ (r : ℕ). gets (basic c) (steps_of r past)) e in
-          let h = silent.quiet c in
-          let i = calm.outs c in
-          omega arith
+          let a = longer_counts (is_in (basic c)) (steps_of q past) (rest q) (steps_of q pre) (steps_of q (x ∷ later))
+          (steps_of q log) (rest_is q) (rest_of log ends pre (x ∷ later) before q) enough in
+          let f = rw (← e) at (ins_by log ends past (claim ∷ is.here.after) is.here.whole (basic c)) in
+          omega (arith, own_few (is_in (basic c)) q pre, silent.quiet c, calm.outs c)
 
       stays_passive : (step : Step) → x.step ≡ step → is_met log pre q step ≡ true → active_after false (step ∷ []) ≡ false
       stays_passive (In s) e met = by s.is_control refl
         where
           by : (b : Bool) → s.is_control ≡ b → cond s.is_control false true ≡ false
-          by true control = ap (λ (b : Bool). cond b false true) control
+          by true control = rw control
           by false plain =
               let same : s ≡ basic s.channel = λ j. record { channel = s.channel; is_control = plain j } in
               let l = ltb-true (ins s pre) (outs s pre) met in
-              let there = none_there s.channel (subst (λ (r : Stream). q ≡ ends.receiver r) same
-              (owner (is_in s) (ends.receiver s) (ends.gets s) (ap (is_in s) e ∙ same_self s))) in
-              let back = subst (λ (r : Stream). outs r pre ≤ ins r pre) (sym same) there in
+              let mine = owner (is_in s) (ends.receiver s) (ends.gets s) (rw e (same_self s)) in
+              let back : outs s pre ≤ ins s pre = rw same (none_there s.channel (rw same at mine)) in
               absurd (omega arith)
       stays_passive _ e met = refl
 
       sends_none : (c : ℕ) (step : Step) → is_out (basic c) step ≡ true → is_met log pre q step ≡ true → ⊥
       sends_none c (Out s) is_x met =
-          let same = same_stream_is (basic c) s is_x in
-          let active = subst (λ (r : Stream). cond r.is_control true (is_active log pre q) ≡ true) (sym same) met in
-          let passive = calm.passive q enough in
-          cc
+          let same = same_stream_is (basic c) s is_x in let passive = calm.passive q enough in cc
       sends_none c _ is_x met = cc
 
     module _ (met : is_met log pre q x.step ≡ true) where
       own_sends : (c : ℕ) → is_out (basic c) x.step ≡ true → outs (basic c) now ≡ sends (basic c) (steps_of q now)
-      own_sends c it_sends = outs_by log ends now later all (basic c) ∙ ap (λ (r : ℕ). sends (basic c) (steps_of r now))
-          (sym (owner (is_out (basic c)) (ends.sender (basic c)) (ends.sends (basic c)) it_sends))
+      own_sends c it_sends = rw (← owner (is_out (basic c)) (ends.sender (basic c)) (ends.sends (basic c)) it_sends) at
+          (outs_by log ends now later all (basic c))
 
       stays_few : (c : ℕ) → outs (basic c) now ≤ outs (basic c) past
       stays_few c = by (is_out (basic c) x.step) refl
@@ -124,50 +108,38 @@ module _ (log : List LogRow) (ends : HasEnds log) (p i : ℕ) (past : List LogRo
           (λ less. all_used less enough_now)
           (λ not_less.
           let enough : length (steps_of q past) ≤ length (steps_of q pre) = omega arith in
-          ap (active_after (begins_active (steps_of q log))) (steps_push q pre x refl)
-          ∙ active_after-append (begins_active (steps_of q log)) (steps_of q pre) (x.step ∷ [])
-          ∙ ap (λ (was : Bool). active_after was (x.step ∷ [])) (calm.passive q enough)
-          ∙ stays_passive enough x.step refl met)
+          rw (steps_push q pre x refl, active_after-append, calm.passive q enough)
+          (stays_passive enough x.step refl met))
 
       pub stays_calm : Calm now
       stays_calm = record {
         outs = stays_few;
         passive = λ r enough. dite (ℕ_discrete q r)
-            (λ e. subst (λ (t : ℕ). length (steps_of t past) ≤ length (steps_of t now) → is_active log now t ≡ false) e
-            own_passive enough)
-            (λ ne.
-            let same = steps_push_other r pre x ne in
-            ap (active_after (begins_active (steps_of r log))) same
-            ∙ calm.passive r (subst (λ (zs : List Step). length (steps_of r past) ≤ length zs) same enough));
+            (λ e. rw (← e) (own_passive (rw (← e) at enough)))
+            (λ ne. let same = steps_push_other r pre x ne in rw same (calm.passive r (rw same at enough)));
       }
 
   calm_through : (pre later : List LogRow) → pre ++ later ≡ other → AreMet log pre later → Calm pre → Calm other
-  calm_through pre [] all met calm = subst Calm (sym (append-nil pre) ∙ all) calm
-  calm_through pre (x ∷ later) all met calm = calm_through (pre ++ x ∷ []) later (append_assoc pre (x ∷ []) later ∙ all)
-      met.1 (stays_calm pre x (later ++ left) (subst (IsInterleaving log) (ap (λ (zs : List LogRow). zs ++ left)
-      (sym all ∙ sym (append_assoc pre (x ∷ []) later)) ∙ append_assoc (pre ++ x ∷ []) later left) whole) calm met.0)
+  calm_through pre [] all met calm = rw (rw append-nil at all) at calm
+  calm_through pre (x ∷ later) all met calm = calm_through (pre ++ x ∷ []) later (rw append_assoc all) met.1
+      (stays_calm pre x (later ++ left)
+      (simp append_assoc (simp append_assoc at (rw (← all) at whole))) calm met.0)
 
   at_start : Calm []
   at_start = record {
     outs = λ c. omega arith;
-    passive = λ q none. ap (active_after (begins_active (steps_of q log)))
-        (sym (nil_from_length (steps_of q past) (omega arith))) ∙ silent.passive q;
+    passive = λ q none. rw (nil_from_length (steps_of q past) (omega arith)) at (silent.passive q);
   }
 
   pub silent_other : IsSilent log other
   silent_other = record {
     quiet = λ c.
-        let a = calm.outs c in
-        let b = now_le log ends other left whole (basic c) in
-        let d = silent.quiet c in
         let r = ends.receiver (basic c) in
-        let more = longer_beginning (steps_of r past) (rest r) (steps_of r other) (steps_of r left) (steps_of r log)
-        (rest_is r) (rest_of log ends other left whole r) (least r) in
-        let e = ap (gets (basic c)) more.1 in
-        let f = count-append (is_in (basic c)) (steps_of r past) more.0 in
+        let a = longer_counts (is_in (basic c)) (steps_of r past) (rest r) (steps_of r other) (steps_of r left)
+        (steps_of r log) (rest_is r) (rest_of log ends other left whole r) (least r) in
         let g = ins_by log ends past (claim ∷ is.here.after) is.here.whole (basic c) in
         let h = ins_by log ends other left whole (basic c) in
-        omega arith;
+        omega (arith, calm.outs c, now_le log ends other left whole (basic c), silent.quiet c);
     passive = λ q. calm.passive q (least q);
   }
     where
@@ -186,11 +158,8 @@ module _ (log : List LogRow) (ends : HasEnds log) (p i : ℕ) (past : List LogRo
         (λ q.
         let here : IsBefore log p i before = record {
           after = between ++ after;
-          whole = subst (IsInterleaving log) (append_assoc before (record { process = p; step = Over } ∷ between) after) whole;
+          whole = rw append_assoc at whole;
           place = place;
         } in
-        let a = is.least before here q in
-        let b = ap length (steps_of-append q before (record { process = p; step = Over } ∷ between)) in
-        let c = length-append (steps_of q before) (steps_of q (record { process = p; step = Over } ∷ between)) in
-        omega arith);
+        rw (steps_of-append, length-append) (omega (arith, is.least before here q)));
   }

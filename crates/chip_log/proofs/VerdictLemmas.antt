@@ -1,7 +1,7 @@
 -- Serves Claims.antt.
 -- A claim has one verdict.
-use Rattle.chip_log.proofs.Names.{◌≡◌, ℕ, List, ◌∷◌, refl, sym, ap, ◌∙◌, arith, IsPast, IsVerdict, steps_of}
-use Rattle.chip_log.proofs.Names.{HasEnds, sends, gets, active_after, begins_active, LogRow, Over, Verdict}
+use Rattle.chip_log.proofs.Names.{◌≡◌, ℕ, List, ◌∷◌, refl, arith, IsPast, IsVerdict, steps_of}
+use Rattle.chip_log.proofs.Names.{HasEnds, LogRow, Over, Verdict}
 use Rattle.chip_log.proofs.PrefixLemmas.{same_beginning}
 use Rattle.chip_log.proofs.PastLemmas.{rest_of, outs_by, ins_by}
 use Rattle.chip_log.proofs.LeftLemmas.{IsLeftBehind, one_left, SameBehind, left_as}
@@ -20,11 +20,13 @@ module _ (log : List LogRow) (ends : HasEnds log) (p i : ℕ) where
 
     same_behind : SameBehind log m log n
     same_behind = record {
-      outs = λ s. outs_by log ends m (behind m is_m) is_m.here.whole s ∙ ap (sends s) (same_steps (ends.sender s))
-          ∙ sym (outs_by log ends n (behind n is_n) is_n.here.whole s);
-      ins = λ s. ins_by log ends m (behind m is_m) is_m.here.whole s ∙ ap (gets s) (same_steps (ends.receiver s))
-          ∙ sym (ins_by log ends n (behind n is_n) is_n.here.whole s);
-      active = λ q. ap (active_after (begins_active (steps_of q log))) (same_steps q);
+      outs = λ s.
+          let a = outs_by log ends m (behind m is_m) is_m.here.whole s in
+          let b = outs_by log ends n (behind n is_n) is_n.here.whole s in let c = same_steps (ends.sender s) in cc;
+      ins = λ s.
+          let a = ins_by log ends m (behind m is_m) is_m.here.whole s in
+          let b = ins_by log ends n (behind n is_n) is_n.here.whole s in let c = same_steps (ends.receiver s) in cc;
+      active = λ q. rw (same_steps q);
     }
 
   of_past : (v : Verdict) → IsVerdict log p i v → (m : List LogRow) → IsPast log p i m → IsLeftBehind log m v

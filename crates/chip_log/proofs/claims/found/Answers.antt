@@ -1,8 +1,8 @@
-use Rattle.chip_log.proofs.Names.{◌≡◌, ℕ, ◌+◌, ◌<◌, List, [], ◌∷◌, ◌++◌, length, get_or, sym, ap, ◌∙◌, subst, arith}
-use Rattle.chip_log.proofs.Names.{length-set, ◌^◌, set, replicate, Vec, Global, length-replicate, get_or_default}
-use Rattle.chip_log.proofs.Names.{All-get_or, slice_get-get_or, FitsRow, ClaimPlace}
+use Rattle.chip_log.proofs.Names.{◌≡◌, ◌<◌, length, get_or, ◌∙◌, arith}
+use Rattle.chip_log.proofs.Names.{length-set, ◌^◌, replicate, length-replicate, get_or_default}
+use Rattle.chip_log.proofs.Names.{All-get_or, slice_get-get_or, FitsRow}
 use Rattle.chip_log.proofs.LoopLemmas.{no_row}
-use Rattle.chip_log.proofs.PlacesLemmas.{AreFoundIn, found_nothing, found_all, few_rows, no_over, found_none, found_one}
+use Rattle.chip_log.proofs.PlacesLemmas.{found_nothing, found_all, few_rows, no_over, found_none, found_one}
 use Rattle.chip_log.proofs.QueuesLemmas.{all_same}
 use Rattle.chip_log.proofs.claims.found.Goals.{in-Over+in_ok-push, in_default}
 use Rattle.chip_log.proofs.claims.found.Goals as goal
@@ -13,9 +13,9 @@ loop-at-init c =
     c.in_ok-counts.ensures.items_if_clones_equal (λ y e. e) in
     record {
       place = omega arith;
-      sized = ap length zeros ∙ length-replicate c.args.sizes.processes 0;
+      sized = rw zeros (length-replicate c.args.sizes.processes 0);
       found = found_nothing c.args.rows.now c.new-claims.result.items c.in_ok-counts.counts.items c.new-claims.ensures.items
-          (λ q. ap (λ (items : List ℕ). get_or items q 0) zeros ∙ all_same c.args.sizes.processes q 0);
+          (λ q. rw zeros (all_same c.args.sizes.processes q 0));
     }
 
 pub overflow_add-count : goal.overflow_add-count
@@ -44,22 +44,15 @@ loop-at-preserved c =
     (let a = few_rows rows at c.loop-at.claims.items counts inv.found l c.requires.few x.process in omega arith) in
     record {
       place = omega arith;
-      sized = length-set counts x.process (c.index-count.result.now + 1) ∙ inv.sized;
-      found = subst (λ (n : ℕ). AreFoundIn rows (at + 1) c.match-row.claims.items (set counts x.process (n + 1))) (sym count)
-          (elim c.match-row.branch [
-            | in-Over+in_ok-push w ↦
-                subst (λ (claims : List ClaimPlace). AreFoundIn rows (at + 1) claims
-                (set counts x.process (get_or counts x.process 0 + 1)))
-                (sym (ap (λ (v : Vec ClaimPlace Global). v.items) w.claims-is ∙ w.in_ok-push.ensures.items
-                ∙ ap (λ (n : ℕ). c.loop-at.claims.items ++ record { process = x.process; row = n; at = at } ∷ []) count))
-                (found_one rows at no_row l c.loop-at.claims.items counts inv.found within w.in-Over.is few
-                (slice_get-get_or rows at no_row l))
-            | in_default w ↦
-                subst (λ (claims : List ClaimPlace). AreFoundIn rows (at + 1) claims
-                (set counts x.process (get_or counts x.process 0 + 1)))
-                (sym (ap (λ (v : Vec ClaimPlace Global). v.items) w.claims-is))
-                (found_none rows at no_row l c.loop-at.claims.items counts inv.found within (no_over x.step w.in_default.not-Over))
-          ]);
+      sized = rw length-set inv.sized;
+      found = rw count (elim c.match-row.branch [
+        | in-Over+in_ok-push w ↦ rw (w.claims-is, w.in_ok-push.ensures.items, count)
+            (found_one rows at no_row l c.loop-at.claims.items counts inv.found within w.in-Over.is few
+            (slice_get-get_or rows at no_row l))
+        | in_default w ↦ rw w.claims-is
+            (found_none rows at no_row l c.loop-at.claims.items counts inv.found within
+            (no_over x.step w.in_default.not-Over))
+      ]);
     }
 
 pub returns : goal.returns

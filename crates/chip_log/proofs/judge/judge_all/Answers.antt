@@ -1,6 +1,5 @@
-use Rattle.chip_log.proofs.Names.{◌≡◌, ◌+◌, ◌<◌, List, [], ◌∷◌, ◌++◌, length, get_or, sym, ◌∙◌, subst, arith, take, map}
-use Rattle.chip_log.proofs.Names.{All-same, All-push, Some, place_at, IsKnown, Judges, IsJudged, place_of, IsPlace}
-use Rattle.chip_log.proofs.Names.{ClaimVerdict, ClaimPlace}
+use Rattle.chip_log.proofs.Names.{◌≡◌, ◌<◌, length, get_or, sym, ◌∙◌, arith}
+use Rattle.chip_log.proofs.Names.{All-push, Some, Judges, IsJudged}
 use Rattle.chip_log.proofs.PlacesLemmas.{known}
 use Rattle.chip_log.proofs.RightLemmas.{one_judged, right_now, right_more, all_judged}
 use Rattle.chip_log.proofs.judge.judge_all.Goals.{then-not-is_early, else-not-is_early}
@@ -18,9 +17,8 @@ judge_next-requires g c =
     record {
       order = c.requires.order;
       beginners = c.requires.beginners;
-      place = subst (IsPlace rows) (sym c.index-place.ensures) (c.in_ok-places.ensures.each n d inside);
-      right = λ x is. subst (λ (place : ClaimPlace). IsKnown rows place x) (sym c.index-place.ensures)
-          (known rows places n d x inside (c.loop-next.invariant.right x is));
+      place = rw c.index-place.ensures (c.in_ok-places.ensures.each n d inside);
+      right = λ x is. rw c.index-place.ensures (known rows places n d x inside (c.loop-next.invariant.right x is));
     }
 
 pub loop-next-preserved : goal.loop-next-preserved
@@ -37,20 +35,18 @@ loop-next-preserved g c =
     (let a = c.loop-next-test.true in let b = c.len.ensures in omega arith) in
     let judges : Judges c.args.with_past c.args.rows.now (get_or c.in_ok-places.places.items c.loop-next.next
     c.index-place.result.now) c.in_ok-claim.claim =
-    subst (λ (place : ClaimPlace). Judges c.args.with_past c.args.rows.now place c.in_ok-claim.claim) c.index-place.ensures
-    c.in_ok-claim.ensures in
+    rw c.index-place.ensures at c.in_ok-claim.ensures in
     record {
       place = omega arith;
-      same = subst (λ (zs : List ClaimVerdict). map place_of zs ≡ map place_at (take (n + 1) places))
-          (sym c.in_ok-push.ensures.items)
+      same = rw c.in_ok-push.ensures.items
           (one_judged c.args.with_past rows places n d inside claims claim judges inv.same);
-      each = All-same (IsJudged c.args.with_past rows) c.push.new.self.items (claims ++ claim ∷ []) c.in_ok-push.ensures.items
+      each = rw c.in_ok-push.ensures.items
           (All-push (IsJudged c.args.with_past rows) claims claim inv.each judges.judged);
       right = elim c.if-not-is_early.branch [
         | then-not-is_early w ↦ λ x is. right_now c.args.with_past rows places n d inside claims claim judges c.in_ok-places.ensures
-            (sym c.is_early.ensures ∙ w.if-not-is_early.true) x
+            (rw c.is_early.ensures at w.if-not-is_early.true) x
             (sym c.index-place.ensures ∙ (let e : Some d ≡ Some x = sym w.right-is ∙ is in cc))
-        | else-not-is_early w ↦ λ x is. right_more rows places n x (inv.right x (sym w.right-is ∙ is))
+        | else-not-is_early w ↦ λ x is. right_more rows places n x (inv.right x (rw w.right-is at is))
       ];
     }
 

@@ -1,4 +1,4 @@
-use Rattle.chip_log.proofs.Names.{◌≡◌, Bool, sym, ap, ◌∙◌, subst, ◌&&◌, is_early, AreShown}
+use Rattle.chip_log.proofs.Names.{◌≡◌, ◌&&◌, is_early}
 use Rattle.chip_log.proofs.JudgeLemmas.{verdict_left, past_left}
 use Rattle.chip_log.proofs.RightLemmas.{judges}
 use Rattle.chip_log.proofs.judge.judge_claim.Goals.{then-with_past, else-with_past}
@@ -9,10 +9,8 @@ returns c =
     let v = c.left_of-verdict.result in
     let past = c.in_ok-counts_of.field-0.items in
     let asked : c.if-with_past.counts_of ≡ (c.args.with_past && is_early v) = elim c.if-with_past.branch [
-      | then-with_past w ↦ w.counts_of-is ∙ c.is_early-is_early.ensures
-          ∙ sym (ap (λ (b : Bool). b && is_early c.left_of-verdict.result) w.if-with_past.true)
-      | else-with_past w ↦ w.counts_of-is ∙ w.if-with_past.false
-          ∙ sym (ap (λ (b : Bool). b && is_early c.left_of-verdict.result) w.if-with_past.false)
+      | then-with_past w ↦ rw (w.counts_of-is, c.is_early-is_early.ensures, w.if-with_past.true)
+      | else-with_past w ↦ rw (w.counts_of-is, w.if-with_past.false)
     ] in
     judges c.args.with_past c.args.rows.now c.args.place (record {
       process = c.args.place.process;
@@ -22,7 +20,7 @@ returns c =
     }) (λ k. record { process = c.args.place.process; row = c.from.ensures k }) (
       verdict_left c.args.rows.now c.requires.order.log c.args.sizes c.requires.order.fits c.args.place c.in_ok-books.books
           c.in_ok-books.ensures c.args.beginners.now c.requires.beginners v c.left_of-verdict.ensures,
-      subst (λ (b : Bool). AreShown b c.args.rows.now c.args.place.process c.args.place.row past) asked
+      rw asked at
           (past_left c.args.rows.now c.requires.order.log c.args.sizes c.requires.order.fits c.args.place c.in_ok-books.books
           c.in_ok-books.ensures c.args.beginners.now c.requires.beginners c.if-with_past.counts_of past
           c.in_ok-counts_of.ensures),

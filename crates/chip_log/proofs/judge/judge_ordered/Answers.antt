@@ -1,4 +1,3 @@
-use Rattle.chip_log.proofs.Names.{List, sym, ap, ◌∙◌, list_any, not, is_early, ClaimVerdict}
 use Rattle.chip_log.proofs.RightLemmas.{none_right, one_right, open_is_end}
 use Rattle.chip_log.proofs.judge.judge_ordered.Goals as goal
 
@@ -6,8 +5,7 @@ pub returns-then-is_one_right : goal.returns-then-is_one_right
 returns-then-is_one_right g c = record {
   claims = c.in_ok-claims.ensures;
   end = one_right c.args.rows.now c.requires.order.log.ends c.args.with_past c.in_ok-claims.claims.items c.in_ok-claims.ensures
-      (ap (λ (claims : List ClaimVerdict). list_any (λ claim. not (is_early claim.verdict)) claims)
-      (sym c.deref-2.ensures.value) ∙ sym c.is_one_right.ensures ∙ c.if-is_one_right.true);
+      (let a = c.deref-2.ensures.value in let b = c.is_one_right.ensures in let d = c.if-is_one_right.true in cc);
 }
 
 pub returns : goal.returns
@@ -15,7 +13,6 @@ returns g c = record {
   claims = c.in_ok-claims.ensures;
   end = open_is_end c.args.rows.now c.in_ok-end.end
       (none_right c.args.rows.now c.requires.order.log.ends c.args.with_past c.in_ok-claims.claims.items c.in_ok-claims.ensures
-      (ap (λ (claims : List ClaimVerdict). list_any (λ claim. not (is_early claim.verdict)) claims)
-      (sym c.deref-2.ensures.value) ∙ sym c.is_one_right.ensures ∙ c.if-is_one_right.false))
+      (let a = c.deref-2.ensures.value in let b = c.is_one_right.ensures in let d = c.if-is_one_right.false in cc))
       c.in_ok-end.ensures;
 }

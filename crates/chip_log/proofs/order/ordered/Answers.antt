@@ -1,4 +1,4 @@
-use Rattle.chip_log.proofs.Names.{List, length, sym, ap, ◌∙◌, subst, arith, steps_of, IsStuck, LogRow}
+use Rattle.chip_log.proofs.Names.{arith}
 use Rattle.chip_log.proofs.LoopLemmas.{no_row}
 use Rattle.chip_log.proofs.OrderLemmas.{whole_order, stuck_order, row_fits, now_ready, read_on, none_read, all_read}
 use Rattle.chip_log.proofs.order.ordered.Goals as goal
@@ -29,8 +29,7 @@ pub returns-in-Some-clause-order : goal.returns-in-Some-clause-order
 returns-in-Some-clause-order c =
     let kept = all_read c.args.sizes c.args.rows.now c.requires.well_formed c.loop-row.row-index c.loop-row-test.false
     c.loop-row.order c.settle.new.self c.loop-row.invariant c.in_ok-settle.ensures.goes_on in
-    subst (IsStuck c.args.rows.now c.in-Some.process)
-    (sym (c.rows_of.ensures ∙ ap (λ (zs : List LogRow). length (steps_of c.in-Some.process zs)) c.deref.ensures.value))
+    rw (c.rows_of.ensures, c.deref.ensures.value)
     (stuck_order c.args.sizes c.args.rows.now c.settle.new.self c.in_ok-settle.ensures.goes_on.ready kept
     c.in_ok-settle.ensures.settled c.in-Some.process c.in-Some.ensures)
 

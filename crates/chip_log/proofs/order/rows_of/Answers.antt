@@ -1,4 +1,4 @@
-use Rattle.chip_log.proofs.Names.{List, length, ap, ◌∙◌, arith, take_all, steps_of, nat_tests, LogRow}
+use Rattle.chip_log.proofs.Names.{arith, take_all, nat_tests}
 use Rattle.chip_log.proofs.LoopLemmas.{no_row}
 use Rattle.chip_log.proofs.OrderLemmas.{count_next}
 use Rattle.chip_log.proofs.order.rows_of.Goals as goal
@@ -11,6 +11,4 @@ loop-row-preserved c =
     record { few = grind (arith, nat_tests); count = grind (arith, nat_tests) }
 
 pub returns : goal.returns
-returns c = c.loop-row.invariant.count
-    ∙ ap (λ (zs : List LogRow). length (steps_of c.args.process zs))
-    (take_all c.loop-row.row-index c.args.rows.now c.loop-row-test.false)
+returns c = rw (take_all c.loop-row.row-index c.args.rows.now c.loop-row-test.false) at c.loop-row.invariant.count

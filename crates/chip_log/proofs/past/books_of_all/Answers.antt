@@ -1,5 +1,5 @@
-use Rattle.chip_log.proofs.Names.{◌≡◌, ℕ, List, get_or, sym, ap, subst, arith, ◌-◌, drop, length-drop, drop_all}
-use Rattle.chip_log.proofs.Names.{All-get_or, AreKept, FitsRow, TallyState, LogRow}
+use Rattle.chip_log.proofs.Names.{◌≡◌, List, get_or, sym, subst, arith, ◌-◌, drop, length-drop, drop_all}
+use Rattle.chip_log.proofs.Names.{All-get_or, AreKept, FitsRow, LogRow}
 use Rattle.chip_log.proofs.BooksLemmas.{kept_more}
 use Rattle.chip_log.proofs.LoopLemmas.{keep_room, no_row, from_last, kept_sized}
 use Rattle.chip_log.proofs.past.books_of_all.Goals as goal
@@ -28,9 +28,8 @@ loop-left-preserved c =
     record {
       place = omega arith;
       sized = kept_sized c.args.sizes _ _ c.loop-left.books c.keep.new.self inv.sized
-          (ap (λ (t : TallyState). t.channels) c.keep.ensures.flight) c.keep.ensures.keeps;
-      keeps = subst (λ (zs : List LogRow). AreKept zs c.keep.new.self)
-          (sym (from_last c.args.rows.now c.loop-left.left no_row (omega arith) (omega arith)))
+          (rw c.keep.ensures.flight) c.keep.ensures.keeps;
+      keeps = rw (from_last c.args.rows.now c.loop-left.left no_row (omega arith) (omega arith))
           (kept_more (drop c.loop-left.left c.args.rows.now) (get_or c.args.rows.now (c.loop-left.left - 1) no_row)
           c.loop-left.books c.keep.new.self
           (let b = fits.process in let d = inv.sized.processes in omega arith)
@@ -43,5 +42,5 @@ returns c =
     let none_left : c.loop-left.left ≡ 0 = (let e = c.loop-left-test.false in omega arith) in
     record {
       sized = inv.sized;
-      keeps = subst (λ (n : ℕ). AreKept (drop n c.args.rows.now) c.loop-left.books) none_left inv.keeps;
+      keeps = rw none_left at inv.keeps;
     }

@@ -1,5 +1,5 @@
-use Rattle.chip_log.proofs.Names.{◌≡◌, ℕ, [], ◌∙◌, subst, arith, take}
-use Rattle.chip_log.proofs.PastLemmas.{IsSplit, past_of_split}
+use Rattle.chip_log.proofs.Names.{◌≡◌, [], ◌∙◌, arith}
+use Rattle.chip_log.proofs.PastLemmas.{past_of_split}
 use Rattle.chip_log.proofs.LoopLemmas.{no_row, turn_room, turn_looked, kept_sized, within, start_split}
 use Rattle.chip_log.proofs.past.look_at_all.Goals as goal
 
@@ -46,7 +46,6 @@ returns c =
       sized = inv.sized;
       past = inv.kept;
       is_past = past_of_split c.args.rows.now inv.ends c.args.claim.process c.args.claim.row inv.kept
-          (subst (λ (n : ℕ). IsSplit c.args.rows.now inv.ends c.args.claim.process c.args.claim.row
-          (take n c.args.rows.now) inv.kept) none_left inv.split);
+          (rw none_left at inv.split);
       keeps = inv.books.keeps;
     }

@@ -1,4 +1,4 @@
-use Rattle.chip_log.proofs.Names.{ℕ, List, get_or, ap, ◌∙◌, arith, Said}
+use Rattle.chip_log.proofs.Names.{arith}
 use Rattle.chip_log.proofs.QueuesLemmas.{all_same}
 use Rattle.chip_log.specs.declared.books.Said.TheVariants as said
 use Rattle.chip_log.proofs.books.Books.new.Goals as goal
@@ -9,9 +9,8 @@ returns-clause-none c = record {
   keeps = record {
     taken = λ s. c.in_ok-new-2.ensures.none s;
     sent = λ s. c.in_ok-new-3.ensures.none s;
-    rows = λ q. ap (λ (all : List ℕ). get_or all q 0) (c.in_ok-vec.ensures.items_if_clones_equal (λ y e. e))
-        ∙ all_same c.args.sizes.processes q 0;
-    said = λ q. ap (λ (all : List Said). get_or all q said.Unsaid)
-        (c.in_ok-vec-2.ensures.items_if_clones_equal (λ y e. e)) ∙ all_same c.args.sizes.processes q said.Unsaid;
+    rows = λ q. rw (c.in_ok-vec.ensures.items_if_clones_equal (λ y e. e)) (all_same c.args.sizes.processes q 0);
+    said = λ q. rw (c.in_ok-vec-2.ensures.items_if_clones_equal (λ y e. e))
+        (all_same c.args.sizes.processes q said.Unsaid);
   };
 }

@@ -1,16 +1,17 @@
-use Rattle.chip_log.proofs.Names.{[], sym, ◌∙◌, arith, below_more, get_or_past, dite, dec_lt, queue_of}
+use Rattle.chip_log.proofs.Names.{[], arith, below_more, get_or_past, dite, dec_lt, queue_of}
 use Rattle.chip_log.proofs.OrderingLemmas.{head_none, some_left}
 use Rattle.chip_log.proofs.order.Order.first_left.Goals as goal
 
 pub returns-in-Some : goal.returns-in-Some
 returns-in-Some c = (
-  some_left (queue_of c.args.self.now.queues c.loop-process.process) c.in-Some.field-0 (sym c.in-Some.is ∙ c.first.ensures),
+  some_left (queue_of c.args.self.now.queues c.loop-process.process) c.in-Some.field-0
+      (rw c.in-Some.is at c.first.ensures),
   c.loop-process.invariant,
 )
 
 pub loop-process-preserved : goal.loop-process-preserved
 loop-process-preserved c = below_more _ _ c.loop-process.invariant
-    (head_none (queue_of c.args.self.now.queues c.loop-process.process) (sym c.in_default.is ∙ c.first.ensures))
+    (head_none (queue_of c.args.self.now.queues c.loop-process.process) (rw c.in_default.is at c.first.ensures))
 
 pub returns : goal.returns
 returns c = λ p. dite (dec_lt p c.args.sizes.processes)

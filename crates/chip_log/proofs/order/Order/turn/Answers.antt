@@ -1,4 +1,4 @@
-use Rattle.chip_log.proofs.Names.{sym, ◌∙◌, arith, queue_of}
+use Rattle.chip_log.proofs.Names.{arith, queue_of}
 use Rattle.chip_log.proofs.OrderingLemmas.{made, head_some, next_in_flight, in_channel}
 use Rattle.chip_log.proofs.order.Order.turn.Goals as goal
 
@@ -17,4 +17,4 @@ pub returns-in_ok-make : goal.returns-in_ok-make
 returns-in_ok-make c =
     let next = head_some (queue_of c.args.self.now.queues c.args.process) c.in-Some.step c.in-Some.ensures in
     made c.args.sizes c.args.self.now c.make.new.self c.args.process c.in-Some.step next.0 c.requires.ready c.requires.process
-    next.1 (sym c.may.ensures ∙ c.if-may.true) c.in_ok-make.ensures
+    next.1 (rw c.may.ensures at c.if-may.true) c.in_ok-make.ensures

@@ -1,4 +1,4 @@
-use Rattle.chip_log.proofs.Names.{List, ap, ◌∙◌, drop, queue_of, Step}
+use Rattle.chip_log.proofs.Names.{drop, queue_of}
 use Rattle.chip_log.proofs.QueuesLemmas.{own, changed}
 use Rattle.chip_log.proofs.queues.Queues.pop.Goals as goal
 
@@ -9,4 +9,4 @@ returns c =
     changed (λ q. q.items) c.self.inside.steps.items c.args.self.now c.self.view_is c.args.process c.requires
     c.index_mut-queue.result.now c.index_mut-queue.ensures.value c.pop_front.new.self
     (drop 1 (queue_of c.args.self.now c.args.process))
-    (c.pop_front.ensures.rest ∙ ap (λ (steps : List Step). drop 1 steps) here)
+    (rw here at c.pop_front.ensures.rest)

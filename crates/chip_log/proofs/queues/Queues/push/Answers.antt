@@ -1,4 +1,4 @@
-use Rattle.chip_log.proofs.Names.{List, [], ◌∷◌, ◌++◌, ap, ◌∙◌, queue_of, Step}
+use Rattle.chip_log.proofs.Names.{[], ◌∷◌, ◌++◌, queue_of}
 use Rattle.chip_log.proofs.QueuesLemmas.{own, changed}
 use Rattle.chip_log.proofs.queues.Queues.push.Goals as goal
 
@@ -9,4 +9,4 @@ returns c =
     changed (λ q. q.items) c.self.inside.steps.items c.args.self.now c.self.view_is c.args.process c.requires
     c.index_mut-queue.result.now c.index_mut-queue.ensures.value c.push_back.new.self
     (queue_of c.args.self.now c.args.process ++ c.args.step ∷ [])
-    (c.in_ok-push_back.ensures.items ∙ ap (λ (steps : List Step). steps ++ c.args.step ∷ []) here)
+    (rw here at c.in_ok-push_back.ensures.items)

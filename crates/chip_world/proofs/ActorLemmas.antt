@@ -1,11 +1,11 @@
 -- Serves World.antt, TurnWords.antt, Rounds.antt.
 -- A world as one of its vertices makes an event, or a whole turn, over the shared words.
 use Rattle.chip_world.proofs.Names.{◌≡◌, ◌≢◌, ℕ, ◌<◌, List, [], ◌∷◌, ◌++◌, reverse, get_or, set, Option, Some, None}
-use Rattle.chip_world.proofs.Names.{refl, sym, ap, ◌∙◌, subst, arith, length-set, get_or-set_same, get_or-set_other, ⊤}
-use Rattle.chip_world.proofs.Names.{append_assoc, reverse-append, dite, ℕ_discrete, Setting, RootStandsFor, Actor}
-use Rattle.chip_world.proofs.Names.{StandsFor, SomePart, WhateverPart, AreOf, Meets, MakesTurnOver, IsTurnMade}
+use Rattle.chip_world.proofs.Names.{refl, sym, ◌∙◌, arith, length-set, get_or-set_same, get_or-set_other, ⊤}
+use Rattle.chip_world.proofs.Names.{append_assoc, reverse_onto, dite, ℕ_discrete, Setting, Actor}
+use Rattle.chip_world.proofs.Names.{StandsFor, SomePart, WhateverPart, AreOf, Meets, MakesTurnOver}
 use Rattle.chip_world.proofs.Names.{MeetsEvent, MakesEvent, IsAnswered, Log, Step, Event, Reply, Rule, Part, part_of}
-use Rattle.chip_world.proofs.Names.{part_in, unmet_rule, does, reply_of, sees, word_of_part, root, answer, part_else}
+use Rattle.chip_world.proofs.Names.{part_in, unmet_rule, does, sees, word_of_part, root, answer, part_else}
 use Rattle.chip_world.proofs.Names.{saw, vertex_of, WorldState, StandsForLog, IsActor, MakesStep, TurnWords, Holds}
 use Rattle.chip_world.proofs.Names.{IsTurnAfter}
 use Rattle.chip_world.proofs.VertexLemmas.{found}
@@ -16,22 +16,20 @@ parts_stay : (g : Setting) (v u : ℕ) → u ≢ v → (more : List Step) → Ar
     → part_in g (reverse more ++ log) u ≡ part_in g log u
 parts_stay g v u other [] mine log = refl
 parts_stay g v u other (x ∷ xs) mine log =
-    ap (λ (l : Log). part_in g l u) (ap (λ (l : Log). l ++ log) (reverse-append (x ∷ []) xs)
-    ∙ append_assoc (reverse xs) (x ∷ []) log)
-    ∙ parts_stay g v u other xs mine.1 (x ∷ log) ∙ part_else g x log u (λ z. other (sym z ∙ mine.0))
+    rw (reverse_onto xs x [], append_assoc, parts_stay g v u other xs mine.1 (x ∷ log))
+    (part_else g x log u (λ z. other (cc)))
 
 module _ (g : Setting) (log : Log) (w : WorldState) (stands : StandsForLog g log w) where
   -- the vertex that makes an event, and its actor
   pub maker : (x : Event) (v : ℕ) (a : Actor) → vertex_of w.setting x ≡ Some v → a ≡ get_or w.actors v a
       → (part_of g x ≡ v) × (v < g.game.graph.vertices) × IsActor g log v a
   maker x v a found_at actor_is =
-      let is = found g stands.is_setting.game x v (sym (ap (λ (h : Setting). vertex_of h x) stands.setting) ∙ found_at)
-      in
-      (is.0, is.1, subst (IsActor g log v) (sym actor_is) (stands.actors v is.1 a))
+      let is = found g stands.is_setting.game x v (rw stands.setting at found_at) in
+      (is.0, is.1, rw actor_is (stands.actors v is.1 a))
 
   module _ (v : ℕ) (inside : v < g.game.graph.vertices) (a : Actor) (actor_is : a ≡ get_or w.actors v a) where
     actor : IsActor g log v a
-    actor = subst (IsActor g log v) (sym actor_is) (stands.actors v inside a)
+    actor = rw actor_is (stands.actors v inside a)
 
     -- the fired word of the vertex can be told
     pub shows_word : SomePart a (λ g s. ⊤)
@@ -42,7 +40,7 @@ module _ (g : Setting) (log : Log) (w : WorldState) (stands : StandsForLog g log
       shared = record { words = w.words; fired = fired }
 
       held : Holds shared g a.vertex log (part_in g log v)
-      held = subst (λ (u : ℕ). Holds shared g u log (part_in g log v)) (sym actor.vertex_is) record {
+      held = rw actor.vertex_is record {
         inside = inside;
         is_setting = stands.is_setting;
         legal = stands.legal;
@@ -68,34 +66,29 @@ module _ (g : Setting) (log : Log) (w : WorldState) (stands : StandsForLog g log
             → StandsFor g t b → b.vertex ≡ v → StandsForLog g (reverse more ++ log) after
         leads more t now mine b_stands vertex =
             let longer : Log = reverse more ++ log in
-            let b_is : IsActor g longer v b =
-            record { vertex_is = vertex; stands = subst (λ (p : Part). StandsFor g p b) now.part_is b_stands } in
+            let b_is : IsActor g longer v b = record { vertex_is = vertex; stands = rw now.part_is at b_stands } in
             record {
               setting = stands.setting;
               is_setting = stands.is_setting;
               legal = now.legal;
-              actors_each = length-set w.actors v b ∙ stands.actors_each;
+              actors_each = rw length-set stands.actors_each;
               actors = λ u l d. dite (ℕ_discrete u v)
-                  (λ same. subst (λ (n : ℕ). IsActor g longer n (get_or (set w.actors v b) n d)) (sym same)
-                  (subst (IsActor g longer v)
-                  (sym (get_or-set_same w.actors v b d (let each = stands.actors_each in omega arith))) b_is))
-                  (λ other. subst (IsActor g longer u) (sym (get_or-set_other w.actors v u b d other)) record {
+                  (λ same.
+                  rw (same, get_or-set_same w.actors v b d (let each = stands.actors_each in omega arith)) b_is)
+                  (λ other. rw (get_or-set_other w.actors v u b d other) record {
                     vertex_is = (stands.actors u l d).vertex_is;
-                    stands = subst (λ (p : Part). StandsFor g p (get_or w.actors u d))
-                        (sym (parts_stay g v u other more mine log)) (stands.actors u l d).stands;
+                    stands = rw (parts_stay g v u other more mine log) (stands.actors u l d).stands;
                   });
               words_each = now.words_each;
               words = now.words;
-              root_stands = subst (λ (s : Part). RootStandsFor g s w.root)
-                  (sym (parts_stay g v (root g) (λ z. (let l = inside in absurd (omega arith))) more mine log)) stands.root_stands;
+              root_stands = rw (parts_stay g v (root g) (λ z. (let l = inside in absurd (omega arith))) more mine log)
+                  stands.root_stands;
             }
 
         pub turn_leads : (count : ℕ) → MakesTurnOver (Holds shared) a (Holds new) b count
             → (longer : Log) × StandsForLog g longer after × IsTurnAfter g v log longer
         turn_leads count makes =
-            let made = subst (λ (u : ℕ). (more : List Step) × (t : Part)
-            × IsTurnMade (Holds new) g u log (part_in g log v) b count more t) actor.vertex_is
-            (makes g log (part_in g log v) held actor.stands) in
+            let made = rw actor.vertex_is at (makes g log (part_in g log v) held actor.stands) in
             let is = made.2 in (
               reverse made.0 ++ log,
               leads made.0 made.1 is.held is.mine is.stands is.vertex,
@@ -104,15 +97,8 @@ module _ (g : Setting) (log : Log) (w : WorldState) (stands : StandsForLog g log
 
         pub event_leads : (x : Event) (reply : Reply) → part_of g x ≡ v
             → MakesEvent (Holds shared) a x (Holds new) b reply → MakesStep g log x after reply
-        event_leads x reply own makes = subst
-            (λ (u : ℕ). let o : Option Rule = unmet_rule g x (part_in g log u) in
-            StandsForLog g (answer g log x o).0 after × (reply ≡ (answer g log x o).1))
-            (sym own)
-            (by (unmet_rule g x (part_in g log v))
-            refl
-            (subst (λ (u : ℕ). IsAnswered (Holds new) g u log (part_in g log v) x b reply
-            (unmet_rule g x (part_in g log v))) actor.vertex_is
-            (makes g log (part_in g log v) held actor.stands (own ∙ sym actor.vertex_is))))
+        event_leads x reply own makes = rw own (by (unmet_rule g x (part_in g log v)) refl
+            (rw actor.vertex_is at (makes g log (part_in g log v) held actor.stands (own ∙ sym actor.vertex_is))))
           where
             by : (o : Option Rule) → unmet_rule g x (part_in g log v) ≡ o
                 → IsAnswered (Holds new) g v log (part_in g log v) x b reply o
@@ -120,9 +106,7 @@ module _ (g : Setting) (log : Log) (w : WorldState) (stands : StandsForLog g log
             by (Some rule) is (kept, says) = (leads [] (part_in g log v) kept.held tt kept.stands kept.vertex, says)
             by None is (seen, kept, says) =
                 let as_seen : seen ≡ sees g log x = kept.held.legal.1.1 in (
-                  subst (λ (n : ℕ). StandsForLog g (saw x n ∷ log) after) as_seen
-                      (leads (saw x seen ∷ []) (does g (saw x seen) (part_in g log v)) kept.held (own, tt) kept.stands
-                      kept.vertex),
-                  says
-                      ∙ (λ j. reply_of g x (as_seen j) (part_in g log (sym own j))),
+                  rw as_seen at (leads (saw x seen ∷ []) (does g (saw x seen) (part_in g log v)) kept.held (own, tt)
+                      kept.stands kept.vertex),
+                  rw own (rw as_seen at says),
                 )

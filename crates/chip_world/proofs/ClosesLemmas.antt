@@ -1,10 +1,10 @@
 -- Serves Rounds.antt.
 -- More rounds than steps can count close the root.
 use Rattle.chip_world.proofs.Names.{◌≡◌, ◌⊎◌, ℕ, zero, suc, ◌+◌, ◌-◌, ◌<◌, ◌≤◌, List, [], ◌∷◌, ◌++◌, length, reverse}
-use Rattle.chip_world.proofs.Names.{refl, sym, ap, ◌∙◌, subst, arith, inl, inr, ⊎_elim, append_assoc, Option}
+use Rattle.chip_world.proofs.Names.{refl, ap, ◌∙◌, arith, inl, inr, ⊎_elim, append_assoc, Option}
 use Rattle.chip_world.proofs.Names.{Contains-append_left, dite, ℕ_discrete, IsGame, Setting, graph_edges, root_edge}
-use Rattle.chip_world.proofs.Names.{saw, IsTurn, met_rules, Log, Step, Settle, Rule, part_in, sees, IsLegalLog}
-use Rattle.chip_world.proofs.Names.{IsClosed, answer, log_after, tail_of, done_by, work_in, steps_at_most, fed_so_far}
+use Rattle.chip_world.proofs.Names.{saw, met_rules, Log, Step, Settle, Rule, part_in, sees, IsLegalLog}
+use Rattle.chip_world.proofs.Names.{IsClosed, answer, log_after, tail_of, work_in, steps_at_most, fed_so_far}
 use Rattle.chip_world.proofs.Names.{AreFiringBounds, HasEnd, RootHasPut, HasTurn, HasRound, part_kept, run_legal}
 use Rattle.chip_world.proofs.Names.{log_after-append, work_grows, round_closes, ends_longer, few_after, Drive, Closed}
 use Rattle.chip_world.proofs.Names.{Unfinished, AreTurns, root_settles, IsRound, AreRounds, IsDrive}
@@ -24,7 +24,7 @@ module _ (g : Setting) (game : IsGame g.game) (some_ring : 0 < g.ring) where
     early = turn.early;
     middle = turn.middle;
     late = ys ++ turn.late;
-    all_are = ap (λ (l : Log). ys ++ l) turn.all_are ∙ sym (append_assoc ys turn.late (turn.middle ++ turn.early));
+    all_are = rw (turn.all_are, append_assoc);
     are_turn = turn.are_turn;
   }
 
@@ -32,7 +32,7 @@ module _ (g : Setting) (game : IsGame g.game) (some_ring : 0 < g.ring) where
   turned zero before after legal same = record {
     more = [];
     longer = same;
-    legal = subst (IsLegalLog g) (sym same) legal;
+    legal = rw same legal;
     turns = λ v l. absurd (omega arith);
   }
   turned (suc n) before after legal (between, turns, last) =
@@ -46,16 +46,14 @@ module _ (g : Setting) (game : IsGame g.game) (some_ring : 0 < g.ring) where
         middle = reverse ds;
         late = [];
         all_are = refl;
-        are_turn = subst (λ (l : Log). IsTurn g n (part_in g l n) (done_by g n (reverse ds))) old.longer
-            (subst (IsTurn g n s) (sym (done_turn g n ds mine)) last.are_turn);
+        are_turn = rw (← old.longer, done_turn g n ds mine) last.are_turn;
       } in
       record {
         more = reverse ds ++ old.more;
-        longer = last.all_made ∙ ap (λ (l : Log). reverse ds ++ l) old.longer
-            ∙ sym (append_assoc (reverse ds) old.more before);
+        longer = rw (append_assoc, ← old.longer) last.all_made;
         legal = last.all_fit;
         turns = λ v l. dite (ℕ_discrete v n)
-            (λ same. subst (λ (u : ℕ). HasTurn g u before (reverse ds ++ old.more)) (sym same) here)
+            (λ same. rw same here)
             (λ other. later_turn v before old.more (reverse ds) (old.turns v (omega arith)));
       }
 
@@ -80,7 +78,7 @@ module _ (g : Setting) (game : IsGame g.game) (some_ring : 0 < g.ring) where
             (met_rules g (Settle e) (part_in g now (tail_of g e)) (omega arith))
             ∙ ap (λ (l : Log). x ∷ l) old.longer;
         settles = λ v l. dite (ℕ_discrete v n)
-            (λ same. (x, (0, omega arith, refl), ap (λ (u : ℕ). Settle (root_edge g u)) (sym same)))
+            (λ same. rw same (x, (0, omega arith, refl), refl))
             (λ other. let found = old.settles v (omega arith) in let at = found.1 in let inside = at.1 in
             (found.0, (suc at.0, omega arith, at.2), found.2));
       }
@@ -99,17 +97,16 @@ module _ (g : Setting) (game : IsGame g.game) (some_ring : 0 < g.ring) where
       let then = settled n between (omega arith) in
       record {
         more = then.more ++ first.more;
-        longer = settles ∙ then.longer ∙ ap (λ (l : Log). then.more ++ l) first.longer
-            ∙ sym (append_assoc then.more first.more before);
-        legal = subst (IsLegalLog g) (sym settles) (run_legal g between (root_settles g n) first.legal);
+        longer = rw (append_assoc, ← first.longer, ← then.longer) settles;
+        legal = rw settles (run_legal g between (root_settles g n) first.legal);
         has = record {
           turns = λ v l. later_turn v before first.more then.more (first.turns v l);
           settles = λ e past l.
-              let at : root_edge g (e - graph_edges g) ≡ e = omega arith in
+              let same : root_edge g (e - graph_edges g) ≡ e = omega arith in
               let found = then.settles (e - graph_edges g) (omega arith) in (
                 found.0,
                 Contains-append_left then.more first.more found.0 found.1,
-                found.2 ∙ ap (λ (i : ℕ). Settle i) at,
+                cc (found.2, same),
               );
         };
       }
@@ -125,18 +122,17 @@ module _ (g : Setting) (game : IsGame g.game) (some_ring : 0 < g.ring) where
       → AreRounds g n before after → Drove n before after
   drove zero before after legal end put same =
       let worked = ap (work_in g) same in
-      record { more = []; longer = same; legal = subst (IsLegalLog g) (sym same) legal; tells = inr (omega arith) }
+      record { more = []; longer = same; legal = rw same legal; tells = inr (omega arith) }
   drove (suc n) before after legal end put (between, rounds, not_closed, last) =
       let old = drove n before between legal end put rounds in
       let round = rounded between after old.legal last in
-      let all : after ≡ (round.more ++ old.more) ++ before = round.longer ∙ ap (λ (l : Log). round.more ++ l) old.longer
-      ∙ sym (append_assoc round.more old.more before) in
-      let all_legal = subst (IsLegalLog g) all round.legal in
+      let all : after ≡ (round.more ++ old.more) ++ before = rw (append_assoc, ← old.longer) round.longer in
+      let all_legal = rw all at round.legal in
       let ends = ends_longer g game some_ring (round.more ++ old.more) before all_legal end in
-      let here_legal = subst (IsLegalLog g) round.longer round.legal in
-      let same : (round.more ++ old.more) ++ before ≡ round.more ++ between = sym all ∙ round.longer in
-      let here_end = subst (HasEnd g) same ends.end in
-      let here_put = subst (RootHasPut g) same (ends.put put) in
+      let here_legal = rw round.longer at round.legal in
+      let same : (round.more ++ old.more) ++ before ≡ round.more ++ between = rw (append_assoc, ← old.longer) in
+      let here_end = rw same at ends.end in
+      let here_put = rw same at (ends.put put) in
       let worked = ap (work_in g) round.longer in
       let grows = work_grows g round.more between in
       record {
@@ -145,7 +141,7 @@ module _ (g : Setting) (game : IsGame g.game) (some_ring : 0 < g.ring) where
         legal = round.legal;
         tells = ⊎_elim (λ closed. absurd (not_closed closed))
             (λ some. dite (ℕ_discrete (work_in g (round.more ++ between)) (work_in g between))
-            (λ idle. inl (subst (IsClosed g) (sym round.longer)
+            (λ idle. inl (rw round.longer
             (round_closes g game some_ring between round.more round.has here_legal idle here_put here_end)))
             (λ busy. inr (omega arith))) old.tells;
       }
@@ -158,7 +154,7 @@ module _ (g : Setting) (game : IsGame g.game) (some_ring : 0 < g.ring) where
   drive_closes before after legal end put fired bounds rounds enough (Unfinished n) drive =
       let all = drive.answers in
       let is = drove drive.count before after legal end put drive.are_rounds in
-      let after_legal = subst (IsLegalLog g) is.longer is.legal in
+      let after_legal = rw is.longer at is.legal in
       let few = few_after g game some_ring before (is.more ++ before)
       (ends_longer g game some_ring is.more before after_legal end) after_legal fired bounds in
       let worked = ap (work_in g) is.longer in

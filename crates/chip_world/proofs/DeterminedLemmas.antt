@@ -1,13 +1,12 @@
 -- Serves Rounds.antt.
 -- A turn, a round and a drive follow from the log before them.
 use Rattle.chip_world.proofs.Names.{◌≡◌, ℕ, zero, suc, ◌<◌, ◌≤◌, Bool, true, false, not, eqb, List, [], ◌∷◌, ◌++◌}
-use Rattle.chip_world.proofs.Names.{reverse, Option, Some, None, refl, sym, ap, ◌∙◌, subst, arith, append_assoc}
+use Rattle.chip_world.proofs.Names.{reverse, Option, Some, None, refl, sym, arith, append_assoc}
 use Rattle.chip_world.proofs.Names.{reverse_onto, dite, ℕ_discrete, dec_lt, Setting, Part, may_ack, head_of, Event, Ack}
 use Rattle.chip_world.proofs.Names.{Phase, nothing, either_phase, and_then, seeing, one_step, acknowledging_parent}
 use Rattle.chip_world.proofs.Names.{turn, saw, of_turn, legal_before, Log, Step, does, part_in, Fits, IsLegalLog}
-use Rattle.chip_world.proofs.Names.{log_after, Drive, Closed, Unfinished, WorldState, StandsForLog, Leads, NoOtherDrive}
+use Rattle.chip_world.proofs.Names.{Drive, Closed, Unfinished, WorldState, Leads, NoOtherDrive}
 use Rattle.chip_world.proofs.Names.{IsTurnAfter, AreTurns, IsRound, AreRounds, AnswersDrive, IsDrive, IsOpen}
-use Rattle.chip_world.proofs.Names.{root_settles}
 
 module _ (g : Setting) where
   -- each event fits after the log and those in front of it
@@ -31,9 +30,7 @@ module _ (g : Setting) where
   follows : (log : Log) (xs : List Step) → IsLegalLog g (reverse xs ++ log) → Follow log xs
   follows log [] legal = tt
   follows log (x ∷ xs) legal =
-      let moved : reverse (x ∷ xs) ++ log ≡ reverse xs ++ (x ∷ log) = ap (λ (l : Log). l ++ log) (reverse_onto xs x [])
-      ∙ append_assoc (reverse xs) (x ∷ []) log in
-      let all : IsLegalLog g (reverse xs ++ (x ∷ log)) = subst (IsLegalLog g) moved legal in
+      let all : IsLegalLog g (reverse xs ++ (x ∷ log)) = rw (reverse_onto xs x [], append_assoc) at legal in
       ((legal_before g (reverse xs) (x ∷ log) all).1, follows (x ∷ log) xs all)
 
   -- from one part, after one log, such a phase goes in one way alone
@@ -42,34 +39,28 @@ module _ (g : Setting) where
       → p s ds' t' → (ds ≡ ds') × (t ≡ t')
 
   by_nothing : Determined nothing
-  by_nothing log s ds ds' t t' f f' (none, same) (none', same') = (none ∙ sym none', same ∙ sym same')
+  by_nothing log s ds ds' t t' f f' (none, same) (none', same') = (cc, cc)
 
   by_then : (p q : Phase) → Determined p → Determined q → Determined (and_then p q)
   by_then p q one other log s ds ds' t t' f f' (front, m, back, is, here, rest) (front', m', back', is', here', rest') =
-      let all = subst (Follow log) is f in
-      let all' = subst (Follow log) is' f' in
+      let all = rw is at f in
+      let all' = rw is' at f' in
       let a = one log s front front' m m' (front_follows log front back all)
       (front_follows log front' back' all') here here' in
       let b = other (made log front) m back back' t t' (back_follows log front back all)
-      (subst (λ (xs : List Step). Follow (made log xs) back') (sym a.0) (back_follows log front' back' all')) rest
-      (subst (λ (n : Part). q n back' t') (sym a.1) rest') in
-      (is ∙ ap (λ (xs : List Step). xs ++ back) a.0 ∙ ap (λ (ys : List Step). front' ++ ys) b.0 ∙ sym is', b.1)
+      (rw a.0 (back_follows log front' back' all')) rest (rw a.1 rest') in
+      (cc, b.1)
 
   module _ (v : ℕ) where
     by_seeing : (x : Event) (next : ℕ → Part → Phase) → ((seen : ℕ) (s : Part) → Determined (next seen s))
         → Determined (seeing g v x next)
     by_seeing x next more log s ds ds' t t' f f' (seen, rest, is, after) (seen', rest', is', after') =
-        let all = subst (Follow log) is f in
-        let all' = subst (Follow log) is' f' in
-        let same : seen ≡ seen' = all.0.1 ∙ sym all'.0.1 in
-        let b = more seen s (saw x seen ∷ log)
-        (does g (saw x seen) s) rest rest' t t' all.1
-        (subst (λ (n : ℕ). Follow (saw x n ∷ log) rest') (sym same) all'.1) after
-        (subst (λ (n : ℕ). next n s (does g (saw x n) s) rest' t') (sym same) after') in (
-          is ∙ ap (λ (n : ℕ). (let d : Step = saw x n in d ∷ rest)) same
-              ∙ ap (λ (r : List Step). (let d : Step = saw x seen' in d ∷ r)) b.0 ∙ sym is',
-          b.1,
-        )
+        let all = rw is at f in
+        let all' = rw is' at f' in
+        let same : seen ≡ seen' = cc (all.0.1, all'.0.1) in
+        let b = more seen s (saw x seen ∷ log) (does g (saw x seen) s) rest rest' t t' all.1 (rw same all'.1) after
+        (rw same after') in
+        (rw (is, is', same, b.0), b.1)
 
     by_parent : (parent : Option ℕ) → Determined (acknowledging_parent g v parent)
     by_parent None log s = by_nothing log s
@@ -92,38 +83,32 @@ module _ (g : Setting) where
         → after ≡ after'
     turn_determined before after after' one other =
         let same = by_turn before (part_in g before v) one.operations other.operations one.are_turn.0 other.are_turn.0
-        (follows before one.operations (subst (IsLegalLog g) one.all_made one.all_fit))
-        (follows before other.operations (subst (IsLegalLog g) other.all_made other.all_fit)) one.are_turn.1
-        other.are_turn.1 in
-        one.all_made ∙ ap (λ (ds : List Step). reverse ds ++ before) same.0 ∙ sym other.all_made
+        (follows before one.operations (rw one.all_made at one.all_fit))
+        (follows before other.operations (rw other.all_made at other.all_fit)) one.are_turn.1 other.are_turn.1 in
+        cc
 
   turns_determined : (n : ℕ) (before after after' : Log) → AreTurns g n before after → AreTurns g n before after'
       → after ≡ after'
-  turns_determined zero before after after' one other = one ∙ sym other
+  turns_determined zero before after after' one other = cc
   turns_determined (suc v) before after after' (m, firsts, last) (m', firsts', last') =
-      turn_determined v m' after after'
-      (subst (λ (l : Log). IsTurnAfter g v l after) (turns_determined v before m m' firsts firsts') last) last'
+      turn_determined v m' after after' (rw (turns_determined v before m m' firsts firsts') at last) last'
 
   round_determined : (before after after' : Log) → IsRound g before after → IsRound g before after' → after ≡ after'
   round_determined before after after' (m, turns, settled) (m', turns', settled') =
-      settled ∙ ap (λ (l : Log). log_after g l (root_settles g g.game.graph.vertices))
-      (turns_determined g.game.graph.vertices before m m' turns turns') ∙ sym settled'
+      let same = turns_determined g.game.graph.vertices before m m' turns turns' in cc
 
   rounds_determined : (n : ℕ) (before after after' : Log) → AreRounds g n before after → AreRounds g n before after'
       → after ≡ after'
-  rounds_determined zero before after after' one other = one ∙ sym other
+  rounds_determined zero before after after' one other = cc
   rounds_determined (suc n) before after after' (m, firsts, is_open, last) (m', firsts', is_open', last') =
-      round_determined m' after after'
-      (subst (λ (l : Log). IsRound g l after) (rounds_determined n before m m' firsts firsts') last) last'
+      round_determined m' after after' (rw (rounds_determined n before m m' firsts firsts') at last) last'
 
   -- the root is open after fewer rounds
   open_earlier : (n k : ℕ) → n < k → (before after after' : Log) → AreRounds g n before after
       → AreRounds g k before after' → IsOpen g after
   open_earlier n zero l before after after' one other = absurd (omega arith)
   open_earlier n (suc k) l before after after' one (m, firsts, is_open, last) = dite (ℕ_discrete n k)
-      (λ same. subst (IsOpen g)
-      (sym (rounds_determined k before after m (subst (λ (i : ℕ). AreRounds g i before after) same one) firsts))
-      is_open)
+      (λ same. rw (rounds_determined k before after m (rw same at one) firsts) is_open)
       (λ other. open_earlier n k (omega arith) before after m one firsts)
 
   -- no drive ends where another goes on
@@ -138,19 +123,15 @@ module _ (g : Setting) where
   same_answer rounds n k after Closed (Unfinished told) one (told_is, all, still) = absurd (still one)
   same_answer rounds n k after (Unfinished told) Closed (told_is, all, still) other = absurd (still other)
   same_answer rounds n k after (Unfinished told) (Unfinished told') (told_is, all, still) (told_is', all', still') =
-      ap Unfinished (told_is ∙ sym told_is')
+      cc
 
   pub drive_determined : (rounds : ℕ) (before after after' : Log) (result result' : Drive)
       → IsDrive g rounds before after result → IsDrive g rounds before after' result'
       → (after ≡ after') × (result ≡ result')
   drive_determined rounds before after after' result result' one other = dite (ℕ_discrete one.count other.count)
       (λ same.
-      let ends = rounds_determined other.count before after after'
-      (subst (λ (n : ℕ). AreRounds g n before after) same one.are_rounds) other.are_rounds in (
-        ends,
-        same_answer rounds one.count other.count after' result result'
-            (subst (λ (l : Log). AnswersDrive g rounds one.count l result) ends one.answers) other.answers,
-      ))
+      let ends = rounds_determined other.count before after after' (rw same at one.are_rounds) other.are_rounds in
+      (ends, same_answer rounds one.count other.count after' result result' (rw ends at one.answers) other.answers))
       (λ differ. dite (dec_lt one.count other.count)
       (λ l. absurd (ends_last rounds one.count other.count after result l other.within
       (open_earlier one.count other.count l before after after' one.are_rounds other.are_rounds) one.answers))
@@ -164,4 +145,4 @@ pub no_other : (old new : WorldState) (rounds : ℕ) (result : Drive)
 no_other old new rounds result leads = λ g before stands after answer drive.
     let own = leads g before stands in
     let same = drive_determined g rounds before own.0 after result answer own.2 drive in
-    (subst (λ (l : Log). StandsForLog g l new) same.0 own.1, sym same.1)
+    (rw same.0 at own.1, sym same.1)

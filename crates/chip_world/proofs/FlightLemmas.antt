@@ -1,8 +1,8 @@
 -- Serves SharedWords.antt. The messages that were sent on an edge and not delivered, by the cells of its ring and what
 -- its tail holds.
 use Rattle.chip_world.proofs.Names.{◌≡◌, ◌≢◌, ℕ, ◌+◌, ◌-◌, ◌%◌, ◌<◌, ◌≤◌, List, [], ◌∷◌, ◌++◌, length, sum, get_or}
-use Rattle.chip_world.proofs.Names.{take, length-drop, length-take-le, Option, Some, None, option_to_list, refl, sym}
-use Rattle.chip_world.proofs.Names.{ap, ◌∙◌, arith, ⊎_elim, inl, inr, get_or_past, get_or_append_left, get_or_push}
+use Rattle.chip_world.proofs.Names.{take, length-drop, length-take-le, Option, Some, None, option_to_list, refl}
+use Rattle.chip_world.proofs.Names.{arith, ⊎_elim, inl, inr, get_or_past, get_or_append_left, get_or_push}
 use Rattle.chip_world.proofs.Names.{get_or-drop, take_more, dite, dec_lt, Setting, Tail, claims_of, sent_counts, Sound}
 use Rattle.chip_world.proofs.Names.{Shows, none_held, one_held, length-sent_counts, message_of, Message, messages_from}
 use Rattle.chip_world.proofs.Names.{counts_in_flight, messages-append, into_in, Log, out_in}
@@ -26,8 +26,8 @@ module _ (ring word : ℕ) (cell : ℕ → ℕ) (t : Tail) (got : List ℕ) (sto
 
   pub count_in_cell : cell (place % ring) ≢ 0 → cell (place % ring) ≡ get_or (sent_counts t) place 0
   count_in_cell some = dite (dec_lt place (length t.put))
-      (λ l. cell_is ∙ sym (get_or_append_left t.put (option_to_list t.held) 0 place l))
-      (λ past. absurd (some (cell_is ∙ get_or_past t.put place 0 (omega arith))))
+      (λ l. rw (cell_is, get_or_append_left t.put (option_to_list t.held) 0 place l))
+      (λ past. absurd (some (rw cell_is (get_or_past t.put place 0 (omega arith)))))
 
   pub count_in_hand : cell (place % ring) ≡ 0 → sum (option_to_list t.held) ≡ get_or (sent_counts t) place 0
   count_in_hand zero = dite (dec_lt place (length t.put))
@@ -36,10 +36,7 @@ module _ (ring word : ℕ) (cell : ℕ → ℕ) (t : Tail) (got : List ℕ) (sto
       (λ none. let n = none_held t none in absurd (omega arith))
       (λ some.
       let n = one_held t some.0 some.1 in
-      let one : sum (option_to_list t.held) ≡ some.0 = ap (λ (h : Option ℕ). sum (option_to_list h)) some.1
-      ∙ Rattle.std.proofs.Common.zero-add some.0 in
-      one ∙ sym (ap (λ (h : Option ℕ). get_or (t.put ++ option_to_list h) place 0) some.1
-      ∙ get_or_push t.put some.0 0 place (omega arith)))
+      rw (some.1, get_or_push t.put some.0 0 place (omega arith)) (omega arith))
       (hand t.held))
 
 -- ---- the messages in flight, one after another
@@ -47,8 +44,7 @@ module _ (ring word : ℕ) (cell : ℕ → ℕ) (t : Tail) (got : List ℕ) (sto
 module _ (g : Setting) (log : Log) (e : ℕ) where
   flight_long : (first : ℕ) → first ≡ length (into_in g log e).got
       → length (counts_in_flight g log e) ≡ claims_of (out_in g log e).link - first
-  flight_long first is = length-drop (length (into_in g log e).got) (sent_counts (out_in g log e).link)
-      ∙ (let n = length-sent_counts (out_in g log e).link in omega arith)
+  flight_long first is = let n = length-sent_counts (out_in g log e).link in rw length-drop (omega arith)
 
   pub flight_more : (first place count : ℕ) (ms : List Message) → first ≡ length (into_in g log e).got → first ≤ place
       → place < claims_of (out_in g log e).link → count ≡ get_or (sent_counts (out_in g log e).link) place 0
@@ -60,15 +56,9 @@ module _ (g : Setting) (log : Log) (e : ℕ) where
       let k : ℕ = place - first in
       let long = flight_long first is in
       let inside : k < length cs = omega arith in
-      let here : get_or cs k 0 ≡ count = get_or-drop (length (into_in g log e).got)
-      (sent_counts (out_in g log e).link) k 0
-      ∙ ap (λ (n : ℕ). get_or (sent_counts (out_in g log e).link) n 0) (let z : length (into_in g log e).got + k
-      ≡ place = omega arith in z) ∙ sym count_is in
+      let there : length (into_in g log e).got + k ≡ place = omega arith in
+      let here : get_or cs k 0 ≡ count = rw (get_or-drop, there, count_is) in
       let short : length (take k cs) ≡ k = length-take-le k cs (omega arith) in
-      ap (λ (l : List Message). l ++ message_of e place count ∷ []) so_far
-      ∙ ap (λ (n : ℕ). messages_from e first (take k cs) ++ message_of e n count ∷ [])
-      (let z : place ≡ first + length (take k cs) = omega arith in z)
-      ∙ sym (messages-append e first (take k cs) (count ∷ []))
-      ∙ ap (λ (n : ℕ). messages_from e first (take k cs ++ n ∷ [])) (sym here)
-      ∙ ap (messages_from e first) (sym (take_more cs k 0 inside))
-      ∙ ap (λ (n : ℕ). messages_from e first (take n cs)) (let z : k + 1 ≡ (place + 1) - first = omega arith in z)
+      let at : first + length (take k cs) ≡ place = omega arith in
+      let next : (place + 1) - first ≡ k + 1 = omega arith in
+      rw (so_far, next, take_more cs k 0 inside, messages-append e first (take k cs) (get_or cs k 0 ∷ []), here, at)

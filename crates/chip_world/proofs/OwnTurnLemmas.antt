@@ -1,8 +1,9 @@
 -- Serves Rounds.antt.
 -- The steps of a whole turn are those of its vertex.
-use Rattle.chip_world.proofs.Names.{◌≡◌, ℕ, zero, suc, ◌<◌, Bool, true, false, not, cond, eqb, List, [], ◌∷◌, ◌++◌}
-use Rattle.chip_world.proofs.Names.{length, reverse, Option, Some, None, is_some, refl, sym, ap, ◌∙◌, subst, arith}
-use Rattle.chip_world.proofs.Names.{get_or_default, reverse-append, cond_yes, or_else, Setting, head_of, Part, may_ack}
+use Rattle.chip_world.proofs.Names.{nat_tests, arith, ◌≡◌, ℕ, Bool, true, false, not, cond, eqb, List, [], ◌∷◌, ◌++◌}
+use Rattle.chip_world.proofs.Names.{reverse, Option, Some, None, refl, sym}
+use Rattle.chip_world.proofs.Names.{reverse_onto, append_assoc, by_test, cond_yes, Setting}
+use Rattle.chip_world.proofs.Names.{head_of, Part, may_ack}
 use Rattle.chip_world.proofs.Names.{Event, Take, Ack, Step, part_of, does, saw, parent_after, Phase, nothing}
 use Rattle.chip_world.proofs.Names.{either_phase, seeing, one_step, acknowledging_parent, last_acknowledgement, turn}
 use Rattle.chip_world.proofs.Names.{AreOf, Log, done_by, Spreads, of_turn}
@@ -24,15 +25,7 @@ module _ (g : Setting) (v : ℕ) where
   parent_stays : (x : Event) (seen : ℕ) (s : Part) → part_of g x ≡ v → HasOwnParent s
       → (e : ℕ) → parent_after g x seen s ≡ Some e → head_of g e ≡ v
   unfolding HasOwnParent
-  parent_stays (Take i) seen s by mine e is = either (eqb seen 0) is
-    where
-      engaged : (o : Option ℕ) → s.parent ≡ o → or_else o i ≡ Some e → head_of g e ≡ v
-      engaged None none new = (let same : i ≡ e = cc in ap (head_of g) (sym same) ∙ by)
-      engaged (Some q) was new = mine e (was ∙ new)
-
-      either : (b : Bool) → cond b s.parent (or_else s.parent i) ≡ Some e → head_of g e ≡ v
-      either true was = mine e was
-      either false new = engaged s.parent refl new
+  parent_stays (Take i) seen s by mine e is = let own = mine e in grind (arith, nat_tests)
   parent_stays (Ack i) seen s by mine e is = either _ is
     where
       either : (b : Bool) → cond b None s.parent ≡ Some e → head_of g e ≡ v
@@ -45,10 +38,10 @@ module _ (g : Setting) (v : ℕ) where
   unfolding HasOwnParent
   own_event x by next more s ds t mine (seen, rest, is, last) =
       let after = more seen s (does g (saw x seen) s) rest t (parent_stays x seen s by mine) last in
-      (subst (AreOf g v) (sym is) (by, after.0), after.1)
+      (rw is (by, after.0), after.1)
 
   own_nothing : Own nothing
-  own_nothing s ds t mine (none, same) = (subst (AreOf g v) (sym none) tt, subst HasOwnParent (sym same) mine)
+  own_nothing s ds t mine (none, same) = (rw none tt, rw same mine)
 
   own_parent : (parent : Option ℕ) → ((e : ℕ) → parent ≡ Some e → head_of g e ≡ v) → Own (acknowledging_parent g v parent)
   own_parent None by s = own_nothing s
@@ -69,7 +62,7 @@ module _ (g : Setting) (v : ℕ) where
     both = λ p q some other s ds t mine (front, m, back, is, here, rest).
         let a = some s front m mine here in
         let b = other m back t a.1 rest in
-        (subst (AreOf g v) (sym is) (both_of front back a.0 b.0), b.1);
+        (rw is (both_of front back a.0 b.0), b.1);
     event = own_event;
     last = own_last;
   }
@@ -82,17 +75,15 @@ module _ (g : Setting) (v : ℕ) where
 
   done-append : (xs ys : Log) → done_by g v (xs ++ ys) ≡ done_by g v ys ++ done_by g v xs
   done-append [] ys = sym (Rattle.std.proofs.Common.append-nil (done_by g v ys))
-  done-append (x ∷ xs) ys = either (eqb (part_of g x.event) v) (done_by g v ys) (done_by g v xs)
-      (done-append xs ys)
-    where
-      either : (b : Bool) (front back : List Step) → done_by g v (xs ++ ys) ≡ front ++ back
-          → cond b (done_by g v (xs ++ ys) ++ x ∷ []) (done_by g v (xs ++ ys)) ≡ front ++ cond b (back ++ x ∷ []) back
-      either true front back is = ap (λ (l : List Step). l ++ x ∷ []) is
-          ∙ Rattle.std.proofs.lemmas.List.append_assoc front back (x ∷ [])
-      either false front back is = is
+  done-append (x ∷ xs) ys = let rest = done-append xs ys in by_test (eqb (part_of g x.event) v)
+      (λ yes. rw (yes, rest, append_assoc)) (λ no. rw no rest)
 
   -- made one after another, they are what the vertex did
   pub done_turn : (ds : List Step) → AreOf g v ds → done_by g v (reverse ds) ≡ ds
   done_turn [] mine = refl
-  done_turn (x ∷ xs) mine = ap (done_by g v) (reverse-append (x ∷ []) xs) ∙ done-append (reverse xs) (x ∷ [])
-      ∙ (λ j. cond_yes (part_of g x.event) v ([] ++ x ∷ []) [] mine.0 j ++ done_turn xs mine.1 j)
+  done_turn (x ∷ xs) mine = rw (
+    reverse_onto xs x [],
+    done-append (reverse xs) (x ∷ []),
+    done_turn xs mine.1,
+    cond_yes (part_of g x.event) v ([] ++ x ∷ []) [] mine.0,
+  )

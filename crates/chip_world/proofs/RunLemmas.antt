@@ -1,7 +1,7 @@
 -- Serves Run.antt.
 -- A run of events, noted one after another.
 use Rattle.chip_world.proofs.Names.{nat_tests, ◌≡◌, ◌≢◌, ◌∙◌, ℕ, ◌+◌, ◌<◌, ◌≤◌, Bool, cond, eqb, List, [], ◌∷◌, ◌++◌}
-use Rattle.chip_world.proofs.Names.{length, map, get_or, take, refl, sym, ap, subst, arith, append_assoc, append-nil}
+use Rattle.chip_world.proofs.Names.{length, map, get_or, take, refl, sym, ap, arith, append_assoc, append-nil}
 use Rattle.chip_world.proofs.Names.{length-set, get_or-set_same, get_or-set_other, length-append, vec_capacity}
 use Rattle.chip_world.proofs.Names.{get_or-map, length-map, take_more, dite, ℕ_discrete, IsGame, Setting, Got, Sent}
 use Rattle.chip_world.proofs.Names.{Log, Event, Take, Claim, Feed, Reply, step, log_after, replies_to, all_edges}
@@ -27,12 +27,10 @@ counted test edges xs i d counts new l so_far same change =
     let longer : take (i + 1) xs ≡ take i xs ++ x ∷ [] = take_more xs i d l in
     record {
       count_is = same ∙ so_far.count_is;
-      each = λ e m. (let was = so_far.each e m in let now = change e m in let push = count_push (test e) (take i xs) x
-          in let all : count_among (test e) (take (i + 1) xs) ≡ count_among (test e) (take i xs ++ x ∷ []) =
-          ap (count_among (test e)) longer in omega arith);
+      each = λ e m. (let was = so_far.each e m in let now = change e m in
+          let push = count_push (test e) (take i xs) x in rw longer (omega arith));
       few = λ e m. (let was = so_far.few e m in let now = change e m in let long = length-append (take i xs) (x ∷ []) in
-          let all : length (take (i + 1) xs) ≡ length (take i xs ++ x ∷ []) = ap (λ (l : List Event). length l) longer in
-          grind (arith, nat_tests));
+          rw longer (grind (arith, nat_tests)));
     }
 
 -- ---- a message that an event brings is of an edge
@@ -70,14 +68,13 @@ one_message lanes i m = record {
   edges = length-set lanes i _;
   messages = λ e l. dite (ℕ_discrete i e) (λ same. let at = here e l same in grind (arith, nat_tests))
       (λ other. let at = there e other in let none = append-nil (lane_at lanes e).messages in grind (arith, nat_tests));
-  capacity = λ e l. dite (ℕ_discrete i e) (λ same. ap (λ (n : Lane). n.capacity) (here e l same))
-      (λ other. ap (λ (n : Lane). n.capacity) (there e other));
+  capacity = λ e l. dite (ℕ_discrete i e) (λ same. rw (here e l same)) (λ other. rw (there e other));
   few = λ e. grind (arith, nat_tests);
 }
   where
     here : (e : ℕ) → e < length lanes → i ≡ e → lane_at (with_message i m lanes) e
         ≡ (let n : Lane = record (lane_at lanes e) { messages = (lane_at lanes e).messages ++ m ∷ [] } in n)
-    here e l same = ap (λ (k : ℕ). lane_at (with_message k m lanes) e) same ∙ get_or-set_same lanes e _ no_lane l
+    here e l same = rw same (get_or-set_same lanes e _ no_lane l)
 
     there : (e : ℕ) → i ≢ e → lane_at (with_message i m lanes) e ≡ lane_at lanes e
     there e other = get_or-set_other lanes i e _ no_lane (λ z. other (sym z))
@@ -98,17 +95,14 @@ module _ (lanes new : List Lane) (more : ℕ → List Message) (most : ℕ → �
       → HasRoom test (x ∷ rest) lanes → HasRoom test rest new
   room_rest test x rest is has e l =
       let edges = long.edges in let m : e < length lanes = omega arith in
-      let a = has e m in let b = ap (λ (ms : List Message). length ms) (long.messages e m) in
-      let d = length-append (lane_at lanes e).messages (more e) in let f = long.capacity e m in let h = long.few e in
-      let k = is e in omega arith
+      let a = has e m in let few = long.few e in let k = is e in
+      rw (long.messages e m, long.capacity e m, length-append) (omega arith)
 
   listed_more : (edges : ℕ) (all rest : ℕ → List Message) → AreListed edges all lanes (λ e. more e ++ rest e)
       → AreListed edges all new rest
   listed_more edges all rest listed = record {
     count_is = long.edges ∙ listed.count_is;
-    each = λ e l. listed.each e l ∙ sym (append_assoc (lane_at lanes e).messages (more e) (rest e))
-        ∙ ap (λ (ms : List Message). ms ++ rest e)
-        (sym (long.messages e (subst (λ (k : ℕ). e < k) (sym listed.count_is) l)));
+    each = λ e l. rw (long.messages e (rw listed.count_is l), append_assoc) (listed.each e l);
   }
 
 -- ---- one event of a run
@@ -122,9 +116,9 @@ module _ (x : Event) (rest : List Event) (r : Reply) (n new : Notes) (replies : 
       replies = (let a = has.replies in let b = ap (λ (l : List Reply). length l) replies in
           let d = length-append n.replies.items (r ∷ []) in let f = n.replies.ok.0 in let h = new.replies.ok.0 in
           omega arith);
-      sent = subst (HasRoom is_claim_of rest) (sym sent)
+      sent = rw sent
           (room_rest n.sent _ _ _ (sent_longer x r n.sent) is_claim_of x rest (λ e. refl) has.sent);
-      delivered = subst (HasRoom is_take_of rest) (sym delivered)
+      delivered = rw delivered
           (room_rest n.delivered _ _ _ (got_longer x r n.delivered) is_take_of x rest (λ e. refl) has.delivered);
     }
 
@@ -134,21 +128,11 @@ module _ (x : Event) (rest : List Event) (r : Reply) (n new : Notes) (replies : 
         let left : List Reply = replies_to g (step g now x).0 rest in
         record {
           after = noted.after;
-          replies = noted.replies ∙ ap (λ (y : Reply). n.replies.items ++ y ∷ left) (sym is)
-              ∙ sym (append_assoc n.replies.items (r ∷ []) left) ∙ ap (λ (l : List Reply). l ++ left) (sym replies);
-          sent = subst (λ (ls : List Lane). AreListed (all_edges g) (sent_on g log xs) ls (λ e. sent_in e rest left))
-              (sym sent)
-              (listed_more n.sent _ _ _ (sent_longer x r n.sent) (all_edges g) (sent_on g log xs)
-              (λ e. sent_in e rest left)
-              (subst (λ (y : Reply). AreListed (all_edges g) (sent_on g log xs) n.sent
-              (λ e. sent_by e x y ++ sent_in e rest left)) (sym is) noted.sent));
-          delivered = subst
-              (λ (ls : List Lane). AreListed (all_edges g) (delivered_on g log xs) ls (λ e. delivered_in e rest left))
-              (sym delivered)
-              (listed_more n.delivered _ _ _ (got_longer x r n.delivered) (all_edges g) (delivered_on g log xs)
-              (λ e. delivered_in e rest left)
-              (subst (λ (y : Reply). AreListed (all_edges g) (delivered_on g log xs) n.delivered
-              (λ e. delivered_by e x y ++ delivered_in e rest left)) (sym is) noted.delivered));
+          replies = rw (replies, append_assoc, is) noted.replies;
+          sent = rw sent (listed_more n.sent _ _ _ (sent_longer x r n.sent) (all_edges g) (sent_on g log xs)
+              (λ e. sent_in e rest left) (rw is noted.sent));
+          delivered = rw delivered (listed_more n.delivered _ _ _ (got_longer x r n.delivered) (all_edges g)
+              (delivered_on g log xs) (λ e. delivered_in e rest left) (rw is noted.delivered));
         }
 
 -- all is listed
@@ -156,10 +140,9 @@ listed : (edges : ℕ) (all : ℕ → List Message) (lanes : List Lane) → AreL
     → (lists : List (List Message)) → lists ≡ map (λ (lane : Lane). lane.messages) lanes
     → (length lists ≡ edges) × ((e : ℕ) → e < edges → get_or lists e [] ≡ all e)
 listed edges all lanes are lists is = (
-  ap (λ (l : List (List Message)). length l) is ∙ length-map lanes (λ (lane : Lane). lane.messages) ∙ are.count_is,
-  λ e l. ap (λ (ms : List (List Message)). get_or ms e []) is
-      ∙ get_or-map (λ (lane : Lane). lane.messages) lanes e no_lane [] (subst (λ (k : ℕ). e < k) (sym are.count_is) l)
-      ∙ sym (append-nil (lane_at lanes e).messages) ∙ sym (are.each e l),
+  rw (is, length-map) are.count_is,
+  λ e l. rw (is, get_or-map (λ (lane : Lane). lane.messages) lanes e no_lane [] (rw are.count_is l), are.each e l)
+      (sym (append-nil (lane_at lanes e).messages)),
 )
 
 pub all_noted : (g : Setting) (log : Log) (xs : List Event) (now : Log) (n : Notes) (replies : List Reply)
@@ -170,7 +153,7 @@ all_noted g log xs now n replies sent delivered noted replies_are sent_is delive
     let first = listed (all_edges g) (sent_on g log xs) n.sent noted.sent sent sent_is in
     let second = listed (all_edges g) (delivered_on g log xs) n.delivered noted.delivered delivered delivered_is in
     record {
-      replies_are = replies_are ∙ sym (append-nil n.replies.items) ∙ sym noted.replies;
+      replies_are = rw (replies_are, noted.replies, append-nil);
       sent_each = first.0;
       sent_on_edge = first.1;
       delivered_each = second.0;
@@ -181,6 +164,4 @@ all_noted g log xs now n replies sent delivered noted replies_are sent_is delive
 pub held_by_replies : (g : Setting) → IsGame g.game → 0 < g.ring → (log : Log) (xs : List Event) (replies : List Reply)
     → replies ≡ replies_to g log xs → log ≡ [] → IsHeldByReplies g (log_after g log xs) xs replies
 held_by_replies g game some_ring log xs replies is opening =
-    subst (λ (rs : List Reply). IsHeldByReplies g (log_after g log xs) xs rs) (sym is)
-    (subst (λ (before : Log). IsHeldByReplies g (log_after g before xs) xs (replies_to g before xs)) (sym opening)
-    (held_from_the_opening g game some_ring xs))
+    rw (is, opening) (held_from_the_opening g game some_ring xs)

@@ -1,18 +1,17 @@
 -- Serves SharedWords.antt, World.antt, Makers.antt.
 -- One step of a world.
-use Rattle.chip_world.proofs.Names.{◌≡◌, ℕ, ◌<◌, ◌≤◌, Bool, true, false, ◌&&◌, ltb, leb, lt-ltb, leb-true, List, ◌∷◌}
-use Rattle.chip_world.proofs.Names.{length, get_or, Option, Some, None, Result, Ok, Err, refl, sym, ap, ◌∙◌, subst}
-use Rattle.chip_world.proofs.Names.{arith, length-set, true≢false, lt-leb, dite, dec_lt, Setting, claims_in, NoSuch}
+use Rattle.chip_world.proofs.Names.{◌≡◌, ℕ, ◌<◌, ◌≤◌, true, lt-ltb, leb-true, List, ◌∷◌}
+use Rattle.chip_world.proofs.Names.{length, get_or, Option, Some, None, Result, Ok, Err, refl}
+use Rattle.chip_world.proofs.Names.{arith, length-set, lt-leb, dite, dec_lt, Setting, claims_in}
 use Rattle.chip_world.proofs.Names.{Act, Done, NotNow, Actor, StandsFor, act_of, event_of, verdict, Root, RootStandsFor}
-use Rattle.chip_world.proofs.Names.{WhateverRoot, SomeRoot, RootCanDo, is_of_root, FitsRoot, RootMakes, tail_root}
+use Rattle.chip_world.proofs.Names.{WhateverRoot, SomeRoot, RootCanDo, is_of_root, RootMakes, tail_root}
 use Rattle.chip_world.proofs.Names.{rules_met, saw, Log, Step, Event, Clear, Put, Settle, Seal, Read, Feed, End, Part}
-use Rattle.chip_world.proofs.Names.{Rule, Reply, unmet_rule, part_of, does, reply_of, part_in, word_of_part, sees}
-use Rattle.chip_world.proofs.Names.{answer, step, Fits, graph_edges, all_edges, root, stopper, part_here, part_else}
+use Rattle.chip_world.proofs.Names.{Rule, Reply, unmet_rule, part_of, reply_of, part_in, word_of_part, sees}
+use Rattle.chip_world.proofs.Names.{step, Fits, graph_edges, all_edges, root, stopper, part_here, part_else}
 use Rattle.chip_world.proofs.Names.{EdgeState, words_of, with_edge, with_seal, seen_in, words_after, CanPerform}
 use Rattle.chip_world.proofs.Names.{is_by_act, WorldState, ShowsEdge, IsActor, StandsForLog, root_fits}
 use Rattle.chip_world.proofs.WordLemmas.{seal_shown, sees_seal, length-words_after, can_perform, root_sees_words}
 use Rattle.chip_world.proofs.WordLemmas.{words_shown, read_shown}
-use Rattle.chip_world.proofs.VertexLemmas.{refused, passes}
 use Rattle.chip_part.specs.declared.act.Act.TheVariants as Do
 
 -- an operation that was given is needed, and every rule is met
@@ -36,22 +35,14 @@ module _ (g : Setting) (log : Log) (w : WorldState) (stands : StandsForLog g log
   -- a rule isn't met, and nothing changes
   pub refuses : (x : Event) (rule : Rule) → unmet_rule g x (part_in g log (part_of g x)) ≡ Some rule
       → StandsForLog g (step g log x).0 w × (NotNow rule ≡ (step g log x).1)
-  refuses x rule is = (
-    subst (λ (o : Option Rule). StandsForLog g (answer g log x o).0 w) (sym is) stands,
-    ap
-        (λ (o : Option Rule). (answer g log x o).1) (sym is),
-  )
+  refuses x rule is = rw is (stands, refl)
 
   -- the rules are met, and the world is that of the longer log
   pub accepts : (x : Event) (new : WorldState) (reply : Reply) → unmet_rule g x (part_in g log (part_of g x)) ≡ None
       → StandsForLog g (saw x (sees g log x) ∷ log) new
       → reply ≡ reply_of g x (sees g log x) (part_in g log (part_of g x))
       → StandsForLog g (step g log x).0 new × (reply ≡ (step g log x).1)
-  accepts x new reply is after says = (
-    subst (λ (o : Option Rule). StandsForLog g (answer g log x o).0 new) (sym is) after,
-    says
-        ∙ ap (λ (o : Option Rule). (answer g log x o).1) (sym is),
-  )
+  accepts x new reply is after says = rw is (after, says)
 
   -- ---- the events of the stopper and of the root
 
@@ -60,8 +51,7 @@ module _ (g : Setting) (log : Log) (w : WorldState) (stands : StandsForLog g log
       → IsActor g (x ∷ log) v (get_or w.actors v d)
   actors_stay x past v l d = record {
     vertex_is = (stands.actors v l d).vertex_is;
-    stands = subst (λ (p : Part). StandsFor g p (get_or w.actors v d))
-        (sym (part_else g x log v (λ z. absurd (omega arith)))) (stands.actors v l d).stands;
+    stands = rw (part_else g x log v (λ z. absurd (omega arith))) (stands.actors v l d).stands;
   }
 
   -- the same world but for its words and its root
@@ -86,16 +76,16 @@ module _ (g : Setting) (log : Log) (w : WorldState) (stands : StandsForLog g log
       × (Done claims ≡ (step g log (Seal e)).1)
   seal_makes e l claims told =
       let x : Step = saw (Seal e) (sees g log (Seal e)) in
-      let none : unmet_rule g (Seal e) (part_in g log (stopper g))
-      ≡ None = passes (ltb e (graph_edges g)) NoSuch None (lt-ltb e (graph_edges g) l) in
+      let none : unmet_rule g (Seal e) (part_in g log (stopper g)) ≡ None = rw (lt-ltb e (graph_edges g) l) in
       accepts (Seal e) (record w { words = with_edge e with_seal w.words }) (Done claims) none
-      (others_stay x (omega arith) (none, refl) (with_edge e with_seal w.words) w.root (length-set w.words e _
-      ∙ stands.words_each) (seal_shown g stands.is_setting.game stands.is_setting.some_ring log stands.legal w.words
-      stands.words_each stands.words e none) (subst (λ (s : Part). RootStandsFor g s w.root)
-      (sym (part_else g x log (root g) (λ z. absurd (omega arith)))) stands.root_stands))
-      (ap Done (told ∙ ap claims_in
-      (sees_seal g stands.is_setting.game stands.is_setting.some_ring log stands.legal w.words stands.words_each
-      stands.words e l)))
+      (others_stay x (omega arith) (none, refl) (with_edge e with_seal w.words) w.root (rw length-set stands.words_each)
+      (seal_shown g stands.is_setting.game stands.is_setting.some_ring log stands.legal w.words stands.words_each
+      stands.words e none) (rw (part_else g x log (root g) (λ z. absurd (omega arith))) stands.root_stands))
+      (rw (
+        told,
+        sees_seal g stands.is_setting.game stands.is_setting.some_ring log stands.legal w.words
+            stands.words_each stands.words e l,
+      ))
 
   -- ---- the events of the root that are operations
 
@@ -110,33 +100,26 @@ module _ (g : Setting) (log : Log) (w : WorldState) (stands : StandsForLog g log
     at_root (Feed e k) mine met = tail_root g e (rules_met g (Feed e k) rooted met).0
     at_root (Read v) mine met = refl
     at_root End mine met = refl
-    at_root _ mine met = absurd (true≢false (sym mine))
+    at_root _ mine met = absurd (cc)
 
     -- its rules are asked of the root's part
     root_unmet : (y : Event) → is_of_root g y ≡ true
         → unmet_rule g y (part_in g log (part_of g y)) ≡ unmet_rule g y rooted
-    root_unmet (Clear e) mine = ap (λ (p : ℕ). unmet_rule g (Clear e) (part_in g log p))
-        (tail_root g e (leb-true (graph_edges g) e mine))
-    root_unmet (Put e) mine = ap (λ (p : ℕ). unmet_rule g (Put e) (part_in g log p))
-        (tail_root g e (leb-true (graph_edges g) e mine))
-    root_unmet (Settle e) mine = ap (λ (p : ℕ). unmet_rule g (Settle e) (part_in g log p))
-        (tail_root g e (leb-true (graph_edges g) e mine))
-    root_unmet (Feed e k) mine = dite (dec_lt e (graph_edges g))
-        (λ l. let none : (leb (graph_edges g) e && ltb e (all_edges g)) ≡ false =
-        ap (λ (b : Bool). b && ltb e (all_edges g)) (lt-leb (graph_edges g) e l) in
-        refused _ NoSuch _ none ∙ sym (refused _ NoSuch _ none))
-        (λ n. ap (λ (p : ℕ). unmet_rule g (Feed e k) (part_in g log p)) (tail_root g e (omega arith)))
+    root_unmet (Clear e) mine = rw (tail_root g e (leb-true (graph_edges g) e mine))
+    root_unmet (Put e) mine = rw (tail_root g e (leb-true (graph_edges g) e mine))
+    root_unmet (Settle e) mine = refl
+    root_unmet (Feed e k) mine = dite (dec_lt e (graph_edges g)) (λ l. rw (lt-leb (graph_edges g) e l))
+        (λ n. rw (tail_root g e (omega arith)))
     root_unmet (Read v) mine = refl
     root_unmet End mine = refl
-    root_unmet _ mine = absurd (true≢false (sym mine))
+    root_unmet _ mine = absurd (cc)
 
     -- the root's rule that isn't met is the core's
     pub root_refuses : (rule : Rule) → WhateverRoot w.root (λ g s. is_of_root g x ≡ true
         → ◌≡◌ {A = Result Act Rule} (Err rule) (verdict (unmet_rule g x s) (act_of g x s)))
         → StandsForLog g (step g log x).0 w × (NotNow rule ≡ (step g log x).1)
-    root_refuses rule may = refuses x rule
-        (root_unmet x own
-        ∙ withheld (unmet_rule g x rooted) (act_of g x rooted) rule (may g rooted stands.root_stands own))
+    root_refuses rule may = refuses x rule (rw (root_unmet x own)
+        (withheld (unmet_rule g x rooted) (act_of g x rooted) rule (may g rooted stands.root_stands own)))
 
     module _ (operates : is_by_act x ≡ true) (act : Act) (may : WhateverRoot w.root (λ g s. is_of_root g x ≡ true
         → Ok act ≡ verdict (unmet_rule g x s) (act_of g x s))) where
@@ -147,27 +130,27 @@ module _ (g : Setting) (log : Log) (w : WorldState) (stands : StandsForLog g log
       here = at_root x own root_due.0
 
       met : unmet_rule g x (part_in g log (part_of g x)) ≡ None
-      met = root_unmet x own ∙ root_due.0
+      met = rw (root_unmet x own) root_due.0
 
       needed : act_of g x (part_in g log (part_of g x)) ≡ act
-      needed = ap (λ (p : ℕ). act_of g x (part_in g log p)) here ∙ root_due.1
+      needed = rw here root_due.1
 
       pub root_can_perform : CanPerform act w.words
-      root_can_perform = subst (λ (b : Act). CanPerform b w.words) needed
+      root_can_perform = rw needed at
           (can_perform g stands.is_setting.game stands.is_setting.some_ring log stands.legal w.words stands.words_each
           stands.words x operates met)
 
       module _ (seen : ℕ) (seen_is : seen ≡ seen_in act 0 w.words) where
         is_seen : seen ≡ sees g log x
-        is_seen = seen_is ∙ ap (λ (b : Act). seen_in b 0 w.words) (sym needed)
-            ∙ root_sees_words g stands.is_setting.game stands.is_setting.some_ring log stands.legal w.words
-            stands.words_each stands.words x own operates met
+        is_seen = rw (seen_is, ← needed)
+            (root_sees_words g stands.is_setting.game stands.is_setting.some_ring log stands.legal w.words
+            stands.words_each stands.words x own operates met)
 
         can : RootCanDo g rooted x seen
         can = (
           own,
           root_due.0,
-          subst (FitsRoot g rooted x) (sym is_seen)
+          rw is_seen
               (root_fits g stands.is_setting.game stands.is_setting.some_ring log stands.legal x own root_due.0),
         )
 
@@ -183,14 +166,10 @@ module _ (g : Setting) (log : Log) (w : WorldState) (stands : StandsForLog g log
             let made = makes g rooted stands.root_stands can in
             accepts x (record w { words = words_after act w.words; root = new }) reply met
             (others_stay did (let at = here in omega arith) (met, refl) (words_after act w.words) new
-            (length-words_after act w.words ∙ stands.words_each)
-            (λ e l d. subst (λ (b : Act). ShowsEdge g (did ∷ log) e (get_or (words_after b w.words) e d)) needed
-            (words_shown g stands.is_setting.game stands.is_setting.some_ring log stands.legal w.words
-            stands.words_each stands.words x operates met e l d))
-            (subst (λ (p : Part). RootStandsFor g p new) (sym (part_here g did log (root g) here))
-            (subst (λ (n : ℕ). RootStandsFor g (does g (saw x n) rooted) new) is_seen made.0)))
-            (made.1 ∙ ap (λ (n : ℕ). reply_of g x n rooted) is_seen
-            ∙ ap (λ (p : ℕ). reply_of g x (sees g log x) (part_in g log p)) (sym here))
+            (rw (length-words_after act w.words) stands.words_each)
+            (λ e l d. rw needed at (words_shown g stands.is_setting.game stands.is_setting.some_ring log stands.legal
+            w.words stands.words_each stands.words x operates met e l d))
+            (rw (part_here g did log (root g) here) (rw is_seen at made.0))) (rw here (rw is_seen at made.1))
 
   -- ---- a read
 
@@ -213,11 +192,8 @@ module _ (g : Setting) (log : Log) (w : WorldState) (stands : StandsForLog g log
         (others_stay did (omega arith) (read_met, refl) w.words new stands.words_each
         (read_shown g stands.is_setting.game stands.is_setting.some_ring log stands.legal w.words stands.words_each
         stands.words v read_met)
-        (subst (λ (p : Part). RootStandsFor g p new) (sym (part_here g did log (root g) refl))
-        (subst (λ (n : ℕ). RootStandsFor g (does g (saw (Read v) n) (part_in g log (root g))) new) is
-        made.0)))
-        (made.1 ∙ ap (λ (n : ℕ). reply_of g (Read v) n (part_in g log (root g))) is)
+        (rw (part_here g did log (root g) refl) made.0)) (rw is at made.1)
 
     -- the actor that is read
     pub read_stands : (a : Actor) → a ≡ get_or w.actors v a → StandsFor g (part_in g log v) a
-    read_stands a actor_is = (subst (IsActor g log v) (sym actor_is) (stands.actors v read_inside a)).stands
+    read_stands a actor_is = rw actor_is (stands.actors v read_inside a).stands

@@ -1,13 +1,13 @@
 -- Serves SharedWords.antt, TurnWords.antt.
 -- The words of a turn as a medium: each operation finds its word, sees what the core says, and leaves the words of the
 -- longer log.
-use Rattle.chip_world.proofs.Names.{◌≡◌, ℕ, ◌+◌, ◌^◌, ◌<◌, ◌≤◌, Bool, true, false, List, ◌∷◌, length, get_or, Option}
-use Rattle.chip_world.proofs.Names.{Some, None, is_some, sym, ap, ◌∙◌, subst, arith, bit_or, fired_word, adds_firings}
+use Rattle.chip_world.proofs.Names.{◌≡◌, ℕ, ◌+◌, ◌^◌, ◌<◌, ◌≤◌, Bool, true, false, Option}
+use Rattle.chip_world.proofs.Names.{Some, None, is_some, sym, ◌∙◌, arith, bit_or, fired_word, adds_firings}
 use Rattle.chip_world.proofs.Names.{halts_word, halts_by_limit, Setting, Act, Cause, cause, is_by_limit, SealedEdge}
 use Rattle.chip_world.proofs.Names.{FiringLimit, act_of, event_of, FitsSeen, IsDueBy, MayServe, Serves, IsLonger}
 use Rattle.chip_world.proofs.Names.{rules_met, saw, Log, Step, Event, Fire, Halt, Part, unmet_rule, part_of, does}
-use Rattle.chip_world.proofs.Names.{part_in, word_of_part, sees, part_here, part_kept, fits_seen, EdgeState, seen_in}
-use Rattle.chip_world.proofs.Names.{words_after, CanPerform, is_by_act, ShowsEdge, halt_bits, TurnWords, Holds}
+use Rattle.chip_world.proofs.Names.{part_in, word_of_part, sees, part_here, part_kept, fits_seen, seen_in}
+use Rattle.chip_world.proofs.Names.{words_after, CanPerform, is_by_act, halt_bits, TurnWords, Holds}
 use Rattle.chip_world.proofs.WordLemmas.{length-words_after, can_perform, sees_words, words_shown}
 use Rattle.chip_world.proofs.StepLemmas.{by_act}
 use Rattle.chip_part.specs.declared.act.Act.TheVariants as Do
@@ -28,35 +28,28 @@ module _ (w : TurnWords) (g : Setting) (v : ℕ) (log : Log) (s : Part) (held : 
   own = by_act g v act held.inside due.mine
 
   met : unmet_rule g x (part_in g log (part_of g x)) ≡ None
-  met = subst (λ (u : ℕ). unmet_rule g x (part_in g log u) ≡ None) (sym due.mine)
-      (subst (λ (p : Part). unmet_rule g x p ≡ None) held.part_is due.met)
+  met = rw (due.mine, ← held.part_is) due.met
 
   needed : act_of g x (part_in g log (part_of g x)) ≡ act
-  needed = ap (λ (u : ℕ). act_of g x (part_in g log u)) due.mine ∙ ap (act_of g x) (sym held.part_is) ∙ sym due.needed
+  needed = rw (due.mine, ← held.part_is) (sym due.needed)
 
   pub finds : CanPerform act w.words
-  finds = subst (λ (b : Act). CanPerform b w.words) needed
+  finds = rw needed at
       (can_perform g held.is_setting.game held.is_setting.some_ring log held.legal w.words held.words_each held.words x
       own met)
 
   sees_it : seen_in act w.fired w.words ≡ sees g log x
-  sees_it =
-      ap (λ (b : Act). seen_in b w.fired w.words) (sym needed)
-      ∙ sees_words g held.is_setting.game held.is_setting.some_ring log held.legal w.words held.words_each held.words
-      w.fired x
-      (held.fired_is ∙ ap word_of_part (held.part_is ∙ ap (part_in g log) (sym due.mine))) own met
+  sees_it = rw needed at
+      (sees_words g held.is_setting.game held.is_setting.some_ring log held.legal w.words held.words_each held.words
+      w.fired x (rw (due.mine, ← held.part_is) held.fired_is) own met)
 
   -- what is seen fits
   fits : (seen : ℕ) → seen ≡ sees g log x → FitsSeen s x seen
-  fits seen is =
-      subst (FitsSeen s x) (sym is)
-      (subst (λ (p : Part). FitsSeen p x (sees g log x)) (ap (part_in g log) due.mine ∙ sym held.part_is)
-      (fits_seen g held.is_setting.game held.is_setting.some_ring log held.legal x
-      (subst (λ (n : ℕ). n < g.game.graph.vertices) (sym due.mine) held.inside) met))
+  fits seen is = rw is (rw (due.mine, ← held.part_is) at (fits_seen g held.is_setting.game held.is_setting.some_ring log
+      held.legal x (rw due.mine held.inside) met))
 
   few_fired : s.fired ≤ g.game.limit
-  few_fired = subst (λ (p : Part). p.fired ≤ g.game.limit) (sym held.part_is)
-      (part_kept g held.is_setting.game log held.legal v).within
+  few_fired = rw held.part_is (part_kept g held.is_setting.game log held.legal v).within
 
   pub longer : (new : TurnWords) (seen : ℕ) → seen ≡ seen_in act w.fired w.words → new.words ≡ words_after act w.words
       → new.fired ≡ word_of_part (does g (saw x seen) s)
@@ -70,16 +63,11 @@ module _ (w : TurnWords) (g : Setting) (v : ℕ) (log : Log) (s : Part) (held : 
           inside = held.inside;
           is_setting = held.is_setting;
           legal = (held.legal, (met, is));
-          part_is = ap (does g step) held.part_is ∙ sym (part_here g step log v due.mine);
-          words_each = ap length words-are ∙ length-words_after act w.words ∙ held.words_each;
-          words = λ e l d. subst (λ (n : ℕ). ShowsEdge g (saw x n ∷ log) e
-              (get_or new.words e d)) (sym is)
-              (subst (λ (ws : List EdgeState). ShowsEdge g (saw x (sees g log x) ∷ log) e
-              (get_or ws e d)) (sym words-are)
-              (subst (λ (b : Act). ShowsEdge g (saw x (sees g log x) ∷ log) e
-              (get_or (words_after b w.words) e d)) needed
+          part_is = rw held.part_is (sym (part_here g step log v due.mine));
+          words_each = rw (words-are, length-words_after act w.words) held.words_each;
+          words = λ e l d. rw (is, words-are) (rw needed at
               (words_shown g held.is_setting.game held.is_setting.some_ring log held.legal w.words held.words_each
-              held.words x own met e l d)));
+              held.words x own met e l d));
           fired_is = fired-is;
         };
       }
@@ -101,8 +89,7 @@ serves w new act seen seen-is words-are fired-is keeps = λ g v log s held due. 
 pub room_to_fire : (w : TurnWords) (k : ℕ) → MayServe (Holds w) (Do.Fire k) → w.fired + k < 2 ^ 64
 room_to_fire w k (g, v, log, s, held, due) =
     let rules = rules_met g (Fire v k) s due.met in
-    let word : word_of_part s
-    ≡ (s.fired + 0) + 0 = ap (λ (h : Option Cause). fired_word s.fired (is_some h) (is_by_limit h)) rules.2 in
+    let word : word_of_part s ≡ (s.fired + 0) + 0 = rw rules.2 in
     let is = held.fired_is in
     let within = rules.6 in
     let low = held.is_setting.game.low_limit in
@@ -111,23 +98,21 @@ room_to_fire w k (g, v, log, s, held, due) =
 pub fires : (w new : TurnWords) (k seen : ℕ) → seen ≡ w.fired → new.words ≡ w.words → new.fired ≡ w.fired + k
     → Serves (Holds w) (Holds new) (Do.Fire k) seen
 fires w new k seen seen-is words-are fired-is = λ g v log s held due.
-    longer w g v log s held (Do.Fire k) due new seen seen-is words-are (fired-is ∙ ap (λ (n : ℕ). n + k) held.fired_is
-    ∙ adds_firings s.fired k (is_some s.halt) (is_by_limit s.halt))
+    longer w g v log s held (Do.Fire k) due new seen seen-is words-are (rw (fired-is, held.fired_is)
+    (adds_firings s.fired k (is_some s.halt) (is_by_limit s.halt)))
 
 -- a halt
 pub halts : (w new : TurnWords) (by_limit : Bool) (seen : ℕ) → seen ≡ w.fired → new.words ≡ w.words
     → new.fired ≡ bit_or w.fired (halt_bits by_limit) → Serves (Holds w) (Holds new) (Do.Halt by_limit) seen
 halts w new by_limit seen seen-is words-are fired-is = λ g v log s held due.
     let rules = rules_met g (Halt v) s due.met in
-    let word : word_of_part s ≡ fired_word s.fired false false =
-    ap (λ (h : Option Cause). fired_word s.fired (is_some h) (is_by_limit h)) rules.2 in
+    let word : word_of_part s ≡ fired_word s.fired false false = rw rules.2 in
     let within = few_fired w g v log s held (Do.Halt by_limit) due in
     let low = held.is_setting.game.low_limit in
     let few : s.fired < 2 ^ 62 = omega arith in
     let same : by_limit ≡ is_by_limit (cause g v s) = bits due.needed in
     longer w g v log s held (Do.Halt by_limit) due new seen seen-is words-are
-    (fired-is ∙ (λ j. bit_or ((held.fired_is ∙ word) j) (halt_bits (same j)))
-    ∙ word_halts (cause g v s) rules.4.0 s.fired few rules.4.1)
+    (rw (fired-is, held.fired_is, word, same) (word_halts (cause g v s) rules.4.0 s.fired few rules.4.1))
   where
     bits : {b c : Bool} → Do.Halt b ≡ Do.Halt c → b ≡ c
     bits same = cc

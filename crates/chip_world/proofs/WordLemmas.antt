@@ -2,8 +2,8 @@
 -- The shared words of a world by its log: what an operation sees in them is what the core says, and what it leaves
 -- shows the longer log.
 use Rattle.chip_world.proofs.Names.{◌≡◌, ◌≢◌, ℕ, ◌+◌, ◌-◌, ◌%◌, ◌^◌, ◌<◌, true, cond, eqb, List, ◌∷◌, length, sum}
-use Rattle.chip_world.proofs.Names.{get_or, None, option_to_list, refl, sym, ap, ◌∙◌, subst, arith, ⊎_elim, length-set}
-use Rattle.chip_world.proofs.Names.{true≢false, get_or-set_same, get_or-set_other, bit_or, mod_below, get_or_default}
+use Rattle.chip_world.proofs.Names.{get_or, None, option_to_list, refl, sym, ap, arith, ⊎_elim, length-set}
+use Rattle.chip_world.proofs.Names.{get_or-set_same, get_or-set_other, bit_or, mod_below, get_or_default}
 use Rattle.chip_world.proofs.Names.{dite, ℕ_discrete, IsGame, Setting, cond_yes, cond_no, claims_of, Sound}
 use Rattle.chip_world.proofs.Names.{word_after_exchange, claims_in, may_le, Act, may_ack, cause, is_by_limit, Met}
 use Rattle.chip_world.proofs.Names.{act_of, rules_met, Log, Event, Take, Ack, Fire, Clear, Claim, Put, Halt, Settle}
@@ -35,16 +35,14 @@ module _ (words : List EdgeState) (e : ℕ) (f : EdgeState → EdgeState) where
   stays : {A : Type 0} (part : EdgeState → A) → e < length words → part (f (words_of words e)) ≡ part (words_of words e)
       → (i : ℕ) → part (words_of (with_edge e f words) i) ≡ part (words_of words i)
   stays part l same i = dite (ℕ_discrete i e)
-      (λ z. ap (λ (j : ℕ). part (words_of (with_edge e f words) j)) z ∙ ap part (here_changed l) ∙ same
-      ∙ ap (λ (j : ℕ). part (words_of words j)) (sym z))
-      (λ z. ap part (others_stay i z))
+      (λ z. rw (z, here_changed l) same) (λ z. ap part (others_stay i z))
 
 -- one word is changed, and every other is as it was
 module _ (words : List EdgeState) (fired : ℕ → ℕ) where
   edge_else : (e n : ℕ) → e < length words → (w : Word) → w ≢ of_edge e
       → value_of (with_edge e (λ s. record s { word = n }) words) fired w ≡ value_of words fired w
-  edge_else e n l (of_edge i) ne = ap (λ (s : EdgeState). s.word)
-      (others_stay words e (λ s. record s { word = n }) i (λ z. ne (ap of_edge z)))
+  edge_else e n l (of_edge i) ne =
+      rw (others_stay words e (λ s. record s { word = n }) i (λ z. ne (ap of_edge z)), value_of)
   edge_else e n l (of_acks i) ne = stays words e (λ s. record s { word = n }) (λ s. s.acknowledged) l refl i
   edge_else e n l (of_cell i j) ne = stays words e (λ s. record s { word = n }) (λ s. get_or s.cells j 0) l refl i
   edge_else e n l (of_vertex v) ne = refl
@@ -52,8 +50,7 @@ module _ (words : List EdgeState) (fired : ℕ → ℕ) where
   acks_else : (e n : ℕ) → e < length words → (w : Word) → w ≢ of_acks e
       → value_of (with_edge e (with_acks n) words) fired w ≡ value_of words fired w
   acks_else e n l (of_edge i) ne = stays words e (with_acks n) (λ s. s.word) l refl i
-  acks_else e n l (of_acks i) ne = ap (λ (s : EdgeState). s.acknowledged)
-      (others_stay words e (with_acks n) i (λ z. ne (ap of_acks z)))
+  acks_else e n l (of_acks i) ne = rw (others_stay words e (with_acks n) i (λ z. ne (ap of_acks z)), value_of)
   acks_else e n l (of_cell i j) ne = stays words e (with_acks n) (λ s. get_or s.cells j 0) l refl i
   acks_else e n l (of_vertex v) ne = refl
 
@@ -62,8 +59,7 @@ module _ (words : List EdgeState) (fired : ℕ → ℕ) where
   cell_else e c n l (of_edge i) ne = stays words e (with_cell c n) (λ s. s.word) l refl i
   cell_else e c n l (of_acks i) ne = stays words e (with_cell c n) (λ s. s.acknowledged) l refl i
   cell_else e c n l (of_cell i j) ne = dite (ℕ_discrete j c)
-      (λ same. ap (λ (s : EdgeState). get_or s.cells j 0)
-      (others_stay words e (with_cell c n) i (λ z. ne (λ k. of_cell (z k) (same k)))))
+      (λ same. rw (others_stay words e (with_cell c n) i (λ z. ne (cc))))
       (λ other. stays words e (with_cell c n) (λ s. get_or s.cells j 0) l
       (get_or-set_other (words_of words e).cells c j n 0 other) i)
   cell_else e c n l (of_vertex v) ne = refl
@@ -128,8 +124,8 @@ module _ (g : Setting) (game : IsGame g.game) (some_ring : 0 < g.ring) (log : Lo
         (met_for (Put e) none).0
     can_perform (Halt v) mine none = tt
     can_perform (Settle e) mine none = let met = met_for (Settle e) none in omega arith
-    can_perform (Seal e) mine none = absurd (true≢false (sym mine))
-    can_perform (Read v) mine none = absurd (true≢false (sym mine))
+    can_perform (Seal e) mine none = absurd (cc)
+    can_perform (Read v) mine none = absurd (cc)
     can_perform (Feed e k) mine none = let l = (met_for (Feed e k) none).1 in omega arith
     can_perform End mine none = let some = game.graph_fits.some_vertex in omega arith
 
@@ -139,33 +135,34 @@ module _ (g : Setting) (game : IsGame g.game) (some_ring : 0 < g.ring) (log : Lo
         ≡ word_to_note x (value_of words fired (word_of_event g x (acting_part g log x)))
     found_there own (Fire v k) is mine = is
     found_there own (Halt v) is mine = is
-    found_there own (Seal e) is mine = absurd (true≢false (sym mine))
-    found_there own (Read v) is mine = absurd (true≢false (sym mine))
+    found_there own (Seal e) is mine = absurd (cc)
+    found_there own (Read v) is mine = absurd (cc)
     found_there own _ is mine = refl
 
     -- so it sees in them what the parts have made of them
     pub sees_words : (own : ℕ) (x : Event) → own ≡ fired (part_of g x)
         → is_by_act x ≡ true → unmet_rule g x (part_in g log (part_of g x)) ≡ None
         → seen_in (act_of g x (part_in g log (part_of g x))) own words ≡ sees g log x
-    sees_words own x is mine none = found_there own x is mine
-        ∙ (operations_find g game some_ring log legal (value_of words fired) all_shown x none).1
+    sees_words own x is mine none =
+        rw (found_there own x is mine)
+        (operations_find g game some_ring log legal (value_of words fired) all_shown x none).1
 
     -- an event of the root is on no fired word
     own_unseen : (own other : ℕ) (x : Event) → is_of_root g x ≡ true
         → seen_in (act_of g x (acting_part g log x)) own words ≡ seen_in (act_of g x (acting_part g log x)) other words
-    own_unseen own other (Take e) mine = absurd (true≢false (sym mine))
-    own_unseen own other (Ack e) mine = absurd (true≢false (sym mine))
-    own_unseen own other (Fire v k) mine = absurd (true≢false (sym mine))
-    own_unseen own other (Claim e) mine = absurd (true≢false (sym mine))
-    own_unseen own other (Halt v) mine = absurd (true≢false (sym mine))
-    own_unseen own other (Seal e) mine = absurd (true≢false (sym mine))
+    own_unseen own other (Take e) mine = absurd (cc)
+    own_unseen own other (Ack e) mine = absurd (cc)
+    own_unseen own other (Fire v k) mine = absurd (cc)
+    own_unseen own other (Claim e) mine = absurd (cc)
+    own_unseen own other (Halt v) mine = absurd (cc)
+    own_unseen own other (Seal e) mine = absurd (cc)
     own_unseen own other _ mine = refl
 
     pub root_sees_words : (x : Event) → is_of_root g x ≡ true
         → is_by_act x ≡ true → unmet_rule g x (part_in g log (part_of g x)) ≡ None
         → seen_in (act_of g x (part_in g log (part_of g x))) 0 words ≡ sees g log x
-    root_sees_words x own mine none = own_unseen 0 (fired (part_of g x)) x own
-        ∙ sees_words (fired (part_of g x)) x refl mine none
+    root_sees_words x own mine none =
+        rw (own_unseen 0 (fired (part_of g x)) x own) (sees_words (fired (part_of g x)) x refl mine none)
 
     -- what an event leaves, if its rules are met
     record Leaves (x : Event) (new : List EdgeState) : Type 0 where
@@ -183,9 +180,8 @@ module _ (g : Setting) (game : IsGame g.game) (some_ring : 0 < g.ring) (log : Lo
         let after = words_go_on g game some_ring log legal (value_of words fired) (value_of new leaves.fired_then)
         all_shown x none leaves.left in
         let same = leaves.words_stay in
-        subst (ShowsEdge g (saw x (sees g log x) ∷ log) e)
-        (get_or_default new e no_words d (omega arith)) record {
-          cells_each = leaves.cells_stay e ∙ (at e l).cells_each;
+        rw (get_or_default new e d no_words (omega arith)) record {
+          cells_each = rw (leaves.cells_stay e) (at e l).cells_each;
           shows = after.edges e l;
           acknowledged = after.acks e l;
         }
@@ -218,8 +214,7 @@ module _ (g : Setting) (game : IsGame g.game) (some_ring : 0 < g.ring) (log : Lo
         let c : ℕ = length (into_in g log e).got % g.ring in
         let inside = has_cell e (length (into_in g log e).got) l in
         one_edge (Take e) e (with_cell c 0) l (length-set (words_of words e).cells c 0) record {
-          here = ap (λ (s : EdgeState). get_or s.cells c 0) (here_changed words e (with_cell c 0) inside.0)
-              ∙ get_or-set_same (words_of words e).cells c 0 0 inside.1;
+          here = rw (here_changed words e (with_cell c 0) inside.0) (get_or-set_same _ c 0 0 inside.1);
           others = λ w is ne. cell_else words fired e c 0 inside.0 w ne;
         }
     leaves (Ack e) mine none =
@@ -229,7 +224,7 @@ module _ (g : Setting) (game : IsGame g.game) (some_ring : 0 < g.ring) (log : Lo
         let fits : (words_of words e).acknowledged + n ≡ ((words_of words e).acknowledged + n) % 2 ^ 64 =
         (let few = room.1 in omega arith) in
         one_edge (Ack e) e (with_acks n) l refl record {
-          here = ap (λ (s : EdgeState). s.acknowledged) (here_changed words e (with_acks n) room.0) ∙ fits;
+          here = rw (here_changed words e (with_acks n) room.0, value_of) fits;
           others = λ w is ne. acks_else words fired e n room.0 w ne;
         }
     leaves (Fire v k) mine none =
@@ -244,10 +239,9 @@ module _ (g : Setting) (game : IsGame g.game) (some_ring : 0 < g.ring) (log : Lo
         let claims : ℕ = claims_of (out_in g log e).link in
         let inside = can_perform (Claim e) mine none in
         one_edge (Claim e) e (with_claim claims (claims + 1)) (omega arith) refl record {
-          here = ap (λ (s : EdgeState). s.word) (here_changed words e (with_claim claims (claims + 1)) inside);
+          here = rw (here_changed words e (with_claim claims (claims + 1)) inside, value_of);
           others = λ w is ne. edge_else words fired e
-              (word_after_exchange claims (claims + 1) (words_of words e).word) inside w
-              ne;
+              (word_after_exchange claims (claims + 1) (words_of words e).word) inside w ne;
         }
     leaves (Put e) mine none =
         let l : e < all_edges g = (met_for (Put e) none).0 in
@@ -255,8 +249,7 @@ module _ (g : Setting) (game : IsGame g.game) (some_ring : 0 < g.ring) (log : Lo
         let n : ℕ = sum (option_to_list (out_in g log e).link.held) in
         let inside = has_cell e (claims_of (out_in g log e).link - 1) l in
         one_edge (Put e) e (with_cell c n) l (length-set (words_of words e).cells c n) record {
-          here = ap (λ (s : EdgeState). get_or s.cells c 0) (here_changed words e (with_cell c n) inside.0)
-              ∙ get_or-set_same (words_of words e).cells c n 0 inside.1;
+          here = rw (here_changed words e (with_cell c n) inside.0) (get_or-set_same _ c n 0 inside.1);
           others = λ w is ne. cell_else words fired e c n inside.0 w ne;
         }
     leaves (Halt v) mine none =
@@ -266,17 +259,16 @@ module _ (g : Setting) (game : IsGame g.game) (some_ring : 0 < g.ring) (log : Lo
           others = λ w is ne. vertex_else words fired v n w ne;
         }
     leaves (Settle e) mine none = no_edge (Settle e) fired record { here = refl; others = λ w is ne. refl }
-    leaves (Seal e) mine none = absurd (true≢false (sym mine))
-    leaves (Read v) mine none = absurd (true≢false (sym mine))
+    leaves (Seal e) mine none = absurd (cc)
+    leaves (Read v) mine none = absurd (cc)
     leaves (Feed e k) mine none =
         let met = met_for (Feed e k) none in
         let claims : ℕ = claims_of (out_in g log e).link in
         let inside = can_perform (Feed e k) mine none in
         one_edge (Feed e k) e (with_claim claims (claims + 1)) met.1 refl record {
-          here = ap (λ (s : EdgeState). s.word) (here_changed words e (with_claim claims (claims + 1)) inside);
+          here = rw (here_changed words e (with_claim claims (claims + 1)) inside, value_of);
           others = λ w is ne. edge_else words fired e
-              (word_after_exchange claims (claims + 1) (words_of words e).word) inside w
-              ne;
+              (word_after_exchange claims (claims + 1) (words_of words e).word) inside w ne;
         }
     leaves End mine none = no_edge End fired record { here = refl; others = λ w is ne. refl }
 
@@ -297,7 +289,7 @@ module _ (g : Setting) (game : IsGame g.game) (some_ring : 0 < g.ring) (log : Lo
         let inside : e < length words = omega arith in
         shows_left (Seal e) none (with_edge e with_seal words)
         (one_edge (Seal e) e with_seal (omega arith) refl record {
-          here = ap (λ (s : EdgeState). s.word) (here_changed words e with_seal inside);
+          here = rw (here_changed words e with_seal inside, value_of);
           others = λ w is ne. edge_else words fired e (bit_or (words_of words e).word (2 ^ 63)) inside w ne;
         })
 
@@ -314,4 +306,4 @@ module _ (g : Setting) (game : IsGame g.game) (some_ring : 0 < g.ring) (log : Lo
 
     -- the numbers that the words tell
     pub claims_told : (e : ℕ) → e < all_edges g → claims_in (words_of words e).word ≡ claims_of (out_in g log e).link
-    claims_told e l = ap claims_in (at e l).shows.word_is ∙ (words_read g game some_ring log legal).claims e
+    claims_told e l = rw ((at e l).shows.word_is) ((words_read g game some_ring log legal).claims e)

@@ -1,5 +1,5 @@
-use Rattle.chip_world.proofs.Names.{◌≡◌, ◌∙◌, ℕ, ◌+◌, [], ◌∷◌, sym, subst, arith, length-append, Setting, setting_with}
-use Rattle.chip_world.proofs.Names.{opening_part, StandsFor, IsActor, AreOpeningActors}
+use Rattle.chip_world.proofs.Names.{◌≡◌, [], ◌∷◌, subst, arith, length-append, Setting, setting_with}
+use Rattle.chip_world.proofs.Names.{opening_part, StandsFor, IsActor}
 use Rattle.chip_world.proofs.OpeningLemmas.{pushed}
 use Rattle.chip_world.proofs.world.opening_actors.Goals as goal
 
@@ -7,10 +7,10 @@ pub loop-vertex-preserved : goal.loop-vertex-preserved
 loop-vertex-preserved c =
     let g : Setting = c.args.setting.now in
     let same : setting_with c.game-game.result.now c.cells-ring.result g.fed ≡ g =
-    (λ j. setting_with (c.game-game.ensures.value j) ((c.cells-ring.ensures.number ∙ c.ring.ensures.value) j) g.fed) in
+    rw (c.game-game.ensures.value, c.cells-ring.ensures.number, c.ring.ensures.value) in
     let long = length-append c.loop-vertex.actors.items (c.in_ok-new.field-0 ∷ []) in
     let so_far = c.loop-vertex.invariant.0 in let count = so_far.count_is in (
-      subst (AreOpeningActors g (c.loop-vertex.vertex + 1)) (sym c.push_reserved.ensures.items) record {
+      rw c.push_reserved.ensures.items record {
         count_is = omega arith;
         each = pushed (IsActor g []) c.loop-vertex.actors.items c.in_ok-new.field-0 c.loop-vertex.vertex count
             so_far.each record {
@@ -33,4 +33,4 @@ returns-clause-actors c =
     let all : c.loop-vertex.vertex ≡ c.args.setting.now.game.graph.vertices =
     (let same = c.vertices-vertices.ensures.value in
     let low = c.loop-vertex-test.false in let high = c.loop-vertex.auto.vertex-end in omega arith) in
-    subst (λ (n : ℕ). AreOpeningActors c.args.setting.now n c.loop-vertex.actors.items) all c.loop-vertex.invariant.0
+    rw all at c.loop-vertex.invariant.0

@@ -1,4 +1,4 @@
-use Rattle.chip_world.proofs.Names.{◌≡◌, List, [], ◌∷◌, map, ap, refl, Vec, Global, vec_capacity, Message, Lane}
+use Rattle.chip_world.proofs.Names.{◌≡◌, List, [], ◌∷◌, map, refl, Vec, Global, vec_capacity, Message, Lane}
 use Rattle.chip_world.proofs.lanes.Lanes.into_lists.Goals as goal
 
 same : (lists : List (Vec Message Global))
@@ -7,7 +7,7 @@ same : (lists : List (Vec Message Global))
     (map (λ (v : Vec Message Global). let lane : Lane = record { messages = v.items; capacity = vec_capacity v } in
     lane) lists)
 same [] = refl
-same (t ∷ ts) = ap (λ (rest : List (List Message)). t.items ∷ rest) (same ts)
+same (t ∷ ts) = rw (same ts)
 
 pub returns : goal.returns
 returns c = rw (← c.self.view_is) (same c.self.inside.lists.items)

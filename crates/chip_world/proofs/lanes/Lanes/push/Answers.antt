@@ -1,4 +1,4 @@
-use Rattle.chip_world.proofs.Names.{◌≡◌, ◌∙◌, ◌<◌, ℕ, List, [], ◌∷◌, ◌++◌, length, map, get_or, set, sym, ap, subst}
+use Rattle.chip_world.proofs.Names.{◌≡◌, ◌<◌, ℕ, List, [], ◌∷◌, ◌++◌, length, map, get_or, set, ap}
 use Rattle.chip_world.proofs.Names.{Vec, Global, vec_capacity, map-set, get_or-map, length-map, Message, Lane, no_lane}
 use Rattle.chip_world.proofs.Names.{lane_at, with_message}
 use Rattle.chip_world.proofs.lanes.Lanes.push.Goals as goal
@@ -10,16 +10,14 @@ pushed : (lists : List (Vec Message Global)) (e : ℕ) (m : Message) (old new : 
     → old ≡ get_or lists e old → new.items ≡ old.items ++ m ∷ [] → vec_capacity new ≡ vec_capacity old
     → map lane_of (set lists e new) ≡ with_message e m (map lane_of lists)
 pushed lists e m old new inside old_is items room =
-    let lane : lane_at (map lane_of lists) e ≡ lane_of old = get_or-map lane_of lists e old no_lane inside
-    ∙ ap lane_of (sym old_is) in
-    map-set lane_of lists e new
-    ∙ ap (set (map lane_of lists) e) ((λ j. let l : Lane = record { messages = items j; capacity = room j } in l)
-    ∙ sym (ap (λ (l : Lane). let n : Lane = record l { messages = l.messages ++ m ∷ [] } in n) lane))
+    let lane : lane_at (map lane_of lists) e ≡ lane_of old =
+    rw old_is (get_or-map lane_of lists e old no_lane inside) in
+    rw (map-set lane_of lists e new, lane)
+    (ap (set (map lane_of lists) e) (λ j. let l : Lane = record { messages = items j; capacity = room j } in l))
 
 pub returns : goal.returns
 returns c =
     rw (← c.self.view_is)
     (pushed c.self.inside.lists.items c.args.edge c.args.message c.index_mut.result.now c.push_reserved.new.self
-    (subst (λ (n : ℕ). c.args.edge < n) (ap length (sym c.self.view_is)
-    ∙ length-map c.self.inside.lists.items lane_of) c.requires.edge) c.index_mut.ensures.value
+    (rw (← c.self.view_is, length-map c.self.inside.lists.items lane_of) at c.requires.edge) c.index_mut.ensures.value
     c.push_reserved.ensures.items c.push_reserved.ensures.capacity)

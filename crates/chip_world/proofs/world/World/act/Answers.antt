@@ -1,5 +1,5 @@
-use Rattle.chip_world.proofs.Names.{set, sym, ap, ◌∙◌, subst, Setting, NoSuch, Log, part_of, part_in, step, WorldState}
-use Rattle.chip_world.proofs.Names.{StandsForLog, MakesStep, vertex_of, is_of_others, the_view}
+use Rattle.chip_world.proofs.Names.{set, Setting, NoSuch, Log, part_of, part_in, step}
+use Rattle.chip_world.proofs.Names.{StandsForLog, MakesStep, the_view}
 use Rattle.chip_world.proofs.VertexLemmas.{missing}
 use Rattle.chip_world.proofs.StepLemmas.{refuses}
 use Rattle.chip_world.proofs.ActorLemmas.{maker, shows_word, meets_event, event_leads}
@@ -10,15 +10,13 @@ pub returns-in_default : goal.returns-in_default
 returns-in_default c = λ g log stands.
     refuses g log c.args.self.now stands c.args.event NoSuch
     (missing g c.args.event (part_in g log (part_of g c.args.event))
-    (sym (ap (λ (h : Setting). is_of_others h c.args.event) stands.setting)
-    ∙ c.requires) (sym (ap (λ (h : Setting). vertex_of h c.args.event) stands.setting) ∙ sym c.vertex_of.ensures
-    ∙ c.in_default.is))
+    (rw stands.setting at c.requires) (rw (c.vertex_of.ensures, stands.setting) at c.in_default.is))
 
 pub fired_word-fired-requires : goal.fired_word-fired-requires
 fired_word-fired-requires c =
     let s = c.self.invariant in
     let is = maker s.0 s.1 (the_view c.self.inside) s.2 c.args.event c.in-Some.vertex c.index_mut-actor.result.now
-    (ap (λ (w : WorldState). vertex_of w.setting c.args.event) c.self.view_is ∙ sym c.vertex_of.ensures ∙ c.in-Some.is)
+    (rw (c.vertex_of.ensures, ← c.self.view_is) at c.in-Some.is)
     c.index_mut-actor.ensures.value in
     shows_word s.0 s.1 (the_view c.self.inside) s.2 c.in-Some.vertex is.1 c.index_mut-actor.result.now
     c.index_mut-actor.ensures.value
@@ -27,7 +25,7 @@ pub step-requires : goal.step-requires
 step-requires c =
     let s = c.self.invariant in
     let is = maker s.0 s.1 (the_view c.self.inside) s.2 c.args.event c.in-Some.vertex c.index_mut-actor.result.now
-    (ap (λ (w : WorldState). vertex_of w.setting c.args.event) c.self.view_is ∙ sym c.vertex_of.ensures ∙ c.in-Some.is)
+    (rw (c.vertex_of.ensures, ← c.self.view_is) at c.in-Some.is)
     c.index_mut-actor.ensures.value in
     meets_event s.0 s.1 (the_view c.self.inside) s.2 c.in-Some.vertex is.1 c.index_mut-actor.result.now
     c.index_mut-actor.ensures.value c.fired_word-fired.result c.fired_word-fired.ensures c.args.event is.0
@@ -41,7 +39,7 @@ made : (c : After-step) → (g : Setting) (log : Log) → StandsForLog g log (th
     }) c.step.result
 made c g log stands =
     let is = maker g log (the_view c.self.inside) stands c.args.event c.in-Some.vertex c.index_mut-actor.result.now
-    (ap (λ (w : WorldState). vertex_of w.setting c.args.event) c.self.view_is ∙ sym c.vertex_of.ensures ∙ c.in-Some.is)
+    (rw (c.vertex_of.ensures, ← c.self.view_is) at c.in-Some.is)
     c.index_mut-actor.ensures.value in
     event_leads g log (the_view c.self.inside) stands c.in-Some.vertex is.1 c.index_mut-actor.result.now
     c.index_mut-actor.ensures.value c.fired_word-fired.result c.fired_word-fired.ensures c.step.new.medium
@@ -53,4 +51,4 @@ invariant_of-self c = let s = c.self.invariant in
 
 pub returns : goal.returns
 returns c = λ g log stands. made (goal.at.returns c).After-step g log
-    (subst (StandsForLog g log) (sym c.self.view_is) stands)
+    (rw (← c.self.view_is) at stands)

@@ -1,4 +1,4 @@
-use Rattle.chip_world.proofs.Names.{◌≡◌, ◌+◌, ℕ, suc, ◌∙◌, refl, sym, subst, arith, true≢false, AreRounds, IsDrive}
+use Rattle.chip_world.proofs.Names.{◌≡◌, ◌+◌, suc, ◌∙◌, refl, sym, arith, true≢false, IsDrive}
 use Rattle.chip_world.proofs.Names.{Closed, Unfinished}
 use Rattle.chip_world.proofs.ClosesLemmas.{drive_closes}
 use Rattle.chip_world.proofs.DeterminedLemmas.{no_other}
@@ -13,8 +13,7 @@ loop-preserved c = λ g before stands.
     let more : suc c.loop.counter ≡ c.loop.counter + 1 = omega arith in (
       after.0,
       after.1,
-      subst (λ (n : ℕ). AreRounds g n before after.0) more
-          (here.0, here.2, (λ is_closed. true≢false (sym (closes.1 is_closed) ∙ c.if-closed.false)), after.2),
+      rw (← more) (here.0, here.2, (λ is_closed. true≢false (sym (closes.1 is_closed) ∙ c.if-closed.false)), after.2),
     )
 
 pub returns-then-closed-clause-no_other : goal.returns-then-closed-clause-no_other

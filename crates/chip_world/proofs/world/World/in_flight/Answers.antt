@@ -1,4 +1,4 @@
-use Rattle.chip_world.proofs.Names.{◌∙◌, ◌<◌, ◌≤◌, ◌^◌, ℕ, subst, arith, edge_counts, claims_most, StandsForLog}
+use Rattle.chip_world.proofs.Names.{◌≤◌, ◌^◌, ℕ, arith, edge_counts, claims_most, StandsForLog}
 use Rattle.chip_world.proofs.FlightLemmas.{flight_more}
 use Rattle.chip_world.proofs.world.World.in_flight.Goals as goal
 
@@ -30,12 +30,10 @@ loop-place-preserved c =
     record {
       so_far = λ g log stands.
           let first = c.delivered-first.ensures.value g log stands in
-          let claims = c.sent-claims.ensures g log stands in
-          c.push_reserved.ensures.items
-          ∙ flight_more g log c.args.edge c.delivered-first.result c.loop-place.place c.count_at-count.result
-          c.loop-place.messages.items first later (subst (λ (n : ℕ). c.loop-place.place < n) claims before)
-          (c.count_at-count.ensures g log stands (subst (λ (n : ℕ). n ≤ c.loop-place.place) first later)
-          (subst (λ (n : ℕ). c.loop-place.place < n) claims before)) (inv.so_far g log stands);
+          let within = rw (c.sent-claims.ensures g log stands) at before in
+          rw c.push_reserved.ensures.items (flight_more g log c.args.edge c.delivered-first.result c.loop-place.place
+          c.count_at-count.result c.loop-place.messages.items first later within
+          (c.count_at-count.ensures g log stands (rw first at later) within) (inv.so_far g log stands));
       many = (let more = c.push_reserved.ensures.len in let many = inv.many in omega arith);
       room = (let same = c.push_reserved.ensures.capacity in let room = inv.room in omega arith);
     }

@@ -1,13 +1,12 @@
-use Rattle.chip_world.proofs.Names.{◌≡◌, List, true, sym, ap, ◌∙◌, subst, Setting, is_of_root, NotNow, Log, Event, step}
-use Rattle.chip_world.proofs.Names.{EdgeState, WorldState, StandsForLog, MakesStep, the_view}
+use Rattle.chip_world.proofs.Names.{◌≡◌, true, Setting, is_of_root, Log, Event, step}
+use Rattle.chip_world.proofs.Names.{WorldState, StandsForLog, MakesStep, the_view}
 use Rattle.chip_world.proofs.StepLemmas.{root_refuses, root_can_perform, root_can_apply, root_makes}
 use Rattle.chip_world.proofs.world.World.of_root.Goals as goal
 
 -- the event is the root's in every setting that the world stands for
 own : (x : Event) (g : Setting) (log : Log) (old inside : WorldState) → inside ≡ old → StandsForLog g log inside
     → is_of_root old.setting x ≡ true → is_of_root g x ≡ true
-own x g log old inside view stands is = subst (λ (h : Setting). is_of_root h x ≡ true)
-    (ap (λ (w : WorldState). w.setting) (sym view) ∙ stands.setting) is
+own x g log old inside view stands is = rw (← view, stands.setting) at is
 
 pub perform-seen-requires : goal.perform-seen-requires
 perform-seen-requires c =
@@ -32,8 +31,7 @@ made : (c : goal.After-apply) → (g : Setting) (log : Log) → StandsForLog g l
 made c g log stands =
     let w : WorldState = the_view c.self.inside in
     let mine = own c.args.event g log c.args.self.now w c.self.view_is stands c.requires.root in
-    subst (λ (ws : List EdgeState). MakesStep g log c.args.event (record w { words = ws; root = c.apply.new.self })
-    c.apply.result) (sym c.perform-seen.ensures.after)
+    rw c.perform-seen.ensures.after
     (root_makes g log w stands c.args.event mine c.requires.act c.in-Ok.act c.in-Ok.ensures c.perform-seen.result
     c.perform-seen.ensures.seen c.apply.new.self c.apply.result c.apply.ensures)
 
@@ -42,12 +40,11 @@ invariant_of-self c = let some = c.self.invariant in
     (some.0, (step some.0 some.1 c.args.event).0, (made c some.0 some.1 some.2).0)
 
 pub returns-in-Ok : goal.returns-in-Ok
-returns-in-Ok c = λ g log at. made c g log (subst (StandsForLog g log) (sym c.self.view_is) at)
+returns-in-Ok c = λ g log stands. made c g log (rw (← c.self.view_is) at stands)
 
 pub returns-in-Err : goal.returns-in-Err
-returns-in-Err c = λ g log at.
+returns-in-Err c = λ g log old.
     let w : WorldState = the_view c.self.inside in
-    let stands = subst (StandsForLog g log) (sym c.self.view_is) at in
+    let stands = rw (← c.self.view_is) at old in
     let mine = own c.args.event g log c.args.self.now w c.self.view_is stands c.requires.root in
-    subst (λ (now : WorldState). MakesStep g log c.args.event now (NotNow c.in-Err.rule)) c.self.view_is
-    (root_refuses g log w stands c.args.event mine c.in-Err.rule c.in-Err.ensures)
+    rw (← c.self.view_is) (root_refuses g log w stands c.args.event mine c.in-Err.rule c.in-Err.ensures)

@@ -1,9 +1,8 @@
-use Rattle.chip_world.proofs.Names.{ℕ, List, sym, subst, IsAfter, played_game, AreFired, comes, in_range, is_played}
+use Rattle.chip_world.proofs.Names.{comes, in_range, is_played}
 use Rattle.chip_world.proofs.world.World.outcome.Goals as goal
 
 pub chips_after-requires : goal.chips_after-requires
-chips_after-requires c = λ g log stands. subst (AreFired g log g.game.graph.vertices) (sym c.deref.ensures.value)
-    (c.in_ok-fired.ensures g log stands)
+chips_after-requires c = λ g log stands. rw c.deref.ensures.value (c.in_ok-fired.ensures g log stands)
 
 pub returns-clause-closed : goal.returns-clause-closed
 returns-clause-closed c = λ g log stands. (c.closed.ensures g log stands).0 c.if-not-closed.false
@@ -11,8 +10,7 @@ returns-clause-closed c = λ g log stands. (c.closed.ensures g log stands).0 c.i
 pub returns-clause-outcome : goal.returns-clause-outcome
 returns-clause-outcome c = λ g log stands. record {
   fired = c.in_ok-fired.ensures g log stands;
-  chips = subst (λ (fired : List ℕ). IsAfter (played_game g log) fired c.in_ok-chips.chips.items)
-      c.deref.ensures.value (c.in_ok-chips.ensures.chips g log stands);
+  chips = rw c.deref.ensures.value at (c.in_ok-chips.ensures.chips g log stands);
   over = c.in_ok-halted_by.ensures g log stands;
   sealed = c.in_ok-halted_by-2.ensures g log stands;
 }

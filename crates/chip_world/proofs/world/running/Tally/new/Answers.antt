@@ -1,4 +1,4 @@
-use Rattle.chip_world.proofs.Names.{◌∙◌, ◌+◌, ◌<◌, ℕ, cond, List, Option, get_or, sym, ap, subst, Event, Take, is_edge}
+use Rattle.chip_world.proofs.Names.{ℕ, List, Event, Take}
 use Rattle.chip_world.proofs.Names.{is_claim_of, is_take_of}
 use Rattle.chip_world.proofs.RunLemmas.{counted}
 use Rattle.chip_world.proofs.world.running.Tally.new.Goals as goal
@@ -9,10 +9,8 @@ loop-event-preserved c =
     let claims = c.loop-event.invariant.0 in let takes = c.loop-event.invariant.1 in (
       counted is_claim_of c.args.all_edges xs i (Take 0) c.loop-event.claims.items c.count_one.new.counts.items l claims
           c.count_one.ensures.0
-          (λ e m. c.count_one.ensures.1 e (subst (λ (n : ℕ). e < n) (sym claims.count_is) m)
-          ∙ ap (λ (o : Option ℕ). get_or c.loop-event.claims.items e 0 + cond (is_edge e o) 1 0) c.claimed_edge.ensures),
+          (λ e m. rw (← c.claimed_edge.ensures) (c.count_one.ensures.1 e (rw claims.count_is m))),
       counted is_take_of c.args.all_edges xs i (Take 0) c.loop-event.takes.items c.count_one-in-loop-event.new.counts.items
           l takes c.count_one-in-loop-event.ensures.0
-          (λ e m. c.count_one-in-loop-event.ensures.1 e (subst (λ (n : ℕ). e < n) (sym takes.count_is) m)
-          ∙ ap (λ (o : Option ℕ). get_or c.loop-event.takes.items e 0 + cond (is_edge e o) 1 0) c.taken_edge.ensures),
+          (λ e m. rw (← c.taken_edge.ensures) (c.count_one-in-loop-event.ensures.1 e (rw takes.count_is m))),
     )

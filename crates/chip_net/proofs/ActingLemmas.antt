@@ -1,8 +1,8 @@
 -- Serves Tokens.antt, Rule.antt.
 -- One operation of a turn: it may be made, and the medium holds it then.
-use Rattle.chip_net.proofs.Names.{◌≡◌, ℕ, ◌<◌, List, [], ◌∷◌, ◌++◌, append_assoc, append-nil, refl, sym, ap, ◌∙◌, subst}
+use Rattle.chip_net.proofs.Names.{◌≡◌, ℕ, ◌<◌, List, [], ◌∷◌, ◌++◌, append_assoc, append-nil, refl, sym, ◌∙◌}
 use Rattle.chip_net.proofs.Names.{reverse-append, TableId, Allows, TraceRow, Setting, Act, event_of, FitsSeen, IsDueBy}
-use Rattle.chip_net.proofs.Names.{MayServe, Serves, IsLonger, Step, Event, Part, part_of, part_in, does, saw, IsWord}
+use Rattle.chip_net.proofs.Names.{MayServe, Serves, IsLonger, Step, Event, Part, part_of, IsWord}
 use Rattle.chip_net.proofs.Names.{word_to_note, fits_seen, index_of, Mine, did_in, part_of_view, Kept, step_of, Grows}
 use Rattle.chip_net.proofs.Names.{TraceState, Keeps, row_of, rows_of, TurnSetup, AreWordsOf, Holds}
 use Rattle.chip_net.proofs.LayingLemmas.{owner_of, by_word}
@@ -13,12 +13,11 @@ use Rattle.chip_net.proofs.RulingLemmas.{act_told}
 -- the rows of one step more
 pub rows_push : (xs : List Step) (x : Step) → rows_of (xs ++ x ∷ []) ≡ rows_of xs ++ row_of x.event x.seen
 rows_push [] x = append-nil (row_of x.event x.seen)
-rows_push (y ∷ ys) x = ap (λ (rows : List TraceRow). row_of y.event y.seen ++ rows) (rows_push ys x)
-    ∙ sym (append_assoc (row_of y.event y.seen) (rows_of ys) (row_of x.event x.seen))
+rows_push (y ∷ ys) x = rw (rows_push ys x, append_assoc)
 
 -- no row is noted
 pub keeps_none : (trace : TraceState) (all : List TraceRow) → Keeps all trace → Keeps (all ++ []) trace
-keeps_none trace all kept = subst (λ (rows : List TraceRow). Keeps rows trace) (sym (append-nil all)) kept
+keeps_none trace all kept = rw append-nil kept
 
 module _ {setup now : TurnSetup} {key : Setting} {table : TableId} {me : Mine} {trace : TraceState} {g : Setting}
     {v : ℕ} {ds : List Step} {s : Part} (held : Holds setup now key table me trace g v ds s) {act : Act}
@@ -33,11 +32,10 @@ module _ {setup now : TurnSetup} {key : Setting} {table : TableId} {me : Mine} {
   x = event_of w act
 
   by' : IsDueBy h w (part_of_view h w me.0) act
-  by' = subst (λ (z : Setting × (ℕ × Part)). IsDueBy z.0 z.1.0 z.1.1 act)
-      (λ j. (held.setting_is j, (held.vertex_is j, held.part_is j))) by
+  by' = rw (held.setting_is, held.vertex_is, held.part_is) at by
 
   inside : part_of h x < h.game.graph.vertices
-  inside = subst (λ (n : ℕ). n < h.game.graph.vertices) (sym by'.mine) held.seated.inside
+  inside = rw by'.mine held.seated.inside
 
   words : AreWordsOf now.net now.net.table key
   words = record { table = refl; key = held.of_net.0; count = held.of_net.1; setting = held.seated.setting }
@@ -64,36 +62,28 @@ module _ {setup now : TurnSetup} {key : Setting} {table : TableId} {me : Mine} {
 
     -- it is the part in that log
     fits : FitsSeen (part_of_view h w me.0) x (word_to_note x n)
-    fits =
-        let log = m.stepped.log in
-        subst (λ (z : Part × ℕ). FitsSeen z.0 x z.1)
-        (λ j. ((ap (part_in h log) by'.mine ∙ sym m.in_log) j, sym m.stepped.has.0.1 j))
-        (fits_seen h held.seated.setting.game held.seated.setting.some_ring log m.stepped.legal x inside
-        m.stepped.has.0.0)
+    fits = rw (m.in_log, m.stepped.has.0.1) (rw by'.mine at (fits_seen h held.seated.setting.game
+        held.seated.setting.some_ring m.stepped.log m.stepped.legal x inside m.stepped.has.0.0))
 
     longer : {table' : TableId} → table' ≡ table → {trace' : TraceState} {room : ℕ} → room ≡ now.room
         → ((all : List TraceRow) → Keeps all trace → Keeps (all ++ row_of x (word_to_note x n)) trace')
         → IsLonger (Holds setup (record now { room = room }) key table' me' trace') g v ds s act (word_to_note x n)
     longer table_is {trace' = trace'} room_is keeps = record {
-      fits = subst (λ (z : Part × ℕ). FitsSeen z.0 (event_of z.1 act) (word_to_note x n))
-          (λ j. (sym held.part_is j, sym held.vertex_is j)) fits;
+      fits = rw (held.part_is, held.vertex_is) fits;
       held = record {
-        same = (λ j. record now { room = room_is j }) ∙ held.same;
+        same = rw room_is held.same;
         of_net = held.of_net;
         table_is = table_is ∙ held.table_is;
         setting_is = held.setting_is;
         vertex_is = held.vertex_is;
-        did_is = m.did_is ∙ (λ j. held.did_is j ++ saw (event_of (sym held.vertex_is j) act) (word_to_note x n) ∷ [])
-            ∙ sym (reverse-append (saw (event_of v act) (word_to_note x n) ∷ []) ds);
-        part_is = (λ j. does (held.setting_is j) (saw (event_of (held.vertex_is j) act) (word_to_note x n))
-            (held.part_is j)) ∙ sym m.part_is;
+        did_is = rw (m.did_is, held.did_is, held.vertex_is) (sym (reverse-append (step_of x n ∷ []) ds));
+        part_is = rw (m.part_is, held.setting_is, held.vertex_is, held.part_is);
         seated = record {
           setting = held.seated.setting;
           inside = held.seated.inside;
           alone = m.alone held.seated.alone;
           slots = m.slots ∙ held.seated.slots;
-          traced = subst (λ (rows : List TraceRow). Keeps rows trace')
-              (sym (ap rows_of m.did_is ∙ rows_push (did_in w me.0) (step_of x n)))
+          traced = rw (m.did_is, rows_push (did_in w me.0) (step_of x n))
               (keeps (rows_of (did_in w me.0)) held.seated.traced);
         };
       };

@@ -1,7 +1,7 @@
 -- Serves Tokens.antt.
 -- What a turn answers.
-use Rattle.chip_net.proofs.Names.{◌≡◌, ℕ, ◌<◌, Bool, true, false, List, [], ◌∷◌, refl, sym, ap, ◌∙◌, subst, arith}
-use Rattle.chip_net.proofs.Names.{TableId, Setting, Actor, StandsFor, is_passive, KeepsPart, work_of, idle_turn_rests}
+use Rattle.chip_net.proofs.Names.{◌≡◌, ℕ, ◌<◌, Bool, true, false, List, [], ◌∷◌, refl, sym, ap, ◌∙◌, arith}
+use Rattle.chip_net.proofs.Names.{TableId, Setting, Actor, StandsFor, is_passive, work_of, idle_turn_rests}
 use Rattle.chip_net.proofs.Names.{Turn, Worked, Waiting, Idle, History, IsAlone, NetId, ActorKnown, part_known, known}
 use Rattle.chip_net.proofs.Names.{table_of, me_of, AnswersTurn, MakesTurn, MakesTurnBy, Mine}
 
@@ -25,7 +25,7 @@ module _ (own after : ActorKnown) (work : ℕ) (made : MakesTurnBy own after wor
     -- what the actor says of its state is said of the part after the turn
     passive_is : (b : Bool) → b ≡ is_passive own.net.setting a.vertex (part_known after)
         → is_passive own.net.setting own.vertex (part_known after) ≡ b
-    passive_is b said = sym (said ∙ ap (λ (v : ℕ). is_passive own.net.setting v (part_known after)) vertex)
+    passive_is b said = rw (said, vertex)
 
     pub waiting : false ≡ is_passive own.net.setting a.vertex (part_known after) → MakesTurn own after Waiting
     waiting said = makes Waiting (made.work_is ∙ none, passive_is false said)
@@ -36,7 +36,7 @@ module _ (own after : ActorKnown) (work : ℕ) (made : MakesTurnBy own after wor
       passive_is true said,
       idle_turn_rests own.net.setting own.vertex (part_known own) made.steps (part_known after) made.is_turn
           (made.work_is ∙ none)
-          (subst (λ (v : ℕ). KeepsPart own.net.setting v (part_known after)) vertex stands.kept) (passive_is true said),
+          (rw vertex at stands.kept) (passive_is true said),
     )
 
 -- ---- an actor with its part
@@ -53,9 +53,8 @@ module _ (table : TableId) (g : Setting) (v room : ℕ) (me knew : Mine) (own : 
       by_parts (x ∷ xs) is = (refl, refl)
 
   pub own_is : known table g v room me.0 ≡ own
-  own_is = (λ j. known (sym has_part.0 j) g v room (sym has_part.1 j).0) ∙ view_is
+  own_is = rw (has_part.0, has_part.1) at view_is
 
 pub alone_has_part : (v : ℕ) (table : TableId) (me knew : Mine) → IsAlone v me.0
     → (table_of me.0.parts table ≡ table) × (me_of me.0.parts me knew ≡ me)
-alone_has_part v table me knew alone =
-    subst (λ (ps : List History). (table_of ps table ≡ table) × (me_of ps me knew ≡ me)) (sym alone) (refl, refl)
+alone_has_part v table me knew alone = rw alone (refl, refl)

@@ -1,10 +1,10 @@
 -- Serves Roots.antt.
 -- Feeding: what the root may feed, and the game with all that it fed.
-use Rattle.chip_net.proofs.Names.{◌≡◌, ℕ, ◌+◌, ◌<◌, ◌≤◌, Bool, true, false, not, List, sum, Option, Some, None, refl}
-use Rattle.chip_net.proofs.Names.{sym, ap, ◌∙◌, arith, leb, le-leb, lt-ltb, ne_eqb, leb-true, true≢false, Result, Ok}
+use Rattle.chip_net.proofs.Names.{◌≡◌, ℕ, ◌+◌, ◌<◌, ◌≤◌, Bool, true, false, not, sum, Option, Some, None, refl}
+use Rattle.chip_net.proofs.Names.{sym, ap, arith, leb, le-leb, lt-ltb, ne_eqb, leb-true, true≢false, Result, Ok}
 use Rattle.chip_net.proofs.Names.{Err, leb-false, and_from, max_total, all_brought, Setting, root, graph_edges}
 use Rattle.chip_net.proofs.Names.{all_edges, all_fed, Rule, need, unmet_rule, Feed, NoSuch, Ended, Zero, TooMuch}
-use Rattle.chip_net.proofs.Names.{NotCleared, Act, verdict, Root, Step, opening_part, part_by, fed_in, root_gave}
+use Rattle.chip_net.proofs.Names.{NotCleared, Act, verdict, Root, fed_in, root_gave}
 use Rattle.chip_net.proofs.Names.{played_has_more, by_history, FeedFault, View, did_in, part_of_view, RootKnown}
 use Rattle.chip_net.proofs.Names.{root_part, has_ended, all_given, IsRoot, feed_fault, AllowsFeed}
 
@@ -13,11 +13,8 @@ pub given_is_fed : {g : Setting} {view : View} {state : Root} → IsRoot g view 
     → all_fed g (part_of_view g (root g) view) ≡ sum g.game.start + all_brought (fed_in g (did_in (root g) view))
 given_is_fed {g = g} keeps =
     let log = keeps.in_log.log in
-    ap (λ (did : List Step). all_fed g (part_by g (opening_part g) did)) keeps.in_log.has
-    ∙ ap (all_fed g) (sym (by_history g log (root g)))
-    ∙ sym (root_gave g keeps.setting.game keeps.setting.some_ring log)
-    ∙ (played_has_more g keeps.setting.game keeps.setting.some_ring log keeps.in_log.legal).total
-    ∙ ap (λ (did : List Step). sum g.game.start + all_brought (fed_in g did)) (sym keeps.in_log.has)
+    rw (keeps.in_log.has, ← by_history g log (root g), ← root_gave g keeps.setting.game keeps.setting.some_ring log)
+    (played_has_more g keeps.setting.game keeps.setting.some_ring log keeps.in_log.legal).total
 
 -- ---- what the root may feed
 

@@ -1,10 +1,10 @@
 -- Serves Finish.antt, Roots.antt.
 -- What the root makes of its reads.
-use Rattle.chip_net.proofs.Names.{nat_tests, ◌≡◌, ℕ, ◌<◌, ◌≤◌, sum, ◌||◌, ◌&&◌, Bool, not, true, List, [], length, map}
-use Rattle.chip_net.proofs.Names.{get_or, slice_index, Option, Some, None, is_some, Contains, true≢false, refl, sym, ap}
+use Rattle.chip_net.proofs.Names.{nat_tests, ◌≡◌, ℕ, ◌<◌, ◌≤◌, sum, ◌&&◌, Bool, not, true, List, [], length, map}
+use Rattle.chip_net.proofs.Names.{get_or, slice_index, Option, Some, None, is_some, refl, sym, ap}
 use Rattle.chip_net.proofs.Names.{◌∙◌, subst, arith, range_with_len, get_or-map, length-map, ChipGame, max_total}
-use Rattle.chip_net.proofs.Names.{Multigraph, HasMore, filter_below, Outcome, IsBelowZero, IsAfter, IsPlayed, HasEnded}
-use Rattle.chip_net.proofs.Names.{same_ends, fired_in, is_halted_in, is_by_limit_in, is_fired_word, Setting, IsSetting}
+use Rattle.chip_net.proofs.Names.{Multigraph, HasMore, filter_below, Outcome, IsBelowZero, IsAfter}
+use Rattle.chip_net.proofs.Names.{same_ends, fired_in, is_fired_word, Setting, IsSetting}
 use Rattle.chip_net.proofs.Names.{Cause, SealedEdge, FiringLimit, root, root_edge, Part, opening_part, is_by_limit}
 use Rattle.chip_net.proofs.Names.{AreGiven, Log, part_in, word_of_part, IsLegalLog, IsClosed, WordsOf, NoneHalted}
 use Rattle.chip_net.proofs.Names.{NoneHaltedBySeal, done_by, part_by, chips_given, played_game, firings, fed_in}
@@ -12,14 +12,13 @@ use Rattle.chip_net.proofs.Names.{is_by_seal, AreFired, IsOutcomeOf, ComesTo, wo
 use Rattle.chip_net.proofs.Names.{given_start, given_within, played_has_more, unfed_played, all_ended, never_negative}
 use Rattle.chip_net.proofs.Names.{comes, in_range, is_played, RootKnown, root_part, root_after, fed_by, reads_from}
 use Rattle.chip_net.proofs.Names.{IsReadOut, ReadingsState, is_by_limit_at, is_by_seal_at, AreRead, IsReading, IsOneEnd}
-use Rattle.chip_net.proofs.Names.{Finishes, Together, IsRun, NetId, ActorKnown, tail_root, sent_counts, false, stopper}
+use Rattle.chip_net.proofs.Names.{Finishes, Together, IsRun, ActorKnown, tail_root, sent_counts, false, stopper}
 use Rattle.chip_net.proofs.Names.{unsealed_refuses, picked_none, picked_ext, picked_has, contains_nothing}
 use Rattle.chip_net.proofs.ReadingLemmas.{reads_feed_none, reads_part, reads_say}
 
 -- nothing passes if nothing is listed
 none_picked : (test : ℕ → Bool) (n : ℕ) → filter_below test n ≡ [] → (v : ℕ) → v < n → test v ≡ true → ⊥
-none_picked test n empty v l on = contains_nothing v
-    (subst (λ (xs : List ℕ). Contains xs v) empty (picked_has test n v l on))
+none_picked test n empty v l on = contains_nothing v (rw empty at (picked_has test n v l on))
 
 -- ---- at the end
 
@@ -34,7 +33,7 @@ pub fired_word_is : (g : Setting) → IsSetting g → (log : Log) → IsLegalLog
     → word ≡ word_of_part (part_in g log v) → is_fired_word word ≡ true
 fired_word_is g setting log legal v word is =
     let told = words_tell g setting.game setting.some_ring log legal in
-    ap is_fired_word is ∙ (λ i. told.halted v i || not (told.by_limit v i)) ∙ grind (arith, nat_tests)
+    rw (is, told.halted v, told.by_limit v) (grind (arith, nat_tests))
 
 seal_is : (h : Option Cause) → (is_some h && not (is_by_limit h)) ≡ is_by_seal h
 seal_is h = grind (arith, nat_tests)
@@ -48,9 +47,8 @@ module _ (g : Setting) (setting : IsSetting g) (log : Log) (legal : IsLegalLog g
 
   pub fired_by_words : (fired : List ℕ) → fired ≡ map fired_in words → AreFired g log g.game.graph.vertices fired
   fired_by_words fired is = record {
-    count_is = ap length is ∙ length-map words fired_in ∙ count_is;
-    each = λ v l. ap (λ (xs : List ℕ). get_or xs v 0) is ∙ get_or-map fired_in words v 0 ∙ ap fired_in (word_at v l)
-        ∙ say.fired v;
+    count_is = rw (is, length-map words fired_in) count_is;
+    each = λ v l. rw (is, get_or-map fired_in words v 0, word_at v l) (say.fired v);
   }
 
   pub outcome_by_words : (o : Outcome) → AreRead words o.fired.items o.over.items o.sealed.items
@@ -58,13 +56,11 @@ module _ (g : Setting) (setting : IsSetting g) (log : Log) (legal : IsLegalLog g
   outcome_by_words o are chips = record {
     fired = fired_by_words o.fired.items are.fired;
     chips = chips;
-    over = are.over ∙ ap (filter_below (is_by_limit_at words)) count_is
-        ∙ picked_ext (is_by_limit_at words) (λ v. is_by_limit (part_in g log v).halt) g.game.graph.vertices
-        (λ v l. ap is_by_limit_in (word_at v l) ∙ say.by_limit v);
-    sealed = are.sealed ∙ ap (filter_below (is_by_seal_at words)) count_is
-        ∙ picked_ext (is_by_seal_at words) (λ v. is_by_seal (part_in g log v).halt) g.game.graph.vertices
-        (λ v l. ap (λ (w : ℕ). is_halted_in w && not (is_by_limit_in w)) (word_at v l)
-        ∙ (λ i. say.halted v i && not (say.by_limit v i)) ∙ seal_is (part_in g log v).halt);
+    over = rw (are.over, count_is) (picked_ext (is_by_limit_at words) (λ v. is_by_limit (part_in g log v).halt)
+        g.game.graph.vertices (λ v l. rw (word_at v l) (say.by_limit v)));
+    sealed = rw (are.sealed, count_is) (picked_ext (is_by_seal_at words) (λ v. is_by_seal (part_in g log v).halt)
+        g.game.graph.vertices
+        (λ v l. rw (word_at v l, say.halted v, say.by_limit v) (seal_is (part_in g log v).halt)));
   }
 
 module _ {old now : RootKnown} (setting : IsSetting old.net.setting) {readings : ReadingsState}
@@ -74,22 +70,20 @@ module _ {old now : RootKnown} (setting : IsSetting old.net.setting) {readings :
   h = old.net.setting
 
   out : IsReadOut (root_after old (reads_from 0 reading.words)) reading.words
-  out = subst (λ (r : RootKnown). IsReadOut r reading.words) reading.record_is
+  out = rw reading.record_is at
       (reading.told (let a = setting.game.graph_fits.some_vertex in let c = reading.count_is in omega arith))
 
   -- the reads feed nothing: what was fed is in that log
   recorded : fed_in h (done_by h (root h) out.log) ≡ fed_by old
-  recorded = ap (fed_in h) (sym out.has.0.root_did) ∙ reads_feed_none h old.did 0 reading.words
+  recorded = rw (← out.has.0.root_did) (reads_feed_none h old.did 0 reading.words)
 
   -- what was given is the start of the game that was played
   start_is : given ≡ (played_game h out.log).start
-  start_is = given_start h out.log given (subst (λ (s : Part). AreGiven h s given)
-      (sym (by_history h out.log (root h) ∙ ap (part_by h (opening_part h)) (sym out.has.0.root_did)
-      ∙ reads_part old reading.words)) are)
+  start_is = given_start h out.log given
+      (rw (by_history h out.log (root h), ← out.has.0.root_did, reads_part old reading.words) are)
 
   pub few : sum given ≤ max_total
-  few = subst (λ (xs : List ℕ). sum xs ≤ max_total) (sym start_is)
-      (given_within h setting.game setting.some_ring out.log out.legal)
+  few = rw start_is (given_within h setting.game setting.some_ring out.log out.legal)
 
   abbrev pub game : ChipGame
   game = record { graph = h.game.graph; start = given; limit = h.game.limit }
@@ -102,12 +96,10 @@ module _ {old now : RootKnown} (setting : IsSetting old.net.setting) {readings :
   } in k
 
   more : HasMore h.game (fed_by old) game
-  more = subst (λ (z : List (ℕ × ℕ) × ChipGame). HasMore h.game z.0 z.1) (λ j. (recorded j, same_game j))
-      (played_has_more h setting.game setting.some_ring out.log out.legal)
+  more = rw (recorded, same_game) at (played_has_more h setting.game setting.some_ring out.log out.legal)
 
   from : chips_given h out.log ≡ slice_index game.start
-  from = sym (given_is h setting.game setting.some_ring out.log out.legal)
-      ∙ ap (λ (k : ChipGame). slice_index k.start) same_game
+  from = rw (← start_is) at (sym (given_is h setting.game setting.some_ring out.log out.legal))
 
   word_at : (v : ℕ) → v < h.game.graph.vertices → get_or reading.words v 0 ≡ word_of_part (part_in h out.log v)
   word_at v l = out.has.2 v (let c = reading.count_is in omega arith)
@@ -133,12 +125,12 @@ module _ {old now : RootKnown} (setting : IsSetting old.net.setting) {readings :
 
     outcome_is : IsOutcomeOf h out.log o
     outcome_is = outcome_by_words h setting out.log out.legal reading.words reading.count_is word_at o read
-        (subst (λ (k : ChipGame). IsAfter k o.fired.items o.chips.items) (sym same_game) chips)
+        (rw same_game chips)
 
     -- if no seal is listed, none halted a vertex
     no_seals : o.sealed.items ≡ [] → NoneHaltedBySeal h out.log
     no_seals empty v l seal = none_picked (λ u. is_by_seal (part_in h out.log u).halt) h.game.graph.vertices
-        (sym outcome_is.sealed ∙ empty) v l (ap is_by_seal seal)
+        (rw outcome_is.sealed at empty) v l (rw seal)
 
     -- and if the limit's list is empty too, none halted at all
     no_halts : o.over.items ≡ [] → o.sealed.items ≡ [] → NoneHalted h out.log
@@ -148,32 +140,30 @@ module _ {old now : RootKnown} (setting : IsSetting old.net.setting) {readings :
         by_cause None is = is
         by_cause (Some SealedEdge) is = absurd (no_seals sealed v l is)
         by_cause (Some FiringLimit) is = absurd (none_picked (λ u. is_by_limit (part_in h out.log u).halt)
-            h.game.graph.vertices (sym outcome_is.over ∙ over) v l (ap is_by_limit is))
+            h.game.graph.vertices (rw outcome_is.over at over) v l (rw is))
 
     all_come : ComesTo h (slice_index game.start) (firings out.log) o
-    all_come = subst (λ (x : ℕ → ℕ). ComesTo h x (firings out.log) o) from
-        (comes h setting.game setting.some_ring out.log out.legal o outcome_is)
+    all_come = rw from at (comes h setting.game setting.some_ring out.log out.legal o outcome_is)
 
     one_end : o.over.items ≡ [] → o.sealed.items ≡ [] → IsOneEnd game o
-    one_end over sealed = subst (λ (G : Multigraph). IsOneEnd (record { graph = G; start = game.start; limit = 0 }) o)
-        (sym more.same_graph) (λ vs ok ended.
-        let same = same_ends h.game.graph setting.game.graph_fits (slice_index game.start)
-        (firings out.log) vs all_come.sequence
-        (subst (λ (x : ℕ → ℕ). HasEnded h.game.graph x (firings out.log)) from
-        (all_ended h setting.game setting.some_ring out.log out.legal out.has.1 (no_halts over sealed))) ok ended
-        in
-        ((λ v. all_come.counted v ∙ same.0 v), (λ v. all_come.position v ∙ same.1 v)))
+    one_end over sealed vs ok ended =
+        let same = same_ends h.game.graph setting.game.graph_fits (slice_index game.start) (firings out.log) vs
+        all_come.sequence
+        (rw from at (all_ended h setting.game setting.some_ring out.log out.legal out.has.1 (no_halts over sealed)))
+        ok ended in
+        ((λ v. all_come.counted v ∙ same.0 v), (λ v. all_come.position v ∙ same.1 v))
 
     -- the stopper's part stands in the root's view, and did nothing
     unsealed : old.stopper_did ≡ Some [] → o.sealed.items ≡ []
-    unsealed none = outcome_is.sealed ∙ picked_none (λ v. is_by_seal (part_in h out.log v).halt) h.game.graph.vertices
-        (λ v l on. true≢false (sym on ∙ never_sealed h out.log out.legal (sym (out.has.0.stopper_did [] none)) v))
+    unsealed none = rw outcome_is.sealed (picked_none (λ v. is_by_seal (part_in h out.log v).halt)
+        h.game.graph.vertices
+        (λ v l on. let off = never_sealed h out.log out.legal (sym (out.has.0.stopper_did [] none)) v in absurd (cc)))
 
     pub finishes : Finishes old now o
-    finishes = subst (λ (r : RootKnown). Finishes old r o) (sym reading.record_is) record {
+    finishes = rw reading.record_is (record {
       game = game;
       more = more;
-      unfed = λ off. sym same_game ∙ unfed_played h setting.game setting.some_ring off out.log out.legal;
+      unfed = λ off. rw same_game at (unfed_played h setting.game setting.some_ring off out.log out.legal);
       words = reading.words;
       one_each = reading.count_is;
       record_is = refl;
@@ -183,11 +173,11 @@ module _ {old now : RootKnown} (setting : IsSetting old.net.setting) {readings :
       of_log = outcome_is;
       comes = all_come;
       in_range = in_range h setting.game setting.some_ring out.log out.legal o outcome_is;
-      played = λ empty. subst (λ (k : ChipGame). IsPlayed k o) same_game
+      played = λ empty. rw same_game at
           (is_played h setting.game setting.some_ring out.log out.legal o outcome_is out.has.1 (no_seals empty));
       one_end = one_end;
       unsealed = unsealed;
-    }
+    })
 
 -- ---- one log of all tokens
 
@@ -212,10 +202,10 @@ module _ (old receipt : RootKnown) (o : Outcome) (actors : List ActorKnown) (fin
   k = receipt.net.setting
 
   net_is : receipt.net ≡ old.net
-  net_is = ap (λ (r : RootKnown). r.net) finishes.record_is
+  net_is = rw finishes.record_is
 
   vertices_is : length finishes.words ≡ k.game.graph.vertices
-  vertices_is = finishes.one_each ∙ ap (λ (n : NetId). n.setting.game.graph.vertices) (sym net_is)
+  vertices_is = rw net_is finishes.one_each
 
   -- the reads are in the log, and each tells the word of its vertex there
   tells : (v : ℕ) → v < k.game.graph.vertices → (v < k.game.graph.vertices) × IsClosed k met.1.log
@@ -225,9 +215,12 @@ module _ (old receipt : RootKnown) (o : Outcome) (actors : List ActorKnown) (fin
 
   -- in both logs the root is the same
   root_same : part_in k met.1.log (root k) ≡ part_in k finishes.read_out.log (root k)
-  root_same = by_history k met.1.log (root k)
-      ∙ ap (part_by k (opening_part k)) (sym met.1.has.0.root_did ∙ finishes.read_out.has.0.root_did)
-      ∙ sym (by_history k finishes.read_out.log (root k))
+  root_same = rw (
+    by_history k met.1.log (root k),
+    ← met.1.has.0.root_did,
+    by_history k finishes.read_out.log (root k),
+    ← finishes.read_out.has.0.root_did,
+  )
 
   pub one_run : IsRun receipt actors o
   one_run = record {
@@ -237,8 +230,6 @@ module _ (old receipt : RootKnown) (o : Outcome) (actors : List ActorKnown) (fin
     actors_did = met.1.has.1;
     closed = (tells 0 (met.0.game.graph_fits.some_vertex)).1;
     outcome = outcome_by_words k met.0 met.1.log met.1.legal finishes.words vertices_is (λ v l. (tells v l).2) o
-        finishes.read (subst (λ (game : ChipGame). IsAfter game o.fired.items o.chips.items)
-        (same_played k met.1.log finishes.read_out.log root_same)
-        (subst (λ (n : NetId). IsAfter (played_game n.setting finishes.read_out.log) o.fired.items o.chips.items)
-        (sym net_is) finishes.of_log.chips));
+        finishes.read
+        (rw (← same_played k met.1.log finishes.read_out.log root_same, net_is) finishes.of_log.chips);
   }

@@ -1,10 +1,10 @@
 -- Serves Layout.antt.
 -- Each word has a number of its own, which tells the word.
-use Rattle.chip_net.proofs.Names.{◌≡◌, ◌≢◌, ℕ, ◌+◌, ◌-◌, ◌*◌, ◌/◌, ◌%◌, ◌<◌, List, length, set, sym, ap, ◌∙◌, arith}
+use Rattle.chip_net.proofs.Names.{◌≡◌, ◌≢◌, ℕ, ◌+◌, ◌-◌, ◌*◌, ◌/◌, ◌%◌, ◌<◌, List, length, set, arith}
 use Rattle.chip_net.proofs.Names.{cond, ltb, lt-ltb, le-ltb, get_or-set_same, get_or-set_other, div-add-mod'}
 use Rattle.chip_net.proofs.Names.{mul-add-lt, div-mul-add, Setting, IsSetting, all_edges, Word, of_edge, of_acks}
 use Rattle.chip_net.proofs.Names.{of_cell, of_vertex, IsWord, Event, Mine, Grows, first_cell, first_fired, index_of}
-use Rattle.chip_net.proofs.Names.{word_count, value_in, cond-true, cond-false}
+use Rattle.chip_net.proofs.Names.{word_count, value_in}
 
 -- the word with this number
 abbrev word_at : Setting → ℕ → Word
@@ -32,33 +32,37 @@ module _ (g : Setting) where
   below e i l h = let b : e * g.ring + i < g.ring * all_edges g = mul-add-lt e g.ring i (all_edges g) l h in omega arith
 
   read_back : (w : Word) → IsWord g w → word_at g (index_of g w) ≡ w
-  read_back (of_edge e) l = cond-true (ltb e (all_edges g)) _ _ (lt-ltb e (all_edges g) l)
+  read_back (of_edge e) l = rw (lt-ltb e (all_edges g) l)
   read_back (of_acks e) l =
-      let n : ℕ = all_edges g + e in
-      cond-false (ltb n (all_edges g)) _ _ (le-ltb n (all_edges g) (omega arith))
-      ∙ cond-true (ltb n (first_cell g)) _ _ (lt-ltb n (first_cell g) (omega arith)) ∙ ap of_acks (omega arith)
+      let n : ℕ = all_edges g + e in let back : n - all_edges g ≡ e = omega arith in
+      rw (le-ltb n (all_edges g) (omega arith), lt-ltb n (first_cell g) (omega arith), back)
   read_back (of_cell e i) l =
       let n : ℕ = first_cell g + (e * g.ring + i) in
       let m : n - first_cell g ≡ e * g.ring + i = omega arith in
-      let edge : (n - first_cell g) / g.ring ≡ e = ap (λ k. k / g.ring) m ∙ div-mul-add e g.ring i l.1 in
+      let edge : (n - first_cell g) / g.ring ≡ e = rw m (div-mul-add e g.ring i l.1) in
       let cell : (n - first_cell g) % g.ring ≡ i =
-      (let whole : e * g.ring + (n - first_cell g) % g.ring ≡ n - first_cell g =
-      ap (λ k. k * g.ring + (n - first_cell g) % g.ring) (sym edge) ∙ div-add-mod' (n - first_cell g) g.ring in omega arith) in
-      cond-false (ltb n (all_edges g)) _ _ (le-ltb n (all_edges g) (omega arith))
-      ∙ cond-false (ltb n (first_cell g)) _ _ (le-ltb n (first_cell g) (omega arith))
-      ∙ cond-true (ltb n (first_fired g)) _ _ (lt-ltb n (first_fired g) (below e i l.0 l.1))
-      ∙ (λ k. of_cell (edge k) (cell k))
+      (let whole = rw edge at (div-add-mod' (n - first_cell g) g.ring) in omega arith) in
+      rw (
+        le-ltb n (all_edges g) (omega arith),
+        le-ltb n (first_cell g) (omega arith),
+        lt-ltb n (first_fired g) (below e i l.0 l.1),
+        edge,
+        cell,
+      )
   read_back (of_vertex v) l =
-      let n : ℕ = first_fired g + v in
-      cond-false (ltb n (all_edges g)) _ _ (le-ltb n (all_edges g) (omega arith))
-      ∙ cond-false (ltb n (first_cell g)) _ _ (le-ltb n (first_cell g) (omega arith))
-      ∙ cond-false (ltb n (first_fired g)) _ _ (le-ltb n (first_fired g) (omega arith)) ∙ ap of_vertex (omega arith)
+      let n : ℕ = first_fired g + v in let back : n - first_fired g ≡ v = omega arith in
+      rw (
+        le-ltb n (all_edges g) (omega arith),
+        le-ltb n (first_cell g) (omega arith),
+        le-ltb n (first_fired g) (omega arith),
+        back,
+      )
 
   pub owner_read : (w : Word) → IsWord g w → (n : ℕ) → n ≡ index_of g w → owner_at g n ≡ owner_of w
-  owner_read w l n is = ap (owner_at g) is ∙ ap owner_of (read_back w l)
+  owner_read w l n is = rw (is, read_back w l)
 
   one_word : (p q : Word) → IsWord g p → IsWord g q → index_of g p ≡ index_of g q → p ≡ q
-  one_word p q l m is = sym (read_back p l) ∙ ap (word_at g) is ∙ read_back q m
+  one_word p q l m is = rw (← read_back p l, is) (read_back q m)
 
   pub inside : (q : Word) → IsWord g q → index_of g q < word_count g
   inside (of_edge e) l = omega arith

@@ -1,21 +1,21 @@
 -- Serves Layout.antt, Views.antt, Opening.antt.
 -- The table at the opening meets the rule.
-use Rattle.chip_net.proofs.Names.{◌≡◌, ◌≢◌, ℕ, zero, suc, ◌+◌, ◌<◌, Bool, cond, ltb, List, [], ◌∷◌, length, get_or, set}
-use Rattle.chip_net.proofs.Names.{length-set, Some, refl, sym, ap, ◌∙◌, arith, lt-ltb, le-ltb, get_or_past}
-use Rattle.chip_net.proofs.Names.{mod-eq_of_lt, dite, ℕ_discrete, dec_lt, get_elem?, opening, cond_no, Setting}
+use Rattle.chip_net.proofs.Names.{◌≡◌, ◌≢◌, ℕ, zero, suc, ◌+◌, ◌<◌, cond, ltb, List, [], ◌∷◌, length, set}
+use Rattle.chip_net.proofs.Names.{length-set, Some, refl, sym, ◌∙◌, arith, lt-ltb, le-ltb, get_or_past}
+use Rattle.chip_net.proofs.Names.{mod-eq_of_lt, dite, ℕ_discrete, get_elem?, opening, cond_no, Setting}
 use Rattle.chip_net.proofs.Names.{IsSetting, graph_edges, all_edges, start_of, first_put, Step, Word, of_edge, of_acks}
 use Rattle.chip_net.proofs.Names.{of_cell, of_vertex, IsWord, first_is, index_of, word_count, value_in, find_in}
-use Rattle.chip_net.proofs.Names.{opening_view, Kept, first_value, AreOpening, cond-true, cond-false}
+use Rattle.chip_net.proofs.Names.{opening_view, Kept, first_value, AreOpening}
+use Rattle.chip_net.proofs.Names.{nat_tests}
 use Rattle.chip_net.proofs.LayingLemmas.{written_here, written_else}
 use Rattle.chip_net.proofs.ViewingLemmas.{none_some, part_there, part_empty}
 
 -- of a count of edges, one more only matters at that edge
 same_test : (e n : ℕ) → e ≢ n → ltb e n ≡ ltb e (n + 1)
-same_test e n other = dite (dec_lt e n) (λ l. lt-ltb e n l ∙ sym (lt-ltb e (n + 1) (omega arith)))
-    (λ past. le-ltb e n (omega arith) ∙ sym (le-ltb e (n + 1) (omega arith)))
+same_test e n other = grind (arith, nat_tests)
 
 now_counted : (e n : ℕ) (x : ℕ) → e ≡ n → cond (ltb e (n + 1)) x 0 ≡ x
-now_counted e n x same = cond-true (ltb e (n + 1)) x 0 (lt-ltb e (n + 1) (omega arith))
+now_counted e n x same = grind (arith, nat_tests)
 
 module _ (g : Setting) where
   module _ (v : ℕ) (inside : v < g.game.graph.vertices) (words : List ℕ) (opening : AreOpening g (graph_edges g + v) words)
@@ -56,26 +56,29 @@ module _ (g : Setting) where
 
           each : (q : Word) → IsWord g q → value_in g words'' q ≡ first_value g (edge + 1) q
           each (of_edge e) l = dite (ℕ_discrete e edge)
-              (λ same. ap (λ (n : ℕ). value_in g words'' (of_edge n)) same
-              ∙ written_else g words' wide' (of_cell edge 0) cell_there (start_of g v) (of_edge edge) there
-              (λ z. absurd (cc)) ∙ written_here g words opening.wide (of_edge edge) there 1
-              ∙ sym (now_counted e edge _ same ∙ ap (λ (n : ℕ). length (first_put g n)) same ∙ ap length put))
-              (λ other. still (of_edge e) l (λ z. grind arith) (λ z. absurd (cc))
-              ∙ ap (λ (b : Bool). cond b (length (first_put g e)) 0) (same_test e edge other))
+              (λ same. rw (
+                same,
+                written_else g words' wide' (of_cell edge 0) cell_there (start_of g v)
+                    (of_edge edge) there (λ z. absurd (cc)),
+                written_here g words opening.wide (of_edge edge) there 1,
+                put,
+              )
+              (sym (now_counted edge edge 1 refl)))
+              (λ other. rw (← same_test e edge other) (still (of_edge e) l (λ z. grind arith) (λ z. absurd (cc))))
           each (of_acks e) l = still (of_acks e) l (λ z. absurd (cc)) (λ z. absurd (cc))
           each (of_vertex u) l = still (of_vertex u) l (λ z. absurd (cc)) (λ z. absurd (cc))
           each (of_cell e i) l = dite (ℕ_discrete e edge)
               (λ same. dite (ℕ_discrete i 0)
-              (λ first. ap (value_in g words'') (λ k. of_cell (same k) (first k))
-              ∙ written_here g words' wide' (of_cell edge 0) cell_there (start_of g v)
-              ∙ sym (now_counted e edge _ same ∙ (λ k. get_or (first_put g (same k)) (first k) 0)
-              ∙ ap (λ (xs : List ℕ). get_or xs 0 0) put))
-              (λ later. still (of_cell e i) l (λ z. absurd (cc)) (λ z. grind arith)
-              ∙ cond-false (ltb e edge) _ 0 (le-ltb e edge (omega arith))
-              ∙ sym (now_counted e edge _ same ∙ ap (λ (n : ℕ). get_or (first_put g n) i 0) same
-              ∙ ap (λ (xs : List ℕ). get_or xs i 0) put ∙ get_or_past (start_of g v ∷ []) i 0 (omega arith))))
-              (λ other. still (of_cell e i) l (λ z. absurd (cc)) (λ z. grind arith)
-              ∙ ap (λ (b : Bool). cond b (get_or (first_put g e) i 0) 0) (same_test e edge other))
+              (λ first. rw (same, first, written_here g words' wide' (of_cell edge 0) cell_there (start_of g v), put)
+              (sym (now_counted edge edge (start_of g v) refl)))
+              (λ later. rw (
+                still (of_cell e i) l (λ z. absurd (cc)) (λ z. grind arith),
+                now_counted e edge _ same,
+                same,
+                le-ltb edge edge (omega arith),
+                put,
+              ) (sym (get_or_past (start_of g v ∷ []) i 0 (omega arith)))))
+              (λ other. rw (← same_test e edge other) (still (of_cell e i) l (λ z. absurd (cc)) (λ z. grind arith)))
 
   -- all words laid out
   pub opens : IsSetting g → (words : List ℕ) → AreOpening g (all_edges g) words
@@ -89,12 +92,10 @@ module _ (g : Setting) where
     there = λ p l. part_there (g.game.graph.vertices + 2) p l;
     shown = record {
       edges = λ e l. record {
-        word_is = opening.each (of_edge e) l ∙ cond-true (ltb e (all_edges g)) _ 0 (lt-ltb e (all_edges g) l)
-            ∙ omega arith;
+        word_is = rw (opening.each (of_edge e) l, lt-ltb e (all_edges g) l) (omega arith);
         ring_is = λ p lo hi.
             let m : p < g.ring = omega arith in
-            ap (λ (i : ℕ). value_in g words (of_cell e i)) (mod-eq_of_lt m) ∙ opening.each (of_cell e p) (l, m)
-            ∙ cond-true (ltb e (all_edges g)) _ 0 (lt-ltb e (all_edges g) l);
+            rw (mod-eq_of_lt m, opening.each (of_cell e p) (l, m), lt-ltb e (all_edges g) l);
       };
       acks = λ e l. opening.each (of_acks e) l;
       fired = λ v l. opening.each (of_vertex v) l;

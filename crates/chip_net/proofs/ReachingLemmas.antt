@@ -1,16 +1,15 @@
 -- Serves Laws.antt, Layout.antt.
 -- The rule of the table says that the world is reached.
-use Rattle.chip_net.proofs.Names.{◌≡◌, ℕ, ◌++◌, List, length, take, drop, ap, ◌∙◌, subst, take-append-drop, IsPrefix}
-use Rattle.chip_net.proofs.Names.{Step, Part, part_in, word_of_part, done_by, of_vertex, parts_by, never_sealed}
-use Rattle.chip_net.proofs.Names.{counts_of_edges, edge_sound, by_history, reached_by_legal_logs, value_in, EdgeShows}
+use Rattle.chip_net.proofs.Names.{◌≡◌, ℕ, List, length, take, drop, take-append-drop, IsPrefix}
+use Rattle.chip_net.proofs.Names.{Step, part_in, done_by, parts_by, never_sealed}
+use Rattle.chip_net.proofs.Names.{counts_of_edges, edge_sound, by_history, reached_by_legal_logs}
 use Rattle.chip_net.proofs.Names.{EveryMomentIsReached}
 
 -- the front of a list is a prefix of it
 front : (got put : List ℕ) → got ≡ take (length got) put → IsPrefix got put
 front got put is = (
   drop (length got) put,
-  ap (λ (l : List ℕ). l ++ drop (length got) put) is
-      ∙ take-append-drop (length got) put,
+  (let whole = take-append-drop (length got) put in cc),
 )
 
 pub every_moment : EveryMomentIsReached
@@ -25,16 +24,14 @@ every_moment g s kept =
       owner = kept.owner;
       only_there = kept.each_part;
       there = kept.there;
-      edges = λ e l. subst (λ (ps : ℕ → Part). EdgeShows g s.words ps e) parts
-          record {
-            word = (kept.shown.edges e l).word_is;
-            cells = (kept.shown.edges e l).ring_is;
-            unsealed = never_sealed g kept.log kept.legal e;
-            acks = kept.shown.acks e l;
-            settled = (counts_of_edges g kept.setting.game kept.setting.some_ring kept.log kept.legal e).settled;
-            prefix = front _ _ (sound e).prefix;
-            sealed = (sound e).sealed_at;
-          };
-      fired = λ v l. subst (λ (ps : ℕ → Part). value_in g s.words (of_vertex v) ≡ word_of_part (ps v)) parts
-          (kept.shown.fired v l);
+      edges = λ e l. rw (← parts) (record {
+        word = (kept.shown.edges e l).word_is;
+        cells = (kept.shown.edges e l).ring_is;
+        unsealed = never_sealed g kept.log kept.legal e;
+        acks = kept.shown.acks e l;
+        settled = (counts_of_edges g kept.setting.game kept.setting.some_ring kept.log kept.legal e).settled;
+        prefix = front _ _ (sound e).prefix;
+        sealed = (sound e).sealed_at;
+      });
+      fired = λ v l. rw (← by_history g kept.log v) (kept.shown.fired v l);
     }

@@ -1,15 +1,15 @@
 -- Serves Finish.antt, Roots.antt.
 -- The reads of a closed root: each is in the log, and what they tell.
 use Rattle.chip_net.proofs.Names.{◌≡◌, ℕ, zero, suc, ◌+◌, ◌<◌, ◌&&◌, Bool, not, cond, List, [], ◌∷◌, ◌++◌, length}
-use Rattle.chip_net.proofs.Names.{get_or, Contains, refl, sym, ap, ◌∙◌, subst, arith, length-append, get_or_push}
+use Rattle.chip_net.proofs.Names.{get_or, Contains, refl, sym, ap, ◌∙◌, arith, length-append, get_or_push}
 use Rattle.chip_net.proofs.Names.{get_or_append_left, map-append, length-map, Contains-append_right, filter_below}
-use Rattle.chip_net.proofs.Names.{cond_yes, cond_no, fired_in, is_halted_in, is_by_limit_in, Setting, IsSetting, root}
-use Rattle.chip_net.proofs.Names.{stopper, deficit, saw, Log, Step, Read, Part, opening_part, part_in, word_of_part}
-use Rattle.chip_net.proofs.Names.{IsClosed, IsLegalLog, done_by, part_by, fed_of, fed_in, reads_tell, own_in, RootKnown}
+use Rattle.chip_net.proofs.Names.{fired_in, is_halted_in, is_by_limit_in, Setting, IsSetting, root}
+use Rattle.chip_net.proofs.Names.{stopper, deficit, saw, Log, Step, Read, Part, part_in, word_of_part}
+use Rattle.chip_net.proofs.Names.{IsClosed, IsLegalLog, done_by, part_by, fed_in, reads_tell, own_in, RootKnown}
 use Rattle.chip_net.proofs.Names.{root_part, root_deficit, root_after, has_ended, IsOver, ReadsAt, reads_from}
 use Rattle.chip_net.proofs.Names.{IsReadOut, ReadingsState, readings_after, AreRead, IsReading, picked_ext}
-use Rattle.chip_net.proofs.ViewingLemmas.{part_append}
-use Rattle.chip_net.proofs.RootingLemmas.{steps_more}
+use Rattle.chip_net.proofs.ViewingLemmas.{part_append, done_more, done_else}
+use Rattle.chip_net.proofs.Names.{append_assoc}
 
 -- a read that saw this
 abbrev read : ℕ → ℕ → Step
@@ -27,7 +27,7 @@ reads_at v (w ∷ ws) (suc k) l u is = Contains-append_right (read v w ∷ []) (
 reads_push : (v : ℕ) (ws : List ℕ) (w u : ℕ) → u ≡ v + length ws
     → reads_from v (ws ++ w ∷ []) ≡ reads_from v ws ++ (read u w) ∷ []
 reads_push v [] w u is = ap (λ (n : ℕ). (read n w) ∷ []) (omega arith)
-reads_push v (x ∷ xs) w u is = ap (λ (l : List Step). (read v x) ∷ l) (reads_push (suc v) xs w u (omega arith))
+reads_push v (x ∷ xs) w u is = rw (reads_push (suc v) xs w u (omega arith))
 
 -- they leave the part as it is
 reads_same : (g : Setting) (s : Part) (v : ℕ) (ws : List ℕ) → part_by g s (reads_from v ws) ≡ s
@@ -35,15 +35,14 @@ reads_same g s v [] = refl
 reads_same g s v (w ∷ ws) = reads_same g s (suc v) ws
 
 pub reads_part : (r : RootKnown) (ws : List ℕ) → root_part (root_after r (reads_from 0 ws)) ≡ root_part r
-reads_part r ws = part_append r.net.setting (opening_part r.net.setting) r.did (reads_from 0 ws)
-    ∙ reads_same r.net.setting (root_part r) 0 ws
+reads_part r ws = rw part_append (reads_same r.net.setting (root_part r) 0 ws)
 
 -- and feed nothing
 pub reads_feed_none : (g : Setting) (did : List Step) (v : ℕ) (ws : List ℕ)
     → fed_in g (did ++ reads_from v ws) ≡ fed_in g did
 reads_feed_none g [] v [] = refl
 reads_feed_none g [] v (w ∷ ws) = reads_feed_none g [] (suc v) ws
-reads_feed_none g (x ∷ xs) v ws = ap (λ (l : List (ℕ × ℕ)). fed_of g x.event ++ l) (reads_feed_none g xs v ws)
+reads_feed_none g (x ∷ xs) v ws = rw (reads_feed_none g xs v ws)
 
 -- if the log has them, each tells the word of its vertex
 pub reads_say : (g : Setting) → IsSetting g → (log : Log) → IsLegalLog g log → (did : List Step) (ws : List ℕ)
@@ -52,8 +51,7 @@ pub reads_say : (g : Setting) → IsSetting g → (log : Log) → IsLegalLog g l
 reads_say g setting log legal did ws is v l =
     let x : Step = read v (get_or ws v 0) in
     reads_tell g setting.game setting.some_ring log legal x v (own_in g (root g) log x
-    (subst (λ (d : List Step). Contains d x) is
-    (Contains-append_right did (reads_from 0 ws) x (reads_at 0 ws v l v (omega arith))))) refl
+    (rw (← is) (Contains-append_right did (reads_from 0 ws) x (reads_at 0 ws v l v (omega arith))))) refl
 
 pub still_over : {old now : RootKnown} {readings : ReadingsState} {v : ℕ} → IsReading old now readings v → IsOver old
     → IsOver now
@@ -71,21 +69,18 @@ module _ (words : List ℕ) (t : ReadingsState) (is : AreRead words t.fired t.ov
       ≡ filter_below (λ v. test (get_or (words ++ w ∷ []) v 0)) (length (words ++ w ∷ []))
   pick_more test before before_is =
       let now : ℕ → Bool = λ v. test (get_or (words ++ w ∷ []) v 0) in
-      let count : length (words ++ w ∷ []) ≡ suc (length words) = (let a = length-append words (w ∷ []) in omega arith)
-      in
-      let front : filter_below (λ v. test (get_or words v 0)) (length words) ≡ filter_below now (length words) =
-      picked_ext (λ v. test (get_or words v 0)) now (length words)
-      (λ v l. ap test (sym (get_or_append_left words (w ∷ []) 0 v l))) in
-      let here : test w ≡ now (length words) = ap test (sym (get_or_push words w 0 (length words) refl)) in
-      let vertex : length t.fired ≡ length words = ap length is.fired ∙ length-map words fired_in in
-      (λ i. (before_is ∙ front) i ++ cond (here i) (vertex i ∷ []) []) ∙ sym (ap (filter_below now) count)
+      let count : length (words ++ w ∷ []) ≡ suc (length words) = omega (arith, length-append {A = ℕ}) in
+      let front = picked_ext (λ v. test (get_or words v 0)) now (length words)
+      (λ v l. rw (get_or_append_left words (w ∷ []) 0 v l)) in
+      let vertex : length t.fired ≡ length words = rw is.fired (length-map words fired_in) in
+      rw (count, before_is, front, vertex, get_or_push words w 0 (length words) refl)
 
   abbrev more : ReadingsState
   more = readings_after (fired_in w) (is_halted_in w) (is_by_limit_in w) t
 
   pub readings_more : AreRead (words ++ w ∷ []) more.fired more.over more.sealed
   readings_more = record {
-    fired = ap (λ (l : List ℕ). l ++ fired_in w ∷ []) is.fired ∙ sym (map-append fired_in words (w ∷ []));
+    fired = rw (is.fired, map-append);
     over = pick_more is_by_limit_in t.over is.over;
     sealed = pick_more (λ x. is_halted_in x && not (is_by_limit_in x)) t.sealed is.sealed;
   }
@@ -107,17 +102,14 @@ module _ {old now then : RootKnown} {readings : ReadingsState} {v seen : ℕ} (s
   log = x ∷ reads.1.log
 
   setting' : IsSetting g
-  setting' = subst (λ (r : RootKnown). IsSetting r.net.setting) (sym reading.record_is) setting
+  setting' = rw reading.record_is setting
 
   record_is : root_after now (x ∷ []) ≡ root_after old (reads_from 0 words)
-  record_is = ap (λ (r : RootKnown). root_after r (x ∷ [])) reading.record_is
-      ∙ steps_more old (reads_from 0 reading.words) (x ∷ [])
-      ∙ ap (root_after old) (sym (reads_push 0 reading.words seen v (let c = reading.count_is in omega arith)))
+  record_is = let c = reading.count_is in
+      rw (reading.record_is, append_assoc, reads_push 0 reading.words seen v (omega arith))
 
   root_did : now.did ++ x ∷ [] ≡ done_by g (root g) log
-  root_did = ap (λ (d : List Step). d ++ x ∷ []) reads.1.has.1.root_did
-      ∙ sym (cond_yes (root g) (root g) (done_by g (root g) reads.1.log ++ x ∷ [])
-      (done_by g (root g) reads.1.log) refl)
+  root_did = rw (done_more g (root g) x reads.1.log refl, reads.1.has.1.root_did)
 
   count : length words ≡ v + 1
   count = let a = length-append reading.words (seen ∷ []) in let c = reading.count_is in omega arith
@@ -128,20 +120,19 @@ module _ {old now then : RootKnown} {readings : ReadingsState} {v seen : ℕ} (s
       (sym (ap (λ (r : RootKnown). r.did) record_is) ∙ root_did)
 
   read_out : IsReadOut then words
-  read_out = subst (λ (r : RootKnown). IsReadOut r words) (sym reads.0) record {
+  read_out = rw reads.0 (record {
     log = log;
     legal = (reads.1.legal, reads.1.has.0);
     has = (
       record {
         root_did = root_did;
-        stopper_did = λ did e. reads.1.has.1.stopper_did did e
-            ∙ sym (cond_no (root g) (stopper g) (done_by g (stopper g) reads.1.log ++ x ∷ [])
-            (done_by g (stopper g) reads.1.log) (λ z. omega arith));
+        stopper_did = λ did e.
+            rw (done_else g (stopper g) x reads.1.log (λ z. omega arith)) (reads.1.has.1.stopper_did did e);
       },
       (say v (omega (arith, count))).1,
       λ u l. (say u l).2,
     );
-  }
+  })
 
   pub reads_more : IsReading old then (readings_after (fired_in seen) (is_halted_in seen) (is_by_limit_in seen) readings)
       (v + 1)

@@ -1,35 +1,32 @@
 -- Serves Roots.antt, Views.antt.
 -- The root: an event of its own over the net, and a poll of settles.
-use Rattle.chip_net.proofs.Names.{◌≡◌, ℕ, suc, ◌+◌, ◌-◌, ◌<◌, ◌≤◌, true, List, [], ◌∷◌, ◌++◌, Some, None, refl, sym, ap}
-use Rattle.chip_net.proofs.Names.{◌∙◌, subst, arith, append_assoc, append-nil, map-append, le-leb, TableId, Allows}
-use Rattle.chip_net.proofs.Names.{cond_yes, Tail, after_clear, Setting, root, stopper, root_edge, graph_edges, act_of}
-use Rattle.chip_net.proofs.Names.{FitsRoot, is_of_root, link_after, saw, tail_root, at_edge, met_rules, Root}
+use Rattle.chip_net.proofs.Names.{◌≡◌, ℕ, suc, ◌+◌, ◌-◌, ◌<◌, ◌≤◌, true, List, [], ◌∷◌, ◌++◌, None, refl, sym, ap}
+use Rattle.chip_net.proofs.Names.{◌∙◌, arith, append_assoc, append-nil, map-append, le-leb, TableId, Allows}
+use Rattle.chip_net.proofs.Names.{Tail, after_clear, Setting, root, stopper, root_edge, graph_edges, act_of}
+use Rattle.chip_net.proofs.Names.{FitsRoot, is_of_root, link_after, saw, tail_root, met_rules, Root}
 use Rattle.chip_net.proofs.Names.{RootStandsFor, RootCanDo, Seal, Read, Step, Event, Clear, Put, Settle, Feed, End}
-use Rattle.chip_net.proofs.Names.{Part, Out, Reply, opening_part, does, unmet_rule, part_of, reply_of, done_by, part_by}
-use Rattle.chip_net.proofs.Names.{word_to_note, root_fits, index_of, View, Mine, find, grow_view, did_in, Has}
-use Rattle.chip_net.proofs.Names.{part_of_view, IsAlone, join_views, steps_or_none, Kept, step_of, Stepped, Grows}
+use Rattle.chip_net.proofs.Names.{Part, Out, Reply, opening_part, does, unmet_rule, part_of, reply_of}
+use Rattle.chip_net.proofs.Names.{word_to_note, root_fits, index_of, View, Mine, find, did_in, Has}
+use Rattle.chip_net.proofs.Names.{part_of_view, IsAlone, join_views, Kept, step_of, Grows}
 use Rattle.chip_net.proofs.Names.{RootKnown, known_root, root_after, root_part, IsRoot, IsFeeding, IsDueInView}
 use Rattle.chip_net.proofs.Names.{MakesEvent, Replies, settles_from, DoesMore, HoldsNothing, has_ended, with_stopper}
 use Rattle.chip_net.proofs.Names.{NetId, AreWordsOf}
-use Rattle.chip_net.proofs.ViewingLemmas.{part_append, ended_by, joined_here, joined_else}
+use Rattle.chip_net.proofs.Names.{nat_tests}
+use Rattle.chip_net.proofs.ViewingLemmas.{done_more, part_append, ended_by, joined_here, joined_else}
 use Rattle.chip_net.proofs.RulingLemmas.{Due, Made, made, word_of, left_over, HasAct, act_asked}
 use Rattle.chip_part.specs.declared.act.Act as operation
 use Rattle.chip_part.specs.declared.act.Act.TheVariants as Do
 
 -- what is noted is noted
 noted_twice : (x : Event) (n : ℕ) → word_to_note x n ≡ word_to_note x (word_to_note x n)
-noted_twice (Put e) n = refl
-noted_twice x n = refl
+noted_twice x n = grind (arith, nat_tests)
 
 -- what the root knows after an event of its own
 pub known_after : {g : Setting} {me : Mine} {x : Event} {n : ℕ} {after : Mine} → Made g me (root g) x n after
     → {old : RootKnown} {table : TableId} → known_root table g me.0 ≡ old → {now : TableId} → now ≡ table
     → known_root now g after.0 ≡ root_after old (step_of x n ∷ [])
-known_after {g = g} {x = x} {n = n} m view_is table_is = (λ j. record {
-  net = record { table = table_is j; setting = g };
-  did = m.did_is j;
-  stopper_did = m.others (stopper g) (λ z. omega arith) j;
-}) ∙ ap (λ (r : RootKnown). root_after r (step_of x n ∷ [])) view_is
+known_after {g = g} m view_is table_is =
+    let kept = m.others (stopper g) (λ z. omega arith) in rw (← view_is, table_is, m.did_is, kept)
 
 -- ---- an event of the root at its seat
 
@@ -39,9 +36,8 @@ module _ {g : Setting} {me : Mine} {x : Event} (due : Due g me (root g) x) (own 
   m = made due n after told
 
   fits : FitsRoot g (part_of_view g (root g) me.0) x (word_to_note x n)
-  fits = subst (λ (z : Part × ℕ). FitsRoot g z.0 x z.1) (λ j. (sym m.in_log j, sym m.stepped.has.0.1 j))
-      (root_fits g keeps.setting.game keeps.setting.some_ring m.stepped.log m.stepped.legal x own
-      (subst (λ (b : Part). unmet_rule g x b ≡ None) m.in_log due.met))
+  fits = rw (m.in_log, m.stepped.has.0.1) (root_fits g keeps.setting.game keeps.setting.some_ring
+      m.stepped.log m.stepped.legal x own (rw m.in_log at due.met))
 
   pub can : RootCanDo g (part_of_view g (root g) me.0) x (word_to_note x n)
   can = (own, due.met, fits)
@@ -50,7 +46,7 @@ module _ {g : Setting} {me : Mine} {x : Event} (due : Due g me (root g) x) (own 
       → MakesEvent old (known_root now g after.0) x (word_to_note x n)
   makes_event view_is table_is = record {
     record_is = known_after m view_is table_is;
-    fits = subst (λ (r : RootKnown). FitsRoot r.net.setting (root_part r) x (word_to_note x n)) view_is fits;
+    fits = rw (← view_is) fits;
     noted_is = noted_twice x n;
   }
 
@@ -61,14 +57,12 @@ module _ {g : Setting} {me : Mine} {x : Event} (due : Due g me (root g) x) (own 
     still_root = record {
       setting = keeps.setting;
       has = m.has;
-      stands = subst (λ (t : Part). RootStandsFor g t then) (sym m.part_is) (makes can).0;
+      stands = rw m.part_is (makes can).0;
       in_log = record {
         log = step_of x n ∷ m.stepped.log;
         legal = (m.stepped.legal, m.stepped.has.0);
-        has = m.did_is
-            ∙ ap (λ (d : List Step). d ++ step_of x n ∷ []) (m.stepped.has.1 (root g) (did_in (root g) me.0) keeps.has)
-            ∙ sym (cond_yes (part_of g x) (root g) (done_by g (root g) m.stepped.log ++ step_of x n ∷ [])
-            (done_by g (root g) m.stepped.log) due.mine);
+        has = rw (m.did_is, m.stepped.has.1 (root g) (did_in (root g) me.0) keeps.has)
+            (sym (done_more g (root g) (step_of x n) m.stepped.log due.mine));
       };
     }
 
@@ -77,8 +71,7 @@ module _ {g : Setting} {me : Mine} {x : Event} (due : Due g me (root g) x) (own 
     replies view_is table_is = record {
       seen = word_to_note x n;
       made = makes_event view_is table_is;
-      reply_is = (makes can).1
-          ∙ ap (λ (k : RootKnown). reply_of k.net.setting x (word_to_note x n) (root_part k)) view_is;
+      reply_is = rw (← view_is) (makes can).1;
     }
 
 -- ---- a settle of a root edge
@@ -115,8 +108,7 @@ noted_over (Do.Put e cell value) n = 0
 noted_over _ n = n
 
 noted_is : (g : Setting) (s : Part) (x : Event) (n : ℕ) → word_to_note x n ≡ noted_over (act_of g x s) n
-noted_is g s (Put e) n = refl
-noted_is g s x n = refl
+noted_is g s x n = grind (arith, nat_tests)
 
 pub feeding_due : {g : Setting} {x : Event} (me : Mine) → Has (root g) me.0 → IsFeeding g x
     → unmet_rule g x (part_of_view g (root g) me.0) ≡ None → Due g me (root g) x
@@ -131,38 +123,28 @@ module _ {net : NetId} {id : TableId} {key : Setting} (words : AreWordsOf net id
   g = net.setting
 
   noted_here : (n : ℕ) → word_to_note x n ≡ noted_over act n
-  noted_here n = noted_is g (part_of_view g (root g) me.0) x n
-      ∙ ap (λ (a : operation.Act). noted_over a n) (sym due.needed)
+  noted_here n = rw due.needed (noted_is g (part_of_view g (root g) me.0) x n)
 
   pub feeding_asked : (table ≡ id) × (word < id.words)
       × Allows (Kept key) id.slots seat me word (left_over act) (Grows key x me)
   feeding_asked = act_asked words (feeding_due me due.has due.feeding due.met)
       (feeding_acts g x due.feeding) act due.needed word
-      (at ∙ ap (λ (h : Setting). index_of h (word_of (root g) act)) set_is) (λ _. x) refl table table_is seat
+      (rw set_is at at) (λ _. x) refl table table_is seat
 
   -- a store tells the same, whatever it found
   pub store_asked : (value : ℕ) → ((n : ℕ) → noted_over act n ≡ 0) → (table ≡ id) × (word < id.words)
       × Allows (Kept key) id.slots seat me word (left_over act) (λ n. Grows key x me value)
   store_asked value zero =
-      let told : Grows key x me ≡ (λ n. Grows key x me value) =
-      (λ j n after. let step : step_of x n ≡ step_of x value =
-      (λ k. saw x ((noted_here n ∙ zero n ∙ sym (noted_here value ∙ zero value)) k)) in
-      ((after.0 ≡ grow_view (part_of key x) (step j) me.0) × Stepped key (step j) me.0 × (after.1 ≡ me.1))) in
-      subst (λ (f : ℕ → Mine → Type 0). (table ≡ id) × (word < id.words)
-      × Allows (Kept key) id.slots seat me word (left_over act) f) told feeding_asked
+      let none : (n : ℕ) → word_to_note x n ≡ 0 = λ n. noted_here n ∙ zero n in
+      simp none (simp none at feeding_asked)
 
 -- ---- a poll
-
--- steps after steps
-pub steps_more : (r : RootKnown) (xs ys : List Step) → root_after (root_after r xs) ys ≡ root_after r (xs ++ ys)
-steps_more r xs ys = ap (λ (d : List Step). record { net = r.net; did = d; stopper_did = r.stopper_did })
-    (append_assoc r.did xs ys)
 
 -- none yet
 pub does_none : (r : RootKnown) (events : List Event) → events ≡ [] → DoesMore r r events
 does_none r events none = record {
   steps = [];
-  record_is = λ j. record { net = r.net; did = sym (append-nil r.did) j; stopper_did = r.stopper_did };
+  record_is = rw append-nil;
   events_are = sym none;
 }
 
@@ -174,34 +156,25 @@ does_one {x = x} {seen = seen} event =
 -- events after events
 pub does_all : {old now after : RootKnown} {xs ys : List Event} → DoesMore old now xs → DoesMore now after ys
     → DoesMore old after (xs ++ ys)
-does_all {old = old} first rest = record {
+does_all first rest = record {
   steps = first.steps ++ rest.steps;
-  record_is = rest.record_is ∙ ap (λ (r : RootKnown). root_after r rest.steps) first.record_is
-      ∙ steps_more old first.steps rest.steps;
-  events_are = map-append (λ (z : Step). z.event) first.steps rest.steps
-      ∙ (λ j. first.events_are j ++ rest.events_are j);
+  record_is = rw (rest.record_is, first.record_is, append_assoc);
+  events_are = rw (map-append, first.events_are, rest.events_are);
 }
 
 pub does_net : {old now : RootKnown} {events : List Event} → DoesMore old now events → now.net ≡ old.net
-does_net more = ap (λ (r : RootKnown). r.net) more.record_is
-
--- the same of the edge by another name
-pub settles_at : {old new : RootKnown} {e f seen : ℕ} → e ≡ f → MakesEvent old new (Settle e) seen
-    → MakesEvent old new (Settle f) seen
-settles_at {old = old} {new = new} {seen = seen} is = subst (λ (e : ℕ). MakesEvent old new (Settle e) seen) is
+does_net more = rw more.record_is
 
 -- the next settle of some in a row
 pub settles_more : {old now after : RootKnown} {seen : ℕ} (first v : ℕ) → first ≤ v
     → DoesMore old now (settles_from old.net.setting first (v - first))
     → MakesEvent now after (Settle (root_edge now.net.setting v)) seen
     → DoesMore old after (settles_from old.net.setting first ((v + 1) - first))
-settles_more {old = old} {now = now} {after = after} first v l before event =
-    let g : Setting = old.net.setting in
-    let edge : root_edge now.net.setting v ≡ root_edge g (first + (v - first)) =
-    ap (λ (n : NetId). root_edge n.setting v) (does_net before) ∙ ap (root_edge g) (omega arith) in
-    let count : suc (v - first) ≡ (v + 1) - first = omega arith in
-    subst (λ (n : ℕ). DoesMore old after (settles_from g first n)) count
-    (does_all before (does_one (settles_at edge event)))
+settles_more {old = old} {now = now} first v l before event =
+    let edge : root_edge now.net.setting v ≡ root_edge old.net.setting (first + (v - first)) =
+    rw (does_net before) (omega arith) in
+    let count : (v + 1) - first ≡ suc (v - first) = omega arith in
+    rw count (does_all before (does_one (rw edge at event)))
 
 -- ---- the part of the root after an event
 
@@ -212,16 +185,13 @@ root_step r y = part_append r.net.setting (opening_part r.net.setting) r.did (y 
 -- it holds as little as before if the event leaves what is held
 pub holds_by : {old now : RootKnown} {x : Event} {seen : ℕ} → MakesEvent old now x seen
     → ((e : ℕ) (o : Out) → (link_after x seen e o).held ≡ o.link.held) → HoldsNothing old → HoldsNothing now
-holds_by {old = old} {x = x} {seen = seen} event same none = subst HoldsNothing (sym event.record_is)
-    (λ v l. ap (λ (s : Part). (s.out (root_edge old.net.setting v)).link.held)
-    (root_step old (saw x seen))
-    ∙ same (root_edge old.net.setting v) ((root_part old).out (root_edge old.net.setting v)) ∙ none v l)
+holds_by {old = old} {x = x} {seen = seen} event same none =
+    rw event.record_is (λ v l. rw (root_step old (saw x seen)) (same _ _ ∙ none v l))
 
 -- a look leaves what it does not note
 pub by_look : {A : Type 0} (f : Tail → A) (seen : ℕ) → ((t : Tail) → f (after_clear seen t) ≡ f t) → (e i : ℕ) (o : Out)
     → f (link_after (Clear e) seen i o) ≡ f o.link
-by_look f seen same e i o = at_edge (λ _ (t : Tail). f t ≡ f o.link) e (λ _. after_clear seen o.link) (λ _. o.link)
-    (same o.link) (λ _. refl) i
+by_look f seen same e i o = let here = same o.link in grind (arith, nat_tests)
 
 -- once the end is noted it stays so
 pub stays_over : {old now : RootKnown} {events : List Event} → DoesMore old now events → has_ended old ≡ true
@@ -241,19 +211,13 @@ module _ (g : Setting) {view : View} (alone : IsAlone (stopper g) view) (mine : 
   root_still = joined_else (stopper g) (root g) mine view alone (λ e. omega arith)
 
   pub takes_back : {state : Root} → IsRoot g mine state → IsRoot g (join_views mine view) state
-  takes_back {state = state} keeps =
-      let same : did_in (root g) mine ≡ did_in (root g) (join_views mine view) = sym (ap steps_or_none root_still) in
-      record {
-        setting = keeps.setting;
-        has = root_still ∙ keeps.has ∙ ap Some same;
-        stands = subst (λ (did : List Step). RootStandsFor g (part_by g (opening_part g) did) state) same keeps.stands;
-        in_log = record { log = keeps.in_log.log; legal = keeps.in_log.legal; has = sym same ∙ keeps.in_log.has };
-      }
+  takes_back keeps = record {
+    setting = keeps.setting;
+    has = rw root_still keeps.has;
+    stands = rw root_still keeps.stands;
+    in_log = rw root_still keeps.in_log;
+  }
 
   pub has_both : (table : TableId) (did : List Step) → did ≡ did_in (stopper g) view
       → known_root table g (join_views mine view) ≡ with_stopper (known_root table g mine) did
-  has_both table did did_is = λ j. record {
-    net = record { table = table; setting = g };
-    did = steps_or_none (root_still j);
-    stopper_did = (joined_here (stopper g) mine view alone ∙ ap Some (sym did_is)) j;
-  }
+  has_both table did did_is = rw (root_still, joined_here (stopper g) mine view alone, did_is)

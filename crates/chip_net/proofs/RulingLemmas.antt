@@ -1,17 +1,17 @@
 -- Serves Views.antt, Layout.antt, Rule.antt.
 -- Each event keeps the rule of the table, and tells that its part did it.
 use Rattle.chip_net.proofs.Names.{nat_tests, ◌≡◌, ◌≢◌, ℕ, ◌+◌, ◌%◌, ◌^◌, ◌<◌, ◌==◌, List, [], ◌∷◌, ◌++◌, get_or, set}
-use Rattle.chip_net.proofs.Names.{length-set, Some, None, refl, sym, ap, ◌∙◌, subst, arith, bit_or, get_elem?, either}
-use Rattle.chip_net.proofs.Names.{TableId, Valid, keeps, carried_after, stepped, Allows, set_else, cond_yes, cond_no}
-use Rattle.chip_net.proofs.Names.{word_after_exchange, claims_of, Setting, act_of, saw, Log, Step, Event, Claim, Seal}
-use Rattle.chip_net.proofs.Names.{Read, Feed, Part, opening_part, unmet_rule, part_of, part_in, does, sees, done_by}
-use Rattle.chip_net.proofs.Names.{part_by, Word, of_edge, of_acks, of_cell, of_vertex, IsWord, halt_bits, word_of_event}
+use Rattle.chip_net.proofs.Names.{length-set, Some, None, refl, sym, ◌∙◌, arith, bit_or, get_elem?, either}
+use Rattle.chip_net.proofs.Names.{TableId, keeps, stepped, Allows, set_else}
+use Rattle.chip_net.proofs.Names.{Setting, act_of, Log, Step, Event, Seal}
+use Rattle.chip_net.proofs.Names.{Read, Part, unmet_rule, part_of, part_in, does, sees, done_by}
+use Rattle.chip_net.proofs.Names.{Word, of_edge, of_acks, of_cell, of_vertex, IsWord, halt_bits, word_of_event}
 use Rattle.chip_net.proofs.Names.{left_by, word_to_note, IsShown, IsLeft, acting_part, by_history, word_for, word_there}
 use Rattle.chip_net.proofs.Names.{finds, words_go_on, index_of, value_in, View, Mine, find, find_in, grow_view, did_in}
 use Rattle.chip_net.proofs.Names.{Has, part_of_view, IsAlone, Kept, step_of, Stepped, Grows, NetId, AreWordsOf}
-use Rattle.atomic_table.specs.Table.{Act}
 use Rattle.chip_net.proofs.LayingLemmas.{written_here, written_else, inside, owner_of, owner_at, by_word, owner_read}
 use Rattle.chip_net.proofs.ViewingLemmas.{set_there, find_here, find_else, grown_has, grown_alone, part_append}
+use Rattle.chip_net.proofs.ViewingLemmas.{done_more, done_else}
 use Rattle.chip_net.proofs.SplittingLemmas.{set_finds, nowhere_else, moved}
 use Rattle.chip_part.specs.declared.act.Act as operation
 use Rattle.chip_part.specs.declared.act.Act.TheVariants as Do
@@ -42,12 +42,11 @@ module _ {g : Setting} {me : Mine} {p : ℕ} {x : Event} (due : Due g me p x) wh
       (Grows g x me)
   allowed slots id table kept homes at few =
       let log : Log = kept.log in
-      let was : find_in p (get_elem? table.views id) ≡ Some (did_in p me.0) = ap (find_in p) at ∙ due.has in
+      let was : find_in p (get_elem? table.views id) ≡ Some (did_in p me.0) = rw at due.has in
       let did_is : did_in p me.0 ≡ done_by g p log = (kept.each_part p id (did_in p me.0) was).1 in
-      let part_is : s ≡ acting_part g log x = ap (part_by g (opening_part g)) did_is ∙ sym (by_history g log p)
-      ∙ ap (part_in g log) (sym due.mine) in
+      let part_is : s ≡ acting_part g log x = rw (did_is, due.mine, by_history g log p) in
       let a : Part = acting_part g log x in
-      let may : unmet_rule g x a ≡ None = subst (λ (b : Part). unmet_rule g x b ≡ None) part_is due.met in
+      let may : unmet_rule g x a ≡ None = rw part_is at due.met in
       let game = kept.setting.game in
       let ring = kept.setting.some_ring in
       let value : Word → ℕ = value_in g table.words in
@@ -63,32 +62,26 @@ module _ {g : Setting} {me : Mine} {p : ℕ} {x : Event} (due : Due g me p x) wh
       } in
       let y : Step = step_of x n in
       let shown : IsShown g (y ∷ log) (value_in g new) =
-      subst (λ (k : ℕ). IsShown g (saw x k ∷ log) (value_in g new)) (sym found)
-      (words_go_on g game ring log kept.legal value (value_in g new) kept.shown x may left) in
+      rw found (words_go_on g game ring log kept.legal value (value_in g new) kept.shown x may left) in
       let w : View = grow_view p y me.0 in
-      subst (λ (b : Part). let i : ℕ = index_of g (word_of_event g x b) in (w : View) × (c : Act (Unit {0}))
-      × Valid table.homes me.1 c × Kept g (stepped table i (left_by g x b (get_or table.words i 0)) id me.1 w c)
-      × Grows g x me (get_or table.words i 0) (w, carried_after me.1 c))
-      (sym part_is) (
+      rw part_is (
         w,
         keeps,
         tt,
         moved g table kept p id (y ∷ log) new (set table.views id w)
             (λ r j other. set_finds r table.views id me.0 w at (find_else p r y me.0.parts other) j)
-            (ap (find_in p) (set_there table.views id me.0 w at) ∙ find_here p y me.0.parts (did_in p me.0) due.has
-            ∙ ap (λ (d : List Step). Some (d ++ y ∷ [])) did_is
-            ∙ sym (ap Some (cond_yes (part_of g x) p (done_by g p log ++ y ∷ []) (done_by g p log) due.mine)))
-            (λ j other. ap (find_in p) (set_else table.views id j w other)
-            ∙ nowhere_else g table kept p id (did_in p me.0) was j other)
-            (λ r other. cond_no (part_of g x) r (done_by g r log ++ y ∷ []) (done_by g r log)
-            (λ e. other (sym due.mine ∙ e)))
+            (rw (set_there table.views id me.0 w at, done_more g p y log due.mine, ← did_is)
+            (find_here p y me.0.parts (did_in p me.0) due.has))
+            (λ j other. rw (set_else table.views id j w other)
+            (nowhere_else g table kept p id (did_in p me.0) was j other))
+            (λ r other. done_else g r y log (rw due.mine other))
             (length-set table.words (index_of g q) (left_by g x a n)) shown (kept.legal, (may, found)),
         (
-          ap (λ (r : ℕ). grow_view r y me.0) (sym due.mine),
+          rw due.mine,
           record {
             log = log;
             legal = kept.legal;
-            has = ((may, found), λ r d here. (kept.each_part r id d (ap (find_in r) at ∙ here)).1);
+            has = ((may, found), λ r d here. (kept.each_part r id d (rw at here)).1);
           },
           refl,
         ),
@@ -97,16 +90,15 @@ module _ {g : Setting} {me : Mine} {p : ℕ} {x : Event} (due : Due g me p x) wh
   pub made : (n : ℕ) (after : Mine) → Grows g x me n after → Made g me p x n after
   made n after (is, stepped, slots) =
       let y : Step = step_of x n in
-      let grew : after.0 ≡ grow_view p y me.0 = is ∙ ap (λ (r : ℕ). grow_view r y me.0) due.mine in
+      let grew : after.0 ≡ grow_view p y me.0 = rw due.mine at is in
       let more = grown_has p y me.0 after.0 due.has grew in
       record {
         stepped = stepped;
-        in_log = ap (part_by g (opening_part g)) (stepped.has.1 p (did_in p me.0) due.has)
-            ∙ sym (by_history g stepped.log p);
+        in_log = rw (stepped.has.1 p (did_in p me.0) due.has, by_history g stepped.log p);
         has = more.1;
         did_is = more.0;
-        part_is = ap (part_by g (opening_part g)) more.0 ∙ part_append g (opening_part g) (did_in p me.0) (y ∷ []);
-        others = λ q other. ap (λ (v : View). find q v.parts) grew ∙ find_else p q y me.0.parts other;
+        part_is = rw (more.0, part_append);
+        others = λ q other. rw grew (find_else p q y me.0.parts other);
         alone = λ alone. grown_alone p y me.0 after.0 alone grew;
         slots = slots;
       }
@@ -136,10 +128,6 @@ left_over (Do.Halt by_limit) n = bit_or n (halt_bits by_limit)
 left_over (Do.Ack e count) n = (n + count) % 2 ^ 64
 left_over Do.End n = n
 
--- the two ways to say what an exchange leaves
-pub one_exchange : (expected new n : ℕ) → word_after_exchange expected new n ≡ either (n == expected) new n
-one_exchange expected new n = grind (arith, nat_tests)
-
 -- an event whose operation has a name of its own
 abbrev pub HasAct : Event → Type 0
 HasAct (Seal e) = ⊥
@@ -153,22 +141,16 @@ vertex_acts g x l = tt
 
 -- it is on the word of the event, and leaves there what the event does
 over_word : (g : Setting) (s : Part) (x : Event) → HasAct x → word_of (part_of g x) (act_of g x s) ≡ word_of_event g x s
-over_word g s (Seal e) z = absurd z
-over_word g s (Read v) z = absurd z
-over_word g s x z = refl
+over_word g s x z = grind (arith, nat_tests)
 
 over_left : (g : Setting) (s : Part) (x : Event) → HasAct x → (n : ℕ) → left_by g x s n ≡ left_over (act_of g x s) n
-over_left g s (Seal e) z n = absurd z
-over_left g s (Read v) z n = absurd z
-over_left g s (Claim e) z n = one_exchange (claims_of (s.out e).link) (claims_of (s.out e).link + 1) n
-over_left g s (Feed e k) z n = one_exchange (claims_of (s.out e).link) (claims_of (s.out e).link + 1) n
-over_left g s x z n = refl
+over_left g s x z n = grind (arith, nat_tests)
 
 -- ---- a call of the table that makes it
 
 pub words_at : {own net : NetId} → own ≡ net → {id : TableId} {key : Setting} → AreWordsOf net id key
     → AreWordsOf own id key
-words_at same {id = id} {key = key} = subst (λ (n : NetId). AreWordsOf n id key) (sym same)
+words_at same words = rw same words
 
 module _ {net : NetId} {id : TableId} {key : Setting} (words : AreWordsOf net id key) {me : Mine} {p : ℕ} {x : Event}
     (due : Due net.setting me p x) where
@@ -184,23 +166,19 @@ module _ {net : NetId} {id : TableId} {key : Setting} (words : AreWordsOf net id
   module _ (word : ℕ) (at : word ≡ index_of g (word_of_event g x part)) (kind : ℕ → Event)
       (of_kind : kind (owner_of (word_of_event g x part)) ≡ x) where
     kind_is : kind (owner_at key word) ≡ x
-    kind_is = ap kind (ap (λ (k : Setting). owner_at k word) words.key
-        ∙ owner_read g (word_of_event g x part) there word at) ∙ of_kind
+    kind_is = rw (words.key, owner_read g (word_of_event g x part) there word at) of_kind
 
     pub event_asked : (table : TableId) → table ≡ net.table → (seat : ℕ) → (table ≡ id) × (word < id.words)
         × Allows (Kept key) id.slots seat me word (left_by g x part) (by_word kind key word me)
     event_asked table same seat =
-        let l = inside g (word_of_event g x part) there in
-        let count = ap (λ (t : TableId). t.words) words.table ∙ words.count in (
-          same ∙ sym words.table,
-          omega arith,
-          subst (λ (z : Setting × ℕ × Event). Allows (Kept z.0) id.slots seat me z.1 (left_by g x part)
-              (Grows z.0 z.2 me))
-              (λ i. (sym words.key i, sym at i, sym kind_is i)) (allowed due id.slots seat),
+        let l = inside g (word_of_event g x part) there in (
+          rw words.table same,
+          rw words.table (omega arith),
+          rw (kind_is, words.key, at) (allowed due id.slots seat),
         )
 
     pub event_told : (seen : ℕ) (after : Mine) → by_word kind key word me seen after → Grows g x me seen after
-    event_told seen after = subst (λ (z : Setting × Event). Grows z.0 z.1 me seen after) (λ i. (words.key i, kind_is i))
+    event_told seen after told = rw (kind_is, words.key) at told
 
   -- the same by the operation
   module _ (acts : HasAct x) (act : operation.Act) (act_is : act ≡ act_of g x part) where
@@ -208,22 +186,20 @@ module _ {net : NetId} {id : TableId} {key : Setting} (words : AreWordsOf net id
     word_is = (λ j. word_of (sym due.mine j) (act_is j)) ∙ over_word g part x acts
 
     pub act_word : IsWord g (word_of p act)
-    act_word = subst (IsWord g) (sym word_is) there
+    act_word = rw word_is there
 
     module _ (word : ℕ) (at : word ≡ index_of g (word_of p act)) (kind : ℕ → Event)
         (of_kind : kind (owner_of (word_of p act)) ≡ x) where
       at' : word ≡ index_of g (word_of_event g x part)
-      at' = at ∙ ap (index_of g) word_is
+      at' = rw word_is at at
 
       of_kind' : kind (owner_of (word_of_event g x part)) ≡ x
-      of_kind' = ap (λ (w : Word). kind (owner_of w)) (sym word_is) ∙ of_kind
+      of_kind' = rw (← word_is) of_kind
 
       pub act_asked : (table : TableId) → table ≡ net.table → (seat : ℕ) → (table ≡ id) × (word < id.words)
           × Allows (Kept key) id.slots seat me word (left_over act) (by_word kind key word me)
-      act_asked table same seat = subst (λ (f : ℕ → ℕ). (table ≡ id) × (word < id.words)
-          × Allows (Kept key) id.slots seat me word f (by_word kind key word me))
-          (λ j n. (over_left g part x acts n ∙ ap (λ (a : operation.Act). left_over a n) (sym act_is)) j)
-          (event_asked word at' kind of_kind' table same seat)
+      act_asked table same seat =
+          rw act_is (simp (over_left g part x acts) at (event_asked word at' kind of_kind' table same seat))
 
       pub act_told : (seen : ℕ) (after : Mine) → by_word kind key word me seen after
           → Grows g x me seen after

@@ -5,7 +5,7 @@ use Rattle.chip_net.proofs.Names.{Some, None, refl, sym, ap, ◌∙◌, dite, so
 use Rattle.chip_net.proofs.Names.{Joins, Enters, at_last, set_else, Setting, at_other, Log, Step, IsLegalLog, done_by}
 use Rattle.chip_net.proofs.Names.{IsShown, value_in, View, Mine, find, find_in, did_in, view_without, view_of_one}
 use Rattle.chip_net.proofs.Names.{IsAlone, join_views, no_parts, Kept}
-use Rattle.chip_net.proofs.ViewingLemmas.{none_some, some_is, set_there, dropped_here, dropped_else, alone_has}
+use Rattle.chip_net.proofs.ViewingLemmas.{set_there, dropped_here, dropped_else, alone_has}
 use Rattle.chip_net.proofs.ViewingLemmas.{alone_there, alone_else, joined_here, joined_else, one_else}
 
 -- ---- a part in a list of views
@@ -18,9 +18,7 @@ none_but (Some d) never = absurd (never d refl)
 pub set_finds : (q : ℕ) (l : List View) (i : ℕ) (v w : View) → get_elem? l i ≡ some v
     → find q w.parts ≡ find q v.parts → (j : ℕ) → find_in q (get_elem? (set l i w) j) ≡ find_in q (get_elem? l j)
 set_finds q l i v w at same j = dite (ℕ_discrete j i)
-    (λ e. ap (λ (n : ℕ). find_in q (get_elem? (set l i w) n)) e ∙ ap (find_in q) (set_there l i v w at) ∙ same
-    ∙ sym (ap (find_in q) at) ∙ ap (λ (n : ℕ). find_in q (get_elem? l n)) (sym e))
-    (λ other. ap (find_in q) (set_else l i j w other))
+    (λ e. rw (e, set_there l i v w at, at) same) (λ other. rw (set_else l i j w other))
 
 -- one view more, with nothing of the part
 longer_finds : (q : ℕ) (l : List View) (w : View) → find q w.parts ≡ None → (j : ℕ)
@@ -58,14 +56,12 @@ module _ (g : Setting) (s : State (Unit {0}) View) (kept : Kept g s) (p : ℕ) w
     each_part = at_other (λ q (i : ℕ). (j : ℕ) (did : List Step) → find_in q (get_elem? views j) ≡ Some did
         → (i ≡ j) × (did ≡ done_by g q log)) p (λ q. to) kept.owner
         (λ j did found. dite (ℕ_discrete j to)
-        (λ at. (sym at, some_is _ _ (sym found ∙ ap (λ (i : ℕ). find_in p (get_elem? views i)) at ∙ here)))
-        (λ away. absurd (none_some did (sym (nowhere j away) ∙ found))))
-        (λ q other j did found.
-        let old = kept.each_part q j did (sym (others q j other) ∙ found) in (old.0, old.1 ∙ sym (same q other)));
+        (λ at. (sym at, (cc))) (λ away. let none = nowhere j away in absurd (cc)))
+        (λ q other j did found. rw (same q other) (kept.each_part q j did (rw (others q j other) at found)));
     there = at_other (λ q (i : ℕ). q < g.game.graph.vertices + 2 → find_in q (get_elem? views i)
         ≡ Some (done_by g q log))
         p (λ q. to) kept.owner (λ l. here)
-        (λ q other l. others q (kept.owner q) other ∙ kept.there q l ∙ ap Some (sym (same q other)));
+        (λ q other l. rw (others q (kept.owner q) other, same q other) (kept.there q l));
     shown = shown;
     legal = legal;
   }
@@ -81,8 +77,8 @@ may_enter g slots s kept homes few = (
     owner = kept.owner;
     setting = kept.setting;
     wide = kept.wide;
-    each_part = λ p j did found. kept.each_part p j did (sym (longer_finds p s.views no_parts refl j) ∙ found);
-    there = λ p l. longer_finds p s.views no_parts refl (kept.owner p) ∙ kept.there p l;
+    each_part = λ p j did found. kept.each_part p j did (rw (longer_finds p s.views no_parts refl j) at found);
+    there = λ p l. rw (longer_finds p s.views no_parts refl (kept.owner p)) (kept.there p l);
     shown = kept.shown;
     legal = kept.legal;
   },
@@ -93,17 +89,14 @@ pub takes_out : (g : Setting) (id p : ℕ) (v : View) (did : List Step) → find
     → Splits (Kept g) id v (view_without p v) (view_of_one p v)
 takes_out g id p v did has s kept at =
     let left : List View = set s.views id (view_without p v) in
-    let was : find_in p (get_elem? s.views id) ≡ Some did = ap (find_in p) at ∙ has in
+    let was : find_in p (get_elem? s.views id) ≡ Some did = rw at has in
     moved g s kept p (length left) kept.log s.words (left ++ view_of_one p v ∷ [])
     (λ q j other. longer_finds q left (view_of_one p v) (one_else p q (find p v.parts) other) j
     ∙ set_finds q s.views id v (view_without p v) at (dropped_else p q v.parts other) j)
-    (ap (find_in p) (at_last left (view_of_one p v) (length left) refl) ∙ alone_has p v did has
-    ∙ ap Some (kept.each_part p id did was).1)
-    (λ j ne. ap (find_in p) (longer_else left (view_of_one p v) j ne) ∙ dite (ℕ_discrete j id)
-    (λ e. ap (λ (n : ℕ). find_in p (get_elem? left n)) e
-    ∙ ap (find_in p) (set_there s.views id v (view_without p v) at) ∙ dropped_here p v.parts)
-    (λ other. ap (find_in p) (set_else s.views id j (view_without p v) other)
-    ∙ nowhere_else g s kept p id did was j other))
+    (rw (at_last left (view_of_one p v) (length left) refl, ← (kept.each_part p id did was).1) (alone_has p v did has))
+    (λ j ne. rw (longer_else left (view_of_one p v) j ne) (dite (ℕ_discrete j id)
+    (λ e. rw (e, set_there s.views id v (view_without p v) at) (dropped_here p v.parts))
+    (λ other. rw (set_else s.views id j (view_without p v) other) (nowhere_else g s kept p id did was j other))))
     (λ q other. refl) refl kept.shown kept.legal
 
 pub takes_in : (g : Setting) (id other p : ℕ) (v w : View) → IsAlone p w
@@ -112,15 +105,16 @@ takes_in g id other p v w alone s kept at apart there =
     let both : View = join_views v w in
     let between : List View = set s.views id both in
     let was : find_in p (get_elem? s.views other) ≡ Some (did_in p w) =
-    ap (find_in p) (sym (set_else s.views id other both apart) ∙ there) ∙ alone_there p w alone in
+    rw (← set_else s.views id other both apart, there) (alone_there p w alone) in
     moved g s kept p id kept.log s.words (set between other no_parts)
     (λ q j ne. set_finds q between other w no_parts there (sym (alone_else p q w alone ne)) j
     ∙ set_finds q s.views id v both at (joined_else p q v w alone ne) j)
-    (ap (find_in p) (set_else between other id no_parts (λ e. apart (sym e)) ∙ set_there s.views id v both at)
-    ∙ joined_here p v w alone ∙ ap Some (kept.each_part p other (did_in p w) was).1)
-    (λ j away. dite (ℕ_discrete j other)
-    (λ e. ap (λ (n : ℕ). find_in p (get_elem? (set between other no_parts) n)) e
-    ∙ ap (find_in p) (set_there between other w no_parts there))
-    (λ ne. ap (find_in p) (set_else between other j no_parts ne ∙ set_else s.views id j both away)
-    ∙ nowhere_else g s kept p other (did_in p w) was j ne))
+    (rw (
+      set_else between other id no_parts (λ e. apart (sym e)),
+      set_there s.views id v both at,
+      ← (kept.each_part p other (did_in p w) was).1,
+    ) (joined_here p v w alone))
+    (λ j away. dite (ℕ_discrete j other) (λ e. rw (e, set_there between other w no_parts there))
+    (λ ne. rw (set_else between other j no_parts ne, set_else s.views id j both away)
+    (nowhere_else g s kept p other (did_in p w) was j ne)))
     (λ q ne. refl) refl kept.shown kept.legal

@@ -28,9 +28,9 @@ module _ {setup now : TurnSetup} {key : Setting} {table : TableId} {me : Mine} {
     table_is = table_is;
     setting_is = refl;
     vertex_is = sym vertex;
-    did_is = ap (λ (v : ℕ). did_in v me.0) vertex ∙ sym (reverse-reverse did);
-    part_is = ap (λ (v : ℕ). part_of_view g v me.0) (sym vertex);
-    seated = subst (λ (v : ℕ). IsSeated g v me trace) (sym vertex) actor.0;
+    did_is = rw (vertex, reverse-reverse did);
+    part_is = rw vertex;
+    seated = rw vertex actor.0;
   }
 
   pub may_turn : Meets (Holds setup now key table me trace) a (At.Take 0)

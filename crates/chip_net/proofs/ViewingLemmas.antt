@@ -3,9 +3,10 @@
 use Rattle.chip_net.proofs.Names.{nat_tests, ◌≡◌, ◌≢◌, ℕ, zero, suc, ◌+◌, ◌<◌, true, List, [], ◌∷◌, ◌++◌, length}
 use Rattle.chip_net.proofs.Names.{length-append, set, Option, Some, None, refl, sym, ap, ◌∙◌, arith, slice_get}
 use Rattle.chip_net.proofs.Names.{slice_get_read, get_or_from_slice_get, get_or_push, get_or_append_left, dite, some}
-use Rattle.chip_net.proofs.Names.{some-ne-none, ℕ_discrete, get_elem?, cond_yes, cond_no, Setting, stays_ended, Step}
-use Rattle.chip_net.proofs.Names.{Part, does, part_by, part-append, History, View, find, grow, grow_view, steps_or_none}
+use Rattle.chip_net.proofs.Names.{some-ne-none, ℕ_discrete, get_elem?, Setting, stays_ended, Step}
+use Rattle.chip_net.proofs.Names.{Part, does, part_by, part-append, History, View, find, grow, grow_view}
 use Rattle.chip_net.proofs.Names.{did_in, Has, drop_part, one_part, view_of_one, parts_below, IsAlone, join_views}
+use Rattle.chip_net.proofs.Names.{eq-eqb, ne_eqb, Log, done_by, part_of}
 
 pub some_is : {A : Type 0} (a b : A) → Some a ≡ Some b → a ≡ b
 some_is a b e = cc
@@ -32,11 +33,7 @@ find_else p q x (y ∷ ys) ne = let rest = find_else p q x ys ne in grind (arith
 -- what a view has of the part that stepped
 pub grown_has : (p : ℕ) (x : Step) (v w : View) → Has p v → w ≡ grow_view p x v → (did_in p w ≡ did_in p v ++ x ∷ [])
     × Has p w
-grown_has p x v w has is =
-    let found : find p w.parts ≡ Some (did_in p v ++ x ∷ []) = ap (λ (u : View). find p u.parts) is
-    ∙ find_here p x v.parts (did_in p v) has in
-    let same : did_in p w ≡ did_in p v ++ x ∷ [] = ap steps_or_none found in
-    (same, found ∙ ap Some (sym same))
+grown_has p x v w has is = rw (is, find_here p x v.parts (did_in p v) has) (refl, refl)
 
 -- a part after more events of its own
 pub part_append : (g : Setting) (s : Part) (xs ys : List Step) → part_by g s (xs ++ ys) ≡ part_by g (part_by g s xs) ys
@@ -46,6 +43,15 @@ part_append g s xs ys = part-append g xs ys s
 pub ended_by : (g : Setting) (xs : List Step) (s : Part) → s.ended ≡ true → (part_by g s xs).ended ≡ true
 ended_by g [] s on = on
 ended_by g (x ∷ xs) s on = ended_by g xs (does g x s) (stays_ended g x.event s.ended on)
+
+-- what a part did in a log that goes on with a step of its own, or of another
+pub done_more : (g : Setting) (p : ℕ) (x : Step) (log : Log) → part_of g x.event ≡ p
+    → done_by g p (x ∷ log) ≡ done_by g p log ++ x ∷ []
+done_more g p x log mine = rw (eq-eqb (part_of g x.event) p mine)
+
+pub done_else : (g : Setting) (p : ℕ) (x : Step) (log : Log) → part_of g x.event ≢ p
+    → done_by g p (x ∷ log) ≡ done_by g p log
+done_else g p x log other = rw (ne_eqb (part_of g x.event) p other)
 
 -- ---- taking out
 
@@ -63,39 +69,34 @@ one_else p q found other = grind (arith, nat_tests)
 
 pub alone_has : (p : ℕ) (v : View) (did : List Step) → find p v.parts ≡ Some did
     → find p (view_of_one p v).parts ≡ Some did
-alone_has p v did has = ap (λ (o : Option (List Step)). find p (one_part p o)) has ∙ cond_yes p p (Some did) None refl
+alone_has p v did has = rw (has, eq-eqb p p refl)
 
 -- ---- a part that stands alone
 
 pub alone_there : (p : ℕ) (v : View) → IsAlone p v → Has p v
-alone_there p v is = ap (find p) is ∙ cond_yes p p (Some (did_in p v)) None refl
+alone_there p v is = rw (is, eq-eqb p p refl)
 
 pub alone_else : (p q : ℕ) (v : View) → IsAlone p v → p ≢ q → find q v.parts ≡ None
-alone_else p q v is other = ap (find q) is ∙ cond_no p q (Some (did_in p v)) None other
+alone_else p q v is other = rw (is, ne_eqb p q other)
 
 pub did_alone : (p : ℕ) (v : View) (did : List Step) → v.parts ≡ record { part = p; did = did } ∷ [] → did ≡ did_in p v
-did_alone p v did is = sym (ap steps_or_none (ap (find p) is ∙ cond_yes p p (Some did) None refl))
+did_alone p v did is = rw (is, eq-eqb p p refl)
 
 pub alone_by : (p : ℕ) (v : View) (did : List Step) → v.parts ≡ record { part = p; did = did } ∷ [] → IsAlone p v
-alone_by p v did is = is ∙ ap (λ (d : List Step). record { part = p; did = d } ∷ []) (did_alone p v did is)
+alone_by p v did is = rw (← did_alone p v did is) is
 
 pub taken_alone : (p : ℕ) (v : View) (did : List Step) → find p v.parts ≡ Some did → IsAlone p (view_of_one p v)
 taken_alone p v did has = alone_by p (view_of_one p v) did (ap (one_part p) has)
 
 pub grown_alone : (p : ℕ) (x : Step) (v w : View) → IsAlone p v → w ≡ grow_view p x v → IsAlone p w
-grown_alone p x v w alone is = alone_by p w (did_in p v ++ x ∷ []) (ap (λ (u : View). u.parts) is
-    ∙ ap (grow p x) alone
-    ∙ ap (λ (d : List Step). record { part = p; did = d } ∷ [])
-    (cond_yes p p (did_in p v ++ x ∷ []) (did_in p v) refl))
+grown_alone p x v w alone is = alone_by p w (did_in p v ++ x ∷ []) (rw (is, alone, eq-eqb p p refl))
 
 -- what a view finds that took in such a part
 pub joined_here : (p : ℕ) (v w : View) → IsAlone p w → find p (join_views v w).parts ≡ Some (did_in p w)
-joined_here p v w is = ap (λ (l : List History). find p (l ++ v.parts)) is
-    ∙ cond_yes p p (Some (did_in p w)) (find p v.parts) refl
+joined_here p v w is = rw (is, eq-eqb p p refl)
 
 pub joined_else : (p q : ℕ) (v w : View) → IsAlone p w → p ≢ q → find q (join_views v w).parts ≡ find q v.parts
-joined_else p q v w is other = ap (λ (l : List History). find q (l ++ v.parts)) is
-    ∙ cond_no p q (Some (did_in p w)) (find q v.parts) other
+joined_else p q v w is other = rw (is, ne_eqb p q other)
 
 -- ---- the opening
 
@@ -113,6 +114,6 @@ pub pushed_each : {X : Type 0} (at : ℕ → X) (xs : List X) (y : X) (n : ℕ) 
     → slice_get (xs ++ y ∷ []) p ≡ Some (at p)
 pushed_each at xs y n count each here p l = slice_get_read (xs ++ y ∷ []) (n + 1) p (at p)
     (let a = length-append xs (y ∷ []) in omega arith) l (sym (dite (ℕ_discrete p n)
-    (λ same. get_or_push xs y (at p) p (count ∙ sym same) ∙ here ∙ ap at (sym same))
+    (λ same. rw (get_or_push xs y (at p) p (omega arith), same) here)
     (λ other. get_or_append_left xs (y ∷ []) (at p) p (omega arith)
     ∙ get_or_from_slice_get xs p (at p) (at p) (each p (omega arith)))))

@@ -1,7 +1,6 @@
-use Rattle.chip_net.proofs.Names.{◌≡◌, ◌≢◌, ℕ, ◌+◌, ◌++◌, List, length, map, take, drop, set, Some, sym, ap, ◌∙◌, subst}
-use Rattle.chip_net.proofs.Names.{arith, dite, ℕ_discrete, slice_get, slice_get_within, NetId, ActorKnown, at_net}
-use Rattle.chip_net.proofs.Names.{seatless, Mine, find}
-use Rattle.chip_net.proofs.ViewingLemmas.{some_is}
+use Rattle.chip_net.proofs.Names.{◌≡◌, ◌≢◌, ℕ, ◌+◌, ◌++◌, List, length, map, take, drop, set, Some, sym, ◌∙◌}
+use Rattle.chip_net.proofs.Names.{arith, dite, ℕ_discrete, slice_get, slice_get_within, ActorKnown, at_net}
+use Rattle.chip_net.proofs.Names.{seatless, find}
 use Rattle.chip_net.proofs.MeetingLemmas.{same_count, next, all_are, map_at, all_back}
 use Rattle.chip_net.proofs.actor.meet.Goals.{After-lend-arg-1, After-take_back-arg-1}
 use Rattle.chip_net.proofs.actor.meet.Goals as goal
@@ -31,8 +30,7 @@ was : (c : After-take_back-arg-1) → (a : ActorKnown) × (slice_get c.args.acto
 was c = map_at seatless c.args.actors.now c.loop-index-2.index c.deref_mut-in-loop-index-2.result.now (takes c).0
 
 vertex_is : (c : After-take_back-arg-1) → c.deref_mut-in-loop-index-2.result.now.vertex ≡ c.loop-index-2.index
-vertex_is c = ap (λ (a : ActorKnown). a.vertex) (was c).2 ∙ (c.requires.actors c.loop-index-2.index (was c).0
-    (was c).1).1
+vertex_is c = rw (was c).2 (c.requires.actors c.loop-index-2.index (was c).0 (was c).1).1
 
 pub lend-requires-clause-net : goal.lend-requires-clause-net
 lend-requires-clause-net c = (c.requires.actors c.loop-index.index c.deref_mut.result.now (lends c).0).0
@@ -44,11 +42,9 @@ loop-index-preserved c =
     let vertex = (c.requires.actors c.loop-index.index c.deref_mut.result.now d.0).1 in
     record {
       table = c.lend.ensures.same ∙ i.table;
-      items = ap (set c.loop-index.actors c.loop-index.index) c.lend.ensures.lent ∙ d.1;
+      items = rw c.lend.ensures.lent d.1;
       parts = λ v a l at. dite (ℕ_discrete c.deref_mut.result.now.vertex v)
-          (λ same. subst (λ (n : ℕ). find n c.lend.new.seat.me.0.parts ≡ Some a.did) same (c.lend.ensures.part
-          ∙ ap (λ (b : ActorKnown). Some b.did) (some_is c.deref_mut.result.now a
-          (sym d.0 ∙ ap (slice_get c.args.actors.now) (sym vertex ∙ same) ∙ at))))
+          (λ same. let part = c.lend.ensures.part in let here = d.0 in cc)
           (λ other. c.lend.ensures.others v other ∙ i.parts v a (omega (arith, l, other, vertex)) at);
       others = λ p l. c.lend.ensures.others p (λ e.
           let n = slice_get_within c.args.actors.now c.loop-index.index c.deref_mut.result.now d.0 in
@@ -63,19 +59,18 @@ loop-index-2-init c =
     let me = c.look.ensures.same.1 in record {
       table = c.look.ensures.same.0 ∙ i.table;
       items = all_are seatless c.args.actors.now c.loop-index.actors c.loop-index.index i.items past;
-      parts = λ v a l at. ap (λ (m : Mine). find v m.0.parts) me
-          ∙ i.parts v a (let z = slice_get_within c.args.actors.now v a at in omega (arith, past, z)) at;
-      others = λ p l. ap (λ (m : Mine). find p m.0.parts) me ∙ i.others p l;
+      parts = λ v a l at. rw me
+          (i.parts v a (let z = slice_get_within c.args.actors.now v a at in omega (arith, past, z)) at);
+      others = λ p l. rw me (i.others p l);
     }
 
 pub take_back-requires-clause-net : goal.take_back-requires-clause-net
-take_back-requires-clause-net c = ap (λ (a : ActorKnown). a.net.setting) (was c).2
-    ∙ ap (λ (n : NetId). n.setting) (c.requires.actors c.loop-index-2.index (was c).0 (was c).1).0
+take_back-requires-clause-net c =
+    rw ((was c).2, (c.requires.actors c.loop-index-2.index (was c).0 (was c).1).0)
 
 pub take_back-requires-clause-part : goal.take_back-requires-clause-part
-take_back-requires-clause-part c = ap (λ (n : ℕ). find n c.loop-index-2.seat.me.0.parts) (vertex_is c)
-    ∙ c.loop-index-2.invariant.parts c.loop-index-2.index (was c).0 (omega arith) (was c).1
-    ∙ ap (λ (a : ActorKnown). Some a.did) (sym (was c).2)
+take_back-requires-clause-part c = rw (vertex_is c, (was c).2)
+    (c.loop-index-2.invariant.parts c.loop-index-2.index (was c).0 (omega arith) (was c).1)
 
 pub loop-index-2-preserved : goal.loop-index-2-preserved
 loop-index-2-preserved c =
@@ -85,7 +80,7 @@ loop-index-2-preserved c =
     → find p c.take_back.new.seat.me.0.parts ≡ find p c.loop-index-2.seat.me.0.parts =
     (λ p other. c.take_back.ensures.others p (λ e. other (sym (vertex_is d) ∙ e))) in record {
       table = c.take_back.ensures.same ∙ i.table;
-      items = ap (set c.loop-index-2.actors c.loop-index-2.index) c.take_back.ensures.back ∙ (takes d).1;
+      items = rw c.take_back.ensures.back (takes d).1;
       parts = λ v a l at. left v (λ e. omega arith) ∙ i.parts v a (omega arith) at;
       others = λ p l. left p (λ e.
           let n = slice_get_within c.args.actors.now c.loop-index-2.index (was d).0 (was d).1 in omega (arith, l, e, n))

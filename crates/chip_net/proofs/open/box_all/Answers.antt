@@ -1,5 +1,4 @@
-use Rattle.chip_net.proofs.Names.{◌∷◌, ◌++◌, [], ◌∙◌, List, sym, ap, arith, append_assoc, append-nil, nil_from_length}
-use Rattle.chip_net.proofs.Names.{ActorKnown}
+use Rattle.chip_net.proofs.Names.{arith, append_assoc, append-nil, nil_from_length}
 use Rattle.chip_net.proofs.open.box_all.Goals as goal
 
 pub loop-owned-init : goal.loop-owned-init
@@ -7,16 +6,11 @@ loop-owned-init c = rw c.into_iter-owned-iterator.ensures.into_iter_gives.0
 
 pub loop-owned-preserved : goal.loop-owned-preserved
 loop-owned-preserved c =
-    ap (λ (xs : List ActorKnown). xs ++ c.next.new.self.rest.items) c.in_ok-push.ensures.items
-    ∙ append_assoc c.loop-owned.actors.items (c.in_ok-new.field-0 ∷ []) c.next.new.self.rest.items
-    ∙ ap (λ (a : ActorKnown). c.loop-owned.actors.items ++ a ∷ c.next.new.self.rest.items) c.in_ok-new.ensures
-    ∙ sym (ap (λ (xs : List ActorKnown). c.loop-owned.actors.items ++ xs) c.in-Some.ensures.steps.0)
-    ∙ c.loop-owned.invariant
+    rw (c.in_ok-push.ensures.items, append_assoc, c.in_ok-new.ensures, ← c.in-Some.ensures.steps.0)
+    c.loop-owned.invariant
 
 pub returns : goal.returns
 returns c =
     let none = c.in-None.ensures.steps.0 in
     let empty = nil_from_length c.loop-owned.owned-iterator.rest.items (omega (arith, none)) in
-    sym (append-nil c.loop-owned.actors.items)
-    ∙ sym (ap (λ (xs : List ActorKnown). c.loop-owned.actors.items ++ xs) empty)
-    ∙ c.loop-owned.invariant
+    rw (empty, append-nil) at c.loop-owned.invariant

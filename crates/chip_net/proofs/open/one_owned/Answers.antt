@@ -1,4 +1,4 @@
-use Rattle.chip_net.proofs.Names.{ℕ, Bool, ◌∙◌, subst, arith, ChipGame, setting_with, opening_part, StandsFor}
+use Rattle.chip_net.proofs.Names.{arith}
 use Rattle.chip_net.proofs.open.one_owned.Goals as goal
 
 pub returns-in_err-state-clause-others : goal.returns-in_err-state-clause-others
@@ -12,6 +12,5 @@ returns-clause-others g c p l = c.take_out-own.ensures.others p (λ e. omega ari
 
 pub new-requires-3-clause-state : goal.new-requires-3-clause-state
 new-requires-3-clause-state g c =
-    let fed : Bool = c.setting-setting.result.now.fed in
-    subst (λ (z : ChipGame × ℕ). StandsFor (setting_with z.0 z.1 fed) (opening_part (setting_with z.0 z.1 fed)) c.in_ok-state.state)
-    (λ i. (c.game.ensures.value i, (c.cells.ensures.number ∙ c.ring.ensures.value) i)) (c.in_ok-state.ensures.opened fed)
+    rw (c.game.ensures.value, c.cells.ensures.number, c.ring.ensures.value) at
+    (c.in_ok-state.ensures.opened c.setting-setting.result.now.fed)

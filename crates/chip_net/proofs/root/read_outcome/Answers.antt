@@ -1,6 +1,6 @@
-use Rattle.chip_net.proofs.Names.{◌≡◌, ℕ, List, length, sym, ap, ◌∙◌, subst, arith, with_items, with_items_is}
-use Rattle.chip_net.proofs.Names.{length-map, ChipGame, Multigraph, fired_in, Outcome, IsAfter, game_from, IsNegative}
-use Rattle.chip_net.proofs.Names.{no_fault, Setting, AreGiven, NetId, RootKnown, root_part, ReadingsState, IsReading}
+use Rattle.chip_net.proofs.Names.{◌≡◌, length, ap, ◌∙◌, arith, with_items, with_items_is}
+use Rattle.chip_net.proofs.Names.{length-map, ChipGame, Multigraph, fired_in, Outcome, game_from}
+use Rattle.chip_net.proofs.Names.{no_fault, AreGiven, root_part, ReadingsState, IsReading}
 use Rattle.chip_net.proofs.FinishingLemmas.{few, game, none_negative, finishes}
 use Rattle.chip_net.proofs.root.read_outcome.Goals.{After-deref_mut}
 use Rattle.chip_net.proofs.root.read_outcome.Goals as goal
@@ -8,8 +8,7 @@ use Rattle.chip_net.proofs.root.read_outcome.Goals as goal
 -- the receipt begins as the root
 reading : (c : After-deref_mut)
     → IsReading c.args.actor c.read_all.new.self c.read_all.result c.args.actor.net.setting.game.graph.vertices
-reading c = subst (λ (r : RootKnown). IsReading r c.read_all.new.self c.read_all.result r.net.setting.game.graph.vertices)
-    c.into_receipt-state.ensures.receipt c.read_all.ensures
+reading c = rw c.into_receipt-state.ensures.receipt at c.read_all.ensures
 
 fired_is : (c : After-deref_mut) → c.fired.inside.fired.items ≡ c.read_all.result.fired
 fired_is c = ap (λ (t : ReadingsState). t.fired) c.fired.view_is
@@ -22,13 +21,11 @@ abbrev played : After-deref_mut → ChipGame
 played c = game c.into_receipt-state.ensures.setting (reading c) c.given.result.now (are c)
 
 graph_is : (c : After-deref_mut) → c.graph-graph.result.now ≡ c.args.actor.net.setting.game.graph
-graph_is c = c.graph-graph.ensures.value
-    ∙ ap (λ (k : ChipGame). k.graph) (c.game.ensures.value ∙ ap (λ (g : Setting). g.game) (c.setting.ensures.value
-    ∙ ap (λ (n : NetId). n.setting) (sym c.requires.net)))
+graph_is c = rw (c.graph-graph.ensures.value, c.game.ensures.value, c.setting.ensures.value, c.requires.net)
 
 game_is : (c : After-deref_mut)
     → game_from c.graph-graph.result.now c.given.result.now c.args.actor.net.setting.game.limit ≡ played c
-game_is c = λ j. game_from (graph_is c j) c.given.result.now c.args.actor.net.setting.game.limit
+game_is c = rw (graph_is c)
 
 pub after_from-requires-clause-few_chips : goal.after_from-requires-clause-few_chips
 after_from-requires-clause-few_chips c =
@@ -50,8 +47,7 @@ pub unreachable-requires : goal.unreachable-requires
 unreachable-requires c =
     let d = (goal.at.unreachable-requires c).After-deref_mut in
     no_fault (played d) c.fired.inside.fired.items c.in-Err.field-0
-    (subst (λ (z : ChipGame × List ℕ). IsNegative z.0 z.1 c.in-Err.field-0)
-    (λ j. (game_is d j, c.deref.ensures.value j)) (c.in-Err.ensures.cases c.args.actor.net.setting.game.limit))
+    (rw (game_is d, c.deref.ensures.value) at (c.in-Err.ensures.cases c.args.actor.net.setting.game.limit))
     (none_negative c.into_receipt-state.ensures.setting (reading d) c.given.result.now
     (are d) c.fired.inside.fired.items (fired_is d))
 
@@ -68,6 +64,4 @@ returns c =
     (c.after_from.auto.into ∙ c.deref_mut.ensures.len) in
     finishes c.into_receipt-state.ensures.setting (reading d) c.given.result.now (are d) o (fired_is d)
     (ap (λ (t : ReadingsState). t.over) c.fired.view_is) (ap (λ (t : ReadingsState). t.sealed) c.fired.view_is)
-    (subst (λ (z : ChipGame × List ℕ × List ℕ). IsAfter z.0 z.1 z.2)
-    (λ j. (game_is d j, c.deref.ensures.value j, sym into j))
-    (c.in-Ok.ensures.cases c.args.actor.net.setting.game.limit))
+    (rw into (rw (game_is d, c.deref.ensures.value) at (c.in-Ok.ensures.cases c.args.actor.net.setting.game.limit)))

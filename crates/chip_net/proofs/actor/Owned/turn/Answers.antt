@@ -1,5 +1,5 @@
-use Rattle.chip_net.proofs.Names.{◌≡◌, ◌<◌, ◌∙◌, sym, ap, subst, arith, StandsFor, Setting, Part, Turn, NetId}
-use Rattle.chip_net.proofs.Names.{ActorKnown, MakesTurn, MakesTurnBy, known, part_known}
+use Rattle.chip_net.proofs.Names.{◌≡◌, ◌<◌, ap, subst, arith, StandsFor, Setting, Part}
+use Rattle.chip_net.proofs.Names.{ActorKnown, MakesTurnBy, known, part_known}
 use Rattle.chip_net.specs.contracts.actor.Owned.{the_view}
 use Rattle.chip_net.proofs.LayingLemmas.{some_words}
 use Rattle.chip_net.proofs.AnsweringLemmas.{own_is, alone_has_part, worked, waiting, idle}
@@ -16,30 +16,25 @@ returns-clause-turn c =
     let trace = c.turn_over-work.new.words.trace.now in
     let own = c.args.self.now in
     let after : ActorKnown = the_view record { state = a; setting = i.setting; seat = seat; knew = i.knew; trace = trace } in
-    let here : c.setting.result.now ≡ own.net.setting = c.setting.ensures.value ∙ sym (ap (λ (n : NetId). n.setting) c.requires.net)
-    in
-    let mine : c.setting.result.now ≡ i.setting.value = here ∙ sym (ap (λ (k : ActorKnown). k.net.setting) c.self.view_is) in
+    let here : c.setting.result.now ≡ own.net.setting = rw (c.setting.ensures.value, c.requires.net) in
+    let mine : c.setting.result.now ≡ i.setting.value = rw (← c.self.view_is) at here in
     let some : 0 < c.args.net.now.table.words = some_words _ c.words.ensures.count c.words.ensures.setting in
     let part = alone_has_part a.vertex seat.table_id seat.me i.knew.value.me c.turn_over-work.ensures.actor.0.alone in
     let then : known seat.table_id c.setting.result.now a.vertex trace.room seat.me.0 ≡ after =
-    (λ j. known (sym part.0 j) (mine j) a.vertex trace.room (sym part.1 j).0) in
-    let made : MakesTurnBy own after work = subst (λ (z : ActorKnown × ActorKnown). MakesTurnBy z.0 z.1 work)
-    (λ j. (
-      ((λ k. known i.seat.table_id (mine k) i.state.vertex i.trace.room i.seat.me.0)
-          ∙ own_is i.seat.table_id i.setting.value i.state.vertex i.trace.room i.seat.me i.knew.value.me own c.self.view_is
-          c.args.net.now c.requires.net some) j,
-      then j,
-    )) c.turn_over-work.ensures.turn in
+    rw (part.0, part.1, mine) in
+    let begun : known i.seat.table_id c.setting.result.now i.state.vertex i.trace.room i.seat.me.0 ≡ own =
+    rw mine (own_is i.seat.table_id i.setting.value i.state.vertex i.trace.room i.seat.me i.knew.value.me own
+    c.self.view_is c.args.net.now c.requires.net some) in
+    let made : MakesTurnBy own after work = rw (begun, then) at c.turn_over-work.ensures.turn in
     let at : a.vertex ≡ own.vertex = ap (λ (k : ActorKnown). k.vertex) made.record_is in
     let stands : StandsFor own.net.setting (part_known after) a = subst (λ (z : Setting × Part). StandsFor z.0 z.1 a)
     (λ j. (here j, ap part_known then j)) c.turn_over-work.ensures.actor.1 in
     elim c.if-work-gt0.branch [
-      | then-work-gt0 w ↦ subst (λ (t : Turn). MakesTurn own after t) (sym w.result-is)
-          (worked own after work made w.if-work-gt0.true)
-      | else-work-gt0+then-passive w ↦ subst (λ (t : Turn). MakesTurn own after t) (sym w.result-is)
+      | then-work-gt0 w ↦ rw w.result-is (worked own after work made w.if-work-gt0.true)
+      | else-work-gt0+then-passive w ↦ rw w.result-is
           (idle own after work made (let l = w.if-work-gt0.false in omega arith) a at stands
-          (sym w.if-passive.true ∙ w.passive.ensures.part own.net.setting (part_known after) stands))
-      | else-work-gt0+else-passive w ↦ subst (λ (t : Turn). MakesTurn own after t) (sym w.result-is)
+          (rw w.if-passive.true at (w.passive.ensures.part own.net.setting (part_known after) stands)))
+      | else-work-gt0+else-passive w ↦ rw w.result-is
           (waiting own after work made (let l = w.if-work-gt0.false in omega arith) a at stands
-          (sym w.if-passive.false ∙ w.passive.ensures.part own.net.setting (part_known after) stands))
+          (rw w.if-passive.false at (w.passive.ensures.part own.net.setting (part_known after) stands)))
     ]

@@ -1,6 +1,5 @@
-use Rattle.chip_net.proofs.Names.{◌≡◌, ◌<◌, refl, sym, ap, ◌∙◌, subst, Setting, root, stopper, saw, met_rules, Read}
-use Rattle.chip_net.proofs.Names.{Fits, of_vertex, index_of, did_in, SomeLog, NetId, RootKnown, root_part, IsOver}
-use Rattle.chip_net.proofs.Names.{HasDoneIn}
+use Rattle.chip_net.proofs.Names.{◌≡◌, refl, sym, subst, root, stopper, met_rules, Read}
+use Rattle.chip_net.proofs.Names.{of_vertex, index_of, did_in, root_part, IsOver}
 use Rattle.chip_net.specs.contracts.receipt.Receipt.{the_view}
 use Rattle.chip_net.proofs.RulingLemmas.{Due, words_at, Made, made, event_asked, event_told}
 use Rattle.chip_net.proofs.RootingLemmas.{known_after}
@@ -10,7 +9,7 @@ use Rattle.chip_net.proofs.receipt.Receipt.read.Goals as goal
 
 -- the receipt is of this net
 net_is : (c : After-words) → (the_view c.self.inside).net ≡ c.args.net.now
-net_is c = ap (λ (r : RootKnown). r.net) c.self.view_is ∙ c.requires.net
+net_is c = rw (← c.self.view_is) at c.requires.net
 
 due : (c : After-words) → Due c.self.inside.setting.value c.self.inside.seat.me (root c.self.inside.setting.value)
     (Read c.args.vertex)
@@ -20,16 +19,14 @@ due c =
       mine = refl;
       has = c.self.invariant.0;
       met = met_rules c.self.inside.setting.value (Read c.args.vertex) (root_part (the_view c.self.inside)) (
-        subst (λ (r : RootKnown). c.args.vertex < r.net.setting.game.graph.vertices)
-            (sym c.self.view_is) c.requires.vertex,
+        rw (← c.self.view_is) at c.requires.vertex,
         over.0,
         over.1,
       );
     }
 
 at : (c : After-words) → c.fired_word-word.result ≡ index_of c.self.inside.setting.value (of_vertex c.args.vertex)
-at c = c.fired_word-word.ensures ∙ ap (λ (g : Setting). index_of g (of_vertex c.args.vertex))
-    (c.setting.ensures.value ∙ sym (ap (λ (n : NetId). n.setting) (net_is c)))
+at c = rw (c.fired_word-word.ensures, c.setting.ensures.value, ← net_is c)
 
 pub load-requires : goal.load-requires
 load-requires c =
@@ -50,19 +47,17 @@ returns-clause-reads c =
     let m = read (goal.at.returns-clause-reads c).After-load in
     let g = c.self.inside.setting.value in (
       known_after m c.self.view_is c.load.ensures.0,
-      subst (λ (r : RootKnown). SomeLog r.net.setting
-          (λ log. Fits r.net.setting log (saw (Read c.args.vertex) c.load.result) × HasDoneIn r log)) c.self.view_is
+      rw (← c.self.view_is) (record {
+        log = m.stepped.log;
+        legal = m.stepped.legal;
+        has = (
+          m.stepped.has.0,
           record {
-            log = m.stepped.log;
-            legal = m.stepped.legal;
-            has = (
-              m.stepped.has.0,
-              record {
-                root_did = m.stepped.has.1 (root g) (did_in (root g) c.self.inside.seat.me.0) c.self.invariant.0;
-                stopper_did = m.stepped.has.1 (stopper g);
-              },
-            );
+            root_did = m.stepped.has.1 (root g) (did_in (root g) c.self.inside.seat.me.0) c.self.invariant.0;
+            stopper_did = m.stepped.has.1 (stopper g);
           },
+        );
+      }),
     )
 
 pub returns-clause-word : goal.returns-clause-word

@@ -1,16 +1,16 @@
-use Rattle.chip_net.proofs.Names.{◌≡◌, ◌<◌, refl, sym, ap, ◌∙◌, subst, root, root_edge, Settle, of_acks, index_of}
-use Rattle.chip_net.proofs.Names.{part_of_view, Grows, RootKnown, the_view}
+use Rattle.chip_net.proofs.Names.{◌≡◌, ◌<◌, refl, root, root_edge, Settle, of_acks, index_of}
+use Rattle.chip_net.proofs.Names.{part_of_view, Grows, the_view}
 use Rattle.chip_net.proofs.RulingLemmas.{Due, words_at, event_asked, event_told}
-use Rattle.chip_net.proofs.RootingLemmas.{settle_own, settle_due, can, still_root, makes_event, settles_at}
+use Rattle.chip_net.proofs.RootingLemmas.{settle_own, settle_due, can, still_root, makes_event}
 use Rattle.chip_net.proofs.root_actor.RootActor.settle.Goals.{After-words, After-load-seen}
 use Rattle.chip_net.proofs.root_actor.RootActor.settle.Goals as goal
 
 -- the root is of this net
 net_is : (c : After-words) → (the_view c.self.inside).net ≡ c.args.net.now
-net_is c = ap (λ (r : RootKnown). r.net) c.self.view_is ∙ c.requires.net
+net_is c = rw (← c.self.view_is) at c.requires.net
 
 there : (c : After-words) → c.args.vertex < c.self.inside.setting.value.game.graph.vertices
-there c = subst (λ (r : RootKnown). c.args.vertex < r.net.setting.game.graph.vertices) (sym c.self.view_is) c.requires.vertex
+there c = rw (← c.self.view_is) at c.requires.vertex
 
 due : (c : After-words) → Due c.self.inside.setting.value c.self.inside.seat.me (root c.self.inside.setting.value)
     (Settle (root_edge c.self.inside.setting.value c.args.vertex))
@@ -19,9 +19,7 @@ due c = settle_due c.self.inside.setting.value c.args.vertex (there c) c.self.in
 -- the word is that of its acknowledgements
 word_is : (c : After-words)
     → c.args.word ≡ index_of c.self.inside.setting.value (of_acks (root_edge c.self.inside.setting.value c.args.vertex))
-word_is c = subst
-    (λ (r : RootKnown). c.args.word ≡ index_of r.net.setting (of_acks (root_edge r.net.setting c.args.vertex)))
-    (sym c.self.view_is) c.requires.word
+word_is c = rw (← c.self.view_is) at c.requires.word
 
 pub load-seen-requires : goal.load-seen-requires
 load-seen-requires c =
@@ -56,7 +54,6 @@ pub returns : goal.returns
 returns c =
     let d = (goal.at.returns c).After-words in (
       c.load-seen.result,
-      settles_at (ap (λ (r : RootKnown). root_edge r.net.setting c.args.vertex) c.self.view_is)
-          (makes_event (due d) (settle_own c.self.inside.setting.value c.args.vertex (there d)) c.self.invariant _
-          (told (goal.at.returns c).After-load-seen) c.self.view_is c.load-seen.ensures.0),
+      rw (← c.self.view_is) (makes_event (due d) (settle_own c.self.inside.setting.value c.args.vertex (there d))
+          c.self.invariant _ (told (goal.at.returns c).After-load-seen) refl c.load-seen.ensures.0),
     )

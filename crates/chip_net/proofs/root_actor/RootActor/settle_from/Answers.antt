@@ -1,5 +1,4 @@
-use Rattle.chip_net.proofs.Names.{◌≡◌, ◌-◌, refl, sym, ap, ◌∙◌, arith, Setting, root_edge, of_acks, index_of}
-use Rattle.chip_net.proofs.Names.{settles_from, NetId}
+use Rattle.chip_net.proofs.Names.{◌≡◌, ◌-◌, refl, ◌∙◌, arith}
 use Rattle.chip_net.proofs.RootingLemmas.{does_none, does_net, settles_more, holds_by}
 use Rattle.chip_net.proofs.root_actor.RootActor.settle_from.Goals as goal
 
@@ -8,8 +7,7 @@ loop-vertex-init c = record {
   from = omega arith;
   within = omega arith;
   settles = does_none c.args.self.now _
-      (let none : c.args.first - c.args.first ≡ 0 = omega arith in
-      ap (settles_from c.args.self.now.net.setting c.args.first) none);
+      (let none : c.args.first - c.args.first ≡ 0 = omega arith in rw none);
   holds = λ none. none;
 }
 
@@ -18,9 +16,8 @@ loop-vertex-preserved c =
     let i = c.loop-vertex.invariant in record {
       from = (let l = i.from in omega arith);
       within = (let l = c.loop-vertex-test.true in
-          let n = c.vertices-vertex-end.ensures.value
-          ∙ ap (λ (g : Setting). g.game.graph.vertices) (c.setting-setting.ensures.value ∙ sym (ap (λ (n : NetId). n.setting) c.requires.net))
-          in omega arith);
+          let n = rw (c.setting-setting.ensures.value, ← c.requires.net) at c.vertices-vertex-end.ensures.value in
+          omega arith);
       settles = settles_more c.args.first c.loop-vertex.vertex i.from i.settles c.settle.ensures.1;
       holds = λ none. holds_by c.settle.ensures.1 (λ e o. refl) (i.holds none);
     }
@@ -29,6 +26,4 @@ pub settle-requires-clause-word : goal.settle-requires-clause-word
 settle-requires-clause-word c =
     let net : c.loop-vertex.self.net ≡ c.args.net.now =
     does_net c.loop-vertex.invariant.settles ∙ c.requires.net in
-    let setting = c.setting-setting.ensures.value ∙ sym (ap (λ (n : NetId). n.setting) net) in
-    c.root_acks-words.ensures.words c.loop-vertex.vertex
-    ∙ ap (λ (g : Setting). index_of g (of_acks (root_edge g c.loop-vertex.vertex))) setting
+    rw (c.setting-setting.ensures.value, ← net) at (c.root_acks-words.ensures.words c.loop-vertex.vertex)

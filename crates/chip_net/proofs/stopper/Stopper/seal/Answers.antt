@@ -1,5 +1,5 @@
-use Rattle.chip_net.proofs.Names.{◌≡◌, ◌<◌, not, refl, sym, ap, ◌∙◌, arith, graph_edges, stopper, met_rules, Seal}
-use Rattle.chip_net.proofs.Names.{Grows, NetId, StopperKnown, stopper_part}
+use Rattle.chip_net.proofs.Names.{◌≡◌, ◌<◌, not, refl, ap, arith, graph_edges, stopper, met_rules, Seal}
+use Rattle.chip_net.proofs.Names.{Grows, stopper_part}
 use Rattle.chip_net.specs.contracts.stopper.Stopper.{the_view}
 use Rattle.chip_net.proofs.ViewingLemmas.{alone_there}
 use Rattle.chip_net.proofs.RulingLemmas.{Due, words_at, event_asked, event_told}
@@ -9,12 +9,12 @@ use Rattle.chip_net.proofs.stopper.Stopper.seal.Goals as goal
 
 -- the stopper's net is this one
 net_is : (c : After-fetch_or-arg-1) → (the_view c.self.inside).net ≡ c.args.net.now
-net_is c = ap (λ (s : StopperKnown). s.net) c.self.view_is ∙ c.requires.net
+net_is c = rw (← c.self.view_is) at c.requires.net
 
 there : (c : After-fetch_or-arg-1) → c.args.edge < graph_edges c.self.inside.setting.value
 there c =
-    let edges : c.graph_edges.result ≡ graph_edges c.self.inside.setting.value = c.graph_edges.ensures.value
-    ∙ ap graph_edges (c.setting-setting.ensures.value ∙ sym (ap (λ (n : NetId). n.setting) (net_is c))) in
+    let edges : c.graph_edges.result ≡ graph_edges c.self.inside.setting.value =
+    rw (c.graph_edges.ensures.value, c.setting-setting.ensures.value, ← net_is c) in
     let l = c.if-edge-graph_edges.false in
     omega arith
 

@@ -1,24 +1,21 @@
 -- Serves Ends.antt.
 -- A new actor stands for the opening of its vertex.
-use Rattle.chip_actor.proofs.Names.{◌≡◌, ℕ, zero, suc, get_or, ◌+◌, ◌<◌, false, eqb, List, [], ◌∷◌, length, map, None}
-use Rattle.chip_actor.proofs.Names.{refl, sym, ap, ◌∙◌, subst, arith, dite, ℕ_discrete, Contains, IsStrictlyIncreasing}
-use Rattle.chip_actor.proofs.Names.{get_or_default, edges_out, degree, Setting, IsSetting, cond_yes, cond_no}
-use Rattle.chip_actor.proofs.Names.{tested_none, HeadState, new_head, Books, IsSound, IsFresh, stand_in_order}
-use Rattle.chip_actor.proofs.Names.{all_edges, tail_of, opening_part, first_put, OutEnd, OutEnds, InEnds, on_edge}
-use Rattle.chip_actor.proofs.Names.{no_out, fresh_out, IsFreshOuts, IsFreshIns, Actor, StandsFor, opening_keeps}
-use Rattle.chip_actor.proofs.Names.{first_few, outs_rise, ins_rise, among_new_outs, among_new_ins}
+use Rattle.chip_actor.proofs.Names.{◌≡◌, ℕ, zero, suc, get_or, ◌+◌, ◌<◌, eqb, List, [], ◌∷◌, length, map, None, refl}
+use Rattle.chip_actor.proofs.Names.{sym, ◌∙◌, arith, Contains, get_or_default, edges_out, degree, Setting, IsSetting}
+use Rattle.chip_actor.proofs.Names.{tested_none, new_head, Books, IsSound, IsFresh, stand_in_order, all_edges}
+use Rattle.chip_actor.proofs.Names.{tail_of, opening_part, first_put, OutEnds, InEnds, on_edge, no_out, fresh_out}
+use Rattle.chip_actor.proofs.Names.{IsFreshOuts, IsFreshIns, Actor, StandsFor, opening_keeps, first_few, outs_rise}
+use Rattle.chip_actor.proofs.Names.{ins_rise, among_new_outs, among_new_ins, nat_tests}
 
 -- an end that was made from its number
 made_end : {T : Type 0} (none : T) (f : ℕ → T) (xs : List ℕ) (e : ℕ) → Contains xs e
     → on_edge none xs (map f xs) e ≡ f e
-made_end {T} none f xs e (k, l, at) = by_place xs k l (sym (get_or_default xs k e 0 l) ∙ at)
+made_end {T} none f xs e (k, l, at) = by_place xs k l (rw (get_or_default xs k 0 e l) (at))
   where
     by_place : (xs : List ℕ) (k : ℕ) → k < length xs → get_or xs k 0 ≡ e → on_edge none xs (map f xs) e ≡ f e
     by_place [] k l at = absurd (omega arith)
-    by_place (x ∷ xs) zero l at = cond_yes x e (f x) (on_edge none xs (map f xs) e) at ∙ ap f at
-    by_place (x ∷ xs) (suc k) l at = dite (ℕ_discrete x e)
-        (λ y. cond_yes x e (f x) (on_edge none xs (map f xs) e) y ∙ ap f y)
-        (λ n. cond_no x e (f x) (on_edge none xs (map f xs) e) n ∙ by_place xs k (omega arith) at)
+    by_place (x ∷ xs) zero l at = grind (arith, nat_tests)
+    by_place (x ∷ xs) (suc k) l at = let rest = by_place xs k (omega arith) at in grind (arith, nat_tests)
 
 module _ (g : Setting) (v : ℕ) (setting : IsSetting g) (vertex : v < g.game.graph.vertices) (os : OutEnds) (is : InEnds)
     (b : Books)
@@ -41,7 +38,7 @@ module _ (g : Setting) (v : ℕ) (setting : IsSetting g) (vertex : v < g.game.gr
         refused = 0;
       } in n)
       → StandsFor g (opening_part g) a
-  opens a eq = subst (StandsFor g (opening_part g)) (sym eq) record {
+  opens a eq = rw eq record {
     knows = record {
       setting = setting;
       vertex = vertex;
@@ -52,7 +49,7 @@ module _ (g : Setting) (v : ℕ) (setting : IsSetting g) (vertex : v < g.game.gr
       ins = ins.edges;
       detect_outs = stand_in_order b.outs (edges_out g.game.graph v) sound.outs fresh.outs (outs_rise g.game.graph v);
       detect_ins = stand_in_order b.ins is.edges sound.ins fresh.ins
-          (subst IsStrictlyIncreasing (sym ins.edges) (ins_rise g.game.graph v)) ∙ ins.edges;
+          (rw ins.edges (ins_rise g.game.graph v)) ∙ ins.edges;
     };
     kept = opening_keeps g setting.game v;
     few_chips = omega arith;
@@ -60,30 +57,16 @@ module _ (g : Setting) (v : ℕ) (setting : IsSetting g) (vertex : v < g.game.gr
     chips = refl;
     fired = refl;
     halt = refl;
-    outs = λ e at.
-        (λ j. on_edge no_out (outs.edges j) (outs.ends j) e)
-        ∙ made_end no_out (fresh_out g.game.graph g.ring) (edges_out g.game.graph v) e (among_new_outs g v vertex e at)
-        ∙ (λ j. let n : OutEnd = record {
-          mult = (fresh_out g.game.graph g.ring e).mult;
-          pending = 0;
-          link = record {
-            edge = e;
-            ring = g.ring;
-            claims = none_claimed e at j;
-            held = None;
-            clear = false;
-            refused = false;
-          };
-        } in n);
-    ins = λ e at. ap (λ (ts : List HeadState). on_edge (new_head 0 1) is.edges ts e) ins.ends
-        ∙ made_end (new_head 0 1) (λ (e : ℕ). new_head e g.ring) is.edges e
-        (subst (λ (xs : List ℕ). Contains xs e) (sym ins.edges) (among_new_ins g v vertex e at));
+    outs = λ e at. rw (outs.edges, outs.ends, ← none_claimed e at) (made_end no_out (fresh_out g.game.graph g.ring)
+        (edges_out g.game.graph v) e (among_new_outs g v vertex e at));
+    ins = λ e at. rw ins.ends (made_end (new_head 0 1) (λ (e : ℕ). new_head e g.ring) is.edges e
+        (rw ins.edges (among_new_ins g v vertex e at)));
     books = record {
       sound = sound;
       parent = fresh.parent;
       got = λ e at. fresh.ins.messages e;
       acked = λ e at. fresh.ins.answered e;
-      sent = λ e at. fresh.outs.messages e ∙ none_claimed e at;
+      sent = λ e at. rw (← none_claimed e at) (fresh.outs.messages e);
       settled = λ e at. fresh.outs.answered e;
     };
     pending = sym (tested_none (all_edges g) (λ e. eqb (tail_of g e) v) (λ e. 0) (λ e l on. refl));
@@ -93,5 +76,4 @@ module _ (g : Setting) (v : ℕ) (setting : IsSetting g) (vertex : v < g.game.gr
     where
       none_claimed : (e : ℕ) → tail_of g e ≡ v → 0 ≡ length (first_put g e) + 0
       none_claimed e at = let few = first_few g e
-          (Rattle.chip_part.proofs.PartLemmas.tail_inside g e (subst (λ (n : ℕ). n < g.game.graph.vertices) (sym at) vertex))
-          in omega arith
+          (Rattle.chip_part.proofs.PartLemmas.tail_inside g e (rw (at) vertex)) in omega arith

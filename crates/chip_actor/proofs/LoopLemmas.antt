@@ -1,11 +1,11 @@
 -- Serves Medium.antt, Actor.antt, Ends.antt.
 -- What the loops of a turn do at one edge: what the calls there ask, and how the turn goes on.
-use Rattle.chip_actor.proofs.Names.{◌≡◌, ◌≢◌, ℕ, ◌+◌, ◌-◌, ◌^◌, ◌<◌, ◌≤◌, Bool, true, false, cond, eqb, ltb, List}
-use Rattle.chip_actor.proofs.Names.{length, get_or, set, Some, None, refl, sym, ap, ◌∙◌, subst, arith, lt-ltb, Message}
+use Rattle.chip_actor.proofs.Names.{◌≡◌, ◌≢◌, ℕ, ◌+◌, ◌-◌, ◌^◌, ◌<◌, ◌≤◌, ltb}
+use Rattle.chip_actor.proofs.Names.{length, get_or, set, Some, None, refl, arith, Message}
 use Rattle.chip_actor.proofs.Names.{HeadState, head_cell, head_after_take, message_taken, message_limit, Books, IsSound}
 use Rattle.chip_actor.proofs.Names.{in_edges, out_edges, got_of, sent_of, settled_of, Gets, Acknowledges, Settles}
 use Rattle.chip_actor.proofs.Names.{IsSlotOf, OutEnd, OutEnds, InEnds, out_on, in_on, AreApart, ChangesIn, Actor}
-use Rattle.chip_actor.proofs.Names.{is_passive_now, Holding, MayServe, Serves, Meets, Moves}
+use Rattle.chip_actor.proofs.Names.{is_passive_now, Holding, MayServe, Serves, Meets, Moves, nat_tests}
 use Rattle.chip_actor.proofs.StandingLemmas.{books_ins, books_outs, few_got}
 use Rattle.chip_actor.proofs.MakingLemmas.{settle_made, ack_made, message_seen, take_made, take_empty}
 use Rattle.chip_actor.proofs.MediumLemmas.{Stands, DueBy, may_serve, can_do, moves_one, one_if}
@@ -38,38 +38,32 @@ pub out_at : {a : Actor} {os : OutEnds} {index edge : ℕ} {end : OutEnd} → Fo
     → IsSlotOf a.outs.edges (record { index = index; edge = edge }) × (end ≡ out_on a.outs edge)
 out_at {a} {os} {index} {edge} {end} here =
     let within : index < length a.outs.edges =
-    (let one = here.apart.one_each in let all = ap (λ (o : OutEnds). length o.edges) here.same in let l = here.below in
-    omega arith) in
+    rw (← here.same) (let one = here.apart.one_each in let l = here.below in omega arith) in
     let e : ℕ = get_or a.outs.edges index 0 in
     let there : end ≡ out_on a.outs e = ends.out_there here.same here.apart index within here.was in
     let slot : IsSlotOf a.outs.edges (record { index = index; edge = e }) = record { within = within; edge = refl } in
-    let is : e ≡ edge = sym (here.tells ∙ ap (λ (o : OutEnd). o.link.edge)
-    (there ∙ here.stands.2.outs e (out_mine here.stands.2 slot))) in
-    (record { within = within; edge = is }, there ∙ ap (out_on a.outs) is)
+    let is : e ≡ edge = rw (here.tells, there, here.stands.2.outs e (out_mine here.stands.2 slot)) refl in
+    (record { within = within; edge = is }, rw (← is) there)
 
 in_at : {a : Actor} {is : InEnds} {index edge : ℕ} {end : HeadState} → FoundIn a is index edge end
     → IsSlotOf a.ins.edges (record { index = index; edge = edge }) × (end ≡ in_on a.ins edge)
 in_at {a} {is} {index} {edge} {end} here =
     let within : index < length a.ins.edges =
-    (let one = here.apart.one_each in let all = ap (λ (i : InEnds). length i.edges) here.same in let l = here.below in
-    omega arith) in
+    rw (← here.same) (let one = here.apart.one_each in let l = here.below in omega arith) in
     let e : ℕ = get_or a.ins.edges index 0 in
     let there : end ≡ in_on a.ins e = ends.in_there here.same here.apart index within here.was in
     let slot : IsSlotOf a.ins.edges (record { index = index; edge = e }) = record { within = within; edge = refl } in
-    let same : e ≡ edge = sym (here.tells ∙ ap (λ (h : HeadState). h.edge)
-    (there ∙ here.stands.2.ins e (in_mine here.stands.2 slot))) in
-    (record { within = within; edge = same }, there ∙ ap (in_on a.ins) same)
+    let same : e ≡ edge = rw (here.tells, there, here.stands.2.ins e (in_mine here.stands.2 slot)) refl in
+    (record { within = within; edge = same }, rw (← same) there)
 
 -- a slot of its edges is one of its books
 pub out_in_books : {a : Actor} {os : OutEnds} {index edge : ℕ} {end : OutEnd} → FoundOut a os index edge end
     → IsSlotOf (out_edges a.detect) (record { index = index; edge = edge })
-out_in_books {a} {os} {index} {edge} here = subst (λ (xs : List ℕ). IsSlotOf xs (record { index = index; edge = edge }))
-    (sym (books_outs here.stands.0 here.stands.1 a here.stands.2)) (out_at here).0
+out_in_books {a} here = rw (books_outs here.stands.0 here.stands.1 a here.stands.2) (out_at here).0
 
 pub in_in_books : {a : Actor} {is : InEnds} {index edge : ℕ} {end : HeadState} → FoundIn a is index edge end
     → IsSlotOf (in_edges a.detect) (record { index = index; edge = edge })
-in_in_books {a} {is} {index} {edge} here = subst (λ (xs : List ℕ). IsSlotOf xs (record { index = index; edge = edge }))
-    (sym (books_ins here.stands.0 here.stands.1 a here.stands.2)) (in_at here).0
+in_in_books {a} here = rw (books_ins here.stands.0 here.stands.1 a here.stands.2) (in_at here).0
 
 -- ---- settles
 
@@ -77,13 +71,9 @@ in_in_books {a} {is} {index} {edge} here = subst (λ (xs : List ℕ). IsSlotOf x
 settles_none : (b : Books) (e : ℕ) → Settles b b e 0
 settles_none b e = record {
   ins = refl;
-  outs = record { edges = refl; messages = λ i. refl; answered = λ i. none (settled_of b i) (eqb e i) };
+  outs = record { edges = refl; messages = λ i. refl; answered = λ i. grind (arith, nat_tests) };
   parent = refl;
 }
-  where
-    none : (n : ℕ) (here : Bool) → n ≡ cond here (n + 0) n
-    none n true = omega arith
-    none n false = refl
 
 module _ {a : Actor} {os : OutEnds} {index edge : ℕ} {end : OutEnd} (here : FoundOut a os index edge end) where
   settle_due : DueBy a (At.Settle index) (Do.Settle edge) (At.Settle (index + 1))
@@ -117,7 +107,7 @@ module _ {a : Actor} {os : OutEnds} {index edge : ℕ} {end : OutEnd} (here : Fo
 
 -- what is settled counts if it is something new
 pub counts_more : (n work : ℕ) → 0 < n → work + 1 ≡ work + one_if (ltb 0 n)
-counts_more n work some = ap (λ (b : Bool). work + one_if b) (sym (lt-ltb 0 n some))
+counts_more n work some = grind (arith, nat_tests)
 
 -- ---- acknowledgements
 
@@ -144,7 +134,7 @@ module _ {a : Actor} {is : InEnds} {index edge : ℕ} {end : HeadState} (here : 
 module _ {a : Actor} {is : InEnds} {index edge : ℕ} {end : HeadState} (here : FoundIn a is index edge end) {cell : ℕ}
     (at-cell : cell ≡ head_cell end) where
   take_due : DueBy a (At.Take index) (Do.Take edge cell) (At.Take (index + 1))
-  take_due = take_by (in_at here).0 (at-cell ∙ ap head_cell (in_at here).1)
+  take_due = take_by (in_at here).0 (rw (← (in_at here).1) at-cell)
 
   pub take_asks : {H : Holding} → Meets H a (At.Take index) → MayServe H (Do.Take edge cell)
   take_asks meets = may_serve meets take_due
@@ -155,10 +145,8 @@ module _ {a : Actor} {is : InEnds} {index edge : ℕ} {end : HeadState} (here : 
 
   take_changes : (seen : ℕ) (new : HeadState) → new ≡ head_after_take seen end
       → ChangesIn a.ins (ins_with new) edge (head_after_take seen)
-  take_changes seen new after = subst
-      (λ (es : List ℕ). ChangesIn a.ins (record { edges = es; ends = set is.ends index new }) edge
-      (head_after_take seen)) (ap (λ (i : InEnds). i.edges) here.same)
-      (ends.changes_in here.same here.apart (in_at here).0 here.was (head_after_take seen) after)
+  take_changes seen new after = rw (← here.same)
+      (ends.changes_in refl here.apart (rw here.same (in_at here).0) here.was (head_after_take seen) after)
 
   module _ {H K : Holding} {seen : ℕ} (meets : Meets H a (At.Take index)) (serves : Serves H K (Do.Take edge cell) seen)
     where
@@ -167,8 +155,7 @@ module _ {a : Actor} {is : InEnds} {index edge : ℕ} {end : HeadState} (here : 
       take_few =
           let can = can_do meets take_due serves in
           let few = few_got can.0 can.1 a can.2 edge can.3.0 in
-          let was = ap (λ (h : HeadState). h.taken) ((in_at here).1 ∙ can.2.ins edge can.3.0) in
-          omega arith
+          rw ((in_at here).1, can.2.ins edge can.3.0) (omega arith)
 
       -- a message is one that fits: the chips are few, and so are the messages
       pub take_fits : {m : Message} → Some m ≡ message_taken seen end
@@ -185,11 +172,11 @@ module _ {a : Actor} {is : InEnds} {index edge : ℕ} {end : HeadState} (here : 
     pub take_nothing : None ≡ message_taken seen end
         → Moves H a (At.Take index) K (record a { ins = ins_with new }) (At.Take (index + 1)) 0
     take_nothing none = moves_one take_due serves (take_empty a edge seen (ins_with new) (take_changes seen new after)
-        (none ∙ ap (message_taken seen) (in_at here).1)) refl
+        (rw (← (in_at here).1) none)) refl
 
     pub take_moves : {m : Message} → Some m ≡ message_taken seen end → {b : Books} → Gets a.detect b edge → IsSound b
         → Moves H a (At.Take index) K (record a { ins = ins_with new; chips = a.chips + seen; detect = b })
         (At.Take (index + 1)) 1
     take_moves {m} got {b} gets sound = moves_one take_due serves
         (take_made a edge seen (ins_with new) b m (take_changes seen new after)
-        (got ∙ ap (message_taken seen) (in_at here).1) gets sound) refl
+        (rw (← (in_at here).1) got) gets sound) refl

@@ -1,16 +1,16 @@
 -- Serves Ends.antt, Actor.antt.
 -- Each call that makes an event: what its parts ask, and what it comes to.
 use Rattle.chip_actor.proofs.Names.{nat_tests, ◌≡◌, ◌≢◌, ℕ, zero, suc, ◌+◌, ◌-◌, ◌*◌, ◌<◌, ◌≤◌, ◌^◌, ◌%◌, Bool, cond}
-use Rattle.chip_actor.proofs.Names.{if◌then◌else◌, eqb, [], ◌∷◌, length, sum, Option, Some, None, IsTrue}
-use Rattle.chip_actor.proofs.Names.{option_to_list, refl, sym, ap, ◌∙◌, subst, arith, eq-eqb, Contains, sum_below}
+use Rattle.chip_actor.proofs.Names.{if◌then◌else◌, eqb, length, sum, Option, Some, None, IsTrue}
+use Rattle.chip_actor.proofs.Names.{option_to_list, refl, ap, ◌∙◌, arith, eq-eqb, Contains, sum_below}
 use Rattle.chip_actor.proofs.Names.{tested_term, one_at_most, Message, claims_in, TailState, HeadState, claim_words}
 use Rattle.chip_actor.proofs.Names.{put_of, tail_after_clear, message_claimed, message_taken, head_after_take, Tail}
 use Rattle.chip_actor.proofs.Names.{claims_of, message_limit, Books, IsSound, sent_of, settled_of, Gets, Acknowledges}
 use Rattle.chip_actor.proofs.Names.{Sends, Settles, parent_goes_with_all, within_owed, all_edges, tail_of, mult_of}
 use Rattle.chip_actor.proofs.Names.{Cause, cause, Take, Ack, Fire, Clear, Claim, Put, Halt, Settle, Reply, message_of}
-use Rattle.chip_actor.proofs.Names.{does, saw, Done, Got, Sent, Empty, Full, Sealed, OutEnd, OutEnds, InEnds, out_on}
+use Rattle.chip_actor.proofs.Names.{Done, Got, Sent, Empty, Full, Sealed, OutEnd, OutEnds, InEnds, out_on}
 use Rattle.chip_actor.proofs.Names.{in_on, ChangesOut, ChangesOuts, ChangesIn, out_after_clear, out_after_claim}
-use Rattle.chip_actor.proofs.Names.{out_after_put, out_after_fire, Actor, StandsFor, SomePart, WhateverPart}
+use Rattle.chip_actor.proofs.Names.{out_after_put, out_after_fire, Actor, SomePart, WhateverPart}
 use Rattle.chip_actor.proofs.Names.{is_passive_now, Makes, CanDo, rules_met, at_most_one}
 use Rattle.chip_actor.proofs.StandingLemmas.{out_inside, may_ack_is, few_fired}
 use Rattle.chip_actor.proofs.SteppingLemmas.{takes, takes_none, settles, acknowledges, halts, clears, may_look, claims}
@@ -49,9 +49,8 @@ take_empty a e seen is change message = λ g s stands can.
 pub settle_made : (a : Actor) (e seen more : ℕ) (b : Books) → more ≡ seen - settled_of a.detect e
     → Settles a.detect b e more → IsSound b → Makes a (record a { detect = b }) (Settle e) seen (Done more)
 settle_made a e seen more b is change sound = λ g s stands can. (
-  settles g s a stands e seen can.0 can.1 b (subst (λ (n : ℕ). Settles a.detect b e n) is change) sound,
-  ap Done (is
-      ∙ ap (λ (n : ℕ). seen - n) (stands.books.settled e can.0)),
+  settles g s a stands e seen can.0 can.1 b (rw (← is) change) sound,
+  rw (is, stands.books.settled e can.0) refl,
   refl,
 )
 
@@ -76,8 +75,7 @@ pub halt_made : (a : Actor) (seen : ℕ) (halt : Option Cause) (n : ℕ) → Wha
     → n ≡ (if eqb a.refused 0 then 1 else 0) → Makes a (record a { halt = halt }) (Halt a.vertex) seen (Done n)
 halt_made a seen halt n is reply = λ g s stands can. (
   halts g s a stands a.vertex seen refl can.1 halt (is g s stands),
-  ap Done (reply
-      ∙ ap (λ (r : ℕ). if eqb r 0 then 1 else 0) stands.refused),
+  rw (reply, stands.refused) refl,
   refl,
 )
 
@@ -92,11 +90,10 @@ pub clear_made : (a : Actor) (e seen : ℕ) (os : OutEnds) (words : Option (ℕ 
     → Makes a (record a { outs = os }) (Clear e) seen (clear_reply words)
 clear_made a e seen os words is change = λ g s stands can.
     let link : Tail = (s.out e).link in
-    let looked = is ∙ (λ j. claim_words (tail_after_clear seen (stands.outs e can.0 j).link))
-    ∙ ap claim_words (Rattle.chip_link.proofs.StatesLemmas.tail_clears e g.ring link seen
-    (may_look g s a stands e can.0 can.1)) in (
+    let looked = Rattle.chip_link.proofs.StatesLemmas.tail_clears e g.ring link seen
+    (may_look g s a stands e can.0 can.1) in (
       clears g s a stands e seen can.0 can.1 os change,
-      ap clear_reply looked ∙ grind (arith, nat_tests),
+      rw (is, stands.outs e can.0, looked) (grind (arith, nat_tests)),
       refl,
     )
 
@@ -127,9 +124,7 @@ may_claim a e seen (g, s, stands, can) =
     let fewer = out.fewer_yet met.0 pends in
     let fired = few_fired g s a stands in
     let here = stands.outs e at in
-    let pending-is : (out_on a.outs e).pending ≡ (s.out e).pending = ap (λ (o : OutEnd). o.pending) here in
-    let claims-is : (out_on a.outs e).link.claims ≡ claims_of (s.out e).link = ap (λ (o : OutEnd). o.link.claims) here
-    in
+    let pending-is : (out_on a.outs e).pending ≡ (s.out e).pending = rw here refl in
     let of-all = tested_term (all_edges g) (λ i. eqb (tail_of g i) a.vertex) (λ i. (s.out i).pending) e (omega arith)
     (eq-eqb _ _ at) in
     let all-is = stands.pending in
@@ -143,8 +138,8 @@ may_claim a e seen (g, s, stands, can) =
     let made = out.all_made in
     let sent = stands.books.sent e at in
     record {
-      clear = ap (λ (o : OutEnd). o.link.clear) here ∙ met.2;
-      word = can.2 ∙ sym claims-is;
+      clear = rw here met.2;
+      word = rw here can.2;
       some_chips = omega arith;
       few_chips = (let few = stands.few_pending in omega arith);
       pending = omega arith;
@@ -162,10 +157,7 @@ claim_made a e seen os b m change message sends sound = λ g s stands can.
     let n : ℕ = claims_of (s.out e).link in
     let here = stands.outs e can.0 in let hit : seen ≡ n = grind (arith, nat_tests) in
     let is_message : m ≡ message_of e n (s.out e).pending = grind (arith, nat_tests) in (
-      subst (λ (k : ℕ). StandsFor g (does g (saw (Claim e) seen) s)
-          (record a { outs = os; detect = b; pending = a.pending - k; unput = a.unput + 1 }))
-          (sym (ap (λ (x : Message). x.count) is_message))
-          (claims g s a stands e seen can.0 can.1 os change hit b sends sound),
+      rw is_message (claims g s a stands e seen can.0 can.1 os change hit b sends sound),
       grind (arith, nat_tests),
       refl,
     )
@@ -184,8 +176,7 @@ claim_sealed a e seen os change message = λ g s stands can.
 pub some_unput : (a : Actor) (e seen : ℕ) → SomePart a (λ g s. CanDo g s a.vertex (Put e) seen) → 1 ≤ a.unput
 some_unput a e seen (g, s, stands, can) =
     let met = rules_met g (Put e) s can.1 in
-    let one : length (option_to_list (s.out e).link.held) ≡ 1 = ap (λ (h : Option ℕ). length (option_to_list h)) met.1.1
-    in
+    let one : length (option_to_list (s.out e).link.held) ≡ 1 = rw met.1.1 refl in
     let of-all = tested_term (all_edges g) (λ i. eqb (tail_of g i) a.vertex)
     (λ i. length (option_to_list (s.out i).link.held)) e met.0 (eq-eqb _ _ can.0) in
     let all-is = stands.unput in
@@ -198,16 +189,10 @@ put_made a e seen os held is change = λ g s stands can.
     let met = rules_met g (Put e) s can.1 in
     let count : ℕ = met.1.0 in
     let cell : ℕ = (claims_of (s.out e).link - 1) % g.ring in
-    let was : Some held ≡ Some (cell, count) = sym is ∙ ap (λ (o : OutEnd). put_of o.link) (stands.outs e can.0)
-    ∙ (λ j. Rattle.std.proofs.Common.option_map (λ (c : ℕ). (cell, c)) (met.1.1 j)) in
+    let was = rw (stands.outs e can.0, met.1.1) at is in
     let same : held ≡ (cell, count) = cc in
-    let total : count ≡ sum (option_to_list (s.out e).link.held) =
-    (let t : sum (option_to_list (s.out e).link.held)
-    ≡ count + 0 = ap (λ (h : Option ℕ). sum (option_to_list h)) met.1.1 ∙ sum_one count in omega arith) in
-    (puts g s a stands e seen can.0 can.1 os change, ap (λ (h : ℕ × ℕ). Done h.1) same ∙ ap Done total, refl)
-  where
-    sum_one : (n : ℕ) → sum (n ∷ []) ≡ n + 0
-    sum_one n = omega arith
+    let total : count ≡ sum (option_to_list (s.out e).link.held) = rw met.1.1 (omega arith) in
+    (puts g s a stands e seen can.0 can.1 os change, rw (same, ← total) refl, refl)
 
 -- ---- a firing
 
@@ -231,8 +216,7 @@ pub fire_made : (a : Actor) (k seen : ℕ) (os : OutEnds) → ChangesOuts a.outs
     (Fire a.vertex k) seen (Done (a.fired + k))
 fire_made a k seen os change = λ g s stands can. (
   fires g s a stands a.vertex k seen refl can.1 os change,
-  ap
-      (λ (n : ℕ). Done (n + k)) stands.fired,
+  rw stands.fired refl,
   refl,
 )
 

@@ -1,20 +1,18 @@
 -- Serves Medium.antt, Actor.antt.
 -- How a turn over a medium goes on, step by step.
 use Rattle.chip_actor.proofs.Names.{nat_tests, ◌≡◌, ◌≢◌, ℕ, ◌+◌, ◌*◌, ◌^◌, ◌<◌, ◌≤◌, Bool, cond, List, [], ◌∷◌, ◌++◌}
-use Rattle.chip_actor.proofs.Names.{reverse, length, Some, None, refl, sym, ap, ◌∙◌, subst, add_assoc, arith}
-use Rattle.chip_actor.proofs.Names.{append_assoc, reverse-append, Setting, Act, Part, Event, unmet_rule, Reply, Step}
-use Rattle.chip_actor.proofs.Names.{part_of, does, saw, act_of, event_of, CanDo, IsDue, Makes, Actor, StandsFor}
-use Rattle.chip_actor.proofs.Names.{SomePart, WhateverPart, turn, Cursor, rest_of_turn, IsAt, GoesBy, most_left, DueAt}
-use Rattle.chip_actor.proofs.Names.{MayBeAt, work_of, is_work, Holding, IsDueBy, MayServe, Serves, Meets, GoesOn, Moves}
-use Rattle.chip_actor.proofs.Names.{MakesTurnOver, AreOf, Passes, event_of_act, act_is_some}
-use Rattle.chip_part.specs.Turn.{ins_of, outs_of}
+use Rattle.chip_actor.proofs.Names.{reverse, length, Some, None, refl, sym, ◌∙◌, subst, arith, append_assoc}
+use Rattle.chip_actor.proofs.Names.{reverse-append, Setting, Act, Part, Event, unmet_rule, Reply, Step, part_of, does}
+use Rattle.chip_actor.proofs.Names.{saw, act_of, event_of, CanDo, IsDue, Makes, Actor, StandsFor, SomePart}
+use Rattle.chip_actor.proofs.Names.{WhateverPart, Cursor, IsAt, GoesBy, most_left, DueAt, MayBeAt, is_work, Holding}
+use Rattle.chip_actor.proofs.Names.{IsDueBy, MayServe, Serves, Meets, GoesOn, Moves, MakesTurnOver, AreOf, Passes}
+use Rattle.chip_actor.proofs.Names.{event_of_act, act_is_some, in_edges, out_edges, append-nil}
 use Rattle.chip_part.specs.declared.cursor.Cursor.TheVariants as At
 use Rattle.chip_part.specs.declared.act.Act.TheVariants as Do
 
 -- the latest first, of two lists one after another
 reversed_more : (xs ys ds : List Step) → reverse (xs ++ ys) ++ ds ≡ reverse ys ++ (reverse xs ++ ds)
-reversed_more xs ys ds = ap (λ (zs : List Step). zs ++ ds) (reverse-append xs ys)
-    ∙ append_assoc (reverse ys) (reverse xs) ds
+reversed_more xs ys ds = rw (reverse-append xs ys, append_assoc)
 
 both_of : (g : Setting) (v : ℕ) (xs ys : List Step) → AreOf g v xs → AreOf g v ys → AreOf g v (xs ++ ys)
 both_of g v [] ys left right = right
@@ -38,16 +36,15 @@ moves_on {H} {K} {L} {a} {b} {c} {x} {y} {z} {n} {m} first second = record {
         one.0 ++ two.0,
         two.1,
         record {
-          held = subst (λ (xs : List Step). L g v xs two.1) (sym (reversed_more one.0 two.0 ds)) two.2.held;
+          held = rw (reversed_more one.0 two.0 ds) two.2.held;
           mine = both_of g v one.0 two.0 go.mine two.2.mine;
           stands = two.2.stands;
           vertex = two.2.vertex;
           fits = two.2.fits;
-          rest = λ xs after h. subst (λ (zs : List Step). rest_of_turn g v x s zs after)
-              (sym (append_assoc one.0 two.0 xs))
-              (go.rest (two.0 ++ xs) after (two.2.rest xs after h));
-          counted = λ xs. ap (work_of g s) (append_assoc one.0 two.0 xs) ∙ go.counted (two.0 ++ xs)
-              ∙ ap (λ (k : ℕ). n + k) (two.2.counted xs) ∙ sym (add_assoc n m (work_of g two.1 xs));
+          rest = λ xs after h.
+              rw (append_assoc one.0 two.0 xs) (go.rest (two.0 ++ xs) after (two.2.rest xs after h));
+          counted = λ xs. rw (append_assoc one.0 two.0 xs)
+              (let a = go.counted (two.0 ++ xs) in let b = two.2.counted xs in omega arith);
         },
       );
 }
@@ -80,24 +77,19 @@ moves_none = moves_past (λ g s stands at. (at, record { rest = λ ds after h. h
 pub turn_ends : {H : Holding} {a : Actor} {x : Cursor} → DueAt a x None → Moves H a x H a At.Over 0
 turn_ends {H} {a} {x} due = moves_past (λ g s stands at. (
   tt,
-  record {
-    fewer = omega arith;
-    rest = λ ds after h.
-        subst (λ (t : Part). rest_of_turn g a.vertex x s ds t) (sym h.1)
-        (subst (λ (xs : List Step). rest_of_turn g a.vertex x s xs s) (sym h.0) (due g s stands at));
-  },
+  record { fewer = omega arith; rest = λ ds after h. rw (h.0, h.1) (due g s stands at) },
 ))
 
 -- two moves, of which one does not count
 pub then_over : {H K L : Holding} {a b c : Actor} {x y z : Cursor} {n : ℕ} → Moves H a x K b y n → Moves K b y L c z 0
     → Moves H a x L c z n
-then_over {H} {K} {L} {a} {b} {c} {x} {y} {z} {n} moved over = subst (λ (k : ℕ). Moves H a x L c z k)
-    (let same : n + 0 ≡ n = omega arith in same) (moves_on moved over)
+then_over {H} {K} {L} {a} {b} {c} {x} {y} {z} {n} moved over =
+    let same : n ≡ n + 0 = omega arith in rw same (moves_on moved over)
 
 pub over_then : {H K L : Holding} {a b c : Actor} {x y z : Cursor} {n : ℕ} → Moves H a x K b y 0 → Moves K b y L c z n
     → Moves H a x L c z n
-over_then {H} {K} {L} {a} {b} {c} {x} {y} {z} {n} over moves = subst (λ (k : ℕ). Moves H a x L c z k)
-    (let same : 0 + n ≡ n = omega arith in same) (moves_on over moves)
+over_then {H} {K} {L} {a} {b} {c} {x} {y} {z} {n} over moves =
+    let same : n ≡ 0 + n = omega arith in rw same (moves_on over moves)
 
 -- if a turn stands at this cursor, the event of this operation is due, and it goes on to the other
 pub record DueBy (a : Actor) (x : Cursor) (act : Act) (y : Cursor) : Type 0 where
@@ -148,8 +140,7 @@ moves_one {H} {K} {a} {b} {x} {y} {act} {seen} {r} {n} due serves makes is = rec
           vertex = made.2;
           fits = d.0.fits seen;
           rest = λ xs after h. d.0.rest seen xs after h;
-          counted = λ xs. ap (λ (k : ℕ). k + work_of g (does g made_step s) xs)
-              (sym (is ∙ (λ j. one_if (is_work (d.1 j) (made.1 j)))));
+          counted = λ xs. (let needed = d.1 in let told = made.1 in cc);
         },
       );
 }
@@ -158,8 +149,7 @@ moves_one {H} {K} {a} {b} {x} {y} {act} {seen} {r} {n} due serves makes is = rec
 pub meets_after : {H K : Holding} {a b : Actor} {x y : Cursor} {n : ℕ} → Meets H a x → Moves H a x K b y n → Meets K b y
 meets_after {H} {K} {a} {b} {x} {y} (g, ds, s, held, stands, at) moves =
     let m = moves.goes g ds s held stands at in
-    let r = subst (λ (w : ℕ). K g w (reverse m.0 ++ ds) m.1 × IsAt g w y m.1) (sym m.2.vertex) (m.2.held, m.2.fits) in
-    (g, reverse m.0 ++ ds, m.1, r.0, m.2.stands, r.1)
+    (g, reverse m.0 ++ ds, m.1, rw m.2.vertex m.2.held, m.2.stands, rw m.2.vertex m.2.fits)
 
 -- a step counts for one at most
 pub one_few : (n : ℕ) (b : Bool) → n ≡ one_if b → n ≤ 1
@@ -172,11 +162,8 @@ due_at {a} {x} {y} {e} {act} due needed = record {
   here = λ g s stands at.
       let goes = due g s stands at in
       let is = needed g s stands goes.mine goes.met in
-      let same : event_of a.vertex act ≡ e = ap (event_of a.vertex) is
-      ∙ event_of_act g a.vertex stands.knows.vertex s e goes.mine goes.met in (
-        subst (λ (i : Event). GoesBy g a.vertex s x i y) (sym same) goes,
-        is ∙ ap (λ (i : Event). act_of g i s) (sym same),
-      );
+      let same : event_of a.vertex act ≡ e =
+      rw is (event_of_act g a.vertex stands.knows.vertex s e goes.mine goes.met) in (rw same goes, rw same is);
 }
 
 -- what is due is an operation
@@ -191,10 +178,8 @@ pub fewer_since : {H K : Holding} {a b : Actor} {x y z : Cursor} {n : ℕ} {e : 
     → most_left (length a.ins.edges) (length a.outs.edges) z < most_left (length a.ins.edges) (length a.outs.edges) y
 fewer_since {H} {K} {a} {b} {x} {y} {z} (g, ds, s, held, stands, at) moved due =
     let m = moved.goes g ds s held stands at in
-    let fits = subst (λ (w : ℕ). IsAt g w y m.1) (sym m.2.vertex) m.2.fits in
-    subst (λ (l : List ℕ × List ℕ). most_left (length l.0) (length l.1) z < most_left (length l.0) (length l.1) y)
-    (λ j. ((ap (ins_of g) m.2.vertex ∙ sym stands.knows.ins) j, (ap (outs_of g) m.2.vertex ∙ sym stands.knows.outs) j))
-    (due g m.1 m.2.stands fits).fewer
+    let fits = rw (← m.2.vertex) at m.2.fits in
+    rw (stands.knows.ins, stands.knows.outs, ← m.2.vertex) (due g m.1 m.2.stands fits).fewer
 
 -- no more operations are left than this
 most_bound : (i o : ℕ) (x : Cursor) → most_left i o x ≤ (2 * i + 5 * o) + 6
@@ -203,19 +188,14 @@ most_bound i o _ = omega arith
 
 pub few_left : {a : Actor} (x : Cursor) → Stands a → most_left (length a.ins.edges) (length a.outs.edges) x < 2 ^ 32
 few_left {a} x (g, s, stands) =
-    let ins = ap (λ (xs : List ℕ). length xs) (stands.knows.detect_ins ∙ sym stands.knows.ins) in
-    let outs = ap (λ (xs : List ℕ). length xs) (stands.knows.detect_outs ∙ sym stands.knows.outs) in
-    let i = stands.books.sound.ins.few in
-    let o = stands.books.sound.outs.few in
-    let most = most_bound (length a.ins.edges) (length a.outs.edges) x in
-    omega arith
+    let i = stands.books.sound.ins.few in let o = stands.books.sound.outs.few in
+    let most = most_bound (length (in_edges a.detect)) (length (out_edges a.detect)) x in
+    rw (stands.knows.ins, stands.knows.outs, ← stands.knows.detect_ins, ← stands.knows.detect_outs) (omega arith)
 
 -- a whole turn
 pub whole_turn : {H K : Holding} {a b : Actor} {n : ℕ} → Moves H a (At.Take 0) K b At.Over n → MakesTurnOver H a K b n
 whole_turn {H} {K} {a} {b} {n} moves = λ g ds s held stands.
-    let m = moves.goes g ds s held stands tt in
-    let none = m.2.counted [] in
-    let done : m.0 ++ [] ≡ m.0 = Rattle.std.proofs.Common.append-nil m.0 in (
+    let m = moves.goes g ds s held stands tt in (
       m.0,
       m.1,
       record {
@@ -223,7 +203,7 @@ whole_turn {H} {K} {a} {b} {n} moves = λ g ds s held stands.
         mine = m.2.mine;
         stands = m.2.stands;
         vertex = m.2.vertex;
-        is_turn = subst (λ (xs : List Step). turn g a.vertex s xs m.1) done (m.2.rest [] m.1 (refl, refl));
-        counted = ap (work_of g s) (sym done) ∙ none ∙ (let z : n + 0 ≡ n = omega arith in z);
+        is_turn = rw append-nil at (m.2.rest [] m.1 (refl, refl));
+        counted = (let all = rw append-nil at (m.2.counted []) in omega arith);
       },
     )

@@ -1,13 +1,13 @@
 -- Serves Medium.antt, Actor.antt, Ends.antt.
 -- A send over a medium at one edge: what its calls ask, and how the turn goes on from each to the next.
-use Rattle.chip_actor.proofs.Names.{nat_tests, ◌≡◌, ◌≢◌, ℕ, ◌+◌, ◌-◌, ◌^◌, ◌<◌, ◌≤◌, Bool, true, false, ◌&&◌, eqb, List}
-use Rattle.chip_actor.proofs.Names.{Option, length, slice_index, Some, None, refl, sym, ap, ◌∙◌, subst, arith}
+use Rattle.chip_actor.proofs.Names.{nat_tests, ◌≡◌, ◌≢◌, ℕ, ◌+◌, ◌-◌, ◌^◌, ◌<◌, ◌≤◌, Bool, true, ◌&&◌, eqb}
+use Rattle.chip_actor.proofs.Names.{Option, length, slice_index, Some, None, refl, sym, subst, arith}
 use Rattle.chip_actor.proofs.Names.{length-set, get_or-set_same, set-set, Message, claims_in, TailState, tail_cell}
 use Rattle.chip_actor.proofs.Names.{may_clear, tail_after_clear, claim_words, tail_after_claim, message_claimed, put_of}
 use Rattle.chip_actor.proofs.Names.{tail_after_put, place_for, message_limit, Books, IsSound, out_edges, sent_of, Sends}
-use Rattle.chip_actor.proofs.Names.{IsSlotOf, Claim, OutEnd, out_on, with_end, AreApart, ChangesOut, out_after_clear}
-use Rattle.chip_actor.proofs.Names.{out_after_claim, out_after_put, Actor, WhateverPart, Makes, with_sent, cause}
-use Rattle.chip_actor.proofs.Names.{is_by_limit, Sent, Holding, MayServe, Serves, Meets, Moves, MayBeAt}
+use Rattle.chip_actor.proofs.Names.{IsSlotOf, OutEnd, out_on, with_end, AreApart, ChangesOut, out_after_clear}
+use Rattle.chip_actor.proofs.Names.{out_after_claim, out_after_put, Actor, WhateverPart, with_sent, cause}
+use Rattle.chip_actor.proofs.Names.{is_by_limit, Holding, MayServe, Serves, Meets, Moves, MayBeAt}
 use Rattle.chip_actor.proofs.SteppingLemmas.{may_look}
 use Rattle.chip_actor.proofs.MakingLemmas.{clear_made, MayClaim, may_claim, message_count, claim_made, claim_sealed}
 use Rattle.chip_actor.proofs.MakingLemmas.{put_made}
@@ -41,12 +41,10 @@ module _ {a : Actor} {index edge : ℕ} {end : OutEnd} {pending refused : ℕ} {
     same = refl;
     apart = record {
       ascending = on.apart.ascending;
-      one_each = length-set a.outs.ends index end ∙ on.apart.one_each;
+      one_each = rw length-set on.apart.one_each;
     };
-    below = (let l = on.below in let one = on.apart.one_each in let n = length-set a.outs.ends index end in omega
-        arith);
-    was = sym (get_or-set_same a.outs.ends index end end (let l = on.below in let one = on.apart.one_each in
-        omega arith));
+    below = rw length-set (omega (arith, on.below, on.apart.one_each));
+    was = sym (get_or-set_same a.outs.ends index end end (omega (arith, on.below, on.apart.one_each)));
     tells = on.tells;
   }
 
@@ -55,55 +53,44 @@ module _ {a : Actor} {index edge : ℕ} {end : OutEnd} {pending refused : ℕ} {
 
   -- another end there
   changes : {new : OutEnd} (f : OutEnd → OutEnd) → new ≡ f end → ChangesOut here.outs (with_end a.outs index new) edge f
-  changes {new} f is = subst
-      (λ (ts : List OutEnd). ChangesOut here.outs (record { edges = a.outs.edges; ends = ts }) edge f)
-      (set-set a.outs.ends index end new)
+  changes {new} f is = rw (← set-set a.outs.ends index end new)
       (ends.changes_out {os = here.outs} {now = here.outs} refl found.apart at_end.0 found.was f is)
 
   send_past : {H : Holding} → end.pending ≡ 0 → Moves H here (At.Send index) H here (At.Send (index + 1)) 0
-  send_past none = send_none at_end.0 (sym (ap (λ (o : OutEnd). o.pending) at_end.1) ∙ none)
+  send_past none = send_none at_end.0 (rw (← at_end.1) none)
 
   clear_due : {cell : ℕ} → end.pending ≢ 0 → cell ≡ tail_cell end.link
       → DueBy here (At.Send index) (Do.Clear edge cell) (At.Claim index)
-  clear_due pends at-cell = clear_by at_end.0 (subst (λ (o : OutEnd). o.pending ≢ 0) at_end.1 pends)
-      (at-cell ∙ ap (λ (o : OutEnd). tail_cell o.link) at_end.1)
+  clear_due pends at-cell = clear_by at_end.0 (rw (← at_end.1) pends) (rw (← at_end.1) at-cell)
 
   -- the look counts
   look_counts : MayBeAt here (At.Send index) → end.pending ≢ 0 → may_clear end.link ≡ true
   look_counts (g, s, stands, at) pends =
       let goes = ((clear_due pends refl).here g s stands at).0 in
-      ap (λ (o : OutEnd). may_clear o.link) (at_end.1 ∙ stands.outs edge goes.mine)
-      ∙ may_look g s here stands edge goes.mine goes.met
+      rw (at_end.1, stands.outs edge goes.mine) (may_look g s here stands edge goes.mine goes.met)
 
   claim_past : {H : Holding} → None ≡ claim_words end.link → Moves H here (At.Claim index) H here (At.Send (index + 1)) 0
-  claim_past none = claim_none at_end.0 (none ∙ ap (λ (o : OutEnd). claim_words o.link) at_end.1)
+  claim_past none = claim_none at_end.0 (rw (← at_end.1) none)
 
   claim_due : {w : ℕ × ℕ} → Some w ≡ claim_words end.link
       → DueBy here (At.Claim index) (Do.Claim edge w.0 w.1) (At.Store index)
-  claim_due words = claim_by at_end.0 (words ∙ ap (λ (o : OutEnd). claim_words o.link) at_end.1)
+  claim_due words = claim_by at_end.0 (rw (← at_end.1) words)
 
   put_due : {w : ℕ × ℕ} → put_of end.link ≡ Some w
       → DueBy here (At.Store index) (Do.Put edge w.0 w.1) (At.Send (index + 1))
-  put_due stored = store_by at_end.0 (sym stored ∙ ap (λ (o : OutEnd). put_of o.link) at_end.1)
+  put_due stored = store_by at_end.0 (rw (← at_end.1, stored) refl)
 
 -- ---- the tail's own
-
--- what a look that counts tells
-looked_clear : (t : TailState) (seen : ℕ) → may_clear t ≡ true → (tail_after_clear seen t).clear ≡ eqb seen 0
-looked_clear t seen may = grind (arith, nat_tests)
-
--- the words of a claim are told by it
-no_words : (t : TailState) → t.clear ≡ false → None ≡ claim_words t
-no_words t off = grind (arith, nat_tests)
 
 -- a place that may be claimed: the look counts, and found the cell empty
 place_told : (t : TailState) (looked place : ℕ) → Some place ≡ place_for looked t
     → ((may_clear t && eqb looked 0) ≡ true) × (place ≡ t.claims)
 place_told t looked place is-place = grind (arith, nat_tests)
 
--- without one the look doesn't count, or found the cell full
-no_place : (t : TailState) (looked : ℕ) → None ≡ place_for looked t → (may_clear t && eqb looked 0) ≡ false
-no_place t looked is-place = grind (arith, nat_tests)
+-- a look that counts and finds no place leaves no words of a claim
+no_words : (t : TailState) (looked : ℕ) → may_clear t ≡ true → None ≡ place_for looked t
+    → None ≡ claim_words (tail_after_clear looked t)
+no_words t looked may none = grind (arith, nat_tests)
 
 -- after such a look it is clear
 place_clear : (t : TailState) (looked place : ℕ) → Some place ≡ place_for looked t
@@ -199,7 +186,7 @@ module _ {a : Actor} {index edge cell : ℕ} {end : OutEnd} {pending refused : �
       stands = (m.0, m.2, m.4);
       apart = looks.apart;
       below = looks.below;
-      tells = looks.tells ∙ sym (ends.clear_keeps looked end.link);
+      tells = rw (ends.clear_keeps looked end.link) looks.tells;
     }
 
     pub sees_full : None ≡ place_for looked end.link → {new : TailState} → new ≡ t
@@ -208,11 +195,7 @@ module _ {a : Actor} {index edge cell : ℕ} {end : OutEnd} {pending refused : �
     sees_full none {new} after =
         let m = looks.meets in
         let may = look_counts on (m.0, m.2, m.4, m.5) looks.pends in
-        let off = looked_clear end.link looked may ∙ sym (ap (λ (c : Bool). c && eqb looked 0) may)
-        ∙ no_place end.link looked none in
-        subst (λ (v : TailState). Moves H first (At.Send index) K
-        (sending a index (record end { link = v }) pending refused b) (At.Send (index + 1)) 0) (sym after)
-        (then_over looks_on (claim_past on_looked (no_words t off)))
+        rw after (then_over looks_on (claim_past on_looked (no_words end.link looked may none)))
 
     pub slot_in_books : IsSlotOf (out_edges b) (record { index = index; edge = edge })
     slot_in_books = out_in_books (found on_looked)
@@ -230,9 +213,12 @@ module _ {a : Actor} {index edge cell : ℕ} {end : OutEnd} {pending refused : �
 
         pub fits_claim : (claims_in seen ≡ t.claims) × (1 ≤ end.pending) × (end.pending ≤ 2 ^ 40)
             × (end.pending ≤ pending)
-        fits_claim = subst (λ (o : OutEnd). (claims_in seen ≡ o.link.claims) × (1 ≤ o.pending) × (o.pending ≤ 2 ^ 40)
-            × (o.pending ≤ pending)) (sym (at_end on_looked).1)
-            (may_try.word, may_try.some_chips, may_try.few_chips, may_try.pending)
+        fits_claim = let end_is = (at_end on_looked).1 in (
+          rw (← end_is) at may_try.word,
+          rw (← end_is) at may_try.some_chips,
+          rw (← end_is) at may_try.few_chips,
+          rw (← end_is) at may_try.pending,
+        )
 
         pub has_room : (refused < 2 ^ 32) × (sent_of b edge < message_limit)
         has_room = (may_try.few_refused, may_try.room)
@@ -242,7 +228,7 @@ module _ {a : Actor} {index edge cell : ℕ} {end : OutEnd} {pending refused : �
 
         told : (o : Option Message) → o ≡ message_claimed seen end.pending t
             → o ≡ message_claimed seen (out_on second.outs edge).pending (out_on second.outs edge).link
-        told o is = is ∙ ap (λ (n : OutEnd). message_claimed seen n.pending n.link) (at_end on_looked).1
+        told o is = rw (← (at_end on_looked).1) is
 
         pub is_refused : seen ≢ place → {new : TailState} → new ≡ u
             → Moves H first (At.Send index) L (sending a index (record end { link = new }) pending (refused + 1) b)
@@ -252,8 +238,7 @@ module _ {a : Actor} {index edge cell : ℕ} {end : OutEnd} {pending refused : �
             let left : OutEnd = record end { link = new } in
             moves_on {m = 0} looks_on (moves_one try_due claims (claim_sealed second edge seen (with_end a.outs index left)
             (changes on_looked (out_after_claim seen)
-            (ap (λ (v : TailState). let n : OutEnd = record end { link = v } in n) after
-            ∙ ends.claim_refused seen (record end { link = t }) none)) (told None none)) refl)
+            (rw after (ends.claim_refused seen (record end { link = t }) none))) (told None none)) refl)
 
         module _ (same : seen ≡ place) {books : Books} (sends : Sends b books edge) (sound : IsSound books) where
           abbrev left : OutEnd
@@ -266,8 +251,7 @@ module _ {a : Actor} {index edge cell : ℕ} {end : OutEnd} {pending refused : �
           claims_on =
               let sent = place_message end.link looked place seen end.pending is-place same in
               moves_on {m = 1} looks_on (moves_one try_due claims
-              (subst (λ (n : ℕ). Makes second (record third { pending = pending - n }) (Claim edge) seen (Sent sent.0))
-              (message_count seen end.pending t sent.0 sent.1)
+              (rw (message_count seen end.pending t sent.0 sent.1) at
               (claim_made second edge seen third.outs books sent.0
               (changes on_looked (out_after_claim seen) (ends.claim_taken seen (record end { link = t }) sent.0 sent.1))
               (told (Some sent.0) sent.1) sends sound)) refl)
@@ -277,12 +261,11 @@ module _ {a : Actor} {index edge cell : ℕ} {end : OutEnd} {pending refused : �
             stands = (m.0, m.2, m.4);
             apart = looks.apart;
             below = looks.below;
-            tells = on_looked.tells ∙ sym (ends.claim_keeps seen end.pending t);
+            tells = rw (ends.claim_keeps seen end.pending t) on_looked.tells;
           }
 
           stored : put_of u ≡ Some (cell, end.pending)
-          stored = stored_where_looked end.link looked place seen end.pending is-place same
-              ∙ ap (λ (n : ℕ). let o : Option (ℕ × ℕ) = Some (n, end.pending) in o) (sym looks.at_cell)
+          stored = rw looks.at_cell (stored_where_looked end.link looked place seen end.pending is-place same)
 
           store_due : DueBy third (At.Store index) (Do.Put edge cell end.pending) (At.Send (index + 1))
           store_due = put_due on_claimed stored
@@ -301,11 +284,8 @@ module _ {a : Actor} {index edge cell : ℕ} {end : OutEnd} {pending refused : �
               moves_on {n = 1} {m = 1} claims_on (subst (λ (n : ℕ). Moves L third (At.Store index) N
               (record last { unput = n }) (At.Send (index + 1)) 1) (let z : (a.unput + 1) - 1 ≡ a.unput = omega
               arith in z) (moves_one store_due puts (put_made third edge word last.outs (cell, end.pending)
-              (sym (ap (λ (o : OutEnd). put_of o.link) (at_end on_claimed).1) ∙ stored)
-              (changes on_claimed out_after_put (ap (λ (v : TailState). let n : OutEnd = record end {
-                pending = 0;
-                link = v;
-              } in n) (sent_is end.link new looked place seen end.pending is-place same after)))) refl))
+              (rw (← (at_end on_claimed).1) stored) (changes on_claimed out_after_put
+              (rw (sent_is end.link new looked place seen end.pending is-place same after) refl))) refl))
 
 -- ---- the halt after a refusal
 

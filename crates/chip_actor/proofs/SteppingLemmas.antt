@@ -1,20 +1,19 @@
 -- Serves Ends.antt, Actor.antt.
 -- An actor that makes an event stands for the part after it. Each lemma takes what the call changed in the actor's own
 -- numbers.
-use Rattle.chip_actor.proofs.Names.{◌≡◌, ◌≢◌, ℕ, ◌+◌, ◌-◌, ◌*◌, ◌≤◌, ◌^◌, Bool, true, false, ◌&&◌, cond, if◌then◌else◌}
-use Rattle.chip_actor.proofs.Names.{eqb, length, Option, Some, None, option_to_list, refl, sym, ap, ◌∙◌, subst, arith}
-use Rattle.chip_actor.proofs.Names.{eq-eqb, eqb-true, mul_comm, rules, nat_tests, dite, ℕ_discrete, degree, Setting}
-use Rattle.chip_actor.proofs.Names.{cond_yes, cond_no, tested_ext, tested_scale, tested_move, tested_term, may_clear}
-use Rattle.chip_actor.proofs.Names.{head_after_take, Tail, claims_of, after_clear, after_claim, after_put, after_take}
-use Rattle.chip_actor.proofs.Names.{tail_state, head_state, tail_clears, tail_claims, tail_puts, head_takes, edges_of}
-use Rattle.chip_actor.proofs.Names.{messages_on, answered_on, Books, IsSound, settled_of, is_parent, or_else, Gets}
-use Rattle.chip_actor.proofs.Names.{Acknowledges, Sends, Settles, all_edges, tail_of, head_of, mult_of, over_outs}
-use Rattle.chip_actor.proofs.Names.{Cause, Part, Out, Into, may_ack, cause, Event, Take, Ack, Fire, Clear, Claim, Put}
-use Rattle.chip_actor.proofs.Names.{Halt, Settle, unmet_rule, part_of, does, link_after, pending_after, got_after, saw}
-use Rattle.chip_actor.proofs.Names.{KeepsPart, OutEnd, OutEnds, InEnds, in_on, ChangesOut, ChangesOuts, ChangesIn}
-use Rattle.chip_actor.proofs.Names.{out_after_clear, out_after_claim, out_after_put, out_after_fire, max_total, Actor}
-use Rattle.chip_actor.proofs.Names.{KnowsGame, KeepsBooks, StandsFor, out_end, rules_met, vertex_clear, events_keep}
-use Rattle.chip_actor.proofs.Names.{idle_take, took_some, over_outs_graph}
+use Rattle.chip_actor.proofs.Names.{◌≡◌, ◌≢◌, ℕ, ◌+◌, ◌-◌, ◌*◌, ◌≤◌, ◌^◌, true, false, ◌&&◌, cond, if◌then◌else◌, eqb}
+use Rattle.chip_actor.proofs.Names.{length, Option, Some, None, option_to_list, refl, sym, ap, ◌∙◌, arith, eq-eqb}
+use Rattle.chip_actor.proofs.Names.{mul_comm, rules, nat_tests, dite, ℕ_discrete, degree, Setting, tested_ext}
+use Rattle.chip_actor.proofs.Names.{tested_scale, tested_move, tested_term, may_clear, head_after_take, claims_of}
+use Rattle.chip_actor.proofs.Names.{after_put, tail_state, head_state, tail_clears, tail_claims, tail_puts}
+use Rattle.chip_actor.proofs.Names.{head_takes, edges_of, Books, IsSound, settled_of, is_parent, Gets, Acknowledges}
+use Rattle.chip_actor.proofs.Names.{Sends, Settles, all_edges, tail_of, head_of, mult_of, over_outs, Cause, Part, Out}
+use Rattle.chip_actor.proofs.Names.{may_ack, cause, Event, Take, Ack, Fire, Clear, Claim, Put, Halt, Settle}
+use Rattle.chip_actor.proofs.Names.{unmet_rule, part_of, does, link_after, pending_after, got_after, saw, KeepsPart}
+use Rattle.chip_actor.proofs.Names.{OutEnd, OutEnds, InEnds, in_on, ChangesOut, ChangesOuts, ChangesIn}
+use Rattle.chip_actor.proofs.Names.{out_after_clear, out_after_claim, out_after_put, out_after_fire, Actor, KnowsGame}
+use Rattle.chip_actor.proofs.Names.{KeepsBooks, StandsFor, out_end, rules_met, vertex_clear, events_keep, idle_take}
+use Rattle.chip_actor.proofs.Names.{took_some, over_outs_graph, ne_eqb}
 
 -- how many messages are claimed and not put on an edge, and whether its claim was refused
 abbrev held_count : Out → ℕ
@@ -44,8 +43,7 @@ module _ (g : Setting) (s : Part) (a : Actor) (stands : StandsFor g s a) where
 
   kept_still : (x : Event) (seen : ℕ) → part_of g x ≡ a.vertex → unmet_rule g x s ≡ None
       → KeepsPart g a.vertex (does g (saw x seen) s)
-  kept_still x seen at may = subst (λ (p : ℕ). KeepsPart g p (does g (saw x seen) s)) at
-      (events_keep g (saw x seen) s may (subst (λ (p : ℕ). KeepsPart g p s) (sym at) stands.kept))
+  kept_still x seen at may = rw (← at) (events_keep g (saw x seen) s may (rw (at) stands.kept))
 
   -- the books of a part that took and acknowledged no message, and for which the same was sent and settled
   books_still : (t : Part) → s.parent ≡ t.parent → ((e : ℕ) → s.into e ≡ t.into e)
@@ -53,11 +51,11 @@ module _ (g : Setting) (s : Part) (a : Actor) (stands : StandsFor g s a) where
       → ((e : ℕ) → (s.out e).settled ≡ (t.out e).settled) → KeepsBooks g t a.vertex a.detect
   books_still t parent into sent settled = record {
     sound = stands.books.sound;
-    parent = stands.books.parent ∙ parent;
-    got = λ e mine. stands.books.got e mine ∙ ap (λ (n : Into). length n.got) (into e);
-    acked = λ e mine. stands.books.acked e mine ∙ ap (λ (n : Into). n.acked) (into e);
-    sent = λ e mine. stands.books.sent e mine ∙ sent e mine;
-    settled = λ e mine. stands.books.settled e mine ∙ settled e;
+    parent = rw (← parent) stands.books.parent;
+    got = λ e mine. rw (← into e) (stands.books.got e mine);
+    acked = λ e mine. rw (← into e) (stands.books.acked e mine);
+    sent = λ e mine. rw (← sent e mine) (stands.books.sent e mine);
+    settled = λ e mine. rw (← settled e) (stands.books.settled e mine);
   }
 
   -- ---- a take
@@ -65,11 +63,8 @@ module _ (g : Setting) (s : Part) (a : Actor) (stands : StandsFor g s a) where
   -- the end into which a message came
   taken_end : (e seen : ℕ) (is : InEnds) → ChangesIn a.ins is e (head_after_take seen) → (i : ℕ)
       → head_of g i ≡ a.vertex → in_on is i ≡ head_state i g.ring (got_after (Take e) seen i (s.into i))
-  taken_end e seen is change i at = change.each i ∙ dite (ℕ_discrete e i)
-      (λ y. cond_yes e i _ _ y ∙ ap (head_after_take seen) (stands.ins i at) ∙ head_takes i g.ring (s.into i).got seen
-      ∙ ap (head_state i g.ring) (sym (cond_yes e i (after_take seen (s.into i).got) (s.into i).got y)))
-      (λ n. cond_no e i _ _ n ∙ stands.ins i at
-      ∙ ap (head_state i g.ring) (sym (cond_no e i (after_take seen (s.into i).got) (s.into i).got n)))
+  taken_end e seen is change i at = let c = change.each i in let was = stands.ins i at in
+      let takes = head_takes i g.ring (s.into i).got seen in grind (arith, nat_tests)
 
   pub takes : (e seen : ℕ) → head_of g e ≡ a.vertex → unmet_rule g (Take e) s ≡ None → seen ≢ 0
       → s.chips + seen ≤ 2 ^ 40
@@ -82,20 +77,18 @@ module _ (g : Setting) (s : Part) (a : Actor) (stands : StandsFor g s a) where
       let kept = kept_still (Take e) seen at may in let ins = taken_end e seen is change in
       let books : KeepsBooks g (does g (saw (Take e) seen) s) a.vertex b = record {
         sound = sound;
-        parent = gets.parent ∙ ap (λ (p : Option ℕ). or_else p e) stands.books.parent
-            ∙ sym (cond_no seen 0 s.parent (or_else s.parent e) some);
+        parent = (let p = gets.parent in let was = stands.books.parent in grind (arith, nat_tests));
         got = λ i mine. (let m = gets.ins.messages i in let was = stands.books.got i mine in
             let one = took_some g seen (s.into i).got some in grind (arith, nat_tests));
-        acked = λ i mine. gets.ins.answered i ∙ stands.books.acked i mine;
-        sent = λ i mine. (λ j. messages_on (gets.outs j) i) ∙ stands.books.sent i mine;
-        settled = λ i mine. (λ j. answered_on (gets.outs j) i) ∙ stands.books.settled i mine;
+        acked = λ i mine. rw (gets.ins.answered i) (stands.books.acked i mine);
+        sent = λ i mine. rw gets.outs (stands.books.sent i mine);
+        settled = λ i mine. rw gets.outs (stands.books.settled i mine);
       } in search (rules, arith, nat_tests)
 
   -- an empty cell changes nothing
   pub takes_none : (e seen : ℕ) → seen ≡ 0 → (is : InEnds) → ChangesIn a.ins is e (head_after_take seen)
       → StandsFor g (does g (saw (Take e) seen) s) (record a { ins = is })
-  takes_none e seen none is change = subst (λ (t : Part). StandsFor g t (record a { ins = is }))
-      (sym (idle_take g e seen s none))
+  takes_none e seen none is change = rw (idle_take g e seen s none)
       (let knows = knows_still a.chips a.fired a.halt a.outs is a.detect a.pending a.unput a.refused refl change.edges refl refl in
       let ins : (i : ℕ) → head_of g i ≡ a.vertex → in_on is i ≡ head_state i g.ring (s.into i).got = λ i at. (
       let c = change.each i in let was = stands.ins i at in grind (arith, nat_tests)) in
@@ -112,10 +105,10 @@ module _ (g : Setting) (s : Part) (a : Actor) (stands : StandsFor g s a) where
       let kept = kept_still (Settle e) seen at may in
       let books : KeepsBooks g (does g (saw (Settle e) seen) s) a.vertex b = record {
         sound = sound;
-        parent = change.parent ∙ stands.books.parent;
-        got = λ i mine. (λ j. messages_on (change.ins j) i) ∙ stands.books.got i mine;
-        acked = λ i mine. (λ j. answered_on (change.ins j) i) ∙ stands.books.acked i mine;
-        sent = λ i mine. change.outs.messages i ∙ stands.books.sent i mine;
+        parent = rw change.parent stands.books.parent;
+        got = λ i mine. rw change.ins (stands.books.got i mine);
+        acked = λ i mine. rw change.ins (stands.books.acked i mine);
+        sent = λ i mine. rw (change.outs.messages i) (stands.books.sent i mine);
         settled = λ i mine. (let c = change.outs.answered i in let was = stands.books.settled i mine in
             grind (arith, nat_tests));
       } in search (rules, arith, nat_tests)
@@ -133,13 +126,12 @@ module _ (g : Setting) (s : Part) (a : Actor) (stands : StandsFor g s a) where
       let kept = kept_still (Ack e) seen at may in
       let books : KeepsBooks g (does g (saw (Ack e) seen) s) a.vertex b = record {
         sound = sound;
-        parent = parent ∙ (λ j. cond (is_parent e (stands.books.parent j)
-            && eqb (all j) (Rattle.chip_actor.proofs.StandingLemmas.owed_is g s a stands e at j)) None (stands.books.parent j));
-        got = λ i mine. change.ins.messages i ∙ stands.books.got i mine;
-        acked = λ i mine. change.ins.answered i
-            ∙ (λ j. cond (eqb e i) (stands.books.acked i mine j + all j) (stands.books.acked i mine j));
-        sent = λ i mine. (λ j. messages_on (change.outs j) i) ∙ stands.books.sent i mine;
-        settled = λ i mine. (λ j. answered_on (change.outs j) i) ∙ stands.books.settled i mine;
+        parent = (let was = stands.books.parent in
+            let owes = Rattle.chip_actor.proofs.StandingLemmas.owed_is g s a stands e at in cc);
+        got = λ i mine. rw (change.ins.messages i) (stands.books.got i mine);
+        acked = λ i mine. (let more = change.ins.answered i in let was = stands.books.acked i mine in cc);
+        sent = λ i mine. rw change.outs (stands.books.sent i mine);
+        settled = λ i mine. rw change.outs (stands.books.settled i mine);
       } in search (rules, arith, nat_tests)
 
   -- ---- a halt
@@ -182,7 +174,7 @@ module _ (g : Setting) (s : Part) (a : Actor) (stands : StandsFor g s a) where
     moved f was now sum_is here =
         let inside = Rattle.chip_actor.proofs.StandingLemmas.out_inside g s a stands e at in
         let move = tested_move (all_edges g) (λ i. eqb (tail_of g i) a.vertex) (λ i. f (t.out i)) (λ i. f (s.out i)) e
-        (omega arith) (eq-eqb _ _ at) (λ i l ne on. ap f (rest i (λ z. ne (sym z)))) in
+        (omega arith) (eq-eqb _ _ at) (λ i l ne on. rw (rest i (λ z. ne (sym z))) refl) in
         omega arith
 
     out_stands : (f : OutEnd → OutEnd) (os : OutEnds) → ChangesOut a.outs os e f
@@ -194,15 +186,13 @@ module _ (g : Setting) (s : Part) (a : Actor) (stands : StandsFor g s a) where
     out_stands f os change here b books_outs books_ins books p u r few pending unput refused = record {
       knows = knows_still a.chips a.fired a.halt os a.ins b p u r change.edges refl books_outs books_ins;
       kept = kept_still x seen mine may;
-      few_chips = subst (λ (k : Part). k.chips ≤ max_total) (sym alike) stands.few_chips;
+      few_chips = (let most = stands.few_chips in grind arith);
       few_pending = (let most = stands.few_pending in omega arith);
-      chips = stands.chips ∙ ap (λ (k : Part). k.chips) (sym alike);
-      fired = stands.fired ∙ ap (λ (k : Part). k.fired) (sym alike);
-      halt = stands.halt ∙ ap (λ (k : Part). k.halt) (sym alike);
-      outs = λ i i-at. change.each i ∙ dite (ℕ_discrete e i)
-          (λ y. cond_yes e i _ _ y ∙ ap f (stands.outs i i-at)
-          ∙ subst (λ (k : ℕ). f (out_end g k (s.out k)) ≡ out_end g k (t.out k)) y here)
-          (λ n. cond_no e i _ _ n ∙ stands.outs i i-at ∙ ap (out_end g i) (sym (rest i n)));
+      chips = cc;
+      fired = cc;
+      halt = cc;
+      outs = λ i i-at. (let c = change.each i in let was = stands.outs i i-at in let other = rest i in
+          grind (arith, nat_tests));
       ins = λ i i-at. stands.ins i i-at ∙ ap (λ (k : Part). head_state i g.ring (k.into i).got) (sym alike);
       books = books;
       pending = moved (λ n. n.pending) a.pending p stands.pending pending;
@@ -217,28 +207,17 @@ module _ (g : Setting) (s : Part) (a : Actor) (stands : StandsFor g s a) where
         (λ i i-mine. one_edge (λ n. claims_of n.link) sent i) (one_edge (λ n. n.settled) settled)
       where
         one_edge : (f : Out → ℕ) → f (s.out e) ≡ f o → (i : ℕ) → f (s.out i) ≡ f (t.out i)
-        one_edge f same i = dite (ℕ_discrete e i) (λ y. subst (λ (k : ℕ). f (s.out k) ≡ f (t.out k)) y same)
-            (λ n. ap f (sym (rest i n)))
+        one_edge f same i = dite (ℕ_discrete e i) (λ y. rw (← y) same) (λ n. rw (rest i n) refl)
 
   pub clears : (e seen : ℕ) → tail_of g e ≡ a.vertex → unmet_rule g (Clear e) s ≡ None → (os : OutEnds)
       → ChangesOut a.outs os e (out_after_clear seen)
       → StandsFor g (does g (saw (Clear e) seen) s) (record a { outs = os })
   clears e seen at may os change =
-      let o : Out = s.out e in
-      let rest : (i : ℕ) → e ≢ i → (does g (saw (Clear e) seen) s).out i ≡ s.out i = (λ i n j. record (s.out i) {
-        link = cond_no e i (after_clear seen (s.out i).link) (s.out i).link n j;
-      }) in
-      let link : link_after (Clear e) seen e o ≡ after_clear seen o.link = cond_yes e e _ _ refl in
-      out_stands (Clear e) e seen at at may rest refl (out_after_clear seen) os change
-      (λ j. let n : OutEnd = record {
-        mult = mult_of g e;
-        pending = o.pending;
-        link = (tail_clears e g.ring o.link seen (may_look e at may) ∙ ap (tail_state e g.ring) (sym link)) j;
-      } in n)
-      a.detect refl refl (books_kept (Clear e) e seen at at may rest refl (ap claims_of (sym link)) refl) a.pending
-      a.unput a.refused (omega arith) refl
-      (ap (λ (l : Tail). a.unput + length (option_to_list l.held)) (sym link))
-      (ap (λ (l : Tail). a.refused + cond l.refused 1 0) (sym link))
+      let rest : (i : ℕ) → e ≢ i → (does g (saw (Clear e) seen) s).out i ≡ s.out i = λ i n. rw (ne_eqb e i n) refl in
+      let looks = tail_clears e g.ring (s.out e).link seen (may_look e at may) in
+      out_stands (Clear e) e seen at at may rest refl (out_after_clear seen) os change (grind (arith, nat_tests))
+      a.detect refl refl (books_kept (Clear e) e seen at at may rest refl (grind (arith, nat_tests)) refl) a.pending
+      a.unput a.refused (omega arith) refl (grind (arith, nat_tests)) (grind (arith, nat_tests))
 
   -- ---- a claim
 
@@ -251,10 +230,7 @@ module _ (g : Setting) (s : Part) (a : Actor) (stands : StandsFor g s a) where
     later = does g (saw (Claim e) seen) s
 
     claim_rest : (i : ℕ) → e ≢ i → later.out i ≡ s.out i
-    claim_rest i n = λ j. record (s.out i) {
-      link = cond_no e i (after_claim (s.out i).pending seen (s.out i).link) (s.out i).link n j;
-      pending = cond_no e i (cond (eqb seen (claims_of (s.out i).link)) 0 (s.out i).pending) (s.out i).pending n j;
-    }
+    claim_rest i n = rw (ne_eqb e i n) refl
 
     empty_hand : here.link.held ≡ None
     empty_hand =
@@ -264,23 +240,18 @@ module _ (g : Setting) (s : Part) (a : Actor) (stands : StandsFor g s a) where
 
     -- what it leaves, by whether it was taken
     claim_end : out_after_claim seen (out_end g e here) ≡ out_end g e (later.out e)
-    claim_end = λ j. let n : OutEnd = record {
-      mult = mult_of g e;
-      pending = sym (cond_yes e e (cond (eqb seen (claims_of here.link)) 0 here.pending) here.pending refl) j;
-      link = (tail_claims e g.ring here.link here.pending seen empty_hand
-          ∙ ap (tail_state e g.ring) (sym (cond_yes e e (after_claim here.pending seen here.link) here.link refl))) j;
-    } in n
+    claim_end = let after = tail_claims e g.ring here.link here.pending seen empty_hand in grind (arith, nat_tests)
 
     -- a claim that is taken
     pub claims : seen ≡ claims_of here.link → (b : Books) → Sends a.detect b e → IsSound b
         → StandsFor g later
         (record a { outs = os; detect = b; pending = a.pending - here.pending; unput = a.unput + 1 })
     claims hit b sends sound =
+        let hand = empty_hand in
         let link : (later.out e).link ≡ record here.link { held = Some here.pending; clear = false } =
-        cond_yes e e _ _ refl ∙ cond_yes seen (claims_of here.link) _ _ hit in
-        let none : (later.out e).pending ≡ 0 = cond_yes e e _ _ refl ∙ cond_yes seen (claims_of here.link) _ _ hit in
-        let free : held_count here ≡ 0 = ap (λ (h : Option ℕ). length (option_to_list h)) empty_hand in
-        let one : held_count (later.out e) ≡ 1 = ap (λ (t : Tail). length (option_to_list t.held)) link in
+        grind (arith, nat_tests) in
+        let none : (later.out e).pending ≡ 0 = grind (arith, nat_tests) in
+        let free : held_count here ≡ 0 = rw hand refl in let one : held_count (later.out e) ≡ 1 = rw link refl in
         let inside = Rattle.chip_actor.proofs.StandingLemmas.out_inside g s a stands e at in
         let term = tested_term (all_edges g) (λ i. eqb (tail_of g i) a.vertex) (λ i. (s.out i).pending) e (omega arith)
         (eq-eqb _ _ at) in
@@ -288,30 +259,25 @@ module _ (g : Setting) (s : Part) (a : Actor) (stands : StandsFor g s a) where
         out_stands (Claim e) e seen at at may claim_rest refl (out_after_claim seen) os change claim_end b
         sends.outs.edges (ap edges_of sends.ins) record {
           sound = sound;
-          parent = sends.parent ∙ stands.books.parent;
-          got = λ i mine. (λ j. messages_on (sends.ins j) i) ∙ stands.books.got i mine;
-          acked = λ i mine. (λ j. answered_on (sends.ins j) i) ∙ stands.books.acked i mine;
+          parent = rw sends.parent stands.books.parent;
+          got = λ i mine. rw sends.ins (stands.books.got i mine);
+          acked = λ i mine. rw sends.ins (stands.books.acked i mine);
           sent = λ i mine. (let more = sends.outs.messages i in let was = stands.books.sent i mine in
-              let hand = empty_hand in grind (arith, nat_tests));
-          settled = λ i mine. sends.outs.answered i ∙ stands.books.settled i mine;
-        } (a.pending - here.pending) (a.unput + 1) a.refused (omega arith) (omega arith) (omega arith)
-        (ap (λ (t : Tail). a.refused + cond t.refused 1 0) (sym link))
+              grind (arith, nat_tests));
+          settled = λ i mine. rw (sends.outs.answered i) (stands.books.settled i mine);
+        } (a.pending - here.pending) (a.unput + 1) a.refused (omega arith) (omega arith) (omega arith) (rw link refl)
 
     -- a claim that a seal refuses
     pub is_refused : seen ≢ claims_of here.link → StandsFor g later (record a { outs = os; refused = a.refused + 1 })
     is_refused miss =
         let met = rules_met g (Claim e) s may in
-        let link : (later.out e).link ≡ record here.link { clear = false; refused = true } =
-        cond_yes e e _ _ refl ∙ cond_no seen (claims_of here.link) _ _ miss in
-        let pending : (later.out e).pending ≡ here.pending =
-        cond_yes e e _ _ refl ∙ cond_no seen (claims_of here.link) _ _ miss in
-        let open' : refused_count here ≡ 0 =
-        ap (λ (b : Bool). cond b 1 0) ((stands.kept.outs e at).clear_open met.0 met.2) in
-        let one : refused_count (later.out e) ≡ 1 = ap (λ (t : Tail). cond t.refused 1 0) link in
+        let link : (later.out e).link ≡ record here.link { clear = false; refused = true } = grind (arith, nat_tests) in
+        let pending : (later.out e).pending ≡ here.pending = grind (arith, nat_tests) in
+        let open' : refused_count here ≡ 0 = rw ((stands.kept.outs e at).clear_open met.0 met.2) refl in
+        let one : refused_count (later.out e) ≡ 1 = rw link refl in
         out_stands (Claim e) e seen at at may claim_rest refl (out_after_claim seen) os change claim_end a.detect refl refl
-        (books_kept (Claim e) e seen at at may claim_rest refl (ap claims_of (sym link)) refl) a.pending a.unput
-        (a.refused + 1) (omega arith) (omega arith)
-        (ap (λ (t : Tail). a.unput + length (option_to_list t.held)) (sym link)) (omega arith)
+        (books_kept (Claim e) e seen at at may claim_rest refl (rw link refl) refl) a.pending a.unput (a.refused + 1)
+        (omega arith) (omega arith) (rw link refl) (omega arith)
 
   -- a put
   pub puts : (e seen : ℕ) → tail_of g e ≡ a.vertex → unmet_rule g (Put e) s ≡ None → (os : OutEnds)
@@ -320,27 +286,17 @@ module _ (g : Setting) (s : Part) (a : Actor) (stands : StandsFor g s a) where
   puts e seen at may os change =
       let met = rules_met g (Put e) s may in
       let o : Out = s.out e in
-      let rest : (i : ℕ) → e ≢ i → (does g (saw (Put e) seen) s).out i ≡ s.out i = (λ i n j. record (s.out i) {
-        link = cond_no e i (after_put (s.out i).link) (s.out i).link n j;
-      }) in
-      let link : link_after (Put e) seen e o ≡ after_put o.link = cond_yes e e _ _ refl in
-      let sent : claims_of o.link ≡ claims_of (after_put o.link) =
-      (let all = Rattle.std.proofs.Common.length-append o.link.put (option_to_list o.link.held) in omega arith) in
-      let old : held_count o ≡ 1 = ap (λ (h : Option ℕ). length (option_to_list h)) met.1.1 in
-      let new : length (option_to_list (link_after (Put e) seen e o).held) ≡ 0 =
-      ap (λ (t : Tail). length (option_to_list t.held)) link in
+      let rest : (i : ℕ) → e ≢ i → (does g (saw (Put e) seen) s).out i ≡ s.out i = λ i n. rw (ne_eqb e i n) refl in
+      let link : link_after (Put e) seen e o ≡ after_put o.link = rw (eq-eqb e e refl) refl in
+      let all = Rattle.std.proofs.Common.length-append o.link.put (option_to_list o.link.held) in
+      let old : held_count o ≡ 1 = rw met.1.1 refl in
+      let new : length (option_to_list (link_after (Put e) seen e o).held) ≡ 0 = rw link refl in
       let term = tested_term (all_edges g) (λ i. eqb (tail_of g i) a.vertex) (λ i. held_count (s.out i)) e met.0
       (eq-eqb _ _ at) in
-      let all = stands.unput in
-      out_stands (Put e) e seen at at may rest refl out_after_put os change
-      (λ j. let n : OutEnd = record {
-        mult = mult_of g e;
-        pending = o.pending;
-        link = (tail_puts e g.ring o.link ∙ ap (tail_state e g.ring) (sym link)) j;
-      } in n)
-      a.detect refl refl (books_kept (Put e) e seen at at may rest refl (sent ∙ ap claims_of (sym link)) refl) a.pending
-      (a.unput - 1) a.refused (omega arith) refl (omega arith)
-      (ap (λ (t : Tail). a.refused + cond t.refused 1 0) (sym link))
+      let most = stands.unput in let puts = tail_puts e g.ring o.link in
+      out_stands (Put e) e seen at at may rest refl out_after_put os change (rw link (cc)) a.detect refl refl
+      (books_kept (Put e) e seen at at may rest refl (rw link (omega arith)) refl) a.pending (a.unput - 1) a.refused
+      (omega arith) refl (omega arith) (rw link refl)
 
   -- ---- a firing
 
@@ -350,36 +306,29 @@ module _ (g : Setting) (s : Part) (a : Actor) (stands : StandsFor g s a) where
       (record a { chips = a.chips - k * a.degree; fired = a.fired + k; outs = os; pending = k * a.degree })
   fires v k seen at may os change =
       let met = rules_met g (Fire v k) s may in
-      let cost : k * a.degree ≡ k * degree g.game.graph v = (λ j. k * (stands.knows.degree ∙ ap (degree g.game.graph) (sym at)) j)
-      in
+      let cost : k * a.degree ≡ k * degree g.game.graph v = rw (at, stands.knows.degree) refl in
       record {
         knows = knows_still (a.chips - k * a.degree) (a.fired + k) a.halt os a.ins a.detect
             (k * a.degree) a.unput a.refused change.edges refl refl refl;
         kept = kept_still (Fire v k) seen at may;
         few_chips = (let few = stands.few_chips in omega arith);
         few_pending = (let few = stands.few_chips in let afford = met.7 in omega arith);
-        chips = (λ j. stands.chips j - cost j);
-        fired = ap (λ (n : ℕ). n + k) stands.fired;
+        chips = rw (stands.chips, cost) refl;
+        fired = rw stands.fired refl;
         halt = stands.halt;
-        outs = λ i mine. change.each i (Rattle.chip_actor.proofs.StandingLemmas.among_outs g s a stands i mine)
-            ∙ ap (out_after_fire k) (stands.outs i mine)
-            ∙ (λ j. let n : OutEnd = record {
-              mult = mult_of g i;
-              pending = sym (cond_yes (tail_of g i) v (k * mult_of g i) (s.out i).pending (mine ∙ sym at)) j;
-              link =
-                  tail_state i g.ring (s.out i).link;
-            } in n);
+        outs = λ i mine. (let among = Rattle.chip_actor.proofs.StandingLemmas.among_outs g s a stands i mine in
+            let each = change.each i among in let was = stands.outs i mine in
+            let there : eqb (tail_of g i) v ≡ true = eq-eqb _ _ (mine ∙ sym at) in
+            grind (arith, nat_tests));
         ins = stands.ins;
         books = books_still _ refl (λ e. refl) (λ e mine. refl) (λ e. refl);
         pending =
             (let each = tested_ext (all_edges g) (λ i. eqb (tail_of g i) a.vertex)
             (λ i. pending_after g (Fire v k) seen i (s.out i)) (λ i. mult_of g i * k)
-            (λ i l on. cond_yes (tail_of g i) v (k * mult_of g i) (s.out i).pending (eqb-true _ _ on ∙ sym at)
-            ∙ mul_comm k (mult_of g i)) in
+            (λ i l on. rw (at, on) (mul_comm k (mult_of g i))) in
             let scale = tested_scale (all_edges g) (λ i. eqb (tail_of g i) a.vertex) k (mult_of g) in
             let whole = over_outs_graph g a.vertex stands.knows.vertex (mult_of g) in
-            let d : a.degree ≡ over_outs g a.vertex (mult_of g) = stands.knows.degree ∙ sym whole in
-            mul_comm k a.degree ∙ ap (λ (n : ℕ). n * k) d ∙ sym scale ∙ sym each);
+            let d = stands.knows.degree in let c = mul_comm k a.degree in cc);
         unput = stands.unput;
         refused = stands.refused;
       }

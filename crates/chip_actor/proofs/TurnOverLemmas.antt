@@ -1,17 +1,16 @@
 -- Serves Actor.antt, Ends.antt, Medium.antt. Each phase of a turn over a medium: which operation is due, and when the
 -- turn passes on without one.
-use Rattle.chip_actor.proofs.Names.{nat_tests, ◌≡◌, ◌≢◌, ℕ, ◌+◌, ◌-◌, ◌%◌, ◌<◌, ◌≤◌, Bool, true, false, not, ◌&&◌, eqb}
-use Rattle.chip_actor.proofs.Names.{List, [], length, sum, slice_index, Option, Some, None, is_some, is_none}
-use Rattle.chip_actor.proofs.Names.{option_map, option_to_list, refl, sym, ap, ◌∙◌, subst, arith, eq-eqb, ne_eqb}
-use Rattle.chip_actor.proofs.Names.{sum_by-cons, Contains, Setting, claims_of, head_cell, tail_cell, claim_words}
-use Rattle.chip_actor.proofs.Names.{put_of, Slot, IsSlotOf, tail_of, head_of, OutEnd, out_on, in_on, Cause, Part, cause}
-use Rattle.chip_actor.proofs.Names.{is_by_limit, may_ack, refusals, Take, Ack, Fire, Clear, Claim, Put, Settle}
-use Rattle.chip_actor.proofs.Names.{may_fire, batch_of, is_at_limit, GoesBy, out_at, Actor, StandsFor, WhateverPart}
+use Rattle.chip_actor.proofs.Names.{nat_tests, ◌≡◌, ◌≢◌, ℕ, ◌+◌, ◌-◌, ◌%◌, ◌<◌, ◌≤◌, Bool, true, false, not, ◌&&◌}
+use Rattle.chip_actor.proofs.Names.{eqb, [], length, sum, slice_index, Option, Some, None, is_some, is_none}
+use Rattle.chip_actor.proofs.Names.{option_map, option_to_list, refl, sym, ap, ◌∙◌, arith, sum_by-cons, Contains}
+use Rattle.chip_actor.proofs.Names.{Setting, claims_of, head_cell, tail_cell, claim_words, put_of, Slot, IsSlotOf}
+use Rattle.chip_actor.proofs.Names.{tail_of, head_of, out_on, in_on, Part, cause, is_by_limit, may_ack, refusals}
+use Rattle.chip_actor.proofs.Names.{may_fire, batch_of, is_at_limit, out_at, Actor, StandsFor, WhateverPart}
 use Rattle.chip_actor.proofs.Names.{is_passive_now, Holding, Moves, may_le, take_due, takes_over, settle_due}
 use Rattle.chip_actor.proofs.Names.{settles_over, in_enters, out_leaves, fire_due, no_fire_due, puts_over, puts_fit}
 use Rattle.chip_actor.proofs.Names.{refusal_none, sends_begin, send_due, sends_to, sends_over, claim_due, claim_over}
 use Rattle.chip_actor.proofs.Names.{store_due, stop_due, no_limit_due, ack_due, acks_to, acks_over, no_parent}
-use Rattle.chip_actor.proofs.Names.{parent_due, no_parent_due, not_some, cond-true}
+use Rattle.chip_actor.proofs.Names.{parent_due, no_parent_due, not_some}
 use Rattle.chip_part.specs.Turn.{ins_of, outs_of}
 use Rattle.chip_actor.proofs.StandingLemmas.{may_ack_is, books_in}
 use Rattle.chip_actor.proofs.TurnActorLemmas.{pending_is, held_at_place, clear_at_place, none_held}
@@ -23,22 +22,22 @@ use Rattle.chip_part.specs.declared.cursor.Cursor.TheVariants as At
 -- the edge at a slot of the actor's edges is the vertex's there
 module _ {g : Setting} {s : Part} {a : Actor} (stands : StandsFor g s a) {slot : Slot} where
   in_there : IsSlotOf a.ins.edges slot → slice_index (ins_of g a.vertex) slot.index ≡ slot.edge
-  in_there is = sym (ap (λ (xs : List ℕ). slice_index xs slot.index) stands.knows.ins) ∙ is.edge
+  in_there is = rw (← stands.knows.ins) is.edge
 
   in_within : IsSlotOf a.ins.edges slot → slot.index < length (ins_of g a.vertex)
-  in_within is = subst (λ (xs : List ℕ). slot.index < length xs) stands.knows.ins is.within
+  in_within is = rw (← stands.knows.ins) is.within
 
   pub in_mine : IsSlotOf a.ins.edges slot → head_of g slot.edge ≡ a.vertex
-  in_mine is = ap (head_of g) (sym (in_there is)) ∙ in_enters g a.vertex slot.index (in_within is)
+  in_mine is = rw (← in_there is) (in_enters g a.vertex slot.index (in_within is))
 
   out_there : IsSlotOf a.outs.edges slot → out_at g a.vertex slot.index ≡ slot.edge
-  out_there is = sym (ap (λ (xs : List ℕ). slice_index xs slot.index) stands.knows.outs) ∙ is.edge
+  out_there is = rw (← stands.knows.outs) is.edge
 
   out_within : IsSlotOf a.outs.edges slot → slot.index < length (outs_of g a.vertex)
-  out_within is = subst (λ (xs : List ℕ). slot.index < length xs) stands.knows.outs is.within
+  out_within is = rw (← stands.knows.outs) is.within
 
   pub out_mine : IsSlotOf a.outs.edges slot → tail_of g slot.edge ≡ a.vertex
-  out_mine is = ap (tail_of g) (sym (out_there is)) ∙ out_leaves g a.vertex slot.index (out_within is)
+  out_mine is = rw (← out_there is) (out_leaves g a.vertex slot.index (out_within is))
 
 -- ---- takes
 
@@ -46,9 +45,8 @@ pub take_by : {a : Actor} {slot : Slot} {cell : ℕ} → IsSlotOf a.ins.edges sl
     → DueBy a (At.Take slot.index) (Do.Take slot.edge cell) (At.Take (slot.index + 1))
 take_by {a} {slot} is at-cell = record {
   here = λ g s stands at. (
-    subst (λ (e : ℕ). GoesBy g a.vertex s (At.Take slot.index) (Take e) (At.Take (slot.index + 1))) (in_there stands is)
-        (take_due g a.vertex stands.knows.vertex s slot.index (in_within stands is)),
-    ap (Do.Take slot.edge) (at-cell ∙ ap head_cell (stands.ins slot.edge (in_mine stands is))),
+    rw (← in_there stands is) (take_due g a.vertex stands.knows.vertex s slot.index (in_within stands is)),
+    (let end = stands.ins slot.edge (in_mine stands is) in cc),
   );
 }
 
@@ -56,8 +54,7 @@ pub takes_end : {H : Holding} {a : Actor} {index : ℕ} → length a.ins.edges �
     → Moves H a (At.Take index) H a (At.Settle 0) 0
 takes_end {H} {a} {index} over = moves_past (λ g s stands at. (
   tt,
-  takes_over g a.vertex stands.knows.vertex s index
-      (subst (λ (xs : List ℕ). length xs ≤ index) stands.knows.ins over),
+  takes_over g a.vertex stands.knows.vertex s index (rw (← stands.knows.ins) over),
 ))
 
 -- ---- settles
@@ -66,8 +63,7 @@ pub settle_by : {a : Actor} {slot : Slot} → IsSlotOf a.outs.edges slot
     → DueBy a (At.Settle slot.index) (Do.Settle slot.edge) (At.Settle (slot.index + 1))
 settle_by {a} {slot} is = record {
   here = λ g s stands at. (
-    subst (λ (e : ℕ). GoesBy g a.vertex s (At.Settle slot.index) (Settle e) (At.Settle (slot.index + 1)))
-        (out_there stands is) (settle_due g a.vertex stands.knows.vertex s slot.index (out_within stands is)),
+    rw (← out_there stands is) (settle_due g a.vertex stands.knows.vertex s slot.index (out_within stands is)),
     refl,
   );
 }
@@ -76,8 +72,7 @@ pub settles_end : {H : Holding} {a : Actor} {index : ℕ} → length a.outs.edge
     → Moves H a (At.Settle index) H a At.Fire 0
 settles_end {H} {a} {index} over = moves_past (λ g s stands at. (
   tt,
-  settles_over g a.vertex stands.knows.vertex s index
-      (subst (λ (xs : List ℕ). length xs ≤ index) stands.knows.outs over),
+  settles_over g a.vertex stands.knows.vertex s index (rw (← stands.knows.outs) over),
 ))
 
 -- ---- the firing
@@ -86,8 +81,7 @@ pub fire_by : {a : Actor} {k : ℕ} → WhateverPart a (λ g s. true ≡ may_fir
     → WhateverPart a (λ g s. k ≡ batch_of g a.vertex s) → DueBy a At.Fire (Do.Fire k) (At.Put 0)
 fire_by {a} {k} may batch = record {
   here = λ g s stands at. (
-    subst (λ (n : ℕ). GoesBy g a.vertex s At.Fire (Fire a.vertex n) (At.Put 0)) (sym (batch g s stands))
-        (fire_due g a.vertex stands.knows.vertex s stands.knows.setting.game (sym (may g s stands))),
+    rw (batch g s stands) (fire_due g a.vertex stands.knows.vertex s stands.knows.setting.game (sym (may g s stands))),
     refl,
   );
 }
@@ -101,41 +95,30 @@ no_fire {H} {a} may = moves_past (λ g s stands at. (
 
 -- ---- sends
 
-runs : (h : Option Cause) → is_none h ≡ true → h ≡ None
-runs h on = grind (arith, nat_tests)
-
 -- nothing is left from before the turn, and the edges are gone through
 pub nothing_before : {H : Holding} {a : Actor} → (is_none a.halt && eqb a.unput 0 && eqb a.refused 0) ≡ true
     → Moves H a (At.Put 0) H a (At.Send 0) 0
 nothing_before {H} {a} may =
     let none-held : a.unput ≡ 0 = grind (arith, nat_tests) in
     let none-refused : a.refused ≡ 0 = grind (arith, nat_tests) in
-    let on : is_none a.halt ≡ true = grind (arith, nat_tests) in
+    let runs : a.halt ≡ None = grind (arith, nat_tests) in
     then_over {y = At.Refusal}
     (moves_past (λ g s stands at. let none = none_held g s a stands none-held in (
       puts_fit g a.vertex stands.knows.vertex s 0 at (λ k le within. none k within),
       puts_over g a.vertex stands.knows.vertex s 0 (λ k le within. none k within),
     )))
     (moves_past (λ g s stands at.
-    let running = runs s.halt (sym (ap is_none stands.halt) ∙ on) in
-    let none : refusals g a.vertex s ≡ 0 = sym stands.refused ∙ none-refused in (
+    let running : s.halt ≡ None = cc in let none : refusals g a.vertex s ≡ 0 = cc in (
       sends_begin g a.vertex stands.knows.vertex s at running none,
       refusal_none g a.vertex stands.knows.vertex s running none,
     )))
-
--- what the actor tells of the edge at a slot, by its index
-at_index : (a : Actor) {slot : Slot} → IsSlotOf a.outs.edges slot → (P : OutEnd → Bool)
-    → P (out_on a.outs slot.edge) ≡ P (out_on a.outs (slice_index a.outs.edges slot.index))
-at_index a is P = ap (λ (e : ℕ). P (out_on a.outs e)) (sym is.edge)
 
 stored_act : (edge n : ℕ) (h : Option ℕ) (w : ℕ × ℕ) → Some w ≡ option_map (λ (c : ℕ). (n, c)) h
     → Do.Put edge w.0 w.1 ≡ Do.Put edge n (sum (option_to_list h))
 stored_act edge n None w none = absurd (grind (arith, nat_tests))
 stored_act edge n (Some c) w some =
-    let one : w ≡ (n, c) = cc in
-    let second : w.1 ≡ c = ap (λ (p : ℕ × ℕ). p.1) one in
-    let value : w.1 ≡ sum (option_to_list (Some c)) = omega (arith, second, sum_by-cons (λ (x : ℕ). x) c []) in
-    (λ j. Do.Put edge (one j).0 (value j))
+    let one : w ≡ (n, c) = cc in let value = sum_by-cons (λ (x : ℕ). x) c [] in
+    rw one (ap (Do.Put edge n) (omega arith))
 
 module _ {a : Actor} {slot : Slot} (is : IsSlotOf a.outs.edges slot) where
   pub clear_by : {cell : ℕ} → (out_on a.outs slot.edge).pending ≢ 0 → cell ≡ tail_cell (out_on a.outs slot.edge).link
@@ -144,13 +127,11 @@ module _ {a : Actor} {slot : Slot} (is : IsSlotOf a.outs.edges slot) where
     here = λ g s stands at.
         let v : ℕ = a.vertex in
         let mine = out_mine stands is in
-        let some : not (eqb (s.out (out_at g v slot.index)).pending 0) ≡ true
-        = ap not (ne_eqb _ _ (λ z. pends (pending_is g s a stands slot.edge mine
-        ∙ ap (λ (e : ℕ). (s.out e).pending) (sym (out_there stands is)) ∙ z))) in (
-          subst (λ (e : ℕ). GoesBy g v s (At.Send slot.index) (Clear e) (At.Claim slot.index)) (out_there stands is)
-              (send_due g v stands.knows.vertex s slot.index slot.index at (omega arith) (out_within stands is) some
-              (λ k le lt. absurd (omega arith))),
-          ap (Do.Clear slot.edge) (at-cell ∙ ap (λ (o : OutEnd). tail_cell o.link) (stands.outs slot.edge mine)),
+        let some : not (eqb (s.out (out_at g v slot.index)).pending 0) ≡ true = rw (out_there stands is)
+        (let p = pending_is g s a stands slot.edge mine in grind (arith, nat_tests)) in (
+          rw (← out_there stands is) (send_due g v stands.knows.vertex s slot.index slot.index at (omega arith)
+              (out_within stands is) some (λ k le lt. absurd (omega arith))),
+          (let end = stands.outs slot.edge mine in cc),
         );
   }
 
@@ -159,13 +140,10 @@ module _ {a : Actor} {slot : Slot} (is : IsSlotOf a.outs.edges slot) where
   send_none none = moves_past (λ g s stands at.
       let v : ℕ = a.vertex in
       let inside = out_within stands is in
-      let zero : not (eqb (s.out (out_at g v slot.index)).pending 0) ≡ false
-      = ap not (eq-eqb _ _ (ap (λ (e : ℕ). (s.out e).pending) (out_there stands is)
-      ∙ sym (pending_is g s a stands slot.edge (out_mine stands is)) ∙ none)) in (
+      let p = pending_is g s a stands slot.edge (out_mine stands is) in (
         at,
-        sends_to g v stands.knows.vertex s slot.index (slot.index + 1) (omega arith) (omega arith)
-            (λ k le lt. subst (λ (i : ℕ). not (eqb (s.out (out_at g v i)).pending 0) ≡ false)
-            (let z : slot.index ≡ k = omega arith in z) zero),
+        sends_to g v stands.knows.vertex s slot.index (slot.index + 1) (omega arith) (omega arith) (λ k le lt.
+            let same : k ≡ slot.index = omega arith in rw (same, out_there stands is) (grind (arith, nat_tests))),
       ))
 
   pub claim_by : {w : ℕ × ℕ} → Some w ≡ claim_words (out_on a.outs slot.edge).link
@@ -173,38 +151,31 @@ module _ {a : Actor} {slot : Slot} (is : IsSlotOf a.outs.edges slot) where
   claim_by {w} words = record {
     here = λ g s stands at.
         let v : ℕ = a.vertex in
-        let clear = sym (clear_at_place g s a stands a refl slot.index at.0)
-        ∙ sym (at_index a is (λ (o : OutEnd). is_some (claim_words o.link))) ∙ sym (ap is_some words) in
+        let there = rw (is.edge, ← words) at (clear_at_place g s a stands a refl slot.index at.0) in
+        let told = rw (stands.outs slot.edge (out_mine stands is)) at words in
+        let clear = rw (out_there stands is) at there in
         let n : ℕ = claims_of (s.out slot.edge).link in
-        let same : Some w ≡ Some (n, n + 1)
-        = words ∙ ap (λ (o : OutEnd). claim_words o.link) (stands.outs slot.edge (out_mine stands is))
-        ∙ cond-true (s.out slot.edge).link.clear (Some (n, n + 1)) None (ap (λ (e : ℕ). (s.out e).link.clear)
-        (sym (out_there stands is)) ∙ clear) in
-        let one : w ≡ (n, n + 1) = cc in (
-          subst (λ (e : ℕ). GoesBy g v s (At.Claim slot.index) (Claim e) (At.Store slot.index)) (out_there stands is)
-              (claim_due g v stands.knows.vertex s slot.index at clear),
-          (λ j. Do.Claim slot.edge (one j).0 (one j).1),
+        let one : w ≡ (n, n + 1) = grind (arith, nat_tests) in (
+          rw (← out_there stands is) (claim_due g v stands.knows.vertex s slot.index at (sym there)),
+          rw one refl,
         );
   }
 
   pub claim_none : {H : Holding} → None ≡ claim_words (out_on a.outs slot.edge).link
       → Moves H a (At.Claim slot.index) H a (At.Send (slot.index + 1)) 0
   claim_none words = moves_past (λ g s stands at.
-      let full = sym (clear_at_place g s a stands a refl slot.index at.0)
-      ∙ sym (at_index a is (λ (o : OutEnd). is_some (claim_words o.link))) ∙ sym (ap is_some words) in
-      (at.1, claim_over g a.vertex stands.knows.vertex s slot.index at full))
+      let full = rw (is.edge, ← words) at (clear_at_place g s a stands a refl slot.index at.0) in
+      (at.1, claim_over g a.vertex stands.knows.vertex s slot.index at (sym full)))
 
   pub store_by : {w : ℕ × ℕ} → Some w ≡ put_of (out_on a.outs slot.edge).link
       → DueBy a (At.Store slot.index) (Do.Put slot.edge w.0 w.1) (At.Send (slot.index + 1))
   store_by {w} stored = record {
     here = λ g s stands at.
         let v : ℕ = a.vertex in
-        let held = sym (held_at_place g s a stands a refl slot.index at.0)
-        ∙ sym (at_index a is (λ (o : OutEnd). is_some (put_of o.link))) ∙ sym (ap is_some stored) in (
-          subst (λ (e : ℕ). GoesBy g v s (At.Store slot.index) (Put e) (At.Send (slot.index + 1))) (out_there stands is)
-              (store_due g v stands.knows.vertex s slot.index at held),
-          stored_act slot.edge ((claims_of (s.out slot.edge).link - 1) % g.ring) (s.out slot.edge).link.held w (stored
-              ∙ ap (λ (o : OutEnd). put_of o.link) (stands.outs slot.edge (out_mine stands is))),
+        let held = rw (is.edge, ← stored) at (held_at_place g s a stands a refl slot.index at.0) in
+        let told = rw (stands.outs slot.edge (out_mine stands is)) at stored in (
+          rw (← out_there stands is) (store_due g v stands.knows.vertex s slot.index at (sym held)),
+          stored_act slot.edge ((claims_of (s.out slot.edge).link - 1) % g.ring) (s.out slot.edge).link.held w told,
         );
   }
 
@@ -213,15 +184,16 @@ module _ {a : Actor} {slot : Slot} (is : IsSlotOf a.outs.edges slot) where
       → DueBy a (At.Store slot.index) (Do.Halt by_limit) At.Limit
   stop_by {by_limit} stored why = record {
     here = λ g s stands at.
-        let none = sym (held_at_place g s a stands a refl slot.index at.0)
-        ∙ sym (at_index a is (λ (o : OutEnd). is_some (put_of o.link))) ∙ sym (ap is_some stored) in
-        (stop_due g a.vertex stands.knows.vertex s stands.knows.setting.game slot.index at none, ap Do.Halt (why g s stands));
+        let none = rw (is.edge, ← stored) at (held_at_place g s a stands a refl slot.index at.0) in (
+          stop_due g a.vertex stands.knows.vertex s stands.knows.setting.game slot.index at (sym none),
+          ap Do.Halt (why g s stands),
+        );
   }
 
 pub sends_end : {H : Holding} {a : Actor} {index : ℕ} → length a.outs.edges ≤ index
     → Moves H a (At.Send index) H a At.Limit 0
 sends_end {H} {a} {index} over = moves_past (λ g s stands at.
-    let past = subst (λ (xs : List ℕ). length xs ≤ index) stands.knows.outs over in
+    let past = rw stands.knows.outs at over in
     (at.held, sends_over g a.vertex stands.knows.vertex s index (λ k le within. absurd (omega arith))))
 
 pub no_limit : {H : Holding} {a : Actor} → WhateverPart a (λ g s. false ≡ is_at_limit g a.vertex s)
@@ -239,15 +211,14 @@ module _ {a : Actor} {slot : Slot} {count : ℕ} (is : IsSlotOf a.ins.edges slot
 
   here_count : (g : Setting) (s : Part) (stands : StandsFor g s a)
       → (let e : ℕ = slice_index (ins_of g a.vertex) slot.index in count ≡ may_ack g (head_of g e) s e)
-  here_count g s stands = part_count g s stands
-      ∙ ap (λ (e : ℕ). may_ack g (head_of g e) s e) (sym (in_there stands is))
+  here_count g s stands = rw (in_there stands is) (part_count g s stands)
 
   pub ack_by : count ≢ 0 → DueBy a (At.Ack slot.index) (Do.Ack slot.edge count) (At.Ack (slot.index + 1))
   ack_by some = record {
     here = λ g s stands at. (
-      subst (λ (e : ℕ). GoesBy g a.vertex s (At.Ack slot.index) (Ack e) (At.Ack (slot.index + 1))) (in_there stands is)
-          (ack_due g a.vertex stands.knows.vertex s slot.index slot.index (omega arith) (in_within stands is)
-          (ap not (ne_eqb _ _ (λ z. some (here_count g s stands ∙ z)))) (λ k le lt. absurd (omega arith))),
+      rw (← in_there stands is) (ack_due g a.vertex stands.knows.vertex s slot.index slot.index (omega arith)
+          (in_within stands is) (rw (← here_count g s stands) (grind (arith, nat_tests)))
+          (λ k le lt. absurd (omega arith))),
       ap (Do.Ack slot.edge) (part_count g s stands),
     );
   }
@@ -255,36 +226,33 @@ module _ {a : Actor} {slot : Slot} {count : ℕ} (is : IsSlotOf a.ins.edges slot
   pub ack_none : {H : Holding} → count ≡ 0 → Moves H a (At.Ack slot.index) H a (At.Ack (slot.index + 1)) 0
   ack_none none = moves_past (λ g s stands at.
       let v : ℕ = a.vertex in
-      let inside = in_within stands is in
-      let idle : ℕ → Type 0 = (λ i. let e : ℕ = slice_index (ins_of g v) i in
-      not (eqb (may_ack g (head_of g e) s e) 0) ≡ false) in
-      let zero : idle slot.index = ap not (eq-eqb _ _ (sym (here_count g s stands) ∙ none)) in (
+      let inside = in_within stands is in (
         tt,
-        acks_to g v stands.knows.vertex s slot.index (slot.index + 1) (omega arith) (omega arith)
-            (λ k le lt. subst idle (let z : slot.index ≡ k = omega arith in z) zero),
+        acks_to g v stands.knows.vertex s slot.index (slot.index + 1) (omega arith) (omega arith) (λ k le lt.
+            let same : k ≡ slot.index = omega arith in rw (same, ← here_count g s stands, none) refl),
       ))
 
 pub acks_end : {H : Holding} {a : Actor} {index : ℕ} → length a.ins.edges ≤ index
     → Moves H a (At.Ack index) H a At.Parent 0
 acks_end {H} {a} {index} over = moves_past (λ g s stands at.
-    let past = subst (λ (xs : List ℕ). length xs ≤ index) stands.knows.ins over in
+    let past = rw stands.knows.ins at over in
     (tt, acks_over g a.vertex stands.knows.vertex s index (λ k le within. absurd (omega arith))))
 
 pub no_parent_left : {H : Holding} {a : Actor} → a.detect.parent ≡ None → Moves H a At.Parent H a At.Over 0
 no_parent_left {H} {a} none = turn_ends (λ g s stands at.
-    no_parent g a.vertex stands.knows.vertex s (sym stands.books.parent ∙ none))
+    no_parent g a.vertex stands.knows.vertex s (rw (← stands.books.parent) none))
 
 module _ {a : Actor} {edge : ℕ} (parent : a.detect.parent ≡ Some edge) where
   -- it is the part's parent edge, and one into the vertex
   is_parent : {g : Setting} {s : Part} → StandsFor g s a → s.parent ≡ Some edge
-  is_parent stands = sym stands.books.parent ∙ parent
+  is_parent stands = rw (← stands.books.parent) parent
 
   parent_mine : {g : Setting} {s : Part} → StandsFor g s a → head_of g edge ≡ a.vertex
   parent_mine stands = (stands.kept.parents edge (is_parent stands)).1
 
   pub parent_among : Stands a → Contains a.ins.edges edge
-  parent_among (g, s, stands) = subst (λ (xs : List ℕ). Contains xs edge)
-      (stands.knows.detect_ins ∙ sym stands.knows.ins) (books_in g s a stands edge (parent_mine stands))
+  parent_among (g, s, stands) =
+      rw (stands.knows.ins, ← stands.knows.detect_ins) (books_in g s a stands edge (parent_mine stands))
 
   module _ {count : ℕ} (count-is : count ≡ detector.may_ack a.detect edge (is_passive_now a)) where
     parent_count : (g : Setting) (s : Part) (stands : StandsFor g s a) → count ≡ may_ack g (head_of g edge) s edge
@@ -294,14 +262,14 @@ module _ {a : Actor} {edge : ℕ} (parent : a.detect.parent ≡ Some edge) where
     parent_by some = record {
       here = λ g s stands at. (
         parent_due g a.vertex stands.knows.vertex s edge (is_parent stands) (parent_mine stands)
-            (ap not (ne_eqb _ _ (λ z. some (parent_count g s stands ∙ z)))),
+            (rw (← parent_count g s stands) (grind (arith, nat_tests))),
         ap (Do.Ack edge) (parent_count g s stands),
       );
     }
 
     pub parent_none : {H : Holding} → count ≡ 0 → Moves H a At.Parent H a At.Over 0
     parent_none none = turn_ends (λ g s stands at.
-        no_parent_due g a.vertex stands.knows.vertex s edge (is_parent stands) (sym (parent_count g s stands) ∙ none))
+        no_parent_due g a.vertex stands.knows.vertex s edge (is_parent stands) (rw (← parent_count g s stands) none))
 
 -- a vertex that isn't engaged owes nothing
 pub nothing_owed : {H : Holding} {a : Actor} → is_some a.detect.parent ≡ false → Moves H a (At.Ack 0) H a At.Over 0
@@ -310,9 +278,8 @@ nothing_owed {H} {a} off = then_over {y = At.Parent}
     let v : ℕ = a.vertex in (
       tt,
       acks_over g v stands.knows.vertex s 0
-          (λ k le within. ap not (eq-eqb _ _
-          (owes_none g s a stands (sym stands.books.parent ∙ not_some a.detect.parent off)
-          (slice_index (ins_of g v) k) (in_enters g v k within)))),
+          (λ k le within. let parent : s.parent ≡ None = grind (arith, nat_tests) in
+          rw (owes_none g s a stands parent (slice_index (ins_of g v) k) (in_enters g v k within)) refl),
     )))
     (no_parent_left (not_some a.detect.parent off))
   where

@@ -1,19 +1,17 @@
-use Rattle.chip_actor.proofs.Names.{◌≡◌, ◌∙◌, ◌++◌, ◌+◌, ℕ, List, [], ◌∷◌, length, map, ap, sym, subst, arith, eqb}
-use Rattle.chip_actor.proofs.Names.{length-append, IsStrictlyIncreasing, Multigraph, edge_at, edges_in, edges_out}
-use Rattle.chip_actor.proofs.Names.{new_head, IsFresh, ins_rise, length-picked}
+use Rattle.chip_actor.proofs.Names.{refl, ◌≡◌, ◌∙◌, ◌++◌, ◌+◌, [], ◌∷◌, length, ap, arith, eqb, length-append}
+use Rattle.chip_actor.proofs.Names.{Multigraph, edge_at, edges_in, ins_rise, length-picked}
 use Rattle.chip_actor.proofs.actor.ins_and_books.Goals.{In_ok-push}
 use Rattle.chip_actor.proofs.actor.ins_and_books.Goals as goal
 
 -- the numbers of the edges into the vertex, its root edge last
 listed : (c : In_ok-push) → c.push.new.self.items
     ≡ edges_in c.args.graph.now c.args.vertex ++ (length c.args.graph.now.edges + c.args.vertex) ∷ []
-listed c = c.in_ok-push.ensures.items
-    ∙ (λ j. (c.in_ok-numbers.ensures.items ∙ c.ins.ensures) j ++ c.root_edge.ensures.value j ∷ [])
+listed c =
+    rw (c.in_ok-push.ensures.items, c.in_ok-numbers.ensures.items, c.ins.ensures, c.root_edge.ensures.value) refl
 
 pub new-requires : goal.new-requires
 new-requires c =
-    subst IsStrictlyIncreasing (sym (c.deref.ensures.value ∙ listed (goal.at.new-requires c).In_ok-push))
-    (ins_rise c.args.graph.now c.args.vertex)
+    rw (c.deref.ensures.value, listed (goal.at.new-requires c).In_ok-push) (ins_rise c.args.graph.now c.args.vertex)
 
 pub new-requires-2-clause-few_ins : goal.new-requires-2-clause-few_ins
 new-requires-2-clause-few_ins c =
@@ -37,10 +35,8 @@ returns c =
     let edges = c.in_ok-ins.ensures.edges ∙ c.deref.ensures.value in (
       record {
         edges = edges ∙ listed (goal.at.returns c).In_ok-push;
-        ends = c.in_ok-ins.ensures.ends ∙ ap (map (λ e. new_head e c.args.ring)) (sym c.in_ok-ins.ensures.edges);
+        ends = rw c.in_ok-ins.ensures.edges c.in_ok-ins.ensures.ends;
       },
-      subst (λ (xs : List ℕ). IsFresh c.in_ok-detect.detect xs (edges_out c.args.graph.now c.args.vertex))
-          (c.deref-2.ensures.value ∙ sym edges)
-          (subst (IsFresh c.in_ok-detect.detect c.deref-2.result.now) c.outs.ensures c.in_ok-detect.ensures.fresh),
+      rw (edges, ← c.deref-2.ensures.value, ← c.outs.ensures) c.in_ok-detect.ensures.fresh,
       c.in_ok-detect.ensures.sound,
     )

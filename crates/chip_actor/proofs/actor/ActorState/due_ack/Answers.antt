@@ -1,5 +1,4 @@
-use Rattle.chip_actor.proofs.Names.{◌∙◌, ℕ, ◌+◌, List, Some, None, sym, ap, subst, get_or, Ack, Actor, GoesBy, ack_due}
-use Rattle.chip_actor.proofs.Names.{acks_over, passes_due}
+use Rattle.chip_actor.proofs.Names.{ℕ, Some, None, ap, Actor, ack_due, acks_over, passes_due}
 use Rattle.chip_actor.proofs.TurnActorLemmas.{first_owed}
 use Rattle.chip_part.specs.declared.cursor.Cursor.TheVariants as At
 use Rattle.chip_actor.proofs.actor.ActorState.due_ack.Goals as goal
@@ -9,9 +8,8 @@ returns-in-Some c = λ g s stands at.
     let v : ℕ = c.args.self.now.vertex in
     let n : ℕ = c.in-Some.place in
     let first = first_owed g s c.args.self.now stands c.args.place (Some n) c.in-Some.ensures in
-    let edge = c.edge-edge.ensures ∙ c.at.ensures.edge ∙ ap (λ (a : Actor). get_or a.ins.edges n 0) c.self.view_is
-    ∙ ap (λ (xs : List ℕ). get_or xs n 0) stands.knows.ins in
-    subst (λ (e : ℕ). GoesBy g v s (At.Ack c.args.place) (Ack e) (At.Ack (n + 1))) (sym edge)
+    let view = ap (λ (a : Actor). a.ins.edges) c.self.view_is in
+    rw (c.edge-edge.ensures, c.at.ensures.edge, view, stands.knows.ins)
     (ack_due g v stands.knows.vertex s c.args.place n first.0 first.1 first.2 first.3)
 
 pub returns-in-None : goal.returns-in-None

@@ -1,5 +1,4 @@
-use Rattle.chip_actor.proofs.Names.{◌∙◌, ℕ, ◌+◌, List, Some, None, sym, ap, subst, get_or, Put, Actor, GoesBy, put_due}
-use Rattle.chip_actor.proofs.Names.{puts_over, puts_fit, passes_due}
+use Rattle.chip_actor.proofs.Names.{ℕ, Some, None, ap, Actor, put_due, puts_over, puts_fit, passes_due}
 use Rattle.chip_actor.proofs.TurnActorLemmas.{first_held, none_held}
 use Rattle.chip_part.specs.declared.cursor.Cursor.TheVariants as At
 use Rattle.chip_actor.proofs.actor.ActorState.due_put.Goals as goal
@@ -19,9 +18,8 @@ returns-in-Some c = λ g s stands at.
     let v : ℕ = c.args.self.now.vertex in
     let n : ℕ = c.in-Some.place in
     let first = first_held g s c.args.self.now stands _ c.self.view_is c.args.place (Some n) c.in-Some.ensures in
-    let edge = c.edge-edge.ensures ∙ c.at.ensures.edge ∙ ap (λ (a : Actor). get_or a.outs.edges n 0) c.self.view_is
-    ∙ ap (λ (xs : List ℕ). get_or xs n 0) stands.knows.outs in
-    subst (λ (e : ℕ). GoesBy g v s (At.Put c.args.place) (Put e) (At.Put (n + 1))) (sym edge)
+    let view = ap (λ (a : Actor). a.outs.edges) c.self.view_is in
+    rw (c.edge-edge.ensures, c.at.ensures.edge, view, stands.knows.outs)
     (put_due g v stands.knows.vertex s c.args.place n at first.0 first.1 first.2 first.3)
 
 pub returns-in-None : goal.returns-in-None
@@ -35,8 +33,7 @@ returns-in-None c = λ g s stands at.
 pub due_refusal-requires : goal.due_refusal-requires
 due_refusal-requires c =
     let r = c.requires in
-    let none = none_held r.0 r.1 c.args.self.now r.2 (sym (ap (λ (a : Actor). a.unput) c.self.view_is)
-    ∙ c.if-self-eq0.true) in (
+    let none = none_held r.0 r.1 c.args.self.now r.2 (rw (← c.self.view_is) c.if-self-eq0.true) in (
       r.0,
       r.1,
       r.2,
@@ -47,8 +44,7 @@ due_refusal-requires c =
 pub returns-then-self-eq0 : goal.returns-then-self-eq0
 returns-then-self-eq0 c = λ g s stands at.
     let v : ℕ = c.args.self.now.vertex in
-    let none = none_held g s c.args.self.now stands (sym (ap (λ (a : Actor). a.unput) c.self.view_is)
-    ∙ c.if-self-eq0.true) in
+    let none = none_held g s c.args.self.now stands (rw (← c.self.view_is) c.if-self-eq0.true) in
     passes_due g v s (At.Put c.args.place) At.Refusal
     (puts_over g v stands.knows.vertex s c.args.place (λ k le within. none k within)) c.due_refusal.result
     (c.due_refusal.ensures g s stands

@@ -1,11 +1,10 @@
-use Rattle.chip_actor.proofs.Names.{sym, subst, Fire, Actor, SomePart, CanDo, the_view}
+use Rattle.chip_actor.proofs.Names.{the_view}
 use Rattle.chip_actor.proofs.MakingLemmas.{fire_fits, fire_made}
 use Rattle.chip_actor.proofs.actor.ActorState.fire.Goals as goal
 
 pub fire-requires : goal.fire-requires
 fire-requires c = fire_fits (the_view c.self.inside) c.args.k c.args.seen
-    (subst (λ (a : Actor). SomePart a (λ g s. CanDo g s a.vertex (Fire a.vertex c.args.k) c.args.seen))
-    (sym c.self.view_is) c.requires)
+    (rw (← c.self.view_is) at c.requires)
 
 pub returns : goal.returns
 returns c = rw (← c.self.view_is)

@@ -1,5 +1,4 @@
-use Rattle.chip_actor.proofs.Names.{◌∙◌, ℕ, ap, subst, eqb, None, Multigraph, edges_out, degree, IsFresh, setting_with}
-use Rattle.chip_actor.proofs.Names.{IsFreshOuts, IsFreshIns, Actor}
+use Rattle.chip_actor.proofs.Names.{◌∙◌, ap, eqb, None, Multigraph, degree, setting_with, Actor}
 use Rattle.chip_actor.proofs.ActorOpeningLemmas.{opens}
 use Rattle.chip_actor.proofs.actor.ActorState.new.Goals as goal
 
@@ -14,14 +13,8 @@ returns-clause-opened c =
       small_ring = c.requires.ring.1;
     } c.requires.vertex
     c.in_ok-outs.outs c.in_ok-ins.ins c.in_ok-ins.detect
-    (subst (λ (G : Multigraph). IsFreshOuts G c.args.ring c.args.vertex c.in_ok-outs.outs) same
-    (subst (λ (n : ℕ). IsFreshOuts c.graph-graph.result.now n c.args.vertex c.in_ok-outs.outs) c.of-cells.ensures
-    c.in_ok-outs.ensures))
-    (subst (λ (G : Multigraph). IsFreshIns G c.args.ring c.args.vertex c.in_ok-ins.ins) same
-    (subst (λ (n : ℕ). IsFreshIns c.graph-graph.result.now n c.args.vertex c.in_ok-ins.ins) c.of-cells.ensures
-    c.in_ok-ins.ensures.0))
-    (subst (λ (G : Multigraph). IsFresh c.in_ok-ins.detect c.in_ok-ins.ins.edges (edges_out G c.args.vertex)) same
-    c.in_ok-ins.ensures.1)
+    (rw (← same, ← c.of-cells.ensures) c.in_ok-outs.ensures) (rw (← same, ← c.of-cells.ensures) c.in_ok-ins.ensures.0)
+    (rw (← same) c.in_ok-ins.ensures.1)
     c.in_ok-ins.ensures.2
     _
     (λ j. let a : Actor = record {

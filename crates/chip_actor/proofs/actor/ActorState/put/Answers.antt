@@ -1,11 +1,10 @@
-use Rattle.chip_actor.proofs.Names.{◌∙◌, sym, subst, arith, Put, Actor, SomePart, CanDo, the_view}
+use Rattle.chip_actor.proofs.Names.{◌∙◌, sym, arith, the_view}
 use Rattle.chip_actor.proofs.MakingLemmas.{some_unput, put_made}
 use Rattle.chip_actor.proofs.actor.ActorState.put.Goals as goal
 
 pub overflow_sub-self : goal.overflow_sub-self
 overflow_sub-self c = let some = some_unput (the_view c.self.inside) c.args.slot.edge c.args.seen
-    (subst (λ (a : Actor). SomePart a (λ g s. CanDo g s a.vertex (Put c.args.slot.edge) c.args.seen))
-    (sym c.self.view_is) c.requires.can) in omega arith
+    (rw (← c.self.view_is) at c.requires.can) in omega arith
 
 pub returns : goal.returns
 returns c = rw (← c.self.view_is)

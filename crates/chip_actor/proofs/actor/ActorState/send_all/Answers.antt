@@ -1,6 +1,4 @@
-use Rattle.chip_actor.proofs.Names.{◌≡◌, ◌∙◌, ◌<◌, ℕ, Option, Some, None, MatchOption, IfSome, slice_index, length}
-use Rattle.chip_actor.proofs.Names.{refl, sym, ap, subst, put_of, is_by_limit, out_on, Actor, with_sent, Meets, Moves}
-use Rattle.chip_actor.proofs.Names.{the_view}
+use Rattle.chip_actor.proofs.Names.{◌≡◌, ℕ, Option, Some, None, MatchOption, refl, Actor, with_sent, Moves, the_view}
 use Rattle.chip_actor.proofs.MediumLemmas.{DueBy, may_serve, can_do, moves_one, moves_on, meets_after}
 use Rattle.chip_actor.proofs.SendLemmas.{stop_due}
 use Rattle.chip_actor.proofs.actor.ActorState.send_all.Goals.{After-send_all-sent, After-is_by_limit}
@@ -12,7 +10,7 @@ use Rattle.chip_actor.proofs.actor.ActorState.send_all.Goals as goal
 pub send_all-sent-requires : goal.send_all-sent-requires
 send_all-sent-requires g c = (
   the_view c.self.inside,
-  subst (λ (a : Actor). Meets (g.M.Medium.holds c.args.medium.now) a (At.Send 0)) (sym c.self.view_is) c.requires,
+  rw (← c.self.view_is) at c.requires,
 )
 
 -- the actor after the sends
@@ -26,14 +24,8 @@ moved : (g : Over) (c : After-send_all-sent g) (o : Option ℕ) → c.send_all-s
     (g.M.Medium.holds c.send_all-sent.new.medium) (after g c) At.Limit c.send_all-sent.result.0)
     (λ index. Moves (g.M.Medium.holds c.args.medium.now) c.args.self.now (At.Send 0)
     (g.M.Medium.holds c.send_all-sent.new.medium) (after g c) (At.Store index) c.send_all-sent.result.0)
-moved g c o is = subst (λ (z : Actor × Option ℕ). MatchOption z.1
-    (Moves (g.M.Medium.holds c.args.medium.now) z.0 (At.Send 0) (g.M.Medium.holds c.send_all-sent.new.medium) (after g c)
-    At.Limit c.send_all-sent.result.0)
-    (λ index. Moves (g.M.Medium.holds c.args.medium.now) z.0 (At.Send 0)
-    (g.M.Medium.holds c.send_all-sent.new.medium) (after g c) (At.Store index) c.send_all-sent.result.0))
-    (λ j. (c.self.view_is j, is j))
-    (c.send_all-sent.ensures.moves (the_view c.self.inside)
-    (subst (λ (a : Actor). Meets (g.M.Medium.holds c.args.medium.now) a (At.Send 0)) (sym c.self.view_is) c.requires))
+moved g c o is = rw (← c.self.view_is, ← is)
+    (c.send_all-sent.ensures.moves (the_view c.self.inside) (rw (← c.self.view_is) at c.requires))
 
 pub returns-in_default-clause-moves : goal.returns-in_default-clause-moves
 returns-in_default-clause-moves g c =
@@ -45,10 +37,8 @@ due : (g : Over) (c : After-is_by_limit g) → DueBy
     c.send_all-sent.new.refused c.send_all-sent.new.detect) (At.Store c.in-Some._index) (Do.Halt c.is_by_limit.result)
     At.Limit
 due g c = stop_due
-    (subst (λ (r : Option ℕ). IfSome r (λ i. (i < length c.send_all-sent.new.self.edges)
-    × (put_of (out_on c.send_all-sent.new.self (slice_index c.send_all-sent.new.self.edges i)).link ≡ None)))
-    c.in-Some.is c.send_all-sent.ensures.refusal)
-    (λ h s stands. c.is_by_limit.ensures ∙ ap is_by_limit (c.cause.ensures h s stands))
+    (rw c.in-Some.is at c.send_all-sent.ensures.refusal)
+    (λ h s stands. rw (c.is_by_limit.ensures, c.cause.ensures h s stands) refl)
 
 pub halt-seen-requires : goal.halt-seen-requires
 halt-seen-requires g c =

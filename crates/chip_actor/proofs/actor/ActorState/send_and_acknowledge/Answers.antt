@@ -1,4 +1,4 @@
-use Rattle.chip_actor.proofs.Names.{◌∙◌, is_some, sym, ap, Actor, Moves}
+use Rattle.chip_actor.proofs.Names.{◌∙◌, sym, Moves}
 use Rattle.chip_actor.proofs.MediumLemmas.{moves_on, meets_after, then_over, over_then}
 use Rattle.chip_actor.proofs.TurnOverLemmas.{nothing_before, no_limit, nothing_owed}
 use Rattle.chip_actor.proofs.actor.ActorState.send_and_acknowledge.Goals.{After-send_all-sent}
@@ -28,8 +28,7 @@ pub returns-then-not-engaged-clause-moves : goal.returns-then-not-engaged-clause
 returns-then-not-engaged-clause-moves g c = then_over
     (sent g (goal.at.returns-then-not-engaged-clause-moves g c).After-send_all-sent)
     (then_over (no_limit (λ h s stands. sym c.if-is_at_limit.false ∙ c.is_at_limit.ensures h s stands))
-    (nothing_owed (sym (ap (λ (a : Actor). is_some a.detect.parent) c.self.view_is) ∙ sym c.engaged.ensures
-    ∙ c.if-not-engaged.true)))
+    (nothing_owed (rw (← c.self.view_is, ← c.engaged.ensures) c.if-not-engaged.true)))
 
 pub ack_all-acked-requires-clause-meets : goal.ack_all-acked-requires-clause-meets
 ack_all-acked-requires-clause-meets g c = meets_after c.requires

@@ -1,5 +1,4 @@
-use Rattle.chip_actor.proofs.Names.{◌∙◌, ◌+◌, ◌≤◌, ◌<◌, ℕ, List, length, sym, ap, subst, arith, Books, OutEnd, OutEnds}
-use Rattle.chip_actor.proofs.Names.{Actor, Moves}
+use Rattle.chip_actor.proofs.Names.{refl, ◌∙◌, ◌≤◌, ◌<◌, length, sym, ap, subst, arith, Actor, Moves}
 use Rattle.chip_actor.proofs.MediumLemmas.{moves_none, moves_on, meets_after, then_over}
 use Rattle.chip_actor.proofs.TurnOverLemmas.{settles_end}
 use Rattle.chip_actor.proofs.LoopLemmas.{FoundOut, out_in_books, settle_asks, settle_fits, settle_moves, settle_past}
@@ -12,10 +11,7 @@ use Rattle.chip_actor.proofs.actor.ActorState.settle_all.Goals as goal
 pub loop-index-init : goal.loop-index-init
 loop-index-init g c = record {
   few = omega arith;
-  moved = subst
-      (λ (b : Books). Moves (g.M.Medium.holds c.args.medium.now) c.args.self.now (At.Settle 0)
-      (g.M.Medium.holds c.args.medium.now) (record c.args.self.now { detect = b }) (At.Settle 0) 0)
-      (sym (ap (λ (a : Actor). a.detect) c.self.view_is)) moves_none;
+  moved = rw (ap (λ (a : Actor). a.detect) c.self.view_is) moves_none;
 }
 
 -- the end that the loop found, of the actor as the loop has it
@@ -26,8 +22,7 @@ found : (g : Over) (c : After-edge-edge g) → FoundOut
 found g c =
     let m = meets_after c.requires c.loop-index.invariant.moved in record {
       stands = (m.0, m.2, m.4);
-      same = ap (λ (xs : List OutEnd). let os : OutEnds = record { edges = c.self.inside.outs.edges; ends = xs } in os)
-          c.ends-out-items.ensures.ends ∙ ap (λ (a : Actor). a.outs) c.self.view_is;
+      same = rw (c.ends-out-items.ensures.ends, ← c.self.view_is) refl;
       apart = c.ends-out-items.ensures.apart;
       below = c.loop-index-test.true;
       was = c.out-item.is;
@@ -57,7 +52,7 @@ settled_so_far-requires g c = out_in_books (found g (goal.at.settled_so_far-requ
 
 pub loop-index-preserved-then-seen-settled_so_far : goal.loop-index-preserved-then-seen-settled_so_far
 loop-index-preserved-then-seen-settled_so_far g c = record {
-  few = (let f = c.loop-index.invariant.few in omega arith);
+  few = omega arith;
   moved = then_over c.loop-index.invariant.moved
       (settle_past (found g (goal.at.loop-index-preserved-then-seen-settled_so_far g c).After-edge-edge)
       c.settle-seen.ensures (c.if-seen-settled_so_far.true ∙ c.settled_so_far.ensures.count)
@@ -72,12 +67,8 @@ loop-index-preserved g c =
     let other = c.if-seen-settled_so_far.false in let so_far = c.settled_so_far.ensures.count in let le = fits.0 in
     omega arith) in
     record {
-      few = (let f = c.loop-index.invariant.few in omega arith);
-      moved = subst
-          (λ (n : ℕ). Moves (g.M.Medium.holds c.args.medium.now) c.args.self.now (At.Settle 0)
-          (g.M.Medium.holds c.settle-seen.new.self) (record c.args.self.now { detect = c.settled_at-more.new.self })
-          (At.Settle (c.loop-index.index + 1)) n)
-          (sym (counts_more c.settled_at-more.result c.loop-index.work new))
+      few = omega arith;
+      moved = rw (counts_more c.settled_at-more.result c.loop-index.work new)
           (moves_on c.loop-index.invariant.moved
           (settle_moves here c.settle-seen.ensures c.settled_at-more.ensures.more c.settled_at-more.ensures.settles
           c.settled_at-more.ensures.sound));
@@ -86,9 +77,7 @@ loop-index-preserved g c =
 pub returns-clause-moves : goal.returns-clause-moves
 returns-clause-moves g c =
     let over : length c.args.self.now.outs.edges ≤ c.loop-index.index =
-    (let one = c.ends-out-items.ensures.apart.one_each in
-    let all = ap (λ (a : Actor). length a.outs.edges) c.self.view_is in let end = c.loop-index-test.false in omega
-    arith) in
+    rw (← c.self.view_is) (omega (arith, c.ends-out-items.ensures.apart.one_each)) in
     subst
     (λ (a : Actor). Moves (g.M.Medium.holds c.args.medium.now) c.args.self.now (At.Settle 0)
     (g.M.Medium.holds c.loop-index.medium) (record a { detect = c.loop-index.detect }) At.Fire c.loop-index.work)

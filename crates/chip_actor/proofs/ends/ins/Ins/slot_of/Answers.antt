@@ -1,5 +1,5 @@
-use Rattle.chip_actor.proofs.Names.{ℕ, List, Result, IfOk, sym, subst, rules, Contains, answers_always, IsSlotOf}
-use Rattle.chip_actor.proofs.Names.{FoundAt, searched, HeadState, new_head, InEnds, AreApart, ins_of}
+use Rattle.chip_actor.proofs.Names.{rules, Contains, answers_always}
+use Rattle.chip_actor.proofs.Names.{FoundAt, searched, HeadState, new_head, AreApart, ins_of}
 use Rattle.chip_actor.proofs.ends.ins.Ins.slot_of.Goals.{After-binary_search_by_key}
 use Rattle.chip_actor.proofs.ends.ins.Ins.slot_of.Goals as goal
 
@@ -9,8 +9,7 @@ found c =
     let facts = c.binary_search_by_key.ensures in
     let apart : AreApart (ins_of c.deref.result.now).edges c.deref.result.now = rw c.deref.ensures.value c.self.invariant in
     let among : Contains (ins_of c.deref.result.now).edges c.args.edge =
-    subst (λ (ts : List HeadState). Contains (ins_of ts).edges c.args.edge) (sym c.deref.ensures.value)
-    (subst (λ (os : InEnds). Contains os.edges c.args.edge) (sym c.self.view_is) c.requires) in
+    rw c.deref.ensures.value (rw (← c.self.view_is) at c.requires) in
     let by_key = facts.position (λ h. h.edge) (answers_always _ _ _ (λ f a r g called. search rules)) in
     searched (λ (h : HeadState). h.edge) (new_head 0 1) c.deref.result.now apart.ascending c.args.edge c.binary_search_by_key.result
     among facts.bound by_key
@@ -20,6 +19,4 @@ unwrap-index-requires c = (found (goal.at.unwrap-index-requires c).After-binary_
 
 pub returns-clause-slot : goal.returns-clause-slot
 returns-clause-slot c = rw (← c.self.view_is, ← c.deref.ensures.value)
-    (subst
-    (λ (r : Result ℕ ℕ). IfOk r (λ i. IsSlotOf (ins_of c.deref.result.now).edges (record { index = i; edge = c.args.edge })))
-    c.unwrap-index.ensures (found (goal.at.returns-clause-slot c).After-binary_search_by_key).slot)
+    (rw c.unwrap-index.ensures at (found (goal.at.returns-clause-slot c).After-binary_search_by_key).slot)

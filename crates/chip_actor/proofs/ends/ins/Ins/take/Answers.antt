@@ -1,5 +1,4 @@
-use Rattle.chip_actor.proofs.Names.{◌≡◌, ◌<◌, ◌^◌, ◌∙◌, ap, sym, subst, HeadState, message_taken, head_after_take}
-use Rattle.chip_actor.proofs.Names.{in_on}
+use Rattle.chip_actor.proofs.Names.{◌≡◌, head_after_take, in_on}
 use Rattle.chip_actor.proofs.EndLemmas.{found_in, written_in, apart_in, take_keeps}
 use Rattle.chip_actor.proofs.ends.ins.Ins.take.Goals.{After-index_mut-end, After-taken}
 use Rattle.chip_actor.proofs.ends.ins.Ins.take.Goals as goal
@@ -9,15 +8,14 @@ is : (c : After-index_mut-end) → c.index_mut-end.result.now ≡ in_on c.args.s
 is c = found_in c.self.view_is c.self.invariant c.requires.slot c.index_mut-end.ensures.value
 
 pub taken-requires : goal.taken-requires
-taken-requires c = subst (λ (h : HeadState). h.taken < 2 ^ 62) (sym (is c)) c.requires.few
+taken-requires c = rw (is c) c.requires.few
 
 pub returns-clause-message : goal.returns-clause-message
-returns-clause-message c = c.taken.ensures.message
-    ∙ ap (message_taken c.args.cell) (is (goal.at.returns-clause-message c).After-index_mut-end)
+returns-clause-message c = rw (← is (goal.at.returns-clause-message c).After-index_mut-end) c.taken.ensures.message
 
 -- a take says nothing of which edge it is
 keeps : (c : After-taken) → c.taken.new.self.edge ≡ c.index_mut-end.result.now.edge
-keeps c = ap (λ (h : HeadState). h.edge) c.taken.ensures.after ∙ take_keeps c.args.cell c.index_mut-end.result.now
+keeps c = rw c.taken.ensures.after (take_keeps c.args.cell c.index_mut-end.result.now)
 
 pub returns-clause-after : goal.returns-clause-after
 returns-clause-after c = written_in c.self.view_is c.self.invariant c.requires.slot c.index_mut-end.ensures.value _

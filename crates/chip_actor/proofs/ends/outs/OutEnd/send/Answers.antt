@@ -1,5 +1,5 @@
-use Rattle.chip_actor.proofs.Names.{◌≡◌, ◌<◌, ◌∙◌, Some, length, sym, ap, arith, TailState, place_for, tail_after_clear}
-use Rattle.chip_actor.proofs.Names.{tail_after_claim, AreApart, Actor, Meets}
+use Rattle.chip_actor.proofs.Names.{◌≡◌, ◌<◌, ◌∙◌, Some, length, sym, arith, TailState, place_for, tail_after_clear}
+use Rattle.chip_actor.proofs.Names.{AreApart, Actor, Meets}
 use Rattle.chip_actor.proofs.SendLemmas.{sending, Looks, sends_nothing, asks_clear, sees_full, asks_claim}
 use Rattle.chip_actor.proofs.SendLemmas.{slot_in_books, fits_claim, has_room, is_refused, asks_put, is_sent}
 use Rattle.chip_actor.proofs.EndLemmas.{clear_keeps, claim_keeps}
@@ -54,8 +54,8 @@ claim-seen-requires g c =
 pub claimed-message-requires-clause-word : goal.claimed-message-requires-clause-word
 claimed-message-requires-clause-word g c =
     let at = goal.at.claimed-message-requires-clause-word g c in
+    rw c.cleared-is_clear-then-seen-place.ensures.after
     (fits_claim (some g at.After-cell-cell) c.clear-looked.ensures (place g at.In-Some) c.claim-seen.ensures).0
-    ∙ sym (ap (λ (t : TailState). t.claims) c.cleared-is_clear-then-seen-place.ensures.after)
 
 pub claimed-message-requires-clause-count : goal.claimed-message-requires-clause-count
 claimed-message-requires-clause-count g c =
@@ -74,8 +74,7 @@ returns-then-seen-place-clause-moves g c = λ a apart below meets.
     let at = goal.at.returns-then-seen-place-clause-moves g c in
     is_refused (looks g at.After-cell-cell a apart below meets) c.clear-looked.ensures (place g at.In-Some)
     c.claim-seen.ensures c.if-seen-place.true
-    (c.claimed-message.ensures.after ∙ ap (tail_after_claim c.claim-seen.result c.args.self.now.pending)
-    c.cleared-is_clear-then-seen-place.ensures.after)
+    (rw c.cleared-is_clear-then-seen-place.ensures.after at c.claimed-message.ensures.after)
 
 pub overflow_sub-pending : goal.overflow_sub-pending
 overflow_sub-pending g c =
@@ -109,5 +108,4 @@ returns-clause-moves g c = λ a apart below meets.
 pub returns-clause-edge : goal.returns-clause-edge
 returns-clause-edge g c =
     let link : TailState = c.args.self.now.link in
-    ap (λ (t : TailState). t.edge) (c.sent.ensures 0) ∙ claim_keeps link.claims 0 (tail_after_clear 0 link)
-    ∙ clear_keeps 0 link
+    rw (c.sent.ensures 0, claim_keeps link.claims 0 (tail_after_clear 0 link)) (clear_keeps 0 link)

@@ -1,18 +1,16 @@
-use Rattle.chip_actor.proofs.Names.{◌≡◌, ◌∙◌, ap, TailState, claim_words, tail_after_clear, OutEnd, out_after_clear}
+use Rattle.chip_actor.proofs.Names.{refl, ◌≡◌, ap, TailState, out_after_clear}
 use Rattle.chip_actor.proofs.EndLemmas.{written_out, apart_out, found_out, clear_keeps}
 use Rattle.chip_actor.proofs.ends.outs.Outs.clear.Goals.{After-cleared-is_clear}
 use Rattle.chip_actor.proofs.ends.outs.Outs.clear.Goals as goal
 
 pub returns-clause-words : goal.returns-clause-words
 returns-clause-words c =
-    c.claim_next.ensures.words
-    ∙ ap claim_words (c.cleared-is_clear.ensures.after ∙ ap (λ (o : OutEnd). tail_after_clear c.args.cell o.link)
-    (found_out c.self.view_is c.self.invariant c.requires c.index_mut-out.ensures.value))
+    let found = found_out c.self.view_is c.self.invariant c.requires c.index_mut-out.ensures.value in
+    rw (c.claim_next.ensures.words, c.cleared-is_clear.ensures.after, ← found) refl
 
 -- the cell says nothing of which edge it is
 keeps : (c : After-cleared-is_clear) → c.cleared-is_clear.new.self.edge ≡ c.index_mut-out.result.now.link.edge
-keeps c = ap (λ (t : TailState). t.edge) c.cleared-is_clear.ensures.after
-    ∙ clear_keeps c.args.cell c.index_mut-out.result.now.link
+keeps c = rw c.cleared-is_clear.ensures.after (clear_keeps c.args.cell c.index_mut-out.result.now.link)
 
 pub returns-clause-after : goal.returns-clause-after
 returns-clause-after c = written_out c.self.view_is c.self.invariant c.requires c.index_mut-out.ensures.value _

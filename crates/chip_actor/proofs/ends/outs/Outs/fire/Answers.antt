@@ -1,5 +1,5 @@
-use Rattle.chip_actor.proofs.Names.{◌≡◌, ℕ, ◌*◌, ◌<◌, ◌≤◌, map, refl, ◌^◌, arith, ap, sym, length, length-set, get_or}
-use Rattle.chip_actor.proofs.Names.{◌∙◌, subst, List, [], ◌∷◌, OutEnd, OutEnds, outs_of, on_edge, no_out, out_on}
+use Rattle.chip_actor.proofs.Names.{◌≡◌, ℕ, ◌*◌, ◌<◌, ◌≤◌, map, refl, ◌^◌, arith, ap, length, length-set, get_or}
+use Rattle.chip_actor.proofs.Names.{◌∙◌, List, [], ◌∷◌, OutEnd, outs_of, no_out, out_on}
 use Rattle.chip_actor.proofs.Names.{out_after_fire, Contains, with_items, get_or_default, take_all, ascends}
 use Rattle.chip_actor.proofs.LookupsLemmas.{on_edge_at, on_edge_map}
 use Rattle.chip_actor.proofs.EndLemmas.{reads_old, done_more, rest_less, filled, named_apart}
@@ -14,7 +14,7 @@ overflow_mul-out c =
     c.loop-out.invariant.rest (omega arith) in
     let items = c.deref_mut-out-items.ensures.value in
     let inside : c.loop-out.out-index < length (outs_of c.self.inside.ends.items).edges =
-    (let l = ap length items in let m = c.self.invariant.one_each in omega arith) in
+    omega (arith, ap length items) in
     let e : ℕ = get_or (outs_of c.self.inside.ends.items).edges c.loop-out.out-index 0 in
     let here = on_edge_at no_out (outs_of c.self.inside.ends.items).edges c.self.inside.ends.items c.loop-out.out-index
     c.out-item.result (ascends (outs_of c.self.inside.ends.items).edges c.self.invariant.ascending) c.self.invariant.one_each inside
@@ -22,16 +22,14 @@ overflow_mul-out c =
     let among : Contains (outs_of c.self.inside.ends.items).edges e =
     (c.loop-out.out-index, inside, get_or_default (outs_of c.self.inside.ends.items).edges c.loop-out.out-index e 0 inside) in
     let few : c.args.k * (out_on c.args.self.now e).mult < 2 ^ 64 =
-    c.requires e (subst (λ (os : OutEnds). Contains os.edges e) c.self.view_is among) in
-    let was = read ∙ ap (λ (xs : List OutEnd). get_or xs c.loop-out.out-index c.out-item.result) items ∙ sym here
-    ∙ ap (λ (os : OutEnds). out_on os e) c.self.view_is in
+    c.requires e (rw (← c.self.view_is) among) in
     let fits : c.args.k * (get_or c.loop-out.out-items c.loop-out.out-index c.out-item.result).mult < 2 ^ 64 =
-    subst (λ (o : OutEnd). c.args.k * o.mult < 2 ^ 64) (sym was) few in
+    rw (read, items, ← here) (rw (← c.self.view_is) at few) in
     omega arith
 
 pub loop-out-preserved : goal.loop-out-preserved
 loop-out-preserved c = record {
-  lengths = length-set c.loop-out.out-items c.loop-out.out-index _ ∙ c.loop-out.invariant.lengths;
+  lengths = rw length-set c.loop-out.invariant.lengths;
   done = done_more (out_after_fire c.args.k) c.deref_mut-out-items.result.now c.loop-out.out-items c.loop-out.out-index
       c.out-item.result c.loop-out.invariant.lengths c.loop-out.invariant.done c.loop-out.invariant.rest (omega arith);
   rest = rest_less (out_after_fire c.args.k) c.deref_mut-out-items.result.now c.loop-out.out-items c.loop-out.out-index
@@ -44,32 +42,30 @@ fired : (c : After-loop-out) → (with_items c.self.inside.ends c.loop-out.out-i
 fired c =
     let old : List OutEnd = c.deref_mut-out-items.result.now in
     let all : length old ≤ c.loop-out.out-index = c.loop-out-test.false in
-    filled c.self.inside.ends.len c.loop-out.out-items _ (let l = c.loop-out.invariant.lengths in
-    let m = ap length c.deref_mut-out-items.ensures.value in let n = c.self.inside.ends.ok.0 in omega arith)
-    ∙ sym (take_all c.loop-out.out-index c.loop-out.out-items (let l = c.loop-out.invariant.lengths in omega arith))
-    ∙ c.loop-out.invariant.done ∙ ap (map (out_after_fire c.args.k)) (take_all c.loop-out.out-index old all)
-    ∙ ap (map (out_after_fire c.args.k)) c.deref_mut-out-items.ensures.value
+    let l = c.loop-out.invariant.lengths in
+    let now = take_all c.loop-out.out-index c.loop-out.out-items (omega arith) in
+    filled c.self.inside.ends.len c.loop-out.out-items _
+    (let m = ap length c.deref_mut-out-items.ensures.value in let n = c.self.inside.ends.ok.0 in omega arith)
+    ∙ rw (← now, c.loop-out.invariant.done, take_all c.loop-out.out-index old all, c.deref_mut-out-items.ensures.value)
+    refl
 
 -- the numbers are as they were
 numbers : (k : ℕ) (ends : List OutEnd) → (outs_of (map (out_after_fire k) ends)).edges ≡ (outs_of ends).edges
 numbers k [] = refl
-numbers k (o ∷ os) = ap (λ (es : List ℕ). o.link.edge ∷ es) (numbers k os)
+numbers k (o ∷ os) = rw (numbers k os) refl
 
 pub returns : goal.returns
 returns c =
     let is = fired (goal.at.returns c).After-loop-out in
     rw (← c.self.view_is) (record {
-      edges = ap (λ (ts : List OutEnd). (outs_of ts).edges) is ∙ numbers c.args.k c.self.inside.ends.items;
-      each = λ e among.
-          (λ j. on_edge no_out
-          ((ap (λ (ts : List OutEnd). (outs_of ts).edges) is ∙ numbers c.args.k c.self.inside.ends.items) j) (is j) e)
-          ∙ on_edge_map no_out (out_after_fire c.args.k) (outs_of c.self.inside.ends.items).edges
-          c.self.inside.ends.items e c.self.invariant.one_each among;
+      edges = rw is (numbers c.args.k c.self.inside.ends.items);
+      each = λ e among. rw (is, numbers c.args.k c.self.inside.ends.items)
+          (on_edge_map no_out (out_after_fire c.args.k) (outs_of c.self.inside.ends.items).edges
+          c.self.inside.ends.items e c.self.invariant.one_each among);
     })
 
 pub invariant_of-self : goal.invariant_of-self
 invariant_of-self c =
     let is = fired (goal.at.invariant_of-self c).After-loop-out in
-    named_apart (λ (o : OutEnd). o.link.edge) _ (outs_of c.self.inside.ends.items).edges
-    (ap (λ (ts : List OutEnd). (outs_of ts).edges) is ∙ numbers c.args.k c.self.inside.ends.items)
-    c.self.invariant.ascending
+    rw is (named_apart (λ (o : OutEnd). o.link.edge) (map (out_after_fire c.args.k) c.self.inside.ends.items)
+    (outs_of c.self.inside.ends.items).edges (numbers c.args.k c.self.inside.ends.items) c.self.invariant.ascending)

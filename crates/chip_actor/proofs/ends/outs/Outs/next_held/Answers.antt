@@ -1,19 +1,16 @@
-use Rattle.chip_actor.proofs.Names.{◌≡◌, ◌∙◌, ℕ, ◌<◌, false, is_some, sym, ap, arith, length, get_or, subst, put_of}
-use Rattle.chip_actor.proofs.Names.{OutEnd, OutEnds, out_on}
+use Rattle.chip_actor.proofs.Names.{refl, ◌≡◌, ◌∙◌, ℕ, ◌<◌, false, is_some, arith, length, get_or, put_of, out_on}
 use Rattle.chip_actor.proofs.EndLemmas.{out_there, from_more}
 use Rattle.chip_actor.proofs.ends.outs.Outs.next_held.Goals.{After-is_some}
 use Rattle.chip_actor.proofs.ends.outs.Outs.next_held.Goals as goal
 
 -- the place is one of the list, and what the test tells there
 within : (c : After-is_some) → c.loop-next.next < length c.args.self.now.edges
-within c = subst (λ (o : OutEnds). c.loop-next.next < length o.edges) c.self.view_is
-    (let a = c.self.invariant.one_each in omega arith)
+within c = rw (← c.self.view_is) (omega arith)
 
 told : (c : After-is_some) → is_some (put_of (out_on c.args.self.now (get_or c.args.self.now.edges c.loop-next.next 0)).link)
     ≡ c.is_some.result
-told c = sym (ap (λ (o : OutEnd). is_some (put_of o.link))
-    (out_there c.self.view_is c.self.invariant c.loop-next.next (within c) c.index.ensures))
-    ∙ sym (ap is_some c.held.ensures.value) ∙ sym c.is_some.ensures
+told c = rw (← out_there c.self.view_is c.self.invariant c.loop-next.next (within c) c.index.ensures)
+    (rw (← c.held.ensures.value, c.is_some.ensures) refl)
 
 pub returns-then-is_some : goal.returns-then-is_some
 returns-then-is_some c =

@@ -1,18 +1,16 @@
-use Rattle.chip_actor.proofs.Names.{◌≡◌, ◌∙◌, ℕ, ◌<◌, false, not, eqb, sym, ap, arith, length, get_or, subst, ne_eqb}
-use Rattle.chip_actor.proofs.Names.{eq-eqb, OutEnd, OutEnds, out_on}
+use Rattle.chip_actor.proofs.Names.{refl, ◌≡◌, ◌∙◌, ℕ, ◌<◌, false, not, eqb, ap, arith, length, get_or, ne_eqb}
+use Rattle.chip_actor.proofs.Names.{eq-eqb, out_on}
 use Rattle.chip_actor.proofs.EndLemmas.{out_there, from_more}
 use Rattle.chip_actor.proofs.ends.outs.Outs.next_pending.Goals.{After-index}
 use Rattle.chip_actor.proofs.ends.outs.Outs.next_pending.Goals as goal
 
 -- the place is one of the list, and what the test tells there
 within : (c : After-index) → c.loop-next.next < length c.args.self.now.edges
-within c = subst (λ (o : OutEnds). c.loop-next.next < length o.edges) c.self.view_is
-    (let a = c.self.invariant.one_each in omega arith)
+within c = rw (← c.self.view_is) (omega arith)
 
 told : (c : After-index) → not (eqb (out_on c.args.self.now (get_or c.args.self.now.edges c.loop-next.next 0)).pending 0)
     ≡ not (eqb c.index.result.now.pending 0)
-told c = sym (ap (λ (o : OutEnd). not (eqb o.pending 0))
-    (out_there c.self.view_is c.self.invariant c.loop-next.next (within c) c.index.ensures))
+told c = rw (← out_there c.self.view_is c.self.invariant c.loop-next.next (within c) c.index.ensures) refl
 
 pub returns-then-index-ne0 : goal.returns-then-index-ne0
 returns-then-index-ne0 c =

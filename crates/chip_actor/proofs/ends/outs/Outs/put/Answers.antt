@@ -1,11 +1,10 @@
-use Rattle.chip_actor.proofs.Names.{◌∙◌, ap, TailState, put_of, OutEnd, out_after_put}
+use Rattle.chip_actor.proofs.Names.{ap, TailState, out_after_put}
 use Rattle.chip_actor.proofs.EndLemmas.{written_out, apart_out, found_out}
 use Rattle.chip_actor.proofs.ends.outs.Outs.put.Goals as goal
 
 pub returns-clause-stored : goal.returns-clause-stored
 returns-clause-stored c =
-    c.put_value.ensures.value ∙ ap (λ (o : OutEnd). put_of o.link)
-    (found_out c.self.view_is c.self.invariant c.requires c.index_mut-out.ensures.value)
+    rw (← found_out c.self.view_is c.self.invariant c.requires c.index_mut-out.ensures.value) c.put_value.ensures.value
 
 pub returns-clause-after : goal.returns-clause-after
 returns-clause-after c = written_out c.self.view_is c.self.invariant c.requires c.index_mut-out.ensures.value _

@@ -2,7 +2,7 @@
 -- acknowledge. If the root is closed nothing changes any more, everything is delivered, and chips and counts are those
 -- of every end.
 use Rattle.chip_core.proofs.Names.{nat_tests, pending_of, owed, is_passive, is_legal, ◌≡◌, ℕ, ◌<◌, ◌≤◌, true, false}
-use Rattle.chip_core.proofs.Names.{eqb, ◌∷◌, length, get_or, Option, None, option_to_list, refl, sym, ap, ◌∙◌, arith}
+use Rattle.chip_core.proofs.Names.{eqb, ◌∷◌, length, get_or, Option, None, refl, sym, ap, ◌∙◌, arith}
 use Rattle.chip_core.proofs.Names.{⊎_elim, true≢false, ◌≢◌, ◌+◌, ◌-◌, Bool, cond, List, [], sum, Some, get_or_past}
 use Rattle.chip_core.proofs.Names.{drop_all, dite, dec_lt, IsGame, tested_none, claims_of, sent_counts, Setting}
 use Rattle.chip_core.proofs.Names.{IsNeutral, saw, tail_root, at_edge, idle_take, no_fire, no_pending, no_halt}
@@ -61,7 +61,7 @@ module _ (g : Setting) where
   module _ (game : IsGame g.game) (some_ring : 0 < g.ring) (log : Log) (legal : IsLegalLog g log) (rest : AtRest log) where
     not_open : (e : ℕ) → graph_edges g ≤ e → (part_in g log (tail_of g e)).ended ≡ false → ⊥
     not_open e past going =
-        true≢false (sym rest.end ∙ ap (λ (p : ℕ). (part_in g log p).ended) (sym (tail_root g e past)) ∙ going)
+        true≢false (let a = tail_root g e past in cc)
 
     neutral : (v : ℕ) → v < g.game.graph.vertices → IsNeutral g v (settled_up (part_in g log v))
     neutral v l = neutral_up v (part_in g log v) (rest.passive v l)
@@ -93,7 +93,7 @@ module _ (g : Setting) where
     rested (Put e) seen next =
         let may = rules_met g (Put e) (part_in g log (tail_of g e)) next.1.0 in
         let t = rest.taken e may.0 in let c = (edge_counts g game some_ring log legal e).2 in
-        let some = ap (λ (h : Option ℕ). length (option_to_list h)) may.1.1 in absurd (omega arith)
+        let some = may.1.1 in absurd (grind (arith, nat_tests))
     rested (Halt v) seen next =
         let may = rules_met g (Halt v) (part_in g log v) next.1.0 in
         no_halt g v (settled_up (part_in g log v)) (part_kept g game log legal v).outs (neutral v may.0) v refl may
@@ -176,7 +176,7 @@ module _ (g : Setting) (game : IsGame g.game) (some_ring : 0 < g.ring) where
         let c0 = c.0 in
         let at : tail_of g e ≡ root g = tail_root g e (omega arith) in
         let mine : (out_in g log e).settled ≡ (s.out e).settled =
-        ap (λ (p : ℕ). ((part_in g log p).out e).settled) at in
+        cc in
         let is : seen ≡ (into_in g log e).acked = next.1.1 in
         settled_still s e seen (omega arith) true (sym closed.0)
     still_step (Seal e) seen next ne = absurd (ne refl)
@@ -189,12 +189,11 @@ module _ (g : Setting) (game : IsGame g.game) (some_ring : 0 < g.ring) where
 
     pub still_closed : (x : Step) → IsLegalLog g (x ∷ log) → IsClosed g (x ∷ log)
     still_closed x next = (
-      ap (λ (s : Part). s.ended) (still x next (root g) (λ z. (let a : root g ≡ stopper g = z in absurd (omega arith))))
-          ∙ closed.0,
+      let b = still x next (root g) (λ z. (let a : root g ≡ stopper g = z in absurd (omega arith))) in cc,
       λ e l at.
-          let same = still x next (tail_of g e) (λ z. (let a : root g ≡ stopper g = sym at ∙ z in absurd (omega arith)))
+          let same = still x next (tail_of g e) (λ z. (let a : root g ≡ stopper g = cc in absurd (omega arith)))
           in
-          ap (λ (s : Part). outstanding (s.out e)) same ∙ closed.1 e l at,
+          let c = closed.1 e l at in grind (arith, nat_tests),
     )
 
     -- ---- everything is delivered
@@ -272,7 +271,10 @@ module _ (g : Setting) (game : IsGame g.game) (some_ring : 0 < g.ring) where
           → AgreesWith g log vs
       agrees_within vs whole =
           let one = one_end g.game.graph (chips_given g log) g.game.limit (firings log) vs played whole in
-          record { counted = λ v. sym (counts_are g log v) ∙ one.0 v; chips = λ v l. chips_are v l ∙ one.1 v }
+          record {
+            counted = λ v. (let a = counts_are g log v in let b = one.0 v in cc);
+            chips = λ v l. (let c = chips_are v l in let d = one.1 v in cc);
+          }
 
     -- ---- if no vertex halted
 
@@ -290,7 +292,10 @@ module _ (g : Setting) (game : IsGame g.game) (some_ring : 0 < g.ring) where
       agrees vs ok ended =
           let one = same_ends g.game.graph game.graph_fits (chips_given g log) (firings log) vs
           (is_sequence g game some_ring log legal) all_ended ok ended in
-          record { counted = λ v. sym (counts_are g log v) ∙ one.0 v; chips = λ v l. chips_are no_seals v l ∙ one.1 v }
+          record {
+            counted = λ v. (let a = counts_are g log v in let b = one.0 v in cc);
+            chips = λ v l. (let c = chips_are no_seals v l in let d = one.1 v in cc);
+          }
 
   -- ---- afterwards
 

@@ -1,6 +1,6 @@
 -- Serves Detection.antt, Closing.antt. If the end is noted and nobody has anything to do the root is closed; so until
 -- then there is something to do, and if everything is asked for in vain it is closed.
-use Rattle.chip_core.proofs.Names.{nat_tests, rules, ◌≡◌, ◌≢◌, ◌⊎◌, ℕ, ◌+◌, ◌<◌, ◌≤◌, true, false, not, ◌&&◌, ◌||◌, eqb}
+use Rattle.chip_core.proofs.Names.{nat_tests, rules, ◌≡◌, ◌≢◌, ◌⊎◌, ℕ, ◌+◌, ◌<◌, ◌≤◌, true, false, not, ◌&&◌, eqb}
 use Rattle.chip_core.proofs.Names.{List, [], ◌∷◌, length, Option, Some, None, option_to_list, Contains, refl, sym, ap}
 use Rattle.chip_core.proofs.Names.{◌∙◌, subst, arith, inl, inr, ⊎_elim, eqb-true, eq-eqb, zero, suc, Bool, cond, ltb}
 use Rattle.chip_core.proofs.Names.{is_some, ltb-true, lt-ltb, ◌++◌, append-nil, append_assoc, ltb-false, eqb-false}
@@ -10,8 +10,8 @@ use Rattle.chip_core.proofs.Names.{may_ack, deficit, pending_of, unput_count, is
 use Rattle.chip_core.proofs.Names.{tail_inside as own_edge, in_zero, may_le, rests, idle_little, Log, Out, part_in}
 use Rattle.chip_core.proofs.Names.{out_in, into_in, IsLegalLog, IsSettled, IsClosed, outstanding, tail_of, head_of}
 use Rattle.chip_core.proofs.Names.{root, all_edges, graph_edges, Event, Part, Take, Ack, Fire, Clear, Claim, Put, Halt}
-use Rattle.chip_core.proofs.Names.{Settle, unmet_rule, fired_by, sees, Rule, Feed, answer, step, log_after, IsTree}
-use Rattle.chip_core.proofs.Names.{IsDetectionOrder, HasEnd, is_new_look, Advances, AsksFor, AsksForEverything, dite}
+use Rattle.chip_core.proofs.Names.{Settle, unmet_rule, fired_by, sees, Rule, Feed, step, log_after, IsTree}
+use Rattle.chip_core.proofs.Names.{IsDetectionOrder, HasEnd, Advances, AsksFor, AsksForEverything, dite}
 use Rattle.chip_core.proofs.Names.{ℕ_discrete, dec_lt, SealedEdge, FiringLimit, saw, link_after, tail_graph, met_rules}
 use Rattle.chip_core.proofs.Names.{running, rules_met, some_of, is_none_of, acting_part, counts_as_work, is_refusal}
 use Rattle.chip_core.proofs.Names.{work_in, refusals_in, contains_later, contains_nothing, contained, none_some}
@@ -21,7 +21,7 @@ use Rattle.chip_core.proofs.OrderLemmas.{detection_order}
 use Rattle.chip_core.proofs.NumberLemmas.{empty_is}
 use Rattle.chip_core.proofs.ReachingLemmas.{step_legal, run_legal}
 use Rattle.chip_core.proofs.ReplyLemmas.{log_after-append}
-use Rattle.chip_core.proofs.IdleLemmas.{bare, Alike, idle_alike}
+use Rattle.chip_core.proofs.IdleLemmas.{Alike, idle_alike}
 
 -- a vertex with nothing to do is passive
 idle_passive : (g : Setting) (v : ℕ) (s : Part) → unput_count g v s ≡ 0 → (s.halt ≡ None → pending_of g v s ≡ 0)
@@ -46,9 +46,9 @@ module _ (g : Setting) where
         → (tail_of g q ≡ root g) ⊎ Contains vs (tail_of g q)
     first_parent v vs tree h q here is =
         let p = tree.2.1 in
-        let mine : (part_in g log h).parent ≡ Some tree.2.0 = ap (λ (u : ℕ). (part_in g log u).parent) here ∙ p.parent in
+        let mine = p.parent in
         let same : tree.2.0 ≡ q = cc in
-        subst (λ (i : ℕ). (tail_of g i ≡ root g) ⊎ Contains vs (tail_of g i)) same p.from_earlier
+        rw (← same) p.from_earlier
 
     pub parent_below : (v : ℕ) (vs : List ℕ) → IsTree g log (v ∷ vs) → (h q : ℕ) → Contains (v ∷ vs) h
         → (part_in g log h).parent ≡ Some q → (tail_of g q ≡ root g) ⊎ Contains vs (tail_of g q)
@@ -68,7 +68,7 @@ module _ (g : Setting) where
     -- an edge, by the part of its tail
     by_tail : {A : Type 0} (field : Out → A) (e v : ℕ) → tail_of g e ≡ v
         → field ((part_in g log v).out e) ≡ field (out_in g log e)
-    by_tail field e v at = ap (λ (p : ℕ). field ((part_in g log p).out e)) (sym at)
+    by_tail field e v at = cc
 
     -- the latest vertex of a detection order: what it sent is acknowledged and settled, so it would be done
     module _ (v : ℕ) (vs : List ℕ) (order : IsDetectionOrder g log (v ∷ vs)) where
@@ -76,7 +76,7 @@ module _ (g : Setting) where
       s = part_in g log v
 
       inside : v < g.game.graph.vertices
-      inside = subst (λ (u : ℕ). u < g.game.graph.vertices) order.tree.2.1.head
+      inside = rw (← order.tree.2.1.head)
           (head_inside g game order.tree.2.0 order.tree.2.1.is_edge)
 
       no_child : (i : ℕ) → i < all_edges g → tail_of g i ≡ v → (part_in g log (head_of g i)).parent ≡ Some i → ⊥
@@ -99,8 +99,8 @@ module _ (g : Setting) where
 
       no_unput : unput_count g v s ≡ 0
       no_unput = tested_none (all_edges g) (λ i. eqb (tail_of g i) v) (λ i. length (option_to_list (s.out i).link.held))
-          (λ i l on. by_tail (λ o. length (option_to_list o.link.held)) i v (eqb-true (tail_of g i) v on)
-          ∙ ap (λ (h : Option ℕ). length (option_to_list h)) (quiet.put i l))
+          (λ i l on. (let a = by_tail (λ o. length (option_to_list o.link.held)) i v (eqb-true (tail_of g i) v on) in
+          let b = quiet.put i l in cc))
 
       no_pending : s.halt ≡ None → pending_of g v s ≡ 0
       no_pending runs = tested_none (all_edges g) (λ i. eqb (tail_of g i) v) (λ i. (s.out i).pending)
@@ -108,9 +108,9 @@ module _ (g : Setting) where
           let at = eqb-true (tail_of g i) v on in
           let a = inside in
           let own : i < graph_edges g = own_edge g i (omega arith) in
-          by_tail (λ o. o.pending) i v at ∙ quiet.sent i own (ap (λ (p : ℕ). (part_in g log p).halt) at ∙ runs)
-          (λ full. (let b = quiet.taken i l in let c = none_held (out_in g log i).link (quiet.put i l) in
-          absurd (omega arith))))
+          let here = by_tail (λ o. o.pending) i v at in
+          let none = quiet.sent i own (cc) (λ full. (let b = quiet.taken i l in
+          let c = none_held (out_in g log i).link (quiet.put i l) in absurd (omega arith))) in cc)
 
       passive : is_passive g v s ≡ true
       passive = idle_passive g v s no_unput no_pending (quiet.fired v inside)
@@ -119,7 +119,7 @@ module _ (g : Setting) where
       none_latest = ⊎_elim (λ none. none_some order.tree.2.0 s.parent none order.tree.2.1.parent)
           (λ more. absurd (let a = no_deficit in omega arith))
           (rests g v s (part_kept g game log legal v) passive
-          (λ i l at. subst (λ (u : ℕ). may_ack g u (part_in g log u) i ≡ 0) at (quiet.acked i l)))
+          (λ i l at. rw (← at) (quiet.acked i l)))
 
     all_settled : (vs : List ℕ) → IsDetectionOrder g log vs → IsSettled g log
     all_settled [] order = λ i l at.
@@ -144,8 +144,8 @@ find (suc n) test = ⊎_elim (λ some. let l = some.1 in inl (some.0, omega arit
 parted : {X : Type 0} (xs : List X) (x : X) → Contains xs x
     → (front : List X) × (back : List X) × (xs ≡ front ++ x ∷ back)
 parted [] x has = let a = has.1 in absurd (omega arith)
-parted {X = X} (y ∷ ys) x has = ⊎_elim (λ is. ([], ys, ap (λ (z : X). z ∷ ys) (sym is)))
-    (λ later. let at = parted ys x later in (y ∷ at.0, at.1, ap (λ (l : List X). y ∷ l) at.2)) (contains_cases y ys x has)
+parted {X = X} (y ∷ ys) x has = ⊎_elim (λ is. ([], ys, cc))
+    (λ later. let at = parted ys x later in (y ∷ at.0, at.1, cc)) (contains_cases y ys x has)
 
 module _ (g : Setting) where
   abbrev pub reply_counts : Log → Event → Bool
@@ -189,8 +189,7 @@ module _ (g : Setting) where
         → unput_count g v (part_in g log v) ≡ 0
     none_unput none v = tested_none (all_edges g) (λ e. eqb (tail_of g e) v)
         (λ e. length (option_to_list ((part_in g log v).out e).link.held))
-        (λ e l on. ap (λ (p : ℕ). length (option_to_list ((part_in g log p).out e).link.held))
-        (sym (eqb-true (tail_of g e) v on)) ∙ ap (λ (h : Option ℕ). length (option_to_list h)) (none e l))
+        (λ e l on. (let a = eqb-true (tail_of g e) v on in let b = none e l in cc))
 
     module _ (v : ℕ) (vertex : v < g.game.graph.vertices) (runs : (part_in g log v).halt ≡ None) (unput : unput_count g v (part_in g log v) ≡ 0) where
       -- a legal vertex fires below its limit
@@ -218,7 +217,7 @@ module _ (g : Setting) where
           let why : cause g v s ≡ Some SealedEdge = grind (arith, nat_tests) in
           let other = (game.graph_fits.edges_fit e l).not_from_sink in
           let tail = tail_graph g e l in
-          (met_rules g (Halt v) s (vertex, (λ z. other (sym tail ∙ at ∙ z)), runs, unput, (SealedEdge, why)), refl)
+          (met_rules g (Halt v) s (vertex, (λ z. other (cc)), runs, unput, (SealedEdge, why)), refl)
 
     -- a claim is taken or refused
     pub claim_tells : (e : ℕ) → e < graph_edges g → (part_in g log (tail_of g e)).halt ≡ None
@@ -242,7 +241,7 @@ module _ (g : Setting) where
       x,
       record {
         may = works.0;
-        tells = ap (λ (b : Bool). b || is_refused log x || is_new_look (acting_part g log x) x (sees g log x)) works.1;
+        tells = cc;
       },
     )
 
@@ -317,7 +316,7 @@ module _ (g : Setting) where
   -- the step of an event whose rules are met
   pub made : (log : Log) (x : Event) → unmet_rule g x (acting_part g log x) ≡ None
       → (step g log x).0 ≡ saw x (sees g log x) ∷ log
-  made log x none = ap (λ (o : Option Rule). (answer g log x o).0) none
+  made log x none = cc
 
   tells_more : (log : Log) (x : Event) → unmet_rule g x (acting_part g log x) ≡ None
       → tells_in (step g log x).0 ≡ (cond (reply_counts g log x) 1 0 + work_in g log)
@@ -339,11 +338,11 @@ module _ (g : Setting) where
   pub by_rule : {A : Type 0} (log : Log) (x : Event) → (unmet_rule g x (acting_part g log x) ≡ None → A)
       → ((step g log x).0 ≡ log → A) → A
   by_rule log x yes' no' = ⊎_elim yes'
-      (λ r. no' (ap (λ (o : Option Rule). (answer g log x o).0) r.1)) (cases_rule (unmet_rule g x (acting_part g log x)))
+      (λ r. no' (cc)) (cases_rule (unmet_rule g x (acting_part g log x)))
 
   pub step_grows : (log : Log) (x : Event) → tells_in log ≤ tells_in (step g log x).0
   step_grows log x = by_rule log x (λ none. let a = tells_more log x none in omega arith)
-      (λ same. let a = ap tells_in same in omega arith)
+      (λ same. grind (arith, nat_tests))
 
   pub run_grows : (log : Log) (xs : List Event) → tells_in log ≤ tells_in (log_after g log xs)
   run_grows log [] = omega arith
@@ -356,15 +355,15 @@ module _ (g : Setting) where
 
   same_still : (a b : Log) → a ≡ b → Still a b
   same_still a b same = record {
-    parts = λ p. ap (λ (l : Log). bare (part_in g l p)) same;
-    refused = λ e l. ap (λ (l : Log). (out_in g l e).link.refused) same;
+    parts = λ p. cc;
+    refused = λ e l. cc;
   }
 
   then_still : (a b c : Log) → Still a b → Still b c → Still a c
   then_still a b c ab bc = search (rules, arith, nat_tests)
 
   back_still : (a b : Log) → Still a b → Still b a
-  back_still a b ab = record { parts = λ p. sym (ab.parts p); refused = λ e l. sym (ab.refused e l) }
+  back_still a b ab = record { parts = λ p. sym (ab.parts p); refused = λ e l. (let d = ab.refused e l in cc) }
 
   module _ (game : IsGame g.game) (some_ring : 0 < g.ring) where
     -- the next cell of an edge is empty
@@ -393,17 +392,16 @@ module _ (g : Setting) where
     notes_after : (log : Log) → IsLegalLog g log → (x : Event) → Idle log x → (e : ℕ) → e < graph_edges g
         → Notes log e (out_in g (step g log x).0 e).link
     notes_after log legal x idle e l = by_rule log x
-        (λ none. subst (Notes log e) (sym (ap (λ (a : Log). (out_in g a e).link) (made log x none)
-        ∙ link_step g (saw x (sees g log x)) log e)) (idle_notes log legal x idle none e l))
-        (λ same. subst (λ (a : Log). Notes log e (out_in g a e).link) (sym same) (refl, (λ room clear. clear)))
+        (λ none. rw (made log x none, link_step g (saw x (sees g log x)) log e)
+        (idle_notes log legal x idle none e l))
+        (λ same. rw same (refl, (λ room clear. clear)))
 
     -- such a step leaves all parts but for notes
     step_still : (log : Log) → IsLegalLog g log → (x : Event) → Idle log x → Still (step g log x).0 log
     step_still log legal x idle = record {
       parts = by_rule log x
-          (λ none. subst (λ (a : Log). Alike g a log) (sym (made log x none))
-          (idle_alike g (saw x (sees g log x)) log
-          (by_test (reply_counts g log x) (λ on. absurd (no_work log x idle (none, on))) (λ off. off))))
+          (λ none. rw (made log x none) (idle_alike g (saw x (sees g log x)) log (by_test (reply_counts g log x)
+          (λ on. absurd (no_work log x idle (none, on))) (λ off. off))))
           (λ same. (same_still (step g log x).0 log same).parts);
       refused = λ e l. (notes_after log legal x idle e l).0;
     }
@@ -421,7 +419,7 @@ module _ (g : Setting) where
     room_still a b ab e room full =
         let claims = ap (λ (s : Part). claims_of (s.out e).link) (ab.parts (tail_of g e)) in
         let got = ap (λ (s : Part). length (s.into e).got) (ab.parts (head_of g e)) in
-        room (sym claims ∙ full ∙ ap (λ (n : ℕ). n + g.ring) got)
+        room (cc)
 
     -- the note that a cell with room is clear stays
     clear_stays : (e : ℕ) → e < graph_edges g → (xs : List Event) (log : Log) → IsLegalLog g log
@@ -445,8 +443,8 @@ module _ (g : Setting) where
         tells_here : (tells_in here ≡ tells_in log) × (tells_in (log_after g here back) ≡ tells_in here)
         tells_here =
             let a = run_grows log front in let b = run_grows here back in
-            let c : tells_in (log_after g log xs) ≡ tells_in (log_after g here back) = ap (λ (l : List Event). tells_in (log_after g log l)) is
-            ∙ ap tells_in (log_after-append g log front back) in
+            let c : tells_in (log_after g log xs) ≡ tells_in (log_after g here back) =
+            (let d = log_after-append g log front back in cc) in
             (omega arith, omega arith)
 
         still_here : Still here (log_after g log xs)
@@ -493,21 +491,20 @@ module _ (g : Setting) where
           (room : HasRoom after e) (pends : 0 < (out_in g after e).pending)
           (off : (out_in g after e).link.refused ≡ false) where
         has_run : (m : Log) → Still m after → (part_in g m (tail_of g e)).halt ≡ None
-        has_run m still = ap (λ (s : Part). s.halt) (still.parts (tail_of g e)) ∙ runs
+        has_run m still = let a = still.parts (tail_of g e) in grind (arith, nat_tests)
 
         may_look : (m : Log) → Still m after → unmet_rule g (Clear e) (acting_part g m (Clear e)) ≡ None
         may_look m still =
             let pending = ap (λ (s : Part). (s.out e).pending) (still.parts (tail_of g e)) in
             met_rules g (Clear e) (part_in g m (tail_of g e))
-            (inl (l, has_run m still, still.refused e l ∙ off, omega arith))
+            (inl (l, has_run m still, (let a = still.refused e l in cc), omega arith))
 
         is_clear : (m : Log) → IsLegalLog g m → Still m after → (out_in g (step g m (Clear e)).0 e).link.clear ≡ true
         is_clear m ok still =
             let o : Out = out_in g m e in
-            ap (λ (n : Log). (out_in g n e).link.clear) (made m (Clear e) (may_look m still))
-            ∙ ap (λ (t : Tail). t.clear) (link_step g (saw (Clear e) (sees g m (Clear e))) m e
-            ∙ cond_yes e e (after_clear (sees g m (Clear e)) o.link) o.link refl)
-            ∙ eq-eqb _ 0 (look_finds g game some_ring m ok e (room_still m after still e room))
+            rw (made m (Clear e) (may_look m still)) (rw (link_step g (saw (Clear e) (sees g m (Clear e))) m e
+            ∙ cond_yes e e (after_clear (sees g m (Clear e)) o.link) o.link refl) (eq-eqb _ 0
+            (look_finds g game some_ring m ok e (room_still m after still e room))))
 
         -- the look that was asked for was made, and noted
         noted : (front back : List Event) → xs ≡ front ++ back → AsksFor g log front (Clear e)
@@ -517,17 +514,16 @@ module _ (g : Setting) where
             let at = parted front (Clear e) among in
             let m : Log = log_after g log at.0 in let next : Log = (step g m (Clear e)).0 in
             let m_legal = run_legal g log at.0 legal in
-            let all : xs ≡ at.0 ++ Clear e ∷ (at.1 ++ back) = is ∙ ap (λ (l : List Event). l ++ back) at.2
-            ∙ append_assoc at.0 (Clear e ∷ at.1) back in
+            let all : xs ≡ at.0 ++ Clear e ∷ (at.1 ++ back) =
+            (let c = append_assoc at.0 (Clear e ∷ at.1) back in cc) in
             let m_still = still_here log legal xs idle at.0 (Clear e ∷ (at.1 ++ back)) all in
             let whole = (tells_here log legal xs idle front back is).0 in
             let tells = (tells_here log legal front whole at.0 (Clear e ∷ at.1) at.2).1 in
             let a = step_grows m (Clear e) in let b = run_grows next at.1 in
             let next_still = then_still next m after (step_still m m_legal (Clear e) (omega arith)) m_still in
-            subst (λ (n : Log). (out_in g n e).link.clear ≡ true)
-            (sym (ap (log_after g log) at.2 ∙ log_after-append g log at.0 (Clear e ∷ at.1)))
-            (clear_stays e l at.1 next (step_legal g m (Clear e) m_legal) (omega arith)
-            (room_still next after next_still e room) (is_clear m m_legal m_still)))
+            rw (at.2, log_after-append g log at.0 (Clear e ∷ at.1)) (clear_stays e l at.1 next (step_legal g m
+            (Clear e) m_legal) (omega arith) (room_still next after next_still e room)
+            (is_clear m m_legal m_still)))
             (λ unmet. absurd (unmet (may_look (log_after g log front) (still_here log legal xs idle front back is))))
 
         none_left : ⊥
@@ -549,9 +545,9 @@ module _ (g : Setting) where
       quiet = record {
         taken = λ e l. dite (dec_lt (length (into_in g after e).got) (length (out_in g after e).link.put))
             (λ more. absurd (asked (Take e) (asks.takes e l) (λ m ok still.
-            let a = ap (λ (s : Part). length (s.into e).got) (still.parts (head_of g e)) in
+            let a = still.parts (head_of g e) in
             let b = ap (λ (s : Part). length (s.out e).link.put) (still.parts (tail_of g e)) in
-            take_works g game some_ring m ok e l (omega arith))))
+            take_works g game some_ring m ok e l (grind (arith, nat_tests)))))
             (λ none. let c = (edge_counts g game some_ring after after_legal e).2 in omega arith);
         put = all_put;
         settled = λ e l. dite (dec_lt (out_in g after e).settled (into_in g after e).acked)

@@ -1,12 +1,12 @@
 -- Serves Core.antt.
 -- What was given to each vertex: all that was sent on its root edge, at the opening and by feeding.
 use Rattle.chip_core.proofs.Names.{nat_tests, ◌≡◌, ◌≢◌, ℕ, ◌+◌, ◌-◌, ◌<◌, ◌≤◌, true, false, cond, eqb, List, [], ◌∷◌}
-use Rattle.chip_core.proofs.Names.{◌++◌, sum, slice_index, Option, None, refl, sym, ap, ◌∙◌, arith, append-nil}
+use Rattle.chip_core.proofs.Names.{◌++◌, sum, slice_index, None, refl, sym, ap, ◌∙◌, arith, append-nil}
 use Rattle.chip_core.proofs.Names.{append_assoc, true≢false, get_or_past, ext_get_or, fill_by_all}
 use Rattle.chip_core.proofs.Names.{get_or-map-range_with_len, length-map-range_with_len, sum_by-cons, sum_by-append}
 use Rattle.chip_core.proofs.Names.{dite, dec_lt, IsGame, max_total, sum_below, brought_to, all_brought, HasMore}
 use Rattle.chip_core.proofs.Names.{cond_no, sum_below_ext, sum_by_place, sum_below_one, sum_below_add, sum_below_none}
-use Rattle.chip_core.proofs.Names.{edge_word, Tail, sent_counts, claims_of, after_claim, Setting, start_of, Part}
+use Rattle.chip_core.proofs.Names.{edge_word, sent_counts, claims_of, after_claim, Setting, start_of, Part}
 use Rattle.chip_core.proofs.Names.{all_fed, AreGiven, link_after, stop_after, Met, opening_tail, tail_root, first_sent}
 use Rattle.chip_core.proofs.Names.{first_fed, Log, Step, Event, Clear, Claim, Put, Seal, Feed, part_of, part_in, out_in}
 use Rattle.chip_core.proofs.Names.{stop_in, sees, IsLegalLog, tail_of, root, root_edge, graph_edges, chips_given}
@@ -31,9 +31,8 @@ module _ (g : Setting) where
   pub feed_sees : (log : Log) → IsLegalLog g log → (e k : ℕ) → graph_edges g ≤ e
       → sees g log (Feed e k) ≡ claims_of (out_in g log e).link
   feed_sees log legal e k past =
-      ap (λ (stop : Option ℕ). edge_word (claims_of (out_in g log e).link)
-      (Rattle.std.proofs.Common.is_some stop)) (never_sealed log legal e past)
-      ∙ (let z : edge_word (claims_of (out_in g log e).link) false ≡ claims_of (out_in g log e).link = omega arith in z)
+      let a = never_sealed log legal e past in
+      let b : edge_word (claims_of (out_in g log e).link) false ≡ claims_of (out_in g log e).link = omega arith in cc
 
   -- what an event feeds to a vertex
   abbrev pub fed_to : Event → ℕ → List ℕ
@@ -73,9 +72,9 @@ module _ (g : Setting) where
     pub root_sends : (x : Step) (log : Log) → IsLegalLog g (x ∷ log) → (v : ℕ)
         → sent_counts (out_in g (x ∷ log) (root_edge g v)).link
         ≡ sent_counts (out_in g log (root_edge g v)).link ++ fed_to x.event v
-    root_sends x log legal v = ap sent_counts (link_step g x log (root_edge g v)
-        ∙ ap (λ (n : ℕ). link_after x.event n (root_edge g v) (out_in g log (root_edge g v))) legal.1.1)
-        ∙ sends x.event log legal.0 (met_here g x log legal) v
+    root_sends x log legal v =
+        let a = link_step g x log (root_edge g v) in let b = sends x.event log legal.0 (met_here g x log legal) v in
+        cc
 
     fed_sum : (x : Event) (s : Part) → Met g x s → (v : ℕ) → sum (fed_to x v) ≡ brought_to (fed_of g x) v
     fed_sum (Feed i k) s may v =
@@ -110,8 +109,8 @@ module _ (g : Setting) where
 
     fed_push : (xs : List Step) (x : Step) → fed_in g (xs ++ x ∷ []) ≡ fed_in g xs ++ fed_of g x.event
     fed_push [] x = append-nil (fed_of g x.event)
-    fed_push (y ∷ ys) x = ap (λ (l : List (ℕ × ℕ)). fed_of g y.event ++ l) (fed_push ys x)
-        ∙ sym (append_assoc (fed_of g y.event) (fed_in g ys) (fed_of g x.event))
+    fed_push (y ∷ ys) x =
+        let a = fed_push ys x in let b = append_assoc (fed_of g y.event) (fed_in g ys) (fed_of g x.event) in cc
 
     -- nobody feeds but the root
     fed_elsewhere : (x : Event) (s : Part) → Met g x s → part_of g x ≢ root g → fed_of g x ≡ []
@@ -135,9 +134,9 @@ module _ (g : Setting) where
     started_recorded (x ∷ log) legal v =
         let a = started_step x log legal v in
         let b = started_recorded log legal.0 v in
-        let c = ap (λ (l : List (ℕ × ℕ)). brought_to l v) (recorded_step x log legal) in
+        let c = recorded_step x log legal in
         let d = sum_by-append (λ (p : ℕ × ℕ). cond (eqb p.0 v) p.1 0) (recorded log) (fed_of g x.event) in
-        omega arith
+        grind (arith, nat_tests)
 
     nothing_fed : sum_below g.game.graph.vertices (brought_to []) ≡ all_brought []
     nothing_fed = sum_below_none g.game.graph.vertices (brought_to []) (λ v l. refl)
@@ -182,21 +181,22 @@ module _ (g : Setting) where
     pub given_is : (log : Log) → IsLegalLog g log → slice_index (played_game g log).start ≡ chips_given g log
     given_is log legal j v = (dite (dec_lt v g.game.graph.vertices) (λ l. given_each log v l)
         (λ nl. let n = length-map-range_with_len (chips_given g log) 0 g.game.graph.vertices in
-        get_or_past (played_game g log).start v 0 (omega arith) ∙ sym (started_outside log legal v (omega arith)))) j
+        let a = get_or_past (played_game g log).start v 0 (omega arith) in
+        let b = started_outside log legal v (omega arith) in cc)) j
 
     pub given_sum : (log : Log) → sum (played_game g log).start ≡ sum_below g.game.graph.vertices (chips_given g log)
-    given_sum log = sum_by_place (played_game g log).start
-        ∙ ap (λ (n : ℕ). sum_below n (slice_index (played_game g log).start))
-        (length-map-range_with_len (chips_given g log) 0 g.game.graph.vertices)
-        ∙ sum_below_ext g.game.graph.vertices (slice_index (played_game g log).start) (chips_given g log)
-        (given_each log)
+    given_sum log =
+        let a = sum_by_place (played_game g log).start in
+        let b = length-map-range_with_len (chips_given g log) 0 g.game.graph.vertices in
+        let c = sum_below_ext g.game.graph.vertices (slice_index (played_game g log).start) (chips_given g log)
+        (given_each log) in cc
 
     -- it is what the root sent
     pub root_gave : (log : Log) → sum (played_game g log).start ≡ all_fed g (part_in g log (root g))
-    root_gave log = given_sum log ∙ sum_below_ext g.game.graph.vertices (chips_given g log)
-        (λ v. sum (sent_counts ((part_in g log (root g)).out (root_edge g v)).link))
-        (λ v l. ap (λ (p : ℕ). sum (sent_counts ((part_in g log p).out (root_edge g v)).link))
-        (tail_root g (root_edge g v) (omega arith)))
+    root_gave log =
+        let a = given_sum log in let b = sum_below_ext g.game.graph.vertices (chips_given g log) (λ v. sum
+        (sent_counts ((part_in g log (root g)).out (root_edge g v)).link)) (λ v l. (let c = tail_root g
+        (root_edge g v) (omega arith) in cc)) in cc
 
     pub given_within : (log : Log) → IsLegalLog g log → sum (played_game g log).start ≤ max_total
     given_within log legal = let a = root_gave log in
@@ -216,22 +216,24 @@ module _ (g : Setting) where
     played_has_more log legal = record {
       same_graph = refl;
       same_limit = refl;
-      start_each = length-map-range_with_len (chips_given g log) 0 g.game.graph.vertices ∙ sym game.start_fits;
-      start = λ v l. given_each log v (let n = game.start_fits in omega arith) ∙ started_recorded log legal v;
-      total = given_sum log ∙ total_recorded log legal;
+      start_each = (let a = length-map-range_with_len (chips_given g log) 0 g.game.graph.vertices in cc);
+      start = λ v l. (let b = given_each log v (let n = game.start_fits in omega arith) in
+          let c = started_recorded log legal v in cc);
+      total = (let d = given_sum log in let f = total_recorded log legal in cc);
     }
 
     -- ---- if no chips are fed
 
     module _ (off : g.fed ≡ false) where
       pub unfed_started : (log : Log) → IsLegalLog g log → (v : ℕ) → chips_given g log v ≡ start_of g v
-      unfed_started log legal v = ap (λ (t : Tail). sum (sent_counts t))
-          ((out_kept g game log legal (root_edge g v)).root_unfed (omega arith) off) ∙ first_sent g v
+      unfed_started log legal v =
+          let a = (out_kept g game log legal (root_edge g v)).root_unfed (omega arith) off in
+          let b = first_sent g v in cc
 
       pub unfed_start : (log : Log) → IsLegalLog g log → (played_game g log).start ≡ g.game.start
       unfed_start log legal =
           let long = length-map-range_with_len (chips_given g log) 0 g.game.graph.vertices in
-          ext_get_or 0 (played_game g log).start g.game.start (long ∙ sym game.start_fits)
+          ext_get_or 0 (played_game g log).start g.game.start (cc)
           (λ v l. given_each log v (omega arith) ∙ unfed_started log legal v)
 
       pub unfed_played : (log : Log) → IsLegalLog g log → played_game g log ≡ g.game
@@ -241,8 +243,8 @@ module _ (g : Setting) where
       unfed_closes log legal = (part_kept g game log legal (root g)).unfed_ended off
 
       feeds_none : (x : Event) (log : Log) → IsLegalLog g log → Met g x (part_in g log (part_of g x)) → fed_of g x ≡ []
-      feeds_none (Feed e k) log legal may = absurd (true≢false (sym (unfed_closes log legal)
-          ∙ ap (λ (p : ℕ). (part_in g log p).ended) (sym (tail_root g e may.0)) ∙ may.2))
+      feeds_none (Feed e k) log legal may = absurd (true≢false (let a = unfed_closes log legal in
+          let b = tail_root g e may.0 in cc))
       feeds_none x log legal may = refl
 
       pub unfed_records : (log : Log) → IsLegalLog g log → recorded log ≡ []
@@ -258,6 +260,4 @@ given_by_the_record = played_has_more
 pub given_start : (g : Setting) (log : Log) (given : List ℕ) → AreGiven g (part_in g log (root g)) given
     → given ≡ (played_game g log).start
 given_start g log given are = fill_by_all (chips_given g log) given g.game.graph.vertices 0 are.0
-    (λ v l. are.1 v l
-    ∙ ap (λ (p : ℕ). sum (sent_counts ((part_in g log p).out (root_edge g v)).link))
-    (sym (tail_root g (root_edge g v) (omega arith))))
+    (λ v l. (let a = are.1 v l in let b = tail_root g (root_edge g v) (omega arith) in cc))

@@ -1,8 +1,8 @@
 -- Serves Work.antt, Core.antt.
 -- A step that doesn't count leaves all parts but for their notes, the seals and the end.
 use Rattle.chip_core.proofs.Names.{nat_tests, ◌≡◌, ◌≢◌, ℕ, ◌+◌, ◌-◌, ◌≤◌, Bool, true, false, cond, eqb, ltb, [], ◌∷◌}
-use Rattle.chip_core.proofs.Names.{◌++◌, None, refl, sym, ap, ◌∙◌, arith, true≢false, dite, ℕ_discrete, cond_yes}
-use Rattle.chip_core.proofs.Names.{cond_no, Tail, claims_of, after_clear, after_claim, Setting, is_got, is_sent, Got}
+use Rattle.chip_core.proofs.Names.{◌++◌, None, refl, ap, ◌∙◌, arith, true≢false, dite, ℕ_discrete, cond_yes}
+use Rattle.chip_core.proofs.Names.{cond_no, Tail, claims_of, after_clear, after_claim, Setting, is_sent, Got}
 use Rattle.chip_core.proofs.Names.{Sent, Empty, Sealed, message_of, saw, at_edge, idle_take, Log, Step, Event, Take}
 use Rattle.chip_core.proofs.Names.{Clear, Claim, Settle, Seal, Read, Feed, End, Part, part_of, does, part_in, root_edge}
 use Rattle.chip_core.proofs.Names.{acting_part, counts_as_work, work_in, ltb-false, Message}
@@ -48,7 +48,7 @@ module _ (g : Setting) where
       × (◌≡◌ {A = ℕ → Tail} (λ i. bare_link (cond (eqb e i) (after_claim (count i) seen (s.out i).link) (s.out i).link))
       (λ i. bare_link (s.out i).link))
   claim_bare e seen count s m idle = dite (ℕ_discrete seen (claims_of (s.out e).link))
-      (λ hit. absurd (true≢false (ap is_sent (sym (cond_yes seen (claims_of (s.out e).link) (Sent m) Sealed hit)) ∙ idle)))
+      (λ hit. absurd (true≢false (let a = cond_yes seen (claims_of (s.out e).link) (Sent m) Sealed hit in cc)))
       (λ miss. (
         miss,
         notes_leave e s (λ i. after_claim (count i) seen (s.out i).link)
@@ -60,9 +60,8 @@ module _ (g : Setting) where
       → bare (does g (saw x seen) s) ≡ bare s
   idle_does (Take e) seen s idle = dite (ℕ_discrete seen 0)
       (λ none. ap bare (idle_take g e seen s none))
-      (λ some. absurd (true≢false (ap is_got
-      (sym (cond_no seen 0 Empty (Got (message_of e (Rattle.std.proofs.Common.length (s.into e).got) seen)) some))
-      ∙ idle)))
+      (λ some. absurd (true≢false (let a = cond_no seen 0 Empty (Got (message_of e (Rattle.std.proofs.Common.length
+      (s.into e).got) seen)) some in cc)))
   idle_does (Clear e) seen s idle =
       let links = notes_leave e s (λ i. after_clear seen (s.out i).link) refl in
       λ j. record (bare s) { out = λ i. record (s.out i) { link = links j i } }

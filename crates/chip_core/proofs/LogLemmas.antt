@@ -1,7 +1,7 @@
 -- Serves Core.antt.
 -- The parts and the edges in a legal log: what every one of them keeps, whatever was done.
 use Rattle.chip_core.proofs.Names.{nat_tests, ◌≡◌, ◌≢◌, ◌⊎◌, ℕ, ◌+◌, ◌-◌, ◌<◌, ◌≤◌, Bool, true, false, cond, eqb, List}
-use Rattle.chip_core.proofs.Names.{[], ◌∷◌, ◌++◌, length, append_assoc, Option, None, refl, sym, ap, ◌∙◌, subst, arith}
+use Rattle.chip_core.proofs.Names.{[], ◌∷◌, ◌++◌, length, append_assoc, Option, None, refl, arith}
 use Rattle.chip_core.proofs.Names.{inl, inr, ⊎_elim, pos_of_ne-zero, ltb, dite, ℕ_discrete, dec_lt, IsGame, Setting}
 use Rattle.chip_core.proofs.Names.{cond_yes, cond_no, Tail, claims_of, after_clear, after_claim, after_put, after_take}
 use Rattle.chip_core.proofs.Names.{after_seal, Sound, clear_sound, claim_sound, put_sound, take_sound, seal_sound}
@@ -15,8 +15,8 @@ use Rattle.chip_part.proofs.PartLemmas as part_lemmas
 
 pub in_pieces : (front round back xs before : Log) → xs ≡ back ++ (round ++ front)
     → xs ++ before ≡ back ++ (round ++ (front ++ before))
-in_pieces front round back xs before is = ap (λ (l : Log). l ++ before) is ∙ append_assoc back (round ++ front) before
-    ∙ ap (λ (l : Log). back ++ l) (append_assoc round front before)
+in_pieces front round back xs before is =
+    let a = append_assoc back (round ++ front) before in let b = append_assoc round front before in cc
 
 module _ (g : Setting) where
   pub legal_before : (xs log : Log) → IsLegalLog g (xs ++ log) → IsLegalLog g log
@@ -68,8 +68,8 @@ module _ (g : Setting) where
       → (part_of g x.event ≢ p → after (part_in g log p) ≡ field (part_in g log p))
       → field (part_in g (x ∷ log) p) ≡ after (part_in g log p)
   field_step field after x log p made idle = dite (ℕ_discrete (part_of g x.event) p)
-      (λ same. ap field (part_here x log p same) ∙ made (part_in g log p))
-      (λ other. ap field (part_else x log p other) ∙ sym (idle other))
+      (λ same. (let a = part_here x log p same in let b = made (part_in g log p) in cc))
+      (λ other. (let c = part_else x log p other in let d = idle other in cc))
 
   pub link_step : (x : Step) (log : Log) (e : ℕ)
       → (out_in g (x ∷ log) e).link ≡ link_after x.event x.seen e (out_in g log e)
@@ -121,13 +121,11 @@ module _ (g : Setting) where
   module _ (game : IsGame g.game) where
     pub head_inside : (e : ℕ) → e < all_edges g → head_of g e < g.game.graph.vertices
     head_inside e l = dite (dec_lt e (length g.game.graph.edges))
-        (λ m. subst (λ (n : ℕ). n < g.game.graph.vertices) (sym (head_graph g e m))
-        (game.graph_fits.edges_fit e m).head_is_vertex)
+        (λ m. rw (head_graph g e m) (game.graph_fits.edges_fit e m).head_is_vertex)
         (λ n. let at = head_root g e (omega arith) in omega arith)
 
     pub tail_inside : (e : ℕ) → e < graph_edges g → tail_of g e < g.game.graph.vertices
-    tail_inside e l = subst (λ (n : ℕ). n < g.game.graph.vertices) (sym (tail_graph g e l))
-        (game.graph_fits.edges_fit e l).tail_is_vertex
+    tail_inside e l = rw (tail_graph g e l) (game.graph_fits.edges_fit e l).tail_is_vertex
 
     pub tail_cases : (e : ℕ) → (tail_of g e ≡ root g) ⊎ (tail_of g e < g.game.graph.vertices)
     tail_cases e = dite (dec_lt e (length g.game.graph.edges)) (λ m. inr (tail_inside e m))
@@ -209,8 +207,7 @@ module _ (g : Setting) where
           → Sound g.ring (out_in g log e).link (into_in g log e).got (stop_in g log e)
       unfolding SoundAt
       edge_sound [] legal e = first_sound_at e
-      edge_sound (x ∷ log) legal e = subst (λ (z : Tail × List ℕ × Option ℕ). Sound g.ring z.0 z.1 z.2)
-          (λ j. (sym (link_step x log e) j, sym (got_step x log e) j, sym (stop_step x log e) j))
+      edge_sound (x ∷ log) legal e = rw (link_step x log e, got_step x log e, stop_step x log e)
           (edge_step log x.event x.seen legal.0 (met_here x log legal)
           legal.1.1 (edge_sound log legal.0) e)
 

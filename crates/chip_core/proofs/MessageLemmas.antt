@@ -1,11 +1,11 @@
 -- Serves Core.antt, Messages.antt.
 -- The messages that are read off the replies are those of the parts; nothing is sent on a sealed edge.
-use Rattle.chip_core.proofs.Names.{nat_tests, ◌≡◌, ℕ, ◌+◌, ◌*◌, ◌<◌, ◌≤◌, ◌||◌, Bool, true, false, cond, eqb, List, []}
+use Rattle.chip_core.proofs.Names.{nat_tests, ◌≡◌, ℕ, ◌+◌, ◌*◌, ◌<◌, ◌≤◌, Bool, true, false, cond, eqb, List, []}
 use Rattle.chip_core.proofs.Names.{◌∷◌, ◌++◌, length, sum, take, drop, option_to_list, Option, Some, None, refl, sym}
-use Rattle.chip_core.proofs.Names.{ap, ◌∙◌, subst, arith, true≢false, append_assoc, append-nil, length-append, or_right}
+use Rattle.chip_core.proofs.Names.{ap, ◌∙◌, arith, true≢false, append_assoc, append-nil, length-append, or_right}
 use Rattle.chip_core.proofs.Names.{cond-true, cond-false, take-append-le, take-append-drop, drop_at, append_cancel_left}
-use Rattle.chip_core.proofs.Names.{nil_from_length, sum_by-cons, sum_by-append, slice_get, IsGame, Setting, by_test}
-use Rattle.chip_core.proofs.Names.{Tail, sent_counts, claims_of, after_claim, IsPrefix, numbered, numbered-append}
+use Rattle.chip_core.proofs.Names.{nil_from_length, sum_by-cons, sum_by-append, IsGame, Setting, by_test}
+use Rattle.chip_core.proofs.Names.{sent_counts, claims_of, after_claim, IsPrefix, numbered, numbered-append}
 use Rattle.chip_core.proofs.Names.{length-numbered, numbered_at, length-sent_counts, NotNow, mult_of, start_of}
 use Rattle.chip_core.proofs.Names.{root_edge, first_put, message_of, link_after, got_after, saw, rules_met, first_few}
 use Rattle.chip_core.proofs.Names.{first_sent, Log, Event, Take, Clear, Claim, Put, Seal, Feed, Rule, unmet_rule}
@@ -23,20 +23,20 @@ use Rattle.chip_core.proofs.ReachingLemmas.{run_legal, step_legal}
 
 is_numbered : (e n : ℕ) (xs : List ℕ) → messages_from e n xs ≡ numbered e n xs
 is_numbered e n [] = refl
-is_numbered e n (x ∷ xs) = ap (λ (ms : List Message). message_of e n x ∷ ms) (is_numbered e (n + 1) xs)
+is_numbered e n (x ∷ xs) = let a = is_numbered e (n + 1) xs in cc
 
 pub messages-append : (e n : ℕ) (xs ys : List ℕ)
     → messages_from e n (xs ++ ys) ≡ messages_from e n xs ++ messages_from e (n + length xs) ys
-messages-append e n xs ys = is_numbered e n (xs ++ ys) ∙ numbered-append e n xs ys
-    ∙ ap (λ (ms : List Message). ms ++ numbered e (n + length xs) ys) (sym (is_numbered e n xs))
-    ∙ ap (λ (ms : List Message). messages_from e n xs ++ ms) (sym (is_numbered e (n + length xs) ys))
+messages-append e n xs ys =
+    let a = is_numbered e n (xs ++ ys) in let b = numbered-append e n xs ys in let c = is_numbered e n xs in
+    let d = is_numbered e (n + length xs) ys in cc
 
 pub length-messages : (e n : ℕ) (xs : List ℕ) → length (messages_from e n xs) ≡ length xs
-length-messages e n xs = ap length (is_numbered e n xs) ∙ length-numbered e n xs
+length-messages e n xs = let a = is_numbered e n xs in let b = length-numbered e n xs in cc
 
 pub messages_in_order : (e n : ℕ) (xs : List ℕ) → AreInOrderFrom e n (messages_from e n xs)
 messages_in_order e n xs p m is = numbered_at e n xs p m
-    (ap (λ (ms : List Message). slice_get ms p) (sym (is_numbered e n xs)) ∙ is)
+    (let a = is_numbered e n xs in cc)
 
 chips_messages : (e n : ℕ) (xs : List ℕ) → chips_in (messages_from e n xs) ≡ sum xs
 chips_messages e n [] = refl
@@ -49,8 +49,7 @@ chips_messages e n (x ∷ xs) =
 -- one more count, in the list as it is to stand
 push : (e : ℕ) (xs : List ℕ) (n c : ℕ) → n ≡ length xs
     → messages_from e 0 (xs ++ c ∷ []) ≡ messages_from e 0 xs ++ message_of e n c ∷ []
-push e xs n c is = messages-append e 0 xs (c ∷ [])
-    ∙ ap (λ (k : ℕ). messages_from e 0 xs ++ message_of e k c ∷ []) (let z : 0 + length xs ≡ n = omega arith in z)
+push e xs n c is = let a = messages-append e 0 xs (c ∷ []) in let b : 0 + length xs ≡ n = omega arith in cc
 
 -- ---- replies that tell of no message
 
@@ -87,13 +86,12 @@ module _ (g : Setting) where
   sealed_before log [] e was = refl
   sealed_before log (x ∷ xs) e was =
       let o : Option Rule = unmet_rule g x (part_in g log (part_of g x)) in
-      ap (λ (ms : List Message). ms ++ sent_in e xs (replies_to g (step g log x).0 xs)) (no_send log e was x o)
-      ∙ sealed_before (step g log x).0 xs e (stays_sealed log e was x o)
+      let a = no_send log e was x o in let b = sealed_before (step g log x).0 xs e (stays_sealed log e was x o) in cc
 
   now_sealed : (log : Log) (e : ℕ) (x : Event) (o : Option Rule) → is_seal_of e x (answer g log x o).1 ≡ true
       → was_sealed (answer g log x o).0 e ≡ true
-  now_sealed log e x (Some r) is = absurd (true≢false (sym is ∙ not_seal e x r))
-  now_sealed log e (Seal i) None is = ap (λ (b : Bool). b || was_sealed log e) is
+  now_sealed log e x (Some r) is = absurd (true≢false (let a = not_seal e x r in cc))
+  now_sealed log e (Seal i) None is = cc
   now_sealed log e _ _ is = absurd (true≢false (sym is))
 
   -- nothing is sent after a seal
@@ -105,8 +103,8 @@ module _ (g : Setting) where
       by_test here
       (λ on. cond-true here (sent_in e xs (replies_to g next xs)) (sent_after_seal e xs (replies_to g next xs)) on
       ∙ sealed_before next xs e (now_sealed log e x (unmet_rule g x (part_in g log (part_of g x))) on))
-      (λ off. cond-false here (sent_in e xs (replies_to g next xs)) (sent_after_seal e xs (replies_to g next xs)) off
-      ∙ nothing_after_seal next xs e)
+      (λ off. (let c = cond-false here (sent_in e xs (replies_to g next xs)) (sent_after_seal e xs
+      (replies_to g next xs)) off in let d = nothing_after_seal next xs e in cc))
 
   -- ---- what was delivered
 
@@ -122,20 +120,18 @@ module _ (g : Setting) where
 
   got_answer : (log : Log) (x : Event) (o : Option Rule) (e : ℕ)
       → got_at (answer g log x o).0 e ≡ got_at log e ++ delivered_by e x (answer g log x o).1
-  got_answer log x None e = ap (messages_from e 0) (got_step g (saw x (sees g log x)) log e)
-      ∙ got_event x log e
-  got_answer log x (Some r) e = sym (ap (λ (l : List Message). got_at log e ++ l) (not_delivered e x r)
-      ∙ append-nil (got_at log e))
+  got_answer log x None e = let a = got_step g (saw x (sees g log x)) log e in let b = got_event x log e in cc
+  got_answer log x (Some r) e = let a = not_delivered e x r in let b = append-nil (got_at log e) in cc
 
   -- after a run: what was delivered before it, and what its replies say
   delivered_is : (log : Log) (xs : List Event) (e : ℕ)
       → got_at (log_after g log xs) e ≡ got_at log e ++ delivered_on g log xs e
   delivered_is log [] e = sym (append-nil (got_at log e))
   delivered_is log (x ∷ xs) e =
-      delivered_is (step g log x).0 xs e
-      ∙ ap (λ (l : List Message). l ++ delivered_on g (step g log x).0 xs e)
-      (got_answer log x (unmet_rule g x (part_in g log (part_of g x))) e)
-      ∙ append_assoc (got_at log e) (delivered_by e x (step g log x).1) (delivered_on g (step g log x).0 xs e)
+      let a = delivered_is (step g log x).0 xs e in
+      let b = got_answer log x (unmet_rule g x (part_in g log (part_of g x))) e in
+      let c = append_assoc (got_at log e) (delivered_by e x (step g log x).1) (delivered_on g
+      (step g log x).0 xs e) in cc
 
   module _ (game : IsGame g.game) (some_ring : 0 < g.ring) where
     -- ---- what was sent
@@ -172,20 +168,19 @@ module _ (g : Setting) where
 
     sent_answer : (log : Log) (x : Event) (o : Option Rule) (e : ℕ) → unmet_rule g x (part_in g log (part_of g x)) ≡ o
         → IsLegalLog g log → sent_at (answer g log x o).0 e ≡ sent_at log e ++ sent_by e x (answer g log x o).1
-    sent_answer log x None e met legal = ap (λ (t : Tail). messages_from e 0 (sent_counts t))
-        (link_step g (saw x (sees g log x)) log e) ∙ sent_event x log e legal met
-    sent_answer log x (Some r) e met legal = sym (ap (λ (l : List Message). sent_at log e ++ l) (not_sent e x r)
-        ∙ append-nil (sent_at log e))
+    sent_answer log x None e met legal =
+        let a = link_step g (saw x (sees g log x)) log e in let b = sent_event x log e legal met in cc
+    sent_answer log x (Some r) e met legal = let a = not_sent e x r in let b = append-nil (sent_at log e) in cc
 
     -- after a run: what was sent before it, and what its replies say
     sent_is : (log : Log) (xs : List Event) (e : ℕ) → IsLegalLog g log
         → sent_at (log_after g log xs) e ≡ sent_at log e ++ sent_in e xs (replies_to g log xs)
     sent_is log [] e legal = sym (append-nil (sent_at log e))
     sent_is log (x ∷ xs) e legal =
-        sent_is (step g log x).0 xs e (step_legal g log x legal)
-        ∙ ap (λ (l : List Message). l ++ sent_in e xs (replies_to g (step g log x).0 xs))
-        (sent_answer log x (unmet_rule g x (part_in g log (part_of g x))) e refl legal)
-        ∙ append_assoc (sent_at log e) (sent_by e x (step g log x).1) (sent_in e xs (replies_to g (step g log x).0 xs))
+        let a = sent_is (step g log x).0 xs e (step_legal g log x legal) in
+        let b = sent_answer log x (unmet_rule g x (part_in g log (part_of g x))) e refl legal in
+        let c = append_assoc (sent_at log e) (sent_by e x (step g log x).1) (sent_in e xs (replies_to g
+        (step g log x).0 xs)) in cc
 
     -- ---- what is in flight
 
@@ -195,22 +190,19 @@ module _ (g : Setting) where
         let s = edge_sound g game some_ring log legal e in
         let t = (out_in g log e).link in
         let got = (into_in g log e).got in
-        let front : got ≡ take (length got) (sent_counts t) = s.prefix
-        ∙ sym (take-append-le (length got) t.put (option_to_list t.held) s.behind) in
+        let front : got ≡ take (length got) (sent_counts t) =
+        (let a = take-append-le (length got) t.put (option_to_list t.held) s.behind in cc) in
         let whole : got ++ counts_in_flight g log e
-        ≡ sent_counts t = ap (λ (l : List ℕ). l ++ counts_in_flight g log e) front
-        ∙ take-append-drop (length got) (sent_counts t) in
-        ap (messages_from e 0) (sym whole) ∙ messages-append e 0 got (counts_in_flight g log e)
-        ∙ ap (λ (n : ℕ). got_at log e ++ messages_from e n (counts_in_flight g log e))
-        (let z : 0 + length got ≡ length got = omega arith in z)
+        ≡ sent_counts t = (let b = take-append-drop (length got) (sent_counts t) in cc) in
+        let c = messages-append e 0 got (counts_in_flight g log e) in
+        let d : 0 + length got ≡ length got = omega arith in grind (arith, nat_tests)
 
     -- all that was sent after a run: what was delivered before it, and what it had to deliver
     all_sent : (log : Log) (xs : List Event) (e : ℕ) → IsLegalLog g log
         → sent_at (log_after g log xs) e ≡ got_at log e ++ sent_on g log xs e
     all_sent log xs e legal =
-        sent_is log xs e legal ∙ ap (λ (l : List Message). l ++ sent_in e xs (replies_to g log xs))
-        (in_flight_is log e legal)
-        ∙ append_assoc (got_at log e) (in_flight g log e) (sent_in e xs (replies_to g log xs))
+        let a = sent_is log xs e legal in let b = in_flight_is log e legal in
+        let c = append_assoc (got_at log e) (in_flight g log e) (sent_in e xs (replies_to g log xs)) in cc
 
     -- the prefix law, with what is left
     pub left_is : (log : Log) (xs : List Event) (e : ℕ) → IsLegalLog g log
@@ -218,10 +210,9 @@ module _ (g : Setting) where
     left_is log xs e legal =
         let after : Log = log_after g log xs in
         append_cancel_left (got_at log e) (delivered_on g log xs e ++ in_flight g after e) (sent_on g log xs e)
-        (sym (append_assoc (got_at log e) (delivered_on g log xs e) (in_flight g after e))
-        ∙ ap (λ (l : List Message). l ++ in_flight g after e) (sym (delivered_is log xs e))
-        ∙ sym (in_flight_is after e (run_legal g log xs legal))
-        ∙ all_sent log xs e legal)
+        (let a = append_assoc (got_at log e) (delivered_on g log xs e) (in_flight g after e) in
+        let b = delivered_is log xs e in let c = in_flight_is after e (run_legal g log xs legal) in
+        let d = all_sent log xs e legal in cc)
 
     pub delivers_prefix : (log : Log) (xs : List Event) (e : ℕ) → IsLegalLog g log
         → IsPrefix (delivered_on g log xs e) (sent_on g log xs e)
@@ -241,19 +232,17 @@ module _ (g : Setting) where
         let enough : n ≤ length all = omega arith in
         let taken : length (take n all) ≡ n = Rattle.std.proofs.lemmas.List.length-take-le n all enough in
         let cut : messages_from e 0 all ≡ messages_from e 0 (take n all) ++ messages_from e n (drop n all) =
-        ap (messages_from e 0) (sym (take-append-drop n all)) ∙ messages-append e 0 (take n all) (drop n all)
-        ∙ ap (λ (k : ℕ). messages_from e 0 (take n all) ++ messages_from e k (drop n all))
-        (let z : 0 + length (take n all) ≡ n = omega arith in z) in
-        sym (drop_at (got_at log e) (sent_on g log xs e) n front) ∙ ap (drop n) (sym (all_sent log xs e legal) ∙ cut)
-        ∙ drop_at (messages_from e 0 (take n all)) (messages_from e n (drop n all)) n (length-messages e 0 (take n all)
-        ∙ taken)
+        (let a = take-append-drop n all in let b = messages-append e 0 (take n all) (drop n all) in
+        let c : 0 + length (take n all) ≡ n = omega arith in cc) in
+        let d = drop_at (got_at log e) (sent_on g log xs e) n front in let f = all_sent log xs e legal in
+        let h = drop_at (messages_from e 0 (take n all)) (messages_from e n (drop n all)) n
+        (let k = length-messages e 0 (take n all) in grind (arith, nat_tests)) in cc
 
     pub sent_in_order : (log : Log) (xs : List Event) (e : ℕ) → IsLegalLog g log
         → AreInOrderFrom e (length (into_in g log e).got) (sent_on g log xs e)
-    sent_in_order log xs e legal = subst (AreInOrderFrom e (length (into_in g log e).got))
-        (sym (sent_stands log xs e legal))
-        (messages_in_order e (length (into_in g log e).got)
-        (drop (length (into_in g log e).got) (sent_counts (out_in g (log_after g log xs) e).link)))
+    sent_in_order log xs e legal = rw (sent_stands log xs e legal) (messages_in_order e (length
+        (into_in g log e).got) (drop (length (into_in g log e).got) (sent_counts (out_in g
+        (log_after g log xs) e).link)))
 
     -- ---- from the opening
 
@@ -278,10 +267,9 @@ module _ (g : Setting) where
         let none : sent_at [] e ≡ [] = ap (messages_from e 0) (append-nil (first_put g e)
         ∙ nil_from_length (first_put g e) (first_few g e l)) in
         let sent : sent_in e xs (replies_to g [] xs)
-        ≡ sent_at after e = sym (sent_is [] xs e tt
-        ∙ ap (λ (ms : List Message). ms ++ sent_in e xs (replies_to g [] xs)) none) in
+        ≡ sent_at after e = (let a = sent_is [] xs e tt in grind (arith, nat_tests)) in
         let chips : chips_in (sent_in e xs (replies_to g [] xs)) ≡ sum (sent_counts (out_in g after e).link) =
-        ap chips_in sent ∙ chips_messages e 0 (sent_counts (out_in g after e).link) in
+        (let b = chips_messages e 0 (sent_counts (out_in g after e).link) in cc) in
         let all = held_is g game some_ring after (run_legal g [] xs tt) e l in
         omega arith
 
@@ -292,4 +280,4 @@ opening_messages g e = ap (messages_from e 0) (append-nil (first_put g e))
 
 pub in_order_from_the_opening : InOrderFromTheOpening
 in_order_from_the_opening g game some_ring xs e p m is = let at = sent_in_order g game some_ring [] xs e tt p m is in
-    (at.0, at.1 ∙ (let z : 0 + p ≡ p = omega arith in z))
+    (at.0, (let a : 0 + p ≡ p = omega arith in cc))

@@ -15,7 +15,6 @@ pub use Rattle.std.proofs.lemmas.List.Elements.{Contains-push_cases}
 pub use Rattle.std.proofs.lemmas.List.FromFn.{fill_by_all, get_or-map-range_with_len, length-map-range_with_len}
 pub use Rattle.std.proofs.lemmas.List.Sums.{sum_by-cons, sum_by-append, get_or-le-sum_by, sum_by-take-drop}
 pub use Rattle.std.proofs.lemmas.Nat.{mod_below}
-pub use Rattle.std.specs.List.{slice_get}
 pub use Rattle.std.specs.List.Sorted.{IsStrictlyIncreasing}
 pub use mathlib.Core.Logic.{dite}
 pub use native.Mathlib.Decide.{dec_lt, ℕ_discrete}
@@ -68,7 +67,7 @@ pub use Rattle.chip_part.proofs.RestingLemmas.{rests, idle_little, nothing_left,
 pub use Rattle.chip_part.proofs.RuleLemmas.{rules_met, met_rules, running, some_of, is_none_of}
 pub use Rattle.chip_part.proofs.TurnLemmas.{at_most_one}
 pub use Rattle.chip_part.specs.Acting.{FitsSeen, is_of_root, FitsRoot}
-pub use Rattle.chip_part.specs.Counting.{is_got, is_sent, work_of}
+pub use Rattle.chip_part.specs.Counting.{is_sent, work_of}
 pub use Rattle.chip_part.specs.Edges.{over_ins, start_of, mult_of, chips_of_firings}
 pub use Rattle.chip_part.specs.Kept.{IsNeutral, Met, opening_tail, KeepsOut, KeepsPart}
 pub use Rattle.chip_part.specs.Part.{pending_of, owed, is_passive, is_legal, is_running, may_ack, deficit, unput_count}
@@ -83,13 +82,12 @@ pub use Rattle.chip_part.specs.declared.cause.Cause.{Cause}
 pub use Rattle.chip_part.specs.declared.cause.Cause.TheVariants.{SealedEdge, FiringLimit}
 pub use Rattle.chip_part.specs.declared.reply.Reply.TheVariants.{Got, Sent, Empty, Sealed, NotNow}
 pub use Rattle.chip_core.specs.Closing.{HasEnd, is_new_look, Advances, AsksFor, AsksForEverything, RootHasPut, HasTurn}
-pub use Rattle.chip_core.specs.Closing.{HasRound, StirsNothing, NothingIsTold, IsStretch, HasStretches, HasRounds}
+pub use Rattle.chip_core.specs.Closing.{HasRound, StirsNothing, NothingIsTold, HasStretches, HasRounds}
 pub use Rattle.chip_core.specs.Core.{Log, Step, Event, Part, Take, Ack, Fire, Clear, Claim, Put, Halt, Settle, Seal}
 pub use Rattle.chip_core.specs.Core.{Read, Feed, End, part_of, does, part_in, out_in, into_in, IsLegalLog, outstanding}
 pub use Rattle.chip_core.specs.Core.{tail_of, head_of, root, all_edges, graph_edges, Rule, unmet_rule, sees}
 pub use Rattle.chip_core.specs.Core.{is_by_limit, answer, step, log_after, IsClosed, stopper, root_edge, Out, IsSettled}
-pub use Rattle.chip_core.specs.Core.{fired_by, stop_in, Into, reply_of, replies_to, word_of_part, opening_part, seen_of}
-pub use Rattle.chip_core.specs.Core.{Reply}
+pub use Rattle.chip_core.specs.Core.{fired_by, stop_in, Into, reply_of, replies_to, word_of_part, opening_part}
 pub use Rattle.chip_core.specs.Detection.{IsTree, IsDetectionOrder}
 pub use Rattle.chip_core.specs.Headline.{NoneHalted, NoneHaltedBySeal, Headline}
 pub use Rattle.chip_core.specs.Histories.{done_by, part_by}

@@ -1,6 +1,6 @@
 -- Serves Core.antt, Laws.antt.
 -- The numbers of a legal log, the cells and words that its events see, and that these keep within the limits.
-use Rattle.chip_core.proofs.Names.{nat_tests, ◌≡◌, ◌≢◌, ◌↔◌, ℕ, suc, ◌+◌, ◌-◌, ◌^◌, ◌<◌, ◌≤◌, ◌||◌, Bool, true, false}
+use Rattle.chip_core.proofs.Names.{nat_tests, ◌≡◌, ◌≢◌, ◌↔◌, ℕ, suc, ◌+◌, ◌-◌, ◌^◌, ◌<◌, ◌≤◌, ◌||◌, true, false}
 use Rattle.chip_core.proofs.Names.{eqb, List, [], ◌∷◌, length, sum, drop, get_or, Option, Some, None, option_to_list}
 use Rattle.chip_core.proofs.Names.{is_some, refl, sym, ap, ◌∙◌, subst, arith, eq-eqb, leb-true, true≢false, get_or_past}
 use Rattle.chip_core.proofs.Names.{get_or_append_left, get_or-drop, length-drop, sum_by-cons, sum_by-append}
@@ -42,8 +42,9 @@ module _ (g : Setting) where
   -- the stopper's part has a word exactly if a seal was made
   pub seals_stand : (log : Log) (e : ℕ) → was_sealed log e ≡ is_some (stop_in g log e)
   seals_stand [] e = refl
-  seals_stand (x ∷ log) e = ap (λ (b : Bool). is_seal e x.event || b) (seals_stand log e)
-      ∙ sym (ap is_some (stop_step g x log e) ∙ seal_step x.event x.seen e (stop_in g log e))
+  seals_stand (x ∷ log) e =
+      let a = seals_stand log e in let b = stop_step g x log e in
+      let c = seal_step x.event x.seen e (stop_in g log e) in cc
 
   module _ (game : IsGame g.game) (some_ring : 0 < g.ring) (log : Log) (legal : IsLegalLog g log) where
     -- ---- chips
@@ -90,8 +91,7 @@ module _ (g : Setting) where
         let b = held_sum t.held s.held_counted in
         let c = sum_by-append (λ (x : ℕ). x) t.put (option_to_list t.held) in
         let at : root_edge g (e - graph_edges g) ≡ e = omega arith in
-        let d = ap (λ (i : ℕ). sum (sent_counts (out_in g log i).link)) at in
-        omega arith
+        grind (arith, nat_tests)
 
     given_most : (v : ℕ) → chips_given g log v ≤ sum (played_game g log).start
     given_most v = dite (dec_lt v g.game.graph.vertices)
@@ -141,9 +141,9 @@ module _ (g : Setting) where
         let behind = (edge_sound g game some_ring log legal e).behind in
         let l : n < length t.put = dite (dec_lt n (length t.put)) (λ h. h)
         (λ past. absurd (some (get_or_past t.put n 0 (omega arith)))) in
-        let first : get_or (drop n (sent_counts t)) 0 0 ≡ get_or t.put n 0 = get_or-drop n (sent_counts t) 0 0
-        ∙ ap (λ (p : ℕ). get_or (sent_counts t) p 0) (let z : n + 0 ≡ n = omega arith in z)
-        ∙ get_or_append_left t.put (option_to_list t.held) 0 n l in
+        let first : get_or (drop n (sent_counts t)) 0 0 ≡ get_or t.put n 0 = (let a = get_or-drop n
+        (sent_counts t) 0 0 in let b : n + 0 ≡ n = omega arith in
+        let c = get_or_append_left t.put (option_to_list t.held) 0 n l in cc) in
         let long = length-drop n (sent_counts t) in
         let all = length-sent_counts t in
         let sum_has = get_or-le-sum_by (λ (x : ℕ). x) (drop n (sent_counts t)) 0 0 (omega arith) in
@@ -184,9 +184,9 @@ module _ (g : Setting) where
 
     pub words : WordsOf g log
     words = record {
-      unsealed = λ e off. ap (edge_word (claims_of (out_in g log e).link)) (sym (seals_stand log e) ∙ off)
-          ∙ (let z : edge_word (claims_of (out_in g log e).link) false ≡ claims_of (out_in g log e).link = omega arith in
-          z);
+      unsealed = λ e off. (let a = seals_stand log e in
+          let b : edge_word (claims_of (out_in g log e).link) false ≡ claims_of (out_in g log e).link = omega arith in
+          cc);
       sealed = λ e on. ap (edge_word (claims_of (out_in g log e).link)) (sym (seals_stand log e) ∙ on);
       claims = λ e. (edge_reads e).claims_are;
       fired = λ v. (fired_reads v).fired_is;
@@ -222,8 +222,7 @@ module _ (g : Setting) where
     -- the same of a settle of a root edge, by the root's part
     root_settle_fits : (e : ℕ) → graph_edges g ≤ e
         → FitsSeen (part_in g log (root g)) (Settle e) (sees g log (Settle e))
-    root_settle_fits e past = subst (λ (p : ℕ). FitsSeen (part_in g log p) (Settle e) (sees g log (Settle e)))
-        (tail_root g e past) (settle_fits e)
+    root_settle_fits e past = let a = tail_root g e past in let b = settle_fits e in grind (arith, nat_tests)
 
     pub root_fits : (x : Event) → is_of_root g x ≡ true → unmet_rule g x (part_in g log (root g)) ≡ None
         → FitsRoot g (part_in g log (root g)) x (sees g log x)
@@ -231,8 +230,7 @@ module _ (g : Setting) where
     root_fits End own met = root_settle_fits (root_edge g 0) (omega arith)
     root_fits (Feed e k) own met =
         let past = (rules_met g (Feed e k) (part_in g log (root g)) met).0 in
-        feed_sees g log legal e k past
-        ∙ ap (λ (p : ℕ). claims_of ((part_in g log p).out e).link) (tail_root g e past)
+        let a = feed_sees g log legal e k past in let b = tail_root g e past in cc
     root_fits (Clear e) own met = tt
     root_fits (Put e) own met = tt
     root_fits (Read v) own met = tt
@@ -263,6 +261,6 @@ unfed_is_the_start g game some_ring log legal off = (
 
 pub feeds_are_sent : FeedsAreSent
 feeds_are_sent g game some_ring log legal e k past = (
-  seals_stand g log e ∙ ap is_some (never_sealed g log legal e past),
+  let a = seals_stand g log e in let b = never_sealed g log legal e past in cc,
   feed_sees g log legal e k past,
 )

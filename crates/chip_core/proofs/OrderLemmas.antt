@@ -1,6 +1,6 @@
 -- Serves Core.antt. A detection order exists in every legal log, and what it says if the root is closed.
-use Rattle.chip_core.proofs.Names.{eqb-true, ◌≡◌, ◌≢◌, ◌⊎◌, ℕ, ◌-◌, ◌<◌, ◌&&◌, cond, eqb, List, [], ◌∷◌, length, get_or}
-use Rattle.chip_core.proofs.Names.{Option, Some, None, Contains, refl, sym, ap, ◌∙◌, subst, arith, inl, inr, ⊎_elim}
+use Rattle.chip_core.proofs.Names.{eqb-true, ◌≡◌, ◌≢◌, ◌⊎◌, ℕ, ◌<◌, ◌&&◌, cond, eqb, List, [], ◌∷◌, length, get_or}
+use Rattle.chip_core.proofs.Names.{Option, Some, None, Contains, refl, sym, ◌∙◌, subst, arith, inl, inr, ⊎_elim}
 use Rattle.chip_core.proofs.Names.{get_or_past, dite, ℕ_discrete, dec_lt, IsGame, Setting, cond_yes, cond_no, by_test}
 use Rattle.chip_core.proofs.Names.{is_parent, or_else, owed, may_ack, parent_after, saw, IsNeutral, rules_met, at_edge}
 use Rattle.chip_core.proofs.Names.{out_zero, Log, Step, Event, Take, Ack, Part, part_of, does, part_in, out_in, into_in}
@@ -44,7 +44,7 @@ module _ (g : Setting) (game : IsGame g.game) (some_ring : 0 < g.ring) where
       let zero_out : outstanding ((part_in g log h).out e)
       ≡ 0 = out_zero g h (λ i. outstanding ((part_in g log h).out i)) rest.no_deficit e l at in
       let same : outstanding (out_in g log e) ≡ outstanding ((part_in g log h).out e) =
-      ap (λ (p : ℕ). outstanding ((part_in g log p).out e)) at in
+      cc in
       absurd (omega arith)
 
   -- what is known of the parent edge of a vertex
@@ -84,7 +84,7 @@ module _ (g : Setting) (game : IsGame g.game) (some_ring : 0 < g.ring) where
 
   chain_some : (par : ℕ → Option ℕ) (vs : List ℕ) → Chain par vs → (v : ℕ) → Contains vs v → par v ≡ None → ⊥
   chain_some par [] c v m none = contains_nothing v m
-  chain_some par (u ∷ us) c v m none = ⊎_elim (λ e. none_some c.2.0 (par u) (ap par (sym e) ∙ none) c.2.1)
+  chain_some par (u ∷ us) c v m none = ⊎_elim (λ e. none_some c.2.0 (par u) (cc) c.2.1)
       (λ z. chain_some par us c.0 v z none) (contains_cases u us v m)
 
   chain_without : (par par' : ℕ → Option ℕ) (h : ℕ) → ((v : ℕ) → v ≢ h → par' v ≡ par v)
@@ -92,10 +92,9 @@ module _ (g : Setting) (game : IsGame g.game) (some_ring : 0 < g.ring) where
   unfolding without
   chain_without par par' h same free [] c = tt
   chain_without par par' h same free (v ∷ vs) c = dite (ℕ_discrete v h)
-      (λ e. subst (Chain par') (sym (cond_yes v h (without h vs) (v ∷ without h vs) e))
-      (chain_without par par' h same free vs c.0))
-      (λ ne. subst (Chain par') (sym (cond_no v h (without h vs) (v ∷ without h vs) ne))
-      (let now : par' v ≡ Some c.2.0 = same v ne ∙ c.2.1 in (
+      (λ e. rw (cond_yes v h (without h vs) (v ∷ without h vs) e) (chain_without par par' h same free vs c.0))
+      (λ ne. rw (cond_no v h (without h vs) (v ∷ without h vs) ne)
+      (let now : par' v ≡ Some c.2.0 = (let a = same v ne in cc) in (
         chain_without par par' h same free vs c.0,
         (λ m. c.1 (contains_without v h vs m)),
         (
@@ -122,9 +121,8 @@ module _ (g : Setting) (game : IsGame g.game) (some_ring : 0 < g.ring) where
       → (parents (x ∷ log) h ≡ parent_after g x.event x.seen (part_in g log h))
       × ((v : ℕ) → v ≢ h → parents (x ∷ log) v ≡ parents log v)
   one_parent x log h is = (
-    ap (λ (s : Part). s.parent) (part_here g x log h is),
-    λ v ne. ap
-        (λ (s : Part). s.parent) (part_else g x log v (λ z. ne (sym z ∙ is))),
+    let a = part_here g x log h is in cc,
+    λ v ne. (let b = part_else g x log v (λ z. ne (cc)) in cc),
   )
 
   order_step : (log : Log) (ev : Event) (seen : ℕ) → IsLegalLog g (saw ev seen ∷ log)
@@ -138,15 +136,15 @@ module _ (g : Setting) (game : IsGame g.game) (some_ring : 0 < g.ring) where
       (λ none. still_ordered x log (cond_yes seen 0 _ _ none) o)
       (λ some. ⊎_elim
       (λ was.
-      let now : parents (x ∷ log) h ≡ Some e = one.0 ∙ cond_no seen 0 (parents log h) (or_else (parents log h) e) some
-      ∙ ap (λ (p : Option ℕ). or_else p e) was in
+      let now : parents (x ∷ log) h ≡ Some e =
+      (let a = cond_no seen 0 (parents log h) (or_else (parents log h) e) some in cc) in
       let fresh : Contains o.0 h → ⊥ = (λ m. chain_some (parents log) o.0 o.1 h m was) in
       let c = edge_counts g game some_ring log legal.0 e in let c0 = c.0 in let c1 = c.1 in let c3 = c.3 in
       let is : seen ≡ get_or (out_in g log e).link.put (length (into_in g log e).got) 0 = legal.1.1 in
       let flies : length (into_in g log e).got < length (out_in g log e).link.put =
       dite (dec_lt (length (into_in g log e).got) (length (out_in g log e).link.put)) (λ z. z)
-      (λ past. absurd (some (is
-      ∙ get_or_past (out_in g log e).link.put (length (into_in g log e).got) 0 (omega arith)))) in
+      (λ past. absurd (some (let b = get_or_past (out_in g log e).link.put (length (into_in g log e).got) 0
+      (omega arith) in cc))) in
       let below : (tail_of g e ≡ root g)
       ⊎ Contains o.0 (tail_of g e) = ⊎_elim (λ z. inl z)
       (λ t. ⊎_elim (λ z. inr z)
@@ -158,11 +156,10 @@ module _ (g : Setting) (game : IsGame g.game) (some_ring : 0 < g.ring) where
           fresh,
           (e, now, below),
         ),
-        λ v inside out. one.1 v (λ z. out (subst (Contains (h ∷ o.0)) (sym z) (contains_first h o.0)))
-            ∙ o.2 v inside (λ m. out (contains_later h o.0 v m)),
+        λ v inside out. (let d = one.1 v (λ z. out (subst (Contains (h ∷ o.0)) (sym z) (contains_first h o.0))) in
+            let f = o.2 v inside (λ m. out (contains_later h o.0 v m)) in cc),
       ))
-      (λ q. still_ordered x log (cond_no seen 0 (parents log h) (or_else (parents log h) e) some
-      ∙ ap (λ (p : Option ℕ). or_else p e) q.1 ∙ sym q.1) o)
+      (λ q. still_ordered x log (let k = cond_no seen 0 (parents log h) (or_else (parents log h) e) some in cc) o)
       (cases_option (parents log h)))
   order_step log (Ack e) seen legal o =
       let x : Step = saw (Ack e) seen in
@@ -179,8 +176,8 @@ module _ (g : Setting) (game : IsGame g.game) (some_ring : 0 < g.ring) where
         without h o.0,
         chain_without (parents log) (parents (x ∷ log)) h one.1 free o.0 o.1,
         λ v inside out. dite (ℕ_discrete v h)
-            (λ z. subst (λ (u : ℕ). parents (x ∷ log) u ≡ None) (sym z) now)
-            (λ z. one.1 v z ∙ o.2 v inside (λ m. out (without_contains v h o.0 z m))),
+            (λ z. rw z now)
+            (λ z. (let a = one.1 v z in let b = o.2 v inside (λ m. out (without_contains v h o.0 z m)) in cc)),
       ))
       (λ n. still_ordered x log (cond-false _ None s.parent n) o)
   order_step log ev seen legal o = still_ordered (saw ev seen) log refl o
@@ -220,12 +217,12 @@ module _ (g : Setting) (game : IsGame g.game) (some_ring : 0 < g.ring) where
         let some = p.3 in
         ⊎_elim (λ z. let a = settled c.2.0 p.0 z in absurd (omega arith))
         (λ z. absurd (contains_nothing (tail_of g c.2.0)
-        (subst (λ (l : List ℕ). Contains l (tail_of g c.2.0)) none z))) c.2.2
+        (rw none at z))) c.2.2
 
     pub all_neutral : (v : ℕ) → v < g.game.graph.vertices → IsNeutral g v (part_in g log v)
     all_neutral v l = let o = ordered log legal in
         (part_kept g game log legal v).neutral l
-        (o.2 v l (λ m. contains_nothing v (subst (λ (us : List ℕ). Contains us v) (no_engaged o.0 o.1) m)))
+        (o.2 v l (λ m. contains_nothing v (rw (no_engaged o.0 o.1) at m)))
 
     pub none_outstanding : (e : ℕ) → e < all_edges g → outstanding (out_in g log e) ≡ 0
     none_outstanding e l = ⊎_elim (λ z. settled e l z)

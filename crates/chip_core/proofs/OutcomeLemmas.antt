@@ -1,7 +1,7 @@
 -- Serves Core.antt, Outcomes.antt, Positions.antt. What the outcome of a closed log tells: a report takes it, a firing
 -- sequence leads to it, and if no seal halted a vertex every player comes to it.
 use Rattle.chip_core.proofs.Names.{nat_tests, ◌≡◌, ℕ, ◌^◌, ◌<◌, ◌≤◌, true, false, not, ◌&&◌, eqb, leb, List, All}
-use Rattle.chip_core.proofs.Names.{Contains, length, slice_index, Option, Some, sym, ap, ◌∙◌, subst, arith, true≢false}
+use Rattle.chip_core.proofs.Names.{Contains, length, slice_index, Option, Some, sym, ◌∙◌, subst, arith, true≢false}
 use Rattle.chip_core.proofs.Names.{IsStrictlyIncreasing, get_or_past, All-from_get_or, get_or-le-sum_by, dite, dec_lt}
 use Rattle.chip_core.proofs.Names.{degree, IsGame, Setting, All-picked, picked_none, picked_ext, picked_ascends}
 use Rattle.chip_core.proofs.Names.{Contains-picked, Outcome, IsOutcome, IsPlayed, legal_vertices, position_after}
@@ -25,14 +25,16 @@ module _ (g : Setting) (game : IsGame g.game) (some_ring : 0 < g.ring) (log : Lo
 
   -- what isn't a vertex never fires
   fired_outside : (v : ℕ) → g.game.graph.vertices ≤ v → fired_by g log v ≡ 0
-  fired_outside v past = sym (counts_are g log v)
-      ∙ counts_outside g.game.graph (firings log) (chips_given g log) v (is_sequence g game some_ring log legal) past
+  fired_outside v past =
+      let a = counts_are g log v in let b = counts_outside g.game.graph (firings log) (chips_given g log) v
+      (is_sequence g game some_ring log legal) past in cc
 
   all_fired : (fired : List ℕ) → AreFired g log g.game.graph.vertices fired → (v : ℕ)
       → slice_index fired v ≡ fired_by g log v
   all_fired fired are v = dite (dec_lt v g.game.graph.vertices)
       (are.each v)
-      (λ nl. let n = are.count_is in get_or_past fired v 0 (omega arith) ∙ sym (fired_outside v (omega arith)))
+      (λ nl. let n = are.count_is in let a = get_or_past fired v 0 (omega arith) in
+      let b = fired_outside v (omega arith) in cc)
 
   same_fired : (fired : List ℕ) → AreFired g log g.game.graph.vertices fired → slice_index fired ≡ fired_by g log
   same_fired fired are j v = all_fired fired are v j
@@ -41,7 +43,7 @@ module _ (g : Setting) (game : IsGame g.game) (some_ring : 0 < g.ring) (log : Lo
   pub never_negative : (fired : List ℕ) → AreFired g log g.game.graph.vertices fired → (v : ℕ)
       → IsBelowZero g.game.graph (chips_given g log) (slice_index fired) v → ⊥
   never_negative fired are v low = none_below g game some_ring log legal v
-      (subst (λ (f : ℕ → ℕ). IsBelowZero g.game.graph (chips_given g log) f v) (same_fired fired are) low)
+      (rw (← (same_fired fired are)) low)
 
   -- nothing lies at a number that no vertex has
   chips_outside : (v : ℕ) → g.game.graph.vertices ≤ v → position_by_counts g.game.graph (chips_given g log) (fired_by g log) v
@@ -54,22 +56,19 @@ module _ (g : Setting) (game : IsGame g.game) (some_ring : 0 < g.ring) (log : Lo
   module _ (o : Outcome) (is : IsOutcomeOf g log o) where
     chips_are : (v : ℕ) → slice_index o.chips.items v ≡ position_after g.game.graph (chips_given g log) (firings log) v
     chips_are v =
+        let at = by_counts g game some_ring log legal v in
         dite (dec_lt v g.game.graph.vertices)
-        (λ l. is.chips.by_counts v l
-        ∙ ap (λ (x : ℕ → ℕ). position_by_counts g.game.graph x (slice_index o.fired.items) v)
-        (given_is g game some_ring log legal)
-        ∙ ap (λ (f : ℕ → ℕ). position_by_counts g.game.graph (chips_given g log) f v)
-        (same_fired o.fired.items is.fired))
-        (λ nl. let n = is.chips.chips_each in get_or_past o.chips.items v 0 (omega arith)
-        ∙ sym (chips_outside v (omega arith)))
-        ∙ sym (by_counts g game some_ring log legal v)
+        (λ l. (let chips = is.chips.by_counts v l in let given = given_is g game some_ring log legal in
+        let fired = same_fired o.fired.items is.fired in cc))
+        (λ nl. (let each = is.chips.chips_each in let none = get_or_past o.chips.items v 0 (omega arith) in
+        let outside = chips_outside v (omega arith) in cc))
 
     -- the firings that were made come to it
     pub comes : ComesTo g (chips_given g log) (firings log) o
     comes = record {
       sequence = is_sequence g game some_ring log legal;
       within = is_within g game some_ring log legal;
-      counted = λ v. all_fired o.fired.items is.fired v ∙ sym (counts_are g log v);
+      counted = λ v. (let a = all_fired o.fired.items is.fired v in let b = counts_are g log v in cc);
       position = chips_are;
     }
 
@@ -81,15 +80,15 @@ module _ (g : Setting) (game : IsGame g.game) (some_ring : 0 < g.ring) (log : Lo
     apart : (v : ℕ) → Contains o.over.items v → Contains o.sealed.items v → ⊥
     apart v limit seal = one_cause (part_in g log v).halt
         (Contains-picked (λ u. is_by_limit (part_in g log u).halt) g.game.graph.vertices v
-        (subst (λ (l : List ℕ). Contains l v) is.over limit)).1
+        (rw (← is.over) limit)).1
         (Contains-picked (λ u. is_by_seal (part_in g log u).halt) g.game.graph.vertices v
-        (subst (λ (l : List ℕ). Contains l v) is.sealed seal)).1
+        (rw (← is.sealed) seal)).1
 
     pub in_range : IsOutcome o
     in_range =
         let vertices = is.fired.count_is in
         record {
-          same_length = is.chips.chips_each ∙ sym vertices;
+          same_length = cc;
           some_vertex = (let a = game.graph_fits.some_vertex in omega arith);
           few_vertices = (let a = game.graph_fits.few_vertices in omega arith);
           few_firings = All-from_get_or (λ n. n ≤ 2 ^ 40) o.fired.items 0
@@ -117,13 +116,14 @@ module _ (g : Setting) (game : IsGame g.game) (some_ring : 0 < g.ring) (log : Lo
 
       -- the chips that lie there are those of the outcome
       chips_lie : (v : ℕ) → v < g.game.graph.vertices → chips_at g log v ≡ slice_index o.chips.items v
-      chips_lie v l = (agrees_within g game some_ring log legal closed no_seal (firings log) whole).chips v l
-          ∙ sym (chips_are v)
+      chips_lie v l =
+          let a = (agrees_within g game some_ring log legal closed no_seal (firings log) whole).chips v l in
+          let b = chips_are v in cc
 
       same_legal : legal_vertices g.game.graph (chips_at g log) ≡ legal_vertices g.game.graph (slice_index o.chips.items)
       same_legal = picked_ext (λ v. not (eqb v g.game.graph.sink) && leb (degree g.game.graph v) (chips_at g log v))
           (λ v. not (eqb v g.game.graph.sink) && leb (degree g.game.graph v) (slice_index o.chips.items v)) g.game.graph.vertices
-          (λ v l. ap (λ (x : ℕ). not (eqb v g.game.graph.sink) && leb (degree g.game.graph v) x) (chips_lie v l))
+          (λ v l. (let a = chips_lie v l in cc))
 
       -- it is every player's, in the game that was played
       pub is_played : IsPlayed (played_game g log) o
@@ -131,12 +131,11 @@ module _ (g : Setting) (game : IsGame g.game) (some_ring : 0 < g.ring) (log : Lo
           let from : chips_given g log ≡ slice_index (played_game g log).start =
           sym (given_is g game some_ring log legal) in
           record {
-            ends = (firings log, subst (λ (x : ℕ → ℕ). IsWholePlay g.game.graph x g.game.limit (firings log)) from whole);
+            ends = (firings log, rw (← from) whole);
             fired_each = is.fired.count_is;
             chips_each = is.chips.chips_each;
-            counted = λ vs play v. comes.counted v ∙ (ends_alike vs play).0 v;
-            position = λ vs play v. comes.position v ∙ (ends_alike vs play).1 v
-                ∙ ap (λ (x : ℕ → ℕ). position_after g.game.graph x vs v) from;
+            counted = λ vs play v. (let a = comes.counted v in let b = (ends_alike vs play).0 v in cc);
+            position = λ vs play v. (let c = comes.position v in let d = (ends_alike vs play).1 v in cc);
             low_counts = low_counts;
             kept = is.chips.kept;
             over = is.over ∙ over g game some_ring log legal closed no_seal ∙ same_legal;
@@ -149,7 +148,7 @@ module _ (g : Setting) (game : IsGame g.game) (some_ring : 0 < g.ring) (log : Lo
               × ((u : ℕ) → position_after g.game.graph (chips_given g log) (firings log) u
               ≡ position_after g.game.graph (chips_given g log) vs u)
           ends_alike vs play = one_end g.game.graph (chips_given g log) g.game.limit (firings log) vs whole
-              (subst (λ (x : ℕ → ℕ). IsWholePlay g.game.graph x g.game.limit vs) (given_is g game some_ring log legal) play)
+              (rw (← (given_is g game some_ring log legal)) play)
 
 pub outcomes_tell : OutcomesTell
 outcomes_tell g game some_ring log legal o is = record {

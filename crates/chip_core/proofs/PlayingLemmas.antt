@@ -1,7 +1,7 @@
 -- Serves Playing.antt.
 -- If nothing is sealed, fair schedules play the game.
-use Rattle.chip_core.proofs.Names.{◌≡◌, ℕ, Bool, false, cond, eqb, eqb-true, [], ◌∷◌, Option, Some, None, refl, sym, ap}
-use Rattle.chip_core.proofs.Names.{◌∙◌, arith, ◌<◌, ◌++◌, true≢false, nat_tests, IsGame, tested_none, Tail, after_claim}
+use Rattle.chip_core.proofs.Names.{◌≡◌, ℕ, false, cond, eqb, eqb-true, [], ◌∷◌, Option, Some, None, refl}
+use Rattle.chip_core.proofs.Names.{arith, ◌<◌, ◌++◌, true≢false, nat_tests, IsGame, tested_none, after_claim}
 use Rattle.chip_core.proofs.Names.{word_of, Setting, refusals, cause, link_after, halt_after, stop_after, at_edge}
 use Rattle.chip_core.proofs.Names.{is_none_of, Log, Event, Clear, Claim, Put, Halt, Feed, Seal, Part, part_of, part_in}
 use Rattle.chip_core.proofs.Names.{does, out_in, stop_in, sees, IsLegalLog, IsClosed, tail_of, all_edges, log_after}
@@ -42,8 +42,8 @@ module _ (g : Setting) where
     halt_step : ((v : ℕ) → is_by_seal (part_in g log v).halt ≡ false) → (x : Event)
         → is_by_seal (halt_after g x (part_in g log (part_of g x))) ≡ false
     halt_step old (Halt v) = cause_step g v (part_in g log v) (tested_none (all_edges g) (λ e. eqb (tail_of g e) v)
-        (λ e. cond ((part_in g log v).out e).link.refused 1 0) (λ e l on. ap (λ (b : Bool). cond b 1 0)
-        (ap (λ (u : ℕ). ((part_in g log u).out e).link.refused) (sym (eqb-true (tail_of g e) v on)) ∙ none e)))
+        (λ e. cond ((part_in g log v).out e).link.refused 1 0) (λ e l on. (let a = eqb-true (tail_of g e) v on in
+        let b = none e in cc)))
     halt_step old x = old (part_of g x)
 
   -- if nothing is sealed, no claim is refused, and no seal halts a vertex
@@ -52,17 +52,17 @@ module _ (g : Setting) where
   unsealed_refuses [] legal none = ((λ e. refl), (λ v. refl))
   unsealed_refuses (x ∷ log) legal none =
       let before : (e : ℕ) → stop_in g log e ≡ None =
-      (λ e. was_open x.event x.seen e (stop_in g log e) (sym (stop_step g x log e) ∙ none e)) in
+      (λ e. was_open x.event x.seen e (stop_in g log e) (let a = stop_step g x log e in let b = none e in cc)) in
       let old = unsealed_refuses log legal.0 before in (
-        (λ e. ap (λ (t : Tail). t.refused) (link_step g x log e)
-            ∙ refused_step log before old.0 x.event x.seen legal.1.1 e),
+        (λ e. (let c = link_step g x log e in let d = refused_step log before old.0 x.event x.seen legal.1.1 e in
+            cc)),
         at_edge (λ _ (s : Part). is_by_seal s.halt ≡ false) (part_of g x.event) (λ v. does g x (part_in g log v))
             (part_in g log) (halt_step log before old.0 old.1 x.event) old.1,
       )
 
 pub unsealed_halts_none : UnsealedHaltsNone
-unsealed_halts_none g game some_ring log legal open_all v l is = true≢false (sym (ap is_by_seal is)
-    ∙ (unsealed_refuses g log legal (λ e. is_none_of (stop_in g log e) (sym (seals_stand g log e) ∙ open_all e))).1 v)
+unsealed_halts_none g game some_ring log legal open_all v l is = true≢false (let a = (unsealed_refuses g log legal
+    (λ e. is_none_of (stop_in g log e) (let b = seals_stand g log e in let c = open_all e in cc))).1 v in cc)
 
 pub plays_out : (g : Setting) → IsGame g.game → 0 < g.ring → (log : Log) → IsLegalLog g log → SealsNone log → IsClosed g log
     → PlaysOut g log

@@ -1,7 +1,7 @@
 -- Serves Core.antt.
 -- The full position is the position after the firings that were made.
 use Rattle.chip_core.proofs.Names.{nat_tests, ◌≡◌, ℕ, ◌+◌, ◌-◌, ◌*◌, ◌<◌, ◌≤◌, Bool, eqb, [], ◌∷◌, ◌++◌, length, sum}
-use Rattle.chip_core.proofs.Names.{take, replicate, option_to_list, refl, sym, ap, ◌∙◌, subst, arith, eqb-true}
+use Rattle.chip_core.proofs.Names.{take, replicate, option_to_list, refl, sym, ap, ◌∙◌, arith, eqb-true}
 use Rattle.chip_core.proofs.Names.{append-nil, ◌≢◌, take-append-le, sum_by-append, sum_by-take-drop, dite, dec_lt}
 use Rattle.chip_core.proofs.Names.{degree, edge_at, IsGame, Setting, cond_no, tested_ext, tested_add, sent_counts}
 use Rattle.chip_core.proofs.Names.{position_after, IsFiringSequence, counts, IsWithin, inflow, position_by_counts}
@@ -49,10 +49,10 @@ module _ (g : Setting) where
       let all = over_ins_graph g v inside (gone_into g log) in
       let own = tested_ext (length g.game.graph.edges) (λ e. eqb (edge_at g.game.graph e).head v)
       (gone_into g log) (λ e. (edge_at g.game.graph e).mult * f (edge_at g.game.graph e).tail)
-      (λ e l on. gone_graph log e l ∙ ap (λ (t : ℕ). mult_of g e * f t) (tail_graph g e l)) in
+      (λ e l on. (let a = gone_graph log e l in let b = tail_graph g e l in cc)) in
       let at : root_edge g v - graph_edges g ≡ v = omega arith in
-      let one : gone_into g log (root_edge g v) ≡ chips_given g log v = gone_root log (root_edge g v) (omega arith)
-      ∙ ap (chips_given g log) at in
+      let one : gone_into g log (root_edge g v) ≡ chips_given g log v =
+      (let c = gone_root log (root_edge g v) (omega arith) in cc) in
       omega arith
 
   module _ (game : IsGame g.game) (some_ring : 0 < g.ring) where
@@ -80,7 +80,8 @@ module _ (g : Setting) where
     -- what was sent and what is held is what ever went into an edge
     pub gone_sum : (log : Log) → IsLegalLog g log → (e : ℕ)
         → sum (sent_counts (out_in g log e).link) + held g log e ≡ gone_into g log e
-    gone_sum log legal e = dite (dec_lt e (graph_edges g)) (λ l. held_is log legal e l ∙ sym (gone_graph log e l))
+    gone_sum log legal e = dite (dec_lt e (graph_edges g)) (λ l. (let c = held_is log legal e l in
+        let d = gone_graph log e l in cc))
         (λ n.
         let past : graph_edges g ≤ e = omega arith in
         let idle = (out_kept g game log legal e).root_idle past in
@@ -106,7 +107,7 @@ module _ (g : Setting) where
         let chips = (part_kept g game log legal v).chips_are in
         let a : over_ins g v (λ e. sum ((part_in g log v).into e).got) ≡ over_ins g v gots = tested_ext n t
         (λ e. sum ((part_in g log v).into e).got) gots
-        (λ e l on. ap (λ (p : ℕ). sum ((part_in g log p).into e).got) (sym (eqb-true (head_of g e) v on))) in
+        (λ e l on. (let a = eqb-true (head_of g e) v on in cc)) in
         let b : over_ins g v (λ e. flies e + holds e) ≡ over_ins g v flies + over_ins g v holds =
         tested_add n t flies holds in
         let c : over_ins g v (λ e. gots e + (flies e + holds e)) ≡ over_ins g v gots + over_ins g v
@@ -123,9 +124,9 @@ module _ (g : Setting) where
     position_from log legal ok v inside =
         let a = full_sum log legal v inside in
         let b = position_is g.game.graph (firings log) (chips_given g log) ok v in
-        let c = ap (λ (n : ℕ). degree g.game.graph v * n) (counts_are log v) in
+        let c = counts_are log v in
         let d = inflow_ext g.game.graph (counts (firings log)) (fired_by g log) (counts_are log) v in
-        omega arith
+        grind (arith, nat_tests)
 
     sequence_step : (ev : Event) (seen : ℕ) (log : Log) → IsLegalLog g (saw ev seen ∷ log)
         → IsFiringSequence g.game.graph (chips_given g log) (firings log)
@@ -137,8 +138,7 @@ module _ (g : Setting) where
         sequence-append g.game.graph (firings log) (replicate k v) (chips_given g log) ok
         (batch g.game.graph v k (position_after g.game.graph (chips_given g log) (firings log)) may.0 may.1
         (omega arith))
-    sequence_step _ seen log legal ok = subst (IsFiringSequence g.game.graph (chips_given g log))
-        (sym (append-nil (firings log))) ok
+    sequence_step _ seen log legal ok = rw (append-nil (firings log)) ok
 
     pub is_sequence : (log : Log) → IsLegalLog g log → IsFiringSequence g.game.graph (chips_given g log) (firings log)
     is_sequence [] legal = tt
@@ -165,11 +165,11 @@ module _ (g : Setting) where
         → IsBelowZero g.game.graph (chips_given g log) (fired_by g log) v → ⊥
     none_below log legal v low =
         (position_by_counts_law g.game.graph (chips_given g log) (firings log) (is_sequence log legal) v).0
-        (subst (λ (f : ℕ → ℕ). IsBelowZero g.game.graph (chips_given g log) f v) (sym (same_counts log)) low)
+        (rw (same_counts log) low)
 
     pub by_counts : (log : Log) → IsLegalLog g log → (v : ℕ)
         → position_after g.game.graph (chips_given g log) (firings log) v
         ≡ position_by_counts g.game.graph (chips_given g log) (fired_by g log) v
-    by_counts log legal v = (position_by_counts_law g.game.graph (chips_given g log) (firings log)
-        (is_sequence log legal) v).1
-        ∙ ap (λ (f : ℕ → ℕ). position_by_counts g.game.graph (chips_given g log) f v) (same_counts log)
+    by_counts log legal v =
+        let a = (position_by_counts_law g.game.graph (chips_given g log) (firings log) (is_sequence log legal) v).1 in
+        let b = same_counts log in cc

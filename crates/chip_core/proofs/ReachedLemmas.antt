@@ -1,8 +1,8 @@
 -- Serves Core.antt, Reached.antt.
 -- The reached worlds are those that the legal logs leave.
-use Rattle.chip_core.proofs.Names.{◌≡◌, ℕ, List, [], ◌∷◌, ◌++◌, None, refl, sym, ap, ◌∙◌, subst, cond_yes, cond_no}
-use Rattle.chip_core.proofs.Names.{Setting, Log, Step, Part, opening_part, unmet_rule, part_of, part_in, IsLegalLog}
-use Rattle.chip_core.proofs.Names.{seen_of, done_by, part_by, parts_by, IsOneMore, IsReached, at_opening, one_more}
+use Rattle.chip_core.proofs.Names.{◌≡◌, ℕ, List, [], ◌∷◌, ◌++◌, refl, sym, ap, ◌∙◌, cond_yes, cond_no}
+use Rattle.chip_core.proofs.Names.{Setting, Log, Step, opening_part, part_of, part_in, IsLegalLog}
+use Rattle.chip_core.proofs.Names.{done_by, part_by, parts_by, IsOneMore, IsReached, at_opening, one_more}
 use Rattle.chip_core.proofs.Names.{ReachedByLegalLogs, at_other}
 use Rattle.chip_core.proofs.ReachingLemmas.{by_history}
 
@@ -17,9 +17,8 @@ module _ (g : Setting) where
   to_reached (x ∷ log) legal =
       let same = same_parts (λ p. done_by g p log) log (λ p. refl) in
       one_more (λ p. done_by g p log) (λ p. done_by g p (x ∷ log)) x (to_reached log legal.0) record {
-        may = subst (λ (parts : ℕ → Part). unmet_rule g x.event (parts (part_of g x.event)) ≡ None)
-            (sym same) legal.1.0;
-        saw = subst (λ (parts : ℕ → Part). x.seen ≡ seen_of g parts x.event) (sym same) legal.1.1;
+        may = cc;
+        saw = rw same legal.1.1;
         mine = cond_yes (part_of g x.event) (part_of g x.event) (done_by g (part_of g x.event) log ++ x ∷ [])
             (done_by g (part_of g x.event) log) refl;
         others = λ p other. cond_no (part_of g x.event) p (done_by g p log ++ x ∷ []) (done_by g p log)
@@ -38,14 +37,13 @@ module _ (g : Setting) where
         (
           legal,
           (
-            subst (λ (parts : ℕ → Part). unmet_rule g x.event (parts (part_of g x.event)) ≡ None) parts more.may,
-            subst
-                (λ (parts : ℕ → Part). x.seen ≡ seen_of g parts x.event) parts more.saw,
+            rw (← parts) more.may,
+            rw (← parts) more.saw,
           ),
         ),
         at_other (λ p (did : List Step). new p ≡ did) (part_of g x.event) (λ p. done_by g p log ++ x ∷ []) (λ p. done_by g p log)
-            (more.mine ∙ ap (λ (did : List Step). did ++ x ∷ []) (same (part_of g x.event)))
-            (λ p other. more.others p (λ z. other (sym z)) ∙ same p),
+            (let a = same (part_of g x.event) in cc)
+            (λ p other. (let b = more.others p (λ z. other (sym z)) in let c = same p in cc)),
       )
 
   from_reached : (records : ℕ → List Step) → IsReached g records → IsLeft records

@@ -1,7 +1,7 @@
 -- Serves Core.antt.
 -- Every run leaves a legal log, every legal log is that of a run, and a part is what its own events make of it.
 use Rattle.chip_core.proofs.Names.{◌≡◌, ℕ, List, [], ◌∷◌, ◌++◌, Option, Some, None, refl, sym, ap, ◌∙◌, append-nil}
-use Rattle.chip_core.proofs.Names.{Bool, true, false, cond, eqb, subst, Setting, saw, Log, Step, Event, Rule, Part}
+use Rattle.chip_core.proofs.Names.{Bool, true, false, cond, eqb, Setting, saw, Log, Step, Event, Rule, Part}
 use Rattle.chip_core.proofs.Names.{opening_part, unmet_rule, part_of, does, part_in, IsLegalLog, answer, step}
 use Rattle.chip_core.proofs.Names.{log_after, events_in, done_by, part_by, PartsByTheirOwnEvents, LegalLogsAreRuns}
 
@@ -13,7 +13,7 @@ module _ (g : Setting) where
   -- what a part did after a log, and one step more
   own_step : (b : Bool) (s : Part) (x : Step) (t : Part) (ds : List Step) → t ≡ part_by g s ds
       → cond b (does g x t) t ≡ part_by g s (cond b (ds ++ x ∷ []) ds)
-  own_step true s x t ds is = ap (does g x) is ∙ sym (part-append ds (x ∷ []) s)
+  own_step true s x t ds is = let a = part-append ds (x ∷ []) s in cc
   own_step false s x t ds is = is
 
   pub part_own : (p : ℕ) (mid base : Log) → part_in g (mid ++ base) p ≡ part_by g (part_in g base p) (done_by g p mid)
@@ -22,7 +22,7 @@ module _ (g : Setting) where
       (done_by g p mid) (part_own p mid base)
 
   pub by_history : (log : Log) (p : ℕ) → part_in g log p ≡ part_by g (opening_part g) (done_by g p log)
-  by_history log p = ap (λ (l : Log). part_in g l p) (sym (append-nil log)) ∙ part_own p log []
+  by_history log p = let a = append-nil log in let b = part_own p log [] in cc
 
   pub answer_legal : (log : Log) (x : Event) (o : Option Rule) → unmet_rule g x (part_in g log (part_of g x)) ≡ o
       → IsLegalLog g log → IsLegalLog g (answer g log x o).0
@@ -57,6 +57,5 @@ parts_by_their_own_events = by_history
 pub legal_logs_are_runs : LegalLogsAreRuns
 legal_logs_are_runs g = (
   (λ log legal xs. run_legal g log xs legal),
-  λ log legal. run_from g log []
-      (subst (IsLegalLog g) (sym (append-nil log)) legal) ∙ append-nil log,
+  λ log legal. (let a = run_from g log [] (rw (append-nil log) legal) in let b = append-nil log in cc),
 )

@@ -1,20 +1,19 @@
 -- Serves Core.antt.
 -- Every read that was made saw the fired word that stands at the end, and the root is closed there.
-use Rattle.chip_core.proofs.Names.{◌≡◌, ◌↔◌, ℕ, ◌<◌, [], ◌∷◌, true, None, Contains, sym, ap, ◌∙◌, arith, ⊎_elim, eqb}
+use Rattle.chip_core.proofs.Names.{◌≡◌, ◌↔◌, ℕ, ◌<◌, [], ◌∷◌, true, None, Contains, arith, ⊎_elim, eqb}
 use Rattle.chip_core.proofs.Names.{eqb-true, IsGame, Setting, tested_none, deficit, rules_met, out_zero, Log, Step}
-use Rattle.chip_core.proofs.Names.{Event, Read, unmet_rule, part_of, part_in, sees, word_of_part, IsLegalLog, IsSettled}
+use Rattle.chip_core.proofs.Names.{Read, unmet_rule, part_in, word_of_part, IsLegalLog, IsSettled}
 use Rattle.chip_core.proofs.Names.{IsClosed, outstanding, tail_of, root, all_edges, contains_cases}
 use Rattle.chip_core.proofs.ClosingLemmas.{still, still_closed}
 
 -- the two ways to say that all that the root sent is settled
 pub settled_is : (g : Setting) (log : Log) → (deficit g (root g) (part_in g log (root g)) ≡ 0) ↔ IsSettled g log
 settled_is g log = (
-  (λ none e l at. ap (λ (p : ℕ). outstanding ((part_in g log p).out e)) at
-      ∙ out_zero g (root g) (λ i. outstanding ((part_in g log (root g)).out i)) none e l at),
+  (λ none e l at. (let a = out_zero g (root g) (λ i. outstanding ((part_in g log (root g)).out i)) none e l at in
+      cc)),
   (λ settled. tested_none (all_edges g) (λ e. eqb (tail_of g e) (root g))
       (λ e. outstanding ((part_in g log (root g)).out e)) (λ e l on.
-      (let at = eqb-true (tail_of g e) (root g) on in ap (λ (p : ℕ). outstanding ((part_in g log p).out e)) (sym at)
-      ∙ settled e l at))),
+      (let at = eqb-true (tail_of g e) (root g) on in let b = settled e l at in cc))),
 )
 
 -- and that it is closed
@@ -30,19 +29,19 @@ module _ (g : Setting) (game : IsGame g.game) (some_ring : 0 < g.ring) where
       → (v < g.game.graph.vertices) × IsClosed g log × (y.seen ≡ word_of_part (part_in g log v))
   read_here log y v legal is =
       let none : unmet_rule g (Read v) (part_in g log (root g))
-      ≡ None = sym (ap (λ (x : Event). unmet_rule g x (part_in g log (part_of g x))) is) ∙ legal.1.0 in
+      ≡ None = cc in
       let may = rules_met g (Read v) (part_in g log (root g)) none in
-      (may.0, (closed_is g log).0 (may.2, may.1), legal.1.1 ∙ ap (sees g log) is)
+      (may.0, (closed_is g log).0 (may.2, may.1), cc)
 
   pub reads_tell : (log : Log) → IsLegalLog g log → (x : Step) (v : ℕ) → Contains log x → x.event ≡ Read v
       → (v < g.game.graph.vertices) × IsClosed g log × (x.seen ≡ word_of_part (part_in g log v))
   reads_tell [] legal x v made is = let a = made.1 in absurd (omega arith)
   reads_tell (y ∷ log) legal x v made is =
       let here : (v < g.game.graph.vertices) × IsClosed g log × (x.seen ≡ word_of_part (part_in g log v)) = ⊎_elim
-      (λ e. (let r = read_here log y v legal (ap (λ (d : Step). d.event) (sym e) ∙ is) in
-      (r.0, r.1, ap (λ (d : Step). d.seen) e ∙ r.2)))
+      (λ e. (let r = read_here log y v legal (cc) in
+      (r.0, r.1, cc)))
       (λ m. reads_tell log legal.0 x v m is)
       (contains_cases y log x made) in
       let l = here.0 in
       let same = still g game some_ring log legal.0 here.1 y legal v (λ z. (absurd (omega arith))) in
-      (here.0, still_closed g game some_ring log legal.0 here.1 y legal, here.2 ∙ ap word_of_part (sym same))
+      (here.0, still_closed g game some_ring log legal.0 here.1 y legal, cc)

@@ -2,7 +2,7 @@
 -- What a reply leaves by which nothing was done, and runs one after the other.
 use Rattle.chip_core.proofs.Names.{nat_tests, arith, ◌≡◌, ℕ, suc, true, false, List, [], ◌∷◌, ◌++◌, length, Option}
 use Rattle.chip_core.proofs.Names.{Some, None, refl, sym, ap, true≢false, Setting, saw, at_edge, Log, Event, Seal, End}
-use Rattle.chip_core.proofs.Names.{Rule, Reply, Part, unmet_rule, part_of, does, reply_of, part_in, sees, answer, step}
+use Rattle.chip_core.proofs.Names.{Rule, Part, unmet_rule, part_of, does, reply_of, part_in, sees, answer, step}
 use Rattle.chip_core.proofs.Names.{replies_to, log_after, counts_as_work, is_idle, DifferInNotes, IdleStepsLeave}
 use Rattle.chip_core.proofs.Names.{RunsGoOn}
 use Rattle.chip_core.proofs.IdleLemmas.{bare, idle_does}
@@ -53,8 +53,7 @@ module _ (g : Setting) where
   pub replies-append : (log : Log) (xs ys : List Event)
       → replies_to g log (xs ++ ys) ≡ replies_to g log xs ++ replies_to g (log_after g log xs) ys
   replies-append log [] ys = refl
-  replies-append log (x ∷ xs) ys = ap (λ (rs : List Reply). (step g log x).1 ∷ rs)
-      (replies-append (step g log x).0 xs ys)
+  replies-append log (x ∷ xs) ys = let a = replies-append (step g log x).0 xs ys in cc
 
   pub log_after-append : (log : Log) (xs ys : List Event)
       → log_after g log (xs ++ ys) ≡ log_after g (log_after g log xs) ys

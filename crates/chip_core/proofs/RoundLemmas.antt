@@ -12,7 +12,7 @@ use Rattle.chip_core.proofs.Names.{done_by, Spreads, of_takes, of_settles, of_fi
 use Rattle.chip_core.proofs.Names.{of_acks, of_turn, among_new_outs, among_new_ins, counts_as_work, work_in, dite}
 use Rattle.chip_core.proofs.Names.{dec_lt, IsGame, claims_of, nothing_left, Log, Step, Event, Part, Take, Clear, Settle}
 use Rattle.chip_core.proofs.Names.{part_of, part_in, out_in, into_in, sees, does, IsLegalLog, IsClosed, tail_of}
-use Rattle.chip_core.proofs.Names.{head_of, all_edges, graph_edges, acting_part, HasEnd, RootHasPut, HasTurn, HasRound}
+use Rattle.chip_core.proofs.Names.{head_of, all_edges, graph_edges, HasEnd, RootHasPut, HasTurn, HasRound}
 use Rattle.chip_core.proofs.Names.{is_none_of, contains_cases}
 use Rattle.chip_core.proofs.IdleLemmas.{bare, idle_does, Alike, counts_here, idle_alike, one_more, work_grows}
 use Rattle.chip_core.proofs.IdleLemmas.{idle_stretch}
@@ -35,6 +35,9 @@ sure_in (x ∷ xs) = sure x.event + sure_in xs
 sure_append : (xs ys : List Step) → sure_in (xs ++ ys) ≡ sure_in xs + sure_in ys
 sure_append [] ys = omega arith
 sure_append (x ∷ xs) ys = let a = sure_append xs ys in omega arith
+
+sure_parts : (xs ys all : List Step) → all ≡ xs ++ ys → sure_in all ≡ sure_in xs + sure_in ys
+sure_parts xs ys all is = let a = sure_append xs ys in cc
 
 module _ (g : Setting) where
   sure_counts : (s : Part) (x : Event) (seen : ℕ) → sure x ≤ cond (counts_as_work g s (saw x seen)) 1 0
@@ -63,17 +66,17 @@ module _ (g : Setting) where
 
   module _ (v : ℕ) where
     makes_parent : (p : Option ℕ) → Makes (acknowledging_parent g v p)
-    makes_parent None s ds t (none, same) = same ∙ sym (ap (part_by g s) none)
+    makes_parent None s ds t (none, same) = cc
     makes_parent (Some e) s ds t phase = grind (arith, nat_tests)
 
     makes : Spreads g v Makes
     makes = record {
-      none = λ s ds t (none, same). same ∙ sym (ap (part_by g s) none);
+      none = λ s ds t (none, same). cc;
       chosen = λ p all s ds t. all s s ds t;
-      both = λ p q first next s ds t (front, m, back, is, here, rest). next m back t rest
-          ∙ ap (λ (u : Part). part_by g u back) (first s front m here) ∙ sym (ap (part_by g s) is ∙ part-append g front back s);
-      event = λ x by next all s ds t (seen, rest, is, last). all seen s (does g (saw x seen) s) rest t last
-          ∙ sym (ap (part_by g s) is);
+      both = λ p q first next s ds t (front, m, back, is, here, rest). (let a = next m back t rest in
+          let b = first s front m here in let c = part-append g front back s in cc);
+      event = λ x by next all s ds t (seen, rest, is, last). (let d = all seen s (does g
+          (saw x seen) s) rest t last in cc);
       last = λ s. makes_parent s.parent s;
     }
 
@@ -88,10 +91,10 @@ module _ (g : Setting) where
     first_or_later P e es here later i at = ⊎_elim (λ same. subst P (sym same) here) (later i) (contains_cases e es i at)
 
     within : (front back ds : List Step) → ds ≡ front ++ back → (x : Step) → Contains front x → Contains ds x
-    within front back ds is x has = subst (λ (l : List Step). Contains l x) (sym is) (Contains-append_left front back x has)
+    within front back ds is x has = rw is (Contains-append_left front back x has)
 
     later : (front back ds : List Step) → ds ≡ front ++ back → (x : Step) → Contains back x → Contains ds x
-    later front back ds is x has = subst (λ (l : List Step). Contains l x) (sym is) (Contains-append_right front back x has)
+    later front back ds is x has = rw is (Contains-append_right front back x has)
 
     -- an operation of each of these edges was made
     pub each_made : (x : ℕ → Event) (es : List ℕ) (s : Part) (ds : List Step) (t : Part)
@@ -126,9 +129,9 @@ module _ (g : Setting) where
         let both = sure_append front back in let all = ap sure_in is in
         let one = not_chosen (is_some (s.out e).link.held) (Put e) s front m first (omega arith) (omega arith) in
         let more = none_put es m back t rest (omega arith) in (
-          more.0 ∙ one.1,
+          cc,
           first_or_later (λ i. is_some (s.out i).link.held ≡ false) e es one.0
-              (λ i at. subst (λ (p : Part). is_some (p.out i).link.held ≡ false) one.1 (more.1 i at)),
+              (λ i at. rw (← one.1) (more.1 i at)),
         )
 
     -- an edge with something to send was looked at, and its cell was not empty
@@ -146,8 +149,8 @@ module _ (g : Setting) where
         (λ on. let made = rw on at ph in looked (eqb made.0 0) made.0 made.1 made.2 refl made.3)
         (λ off. let gone = rw off at ph in (
           inl (grind (arith, nat_tests)),
-          ap (λ (p : Part). p.halt) gone.1,
-          λ i. ap (λ (p : Part). (p.out i).pending) gone.1,
+          cc,
+          λ i. cc,
         ))
       where
         looked : (b : Bool) (seen : ℕ) (rest : List Step) → ds ≡ saw (Clear e) seen ∷ rest → eqb seen 0 ≡ b
@@ -158,8 +161,8 @@ module _ (g : Setting) where
             absurd (omega arith)
         looked false seen rest is full (gone, same) = (
           inr (seen, eqb-false seen 0 full, rw is (0, omega arith, refl)),
-          ap (λ (p : Part). p.halt) same,
-          λ i. ap (λ (p : Part). (p.out i).pending) same,
+          cc,
+          λ i. rw same refl,
         )
 
     all_sent : (es : List ℕ) (s : Part) (ds : List Step) (t : Part) → each_phase (sending g v) es s ds t → sure_in ds ≡ 0
@@ -168,10 +171,10 @@ module _ (g : Setting) where
     all_sent (e ∷ es) s ds t (front, m, back, is, first, rest) none runs j here =
         let both = sure_append front back in let all = ap sure_in is in
         let one = one_sent e s front m first (omega arith) runs in
-        let more = all_sent es m back t rest (omega arith) (ap is_running one.1 ∙ runs) in
+        let more = all_sent es m back t rest (omega arith) (cc) in
         first_or_later (Looked s ds) e es
         (⊎_elim (λ z. inl z) (λ z. inr (z.0, z.1, within front back ds is (saw (Clear e) z.0) z.2)) one.0)
-        (λ i at. ⊎_elim (λ z. inl (sym (one.2 i) ∙ z))
+        (λ i at. ⊎_elim (λ z. inl (let a = one.2 i in cc))
         (λ z. inr (z.0, z.1, later front back ds is (saw (Clear i) z.0) z.2)) (more i at)) j here
 
     -- ---- the whole turn
@@ -180,11 +183,9 @@ module _ (g : Setting) where
     passed : (p : Phase) → Makes p → (s : Part) (front : List Step) (m : Part) (back ds : List Step) → ds ≡ front ++ back
         → p s front m → work_of g s ds ≡ 0 → (work_of g m back ≡ 0) × (bare m ≡ bare s)
     passed p first s front m back ds is here none =
-        let mine : m ≡ part_by g s front = first s front m here in
-        let all = ap (work_of g s) is ∙ work-append front back s in
-        let same = ap (λ (u : Part). work_of g u back) mine in
-        let idle : work_of g s front ≡ 0 = omega arith in
-        (omega arith, ap bare mine ∙ idle_part front s idle)
+        let mine = first s front m here in let all = work-append front back s in
+        let idle : work_of g s front ≡ 0 = grind (arith, nat_tests) in let same = idle_part front s idle in
+        (grind (arith, nat_tests), cc)
 
     -- what a turn of which no step counts tells: what it asked for, and that the vertex has nothing to do
     pub record Rested (ds : List Step) (after : Part) : Type 0 where
@@ -201,7 +202,7 @@ module _ (g : Setting) where
         let either = rw runs at ph in
         by_test (eqb (refusals g v s) 0)
         (λ open'. all_sent (outs_of g v) s ds t (rw open' at either) none runs e at)
-        (λ refused. let halt = rw refused at either in absurd (let a = ap sure_in halt.2 in omega arith))
+        (λ refused. let halt = rw refused at either in absurd (let is = halt.2 in grind (arith, nat_tests)))
 
     pub rested : (s : Part) (ds : List Step) (after : Part) → turn g v s ds after → work_of g s ds ≡ 0 → Rested ds after
     rested s ds after (
@@ -220,16 +221,16 @@ module _ (g : Setting) where
       ),
     ) none =
         let sure = sure_below ds s in
-        let a1 = ap sure_in e1 ∙ sure_append f1 r1 in let a2 = ap sure_in e2 ∙ sure_append f2 r2 in
-        let a3 = ap sure_in e3 ∙ sure_append f3 r3 in let a4 = ap sure_in e4 ∙ sure_append f4 r4 in
-        let a5 = ap sure_in e5 ∙ sure_append f5 r5 in let a6 = ap sure_in e6 ∙ sure_append f6 r6 in
+        let a1 = sure_parts f1 r1 ds e1 in let a2 = sure_parts f2 r2 r1 e2 in let a3 = sure_parts f3 r3 r2 e3 in
+        let a4 = sure_parts f4 r4 r3 e4 in let a5 = sure_parts f5 r5 r4 e5 in let a6 = sure_parts f6 r6 r5 e6 in
         let b1 = passed _ (of_takes g v Makes makes 0) s f1 s1 r1 ds e1 p1 none in
         let b2 = passed _ (of_settles g v Makes makes 0) s1 f2 s2 r2 r1 e2 p2 b1.0 in
         let b3 = passed _ (of_firing g v Makes makes) s2 f3 s3 r3 r2 e3 p3 b2.0 in
         let b4 = passed _ (of_puts g v Makes makes 0) s3 f4 s4 r4 r3 e4 p4 b3.0 in
         let b5 = passed _ (of_sending_all g v Makes makes) s4 f5 s5 r5 r4 e5 p5 b4.0 in
         let b6 = passed _ (of_limit g v Makes makes) s5 f6 s6 r6 r5 e6 p6 b5.0 in
-        let at6 : bare after ≡ bare s6 = ap bare (of_acks g v Makes makes 0 s6 r6 after p7) ∙ idle_part r6 s6 b6.0 in
+        let at6 : bare after ≡ bare s6 =
+        (let a = of_acks g v Makes makes 0 s6 r6 after p7 in let b = idle_part r6 s6 b6.0 in cc) in
         let deep : (x : Step) → Contains f5 x → Contains ds x = (λ x has. later f1 r1 ds e1 x (later f2 r2 r1 e2 x
         (later f3 r3 r2 e3 x (later f4 r4 r3 e4 x (within f5 r5 r4 e5 x has))))) in
         let at5 = at6 ∙ b6.1 in let at4 = at5 ∙ b5.1 in let at3 = at4 ∙ b4.1 in let at2 = at3 ∙ b3.1 in
@@ -260,8 +261,7 @@ module _ (g : Setting) where
       let a = work-append g (done_by g v mid) (x ∷ []) (part_in g base v) in
       by_test (eqb (part_of g x.event) v)
       (λ on.
-      let b = ap (λ (p : Part). counts_as_work g p x) (sym (part_own g v mid base)
-      ∙ ap (part_in g (mid ++ base)) (sym (eqb-true (part_of g x.event) v on))) in grind (arith, nat_tests))
+      let b = part_own g v mid base in let d = eqb-true (part_of g x.event) v on in grind (arith, nat_tests))
       (λ off. grind (arith, nat_tests))
 
   pub own_in : (v : ℕ) (mid : Log) (x : Step) → Contains (done_by g v mid) x → Contains mid x
@@ -289,14 +289,14 @@ module _ (g : Setting) where
       ⊎_elim
       (λ is. (
         log,
-        subst (λ (d : Step). Moment (y ∷ log) d log) (sym is) record {
+        rw is (record {
           legal = legal.0;
           saw_it = legal.1.1;
           idle = uncounted;
-          alike = λ p. sym (idle_alike g y log uncounted p);
-        },
+          alike = λ p. (let b = idle_alike g y log uncounted p in cc);
+        }),
       ))
-      (λ later. let found = moment ys before legal.0 (omega arith) x later in let m = found.1 in
+      (λ later. let found = moment ys before legal.0 (grind (arith, nat_tests)) x later in let m = found.1 in
       let alike : Alike g found.0 (y ∷ log) = λ p. m.alike p ∙ sym (idle_alike g y log uncounted p) in
       (found.0, search (rules, arith)))
       (contains_cases y ys x has)
@@ -311,7 +311,7 @@ module _ (g : Setting) where
     not_made x seen has works =
         let m = moment xs before legal none (saw x seen) has in
         let on = (works m.0 m.1.legal m.1.alike).1 in
-        true≢false (sym on ∙ ap (λ (n : ℕ). counts_as_work g (acting_part g m.0 x) (saw x n)) (sym m.1.saw_it) ∙ m.1.idle)
+        true≢false (cc)
 
     module _ (v : ℕ) (vertex : v < g.game.graph.vertices) where
       abbrev its : HasTurn g v before xs
@@ -338,16 +338,14 @@ module _ (g : Setting) where
 
       -- the part that the turn left has not changed since
       same : bare its.are_turn.0 ≡ bare (part_in g after v)
-      same = ap bare (makes_turn g v s ds its.are_turn.0 its.are_turn.1 ∙ sym (part_own g v its.middle base))
-          ∙ sym (idle_stretch g its.late (its.middle ++ base) idle.1 v)
-          ∙ ap (λ (l : Log). bare (part_in g l v)) (sym all_is)
+      same = rw (makes_turn g v s ds its.are_turn.0 its.are_turn.1 ∙ sym (part_own g v its.middle base)) (rw all_is
+          (sym (idle_stretch g its.late (its.middle ++ base) idle.1 v)))
 
       rest : Rested g v ds its.are_turn.0
       rest = rested g v s ds its.are_turn.0 its.are_turn.1 idle.0
 
       its_step : (x : Step) → Contains ds x → Contains xs x
-      its_step x has = subst (λ (l : Log). Contains l x) (sym its.all_are)
-          (Contains-append_right its.late (its.middle ++ its.early) x
+      its_step x has = rw its.all_are (Contains-append_right its.late (its.middle ++ its.early) x
           (Contains-append_left its.middle its.early x (own_in v its.middle x has)))
 
       none_left : (e : ℕ) → e < all_edges g → head_of g e ≡ v → may_ack g v (part_in g after v) e ≡ 0
@@ -373,16 +371,16 @@ module _ (g : Setting) where
         let found = (rest v vertex).settles e (among_new_outs g v vertex e refl) in
         (found.0, its_step v vertex (saw (Settle e) found.0) found.1))
         (λ past. let found = round.settles e (omega arith) l in
-        (found.0.seen, subst (λ (x : Event). Contains xs (saw x found.0.seen)) found.2 found.1))
+        (found.0.seen, rw (← found.2) found.1))
 
     quiet : Quiet g after
     quiet = record {
       taken = λ e l. (let found = take_made e l in
           dite (dec_lt (length (into_in g after e).got) (length (out_in g after e).link.put))
           (λ more. absurd (not_made (Take e) found.0 found.1 (λ m ok alike.
-          let a = ap (λ (p : Part). length (p.into e).got) (alike (head_of g e)) in
+          let a = alike (head_of g e) in
           let b = ap (λ (p : Part). length (p.out e).link.put) (alike (tail_of g e)) in
-          take_works g game some_ring m ok e l (omega arith))))
+          take_works g game some_ring m ok e l (grind (arith, nat_tests)))))
           (λ all. let c = (edge_counts g game some_ring after legal e).2 in omega arith));
       put = all_put;
       settled = λ e l. (let found = settle_made e l in

@@ -2,16 +2,16 @@
 -- Schedules that ask for everything often enough close the root. Afterwards nothing counts, and but for seals the words
 -- stay as they are.
 use Rattle.chip_core.proofs.Names.{nat_tests, rules, ◌≡◌, ◌≢◌, ℕ, ◌+◌, ◌<◌, ◌≤◌, cond, List, [], ◌∷◌, ◌++◌, length}
-use Rattle.chip_core.proofs.Names.{Option, sym, ap, ◌∙◌, subst, arith, ⊎_elim, refl, ◌⊎◌, zero, suc, None, inl, inr}
-use Rattle.chip_core.proofs.Names.{true≢false, append-nil, is_some, Contains, append_assoc, Contains-append_left}
-use Rattle.chip_core.proofs.Names.{Contains-append_right, IsGame, sum_below_ext, Tail, claims_of, Shows, Setting, Log}
-use Rattle.chip_core.proofs.Names.{Step, Part, part_of, part_in, word_of_part, IsLegalLog, IsClosed, tail_of, head_of}
+use Rattle.chip_core.proofs.Names.{sym, ap, ◌∙◌, subst, arith, ⊎_elim, refl, ◌⊎◌, zero, suc, None, inl, inr}
+use Rattle.chip_core.proofs.Names.{true≢false, append-nil, Contains, append_assoc, Contains-append_left}
+use Rattle.chip_core.proofs.Names.{Contains-append_right, IsGame, sum_below_ext, Setting, Log}
+use Rattle.chip_core.proofs.Names.{Step, Part, part_of, part_in, IsLegalLog, IsClosed, tail_of, head_of}
 use Rattle.chip_core.proofs.Names.{stopper, all_edges, Event, Clear, Claim, Put, Feed, out_in, sees, step, log_after}
-use Rattle.chip_core.proofs.Names.{graph_edges, unmet_rule, Take, Ack, Fire, Halt, Settle, acting_part, of_edge}
-use Rattle.chip_core.proofs.Names.{of_cell, events_in, chips_given, fed_of, work_in, refusals_in, is_refusal}
+use Rattle.chip_core.proofs.Names.{graph_edges, unmet_rule, Take, Ack, Fire, Halt, Settle, acting_part}
+use Rattle.chip_core.proofs.Names.{events_in, chips_given, fed_of, work_in, refusals_in, is_refusal}
 use Rattle.chip_core.proofs.Names.{steps_at_most, fed_so_far, AreFiringBounds, StirsNothing, HasEnd, AsksForEverything}
-use Rattle.chip_core.proofs.Names.{NothingIsTold, IsStretch, HasStretches, RootHasPut, HasRound, HasRounds, dite}
-use Rattle.chip_core.proofs.Names.{ℕ_discrete, brought_to, IsWholePlay, Met, saw, link_after, tail_root, rules_met}
+use Rattle.chip_core.proofs.Names.{NothingIsTold, HasStretches, RootHasPut, HasRound, HasRounds, dite}
+use Rattle.chip_core.proofs.Names.{ℕ_discrete, Met, saw, link_after, tail_root, rules_met}
 use Rattle.chip_core.proofs.Names.{contains_cases}
 use Rattle.chip_core.proofs.LogLemmas.{link_step, head_inside, tail_cases, legal_before, in_pieces, end_stays, met_here}
 use Rattle.chip_core.proofs.OrderLemmas.{all_counts}
@@ -46,13 +46,12 @@ module _ (g : Setting) (game : IsGame g.game) (some_ring : 0 < g.ring) where
   step_idle x log legal closed =
       let same = still g game some_ring log legal.0 closed x legal in
       let edges = sum_below_ext (all_edges g) (edge_work g (x ∷ log)) (edge_work g log) (λ e l.
-      let a = ap (λ (s : Part). (s.out e).settled + length (s.out e).link.put + claims_of (s.out e).link)
-      (at_tail (x ∷ log) log same e) in
-      let b = ap (λ (s : Part). (s.into e).acked + length (s.into e).got) (at_head (x ∷ log) log same e l) in omega arith) in
+      let tail = at_tail (x ∷ log) log same e in let head = at_head (x ∷ log) log same e l in
+      grind (arith, nat_tests)) in
       let vertices = sum_below_ext g.game.graph.vertices (vertex_work g (x ∷ log)) (vertex_work g log)
-      (λ v l. ap (λ (s : Part). s.fired + cond (is_some s.halt) 1 0) (same v (no_stopper v (omega arith)))) in
+      (λ v l. (let part = same v (no_stopper v (omega arith)) in cc)) in
       let refused = sum_below_ext (graph_edges g) (λ e. refused_on (out_in g (x ∷ log) e).link)
-      (λ e. refused_on (out_in g log e).link) (λ e l. ap (λ (s : Part). refused_on (s.out e).link) (at_tail (x ∷ log) log same e)) in
+      (λ e. refused_on (out_in g log e).link) (λ e l. (let tail = at_tail (x ∷ log) log same e in cc)) in
       let a = work_step g game some_ring x log legal in let b = refusal_step g game some_ring x log legal in
       (omega arith, omega arith)
 
@@ -87,10 +86,9 @@ module _ (g : Setting) (game : IsGame g.game) (some_ring : 0 < g.ring) where
           edges = λ e l.
               let link = ap (λ (s : Part). (s.out e).link) (sym (at_tail new log is.same e)) in
               let got = ap (λ (s : Part). (s.into e).got) (sym (at_head new log is.same e l)) in
-              subst (λ (z : Tail × List ℕ × Option ℕ). Shows g.ring (value (of_edge e)) (λ i. value (of_cell e i)) z.0 z.1 z.2)
-              (λ j. (link j, got j, sym (stops e) j)) (shown.edges e l);
-          acks = λ e l. shown.acks e l ∙ ap (λ (s : Part). (s.into e).acked) (sym (at_head new log is.same e l));
-          fired = λ v l. shown.fired v l ∙ ap word_of_part (sym (is.same v (no_stopper v (omega arith))));
+              rw (← link) (rw (← got) (rw (stops e) (shown.edges e l)));
+          acks = λ e l. (let head = at_head new log is.same e l in let was = shown.acks e l in cc);
+          fired = λ v l. (let part = is.same v (no_stopper v (omega arith)) in let was = shown.fired v l in cc);
         };
         acks = λ e l. (let c = all_counts g game some_ring new legal is.closed.1 e l in
             let c1 = c.1 in let c2 = c.2 in let c3 = c.3 in omega arith);
@@ -107,8 +105,7 @@ module _ (g : Setting) (game : IsGame g.game) (some_ring : 0 < g.ring) where
     pub put : RootHasPut g log → RootHasPut g after
 
   fed_none : (log : Log) → HasEnd g log → (x : Event) → Met g x (part_in g log (part_of g x)) → fed_of g x ≡ []
-  fed_none log end (Feed e k) may = absurd (true≢false (sym end
-      ∙ ap (λ (p : ℕ). (part_in g log p).ended) (sym (tail_root g e may.0)) ∙ may.2))
+  fed_none log end (Feed e k) may = absurd (true≢false (let a = tail_root g e may.0 in cc))
   fed_none log end x may = refl
 
   put_stays : (log : Log) → HasEnd g log → RootHasPut g log → (x : Event) (seen : ℕ) → Met g x (part_in g log (part_of g x))
@@ -116,8 +113,7 @@ module _ (g : Setting) (game : IsGame g.game) (some_ring : 0 < g.ring) where
   put_stays log end put (Clear i) seen may e past l = let was = put e past l in grind (arith, nat_tests)
   put_stays log end put (Put i) seen may e past l = let was = put e past l in grind (arith, nat_tests)
   put_stays log end put (Claim i) seen may e past l = let own = may.0 in let was = put e past l in grind (arith, nat_tests)
-  put_stays log end put (Feed i k) seen may e past l = absurd (true≢false (sym end
-      ∙ ap (λ (p : ℕ). (part_in g log p).ended) (sym (tail_root g i may.0)) ∙ may.2))
+  put_stays log end put (Feed i k) seen may e past l = absurd (true≢false (let a = tail_root g i may.0 in cc))
   put_stays log end put _ seen may e past l = put e past l
 
   -- one step more
@@ -127,13 +123,10 @@ module _ (g : Setting) (game : IsGame g.game) (some_ring : 0 < g.ring) where
       let none = fed_none log end x.event may in
       record {
         end = end_stays g x log end;
-        fed = recorded_step g game some_ring x log legal ∙ ap (λ (l : List (ℕ × ℕ)). fed_so_far g log ++ l) none
-            ∙ append-nil (fed_so_far g log);
+        fed = (let all = recorded_step g game some_ring x log legal in let was = append-nil (fed_so_far g log) in cc);
         given = λ j v. (let a = started_step g game some_ring x log legal v in
-            let b = ap (λ (l : List (ℕ × ℕ)). brought_to l v) none in
-            let same : chips_given g (x ∷ log) v ≡ chips_given g log v = omega arith in same) j;
-        put = λ put e past l. ap (λ (t : Tail). t.held) (link_step g x log e)
-            ∙ put_stays log end put x.event x.seen may e past l;
+            let same : chips_given g (x ∷ log) v ≡ chips_given g log v = grind (arith, nat_tests) in same) j;
+        put = λ put e past l. rw (link_step g x log e) (put_stays log end put x.event x.seen may e past l);
       }
 
   ends_same : (log : Log) → HasEnd g log → Ends log log
@@ -146,7 +139,7 @@ module _ (g : Setting) (game : IsGame g.game) (some_ring : 0 < g.ring) where
   ends_run [] log legal end = ends_same log end
   ends_run (x ∷ xs) log legal end =
       let one : Ends log (step g log x).0 = by_rule g log x
-      (λ none. subst (Ends log) (sym (made g log x none)) (ends_step (saw x (sees g log x)) log (legal, (none, refl)) end))
+      (λ none. rw (made g log x none) (ends_step (saw x (sees g log x)) log (legal, (none, refl)) end))
       (λ same. subst (Ends log) (sym same) (ends_same log end)) in
       ends_then log (step g log x).0 (log_after g (step g log x).0 xs) one
       (ends_run xs (step g log x).0 (step_legal g log x legal) one.end)
@@ -163,16 +156,16 @@ module _ (g : Setting) (game : IsGame g.game) (some_ring : 0 < g.ring) where
       → AreFiringBounds g after fired
   bounds_stay log after ends fired bounds = record {
     firings = bounds.firings;
-    whole = subst (λ (x : ℕ → ℕ). IsWholePlay g.game.graph x g.game.limit bounds.firings) (sym ends.given) bounds.whole;
+    whole = rw ends.given bounds.whole;
     enough = bounds.enough;
   }
 
   pub few_after : (log after : Log) → Ends log after → IsLegalLog g after → (fired : ℕ → ℕ) → AreFiringBounds g log fired
       → work_in g after ≤ steps_at_most g.game (length (fed_so_far g log)) fired
   few_after log after ends legal fired bounds =
-      let same = ap (λ (l : List (ℕ × ℕ)). steps_at_most g.game (length l) fired) ends.fed in
+      let same = ends.fed in
       let few = few_steps g game some_ring after legal fired (bounds_stay log after ends fired bounds) in
-      omega arith
+      grind (arith, nat_tests)
 
   -- ---- stretches that ask for everything
 
@@ -186,8 +179,8 @@ module _ (g : Setting) (game : IsGame g.game) (some_ring : 0 < g.ring) where
       let two_legal = run_legal g one stretch one_legal in
       let one_ends = ends_run front log legal end in
       let two_ends = ends_run stretch one one_legal one_ends.end in
-      let same : log_after g log xs ≡ log_after g two rest = ap (log_after g log) is
-      ∙ log_after-append g log front (stretch ++ rest) ∙ log_after-append g one stretch rest in
+      let same : log_after g log xs ≡ log_after g two rest = (let c = log_after-append g log front
+      (stretch ++ rest) in let d = log_after-append g one stretch rest in cc) in
       let told = ap (tells_in g) same in
       let a = run_grows g log front in let b = run_grows g one stretch in
       ⊎_elim
@@ -243,13 +236,13 @@ module _ (g : Setting) (game : IsGame g.game) (some_ring : 0 < g.ring) where
 
   events-append : (xs ys : Log) → events_in (xs ++ ys) ≡ events_in ys ++ events_in xs
   events-append [] ys = sym (append-nil (events_in ys))
-  events-append (x ∷ xs) ys = ap (λ (l : List Event). l ++ x.event ∷ []) (events-append xs ys)
-      ∙ append_assoc (events_in ys) (events_in xs) (x.event ∷ [])
+  events-append (x ∷ xs) ys =
+      let a = events-append xs ys in let b = append_assoc (events_in ys) (events_in xs) (x.event ∷ []) in cc
 
   events_have : (xs : Log) (x : Step) → Contains xs x → Contains (events_in xs) x.event
   events_have [] x has = let l = has.1 in absurd (omega arith)
   events_have (y ∷ ys) x has = ⊎_elim
-      (λ is. Contains-append_right (events_in ys) (y.event ∷ []) x.event (0, omega arith, ap (λ (z : Step). z.event) (sym is)))
+      (λ is. Contains-append_right (events_in ys) (y.event ∷ []) x.event (0, omega arith, cc))
       (λ later. Contains-append_left (events_in ys) (y.event ∷ []) x.event (events_have ys x later)) (contains_cases y ys x has)
 
   refusals_grow : (xs log : Log) → refusals_in g log ≤ refusals_in g (xs ++ log)
@@ -274,7 +267,7 @@ module _ (g : Setting) (game : IsGame g.game) (some_ring : 0 < g.ring) where
 
     unmet : (x : Event) → (unmet_rule g x (acting_part g now x) ≡ None → ⊥)
         → unmet_rule g x (acting_part g (log_after g before (events_in xs)) x) ≢ None
-    unmet x not_met = subst (λ (l : Log). unmet_rule g x (acting_part g l x) ≢ None) (sym is_now) not_met
+    unmet x not_met = rw is_now not_met
 
     may_not : (x : Event) → (unmet_rule g x (acting_part g now x) ≡ None) → Rests g x (sees g now x) (part_in g now (part_of g x))
     may_not x may = rested g game some_ring now legal (at_rest g game some_ring now legal closed) x (sees g now x)
@@ -316,13 +309,10 @@ module _ (g : Setting) (game : IsGame g.game) (some_ring : 0 < g.ring) where
         events_in front,
         events_in round,
         events_in rest,
-        ap events_in is ∙ events-append rest (round ++ front) ∙ ap (λ (l : List Event). l ++ events_in rest)
-            (events-append round front) ∙ append_assoc (events_in front) (events_in round) (events_in rest),
-        subst (λ (l : Log). IsStretch g l (events_in round)) (sym at_one)
-            (all_asked one round has two_legal two_ends.end two_put),
-        subst (λ (l : Log). HasStretches g n l (events_in rest))
-            (sym (ap (λ (l : Log). log_after g l (events_in round)) at_one ∙ run_from g round one two_legal))
-            (all_stretches n rest two all_legal two_ends.end two_put more),
+        (let a = events-append rest (round ++ front) in let b = events-append round front in
+            let c = append_assoc (events_in front) (events_in round) (events_in rest) in cc),
+        rw at_one (all_asked one round has two_legal two_ends.end two_put),
+        rw (at_one, run_from g round one two_legal) (all_stretches n rest two all_legal two_ends.end two_put more),
       )
 
   pub rounds_are_stretches : (before : Log) → IsLegalLog g before → HasEnd g before → RootHasPut g before → (n : ℕ) (xs : Log)

@@ -2,7 +2,7 @@
 -- What the operation of an event finds in its word is what the core says, and the words that it leaves show the log
 -- with that event.
 use Rattle.chip_core.proofs.Names.{nat_tests, ◌≡◌, ◌≢◌, ℕ, ◌+◌, ◌-◌, ◌%◌, ◌^◌, ◌<◌, true, false, cond, eqb, List, ◌∷◌}
-use Rattle.chip_core.proofs.Names.{length, sum, Option, Some, None, option_to_list, is_some, refl, sym, ap, ◌∙◌, subst}
+use Rattle.chip_core.proofs.Names.{length, sum, Option, Some, None, option_to_list, refl, ◌∙◌}
 use Rattle.chip_core.proofs.Names.{arith, ⊎_elim, zero-add, bit_or, mod_below, dite, ℕ_discrete, cond_yes, cond_no}
 use Rattle.chip_core.proofs.Names.{Tail, claims_of, after_claim, after_put, after_take, after_seal, Sound, Shows}
 use Rattle.chip_core.proofs.Names.{fired_word, word_after_exchange, clear_sees, claim_shows, put_shows, take_sees}
@@ -24,16 +24,15 @@ reread : (ring word word' : ℕ) (cell cell' : ℕ → ℕ) (t : Tail) (got : Li
     → word' ≡ word → ((i : ℕ) → i < ring → cell' i ≡ cell i)
     → Shows ring word cell t got stop → Shows ring word' cell' t got stop
 reread ring word word' cell cell' t got stop some_ring e es ok = record {
-  word_is = e ∙ ok.word_is;
+  word_is = cc;
   ring_is = λ p lo hi. es (p % ring) (mod_below p ring some_ring) ∙ ok.ring_is p lo hi;
 }
 
 -- the word of a halted vertex
 word_halts : (c : Cause) (n fired : ℕ) → fired < 2 ^ 62 → n ≡ fired_word fired false false
     → bit_or n (halt_bits (is_by_limit (Some c))) ≡ fired_word fired true (is_by_limit (Some c))
-word_halts SealedEdge n fired few is = ap (λ (k : ℕ). bit_or k (2 ^ 63)) is ∙ halts_word fired false false few
-word_halts FiringLimit n fired few is = ap (λ (k : ℕ). bit_or k (2 ^ 63 + 2 ^ 62)) is
-    ∙ halts_by_limit fired false false few
+word_halts SealedEdge n fired few is = let a = halts_word fired false false few in cc
+word_halts FiringLimit n fired few is = let a = halts_by_limit fired false false few in cc
 
 -- the word of an event whose rules are met is there
 pub word_for : (g : Setting) → 0 < g.game.graph.vertices → 0 < g.ring → (x : Event) (s : Part) → unmet_rule g x s ≡ None
@@ -128,11 +127,9 @@ module _ (g : Setting) (game : IsGame g.game) (some_ring : 0 < g.ring) (log : Lo
         → Shows g.ring (value' (of_edge i)) (λ j. value' (of_cell i j)) u (into_in g log i).got (stop_in g log i)) a
         (λ i. after_claim (count i) seen (out_in g log i).link) (λ i. (out_in g log i).link)
         (λ m. reread g.ring _ _ _ _ _ _ _ some_ring refl (cells a m)
-        (subst (λ (n : ℕ). Shows g.ring (value' (of_edge a)) (λ j. value (of_cell a j))
-        (after_claim (count a) n (out_in g log a).link) (into_in g log a).got (stop_in g log a)) found
-        (claim_shows g.ring some_ring (value (of_edge a)) (λ j. value (of_cell a j)) _ _ _ (sound a) (shown.edges a m)
-        (count a) (value' (of_edge a)) ((sound a).quiet clear)
-        (λ hit. here ∙ cond_yes (value (of_edge a)) _ _ _ hit) (λ miss. here ∙ cond_no (value (of_edge a)) _ _ _ miss))))
+        (rw (← found) (claim_shows g.ring some_ring (value (of_edge a)) (λ j. value (of_cell a j)) _ _ _ (sound a)
+        (shown.edges a m) (count a) (value' (of_edge a)) ((sound a).quiet clear) (λ hit. here ∙ cond_yes (value
+        (of_edge a)) _ _ _ hit) (λ miss. here ∙ cond_no (value (of_edge a)) _ _ _ miss))))
         (λ i other m. same_edge i m (edges i m other) (cells i m)) e l
 
     edges_after : (x : Event) → unmet_rule g x (acting_part g log x) ≡ None → IsLeft g log x value value' → (e : ℕ)
@@ -143,10 +140,9 @@ module _ (g : Setting) (game : IsGame g.game) (some_ring : 0 < g.ring) (log : Lo
         (λ i. after_take (seen_by (Take a)) (into_in g log i).got) (λ i. (into_in g log i).got)
         (λ l. reread g.ring _ _ _ _ _ _ _ some_ring (w.others (of_edge a) l (λ z. absurd (cc)))
         (λ j h. refl)
-        (subst (λ (n : ℕ). Shows g.ring (value (of_edge a)) (λ j. value' (of_cell a j)) (out_in g log a).link
-        (after_take n (into_in g log a).got) (stop_in g log a)) (finds (Take a) none)
-        (take_shows g.ring some_ring (value (of_edge a)) (λ j. value (of_cell a j)) _ _ _ (sound a) (shown.edges a l)
-        (λ j. value' (of_cell a j)) w.here (λ j h other. w.others (of_cell a j) (l, h) (λ z. grind arith)))))
+        (rw (← (finds (Take a) none)) (take_shows g.ring some_ring (value (of_edge a)) (λ j. value
+        (of_cell a j)) _ _ _ (sound a) (shown.edges a l) (λ j. value' (of_cell a j)) w.here
+        (λ j h other. w.others (of_cell a j) (l, h) (λ z. grind arith)))))
         (λ i other l. other_words (Take a) w i l (λ z. absurd (cc)) (λ j z. grind arith))
         e l
     edges_after (Clear a) none w e l =
@@ -166,15 +162,14 @@ module _ (g : Setting) (game : IsGame g.game) (some_ring : 0 < g.ring) (log : Lo
         let o : Out = out_in g log a in
         let count : ℕ = met.1.0 in
         let one : o.link.held ≡ Some count = met.1.1 in
-        let value_is : sum (option_to_list o.link.held) ≡ count = ap (λ (h : Option ℕ). sum (option_to_list h)) one
-        ∙ zero-add count in
+        let value_is : sum (option_to_list o.link.held) ≡ count = (let b = zero-add count in cc) in
         let place : claims_of o.link - 1 ≡ length o.link.put = (let z = one_held o.link count one in omega arith) in
         let cell_is : length o.link.put % g.ring ≡ (claims_of o.link - 1) % g.ring =
-        ap (λ (n : ℕ). n % g.ring) (sym place) in
+        cc in
         reread g.ring _ _ _ _ _ _ _ some_ring (w.others (of_edge a) l (λ z. absurd (cc))) (λ j h. refl)
         (put_shows g.ring some_ring (value (of_edge a)) (λ j. value (of_cell a j)) _ _ _ (sound a)
         (shown.edges a l) count (λ j. value' (of_cell a j)) one
-        (ap (λ (n : ℕ). value' (of_cell a n)) cell_is ∙ w.here ∙ value_is)
+        (cc)
         (λ j h other. w.others (of_cell a j) (l, h) (λ z. grind arith))))
         (λ i other l. other_words (Put a) w i l (λ z. absurd (cc)) (λ j z. grind arith))
         e l
@@ -186,11 +181,8 @@ module _ (g : Setting) (game : IsGame g.game) (some_ring : 0 < g.ring) (log : Lo
         let few = claims_most g game some_ring log legal a in
         reread g.ring _ _ _ _ _ _ _ some_ring w.here
         (λ j h. w.others (of_cell a j) (l, h) (λ z. absurd (cc)))
-        (subst (λ (n : ℕ). Shows g.ring (bit_or (value (of_edge a)) (2 ^ 63))
-        (λ j. value (of_cell a j)) (out_in g log a).link (into_in g log a).got (after_seal n (stop_in g log a)))
-        (finds (Seal a) none)
-        (seal_shows g.ring some_ring (value (of_edge a)) (λ j. value (of_cell a j)) _ _ _ (sound a) (shown.edges a l)
-        (omega arith))))
+        (rw (← (finds (Seal a) none)) (seal_shows g.ring some_ring (value (of_edge a)) (λ j. value
+        (of_cell a j)) _ _ _ (sound a) (shown.edges a l) (omega arith))))
         (λ i other l. other_words (Seal a) w i l (λ z. grind arith) (λ j z. absurd (cc)))
         e l
     edges_after (Claim a) none w e l = claim_after a (λ i. (out_in g log i).pending) (met_for (Claim a) none).2
@@ -216,14 +208,14 @@ module _ (g : Setting) (game : IsGame g.game) (some_ring : 0 < g.ring) (log : Lo
         let few = claims_most g game some_ring log legal a in
         let behind = (sound a).behind in
         w.here ∙ omega arith)
-        (λ i other l. w.others (of_acks i) l (λ z. grind arith) ∙ shown.acks i l)
+        (λ i other l. (let b = w.others (of_acks i) l (λ z. grind arith) in let c = shown.acks i l in cc))
         e l
     acks_after (Settle a) none w e l = dite (ℕ_discrete e a)
-        (λ same. ap (λ (i : ℕ). value' (of_acks i)) same ∙ w.here ∙ ap (λ (i : ℕ). value (of_acks i)) (sym same))
-        (λ other. w.others (of_acks e) l (λ z. grind arith)) ∙ shown.acks e l
+        (λ same. (let here = w.here in let is = shown.acks e l in cc))
+        (λ other. (let b = w.others (of_acks e) l (λ z. grind arith) in let c = shown.acks e l in cc))
     acks_after End none w e l = dite (ℕ_discrete e (root_edge g 0))
-        (λ same. ap (λ (i : ℕ). value' (of_acks i)) same ∙ w.here ∙ ap (λ (i : ℕ). value (of_acks i)) (sym same))
-        (λ other. w.others (of_acks e) l (λ z. grind arith)) ∙ shown.acks e l
+        (λ same. (let here = w.here in let is = shown.acks e l in cc))
+        (λ other. (let a = w.others (of_acks e) l (λ z. grind arith) in let b = shown.acks e l in cc))
     acks_after _ none w e l = w.others (of_acks e) l (λ z. absurd (cc)) ∙ shown.acks e l
 
     -- an event that leaves firings and halts
@@ -242,11 +234,9 @@ module _ (g : Setting) (game : IsGame g.game) (some_ring : 0 < g.ring) (log : Lo
         → value' (of_vertex a) ≡ word_of_part (does g (made_by x) (part_in g log a))
         → (v : ℕ) → v < g.game.graph.vertices → value' (of_vertex v) ≡ word_of_part (part_in g (made_by x ∷ log) v)
     word_of_one x a by at w is v l = dite (ℕ_discrete v a)
-        (λ same. ap (λ (i : ℕ). value' (of_vertex i)) same ∙ is
-        ∙ ap (λ (i : ℕ). word_of_part (does g (made_by x) (part_in g log i))) (sym same)
-        ∙ sym (ap word_of_part (part_here g (made_by x) log v (by ∙ sym same))))
-        (λ other. w.others (of_vertex v) l (λ z. other (let y : v ≡ a = cc in y))
-        ∙ shown.fired v l ∙ sym (ap word_of_part (part_else g (made_by x) log v (λ z. other (sym z ∙ by)))))
+        (λ same. (let b = part_here g (made_by x) log v (cc) in cc))
+        (λ other. (let c = w.others (of_vertex v) l (λ z. other (let y : v ≡ a = cc in y)) in
+        let d = shown.fired v l in let f = part_else g (made_by x) log v (λ z. other (cc)) in cc))
 
     fired_after : (x : Event) → unmet_rule g x (acting_part g log x) ≡ None → IsLeft g log x value value' → (v : ℕ)
         → v < g.game.graph.vertices → value' (of_vertex v) ≡ word_of_part (part_in g (made_by x ∷ log) v)
@@ -256,9 +246,9 @@ module _ (g : Setting) (game : IsGame g.game) (some_ring : 0 < g.ring) (log : Lo
         let low = game.low_limit in
         let few = met.6 in
         let running : word_of_part s
-        ≡ (s.fired + 0) + 0 = ap (λ (h : Option Cause). fired_word s.fired (is_some h) (is_by_limit h)) met.2 in
+        ≡ (s.fired + 0) + 0 = cc in
         let after : word_of_part (does g (made_by (Fire a k)) s) ≡ ((s.fired + k) + 0) + 0 =
-        ap (λ (h : Option Cause). fired_word (s.fired + k) (is_some h) (is_by_limit h)) met.2 in
+        cc in
         let is = shown.fired a met.0 in
         word_of_one (Fire a k) a refl refl w (w.here ∙ omega arith) v l
     fired_after (Halt a) none w v l =
@@ -266,20 +256,18 @@ module _ (g : Setting) (game : IsGame g.game) (some_ring : 0 < g.ring) (log : Lo
         let s : Part = part_in g log a in
         let low = game.low_limit in
         let within = (part_kept g game log legal a).within in
-        let found : value (of_vertex a) ≡ fired_word s.fired false false = shown.fired a met.0
-        ∙ ap (λ (h : Option Cause). fired_word s.fired (is_some h) (is_by_limit h)) met.2 in
+        let found : value (of_vertex a) ≡ fired_word s.fired false false = (let b = shown.fired a met.0 in cc) in
         let why : cause g a s ≡ Some met.4.0 = met.4.1 in
         word_of_one (Halt a) a refl refl w
-        (w.here ∙ ap (λ (h : Option Cause). bit_or (value (of_vertex a)) (halt_bits (is_by_limit h))) why
-        ∙ word_halts met.4.0 (value (of_vertex a)) s.fired (omega arith) found
-        ∙ sym (ap (λ (h : Option Cause). fired_word s.fired (is_some h) (is_by_limit h)) why))
+        (let c = word_halts met.4.0 (value (of_vertex a)) s.fired (omega arith) found in cc)
         v l
-    fired_after (Read a) none w v l = dite (ℕ_discrete v a)
-        (λ same. ap (λ (i : ℕ). value' (of_vertex i)) same ∙ w.here ∙ ap (λ (i : ℕ). value (of_vertex i)) (sym same))
-        (λ other. w.others (of_vertex v) l (λ z. grind arith)) ∙ shown.fired v l
-        ∙ sym (word_stays (made_by (Read a)) v refl)
-    fired_after x none w v l = w.others (of_vertex v) l (λ z. absurd (cc)) ∙ shown.fired v l
-        ∙ sym (word_stays (made_by x) v refl)
+    fired_after (Read a) none w v l =
+        let is = shown.fired v l in let stays = word_stays (made_by (Read a)) v refl in
+        dite (ℕ_discrete v a) (λ same. (let here = w.here in cc))
+        (λ other. (let there = w.others (of_vertex v) l (λ z. grind arith) in cc))
+    fired_after x none w v l =
+        let a = w.others (of_vertex v) l (λ z. absurd (cc)) in let b = shown.fired v l in
+        let c = word_stays (made_by x) v refl in cc
 
     -- the words show the longer log
     pub shows_more : (x : Event) → unmet_rule g x (acting_part g log x) ≡ None → IsLeft g log x value value'
@@ -289,11 +277,9 @@ module _ (g : Setting) (game : IsGame g.game) (some_ring : 0 < g.ring) (log : Lo
         let y : Step = made_by x in
         record {
           edges = λ e l.
-              subst (λ (z : Tail × List ℕ × Option ℕ). Shows g.ring (value' (of_edge e))
-              (λ i. value' (of_cell e i)) z.0 z.1 z.2)
-              (λ j. (sym (link_step g y log e) j, sym (got_step g y log e) j, sym (stop_step g y log e) j))
+              rw (link_step g y log e, got_step g y log e, stop_step g y log e)
               (edges_after x none w e l);
-          acks = λ e l. acks_after x none w e l ∙ sym (acked_step g y log e);
+          acks = λ e l. (let a = acks_after x none w e l in let b = acked_step g y log e in cc);
           fired = λ v l. fired_after x none w v l;
         }
 

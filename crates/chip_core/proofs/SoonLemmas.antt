@@ -7,8 +7,8 @@ use Rattle.chip_core.proofs.Names.{Contains-append_right, dite, ℕ_discrete, de
 use Rattle.chip_core.proofs.Names.{claims_of, sent_counts, length-sent_counts, Setting, owed, may_ack, deficit, saw}
 use Rattle.chip_core.proofs.Names.{settled_after, in_zero, at_edge, rules_met, rests, was_parent, idle_little}
 use Rattle.chip_core.proofs.Names.{nothing_left, Log, Step, Event, Part, Take, Ack, Settle, part_of, does, part_in}
-use Rattle.chip_core.proofs.Names.{out_in, into_in, sees, IsLegalLog, IsClosed, outstanding, tail_of, head_of}
-use Rattle.chip_core.proofs.Names.{all_edges, graph_edges, Message, messages_from, counts_in_flight, IsTree}
+use Rattle.chip_core.proofs.Names.{out_in, into_in, IsLegalLog, IsClosed, outstanding, tail_of, head_of}
+use Rattle.chip_core.proofs.Names.{all_edges, graph_edges, messages_from, counts_in_flight, IsTree}
 use Rattle.chip_core.proofs.Names.{IsDetectionOrder, done_by, HasTurn, HasRounds, HasTerminated, IsAtMostDeep}
 use Rattle.chip_core.proofs.Names.{HasRoundInOrder, DepthCloses, DepthClosesLater, DepthIsCounted, nat_tests, place_in}
 use Rattle.chip_core.proofs.Names.{few_places, contained, cases_option, none_some, contains_cases}
@@ -21,7 +21,7 @@ use Rattle.chip_core.proofs.ReachingLemmas.{part_own}
 
 no_messages : (e place : ℕ) (counts : List ℕ) → messages_from e place counts ≡ [] → length counts ≡ 0
 no_messages e place [] is = refl
-no_messages e place (c ∷ cs) is = absurd (let a = ap (λ (l : List Message). length l) is in omega arith)
+no_messages e place (c ∷ cs) is = absurd (grind (arith, nat_tests))
 
 -- ---- the place in a detection order as a level
 
@@ -62,10 +62,10 @@ module _ (g : Setting) where
   settle_seen (y ∷ ys) log legal x has e is = ⊎_elim
       (λ same.
       let old = out_in g (ys ++ log) e in
-      let its : y.event ≡ Settle e = ap (λ (z : Step). z.event) (sym same) ∙ is in
+      let its : y.event ≡ Settle e = cc in
       let a = settled_step g y (ys ++ log) e ∙ ap (λ (z : Event). settled_after g z y.seen e old) its in
       let b = cond_yes e e (old.settled + (y.seen - old.settled)) old.settled refl in
-      let c : y.seen ≡ (into_in g (ys ++ log) e).acked = legal.1.1 ∙ ap (sees g (ys ++ log)) its in
+      let c : y.seen ≡ (into_in g (ys ++ log) e).acked = cc in
       let d = acked_on ys log e in omega arith)
       (λ later. let a = settle_seen ys log legal.0 x later e is in let b = settled_step g y (ys ++ log) e in
       let c = settled_grows g y.event y.seen e (out_in g (ys ++ log) e) in omega arith)
@@ -90,7 +90,7 @@ module _ (g : Setting) where
         → (e : ℕ) → (does g (saw ev seen) (part_in g log (part_of g ev))).parent ≡ Some e
         → (part_in g log (part_of g ev)).parent ≡ Some e
     step_parent log legal rest (Take i) seen next e is =
-        sym (ap (λ (s : Part). s.parent) (rested g game some_ring log legal rest (Take i) seen next)) ∙ is
+        let a = rested g game some_ring log legal rest (Take i) seen next in cc
     step_parent log legal rest (Ack i) seen next e is =
         let may = rules_met g (Ack i) (part_in g log (head_of g i)) next.1.0 in
         was_parent g (part_in g log (head_of g i)) i seen may.2 e is
@@ -131,7 +131,7 @@ module _ (g : Setting) where
         let a = acked_on xs log e in
         let b = ap (λ (s : Part). length (s.into e).got) (on.same (head_of g e)) in
         ⊎_elim (λ none. absurd (let c = owes_none (xs ++ log) legal e l none in omega arith))
-        (λ q. q.1 ∙ sym (on.parent (head_of g e) q.0 q.1) ∙ here (omega arith))
+        (λ q. (let d = on.parent (head_of g e) q.0 q.1 in let f = here (omega arith) in cc))
         (cases_option (part_in g (xs ++ log) (head_of g e)).parent)
 
     -- ---- a turn of each vertex
@@ -164,9 +164,11 @@ module _ (g : Setting) where
         to_made = later its.middle base made_legal to_base.rest
 
         none_left : (e : ℕ) → head_of g e ≡ v → may_ack g v (part_in g made v) e ≡ 0
-        none_left e at = ap (λ (s : Part). may_ack g v s e) (part_own g v its.middle base
-            ∙ sym (makes_turn g v (part_in g base v) (done_by g v its.middle) its.are_turn.0 its.are_turn.1))
-            ∙ nothing_left g v (part_in g base v) (done_by g v its.middle) its.are_turn.0 its.are_turn.1 e at
+        none_left e at =
+            let a = part_own g v its.middle base in
+            let b = makes_turn g v (part_in g base v) (done_by g v its.middle) its.are_turn.0 its.are_turn.1 in
+            let c = nothing_left g v (part_in g base v) (done_by g v its.middle) its.are_turn.0 its.are_turn.1 e at in
+            cc
 
         -- if nothing was owed to it, it is engaged no more
         freed : ((e : ℕ) → e < all_edges g → tail_of g e ≡ v → owed (into_in g before e) ≡ 0) → (q : ℕ)
@@ -174,7 +176,7 @@ module _ (g : Setting) where
         freed clean q is =
             let s : Part = part_in g made v in
             let engaged = (later its.late made all_legal to_made.rest).parent v q
-            (sym (ap (λ (l : Log). (part_in g l v).parent) all_is) ∙ is) in
+            (rw (← all_is) is) in
             let none : deficit g v s ≡ 0 = tested_none (all_edges g) (λ e. eqb (tail_of g e) v) (λ e. outstanding (s.out e))
             (λ e l on.
             let at = eqb-true (tail_of g e) v on in
@@ -192,9 +194,8 @@ module _ (g : Setting) where
       owed_left : (e : ℕ) → e < all_edges g → OwedToParent (xs ++ before) e
       owed_left e l =
           let v : ℕ = head_of g e in let vertex = head_inside g game e l in
-          subst (λ (log : Log). OwedToParent log e) (sym (all_is v vertex))
-          (owed_on (turns v vertex).late (made v vertex) (all_legal v vertex) (to_made v vertex).rest e l
-          (λ some. ⊎_elim (λ none. absurd (omega arith)) (λ one. one.0)
+          rw (all_is v vertex) (owed_on (turns v vertex).late (made v vertex) (all_legal v vertex)
+          (to_made v vertex).rest e l (λ some. ⊎_elim (λ none. absurd (omega arith)) (λ one. one.0)
           (idle_little g v e (part_in g (made v vertex) v) (none_left v vertex e refl))))
 
     -- ---- level by level
@@ -275,7 +276,7 @@ module _ (g : Setting) where
           → HasRounds g n log xs → HasRoundInOrder g (xs ++ log) last → IsClosed g (last ++ (xs ++ log))
       in_order zero xs last log legal left has round =
           let same : last ++ (xs ++ log) ≡ round.back ++ (round.front ++ (xs ++ log)) =
-          ap (λ (l : Log). l ++ (xs ++ log)) round.all_are ∙ append_assoc round.back round.front (xs ++ log) in
+          (let a = append_assoc round.back round.front (xs ++ log) in cc) in
           let all = subst (IsLegalLog g) same legal in
           let turned = legal_before g round.back (round.front ++ (xs ++ log)) all in
           let low = lower round.front (xs ++ log) turned 0 (left_on xs log (legal_before g last (xs ++ log) legal) 1 left)
@@ -288,8 +289,7 @@ module _ (g : Setting) where
           let two = legal_before g back (round ++ (front ++ log)) (legal_before g last (back ++ (round ++ (front ++ log))) all) in
           let low = lower round (front ++ log) two (suc n)
           (left_on front log (legal_before g round (front ++ log) two) (suc (suc n)) left) has.turns in
-          subst (λ (l : Log). IsClosed g (last ++ l)) (sym same) (in_order n back last (round ++ (front ++ log)) all low more
-          (subst (λ (l : Log). HasRoundInOrder g l last) same order))
+          rw same (in_order n back last (round ++ (front ++ log)) all low more (rw (← same) order))
 
       -- wherever it settles
       in_any_order : (n : ℕ) (xs log : Log) → IsLegalLog g (xs ++ log) → Left log n → HasRounds g (suc n) log xs
@@ -297,8 +297,7 @@ module _ (g : Setting) where
       in_any_order zero xs log legal left (front, round, back, is, has, more) =
           settles_close xs log legal left.0 (flat log left) (λ e past l. let x = has.settles e past l in (
             x.0,
-            subst (λ (ys : Log). Contains ys x.0) (sym is)
-                (Contains-append_right back (round ++ front) x.0 (Contains-append_left round front x.0 x.1)),
+            rw is (Contains-append_right back (round ++ front) x.0 (Contains-append_left round front x.0 x.1)),
             x.2,
           ))
       in_any_order (suc n) xs log legal left (front, round, back, is, has, more) =

@@ -1,6 +1,6 @@
 -- Serves Wasting.antt. New looks are few, so steps that advance are; and if none is due the root is closed.
-use Rattle.chip_core.proofs.Names.{◌≡◌, ℕ, zero, suc, ◌+◌, ◌*◌, ◌<◌, ◌≤◌, ◌||◌, Bool, true, false, cond, eqb, [], ◌∷◌}
-use Rattle.chip_core.proofs.Names.{◌++◌, length, refl, sym, ap, ◌∙◌, arith, true≢false, ⊎_elim, nat_tests, dite}
+use Rattle.chip_core.proofs.Names.{◌≡◌, ℕ, zero, suc, ◌+◌, ◌*◌, ◌<◌, ◌≤◌, ◌||◌, Bool, true, cond, eqb, [], ◌∷◌}
+use Rattle.chip_core.proofs.Names.{◌++◌, length, refl, ap, ◌∙◌, arith, true≢false, ⊎_elim, nat_tests, dite}
 use Rattle.chip_core.proofs.Names.{ℕ_discrete, IsGame, sum_below, edge_at, sum_below_le, sum_below_add, one_at_most}
 use Rattle.chip_core.proofs.Names.{least_action, Tail, claims_of, none_held, length-sent_counts, Setting, Met, saw}
 use Rattle.chip_core.proofs.Names.{link_after, tail_graph, tail_root, Log, Step, Event, Clear, Claim, Put, Feed}
@@ -56,7 +56,7 @@ module _ (g : Setting) (game : IsGame g.game) (some_ring : 0 < g.ring) where
   unfolding look_edge
   look_among log end (Clear i) seen may = ⊎_elim
       (λ v. let a = one_term (graph_edges g) i (new_at log (Clear i) seen) v.0 in omega arith)
-      (λ r. absurd (true≢false (sym end ∙ ap (λ (p : ℕ). (part_in g log p).ended) (sym (tail_root g i r.0)) ∙ r.2))) may
+      (λ r. absurd (true≢false (let a = tail_root g i r.0 in cc))) may
   look_among log end _ seen may = omega arith
 
   abbrev all_looked : Log → ℕ

@@ -48,8 +48,8 @@ module _ (g : Setting) where
   edge_work_step : (x : Step) (log : Log) (e : ℕ) → edge_work (x ∷ log) e ≡ work_after log x.event x.seen e
   edge_work_step x log e =
       let a = settled_step g x log e in let b = acked_step g x log e in let c = ap length (got_step g x log e) in
-      let d = ap (λ (t : Tail). length t.put) (link_step g x log e) in let f = ap claims_of (link_step g x log e) in
-      omega arith
+      let d = link_step g x log e in let f = ap claims_of (link_step g x log e) in
+      grind (arith, nat_tests)
 
   -- a step that counts does more on this edge, or, as a firing or a halt, by its vertex
   abbrev edge_of : Event → ℕ
@@ -88,7 +88,7 @@ module _ (g : Setting) where
     edge_more log legal (Ack i) seen may e = let some = may.2 in grind (arith, nat_tests)
     edge_more log legal (Settle i) seen may e = grind (arith, nat_tests)
     edge_more log legal End seen may e =
-        let mine = ap (λ (p : ℕ). ((part_in g log p).out (root_edge g 0)).settled) (tail_root g (root_edge g 0) (omega arith)) in
+        let mine = tail_root g (root_edge g 0) (omega arith) in
         grind (arith, nat_tests)
     edge_more log legal (Clear i) seen may e = grind (arith, nat_tests)
     edge_more log legal (Claim i) seen may e =
@@ -174,9 +174,10 @@ module _ (g : Setting) where
     feeds_one (Feed e k) s may =
         let past = may.0 in let inside = may.1 in
         let at : e ≡ root_edge g (e - graph_edges g) = omega arith in
-        sum_below_one g.game.graph.vertices (λ v. length (fed_to g (Feed e k) v)) (e - graph_edges g) (omega arith)
-        (λ v l ne. ap length (cond_no e (root_edge g v) (k ∷ []) [] (λ z. ne (let y : e ≡ root_edge g v = z in omega arith))))
-        ∙ ap length (cond_yes e (root_edge g (e - graph_edges g)) (k ∷ []) [] at)
+        let a = sum_below_one g.game.graph.vertices (λ v. length (fed_to g (Feed e k) v)) (e - graph_edges g)
+        (omega arith) (λ v l ne. ap length (cond_no e (root_edge g v) (k ∷ []) [] (λ z. ne
+        (let y : e ≡ root_edge g v = z in omega arith)))) in
+        let b = cond_yes e (root_edge g (e - graph_edges g)) (k ∷ []) [] at in cc
     feeds_one _ s may = sum_below_none g.game.graph.vertices (λ v. 0) (λ v l. refl)
 
     root_claims_are : (log : Log) → IsLegalLog g log
@@ -307,8 +308,8 @@ module _ (g : Setting) where
         (firing_bound (sum (played_game g log).start) (greatest_degree g.game.graph) distance))
     distance_bounds log legal distance is = bounds_by log legal _ (λ vs ok v l.
         let a = below_top g.game.graph game.graph_fits (chips_given g log) distance is.greatest vs ok v in
-        let h = ap (λ (n : ℕ). firing_bound n (greatest_degree g.game.graph) distance) (given_sum g game some_ring log) in
-        omega arith)
+        let h = given_sum g game some_ring log in
+        grind (arith, nat_tests))
 
     pub few_steps : (log : Log) → IsLegalLog g log → (fired : ℕ → ℕ) → AreFiringBounds g log fired
         → work_in g log ≤ steps_at_most g.game (length (recorded g game some_ring log)) fired

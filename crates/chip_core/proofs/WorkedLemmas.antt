@@ -2,7 +2,7 @@
 -- The worked runs: a detection order member by member, a game within the limits, the sink asked backwards, and the
 -- triangle at rest.
 use Rattle.chip_core.proofs.Names.{◌≡◌, ℕ, zero, suc, ◌<◌, [], ◌∷◌, get_or, Contains, refl, arith, inl, inr, ◌++◌, ◌≤◌}
-use Rattle.chip_core.proofs.Names.{true, Some, subst, true≢false, sym, ◌≢◌, List, ◌^◌, length, sum, ⊎_elim, TwoEngaged}
+use Rattle.chip_core.proofs.Names.{true, Some, true≢false, sym, ◌≢◌, List, ◌^◌, length, sum, ⊎_elim, TwoEngaged}
 use Rattle.chip_core.proofs.Names.{whole_schedule, WholeSchedule, limit_of_two, stopped_by_limit, StoppedByLimit}
 use Rattle.chip_core.proofs.Names.{played_on, StoppedBySeal, fed_triangle, fed_schedule, ClosedByTheEnd, edge_at}
 use Rattle.chip_core.proofs.Names.{IsEdge, IsGraph, ReachesSink, Setting, End, Take, Ack, Settle, Fire, log_after, Log}
@@ -264,9 +264,9 @@ level v = get_or (1 ∷ 2 ∷ 0 ∷ []) v 0
 
 levels_fall : (v : ℕ) → v < 3 → (e : ℕ) → (part_in four_chips at_end v).parent ≡ Some e
     → (level (tail_of four_chips e) < level v) × (level v ≤ 2)
-levels_fall zero l e is = subst (λ (i : ℕ). (level (tail_of four_chips i) < 1) × (1 ≤ 2)) (same_edge 4 e (part_in four_chips at_end 0).parent refl is)
+levels_fall zero l e is = rw (← (same_edge 4 e (part_in four_chips at_end 0).parent refl is))
     (omega arith, omega arith)
-levels_fall (suc zero) l e is = subst (λ (i : ℕ). (level (tail_of four_chips i) < 2) × (2 ≤ 2)) (same_edge 0 e (part_in four_chips at_end 1).parent refl is)
+levels_fall (suc zero) l e is = rw (← (same_edge 0 e (part_in four_chips at_end 1).parent refl is))
     (omega arith, omega arith)
 levels_fall (suc (suc zero)) l e is = absurd (none-some e is)
 levels_fall (suc (suc (suc v))) l e is = absurd (omega arith)

@@ -1,11 +1,11 @@
 -- Serves Dealing.antt, Rounds.antt.
 -- Where the run of a worker begins and ends, and what its turns leave of it.
 use Rattle.chip_crew.proofs.Names.{◌^◌, ◌≡◌, ℕ, zero, suc, ◌+◌, ◌*◌, ◌%◌, ◌<◌, ◌≤◌, ◌-◌, ◌==◌, max, List, length}
-use Rattle.chip_crew.proofs.Names.{Option, Some, None, take, get_or, set, length-take, refl, sym, ap, ◌∙◌, subst, arith}
+use Rattle.chip_crew.proofs.Names.{Option, Some, None, take, get_or, set, length-take, refl, ap, arith}
 use Rattle.chip_crew.proofs.Names.{add-one, zero-add, mod-add-mod, mod-eq_of_lt, length-set, sum_by-set, mul-le}
 use Rattle.chip_crew.proofs.Names.{slice_get_read, slice_get_past, slice_get_within, get_or_from_slice_get, slice_get}
 use Rattle.chip_crew.proofs.Names.{Multigraph, edge_at, length-picked, ActorKnown, MakesTurn, Turn, Asked, passes}
-use Rattle.chip_crew.proofs.Names.{CrewId, Turned, IsOurs, IsAt, AreFrom, turns_of, all_turns, ends_at, ends_before}
+use Rattle.chip_crew.proofs.Names.{CrewId, IsOurs, IsAt, AreFrom, turns_of, all_turns, ends_at, ends_before}
 use Rattle.chip_crew.proofs.Names.{IsCut, IsFirstOf, AreOf, HasDealt, TurnsThere, TurnsAt, RoundsMade}
 use Rattle.chip_crew.proofs.TurnLemmas.{turn_counts}
 use Rattle.chip_crew.proofs.RunLemmas.{from_at, from_set, from_take, from_all}
@@ -47,7 +47,7 @@ module _ (G : Multigraph) where
         → share ≡ (worker + 1) * ends_before G G.vertices → ends ≡ ends_before G w → share ≤ workers * ends
         → ((u : ℕ) → v ≤ u → u < w → workers * ends_before G u < share) → IsCut G workers (worker + 1) w
     cut_next worker v w share ends cut is at reached least = record {
-      reached = (let same = ap (λ (n : ℕ). workers * n) at in omega arith);
+      reached = rw (is, at) at reached;
       least = λ u less. (let before = cut.least u in let after = least u in grind arith);
     }
 
@@ -59,18 +59,18 @@ pub still_ours : (crew : CrewId) (old new : ActorKnown) (answer : Turn) → Make
 still_ours crew old new answer makes ours =
     let same = makes.record_is in
     record {
-      net_is = ap (λ (a : ActorKnown). a.net) same ∙ ours.net_is;
+      net_is = rw same ours.net_is;
       inside = rw same ours.inside;
-      room_is = ap (λ (a : ActorKnown). a.room) same ∙ ours.room_is;
-      turned = subst (λ (n : ℕ). Turned n new) (sym (turn_counts old new answer makes)) (old, answer, ours.turned, makes);
+      room_is = rw same ours.room_is;
+      turned = rw (turn_counts old new answer makes) (old, answer, ours.turned, makes);
     }
 
 -- a turn leaves as many actors as there were, and is one turn at most
 turn_leaves : (place : ℕ) (next : Option ActorKnown) (old new : List ActorKnown) → slice_get old place ≡ next
     → TurnsThere place next old new → (length new ≡ length old) × (all_turns new ≤ all_turns old + 1)
-turn_leaves place None old new at same = (ap length same, (let all = ap all_turns same in omega arith))
+turn_leaves place None old new at same = rw same (refl, omega arith)
 turn_leaves place (Some next) old new at turns = (
-  ap length turns.3 ∙ length-set old place turns.0,
+  rw turns.3 (length-set old place turns.0),
   (let all = ap all_turns turns.3 in let one = turn_counts next turns.0 turns.1 turns.2 in
       let was = ap turns_of (get_or_from_slice_get old place next next at) in
       let both = sum_by-set turns_of old place turns.0 next (slice_get_within old place next at) in omega arith),
@@ -83,12 +83,12 @@ turned crew from place old new (Some next) at turns all =
     let here = from_at (IsAt crew) from place old next all at in
     rw turns.3 (from_set (IsAt crew) from place old turns.0 all (
       still_ours crew next turns.0 turns.1 turns.2 here.0,
-      ap (λ (a : ActorKnown). a.vertex) turns.2.record_is ∙ here.1,
+      rw turns.2.record_is here.1,
     ))
 
 pub rounds_turns : (passes : ℕ → Type 0) (k : ℕ) (first now : List ActorKnown) → RoundsMade passes k first now
     → all_turns now ≤ all_turns first + k
-rounds_turns passes zero first now same = let all = ap all_turns same in omega arith
+rounds_turns passes zero first now same = rw same (omega arith)
 rounds_turns passes (suc k) first now made = let old = rounds_turns passes k first made.0 made.1 in
     let one = turn_leaves (k % max 1 (length made.0)) _ made.0 now refl made.3 in omega arith
 
@@ -106,15 +106,13 @@ none_at k actors few = rw (slice_get_past actors k few) refl
 
 -- where a round begins, the turns of it stand at their places
 pub place_is : (m k round : ℕ) → m % round ≡ 0 → k < round → (m + k) % round ≡ k
-place_is m k round begins less =
-    sym (mod-add-mod m round k) ∙ ap (λ (n : ℕ). (n + k) % round) begins
-    ∙ ap (λ (n : ℕ). n % round) (zero-add k) ∙ mod-eq_of_lt less
+place_is m k round begins less = rw (← mod-add-mod m round k) (rw (begins, zero-add) (mod-eq_of_lt less))
 
 -- what was dealt to a worker is of its net
 pub dealt_net : (asked : Asked) (worker m k : ℕ) (actors : List ActorKnown) (a : ActorKnown)
     → HasDealt asked worker m actors → k < length actors → a ≡ get_or actors k a → a.net ≡ asked.crew.net
-dealt_net asked worker m k actors a made less read = ap (λ (b : ActorKnown). b.net) read
-    ∙ from_all (IsAt asked.crew) (λ (b : ActorKnown). b.net ≡ asked.crew.net) (λ n b here. here.0.net_is) made.1.from actors made.1.each k a less
+dealt_net asked worker m k actors a made less read = rw read (from_all (IsAt asked.crew)
+    (λ (b : ActorKnown). b.net ≡ asked.crew.net) (λ n b here. here.0.net_is) made.1.from actors made.1.each k a less)
 
 -- one turn more of a round that began with the turn m
 pub dealt_turn : (asked : Asked) (worker m k : ℕ) (before now : List ActorKnown) → HasDealt asked worker (m + k) before
@@ -145,6 +143,6 @@ are_of crew worker first next actors own is_first is_next behind some are is =
     record {
       from = first;
       is_first = is_first;
-      is_next = subst (λ (z : ℕ × ℕ). IsFirstOf crew z.0 z.1) (λ i. (add-one worker i, end i)) is_next;
-      each = subst (AreFrom crew first) (sym is) (from_take (IsAt crew) first (next - first) actors are);
+      is_next = rw (add-one, end) at is_next;
+      each = rw is (from_take (IsAt crew) first (next - first) actors are);
     }

@@ -1,13 +1,13 @@
 -- Serves Feeding.antt, Ending.antt.
 -- What feeds, polls and the end leave of the root: what was fed, what may be fed still, and whether it is over.
-use Rattle.chip_crew.proofs.Names.{◌≡◌, ℕ, zero, suc, ◌+◌, ◌%◌, ◌<◌, ◌≤◌, ◌-◌, ◌==◌, List, Some, None, refl, sym, ap}
-use Rattle.chip_crew.proofs.Names.{◌∙◌, subst, arith, true, false, Bool, [], ◌∷◌, ◌++◌, All, sum, append_assoc, inl}
+use Rattle.chip_crew.proofs.Names.{◌≡◌, ℕ, zero, suc, ◌+◌, ◌%◌, ◌<◌, ◌≤◌, ◌-◌, ◌==◌, List, Some, None, refl, ap}
+use Rattle.chip_crew.proofs.Names.{arith, true, false, Bool, [], ◌∷◌, ◌++◌, All, append_assoc, inl}
 use Rattle.chip_crew.proofs.Names.{inr, nat_tests, All-tail, All-head, All-push, All-nil, sum_by-append, tested_le}
-use Rattle.chip_crew.proofs.Names.{all_brought, root_edge, graph_edges, all_edges, tail_of, root, Part, deficit}
+use Rattle.chip_crew.proofs.Names.{root_edge, graph_edges, all_edges, tail_of, root, Part, deficit}
 use Rattle.chip_crew.proofs.Names.{outstanding, Clear, Setting, does, saw, Step, Event, Settle, End, opening_part}
 use Rattle.chip_crew.proofs.Names.{part_by, fed_of, fed_in, part_append, RootKnown, root_part, root_after, has_ended}
 use Rattle.chip_crew.proofs.Names.{fed_by, Feeds, LooksInVain, feed_steps, settles_from, IsPolling, Ends, IsOver}
-use Rattle.chip_crew.proofs.Names.{root_deficit, NetId, RootState, Left, pairs, MayFeed, MayFeedLeft, FeedsNext}
+use Rattle.chip_crew.proofs.Names.{root_deficit, RootState, Left, pairs, MayFeed, MayFeedLeft, FeedsNext}
 use Rattle.chip_crew.proofs.Names.{EndsAfter, FeedsOnce, PollsIf, IsLed, events_of}
 
 -- ---- settles
@@ -34,7 +34,7 @@ module _ (g : Setting) where
   settles_leave s (x ∷ xs) are =
       let here = settle_leaves x.event x.seen s (All-head IsSettle x.event (events_of xs) are) in
       let rest = settles_leave (does g x s) xs (All-tail IsSettle x.event (events_of xs) are) in
-      (λ i. here.0 i ++ rest.0 i, rest.1 ∙ here.1)
+      (rw (here.0, rest.0) refl, rw (rest.1, here.1) refl)
 
   -- so does the end, with the settles behind it
   end_feeds : (s : Part) (xs : List Step) (rest : List Event) → events_of xs ≡ End ∷ rest → All IsSettle rest
@@ -42,8 +42,7 @@ module _ (g : Setting) where
   end_feeds s [] rest is are = absurd (cc)
   end_feeds s (x ∷ xs) rest is are =
       let first : x.event ≡ End = cc in let others : rest ≡ events_of xs = cc in
-      let after = settles_leave s xs (subst (All IsSettle) others are) in
-      (λ i. ap (fed_of g) first i ++ after.0 i)
+      rw (first, (settles_leave s xs (rw others at are)).0) refl
 
   fed_steps : (xs ys : List Step) → fed_in g (xs ++ ys) ≡ fed_in g xs ++ fed_in g ys
   fed_steps [] ys = refl
@@ -65,15 +64,15 @@ adds_steps old new steps more ended is noted feeds =
     let g = old.net.setting in rw is (record {
       net = refl;
       stopper = refl;
-      fed = fed_steps g old.did steps ∙ ap (λ (l : List (ℕ × ℕ)). fed_by old ++ l) feeds;
-      ended_is = ap (λ (s : Part). s.ended) (part_append g (opening_part g) old.did steps) ∙ noted;
+      fed = rw (fed_steps g old.did steps, feeds) refl;
+      ended_is = rw (has_ended, part_append g (opening_part g) old.did steps) noted;
     })
 
 -- a poll feeds nothing
 pub poll_adds : (old new : RootKnown) (n : ℕ) → IsPolling old new n → Adds old new [] (has_ended old)
 poll_adds old new n polling =
     let leaves = settles_leave old.net.setting (root_part old) polling.steps
-    (subst (All IsSettle) (sym polling.events_are) (are_settles old.net.setting 0 n)) in
+    (rw polling.events_are (are_settles old.net.setting 0 n)) in
     adds_steps old new polling.steps [] (has_ended old) polling.record_is leaves.1 leaves.0
 
 -- nor does a look in vain
@@ -86,8 +85,7 @@ end_adds : (old new : RootKnown) (answer : RootState) → Ends old new answer �
 end_adds old new answer ends =
     let g = old.net.setting in let steps = ends.ending.steps in
     adds_steps old new steps [] true ends.ending.record_is
-    (sym (ap (λ (s : Part). s.ended) (part_append g (opening_part g) old.did steps))
-    ∙ ap has_ended (sym ends.ending.record_is) ∙ ends.ended)
+    (rw (← part_append g (opening_part g) old.did steps) (rw ends.ending.record_is at ends.ended))
     (end_feeds g (root_part old) steps _ ends.ending.events_are (are_settles g 1 (g.game.graph.vertices - 1)))
 
 -- a feed feeds what it says
@@ -96,7 +94,7 @@ feed_adds : (old new : RootKnown) (v k place : ℕ) → Feeds old new v k place
 feed_adds old new v k place feeds =
     let g = old.net.setting in let back : root_edge g v - graph_edges g ≡ v = omega arith in
     adds_steps old new (feed_steps g v k place) ((v, k) ∷ []) (has_ended old) feeds.record_is refl
-    (ap (λ (w : ℕ). (w, k) ∷ []) back)
+    (rw back refl)
 
 -- ---- what may be fed still
 
@@ -107,15 +105,13 @@ all_right P (x ∷ xs) ys all = all_right P xs ys (All-tail P x (xs ++ ys) all)
 may_after : {old new : RootKnown} {more : List (ℕ × ℕ)} (left : List (ℕ × ℕ)) → Adds old new more (has_ended old)
     → MayFeed old (more ++ left) → MayFeed new left
 may_after {old} {new} {more} left adds may =
-    let fits = λ (n : NetId) (p : ℕ × ℕ). (p.0 < n.setting.game.graph.vertices) × (0 < p.1) in
-    let given = ap (λ (z : NetId × List (ℕ × ℕ)). sum z.0.setting.game.start + all_brought z.1)
-    (λ i. (adds.net i, adds.fed i)) in
     let fed = sum_by-append (λ (p : ℕ × ℕ). p.1) (fed_by old) more in
     let both = sum_by-append (λ (p : ℕ × ℕ). p.1) more left in
     record {
-      not_ended = adds.ended_is ∙ may.not_ended;
-      each = subst (λ (n : NetId). All (fits n) left) (sym adds.net) (all_right (fits old.net) more left may.each);
-      within = (let within = may.within in omega arith);
+      not_ended = rw adds.ended_is may.not_ended;
+      each = rw adds.net (all_right (λ (p : ℕ × ℕ). (p.0 < old.net.setting.game.graph.vertices) × (0 < p.1)) more left
+          may.each);
+      within = rw (adds.fed, adds.net) (omega arith);
     }
 
 -- the root went on feeding: of what was left some was fed, in order, and the others are left and may be fed
@@ -130,9 +126,9 @@ stays feeds left old new same is = rw (same, is) (record { net = refl; stopper =
 
 goes_on : {a b c : Left} {x y z : RootKnown} → GoesOn a b x y → GoesOn b c y z → GoesOn a c x z
 goes_on first last = record {
-  net = last.net ∙ first.net;
-  stopper = last.stopper ∙ first.stopper;
-  fed = last.fed ∙ first.fed;
+  net = cc;
+  stopper = cc;
+  fed = cc;
   may = λ may. last.may (first.may may);
 }
 
@@ -142,8 +138,7 @@ adds_left : {old new : RootKnown} {more : List (ℕ × ℕ)} {ended : Bool} (fee
 adds_left {old} {new} {more} feeds left adds is may = record {
   net = adds.net;
   stopper = adds.stopper;
-  fed = ap (λ (l : List (ℕ × ℕ)). l ++ pairs left) adds.fed ∙ append_assoc (fed_by old) more (pairs left)
-      ∙ ap (λ (l : List (ℕ × ℕ)). fed_by old ++ l) (sym is);
+  fed = rw (adds.fed, is, append_assoc) refl;
   may = may;
 }
 
@@ -212,10 +207,10 @@ pub over_polled : (old now : RootKnown) (n : ℕ) → IsPolling old now n → Is
 over_polled old now n polls over =
     let g = old.net.setting in
     let less = settles_less g (root g) polls.steps (root_part old)
-    (subst (All IsSettle) (sym polls.events_are) (are_settles g 0 n)) in
+    (rw polls.events_are (are_settles g 0 n)) in
     let same = ap (deficit g (root g)) (part_append g (opening_part g) old.did polls.steps) in
-    let is = ap root_deficit polls.record_is in let none = over.0 in
-    (omega arith, (poll_adds old now n polls).ended_is ∙ over.1)
+    let is = ap root_deficit polls.record_is in
+    (omega arith, rw (poll_adds old now n polls).ended_is over.1)
 
 -- nothing is fed any more
 pub over_fed : (left after : Left) (old new : RootKnown) → MayFeedLeft old left → FeedsOnce left after old new → IsOver old

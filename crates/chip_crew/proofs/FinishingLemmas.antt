@@ -1,8 +1,8 @@
 -- Serves Finished.antt, Feeding.antt, Plans.antt.
 -- What is known of a crew is known of the game that it played.
-use Rattle.chip_crew.proofs.Names.{◌≡◌, ℕ, ◌<◌, ◌≤◌, List, Option, Some, None, refl, sym, ap, ◌∙◌, subst, arith, true}
-use Rattle.chip_crew.proofs.Names.{false, [], ◌++◌, ⊎_elim, ◌⊎◌, is_some, and_parts, nat_tests, AllPass-from_list_all}
-use Rattle.chip_crew.proofs.Names.{option_copied, ChipGame, HasMore, Outcome, Setting, setting_with, Step, RootKnown}
+use Rattle.chip_crew.proofs.Names.{◌≡◌, ℕ, ◌<◌, ◌≤◌, List, Option, Some, None, refl, subst, arith, true}
+use Rattle.chip_crew.proofs.Names.{false, [], ⊎_elim, ◌⊎◌, is_some, and_parts, nat_tests, AllPass-from_list_all}
+use Rattle.chip_crew.proofs.Names.{option_copied, ChipGame, HasMore, Outcome, setting_with, Step, RootKnown}
 use Rattle.chip_crew.proofs.Names.{has_ended, fed_by, new_root, IsOver, NetId, Asked, root_of, CrewId, EndsWell}
 use Rattle.chip_crew.proofs.Names.{StaysOpen, EndsLed, StaysUnfinished, Left, pairs, MayFeedLeft, IsLed, CanPlay}
 use Rattle.chip_crew.proofs.Names.{IsCrewFor, HasFinished, IsWhole, IsFinished, IsStopped, IsFaultOf, HasLed, is_plan}
@@ -22,7 +22,7 @@ may_begin game (Some feeds) plan net root stopper_did can setting is =
     let are = (and_parts (is_plan game plan) (are_feeds game feeds) can.within).1 in rw is (record {
       not_ended = rw setting refl;
       each = rw setting (λ k d less. let fits = AllPass-from_list_all _ feeds are k d less in grind (arith, nat_tests));
-      within = rw setting (let total = can.total in omega arith);
+      within = rw setting (omega arith);
     })
 
 -- what its plan says is in its ranges
@@ -48,8 +48,8 @@ module _ (asked : Asked) (round turns : ℕ) (leader : Leader) (back : RootKnown
   pub ends_led : (receipt : RootKnown) (o : Outcome) → EndsWell back receipt o
       → EndsLed asked.crew asked.feeds asked.plan receipt o
   ends_led receipt o ends =
-      let noted = sym (ap has_ended same.1)
-      ∙ sym (poll_adds back ends.root back.net.setting.game.graph.vertices ends.polled).ended_is ∙ ends.closed.1 in
+      let noted = rw ((poll_adds back ends.root back.net.setting.game.graph.vertices ends.polled).ended_is, same.1)
+      at ends.closed.1 in
       record {
         round = round;
         is_round = has.is_round;
@@ -69,7 +69,7 @@ module _ (asked : Asked) (round turns : ℕ) (leader : Leader) (back : RootKnown
   stays_led now deficit stays =
       let all : turns ≡ asked.plan.turns = ⊎_elim (λ (same : turns ≡ asked.plan.turns). same)
       (λ (over : IsOver leader.root). absurd (stays.not_over (over_polled back now back.net.setting.game.graph.vertices
-      stays.polled (subst IsOver (sym same.1) over)))) lasts in
+      stays.polled (rw same.1 over)))) lasts in
       record {
         round = round;
         is_round = has.is_round;
@@ -86,11 +86,8 @@ whole_by : (game whole : ChipGame) (feeds : Left) (net : NetId) (fed : List (ℕ
     → net.setting ≡ setting_with game ring (is_some feeds) → fed ≡ pairs feeds
     → (net.setting.fed ≡ false → whole ≡ net.setting.game) → HasMore net.setting.game fed whole
     → IsWhole game feeds whole
-whole_by game whole None net fed ring setting is unfed more =
-    unfed (ap (λ (g : Setting). g.fed) setting) ∙ ap (λ (g : Setting). g.game) setting
-whole_by game whole (Some feeds) net fed ring setting is unfed more =
-    subst (λ (z : ChipGame × List (ℕ × ℕ)). HasMore z.0 z.1 whole)
-    (λ i. (ap (λ (g : Setting). g.game) setting i, is i)) more
+whole_by game whole None net fed ring setting is unfed more = (rw setting at unfed) refl
+whole_by game whole (Some feeds) net fed ring setting is unfed more = rw (setting, is) at more
 
 module _ (feeds : Left) (plan : Plan) (crew : CrewId) (f : Finished) (finished : HasFinished crew feeds plan f) where
   abbrev ends : EndsLed crew feeds plan f.receipt f.outcome
@@ -107,7 +104,7 @@ module _ (feeds : Left) (plan : Plan) (crew : CrewId) (f : Finished) (finished :
 
   -- the root that finished is that of the crew's net
   pub net_is : ends.ends.root.net ≡ crew.net
-  net_is = polled.net ∙ ap (λ (r : RootKnown). r.net) stays.1 ∙ led.net
+  net_is = rw (polled.net, stays.1) led.net
 
   knows : (last : RootKnown) → last.stopper_did ≡ ends.back.stopper_did → KnowsSeals plan.seal ends.turns last
   knows last kept = knows_seals plan.seal ends.turns (root_of crew plan) ends.led ends.back last refl led.stopper
@@ -118,16 +115,16 @@ module _ (feeds : Left) (plan : Plan) (crew : CrewId) (f : Finished) (finished :
       → IsFinished shared game feeds plan f
   finished_by shared game opened =
       let finishes = ends.ends.finishes in
-      let fed = polled.fed ∙ ap (λ (l : List (ℕ × ℕ)). l ++ []) (ap fed_by stays.1) ∙ led.fed in
+      let fed : fed_by ends.ends.root ≡ pairs feeds = rw (polled.fed, stays.1) led.fed in
       record {
         crew = crew;
         opened = opened;
         finished = finished;
-        sealed = knows f.receipt (ap (λ (r : RootKnown). r.stopper_did) finishes.record_is ∙ polled.stopper);
+        sealed = knows f.receipt (let kept = polled.stopper in cc);
         fed = fed;
         whole = finishes.game;
         whole_is = whole_by game finishes.game feeds ends.ends.root.net (fed_by ends.ends.root) plan.ring
-            (ap (λ (n : NetId). n.setting) net_is ∙ opened.setting) fed finishes.unfed finishes.more;
+            (rw net_is opened.setting) fed finishes.unfed finishes.more;
         played = λ none. finishes.played (finishes.unsealed (subst (λ (seal : Option SealAt).
             KnowsSeals seal ends.turns ends.ends.root) none (knows ends.ends.root polled.stopper)));
       }

@@ -1,6 +1,6 @@
 -- Serves Gathering.antt.
 -- What the calling thread gathers from the queue are the actors of all vertices, and sorted they are in order.
-use Rattle.chip_crew.proofs.Names.{◌≡◌, ℕ, suc, ◌+◌, ◌*◌, ◌<◌, ◌≤◌, List, length, refl, sym, ap, ◌∙◌, subst, arith, []}
+use Rattle.chip_crew.proofs.Names.{◌≡◌, ℕ, suc, ◌+◌, ◌*◌, ◌<◌, ◌≤◌, List, length, refl, ap, arith, []}
 use Rattle.chip_crew.proofs.Names.{◌∷◌, ◌++◌, All, map, nat_tests, length-map, map-append, All-tail, All-head}
 use Rattle.chip_crew.proofs.Names.{All-append, All-permutation, sum_by-IsPermutation, sum_by-append, sum_by-cons}
 use Rattle.chip_crew.proofs.Names.{sum_by-le, get_or-le-sum_by, Vec, IsPermutation, IsNonDecreasingBy, vec_capacity}
@@ -22,11 +22,10 @@ pub gathers_more : (asked : Asked) (old new : Ledger) (row now : Vec ActorKnown)
     ≤ gave_turns old + got_turns new + n * asked.plan.turns → IsGatheringFor asked n new now
 gathers_more asked old new row now more m n gathers is ours room speaks has turns = record {
   speaks = speaks;
-  has = has ∙ ap (λ (vs : List ℕ). vs ++ vertices_of more) gathers.has
-      ∙ sym (ap vertices_of is ∙ map-append (λ (a : ActorKnown). a.vertex) row.items more);
-  ours = subst (All (IsOurs asked.crew)) (sym is) (All-append (IsOurs asked.crew) row.items more gathers.ours ours);
+  has = rw (has, gathers.has, is, map-append) refl;
+  ours = rw is (All-append (IsOurs asked.crew) row.items more gathers.ours ours);
   room = room;
-  turns = (let old_turns = gathers.turns in let all = ap all_turns is in omega (arith, sum_by-append turns_of));
+  turns = (let all = ap all_turns is in omega (arith, sum_by-append turns_of));
 }
 
 -- ---- all of them
@@ -40,7 +39,7 @@ pub gathered : (asked : Asked) (l : Ledger) (row : Vec ActorKnown) → IsGatheri
     → AreAllThere asked.crew l []
     → AreGathered asked.crew row.items × (all_turns row.items ≤ asked.crew.workers * asked.plan.turns)
 gathered asked l row gathers there =
-    let all = there gathers.speaks in let has = ap length gathers.has in let turns = gathers.turns in
+    let all = there gathers.speaks in let has = ap length gathers.has in
     let same = length-map row.items (λ (a : ActorKnown). a.vertex) in (
       record {
         ours = gathers.ours;
@@ -83,8 +82,8 @@ are_from crew from (a ∷ rest) ours up least once =
 pub sorted_actors : (crew : CrewId) (xs ys : List ActorKnown) → AreGathered crew xs → IsPermutation xs ys
     → length ys ≡ length xs → IsNonDecreasingBy (λ (a : ActorKnown). a.vertex) ys → AreActors crew ys
 sorted_actors crew xs ys all moves same up = record {
-  count = same ∙ all.count;
+  count = rw same all.count;
   order = in_order crew ys (are_from crew 0 ys (All-permutation (IsOurs crew) xs ys moves all.ours) up
       (λ k d less. omega arith)
-      (λ v least less. sum_by-IsPermutation (is_of v) xs ys moves ∙ all.once v (let count = all.count in omega arith)));
+      (λ v least less. rw (sum_by-IsPermutation (is_of v) xs ys moves) (all.once v (omega arith))));
 }

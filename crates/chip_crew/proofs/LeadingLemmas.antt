@@ -1,7 +1,7 @@
 -- Serves Duties.antt, Leading.antt, Sealing.antt.
 -- What a worker does beside its turns: worker 0 leads the root, and seals.
 use Rattle.chip_crew.proofs.Names.{◌≡◌, ℕ, zero, suc, ◌+◌, ◌%◌, ◌<◌, ◌==◌, List, length, Option, Some, None, refl, ap}
-use Rattle.chip_crew.proofs.Names.{◌∙◌, arith, add-one, true, false, Bool, eq-eqb, ne_eqb, [], ◌∷◌, ◌++◌, is_some}
+use Rattle.chip_crew.proofs.Names.{arith, add-one, true, false, Bool, eq-eqb, ne_eqb, [], ◌∷◌, ◌++◌, is_some}
 use Rattle.chip_crew.proofs.Names.{ltb-true, if◌then◌else◌, add-mod_right, nat_tests, option_copied, option_zip}
 use Rattle.chip_crew.proofs.Names.{ChipGame, Step, Seal, RootKnown, IsPolling, IsOver, StopperKnown, new_stopper, NetId}
 use Rattle.chip_crew.proofs.Names.{Asked, root_of, CrewId, BeginsEach, EndsIf, Serves, PollsIf, IsLed, CanLead}
@@ -28,7 +28,7 @@ pub sealed_next : (crew : CrewId) (plan : Option SealAt) (turn : ℕ) (old new :
     → HasSealed crew plan turn old → SealsBefore turn old new → HasSealed crew plan (suc turn) new
 sealed_next crew None turn old new has seals = rw has at seals
 sealed_next crew (Some at) turn old new has seals = let s = rw has.1 at seals in
-    (s.0, s.1, s.2 ∙ rw has.2 (seals_next at turn), has.3)
+    (s.0, s.1, rw (s.2, has.2) (seals_next at turn), has.3)
 
 -- a stopper that opens with its net has sealed nothing
 pub none_sealed : (crew : CrewId) (game : ChipGame) (plan : Option SealAt) (stopper : Option StopperKnown)
@@ -58,10 +58,8 @@ back_same (Some at) turns old new back = (Some back.0, back.1)
 pub knows_seals : (plan : Option SealAt) (turns : ℕ) (first old new last : RootKnown)
     → first.stopper_did ≡ (if is_some plan then None else Some []) → old.stopper_did ≡ first.stopper_did
     → TakesBack plan turns old new → last.stopper_did ≡ new.stopper_did → KnowsSeals plan turns last
-knows_seals None turns first old new last opens same back kept =
-    kept ∙ ap (λ (r : RootKnown). r.stopper_did) back ∙ same ∙ opens
-knows_seals (Some at) turns first old new last opens same back kept =
-    (back.0, kept ∙ ap (λ (r : RootKnown). r.stopper_did) back.1, back.2)
+knows_seals None turns first old new last opens same back kept = rw (kept, back, same) opens
+knows_seals (Some at) turns first old new last opens same back kept = (back.0, rw (kept, back.1) refl, back.2)
 
 -- ---- the root is led
 
@@ -76,7 +74,7 @@ pub can_still : (net : NetId) (leader : Leader) (root : RootKnown) (closed : Boo
     → IsPolling leader.root root leader.root.net.setting.game.graph.vertices → root.net ≡ leader.root.net
     → (closed ≡ true → IsOver root) → CanLead net leader → CanLead net (record leader { root = root; is_closed = closed })
 can_still net leader root closed polls same over can = record {
-  net_is = same ∙ can.net_is;
+  net_is = rw same can.net_is;
   may = (poll_goes_on (option_copied leader.feeds) leader.root root leader.root.net.setting.game.graph.vertices polls).may can.may;
   seal = can.seal;
   closed = over;
@@ -105,7 +103,7 @@ led_by asked round (suc k) old new begins (was, begun, served, turn, ends) =
 
 -- with a whole round more there are whole rounds
 pub round_over : (round m k : ℕ) → k ≡ round → m % round ≡ 0 → (m + k) % round ≡ 0
-round_over round m k whole begins = rw whole (add-mod_right m round ∙ begins)
+round_over round m k whole begins = rw (whole, add-mod_right) begins
 
 module _ {D : Type 0} (before : ℕ → D → D → Type 0) (after : D → D → Type 0) (round : ℕ) where
   -- one turn more, with what comes after a round where it ends one

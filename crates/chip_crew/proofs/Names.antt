@@ -1,7 +1,7 @@
 -- The words that the proofs of this crate take from elsewhere, in one place. Declares nothing.
 pub use Rattle.std.proofs.Common.{◌^◌, ◌≡◌, ℕ, zero, suc, ◌+◌, ◌*◌, ◌%◌, ◌<◌, ◌≤◌, ◌-◌, ◌==◌, max, List, length, Option}
-pub use Rattle.std.proofs.Common.{Some, None, take, get_or, set, length-take, refl, sym, ap, ◌∙◌, subst, arith, add-one}
-pub use Rattle.std.proofs.Common.{zero-add, true, false, Bool, eq-eqb, ne_eqb, [], ◌∷◌, ◌++◌, All, sum, append_assoc}
+pub use Rattle.std.proofs.Common.{Some, None, take, get_or, set, length-take, refl, sym, ap, subst, arith, add-one}
+pub use Rattle.std.proofs.Common.{zero-add, true, false, Bool, eq-eqb, ne_eqb, [], ◌∷◌, ◌++◌, All, append_assoc}
 pub use Rattle.std.proofs.Common.{⊎_elim, ◌⊎◌, is_some, ltb-true, map, if◌then◌else◌, cond, drop, sum_by, length-append}
 pub use Rattle.std.proofs.Common.{rules, length-drop, ◌&&◌, append-nil, option_to_list, Bor, false-eqb, IfSome, Result}
 pub use Rattle.std.proofs.Common.{Ok, Err, MatchResult, inl, inr}
@@ -43,7 +43,7 @@ pub use mir.Syntax.{Lifetime}
 pub use Rattle.chip_graph.proofs.PickLemmas.{All-picked}
 pub use Rattle.chip_graph.proofs.SumLemmas.{cond_yes, tested_le}
 pub use Rattle.chip_graph.specs.ChipGame.{ChipGame}
-pub use Rattle.chip_graph.specs.More.{all_brought, HasMore}
+pub use Rattle.chip_graph.specs.More.{HasMore}
 pub use Rattle.chip_graph.specs.Multigraph.{Multigraph, edge_at, edges_in}
 pub use Rattle.chip_sequence.specs.declared.outcome.Outcome.{Outcome}
 pub use Rattle.chip_part.proofs.PickedLemmas.{length-picked}
@@ -67,7 +67,7 @@ pub use Rattle.chip_net.specs.Tokens.{ActorKnown, MakesTurn, NetId, newcomer, pa
 pub use Rattle.chip_net.specs.declared.actor.Turn.{Turn}
 pub use Rattle.chip_net.specs.declared.poll.RootState.{RootState}
 pub use Rattle.chip_crew.specs.Asked.{Asked, passes, SomeShut, root_of, ShutFor, asked_of}
-pub use Rattle.chip_crew.specs.Crew.{CrewId, Turned, IsOurs, IsAt, AreFrom, turns_of, all_turns, AreActors, EachFrom}
+pub use Rattle.chip_crew.specs.Crew.{CrewId, IsOurs, IsAt, AreFrom, turns_of, all_turns, AreActors, EachFrom}
 pub use Rattle.chip_crew.specs.Crew.{AreInOrder, is_root_take}
 pub use Rattle.chip_crew.specs.Dealing.{ends_at, ends_before, IsCut, IsFirstOf, AreOf, IsRound}
 pub use Rattle.chip_crew.specs.Duties.{BeginsEach, EndsIf, Serves}
@@ -81,7 +81,7 @@ pub use Rattle.chip_crew.specs.Joining.{IsWorker, queue_of_all}
 pub use Rattle.chip_crew.specs.Leading.{HasLed, CanLead, IsLeader, LeadsTurn, LeadsRound}
 pub use Rattle.chip_crew.specs.Ledger.{got_turns, gave_turns, first_ledger, new_ledger, with_fewer, both_ledgers}
 pub use Rattle.chip_crew.specs.Ledger.{no_ledger, with_taken, with_put, HasJust, IsNext, EndsTurn, TurnsMade}
-pub use Rattle.chip_crew.specs.Ledger.{kept_turns, vertex_of}
+pub use Rattle.chip_crew.specs.Ledger.{kept_turns}
 pub use Rattle.chip_crew.specs.Places.{times, actors_of, AreAllThere, HasNothing, AreShared, HaveRoom}
 pub use Rattle.chip_crew.specs.Plans.{is_plan, names_edge, are_feeds, max_workers, max_turns}
 pub use Rattle.chip_crew.specs.Rounds.{TurnsThere, TurnsAt, RoundsMade}

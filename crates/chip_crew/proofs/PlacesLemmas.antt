@@ -1,7 +1,7 @@
 -- Serves Places.antt, Ledger.antt.
 -- What is done at the queue keeps its rule, and what the rule tells.
-use Rattle.chip_crew.proofs.Names.{◌≡◌, ℕ, zero, suc, ◌+◌, ◌<◌, ◌≤◌, ◌==◌, List, length, set, refl, sym, ap, ◌∙◌, subst}
-use Rattle.chip_crew.proofs.Names.{arith, add-one, [], ◌∷◌, ◌++◌, All, map, cond, drop, sum_by, length-append}
+use Rattle.chip_crew.proofs.Names.{◌≡◌, ℕ, zero, suc, ◌+◌, ◌<◌, ◌≤◌, ◌==◌, List, length, set, refl, sym, ap}
+use Rattle.chip_crew.proofs.Names.{arith, add-one, [], ◌∷◌, All, map, cond, drop, sum_by, length-append}
 use Rattle.chip_crew.proofs.Names.{nat_tests, All-tail, All-head, All-push, All-set, All-cons, All-nil, All-drop}
 use Rattle.chip_crew.proofs.Names.{length-range_with_len, sum_by-append, sum_by-cons, sum_by_push, sum_by-take-drop}
 use Rattle.chip_crew.proofs.Names.{range_with_len, set_else, drop_at, Pushes, Pops, Forks, Merges, Learns, Held}
@@ -45,7 +45,7 @@ module _ {X : Type 0} (f : X → ℕ) where
       omega (arith, sum_by-cons f)
 
 all_at : {X : Type 0} (P : X → Type 0) (xs : List X) (i : ℕ) (x : X) → All P xs → get_elem? xs i ≡ some x → P x
-all_at P xs i x all at = All-head P x (drop (suc i) xs) (subst (All P) (drop_at xs i x at) (All-drop P i xs all))
+all_at {X} P xs i x all at = All-head P x (drop (suc i) xs) (rw (drop_at xs i x at) at (All-drop {X = X} P i xs all))
 
 module _ (f : Ledger → ℕ) (nothing : (l : Ledger) → HasNothing l → f l ≡ 0) where
   -- who speaks for no worker adds nothing
@@ -84,8 +84,7 @@ module _ (crew : CrewId) where
           workers = omega (arith, moves);
           turns = omega (arith, moves, sum_by_push turns_of);
           spent = All-set IsSpent ledgers pass (with_put v x)
-              (λ none. absurd (let a = ap length (sym first ∙ (all_at IsSpent ledgers pass v old.spent at none).0) in
-              omega arith)) old.spent;
+              (λ none. absurd (let empty = (all_at IsSpent ledgers pass v old.spent at none).0 in cc)) old.spent;
         },
         (ours, refl),
       )
@@ -146,9 +145,9 @@ module _ (crew : CrewId) where
         turns = omega (arith, moves, spends);
         spent = All-set IsSpent now other no_ledger (λ none. (refl, refl, refl)) (All-set IsSpent ledgers pass w
             (λ none. let one = all_at IsSpent ledgers pass v old.spent at (omega arith) in
-            let two = all_at IsSpent ledgers other u old.spent (sym (set_else ledgers pass other w apart)
-            ∙ there) (omega arith) in
-            (λ i. one.0 i ++ two.0 i, omega arith, omega arith)) old.spent);
+            let two = all_at IsSpent ledgers other u old.spent (rw (set_else ledgers pass other w apart)
+            at there) (omega arith) in
+            (rw (one.0, two.0) refl, omega arith, omega arith)) old.spent);
       }
 
   -- ---- what the rule tells
@@ -156,7 +155,7 @@ module _ (crew : CrewId) where
   pub all_there : (pass : ℕ) (v : Ledger) → Learns (AreShared crew) pass v (AreAllThere crew v)
   all_there pass v queued ledgers old at all =
       let one = λ (f : Ledger → ℕ) (none : (l : Ledger) → HasNothing l → f l ≡ 0).
-      one_adds f none ledgers pass v at (old.workers ∙ sym all) old.spent in (
+      one_adds f none ledgers pass v at (omega arith) old.spent in (
         (let a = one has_count (λ l none. ap length none.0) in omega arith),
         (let a = one got_turns (λ l none. none.1) in let b = one gave_turns (λ l none. none.2) in omega arith),
         λ u less. (let a = old.once u less in let b = one (λ (l : Ledger). times u l.has) (λ l none. ap (times u) none.0) in omega arith),
@@ -198,5 +197,4 @@ module _ (crew : CrewId) where
   pub numbers_are : (from : ℕ) (actors : List ActorKnown) → AreFrom crew from actors
       → range_with_len from (length actors) ≡ map (λ (a : ActorKnown). a.vertex) actors
   numbers_are from [] are = refl
-  numbers_are from (a ∷ rest) are = λ i. sym are.0.1 i
-      ∷ (ap (λ (n : ℕ). range_with_len n (length rest)) (add-one from) ∙ numbers_are (suc from) rest are.1) i
+  numbers_are from (a ∷ rest) are = rw (are.0.1, add-one, numbers_are (suc from) rest are.1) refl

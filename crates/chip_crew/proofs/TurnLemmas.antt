@@ -1,6 +1,6 @@
 -- Serves Crew.antt, Ledger.antt.
 -- A turn takes once from the root edge of its vertex, and the ledger of a worker has its turns.
-use Rattle.chip_crew.proofs.Names.{◌≡◌, ℕ, zero, suc, ◌+◌, ◌<◌, ◌≤◌, ◌==◌, List, Option, Some, None, refl, sym, ap, ◌∙◌}
+use Rattle.chip_crew.proofs.Names.{◌≡◌, ℕ, zero, suc, ◌+◌, ◌<◌, ◌≤◌, ◌==◌, List, Option, Some, None, refl, ap}
 use Rattle.chip_crew.proofs.Names.{arith, false, ne_eqb, [], ◌∷◌, ◌++◌, All, cond, drop, sum_by, nat_tests, All-tail}
 use Rattle.chip_crew.proofs.Names.{All-head, sum_by-append, sum_by-cons, sum_by_push, All-picked, edge_at, edges_in}
 use Rattle.chip_crew.proofs.Names.{from_settling, root_edge, graph_edges, Part, Take, Setting, saw, Phase, and_then}
@@ -69,7 +69,7 @@ pub turn_counts : (old new : ActorKnown) (answer : Turn) → MakesTurn old new a
 turn_counts old new answer makes =
     let g = old.net.setting in let both = sum_by-append (take_count g old.vertex) old.did makes.steps in
     let one = takes_once g old.vertex (part_known old) makes.steps (part_known new) makes.is_turn in
-    ap turns_of makes.record_is ∙ omega arith
+    let now = ap turns_of makes.record_is in omega arith
 
 -- ---- by the queue
 
@@ -81,8 +81,8 @@ made_next : (k : ℕ) (old new : Ledger) (kept next : Option ActorKnown) → IsN
     → AreMade k new next
 made_next k old new (Some a) next is made = rw (is.0, is.1) made
 made_next k old new None (Some a) is made = rw is (
-  (made.0.0, ap (λ (vs : List ℕ). vs ++ a.vertex ∷ []) made.0.1),
-  (let few = made.1 in omega (arith, sum_by_push turns_of)),
+  (made.0.0, rw made.0.1 refl),
+  omega (arith, sum_by_push turns_of),
 )
 made_next k old new None None is made = rw is made
 
@@ -90,13 +90,13 @@ made_end : (k : ℕ) (old new : Ledger) (next kept : Option ActorKnown) → Ends
     → AreMade (suc k) new kept
 made_end k old new (Some a) None (after, answer, turn, is) made = rw is (
   (made.0.0, ap (drop 1) made.0.1),
-  (let few = made.1 in let one = turn_counts a after answer turn in omega (arith, sum_by_push turns_of)),
+  (let one = turn_counts a after answer turn in omega (arith, sum_by_push turns_of)),
 )
 made_end k old new (Some a) (Some b) (after, answer, turn, (same, is)) made = rw (same, is) (
-  (made.0.0, made.0.1 ∙ ap (λ (c : ActorKnown). c.vertex ∷ []) (sym turn.record_is)),
-  (let few = made.1 in let one = turn_counts a after answer turn in omega arith),
+  (made.0.0, rw turn.record_is made.0.1),
+  (let one = turn_counts a after answer turn in omega arith),
 )
-made_end k old new None kept (is, none) made = rw (is, none) (made.0, (let few = made.1 in omega arith))
+made_end k old new None kept (is, none) made = rw (is, none) (made.0, omega arith)
 
 pub are_made : (passes : ℕ → Type 0) (k : ℕ) (ledger : Ledger) (kept : Option ActorKnown)
     → TurnsMade passes k ledger kept → AreMade k ledger kept

@@ -1,4 +1,4 @@
-use Rattle.chip_crew.proofs.Names.{◌≡◌, ℕ, ◌+◌, ◌*◌, ◌-◌, length, None, refl, ap, arith, rules, length-drop}
+use Rattle.chip_crew.proofs.Names.{◌≡◌, ℕ, ◌+◌, ◌-◌, length, None, refl, ap, arith, rules, length-drop}
 use Rattle.chip_crew.proofs.Names.{sum_by-take-drop, ActorKnown, IsAt, turns_of, all_turns, IsCut, IsReady}
 use Rattle.chip_crew.proofs.RunLemmas.{from_push, from_drop}
 use Rattle.chip_crew.proofs.DealingLemmas.{are_of, cut_next}
@@ -14,18 +14,15 @@ loop-worker-preserved g c =
     let next = c.next_cut-next.result.0 in
     let rest = c.in_ok-rest.ensures in
     let cut = cut_next c.args.graph.now c.args.workers worker first next _ _ i.first_is
-    (ap (λ (n : ℕ). (worker + 1) * n) c.all_ends-all_ends.ensures.value) c.next_cut-next.ensures.next.2
+    (rw c.all_ends-all_ends.ensures.value refl) c.next_cut-next.ensures.next.2
     c.next_cut-next.ensures.reached c.next_cut-next.ensures.least in
     let at_crew = λ (k u : ℕ) (is : IsCut c.args.graph.now c.args.workers k u).
     rw (c.requires.graph, c.requires.workers.2) at is in
-    let behind = c.next_cut-next.ensures.next.0 in
-    let within = c.next_cut-next.ensures.next.1 in
-    let whole = i.whole in
     let none : (all_turns c.split_off.new.self.items ≡ 0) × (all_turns c.in_ok-rest.rest.items ≡ 0) =
     (let both = sum_by-take-drop turns_of actors (next - first) in let own = ap all_turns rest.items in
-    let left = ap all_turns rest.tail in let old = i.no_turns in (omega arith, omega arith)) in
+    let left = ap all_turns rest.tail in (omega arith, omega arith)) in
     let end : first + (next - first) ≡ next = omega arith in
-    let place : worker ≡ 0 + length c.loop-worker.all.items = (let count = i.count in omega arith) in
+    let place : worker ≡ 0 + length c.loop-worker.all.items = omega arith in
     record {
       first_is = cut;
       ends_are = c.next_cut-next.ensures.next.2;
@@ -38,7 +35,7 @@ loop-worker-preserved g c =
             made = (
               c.requires.sharing,
               are_of g.B.Crew.asked.crew worker first next actors c.split_off.new.self.items
-                  (at_crew worker first i.first_is) (at_crew (worker + 1) next cut) behind (omega arith) i.actors
+                  (at_crew worker first i.first_is) (at_crew (worker + 1) next cut) c.next_cut-next.ensures.next.0 (omega arith) i.actors
                   rest.items,
               (c.split_off.new.self.items, none.0, refl),
             );

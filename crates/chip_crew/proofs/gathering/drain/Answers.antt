@@ -1,22 +1,21 @@
-use Rattle.chip_crew.proofs.Names.{◌≡◌, ◌<◌, length, ap, ◌∙◌, arith, [], ◌∷◌, length-append, rules, length-map}
-use Rattle.chip_crew.proofs.Names.{All-cons, All-nil, sum_by_push, Held, view, ActorKnown, IsOurs, turns_of, got_turns}
-use Rattle.chip_crew.proofs.Names.{gave_turns, with_taken, AreAllThere, Ledger}
+use Rattle.chip_crew.proofs.Names.{◌≡◌, ◌<◌, length, ap, arith, [], ◌∷◌, length-append, rules, length-map}
+use Rattle.chip_crew.proofs.Names.{All-cons, All-nil, sum_by_push, Held, view, ActorKnown, IsOurs, turns_of}
+use Rattle.chip_crew.proofs.Names.{with_taken, AreAllThere}
 use Rattle.chip_crew.proofs.PlacesLemmas.{takes, all_there, none_queued}
 use Rattle.chip_crew.proofs.GatheringLemmas.{gathers_more, gathered}
 use Rattle.chip_crew.proofs.gathering.drain.Goals as goal
 
 pub pop_as-requires-clause-rule : goal.pop_as-requires-clause-rule
 pop_as-requires-clause-rule g c = (
-  takes g.B.Crew.asked.crew _ _ (omega (arith, c.loop-actor.invariant.gathers.speaks, c.requires.some)),
+  takes g.B.Crew.asked.crew _ _ (omega arith),
   all_there g.B.Crew.asked.crew _ _,
 )
 
 pub push_reserved-requires : goal.push_reserved-requires
 push_reserved-requires g c =
-    let i = c.loop-actor.invariant.gathers in
     let few : length (view c.loop-actor.pass).has < g.B.Crew.asked.crew.net.setting.game.graph.vertices = search rules in
-    let has = ap length i.has in let same = length-map c.loop-actor.row.items (λ (a : ActorKnown). a.vertex) in
-    let room = i.room in omega arith
+    let has = ap length c.loop-actor.invariant.gathers.has in
+    let same = length-map c.loop-actor.row.items (λ (a : ActorKnown). a.vertex) in omega arith
 
 pub loop-actor-preserved : goal.loop-actor-preserved
 loop-actor-preserved g c =
@@ -30,9 +29,8 @@ loop-actor-preserved g c =
       gathers = gathers_more g.B.Crew.asked (view c.loop-actor.pass) (view c.pop_as.new.pass) c.loop-actor.row
           c.push_reserved.new.self (a ∷ []) workers workers i c.push_reserved.ensures.items
           (All-cons (IsOurs g.B.Crew.asked.crew) a [] ours (All-nil (IsOurs g.B.Crew.asked.crew))) (search rules)
-          (ap (λ (l : Ledger). l.workers) told ∙ i.speaks) (ap (λ (l : Ledger). l.has) told)
-          (let got = ap got_turns told in let gave = ap gave_turns told in
-          let taken = sum_by_push turns_of (view c.loop-actor.pass).taken a in omega arith);
+          (rw told i.speaks) (rw told (cc))
+          (rw told (omega (arith, sum_by_push turns_of)));
     }
 
 pub loop-actor-smaller : goal.loop-actor-smaller

@@ -1,9 +1,9 @@
-use Rattle.chip_crew.proofs.Names.{◌≡◌, ℕ, ◌+◌, ◌≤◌, List, length, Option, None, sym, ap, ◌∙◌, arith, [], ◌∷◌, ◌++◌}
+use Rattle.chip_crew.proofs.Names.{◌≡◌, ℕ, ◌+◌, ◌≤◌, List, length, Option, None, ap, arith, [], ◌∷◌, ◌++◌}
 use Rattle.chip_crew.proofs.Names.{All, length-append, rules, append-nil, option_to_list, length-map, All-cons, All-nil}
 use Rattle.chip_crew.proofs.Names.{sum_by-append, Vec, vec_capacity, view, ActorKnown, Asked, IsOurs, turns_of}
 use Rattle.chip_crew.proofs.Names.{all_turns, IsGatheringFor, got_turns, gave_turns, both_ledgers, HasJust, kept_turns}
-use Rattle.chip_crew.proofs.Names.{vertex_of, HaveRoom, Ledger}
-use Rattle.chip_crew.proofs.GatheringLemmas.{gathers_more, vertices_of}
+use Rattle.chip_crew.proofs.Names.{HaveRoom, Ledger}
+use Rattle.chip_crew.proofs.GatheringLemmas.{gathers_more}
 use Rattle.chip_crew.proofs.PlacesLemmas.{merges, have_room}
 use Rattle.chip_crew.proofs.gathering.join_pass.Goals as goal
 
@@ -16,10 +16,8 @@ one_joined : (asked : Asked) (old theirs new : Ledger) (row now : Vec ActorKnown
     → IsGatheringFor asked (old.workers + 1) new now
 one_joined asked old theirs new row now kept more both has own gathers same is ours room =
     gathers_more asked old new row now more old.workers (old.workers + 1) gathers is ours room
-    (ap (λ (l : Ledger). l.workers) both ∙ ap (λ (n : ℕ). old.workers + n) has.0)
-    (ap (λ (l : Ledger). l.has) both ∙ ap (λ (vs : List ℕ). old.has ++ vs) (has.1 ∙ ap vertices_of same))
-    (let gave = ap gave_turns both in let got = ap got_turns both in let all = ap all_turns same in
-    omega (arith, sum_by-append turns_of))
+    (rw both (omega (arith, has.0))) (rw (both, has.1, same) (cc))
+    (rw both (let all = ap all_turns same in omega (arith, sum_by-append turns_of)))
 
 pub absorb-requires-clause-rule : goal.absorb-requires-clause-rule
 absorb-requires-clause-rule g c = merges g.B.Crew.asked.crew _ _ _ _
@@ -32,9 +30,9 @@ push_reserved-requires g c =
     let i = c.requires.gathering in
     let learned : (items : List ActorKnown) × HaveRoom g.B.Crew.asked.crew (view c.absorb.new.pass) items = search rules in
     let both : view c.absorb.new.pass ≡ both_ledgers (view c.args.pass.now) (view c.args.theirs) = search rules in
-    let has = ap (λ (l : Ledger). length l.has) both in let own = ap length i.has in
+    let own = ap length i.has in
     let same = length-map c.args.row.now.items (λ (a : ActorKnown). a.vertex) in
-    let theirs = ap length (c.requires.has.1 ∙ ap vertex_of c.in-Some.is) in let fits = learned.1 in let room = i.room in
+    let theirs = ap length (rw c.in-Some.is at c.requires.has.1) in let fits = rw both at learned.1 in
     omega (arith, length-append {A = ℕ})
 
 pub returns-in-Some-clause-gathering : goal.returns-in-Some-clause-gathering
@@ -51,5 +49,5 @@ returns-in_default-clause-gathering g c =
     let none : c.args.kept ≡ None = search rules in
     one_joined g.B.Crew.asked (view c.args.pass.now) (view c.args.theirs) (view c.learn_as.new.pass) c.args.row.now
     c.args.row.now c.args.kept [] (search rules) c.requires.has c.requires.turns c.requires.gathering
-    (ap option_to_list none) (sym (append-nil c.args.row.now.items)) (All-nil (IsOurs g.B.Crew.asked.crew))
+    (ap option_to_list none) (rw append-nil (cc)) (All-nil (IsOurs g.B.Crew.asked.crew))
     c.requires.gathering.room

@@ -1,5 +1,5 @@
-use Rattle.chip_crew.proofs.Names.{◌≡◌, ℕ, ◌+◌, ◌<◌, length, refl, sym, ap, ◌∙◌, subst, arith, true, false, Bool, rules}
-use Rattle.chip_crew.proofs.Names.{◌&&◌, Asked, SomeShut, ShutFor, IsFirstOf, IsRound, queue_for, HasMade, round_of}
+use Rattle.chip_crew.proofs.Names.{◌≡◌, ℕ, ◌+◌, ◌<◌, length, refl, ap, arith, true, false, Bool, rules}
+use Rattle.chip_crew.proofs.Names.{◌&&◌, Asked, SomeShut, ShutFor, IsRound, queue_for, HasMade, round_of}
 use Rattle.chip_crew.proofs.Names.{IsWorker, Share}
 use Rattle.chip_crew.proofs.RunLemmas.{from_tail}
 use Rattle.chip_crew.proofs.DealingLemmas.{cut_first}
@@ -13,7 +13,7 @@ first_round asked turns (share.Queue queue pass kept) made = (rw made.0 refl, om
 first_round asked turns (share.Dealt d) made =
     let zero_is = cut_first asked.crew.net.setting.game.graph asked.crew.workers made.1.from made.1.is_first in
     let from_zero : made.1.from + length d.items ≡ length d.items = omega arith in
-    (rw made.0 (length d.items, subst (IsFirstOf asked.crew 1) from_zero made.1.is_next, refl), omega arith)
+    (rw made.0 (length d.items, rw from_zero at made.1.is_next, refl), omega arith)
 
 -- one of the gates was shut where one of those before was, or the last one
 shut_some : (asked : Asked) (worker : ℕ) (old passed new : Bool) → new ≡ (old && passed)
@@ -22,7 +22,7 @@ shut_some : (asked : Asked) (worker : ℕ) (old passed new : Bool) → new ≡ (
     → SomeShut asked.may_answer asked.crew.workers asked.plan.turns
 shut_some asked worker false passed new is before here less nay = before refl
 shut_some asked worker true passed new is before here less nay =
-    let shut = here (sym is ∙ nay) in (worker, shut.0, less, shut.1, shut.2)
+    let shut = here (rw is at nay) in (worker, shut.0, less, shut.1, shut.2)
 
 pub take-requires-clause-made : goal.take-requires-clause-made
 take-requires-clause-made g c =
@@ -34,14 +34,13 @@ loop-started-init g c =
     let taken = c.take.ensures in
     let h = rw c.requires.leader.0.number_is at c.join-share.ensures.is_handed in
     let rest = c.into_iter-started-iterator.ensures.into_iter_gives.0 in
-    let count = c.requires.count in
     record {
       are_back = taken.are_back;
       passed = shut_some g.B.Crew.asked 0 true c.join-share.result.passed c.take.new.self.passed taken.passed_is
           (λ nay. cc) h.passed (omega arith);
       workers = rw (taken.workers, rest) c.requires.others;
       uses = taken.uses;
-      left = (let many = ap length rest in let one = taken.workers in omega arith);
+      left = (let many = ap length rest in omega arith);
     }
 
 pub take-requires-in-loop-started-clause-made : goal.take-requires-in-loop-started-clause-made
@@ -57,7 +56,6 @@ loop-started-preserved g c =
     let old = c.loop-started.collected in
     let steps = c.in-Some.ensures.steps.0 in
     let h = rw (rw steps at i.workers).0.number_is at c.join-share-in-loop-started.ensures.is_handed in
-    let left = i.left in
     let many = ap length steps in
     record {
       are_back = taken.are_back;
@@ -65,8 +63,8 @@ loop-started-preserved g c =
           c.take-in-loop-started.new.self.passed taken.passed_is i.passed h.passed (omega arith);
       workers = rw taken.workers (from_tail (λ worker h. IsWorker g.B.Crew.asked (queue_for c.args.back) worker h.promise)
           old.workers _ _ c.in-Some.started steps i.workers);
-      uses = taken.uses ∙ i.uses;
-      left = (let more = taken.workers in omega arith);
+      uses = cc;
+      left = omega arith;
     }
 
 pub returns : goal.returns

@@ -1,10 +1,10 @@
-use Rattle.chip_crew.proofs.Names.{sym, ◌∙◌, IfSome_then, one_run}
+use Rattle.chip_crew.proofs.Names.{IfSome_then, one_run}
 use Rattle.chip_crew.proofs.FinishingLemmas.{ends_led, stays_led}
 use Rattle.chip_crew.proofs.play.end_play.Goals as goal
 
 pub meet-requires-clause-actors : goal.meet-requires-clause-actors
 meet-requires-clause-actors g c v a at =
-    let ours = c.gather-actors.ensures.actors.order v a at in (ours.0.net_is ∙ sym c.shared.invariant.net_is, ours.1)
+    let ours = c.gather-actors.ensures.actors.order v a at in (rw c.shared.invariant.net_is ours.0.net_is, ours.1)
 
 pub returns-in-Ok-clause-finished : goal.returns-in-Ok-clause-finished
 returns-in-Ok-clause-finished g c =
@@ -27,4 +27,4 @@ returns-in-Err-clause-stopped g c = stays_led g.B.Crew.asked c.args.joined.round
 
 pub take_back-requires-clause-stopper : goal.take_back-requires-clause-stopper
 take_back-requires-clause-stopper g c =
-    IfSome_then c.go_on.new.self.seal c.go_on.ensures.led.can.seal (λ s has. has.0 ∙ sym c.shared.invariant.net_is)
+    IfSome_then c.go_on.new.self.seal c.go_on.ensures.led.can.seal (λ s has. rw c.shared.invariant.net_is has.0)

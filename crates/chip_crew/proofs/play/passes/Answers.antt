@@ -1,33 +1,30 @@
-use Rattle.chip_crew.proofs.Names.{◌≡◌, ◌<◌, List, length, Option, Some, None, refl, sym, ap, ◌∙◌, subst, arith, []}
-use Rattle.chip_crew.proofs.Names.{◌∷◌, All, rules, All-nil, TableId, Asked, IsOurs, all_turns, IsReady, AreReady}
-use Rattle.chip_crew.proofs.Names.{queue_of_all, HasNothing, Ledger, Share}
-use Rattle.chip_crew.proofs.GatheringLemmas.{vertices_of}
+use Rattle.chip_crew.proofs.Names.{◌≡◌, ◌<◌, List, length, Option, Some, None, refl, arith, []}
+use Rattle.chip_crew.proofs.Names.{◌∷◌, rules, All-nil, TableId, Asked, IsOurs, IsReady, AreReady}
+use Rattle.chip_crew.proofs.Names.{queue_of_all, Share}
 use Rattle.chip_crew.proofs.PlacesLemmas.{forks}
 use Rattle.chip_crew.proofs.RunLemmas.{from_push}
 use Rattle.chip_crew.specs.declared.worker.Share.TheVariants as share
 use Rattle.chip_crew.proofs.play.passes.Goals as goal
 
 pub another-requires-clause-rule : goal.another-requires-clause-rule
-another-requires-clause-rule g c =
-    let left = c.loop.invariant.left in forks g.B.Crew.asked.crew _ _ (omega arith) c.loop.invariant.has
+another-requires-clause-rule g c = forks g.B.Crew.asked.crew _ _ (omega arith) c.loop.invariant.has
 
 pub loop-preserved : goal.loop-preserved
 loop-preserved g c =
     let i = c.loop.invariant in
     let fewer = c.another.ensures.rule.0 in
     let same = c.another.ensures.queue in
-    let one = ap (λ (l : Ledger). l.workers) fewer in
     record {
       ready = from_push (IsReady g.B.Crew.asked (Some c.another.new.pass.table_id)) 0 c.loop.all.items _
           (share.Queue c.args.queue c.another.result None) c.push_reserved.ensures.items (rw same.0.0 i.ready) (record {
             made = (c.requires.sharing, same.1, (c.another.ensures.rule.1, refl), tt);
-            uses = ap (λ (t : TableId). Some t) (same.1.0 ∙ sym i.pass.0 ∙ sym same.0.0);
+            uses = cc;
           });
       count = search rules;
       room = search rules;
       pass = search rules;
-      has = subst HasNothing (sym fewer) i.has;
-      left = (let left = i.left in omega arith);
+      has = rw fewer i.has;
+      left = rw fewer (omega arith);
     }
 
 -- as all of them use one queue the first does
@@ -45,8 +42,8 @@ returns-clause-shares g c =
       record {
         some = omega arith;
         few = omega arith;
-        count = count ∙ workers.0;
-        ready = subst (λ (q : Option TableId). AreReady g.B.Crew.asked q c.loop.all.items) (sym uses) i.ready;
+        count = cc;
+        ready = rw uses i.ready;
       },
       uses,
     )
@@ -55,15 +52,14 @@ pub returns-clause-back : goal.returns-clause-back
 returns-clause-back g c =
     let i = c.loop.invariant in
     let all : c.loop.counter ≡ c.args.workers = search rules in
-    let left = i.left in
     let empty : c.in_ok-row.row.items ≡ [] = search rules in (
       c.requires.sharing,
       i.pass,
       record {
         speaks = omega arith;
-        has = i.has.0 ∙ sym (ap vertices_of empty);
-        ours = subst (All (IsOurs g.B.Crew.asked.crew)) (sym empty) (All-nil (IsOurs g.B.Crew.asked.crew));
+        has = rw empty i.has.0;
+        ours = rw empty (All-nil (IsOurs g.B.Crew.asked.crew));
         room = search rules;
-        turns = (let none = ap all_turns empty in let gave = i.has.2 in omega arith);
+        turns = rw empty (omega arith);
       },
     )

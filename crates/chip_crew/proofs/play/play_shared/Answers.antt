@@ -1,5 +1,5 @@
-use Rattle.chip_crew.proofs.Names.{◌≡◌, sym, ap, ◌∙◌, rules, range_with_len, view, IsOurs, IsAt, got_turns, gave_turns}
-use Rattle.chip_crew.proofs.Names.{first_ledger, Ledger}
+use Rattle.chip_crew.proofs.Names.{◌≡◌, ap, rules, view, IsOurs, IsAt, got_turns, gave_turns}
+use Rattle.chip_crew.proofs.Names.{first_ledger}
 use Rattle.chip_crew.proofs.PlacesLemmas.{begins, numbers_are}
 use Rattle.chip_crew.proofs.RunLemmas.{from_all}
 use Rattle.chip_crew.proofs.play.play_shared.Goals as goal
@@ -14,8 +14,8 @@ fill-requires-clause-actors g c = from_all (IsAt g.B.Crew.asked.crew) (IsOurs g.
 pub fill-requires-clause-has : goal.fill-requires-clause-has
 fill-requires-clause-has g c =
     let first : view c.in_ok-queue-in-Queue.pass ≡ first_ledger g.B.Crew.asked.crew = search rules in
-    ap (λ (l : Ledger). l.has) first ∙ ap (range_with_len 0) (sym c.requires.opened.count)
-    ∙ numbers_are g.B.Crew.asked.crew 0 c.args.actors.items c.requires.opened.each
+    rw first (rw (← c.requires.opened.count)
+    (numbers_are g.B.Crew.asked.crew 0 c.args.actors.items c.requires.opened.each))
 
 pub fill-requires-clause-turns : goal.fill-requires-clause-turns
 fill-requires-clause-turns g c =

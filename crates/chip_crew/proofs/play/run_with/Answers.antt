@@ -1,6 +1,6 @@
-use Rattle.chip_crew.proofs.Names.{◌≡◌, ℕ, ◌<◌, List, Option, Some, None, refl, ap, ◌∙◌, subst, Bool, [], is_some}
-use Rattle.chip_crew.proofs.Names.{if◌then◌else◌, rules, Bor, MatchResult-weaker, option_copied, option_zip, Setting}
-use Rattle.chip_crew.proofs.Names.{setting_with, RootKnown, new_root, new_stopper, Asked, asked_of, IsCrewFor}
+use Rattle.chip_crew.proofs.Names.{◌≡◌, ℕ, List, Option, Some, None, refl, is_some}
+use Rattle.chip_crew.proofs.Names.{rules, Bor, MatchResult-weaker, option_copied, option_zip}
+use Rattle.chip_crew.proofs.Names.{Asked, asked_of, IsCrewFor}
 use Rattle.chip_crew.proofs.RunLemmas.{ours_by, new_turns}
 use Rattle.chip_crew.proofs.FinishingLemmas.{may_begin, plan_fits, finished_by, stopped_by}
 use Rattle.chip_crew.proofs.LeadingLemmas.{none_sealed, may_seal}
@@ -25,33 +25,31 @@ play_on-requires-clause-opened g c κs within =
     let asked : Asked = asked_of opened.net c.args.plan c.args.sharing (option_copied c.args.feeds)
     (g.G.Gate.may_answer c.args.gate.now) in
     let can = c.in_ok-ring.ensures.0 in
-    let setting = c.in_ok-opened.ensures.setting ∙ c.new-setting.ensures in
+    let setting = rw (c.new-setting.ensures, c.in_ok-ring.ensures.1, c.is_some.ensures, copied_some c.args.feeds)
+    at c.in_ok-opened.ensures.setting in
     let fits = plan_fits c.args.game (option_copied c.args.feeds) c.args.plan can in
-    let sealed = none_sealed asked.crew c.args.game c.args.plan.seal opened.stopper (c.in_ok-opened.ensures.stopper
-    ∙ ap (λ (b : Bool). if b then Some (new_stopper opened.net) else None) c.is_some-2.ensures) fits.3
-    (ap (λ (s : Setting). s.game) setting) in
+    let sealed = none_sealed asked.crew c.args.game c.args.plan.seal opened.stopper (rw c.is_some-2.ensures
+    at c.in_ok-opened.ensures.stopper) fits.3 (rw setting refl) in
     record {
       leads = record {
-        root = c.in_ok-opened.ensures.root
-            ∙ ap (λ (b : Bool). new_root opened.net (if b then None else Some [])) c.is_some-2.ensures;
+        root = rw c.is_some-2.ensures at c.in_ok-opened.ensures.root;
         feeds = refl;
         seal = sealed;
         goes_on = refl;
         can = record {
-          net_is = ap (λ (r : RootKnown). r.net) c.in_ok-opened.ensures.root;
+          net_is = rw c.in_ok-opened.ensures.root refl;
           may = may_begin c.args.game (option_copied c.args.feeds) c.args.plan opened.net opened.root _ can
-              (setting ∙ (λ i. setting_with c.args.game (c.in_ok-ring.ensures.1 i)
-              ((c.is_some.ensures ∙ copied_some c.args.feeds) i))) c.in_ok-opened.ensures.root;
+              setting c.in_ok-opened.ensures.root;
           seal = may_seal asked.crew c.args.plan.seal 0 (option_zip opened.stopper c.args.plan.seal) sealed;
           closed = λ is. cc;
         };
       };
       each = ours_by asked.crew c.new-setting.result.game.graph.vertices opened.actors.items
-          (ap (λ (s : Setting). s.game.graph.vertices) c.in_ok-opened.ensures.setting) c.in_ok-opened.ensures.count
+          (rw c.in_ok-opened.ensures.setting refl) c.in_ok-opened.ensures.count
           c.in_ok-opened.ensures.actors;
       count = search rules;
       no_turns = new_turns opened.net c.args.plan.trace_rows opened.actors.items (λ v less.
-          c.in_ok-opened.ensures.actors v (subst (λ (n : ℕ). v < n) c.in_ok-opened.ensures.count less));
+          c.in_ok-opened.ensures.actors v (rw c.in_ok-opened.ensures.count at less));
       some = search rules;
       workers_are = refl;
       some_workers = fits.0;
@@ -65,9 +63,8 @@ returns g c =
     (g.G.Gate.may_answer c.args.gate.now) in
     let opened : IsCrewFor c.args.sharing c.args.game feeds c.args.plan asked.crew = record {
       can = c.in_ok-ring.ensures.0;
-      setting = c.in_ok-opened.ensures.setting ∙ c.new-setting.ensures
-          ∙ (λ i. setting_with c.args.game (c.in_ok-ring.ensures.1 i)
-          ((c.is_some.ensures ∙ copied_some c.args.feeds) i));
+      setting = rw (c.new-setting.ensures, c.in_ok-ring.ensures.1, c.is_some.ensures, copied_some c.args.feeds)
+          at c.in_ok-opened.ensures.setting;
       room = refl;
       workers = refl;
       sharing = refl;

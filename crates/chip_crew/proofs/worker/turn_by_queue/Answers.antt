@@ -1,5 +1,5 @@
-use Rattle.chip_crew.proofs.Names.{◌≡◌, sym, ap, ◌∙◌, [], ◌∷◌, rules, IfSome, Result, Ok, Err, MatchResult, result_err}
-use Rattle.chip_crew.proofs.Names.{ActorKnown, CrewId, IsOurs, vertex_of}
+use Rattle.chip_crew.proofs.Names.{◌≡◌, [], rules, IfSome, Result, Ok, Err, MatchResult, result_err}
+use Rattle.chip_crew.proofs.Names.{ActorKnown, CrewId, IsOurs}
 use Rattle.chip_crew.proofs.PlacesLemmas.{puts}
 use Rattle.chip_crew.proofs.DealingLemmas.{still_ours}
 use Rattle.chip_crew.proofs.worker.turn_by_queue.Goals as goal
@@ -14,7 +14,7 @@ pub try_push_as-back-requires-clause-rule : goal.try_push_as-back-requires-claus
 try_push_as-back-requires-clause-rule g c =
     let ours : IsOurs g.B.Crew.asked.crew c.in-Some.actor = search rules in
     puts g.B.Crew.asked.crew _ _ _ _ [] (still_ours g.B.Crew.asked.crew c.in-Some.actor _ _ c.turn-turn.ensures.turn ours)
-    (c.next_actor.ensures.has.1 ∙ ap vertex_of c.in-Some.is ∙ (λ i. sym c.turn-turn.ensures.same.1 i ∷ []))
+    (rw (← c.turn-turn.ensures.same.1) at (rw c.in-Some.is at c.next_actor.ensures.has.1))
 
 pub returns-clause-kept : goal.returns-clause-kept
 returns-clause-kept g c =

@@ -1,7 +1,6 @@
-use Rattle.chip_crew.proofs.Names.{◌≡◌, ℕ, ◌+◌, ◌≤◌, List, length, Some, refl, sym, ap, ◌∙◌, subst, arith, add-one}
-use Rattle.chip_crew.proofs.Names.{◌++◌, length-append, rules, sum_by-append, vec_capacity, TableId, view, ActorKnown}
-use Rattle.chip_crew.proofs.Names.{passes, CrewId, IsAt, AreFrom, turns_of, all_turns, IsFirstOf, AreOf, IsRow}
-use Rattle.chip_crew.proofs.Names.{queue_for}
+use Rattle.chip_crew.proofs.Names.{◌≡◌, ℕ, ◌+◌, ◌≤◌, List, length, refl, ap, arith, add-one}
+use Rattle.chip_crew.proofs.Names.{◌++◌, length-append, rules, sum_by-append, vec_capacity, view, ActorKnown}
+use Rattle.chip_crew.proofs.Names.{passes, CrewId, IsAt, turns_of, all_turns, AreOf, IsRow}
 use Rattle.chip_crew.proofs.DealingLemmas.{rounds_turns, cut_same}
 use Rattle.chip_crew.proofs.RunLemmas.{from_append}
 use Rattle.chip_crew.proofs.TurnLemmas.{are_made}
@@ -13,14 +12,13 @@ row_longer : (crew : CrewId) (worker : ℕ) (row actors : List ActorKnown) (room
     → AreOf crew worker actors → room ≤ more → IsRow crew (worker + 1) (row ++ actors) more
 row_longer crew worker row actors room more is are grown =
     let both = length-append row actors in
-    let same : are.from ≡ 0 + length row =
-    cut_same crew.net.setting.game.graph crew.workers worker are.from (length row) are.is_first is.up_to
-    ∙ omega arith in
+    let from = cut_same crew.net.setting.game.graph crew.workers worker are.from (length row) are.is_first is.up_to in
+    let same : are.from ≡ 0 + length row = omega arith in
     let end : are.from + length actors ≡ length (row ++ actors) = omega arith in
     record {
-      up_to = subst (λ (z : ℕ × ℕ). IsFirstOf crew z.0 z.1) (λ i. (sym (add-one worker) i, end i)) are.is_next;
-      each = from_append (IsAt crew) 0 row actors is.each (subst (λ (n : ℕ). AreFrom crew n actors) same are.each);
-      has_room = (let has_room = is.has_room in omega arith);
+      up_to = rw add-one (rw end at are.is_next);
+      each = from_append (IsAt crew) 0 row actors is.each (rw same at are.each);
+      has_room = omega arith;
     }
 
 pub join_pass-requires-clause-has : goal.join_pass-requires-clause-has
@@ -33,7 +31,7 @@ pub join_pass-requires-clause-turns : goal.join_pass-requires-clause-turns
 join_pass-requires-clause-turns g c =
     let made = c.requires.made in
     let own = (are_made (passes g.B.Crew.asked c.args.self.now.workers) made.0 (view c.in-Queue.theirs) c.in-Queue.kept
-    (rw c.in-Queue.is at made.2).2).1 in let few = made.1 in omega arith
+    (rw c.in-Queue.is at made.2).2).1 in omega arith
 
 pub returns : goal.returns
 returns g c =
@@ -47,7 +45,7 @@ returns g c =
               w.join_pass.ensures.pass,
               rw back.2.speaks at w.join_pass.ensures.gathering,
             );
-            uses = ap (λ (t : TableId). Some t) (w.join_pass.ensures.pass.0 ∙ sym back.1.0) ∙ sym (ap queue_for w.in-Queue-back.is);
+            uses = rw w.in-Queue-back.is (let was = back.1.0 in cc);
             passed_is = refl;
           })
       | in-Dealt+in-Dealt-back+in-Ok w ↦
@@ -63,10 +61,9 @@ returns g c =
               rw items (row_longer g.B.Crew.asked.crew workers row.items actors (vec_capacity row) (vec_capacity w.append.new.self)
                   back.1 made.1 w.append.ensures.capacity),
               (let all = ap all_turns items in let both = sum_by-append turns_of row.items actors in
-                  let own = rounds_turns (passes g.B.Crew.asked workers) c.requires.made.0 made.2.0 actors made.2.2 in
-                  let none = made.2.1 in let few = c.requires.made.1 in let old = back.2 in omega arith),
+                  let own = rounds_turns (passes g.B.Crew.asked workers) c.requires.made.0 made.2.0 actors made.2.2 in omega arith),
             );
-            uses = sym (ap queue_for w.in-Dealt-back.is);
+            uses = rw w.in-Dealt-back.is refl;
             passed_is = refl;
           })
     ]

@@ -1,5 +1,5 @@
-use Rattle.chip_crew.proofs.Names.{◌≡◌, ℕ, ◌+◌, ◌≤◌, refl, ap, arith, true, false, eq-eqb, ne_eqb, NetId, Asked, Serves}
-use Rattle.chip_crew.proofs.Names.{HasLed, CanLead, LeadsTurn, LeadsRound, Leader, Plan}
+use Rattle.chip_crew.proofs.Names.{◌≡◌, ℕ, ◌+◌, ◌≤◌, refl, arith, true, false, eq-eqb, ne_eqb, NetId, Asked, Serves}
+use Rattle.chip_crew.proofs.Names.{HasLed, CanLead, LeadsTurn, LeadsRound, Leader}
 use Rattle.chip_crew.proofs.LeadingLemmas.{serves_turn}
 use Rattle.chip_crew.proofs.leader.Leader.go_on.Goals as goal
 
@@ -19,13 +19,13 @@ led_more asked round turns old new has few served net is can = record {
 
 pub overflow_add-turns : goal.overflow_add-turns
 overflow_add-turns g c =
-    omega (arith, c.shared.invariant.few_turns, ap (λ (p : Plan). p.turns) c.shared.invariant.plan_is)
+    omega (arith, rw (← c.shared.invariant.plan_is) at c.shared.invariant.few_turns)
 
 pub loop-turns-preserved : goal.loop-turns-preserved
 loop-turns-preserved g c =
     let i = c.loop-turns.invariant in
-    let all = ap (λ (p : Plan). p.turns) c.shared.invariant.plan_is in
-    led_more g.B.Crew.asked c.args.round c.loop-turns.turns c.loop-turns.self c.begin_turn.new.self i (omega arith)
+    led_more g.B.Crew.asked c.args.round c.loop-turns.turns c.loop-turns.self c.begin_turn.new.self i
+    (rw (← c.shared.invariant.plan_is) (omega arith))
     (serves_turn LeadsTurn LeadsRound c.args.round c.loop-turns.turns false i.first c.loop-turns.self
     c.begin_turn.new.self
     _ i.served c.begin_turn.ensures.done (ne_eqb _ 0 c.if-turns-round-eq0.false) refl) _ c.shared.invariant.net_is
@@ -34,8 +34,8 @@ loop-turns-preserved g c =
 pub loop-turns-preserved-then-turns-round-eq0 : goal.loop-turns-preserved-then-turns-round-eq0
 loop-turns-preserved-then-turns-round-eq0 g c =
     let i = c.loop-turns.invariant in
-    let all = ap (λ (p : Plan). p.turns) c.shared.invariant.plan_is in
-    led_more g.B.Crew.asked c.args.round c.loop-turns.turns c.loop-turns.self c.end_round.new.self i (omega arith)
+    led_more g.B.Crew.asked c.args.round c.loop-turns.turns c.loop-turns.self c.end_round.new.self i
+    (rw (← c.shared.invariant.plan_is) (omega arith))
     (serves_turn LeadsTurn LeadsRound c.args.round c.loop-turns.turns true i.first c.loop-turns.self
     c.begin_turn.new.self
     _ i.served c.begin_turn.ensures.done (eq-eqb _ 0 c.if-turns-round-eq0.true) c.end_round.ensures.done) _

@@ -1,4 +1,3 @@
-use Rattle.chip_crew.proofs.Names.{sym, ◌∙◌}
 use Rattle.chip_crew.proofs.LeadingLemmas.{can_still}
 use Rattle.chip_crew.proofs.FeedLemmas.{over_polled}
 use Rattle.chip_crew.proofs.leader.LeaderDuties.end_round.Goals as goal
@@ -18,9 +17,9 @@ returns-in-Closed-clause-can g c = can_still c.args.net.now c.args.self.now _ _ 
 -- nothing is outstanding, but the end of feeding is not noted
 pub returns-in-Running-eq0-clause-stops : goal.returns-in-Running-eq0-clause-stops
 returns-in-Running-eq0-clause-stops g c = λ over.
-    let apart = sym over.1 ∙ c.in-Running-eq0.ensures.polls.answers.1 c.in-Running-eq0.field-0-test in cc
+    let off = c.in-Running-eq0.ensures.polls.answers.1 c.in-Running-eq0.field-0-test in cc
 
 -- something is outstanding
 pub returns-in-Running-clause-stops : goal.returns-in-Running-clause-stops
 returns-in-Running-clause-stops g c = λ over.
-    c.in-Running.deficit-test.1 (c.in-Running.ensures.polls.answers.0 ∙ over.0)
+    c.in-Running.deficit-test.1 (rw c.in-Running.ensures.polls.answers.0 over.0)

@@ -1,10 +1,10 @@
-use Rattle.chip_crew.proofs.Names.{sym, subst, add-one, view, passes, HasJust}
+use Rattle.chip_crew.proofs.Names.{add-one, view, passes}
 use Rattle.chip_crew.proofs.TurnLemmas.{are_made}
 use Rattle.chip_crew.proofs.shared.Shared.round.Goals as goal
 
 pub turn_by_queue-requires-clause-has : goal.turn_by_queue-requires-clause-has
 turn_by_queue-requires-clause-has g c =
-    let was = rw c.in-Queue.is at c.requires.made in subst (HasJust (view c.in-Queue.pass)) (sym c.take.ensures.value)
+    let was = rw c.in-Queue.is at c.requires.made in rw c.take.ensures.value
     (are_made (passes g.B.Crew.asked c.args.worker) c.args.first (view c.in-Queue.pass) c.in-Queue.kept was.2).0
 
 pub returns-else-not-begin-clause-made : goal.returns-else-not-begin-clause-made

@@ -1,4 +1,4 @@
-use Rattle.chip_crew.proofs.Names.{◌≡◌, ◌+◌, ◌%◌, ◌<◌, max, List, length, sym, ◌∙◌, arith, add-one, rules, length-set}
+use Rattle.chip_crew.proofs.Names.{◌≡◌, ◌+◌, ◌%◌, ◌<◌, max, List, length, arith, add-one, rules, length-set}
 use Rattle.chip_crew.proofs.Names.{ActorKnown, HasDealt}
 use Rattle.chip_crew.proofs.DealingLemmas.{turn_at, none_at, dealt_net, dealt_turn}
 use Rattle.chip_crew.proofs.shared.Shared.turn_each.Goals.{in-Some, in_default}
@@ -6,8 +6,9 @@ use Rattle.chip_crew.proofs.shared.Shared.turn_each.Goals as goal
 
 pub turn-answer-requires : goal.turn-answer-requires
 turn-answer-requires g c = record {
-  net = dealt_net g.B.Crew.asked c.args.worker (c.args.first + c.loop-place.place) c.loop-place.place c.loop-place.actors.items
-      c.in-Some.actor.now c.loop-place.invariant.made (search rules) c.in-Some.ensures.value ∙ sym c.self.invariant.net_is;
+  net = rw c.self.invariant.net_is (dealt_net g.B.Crew.asked c.args.worker (c.args.first + c.loop-place.place)
+      c.loop-place.place c.loop-place.actors.items c.in-Some.actor.now c.loop-place.invariant.made (search rules)
+      c.in-Some.ensures.value);
 }
 
 pub loop-place-preserved : goal.loop-place-preserved
@@ -17,7 +18,7 @@ loop-place-preserved g c =
     let before = c.loop-place.actors.items in
     let count = i.count in
     let begins : c.args.first % max 1 (length before) ≡ 0 = rw count c.requires.first in
-    let less : place < max 1 (length before) = omega (arith, c.requires.most.0, count, c.loop-place-test.true) in
+    let less : place < max 1 (length before) = omega arith in
     let turned = λ (now : List ActorKnown). dealt_turn g.B.Crew.asked c.args.worker c.args.first place before now i.made begins
     less c.if-not-begin.ensures.begins.0 in
     let both : HasDealt g.B.Crew.asked c.args.worker (c.args.first + (place + 1)) c.match-get_mut.actors.items
@@ -25,7 +26,7 @@ loop-place-preserved g c =
       | in-Some w ↦ rw w.actors-is (
         turned _ (turn_at place before w.in-Some.actor.now w.turn-answer.new.self w.turn-answer.result (search rules)
             w.in-Some.ensures.value w.turn-answer.ensures.turn),
-        length-set before place w.turn-answer.new.self ∙ count,
+        rw length-set count,
       )
       | in_default w ↦ rw w.actors-is (turned before (none_at place before (search rules)), count)
     ] in

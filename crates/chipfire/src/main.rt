@@ -42,7 +42,7 @@ const _: () = prove!(limits::MAX_TRACE_ROWS == MAX_TRACE_ROWS);
 
 /// The graph of the game that is played without arguments.
 const TRIANGLE: &str =
-    "{\"edges\":[[0,1,1],[0,2,1],[1,0,1],[1,2,1]],\"sink\":2,\"version\":1,\"vertices\":3}";
+    r#"{"version": 1, "vertices": 3, "sink": 2, "edges": [[0, 1, 1], [0, 2, 1], [1, 0, 1], [1, 2, 1]]}"#;
 /// Its chips.
 const FOUR_CHIPS: &str = "vertex,chips\n0,4\n";
 

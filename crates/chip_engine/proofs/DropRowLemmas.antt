@@ -1,7 +1,7 @@
 -- Serves DropRows.antt.
 -- The rows of drops on a pile, and the bytes that go out.
 use Rattle.std.proofs.Common.{◌≡◌, ℕ, ◌+◌, ◌-◌, ◌<◌, ◌≤◌, cond, eqb, List, [], ◌∷◌, length, get_or}
-use Rattle.std.proofs.Common.{slice_index, refl, ap, ◌∙◌, subst, arith, ◌^◌, take, ◌++◌}
+use Rattle.std.proofs.Common.{slice_index, refl, ap, ◌∙◌, arith, ◌^◌, take, ◌++◌}
 use Rattle.std.proofs.Common.{rules, Option, take-add, length-append}
 use Rattle.std.proofs.lemmas.List.Sums.{sum_by_more}
 use Rattle.std.proofs.lemmas.List.{take_all, take_more, drop_all}
@@ -10,22 +10,14 @@ use Rattle.std.proofs.lemmas.Fmt.{length-decimal-le}
 use Rattle.std.specs.Fmt.{decimal}
 use Rattle.std.specs.Io.KnownBytes.{Appends}
 use Rattle.std.proofs.KnownBytes.{Appends-nil, Appends-trans}
-use Rattle.chip_graph.specs.Multigraph.{Multigraph}
 use Rattle.chip_graph.specs.ChipGame.{ChipGame}
 use Rattle.chip_graph.specs.More.{HasMore}
 use Rattle.chip_fire.specs.declared.avalanche.Avalanche.{Avalanche}
 use Rattle.chip_fire.specs.declared.pile.Pile.{Pile}
-use Rattle.chip_fire.specs.Avalanches.{dropped, IsAvalanche, AreAvalanches}
+use Rattle.chip_fire.specs.Avalanches.{dropped, IsAvalanche}
 use Rattle.chip_fire.specs.Pile.{IsPile, IsStable}
+use Rattle.chip_fire.proofs.DropLemmas.{told_more}
 use Rattle.chip_engine.specs.DropRows.{row_text, rows_text, IsOut, LeavesRows, most_held}
-
--- one more avalanche
-pub told_more : (G : Multigraph) (x : ℕ → ℕ) (told : List ((ℕ × ℕ) × Avalanche)) (y : ℕ → ℕ) (d : ℕ × ℕ) (a : Avalanche)
-    (z : ℕ → ℕ) → AreAvalanches G x told y → IsAvalanche G (dropped y d.0 d.1) a z
-    → AreAvalanches G x (told ++ (d, a) ∷ []) z
-told_more G x [] y d a z are is =
-    (z, subst (λ (p : ℕ → ℕ). IsAvalanche G (dropped p d.0 d.1) a z) (λ i v. are v i) is, (λ v. refl))
-told_more G x (t ∷ told) y d a z (u, one, are) is = (u, one, told_more G u told y d a z are is)
 
 -- nothing was dropped
 pub rows_none : (p : Pile) → IsPile p → IsStable p.game.graph (slice_index p.chips.items)
@@ -60,7 +52,7 @@ module _ (p : Pile) (ds : List (ℕ × ℕ)) (i : ℕ) (p' : Pile) (text : List 
         rows = (
           told ++ (get_or ds i (0, 0), a) ∷ [],
           rw (take_more ds i (0, 0) inside, ← drops) (map-append _ told _),
-          told_more _ _ told _ _ a _ avalanches (rw so_far.game.same_graph at told_by.1),
+          told_more _ _ told _ (get_or ds i (0, 0), a) _ avalanches (rw so_far.game.same_graph at told_by.1),
           rw text_is (flat_map_more row_text (rows_text []) told (get_or ds i (0, 0), a)),
         );
       }

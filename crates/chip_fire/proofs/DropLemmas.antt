@@ -1,6 +1,6 @@
 -- Serves Avalanches.antt, Pile.antt.
 -- Drops on a pile: how they are played, and their avalanches.
-use Rattle.std.proofs.Common.{◌≡◌, ℕ, ◌+◌, ◌-◌, ◌<◌, ◌≤◌, cond, eqb, min, List, [], ◌∷◌, length, map, sum, get_or, set}
+use Rattle.std.proofs.Common.{◌≡◌, ℕ, ◌+◌, ◌-◌, ◌<◌, ◌≤◌, cond, eqb, min, List, [], ◌∷◌, ◌++◌, length, map, sum, get_or, set}
 use Rattle.std.proofs.Common.{slice_index, refl, sym, ap, ◌∙◌, subst, arith, get_or-set_same, get_or-set_other, ◌≢◌}
 use Rattle.std.proofs.Common.{length-set, mul-zero, zero, suc, ◌^◌, Bool, true, false, take, mul-le-mul_right}
 use Rattle.std.proofs.Common.{true≢false, Contains}
@@ -35,7 +35,7 @@ use Rattle.chip_fire.specs.WorkList.{AreListed, HasSupport}
 use Rattle.chip_fire.specs.declared.avalanche.Avalanche.{Avalanche}
 use Rattle.chip_fire.specs.declared.pile.BegunDrop.{BegunDrop}
 use Rattle.chip_fire.specs.declared.pile.Pile.{Pile}
-use Rattle.chip_fire.specs.Avalanches.{dropped, IsAvalanche, DropsAddUp}
+use Rattle.chip_fire.specs.Avalanches.{dropped, IsAvalanche, AreAvalanches, DropsAddUp}
 use Rattle.chip_fire.specs.Pile.{IsPile, IsStable, IsBegunDrop, sum_between}
 
 -- ---- the work list of a drop, and the avalanche by it
@@ -266,6 +266,14 @@ module _ (g : ChipGame) (ok : IsGame g) (o : Outcome) (played : IsPlayed g o) wh
       let there : slice_index o.chips.items ≡ position_after g.graph (slice_index g.start) vs =
       (λ i u. played.position vs play u i) in
       played.counted vs play v ∙ play.ended v (rw there at can)
+
+-- one more avalanche
+pub told_more : (G : Multigraph) (x : ℕ → ℕ) (told : List ((ℕ × ℕ) × Avalanche)) (y : ℕ → ℕ) (t : (ℕ × ℕ) × Avalanche)
+    (z : ℕ → ℕ) → AreAvalanches G x told y → IsAvalanche G (dropped y t.0.0 t.0.1) t.1 z
+    → AreAvalanches G x (told ++ t ∷ []) z
+told_more G x [] y t z are is =
+    (z, subst (λ (p : ℕ → ℕ). IsAvalanche G (dropped p t.0.0 t.0.1) t.1 z) (λ i v. are v i) is, (λ v. refl))
+told_more G x (u ∷ told) y t z (w, one, are) is = (w, one, told_more G w told y t z are is)
 
 pub drops_add_up : DropsAddUp
 drops_add_up G good x f y one stable [] z are x' start vs ok ended =

@@ -5,7 +5,6 @@ use Rattle.std.proofs.Common.{refl, sym, ◌∙◌, subst, arith, rules, Contain
 use Rattle.std.proofs.lemmas.List.{map-append, nil_from_length}
 use Rattle.std.proofs.lemmas.List.Sums.{sum_by-append}
 use Rattle.std.proofs.lemmas.List.Elements.{All-nil, All-push, Contains-get_or}
-use Rattle.chip_graph.specs.Multigraph.{Multigraph}
 use Rattle.chip_graph.specs.ChipGame.{ChipGame}
 use Rattle.chip_graph.specs.More.{HasMore}
 use Rattle.chip_sequence.specs.Firing.{legal_vertices}
@@ -16,8 +15,9 @@ use Rattle.chip_sequence.proofs.LegalLemmas.{legal_vertices_law}
 use Rattle.chip_sequence.proofs.EndLemmas.{continued}
 use Rattle.chip_sequence.proofs.CertificateLemmas.{end_of_the_way}
 use Rattle.chip_fire.specs.declared.pile.Pile.{Pile}
-use Rattle.chip_fire.specs.Avalanches.{dropped, IsAvalanche, AreAvalanches}
+use Rattle.chip_fire.specs.Avalanches.{dropped, IsAvalanche}
 use Rattle.chip_fire.specs.Pile.{IsPile, IsStable}
+use Rattle.chip_fire.proofs.DropLemmas.{told_more}
 use Rattle.chip_library.specs.Drops.{Told, drops_of, ComesToRest, IsStopped, AreMade, Leaves, BeginsPile, AreOn}
 use Rattle.chip_library.specs.Drops.{AreTold, IsFaultOfDrop, IsFaultAfter}
 use Rattle.chip_library.specs.declared.fault.CallFault.{CallFault}
@@ -102,13 +102,6 @@ module _ (p : Pile) (told : List Told) (p' : Pile) (so_far : Leaves p told p') (
             omega arith);
         total = (let c = sum_by-append (λ (pair : ℕ × ℕ). pair.1) (drops_of told) ((v, count) ∷ []) in omega arith);
       }
-
--- one more avalanche
-told_more : (G : Multigraph) (x : ℕ → ℕ) (told : List Told) (y : ℕ → ℕ) (t : Told) (z : ℕ → ℕ) → AreAvalanches G x told y
-    → IsAvalanche G (dropped y t.0.0 t.0.1) t.1 z → AreAvalanches G x (told ++ t ∷ []) z
-told_more G x [] y t z are is =
-    (z, subst (λ (p : ℕ → ℕ). IsAvalanche G (dropped p t.0.0 t.0.1) t.1 z) (λ i v. are v i) is, (λ v. refl))
-told_more G x (u ∷ told) y t z (w, one, are) is = (w, one, told_more G w told y t z are is)
 
 -- one drop more, with its avalanche
 pub leaves_more : (p : Pile) (told : List Told) (p' : Pile) → Leaves p told p' → (t : Told)

@@ -7,7 +7,6 @@ use Rattle.chip_world.proofs.Names.{head_of, Part, may_ack}
 use Rattle.chip_world.proofs.Names.{Event, Take, Ack, Step, part_of, does, saw, parent_after, Phase, nothing}
 use Rattle.chip_world.proofs.Names.{either_phase, seeing, one_step, acknowledging_parent, last_acknowledgement, turn}
 use Rattle.chip_world.proofs.Names.{AreOf, Log, done_by, Spreads, of_turn}
-use Rattle.std.proofs.Common.{Contains}
 
 module _ (g : Setting) (v : ℕ) where
   -- its parent edge, if it has one, leads to it

@@ -606,6 +606,23 @@ class Judge(unittest.TestCase):
         # (vertex 0 waits for two acknowledgements)
         self.assertEqual(chipfire.judge(setting, log[:9] + [("ack", 1, 0, "done 1")]).row, 9)
 
+    def test_a_vertex_stays_engaged_as_long_as_it_owes_on_its_parent_edge(self):
+        # By hand: vertex 0 of a path fires twice, and vertex 1 takes both messages on edge 0, which engages it. It may
+        # acknowledge one. The other engaged it, and it has two chips: it may fire, and so may not acknowledge that.
+        setting = chipfire.Setting(chipfire.Graph(3, 2, ((0, 1), (1, 2))), (2, 0, 0))
+        send = [("clear", 0, 0, "done {}"), ("claim", 0, 0, "sent {} 1"), ("put", 0, 0, "done 1")]
+        log = [("take", 2, 0, "got 0 2")]
+        for number in range(2):
+            log += [("fire", 0, 1, f"done {number + 1}")]
+            log += [(kind, at, count, reply.format(number)) for kind, at, count, reply in send]
+        log += [("take", 0, 0, "got 0 1"), ("take", 0, 0, "got 1 1"), ("ack", 0, 0, "done 1"), ("ack", 0, 0, "done 1")]
+        judged = chipfire.judge(setting, log)
+        self.assertEqual((judged.row, judged.told, judged.right, judged.fits), (12, "done 1", "not-now 15", True))
+        self.assertIsNone(chipfire.judge(setting, log[:-1]).row)
+        # (and so vertex 0 waits, and may not acknowledge to the root)
+        judged = chipfire.judge(setting, [*log[:-1], ("settle", 0, 0, "done 1"), ("ack", 2, 0, "done 1")])
+        self.assertEqual((judged.row, judged.right), (13, "not-now 15"))
+
     def test_a_log_that_does_not_fit_gets_no_verdict(self):
         judged = chipfire.judge(FOUR, [*self.RIGHT, ("fire", 0, 3, "done 3"), ("root", 0, 0, "closed")])
         self.assertEqual((judged.row, judged.fits, judged.claims, judged.is_true), (3, False, (), None))

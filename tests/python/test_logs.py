@@ -93,6 +93,14 @@ class Verdicts(unittest.TestCase):
             judged = chipfire.judge_log(iter(rows))
             self.assertEqual((judged.claims, judged.end, judged.is_right), ((), end, None))
 
+    def test_a_reactive_process_that_logs_when_it_is_passive(self):
+        # By hand: b sends, hears of it, tells a, and is at work until its row 4. Without that row it would count as
+        # passive behind the last message that it sent, which is before a hears of it.
+        rows = [("a", "send", "x"), ("a", "hear", "x"), ("a", "over", 0), ("c", "receive", "y"), ("c", "tell", "y")]
+        rows += [("b", *it) for it in [("receive", "x"), ("send", "y"), ("hear", "y"), ("tell", "x"), ("passive", 0)]]
+        self.assertEqual(told(rows, reactive=True), ["over a 2 early: process b is active", "end missed"])
+        self.assertEqual(told(rows[:-1], reactive=True), ["over a 2 right", "end claimed"])
+
     def test_names_of_any_kind(self):
         for names in [
             {"a": 7, "b": -3, "c": 10**30}, {"a": ("p", 0), "b": ("p", 1), "c": ("q", 0)},

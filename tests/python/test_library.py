@@ -218,6 +218,17 @@ class Ways(WithFolder):
                 self.assertEqual(call(), wanted)
             self.assertEqual(started.call_count > 0, starts or not IS_HERE)
 
+    def test_one_of_many_plays_that_is_longer_than_was_thought(self):
+        # (each game is a call of its own with the first work, and both are one call with the second)
+        chain = chipfire.Graph(3, 2, [(0, 1, 10), (1, 0), (0, 2)])
+        games = [300, 0, 0], [30, 0, 0]
+        wanted = [slow_report(chain, chips).chips for chips in games]
+        for most, order in itertools.product((320, 700), (1, -1)):
+            with mock.patch.object(library, "MOST_WORK", 6 * most), self.counted() as started:
+                found = chipfire.stabilize_many(chain, games[::order])
+            self.assertEqual([*map(tuple, found)], wanted[::order], (most, order))
+            self.assertGreater(started.call_count, 0)
+
     def test_reports_are_verified_whatever_is_short(self):
         for graph in (SMALL[0], TRIANGLE, SMALL[-1]):
             chips = [9] * graph.vertices

@@ -121,6 +121,24 @@ class Ranks(unittest.TestCase):
         with self.assertRaisesRegex(ValueError, "the rank is . or more, and 50 divisors do not tell which"):
             divisor.rank(most=50)
 
+    def test_the_most_divisors_are_those_of_all_degrees(self):
+        # (of each degree, what is left is as many divisors, up to equivalence, as those that are taken away)
+        for classes in all_classes():
+            for chips in (chipfire.canonical_divisor(classes.graph), {0: genus(classes.graph) - 1}):
+                divisor = chipfire.Divisor(classes.graph, chips)
+                rank = classes.rank(divisor.degree, classes.of(divisor.numbers))
+                most = sum(len(classes.effective(degree)) for degree in range(rank + 2))
+                self.assertEqual(divisors.searched_rank(divisor, most), rank, (classes.graph.edges, chips))
+                if rank >= 0:
+                    with self.assertRaisesRegex(ValueError, f"{most - 1} divisors? do"):
+                        divisors.searched_rank(divisor, most - 1)
+        # By hand: on a triangle no two vertices are equivalent, and of each degree there are three divisors. What is
+        # left of two chips is 1, 3 and 3 divisors, and those of degree 0 are not all equivalent to none.
+        triangle = chipfire.Divisor(chipfire.Graph.undirected([(0, 1), (1, 2), (2, 0)], 0), {0: 2})
+        self.assertEqual(divisors.searched_rank(triangle, 7), 1)
+        with self.assertRaisesRegex(ValueError, "the rank is 1 or more, and 6 divisors do not tell which"):
+            divisors.searched_rank(triangle, 6)
+
 
 def subsets(items):
     """All subsets of items but the empty one."""

@@ -234,7 +234,7 @@ class _Event(NamedTuple):
 
 def read_shiviz(
     log: FileName, kind_of: Callable[[str], str | None], *, message_of: Callable[[str], Hashable] = lambda _: None,
-    expression: str = r"(?<host>\S*) (?<clock>{.*})\n(?<event>.*)",
+    expression: str = r"(?<host>\S*) (?<clock>{.*})\n(?<event>.*)", gaps: bool = False,
 ) -> list[Row]:
     r"""The rows of a log of GoVector or ShiViz, for `judge_log`: of its text, or of the file of that name.
 
@@ -243,10 +243,15 @@ def read_shiviz(
                 sender of a message that brings nothing new
     expression  as ShiViz takes it; if not said, that for GoVector. Where the event stands above its clock it is
                 `(?<event>.*)\n(?<host>\S*) (?<clock>{.*})`
+    gaps        takes a log without some of the events that its clocks count, as a logger with levels writes it. If a
+                `send`, an `active`, or a `tell` that was heard is not there, an early claim may be called right
 
-    A message has a channel for each process that gets it; no others are seen. A ValueError names a wrong line.
+    A message has a channel for each process that gets it; no others are seen. A ValueError names a wrong line, and one
+    whose clock counts an event that is not there.
     """
     events = sorted(_events(log, kind_of, message_of, expression), key=lambda it: sum(it.clock.values()))
+    if not gaps:
+        _require_all(events)
     places: dict[tuple[str, int], _Event] = {}
     clocks: dict[str, Mapping[str, int]] = defaultdict(dict)
     hosts: dict[tuple[bool, Hashable], dict[str | None, None]] = defaultdict(dict)
@@ -263,6 +268,17 @@ def read_shiviz(
         its = hosts[it.kind == "tell", it.message] or {None: None} if it.kind in _SENDS else {it.host: None}
         rows += [(it.host, it.kind, (it.message, host)) for host in its if it.kind]
     return rows
+
+
+def _require_all(events: Iterable[_Event]) -> None:
+    """Refuses events without one that a clock counts: that of a process counts its own, from 1."""
+    there = {(it.host, it.clock[it.host]) for it in events}
+    for it in events:
+        for host, count in it.clock.items():
+            last = count - 1 if host == it.host else count  # (the one before it, of its own)
+            if last > 0 and (host, last) not in there:
+                told = f"the clock counts event {last} of {host!r}, which is not there"
+                raise ValueError(f"line {it.line}: {told}; gaps=True takes the log as it is")
 
 
 def _sent(it: _Event, known: Mapping[str, int], places: Mapping[tuple[str, int], _Event]) -> Hashable:

@@ -462,7 +462,7 @@ class ShiViz(WithFolder):
         self.assertEqual(of["c"], [("receive", (sent, "c")), ("tell", heard[1])])
         self.assertEqual([row[0] for row in rows_of["c"]], ["receive", "passive", "tell"])
         self.assertEqual(str(chipfire.judge_log(rows)), "over a 6 right\nend claimed")
-        early = chipfire.read_shiviz(govector([*self.BROADCAST[:-2], self.BROADCAST[-1]]), kind_of)
+        early = chipfire.read_shiviz(govector([*self.BROADCAST[:-2], self.BROADCAST[-1]]), kind_of, gaps=True)
         self.assertIn("early: message 0 of channel (('a', 2), 'c') is on its way", str(chipfire.judge_log(early)))
 
     def test_a_message_that_nobody_gets(self):
@@ -513,6 +513,37 @@ class ShiViz(WithFolder):
                 self.assertEqual(came, must, rows)
                 found.update(it for _, it in came)
 
+    def test_a_line_that_is_lost_is_refused(self):
+        # By hand: b begins active, tells a that it is passive, and is not, and a claims. Without b's first line b
+        # would begin passive, and the claim be right.
+        events = [("b", {"b": 1}, "active"), ("b", {"b": 2}, "tell"), ("a", {"a": 1, "b": 2}, "hear"),
+                  ("a", {"a": 2, "b": 2}, "over"), ("b", {"b": 3}, "passive")]
+        judged = chipfire.judge_log(chipfire.read_shiviz(govector(events), kind_of))
+        self.assertEqual(judged.claims[0].left, "process b is active")
+        with self.assertRaisesRegex(ValueError, "^line 1: the clock counts event 1 of 'b', which is not there; gaps"):
+            chipfire.read_shiviz(govector(events[1:]), kind_of)
+        self.assertIs(chipfire.judge_log(chipfire.read_shiviz(govector(events[1:]), kind_of, gaps=True)).is_right, True)
+
+    def test_each_line_that_is_lost_and_counted(self):
+        draw, found = random.Random(2), Counter()
+        while min(found[it] for it in (True, False)) < 100:
+            rows = logs.random_log(draw, slips=0)
+            try:
+                events, _ = clocked(rows)
+            except IndexError:  # (rows in an order in which they cannot happen)
+                continue
+            for at, (host, clock, _) in enumerate(events):
+                left = [*events[:at], *events[at + 1:]]
+                is_counted = any(it.get(host, 0) >= clock[host] for _, it, _ in left)
+                text = govector(left)
+                found[is_counted] += 1
+                chipfire.read_shiviz(text, kind_of, message_of=message_of, gaps=True)
+                if is_counted:
+                    with self.assertRaisesRegex(ValueError, f"event {clock[host]} of {host!r}, which is not there"):
+                        chipfire.read_shiviz(text, kind_of, message_of=message_of)
+                else:
+                    chipfire.read_shiviz(text, kind_of, message_of=message_of)
+
     def test_what_is_wrong_is_told_with_its_line(self):
         good = 'a {"a": 1}\nsend\n'
         for text, words in [
@@ -523,14 +554,19 @@ class ShiViz(WithFolder):
                 '"a": 1', '"b": 1.5', '"b": 0', '"b": null')),
             (f'{good}b {{"b": 1}}\nOver\n', "line 3: ValueError: there is no kind 'Over'"),
             (f"{good}{good}", "line 3: the clock is no further"),
-            ('a {"a": 1, "b": 3}\nsend\na {"a": 2}\npassive\n', "line 1: the clock is no further"),
+            ('a {"a": 1, "b": 2}\nsend\na {"a": 2}\npassive\nb {"b": 1}\ntell\nb {"b": 2}\ntell\n',
+             "line 1: the clock is no further"),
             (f"{good}b {{\"b\": 1}}\n\n", "line 3: IndexError"),
             (f'{good}b {{"b": 1}}\nreceive\n', "line 3: .* give message_of"),
-            (f'{good}b {{"a": 2, "b": 1}}\nreceive\n', "line 3: .* give message_of"),
+            (f'{good}b {{"a": 2, "b": 1}}\nreceive\n', "line 3: the clock counts event 2 of 'a', which is not there"),
+            (f'{good}a {{"a": 3}}\nover\n', "line 3: the clock counts event 2 of 'a', which is not there"),
+            (f'{good}b {{"b": 1, "c": 1}}\nover\n', "line 3: the clock counts event 1 of 'c'"),
             (f'a {{"a": 1}}\nover\nb {{"a": 1, "b": 1}}\nhear\n', "line 3: .* give message_of"),
         ]:
             with self.assertRaisesRegex(ValueError, f"^{words}"):
                 chipfire.read_shiviz(text, kind_of)
+        with self.assertRaisesRegex(ValueError, "^line 3: .* give message_of"):
+            chipfire.read_shiviz(f'{good}b {{"a": 2, "b": 1}}\nreceive\n', kind_of, gaps=True)
         with self.assertRaisesRegex(ValueError, "^line 1: TypeError: unhashable"):
             chipfire.read_shiviz(good, kind_of, message_of=lambda _: [])
         with self.assertRaises(FileNotFoundError):

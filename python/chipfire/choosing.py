@@ -11,7 +11,7 @@ from chipfire.layout import Point
 from chipfire.ledger import Ledger
 from chipfire.machine import WORDS, Event, Setting, Simulation
 from chipfire.model import Core
-from chipfire.pages import Words, filled, page_data
+from chipfire.pages import Words, closed_end, filled, page_data
 from chipfire.schedules import EVENTS, Detector, detector_name
 from chipfire.states import States
 from chipfire.values import FileName, counted, write
@@ -69,7 +69,8 @@ class _Choices:
             events = self.core.enabled()
             ends.append(self._end(bool(events)))
             moves.append([self._move(state, Event(*event)) for event in events])
-        return {"steps": list(map(json.loads, self.steps)), "moves": moves, "ends": ends}
+        early = WORDS["pages"]["early"]
+        return {"steps": list(map(json.loads, self.steps)), "moves": moves, "ends": ends, "early": early}
 
     def _move(self, state: tuple[int, ...], event: Event) -> tuple[list[int], int]:
         if event.kind not in EVENTS:
@@ -93,6 +94,5 @@ class _Choices:
     def _end(self, goes_on: bool) -> dict[str, Any] | None:
         """The last word of the present state."""
         if self.core.is_closed():
-            left = " and ".join(self.core.left()).replace(" can ", " can still ")
-            return {"text": f"The root is closed; {left}." if left else WORDS["pages"]["closed"], "isWrong": bool(left)}
+            return closed_end(self.core.left())
         return None if goes_on else {"text": WORDS["pages"]["stuck"], "isWrong": True}

@@ -23,7 +23,7 @@ from chipfire.ledger import Disagreement, Ledger, ModelLedger
 from chipfire.machine import WORDS, Event, Reply, Schedule, Setting, Simulation, TraceRow, read_trace
 from chipfire.model import Core
 from chipfire.program import AnyGraph, AnyProgram, known_chips, known_graph, replay, simulate
-from chipfire.schedules import Game, Play, opened, played
+from chipfire.schedules import Game, Play, is_early, opened, played
 from chipfire.sentences import Sentences
 from chipfire.values import FILE, MAX_LIMIT, FileName, counted, own_text, write
 
@@ -82,13 +82,23 @@ def model_data(told: Play, words: Words, positions: Mapping[Any, Point] | None) 
         data |= {it: WORDS["computation"][it] for it in ("titles", "hidden", "opening")}
         data |= {"edges": [(*edge[:2], 1) for edge in data["edges"]]}
         data |= {} if data["places"]["frame"] else {"sink": -1}
-    steps = [words.step(ledger, *row) for row in zip(told.schedule, told.replies)]
+    steps: list[dict[str, Any]] = []
+    early = [0] * is_early(ledger.core)
+    for number, row in enumerate(zip(told.schedule, told.replies), 1):
+        steps.append(words.step(ledger, *row))
+        early += [number] * is_early(ledger.core)
     for index, note in told.schedule.notes.items():
         steps[index]["note"] = note
-    left = " and ".join(it.replace(" can ", " can still ").replace(" is ", " is still ") for it in told.left)
-    end = _SAYS["closed"] if told.root_closed else "The root is open."
-    end = f"The root is closed; {left}." if told.root_closed and left else end
-    return {**data, "start": start, "steps": steps, "end": {"text": end, "isWrong": told.root_closed and bool(left)}}
+    end = closed_end(told.left) if told.root_closed else {"text": "The root is open.", "isWrong": False}
+    if early and not end["isWrong"]:
+        end = {"text": _SAYS["early"].format(event=early[0]), "isWrong": True}
+    return {**data, "start": start, "steps": steps, "end": end}
+
+
+def closed_end(left: Iterable[str]) -> dict[str, Any]:
+    """The last word on a root that is closed: it is wrong if something is left."""
+    still = " and ".join(it.replace(" can ", " can still ").replace(" is ", " is still ") for it in left)
+    return {"text": f"The root is closed; {still}." if still else _SAYS["closed"], "isWrong": bool(still)}
 
 
 def model_parts(told: Play) -> dict[str, str]:

@@ -4,6 +4,7 @@ The books are the lines of `simulate --books`, taken from the program here and n
 the rest come from `chipfire.model`. Where no Chromium is installed these tests are skipped. Where the environment
 variable CHIPFIRE_PICTURES names a folder, pictures of the pages are left there to look at.
 """
+import collections
 import os
 import random
 import re
@@ -389,7 +390,7 @@ class Choices(InBrowser):
         return done + len(events)
 
     def test_random_paths(self):
-        ways = set()
+        ways, found = set(), collections.Counter()
         for name, paths in [("right", 30), ("without-deficit", 10), ("at-once", 10)]:
             setting = chipfire.Setting(TRIANGLE, (4 if name == "right" else 3, 0, 0))
             self.open(name, setting=setting)
@@ -397,17 +398,22 @@ class Choices(InBrowser):
             for seed in range(paths):
                 self.browser.value("leap(0)")
                 draw, core, done, picks = random.Random(f"{name} {seed}"), opened(setting, name), 0, []
+                early = []
                 while core.enabled():
                     picks.append(draw.randrange(len(core.enabled())))
                     done = self.pick(core, words, picks[-1], done)
+                    early += [done] * chipfire.schedules.is_early(core)
                 now = self.browser.value(self.NOW)
                 self.assertEqual((now["possible"], self.browser.value("at")), ([], done))
-                self.assertEqual(now["end"], "The root is closed: all is over." if core.is_closed() else
+                self.assertEqual(now["end"], f"The root was closed too early, after event {early[0]}." if early else
+                                 "The root is closed: all is over." if core.is_closed() else
                                  "The root is open, and nothing can happen any more.")
+                found[name, bool(early)] += 1
                 self.shown(core, done)
                 ways.add((name, *picks))
             self.assertEqual(self.browser.complaints(), [])
-        self.assertEqual(len(ways), 50)
+        self.assertEqual((len(ways), found["right", True]), (50, 0))
+        self.assertGreater(min(found["without-deficit", True], found["without-deficit", False]), 0, found)
 
     def test_what_was_possible_before_is_shown_and_can_be_picked_instead(self):
         self.open("right")
@@ -438,6 +444,16 @@ class Choices(InBrowser):
                                f"(it) => it.textContent.startsWith('{said}')).click()")
         self.assertEqual(self.browser.value(END), [False, "wrong", "The root is closed; vertex 0 can still fire."])
         self.assertEqual(self.browser.value(self.NOW)["possible"], ["Vertex 0 fires once."])
+        # (it stays so, and before it was closed nothing is said)
+        while self.browser.value(self.NOW)["possible"]:
+            self.browser.press("1")
+        self.assertEqual(self.browser.value(END), [False, "wrong", "The root was closed too early, after event 3."])
+        self.assertEqual(self.browser.value(f"[leap(2), ...{END}]")[1:], [True, "", ""])
+        self.assertEqual(self.browser.value(f"[leap(3), ...{END}]")[3], "The root is closed; vertex 0 can still fire.")
+        # (and is forgotten if another way is picked before it)
+        self.browser.value("leap(1)")
+        self.browser.press("2")
+        self.assertEqual(self.browser.value(END), [True, "", ""])
 
 
 class Screens(InBrowser):

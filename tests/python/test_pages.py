@@ -633,6 +633,26 @@ class WrongDetectors(unittest.TestCase):
         with self.assertRaises(chipfire.ProgramNotFound):
             wrong.wrong_page_text("at-once", program="/nowhere")
 
+    def test_a_root_that_was_closed_too_early_stays_so(self):
+        # By hand: after three events the root is closed, and vertex 0 has three chips and fires. After 16 all is over.
+        events = chipfire.Schedule().take(4).ack(4).settle(4).fire(0).send(0).send(1)
+        for edge in (0, 1):
+            events.take(edge).ack(edge).settle(edge)
+        game, early = chipfire.Setting(TRIANGLE, (3, 0, 0)), "The root was closed too early, after event 3."
+        for count, said in ((2, "The root is open."), (3, "The root is closed; vertex 0 can still fire."), (16, early),
+                            (4, "The root is closed; edge 0 has 1 chip pending and edge 1 has 1 chip pending.")):
+            told = chipfire.play(game, events[:count], "at-once")
+            self.assertEqual(data_of(chipfire.pages.page_text(told))["end"], {"text": said, "isWrong": count > 2})
+
+        class Forgets(chipfire.detectors.AtOnce):
+            """Says that all is over before anything happens, and then that it is not."""
+
+            def is_closed(self):
+                return not any(e.delivered for e in self.edges)
+
+        end = data_of(chipfire.pages.page_text(chipfire.play(game, events, Forgets)))["end"]
+        self.assertEqual(end, {"text": early.replace("3", "0"), "isWrong": True})
+
     def test_what_is_not_wrong_has_no_page(self):
         for name, said in [("right", "in no schedule of this game, which has 1,405 states"),
                            ("hasty", "no detector 'hasty'"), ("any-order", "in no schedule")]:

@@ -897,6 +897,14 @@ function choose(move) {
     leap(last);
 }
 
+// The last word on what was picked: where the root was closed too early, it stays so.
+function choiceEnd() {
+    const { ends, early } = run.choices;
+    const end = ends[reached.get(at)];
+    const [first] = [...reached].find(([step, state]) => step < at && ends[state]?.isWrong) ?? [null];
+    return first === null || end?.isWrong ? end : { text: early.replace("{event}", first), isWrong: true };
+}
+
 // The events that may happen now; that which was picked looks pressed.
 function showChoices() {
     const hadFocus = document.activeElement?.closest("#possible");
@@ -975,7 +983,7 @@ function showWords(from) {
 
 // The last word, in large letters: red if the root is closed and something is left.
 function showEnd() {
-    const end = run.choices ? run.choices.ends[reached.get(at)] : at === last && asked === null ? run.end : null;
+    const end = run.choices ? choiceEnd() : at === last && asked === null ? run.end : null;
     byId("end").hidden = !end;
     byId("end").className = end?.isWrong ? "wrong" : "";
     byId("end").textContent = end?.text ?? "";

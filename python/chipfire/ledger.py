@@ -18,6 +18,8 @@ Change = tuple[str, int, str, Any]
 #: The facts of the root, of each vertex and of each edge.
 State = dict[str, list[dict[str, Any]]]
 
+#: The facts that are the books of acknowledgements, as they are where none are kept.
+_NO_BOOKS: dict[str, Any] = {"deficit": 0, "parent": None, "acknowledged": 0, "settled": 0, "owed": 0}
 #: What stopped a vertex, by the model's word for it.
 _HALTS = {None: None, "sealed": "seal", "over": "limit"}
 
@@ -28,6 +30,9 @@ class Disagreement(Exception):
 
 class Ledger:
     """The state of a game, event by event."""
+
+    #: Whether the detector keeps books of acknowledgements.
+    keeps_books = True
 
     def __init__(self, setting: Game, detector: Detector = "right") -> None:
         self.core = opened(setting, detector)
@@ -121,15 +126,26 @@ class Ledger:
 
 class ModelLedger(Ledger):
     """The same of a run that the model alone plays. Loads and states of other computations are words, and so is what a
-    detector of another kind keeps: they are facts of the root."""
+    detector of another kind keeps: they are facts of the root. Of one that keeps no books none are shown."""
+
+    def __init__(self, setting: Game, detector: Detector = "right", keeps_books: bool = True) -> None:
+        self.keeps_books = keeps_books
+        super().__init__(setting, detector)
+
+    def _kept(self, facts: dict[str, Any]) -> dict[str, Any]:
+        """Facts, without those of books that nobody keeps."""
+        return facts if self.keeps_books else {name: _NO_BOOKS.get(name, value) for name, value in facts.items()}
 
     def _root(self, _: int) -> dict[str, Any]:
-        kept = [f"{name} {value}" for name, value in vars(self.core).items() if name != "ended"]
-        return {**super()._root(0), **({"own": "; ".join(kept)} if kept else {})}
+        own = [f"{name} {value}" for name, value in vars(self.core).items() if name != "ended"]
+        return {**self._kept(super()._root(0)), **({"own": "; ".join(own)} if own else {})}
 
     def _vertices(self, vertex: int) -> dict[str, Any]:
-        facts, core = super()._vertices(vertex), self.core
+        facts, core = self._kept(super()._vertices(vertex)), self.core
         return {**facts, "chips": core.computation.show(core.vertices[vertex])} if isinstance(core, Computed) else facts
+
+    def _edges(self, edge: int) -> dict[str, Any]:
+        return self._kept(super()._edges(edge))
 
     def _carried(self, loads: tuple[Any, ...]) -> Any:
         return ", ".join(map(str, loads)) if isinstance(self.core, Computed) else sum(loads)

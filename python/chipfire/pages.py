@@ -74,7 +74,7 @@ def page_text(
 
 def model_data(told: Play, words: Words, positions: Mapping[Any, Point] | None) -> dict[str, Any]:
     """What the page of a run shows that the model alone played."""
-    ledger, game = ModelLedger(told.game, told.detector), told.game
+    ledger, game = ModelLedger(told.game, told.detector, _keeps_books(told)), told.game
     start, roots = ledger.state(), ledger.core.outs(-1)
     shown = game if isinstance(game, Setting) else Setting(game.graph, tuple(int(e.put > 0) for e in roots))
     data = page_data(Simulation(told.replies, None, (), tuple(told.schedule), setting=shown), positions)
@@ -82,6 +82,8 @@ def model_data(told: Play, words: Words, positions: Mapping[Any, Point] | None) 
         data |= {it: WORDS["computation"][it] for it in ("titles", "hidden", "opening")}
         data |= {"edges": [(*edge[:2], 1) for edge in data["edges"]]}
         data |= {} if data["places"]["frame"] else {"sink": -1}
+    if not ledger.keeps_books:
+        data["hidden"] = [*data.get("hidden", ()), *WORDS["books"]]
     steps: list[dict[str, Any]] = []
     early = [0] * is_early(ledger.core)
     for number, row in enumerate(zip(told.schedule, told.replies), 1):
@@ -93,6 +95,13 @@ def model_data(told: Play, words: Words, positions: Mapping[Any, Point] | None) 
     if early and not end["isWrong"]:
         end = {"text": _SAYS["early"].format(event=early[0]), "isWrong": True}
     return {**data, "start": start, "steps": steps, "end": end}
+
+
+def _keeps_books(told: Play) -> bool:
+    """Whether a detector keeps books of acknowledgements: not if it neither closes by them, nor ever acknowledges."""
+    make, rows = known_detector(told.detector).make, zip(told.schedule, told.replies)
+    is_other = make.may_ack is not Core.may_ack and make.is_closed is not Core.is_closed
+    return not is_other or any(event.kind == "ack" and reply.is_done for event, reply in rows)
 
 
 def closed_end(left: Iterable[str]) -> dict[str, Any]:
@@ -295,6 +304,8 @@ class Words:
     def step(self, ledger: Ledger, event: Event, reply: Reply) -> dict[str, Any]:
         """Notes an event, and returns the numbers of its words and what it changed."""
         says, question = self.sentences, self.sentences.ask(event)
+        if event.kind == "ack" and not ledger.keeps_books:
+            question = None  # (no rule is about it)
         step: dict[str, Any] = {"kind": event.kind, "at": event.at, "done": reply.is_done}
         step["event"] = self.number(says.event(event, reply))
         step["reply"] = self.number(says.reply(event, reply, ledger.core))

@@ -40,23 +40,25 @@ def wrong_page_text(
         raise ValueError(none if found.is_whole else f"{name}: {found}")
     told, words = play(setting, found.schedule, detector), Words(setting)
     data = model_data(told, words, positions)
-    beside = _beside(setting, found.schedule, words, program)
-    data |= {"beside": {"steps": beside}, "words": list(words.numbers)}
+    data |= {"beside": _beside(setting, found.schedule, words, program), "words": list(words.numbers)}
     parts = {**model_parts(told), "states": counted(found.states, "state")}
     proved = "run-wrong.html" if isinstance(setting, Setting) else "run-wrong-model.html"
     return filled(title or f"A wrong detector: {name}", data, parts, proved, "two-drawings.html")
 
 
-def _beside(setting: Game, schedule: Schedule, words: Words, program: AnyProgram) -> list[dict[str, Any]]:
-    """The steps of the right detector, which the program plays if it can. The other's own events are none of it."""
+def _beside(setting: Game, schedule: Schedule, words: Words, program: AnyProgram) -> dict[str, Any]:
+    """The start and the steps of the right detector, which the program plays if it can. The other's own events are none
+    of it."""
     shared = Schedule(event for event in schedule if event.kind in (*EVENTS, WORK))
+    ledger = Ledger(setting) if isinstance(setting, Setting) else ModelLedger(setting)
+    start = ledger.state()
     if isinstance(setting, Setting):
-        right, ledger = asked(setting, shared, program), Ledger(setting)
+        right = asked(setting, shared, program)
         made = [words.step(ledger, *row) for row in compared(right, ledger)]
         ledger.close(right.report)
     else:
-        ledger = ModelLedger(setting)
         made = [words.step(ledger, *row) for row in zip(shared, play(setting, shared).replies)]
     said, left = words.number("This is an event of the other detector."), iter(made)
     own = {"done": True, "isOwn": True, "event": said, "reply": said, "changes": []}
-    return [next(left) if kind in (*EVENTS, WORK) else {"kind": kind, "at": at, **own} for kind, at, _ in schedule]
+    steps = [next(left) if kind in (*EVENTS, WORK) else {"kind": kind, "at": at, **own} for kind, at, _ in schedule]
+    return {"start": start, "steps": steps}

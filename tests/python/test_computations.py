@@ -237,6 +237,67 @@ class Told(unittest.TestCase):
                 self.assertIn("Nothing on this page is proved", text)
                 self.assertEqual("own" in data["start"]["root"][0], name != "right")
 
+    #: The facts that are books of acknowledgements, and the titles of their columns.
+    BOOKS = {"deficit", "parent", "acknowledged", "settled", "owed"}
+    COLUMNS = {"deficit", "engaged by", "owed", "acknowledged", "settled", "unseen"}
+
+    def books_changed(self, steps):
+        """Which facts of the books change in some steps."""
+        return {name for step in steps for _, _, name, _, _ in step["changes"]} & self.BOOKS
+
+    def test_books_that_no_detector_keeps_are_not_on_its_page(self):
+        class OneWave(model.Core):
+            """Asks each vertex once, engages by the rule that is there, and never acknowledges."""
+
+            asked = 0
+
+            def may_ack(self, e):
+                return 0
+
+            def own_events(self):
+                if self.asked < len(self.vertices) and self.is_passive(self.asked):
+                    yield "ask", self.asked, 0
+
+            def ask(self, at):
+                self.asked += 1
+                return "done"
+
+            def is_closed(self):
+                return self.asked == len(self.vertices)
+
+        for game in (detectors.DETECTORS["right"].game, FIRING):
+            for detector in ("right", "at-once", "one-edge", "safra", "credit", "safra-colourless", OneWave):
+                events = chipfire.random_schedule(game, 1, detector)
+                data = self.data(self.page(lambda file: chipfire.page(chipfire.play(game, events, detector), file)))
+                is_kept, start = detector in ("right", "at-once", "one-edge"), data["start"]
+                self.assertEqual(self.books_changed(data["steps"]), self.BOOKS if is_kept else set(), detector)
+                self.assertEqual(start["root"][0]["deficit"], int(is_kept))
+                self.assertEqual(self.COLUMNS & {*data.get("hidden", ())}, set() if is_kept else self.COLUMNS)
+            # (beside it stand the books of the right one, whose root waits for its message)
+            for detector in ("safra-colourless", OneWave):
+                data = self.data(self.page(lambda file: chipfire.wrong_page(detector, file, game)))
+                self.assertEqual(self.books_changed(data["steps"]), set())
+                beside = data["beside"]
+                self.assertEqual([it["start"]["root"][0]["deficit"] for it in (data, beside)], [0, 1])
+                if detector != OneWave:
+                    self.assertLessEqual({"parent", "owed"}, self.books_changed(beside["steps"]))
+
+    def test_who_acknowledges_nothing_yet_has_books(self):
+        class OneByOne(model.Core):
+            """Acknowledges one message at a time."""
+
+            def may_ack(self, e):
+                return min(super().may_ack(e), 1)
+
+        data = self.data(self.page(lambda file: chipfire.page(chipfire.play(FIRING, [("take", 4)], OneByOne), file)))
+        self.assertEqual(self.books_changed(data["steps"]), {"parent", "owed"})
+
+    def test_nobody_is_asked_of_an_acknowledgement_where_there_are_none(self):
+        for detector, count in (("right", 1), ("safra", 0)):
+            told = chipfire.play(FIRING, [("take", 4), ("ack", 4)], detector)
+            data = self.data(self.page(lambda file: chipfire.page(told, file)))
+            self.assertEqual(sum("yes" in step for step in data["steps"] if step["kind"] == "ack"), count)
+
     def test_states_and_loads_stand_on_the_page(self):
         told = chipfire.play(GAMES["shortest paths"][0], [("take", 4), ("put", 0)])
         data = self.data(self.page(lambda file: chipfire.page(told, file)))

@@ -82,7 +82,7 @@ class Game {
 // (the page of a wrong detector has the right one beside it, on the same events)
 const game = new Game(structuredClone(run.start), run.steps);
 run.steps = game.steps;
-const beside = run.beside && new Game(structuredClone(run.start), run.beside.steps);
+const beside = run.beside && new Game(structuredClone(run.beside.start), run.beside.steps);
 
 // --- Making elements
 

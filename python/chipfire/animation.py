@@ -15,7 +15,7 @@ from chipfire.chips import Chips
 from chipfire.pictures import SCALE, Palette, Picture
 from chipfire.program import AnyGraph, AnyProgram, known_chips, known_graph, plain
 from chipfire.reports import Report
-from chipfire.values import FileName, own_text, whole, write
+from chipfire.values import PAGE_POLICY, FileName, own_text, whole, write
 
 #: How many limits there are, if none are given.
 COUNT = 24
@@ -62,7 +62,7 @@ class Frames:
         return string.Template(own_text("web", "animation.html")).substitute(
             frames=json.dumps(shown).replace("<", "\\u003c"), last=len(self) - 1, source=shown[0]["source"],
             caption=html.escape(shown[0]["caption"]), columns=len(first.rows[0]), rows=len(first.rows),
-            legend=first.legend(used),
+            legend=first.legend(used), policy=PAGE_POLICY,
         )
 
     def _repr_html_(self) -> str:

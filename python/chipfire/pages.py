@@ -25,7 +25,7 @@ from chipfire.model import Core
 from chipfire.program import AnyGraph, AnyProgram, known_chips, known_graph, replay, simulate
 from chipfire.schedules import Game, Play, is_early, opened, played
 from chipfire.sentences import Sentences
-from chipfire.values import FILE, MAX_LIMIT, FileName, counted, own_text, write
+from chipfire.values import FILE, MAX_LIMIT, PAGE_POLICY, FileName, counted, own_text, write
 
 #: The sizes of rings that are tried for a trace, which does not tell its own.
 RINGS = (1, 2, 4, 8, 16, 32, 64)
@@ -133,7 +133,7 @@ def filled(title: str, data: Mapping[str, Any], parts: Mapping[str, str], proved
     """The page of a run: what it says about proofs and its drawings come from files of the folder web, with parts."""
     # (in a script of HTML no text may look like a tag)
     text = json.dumps(data, separators=(",", ":")).replace("<", "\\u003c")
-    held = {"title": html.escape(title), "data": text, "style": own_text("web", "run.css")}
+    held = {"title": html.escape(title), "data": text, "policy": PAGE_POLICY, "style": own_text("web", "run.css")}
     held |= {"script": own_text("web", "run.js"), "proved": string.Template(own_text("web", proved)).substitute(parts)}
     held["drawings"] = string.Template(own_text("web", drawings)).substitute(parts)
     return string.Template(own_text("web", "run.html")).substitute(held)

@@ -29,6 +29,8 @@ FileName = Union[str, "os.PathLike[str]"]
 FILE = (str, os.PathLike)
 
 HERE = os.path.dirname(os.path.realpath(__file__))
+#: What a page may load and start, as browsers take it: the style and the script that stand in it.
+PAGE_POLICY = "default-src 'none'; style-src 'unsafe-inline'; script-src 'unsafe-inline'"
 
 
 def whole(value: Any, what: str, least: int | None = 0, most: int | None = None) -> int:

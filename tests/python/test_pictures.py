@@ -391,12 +391,19 @@ class Animations(Played):
         frames = json.loads(re.search(r"^const frames = (\[.*\]);$", page, re.MULTILINE)[1])
         self.assertEqual([frame["caption"] for frame in frames], self.captions)
         self.assertEqual([png_points(self.inside(frame["source"], "png")) for frame in frames], self.wanted)
-        self.assertNotIn("http", page)
+        self.assertNotIn("://", page)
         self.assertNotIn("$", page)
         used = {min(count, 4) for position, _ in self.plays for count in position[:24]}
         self.assertGreater(len(used), len({min(count, 4) for count in self.plays[0][0][:24]}))
         named = {f"{count} or more" if count == 4 else str(count) for count in used}
         self.assertEqual(set(re.findall(r"</span> ([^&<]+)", page)), named)
+
+    def test_a_page_may_load_what_a_page_of_a_run_may_and_its_own_pictures(self):
+        run = chipfire.pages.page_text(chipfire.simulate(self.grid, self.chips, [("take", 4)]))
+        of_run, of_play = (re.search(r'<meta http-equiv="Content-Security-Policy"\s+content="([^"]*)">', page)[1]
+                           for page in (run, self.frames.page()))
+        self.assertIn("default-src 'none'; ", of_run)
+        self.assertEqual(of_play, f"{of_run}; img-src data:")
 
     def inside(self, source, kind):
         """The file that an address has inside."""
@@ -449,6 +456,15 @@ PAINTED = """(async () => {
   context.drawImage(picture, 0, 0);
   return Array.from(context.getImageData(0, 0, canvas.width, canvas.height).data);
 })()"""
+
+
+#: What the browser refuses if the page asks for a picture that does not stand in it.
+REFUSED = """new Promise((done) => {
+  const picture = new Image();
+  picture.onload = picture.onerror = () => setTimeout(() => done("nothing"), 1000);
+  document.addEventListener("securitypolicyviolation", (event) => done(event.effectiveDirective));
+  picture.src = "picture.png";
+})"""
 
 
 @unittest.skipUnless(browser.found(), "no browser is here: Debian's package chromium has one")
@@ -509,6 +525,9 @@ class InABrowser(Played):
         told = [event["params"] for event in self.browser.complaints()]
         own = [it for it in told if it.get("request", {}).get("url", "").startswith("data:")]
         self.assertEqual(told, own)
+
+    def test_it_can_load_nothing(self):
+        self.assertEqual(self.browser.value(REFUSED), "img-src")
 
 
 @unittest.skipUnless(has("PIL"), "Pillow is not here")

@@ -9,7 +9,7 @@ import textwrap
 
 from packing import archive, changes, contents, needs
 from packing.contents import LINK, File
-from packing.proved import version
+from packing.proved import build_wheel, version
 
 DOCUMENTS = "usr/share/doc/chipfire"
 #: The folder of the libraries in /usr: that of this machine's kind.
@@ -54,8 +54,8 @@ def name(build):
 
 
 def packed(text):
-    """Returns a text as gzip packs it, with no date."""
-    return File(gzip.compress(text, 9, mtime=0))
+    """Returns a text as gzip packs it."""
+    return File(build_wheel.gzipped(text))
 
 
 def changelog():
@@ -98,8 +98,8 @@ def documents(found):
     return {contents.MANUAL: page, **{place: found[f"usr/{place}"].data for place in contents.COMPLETIONS}}
 
 
-def lay_out(room, inside):
-    """Writes files by their names below a folder, with their modes."""
+def lay_out(room, inside, seconds):
+    """Writes files by their names below a folder, with their modes, and all of one date."""
     for name, file in inside.items():
         os.makedirs(os.path.dirname(f"{room}/{name}"), exist_ok=True)
         if file.mode == LINK:
@@ -108,15 +108,17 @@ def lay_out(room, inside):
         with open(f"{room}/{name}", "wb") as opened:
             opened.write(file.data)
         os.chmod(f"{room}/{name}", file.mode)
-    for folder, _, _ in os.walk(room):
+    for folder, _, names in os.walk(room):
         os.chmod(folder, 0o755)
+        for name in (".", *names):
+            os.utime(f"{folder}/{name}", (seconds, seconds), follow_symlinks=False)
 
 
 def write(path, build):
     """Writes the package of a build. All its files are root's, and of the version's day."""
     with tempfile.TemporaryDirectory(prefix="chipfire-deb-") as room:
-        lay_out(room, files(build))
-        words = ["dpkg-deb", "--root-owner-group", "-Zxz", "--build", room, path]
+        lay_out(room, files(build), changes.seconds())
+        words = ["dpkg-deb", "--root-owner-group", "-Zxz", "-z6", "--build", room, path]
         day = {"SOURCE_DATE_EPOCH": str(changes.seconds())}
         subprocess.run(words, check=True, stdout=subprocess.DEVNULL, env={**os.environ, **day})
 

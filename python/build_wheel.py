@@ -4,6 +4,7 @@ So `pip install ./python` needs no network and no other package. The functions a
 carries the program in release/ of the repository if `./chipfire` takes it there.
 """
 import base64
+import gzip
 import hashlib
 import io
 import os
@@ -58,6 +59,12 @@ def _record_line(name, text):
     return f"{name},sha256={digest},{len(text)}\n"
 
 
+def gzipped(data):
+    """Returns bytes as gzip packs them, with no date, and none of the systems that Pythons write in different ways."""
+    packed = gzip.compress(data, 9, mtime=0)
+    return packed[:9] + b"\xff" + packed[10:]
+
+
 def wheel_name(tag):
     """Returns the name of the wheel for the machines of a tag."""
     return f"chipfire-{version()}-{tag}.whl"
@@ -84,6 +91,7 @@ def write_wheel(path, files, programs=()):
     with zipfile.ZipFile(path, "w") as archive:
         for name, text in files.items():
             entry = zipfile.ZipInfo(name)
+            entry.create_system = 3  # (that of Unix, whose modes follow)
             entry.external_attr = (0o100755 if name in programs else 0o100644) << 16
             entry.compress_type = zipfile.ZIP_DEFLATED
             archive.writestr(entry, text)
@@ -122,9 +130,12 @@ def build_sdist(sdist_directory, config_settings=None):
     """Writes the archive of these files and returns its name."""
     top = f"chipfire-{version()}"
     files = {name: _read(name) for name in ("build_wheel.py", "pyproject.toml", *_package())}
-    with tarfile.open(os.path.join(sdist_directory, f"{top}.tar.gz"), "w:gz") as archive:
+    packed = io.BytesIO()
+    with tarfile.open(fileobj=packed, mode="w", format=tarfile.PAX_FORMAT) as archive:
         for name, text in {"PKG-INFO": _metadata(), **files}.items():
             entry = tarfile.TarInfo(f"{top}/{name}")
             entry.size = len(text)
             archive.addfile(entry, io.BytesIO(text))
+    with open(os.path.join(sdist_directory, f"{top}.tar.gz"), "wb") as file:
+        file.write(gzipped(packed.getvalue()))
     return f"{top}.tar.gz"

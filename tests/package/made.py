@@ -4,6 +4,7 @@ the libraries beside it.
 No command that is run here finds a proof kit.
 """
 import functools
+import glob
 import os
 import pty
 import re
@@ -109,9 +110,21 @@ def build(top, program=PROGRAM):
     write(f"{top}/target/chipfire.stamp", f"{KIT}\n".encode())
 
 
-def package(top, *words):
+@functools.cache
+def pythons():
+    """Returns the Pythons of this machine, those that lie beside the one that runs too, as paths by their versions."""
+    folders = [*os.environ["PATH"].split(":"), PATH.split(":")[1], *glob.glob(f"{glob.escape(sys.base_prefix)}/../*/bin")]
+    found = {sys.version_info[:2]: sys.executable}
+    for path in (it for folder in folders for it in sorted(glob.glob(f"{glob.escape(folder)}/python3.*"))):
+        name = re.fullmatch(r"python3\.(\d+)", os.path.basename(path))
+        if name and run(path, "-c", "").returncode == 0:
+            found.setdefault((3, int(name[1])), path)
+    return dict(sorted(found.items()))
+
+
+def package(top, *words, python=sys.executable, **more):
     """Runs ./package of a checkout."""
-    return run(sys.executable, f"{top}/package", *words)
+    return run(python, f"{top}/package", *words, **more)
 
 
 def built():

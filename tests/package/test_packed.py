@@ -1,7 +1,10 @@
 """What ./package makes: the same each time, of one version, with what docs/PACKAGES.md says that it needs."""
+import calendar
+import gzip
 import hashlib
 import os
 import re
+import sys
 import tarfile
 import time
 import unittest
@@ -9,6 +12,18 @@ import zipfile
 
 import made
 
+#: What build_wheel packs where Python's own gzip writes another system.
+PACKED = """
+import gzip, sys
+own = gzip.compress
+def compress(*words, **options):
+    packed = own(*words, **options)
+    return packed[:9] + bytes([int(sys.argv[1])]) + packed[10:]
+gzip.compress = compress
+sys.path.insert(0, ".")
+import build_wheel
+print(build_wheel.gzipped(b"text").hex())
+"""
 #: The C library of Debian 12, the oldest release that Debian supports.
 OLDEST = (2, 36)
 
@@ -21,6 +36,11 @@ def readelf(word, path=made.PROGRAM):
     """Returns what readelf shows of the program, or of another file."""
     made.need("readelf")
     return made.run("readelf", "-W", word, path, check=True).stdout
+
+
+def current_pythons():
+    """Returns the Pythons of this machine that ./package takes."""
+    return [path for version, path in made.pythons().items() if version >= (3, 9)]
 
 
 def proved_crates():
@@ -44,14 +64,29 @@ class Made(unittest.TestCase):
         self.assertEqual(set(os.listdir(f"{made.home()}/dist")), names)
 
     def test_the_same_bytes_each_time(self):
+        """By any Python that is here, and whatever dpkg-deb is told by the environment."""
         top = made.checkout()
         made.build(top)
         found = []
-        for _ in range(2):
-            self.assertEqual(made.package(top).returncode, 0)
+        for python in (sys.executable, *current_pythons()):
+            surrounded = {"TZ": "Asia/Tokyo", "DPKG_DEB_COMPRESSOR_LEVEL": "1"} if found else {}
+            answer = made.package(top, python=python, **surrounded)
+            self.assertEqual(answer.returncode, 0, answer.stderr)
             found.append({name: made.read(f"{top}/dist/{name}") for name in os.listdir(f"{top}/dist")})
             made.write(f"{top}/dist/left over", b"")
-        self.assertTrue(found[0] == found[1])
+            self.assertTrue(found[0] == found[-1], python)
+
+    def test_all_is_of_the_day_of_the_version_if_the_clock_is_before_it_too(self):
+        top = made.checkout()
+        text = made.read(f"{top}/CHANGELOG.md").decode()
+        head = re.compile(rf"^# chipfire {re.escape(made.version())}, .*$", re.MULTILINE)
+        made.write(f"{top}/CHANGELOG.md", head.sub(f"# chipfire {made.version()}, 2099-01-01", text).encode())
+        made.build(top)
+        self.assertEqual(made.package(top).returncode, 0)
+        with tarfile.open(made.path_of(".tar.xz", top)) as archive:
+            self.assertEqual({it.mtime for it in archive}, {calendar.timegm((2099, 1, 1, 0, 0, 0))})
+        listed = made.run("dpkg-deb", "-c", made.path_of(".deb", top), check=True, TZ="UTC").stdout.splitlines()
+        self.assertEqual({tuple(line.split()[3:5]) for line in listed}, {("2099-01-01", "00:00")})
 
     def test_program_and_libraries_are_those_that_were_built(self):
         built = {made.PROGRAM: "bin/chipfire", **{made.library(it): f"lib/{it}" for it in made.LIBRARIES}}
@@ -88,6 +123,37 @@ class Made(unittest.TestCase):
         made.build(top)
         self.assertEqual(made.package(top).returncode, 0)
         self.assertRegex(made.read(f"{top}/dist/PROVED").decode(), "\ncommit [0-9a-f]{40}, changed\n")
+
+
+class Compressed(unittest.TestCase):
+    """What gzip packs begins alike, whatever Python writes there: no flags, no date, best compression, unknown system."""
+
+    HEAD = b"\x1f\x8b\x08\0" + bytes(4) + b"\x02\xff"
+
+    def test_what_debian_wants_packed(self):
+        room = made.room()
+        made.run("dpkg-deb", "-x", made.path_of(".deb"), room, check=True)
+        packed = [f"{folder}/{name}" for folder, _, names in os.walk(room) for name in names if name.endswith(".gz")]
+        self.assertEqual(sorted(map(os.path.basename, packed)), ["changelog.gz", "chipfire.1.gz"])
+        for path in packed:
+            self.assertEqual(made.read(path)[:10], self.HEAD, path)
+
+    def test_under_a_python_that_writes_any_system(self):
+        """The system is the byte at place 9."""
+        for system in (0, 3, 255):
+            text = made.run(sys.executable, "-c", PACKED, str(system), cwd=f"{made.ROOT}/python", check=True).stdout
+            packed = bytes.fromhex(text)
+            self.assertEqual((packed[:10], gzip.decompress(packed)), (self.HEAD, b"text"))
+
+    def test_an_archive_of_the_sources_of_the_package(self):
+        make = "import sys; sys.path.insert(0, 'python'); import build_wheel; print(build_wheel.build_sdist(sys.argv[1]))"
+        found = set()
+        for python in current_pythons():
+            room = made.room()
+            name = made.run(python, "-c", make, room, cwd=made.home(), check=True).stdout.strip()
+            found.add(made.read(f"{room}/{name}"))
+        self.assertEqual({it[:10] for it in found}, {self.HEAD})
+        self.assertEqual(len(found), 1)
 
 
 class NotMade(unittest.TestCase):

@@ -135,7 +135,8 @@ class Browser:
 
     def complaints(self):
         """What went wrong in the page: exceptions, errors on its console, and requests for anything but the page."""
-        bad = {"Runtime.exceptionThrown", "Log.entryAdded"}
-        told = [event for event in self.events if event.get("method") in bad]
+        told = [event for event in self.events if event.get("method") == "Runtime.exceptionThrown"]
+        noted = [event for event in self.events if event.get("method") == "Log.entryAdded"]
+        told += [event for event in noted if event["params"]["entry"]["level"] == "error"]
         asked = [event for event in self.events if event.get("method") == "Network.requestWillBeSent"]
         return told + [event for event in asked if not event["params"]["request"]["url"].startswith("file:")]

@@ -75,7 +75,8 @@ def judge_log(
               `send` before it gets the next, and one that sends before it gets any begins active. If it is active for
               longer, this can acquit: in a trial 2 of 90 early claims were called right
     cut       for logs that are cut off: if rows fit together in no order, those that wait at greatest progress are left
-              out with all behind them. The verdicts on the claims before them do not change
+              out with all behind them. The verdicts on the claims before them do not change, as tests on random logs
+              have it; that is not proved
     """
     options, gone = {"past": bool(past)}, dict[Hashable, int]()
     if isinstance(log, FILE) and not (reactive or cut):

@@ -55,6 +55,24 @@ def expected(rows, with_past=False):
         return list(fault.args)
 
 
+def with_own_channels(draw, rows):
+    """The rows of a run with a channel for each basic message, and how many of these overtake another one, drawn at
+    random; none if in this order one is got that was not sent."""
+    sent, overtaken, apart = defaultdict(list), 0, []
+    for at, (process, kind, channel) in enumerate(rows):
+        if kind == "send":
+            sent[channel].append(100 + at)
+            channel = 100 + at
+        elif kind == "receive":
+            if not sent[channel]:
+                return rows, 0
+            which = draw.randrange(len(sent[channel]))
+            overtaken += which > 0
+            channel = sent[channel].pop(which)
+        apart.append((process, kind, channel))
+    return apart, overtaken
+
+
 def fault_of(test, rows, **options):
     with test.assertRaises(chipfire.Fault) as raised:
         chipfire.judge_log(rows, **options)
@@ -298,6 +316,19 @@ class Random(unittest.TestCase):
         rows = [*(("b", kind, 0) for kind in ("active", "tell", "passive", "tell")), ("a", "hear", 0), ("a", "over", 0)]
         self.assertEqual(told(rows), ["over a 1 early: process b is active", "end unclaimed"])
         self.assertEqual(told([rows[0], *rows[2:]]), ["over a 1 right", "end claimed"])
+
+    def test_messages_that_overtake_one_another(self):
+        """Basic messages of a channel may come in any order: a claim has the verdict by all cuts where each message has a
+        channel of its own."""
+        count = 0
+        for draw, rows in self.drawn(8, 10_000, most=14, slips=0):
+            apart, overtaken = with_own_channels(draw, rows)
+            if overtaken and any(kind == "over" for _, kind, _ in rows) and isinstance(expected(rows)[0], str):
+                both = (told(rows), expected(apart))
+                was, now = ([line.split(" ")[:4] for line in lines if line.startswith("over")] for lines in both)
+                self.assertEqual(was, now, rows)
+                count += 1
+        self.assertGreater(count, 40)
 
     def test_reactive_processes(self):
         found = Counter()

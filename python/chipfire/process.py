@@ -147,6 +147,8 @@ def ask(
         number, name, *place = errors[-1].split()[2:]
         where = tuple(map(int, place))
         told = _meant(int(number), where, words, inputs, graph)
+        if int(number) == 91:
+            told = _untaken(path, words, inputs)
         raise Fault(int(number), name, where, _explained(path, number), status, told)
     if status not in (0, 2, 3) or not output.startswith(begins):
         raise RuntimeError(f"{path} {command} ended with status {status} and no answer of chipfire: {' '.join(errors)}")
@@ -177,11 +179,6 @@ def _meant(
     if number in (1, 3, 30):
         most = "" if words[0] == "judge" else f"1 to {MAX_LARGE_VERTICES} vertices, up to {MAX_LARGE_EDGES} edges, and "
         return f"{words[0]} takes {most}files of up to {2**28} bytes."
-    if number == 91:
-        kept = {f"/dev/fd/{file.number}": f"({kind})" for kind, file in inputs if isinstance(file, Kept)}
-        no_utf8 = [ascii(word)[1:-1] for word in words if re.search("[\ud800-\udfff]", word)]
-        told = no_utf8 or [kept.get(word, word) for word in words]
-        return f"it does not take the words `{' '.join(told)}`"
     if number == 92:
         return f"{re.sub('^--[a-z]+=', '', words[place[0]])} cannot be opened, or is also written"
     kinds = {kind: file for kind, file in inputs if not isinstance(file, Kept) or kind in ("schedule", "trace")}
@@ -189,6 +186,27 @@ def _meant(
         kinds = {kind: file for kind, file in kinds.items() if (kind == "graph") == (number in _OF_GRAPH)}
     names = [f"the {kind}" if isinstance(file, Kept) else os.fspath(file) for kind, file in kinds.items()]
     return f"in {' or '.join(names)}" if names and number <= 53 else ""
+
+
+def _untaken(program: str, words: Sequence[str], inputs: Sequence[Input]) -> str:
+    """Which words the program does not take, each by itself; all of them, if it takes each of them so."""
+    kinds = dict(zip(words[1:], (kind for kind, _ in inputs)))
+    # (a file without a name cannot be opened, so nothing is played to find this out)
+    nameless = [words[0], *("" for kind in kinds.values() if kind != "number" and not kind.startswith("--"))]
+    others = [word for word in words[1:] if kinds.get(word, "--").startswith(("--", "number"))]
+    wrong = [word for word in words if re.search("[\ud800-\udfff]", word)]
+    if not wrong and _is_untaken(program, nameless):
+        wrong = [words[0]]
+    elif not wrong:
+        wrong = [word for word in others if _is_untaken(program, [*nameless, word])]
+    kept = {f"/dev/fd/{file.number}": f"({kind})" for kind, file in inputs if isinstance(file, Kept)}
+    told = [ascii(kept.get(word, word))[1:-1] for word in wrong or words]
+    return f"it does not take the word{'s' * (len(told) > 1)} `{' '.join(told)}`"
+
+
+def _is_untaken(program: str, words: Sequence[str]) -> bool:
+    """Whether the program says that these words are no command."""
+    return "chipfire: fault 91 Usage" in _started([program, *words])[2]
 
 
 @functools.cache

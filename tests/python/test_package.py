@@ -566,15 +566,22 @@ class Mistakes(WithFolder):
 
     def test_words_that_the_program_does_not_take_are_told(self):
         fault = self.fault(chipfire.explain, 999)
-        self.assertEqual((fault.number, fault.words), (91, "it does not take the words `explain 999`"))
-        program = self.program("test $1 = explain || { echo 'chipfire: fault 91 Usage' >&2; exit 1; }")
-        fault = self.fault(chipfire.plain, TRIANGLE, CHIPS_FILE, limit=3, program=program)
-        said = f"it does not take the words `plain (graph) {CHIPS_FILE} --large --limit=3`"
-        self.assertTrue(str(fault).startswith(f"fault 91 Usage: {said}"), fault)
+        self.assertEqual((fault.number, fault.words), (91, "it does not take the word `999`"))
+        usage = "{ echo 'chipfire: fault 91 Usage' >&2; exit 1; }"
+        tried = [
+            ("test $1 = explain", "word `plain`"),
+            ('case "$*" in *--limit*) false;; esac', "word `--limit=3`"),
+            ('case "$*" in *--l*) false;; esac', "words `--large --limit=3`"),
+            ('case "$*" in *--large*--limit*) false;; esac', f"words `plain (graph) {CHIPS_FILE} --large --limit=3`"),
+        ]
+        for taken, told in tried:
+            fault = self.fault(chipfire.plain, TRIANGLE, CHIPS_FILE, limit=3, program=self.program(f"{taken} || {usage}"))
+            said = f"fault 91 Usage: it does not take the {told}"
+            self.assertEqual(str(fault).partition("\n")[0].rstrip(), said, fault)
 
     def test_of_the_words_one_that_is_no_utf_8_is_told(self):
         fault = self.fault(chipfire.plain, TRIANGLE, os.fsdecode(b"caf\xe9.csv"), limit=3)
-        self.assertEqual((fault.number, fault.words), (91, r"it does not take the words `caf\udce9.csv`"))
+        self.assertEqual((fault.number, fault.words), (91, r"it does not take the word `caf\udce9.csv`"))
 
     def test_what_is_no_graph_at_all(self):
         for value in (None, 3, {0: [1]}):

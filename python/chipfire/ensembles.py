@@ -146,8 +146,9 @@ def _taken(numpy: Any, sink: int, sizes: Any, first: Any, ways: Any, draws: list
 
 class Firings(NamedTuple):
     """Which vertices fired by each drop, as the rows of a sparse matrix. The entries of drop `d` of chain `k`, with
-    `at = k * drops + d`, are those from `offsets[at]` to `offsets[at + 1]`: `vertices`, ascending, and their `counts`.
-    A vertex that fires takes 12 bytes, and up to 60 before all are in order."""
+    `at = k * drops + d`, are those from `offsets[at]` to `offsets[at + 1]`: the names of `vertices`, in the order of
+    their numbers, and their `counts`. Names that are no whole numbers stand in an array of objects. A vertex that fires
+    takes 12 bytes, or 16 in a graph with names, and up to 60 before all are in order."""
 
     offsets: Any
     vertices: Any
@@ -214,7 +215,7 @@ def chains(
         pieces = side_by_side(lambda it: play.step(range(ends[it], ends[it + 1]), until, fired), workers, workers)
     else:
         side_by_side(play.whole, n, workers)
-    return play.told(_in_order(pieces, n * drops) if fired else None)
+    return play.told(_in_order(known, pieces, n * drops) if fired else None)
 
 
 class _Chains:
@@ -335,11 +336,23 @@ def _by_rows(numpy: Any, numbers: array[int], n: int) -> Any:
     return [array("q", numbers[it * width : (it + 1) * width]) for it in range(n)]
 
 
-def _in_order(pieces: Sequence[Sequence[Any]], count: int) -> Firings:
+def _in_order(graph: Graph, pieces: Sequence[Sequence[Any]], count: int) -> Firings:
     """The vertices that fired by each drop, by the numbers of `count` drops."""
     numpy = imported("numpy")
     found = [it for piece in pieces for it in piece] or [[numpy.zeros(0, "i8")] * 3]
     drop, vertices, counts = (numpy.concatenate(column) for column in zip(*found))
     order = numpy.argsort(drop, kind="stable")
     offsets = numpy.concatenate([[0], numpy.cumsum(numpy.bincount(drop, minlength=count))])
-    return Firings(offsets, vertices[order], counts[order])
+    return Firings(offsets, _named(numpy, graph, vertices[order]), counts[order])
+
+
+def _named(numpy: Any, graph: Graph, vertices: Any) -> Any:
+    """The names of vertices that fired."""
+    if isinstance(graph.names, range):
+        return vertices
+    names = numpy.empty(graph.vertices, object)
+    for vertex, name in enumerate(graph.names):
+        names[vertex] = name
+    names[graph.sink] = 0  # (it never fires)
+    is_whole = all(type(name) is int and abs(name) < 2**63 for name in names)
+    return (names.astype("i8") if is_whole else names)[vertices]

@@ -135,8 +135,33 @@ class Chains(unittest.TestCase):
                     report = slow_report(graph, left)
                     begin, end = found.fired.offsets[40 * chain + drop :][:2]
                     pairs = zip(found.fired.vertices[begin:end].tolist(), found.fired.counts[begin:end].tolist())
-                    self.assertEqual(list(pairs), [it for it in enumerate(report.fired) if it[1]])
+                    self.assertEqual(list(pairs), [it for it in zip(graph.names, report.fired) if it[1]])
                     left = list(report.chips)
+
+    @unittest.skipUnless(has("numpy"), "NumPy is not here")
+    def test_vertices_that_fired_have_their_names(self):
+        # (whole numbers that are not those of the vertices, names of any kind, and several sinks)
+        square = [(0, 1), (1, 2), (2, 3), (3, 0), (2, 4), (0, 4), (4, 1)]
+        kinds = [{0: 4, 4: 0}, {0: 30, 1: -7, 2: 10**12, 3: 1, 4: 2}, {1: "b", 2: (2, 0), 3: None}, {0: 2**63}, {1: 1.5}]
+        graphs = [chipfire.Graph.undirected([[names.get(it, it) for it in edge] for edge in square], names.get(3, 3))
+                  for names in kinds]
+        graphs.append(chipfire.Graph.undirected([*square, (4, 5), (5, 6)], [1, 6]))
+        for at, graph in enumerate(graphs):
+            found = chipfire.chains(graph, 2, 30, 5, fired=True, chips=3)
+            self.assertEqual(found.fired.vertices.dtype.kind, "O" if at in (2, 3, 4) else "i")
+            offsets, vertices, counts = (it.tolist() for it in found.fired)
+            for chain, seed in enumerate(found.seeds):
+                left = chipfire.stabilize(graph, 3)
+                for drop, name in enumerate(chipfire.random_drops(graph, 30, seed), 30 * chain):
+                    begin, end = offsets[drop], offsets[drop + 1]
+                    one = chipfire.avalanche(graph, left, name)
+                    self.assertEqual(dict(zip(vertices[begin:end], counts[begin:end])), one.fired, graph.names)
+                    left = one.configuration
+            # (so chips that are dropped there fall where they are said to)
+            dropped = chipfire.drops(graph, 0, found.fired.vertices[:20])
+            there = [graph.number(name) for name in vertices[:20]]
+            chips = slow_report(graph, [there.count(it) for it in range(graph.vertices)]).chips
+            self.assertEqual((len(there), dropped.report.chips), (20, chips))
 
     @unittest.skipUnless(has("numpy"), "NumPy is not here")
     def test_a_chain_stops_after_the_first_drop_that_loses_a_chip_or_spans(self):

@@ -216,7 +216,8 @@ def to_networkx(graph: AnyGraph) -> Any:
 
     Vertices have their names. The attribute "weight" of an edge is its multiplicity, parallel edges are one, and the
     graph's attribute "sink" names the sink, which has its edges of `laplacian`. So `from_networkx(it,
-    it.graph["sink"])` plays the same. Loops are refused."""
+    it.graph["sink"])` plays the same. Its edges stand in the order of NetworkX: it `is_like` a graph without parallel
+    edges, and need not equal it. Loops are refused."""
     known, networkx = known_graph(graph), imported("networkx", "a graph of NetworkX is one of NetworkX")
     known.refuse_loops()
     kind, names = networkx.Graph if smith.is_undirected(known) else networkx.DiGraph, known.names

@@ -17,7 +17,6 @@ import zipfile
 HERE = os.path.dirname(os.path.realpath(__file__))
 REPOSITORY = os.path.dirname(HERE)
 SOURCE = f"{REPOSITORY}/crates/chip_arguments/src/help_texts.rt"
-SUMMARY = "Graphs, chips and reports of chipfire, a chip-firing machine that is proved right, as Python objects"
 #: What has the version: the program's source, and in an archive of these files alone its PKG-INFO.
 VERSIONS = {
     SOURCE: r'VERSION: &str = "(.*)"',
@@ -32,6 +31,16 @@ COMMAND = b"[console_scripts]\nchipfire = chipfire:start_program\n"
 def _read(name):
     with open(os.path.join(HERE, name), "rb") as file:
         return file.read()
+
+
+def stated(name):
+    """What pyproject.toml states of the package."""
+    return re.search(f'^{name} = "(.*)"$', _read("pyproject.toml").decode(), re.MULTILINE)[1]
+
+
+def is_old():
+    """Whether this Python is older than the package takes. (Such a one understands this file.)"""
+    return sys.version_info < tuple(map(int, stated("requires-python").lstrip(">=").split(".")))
 
 
 def version():
@@ -50,8 +59,8 @@ def _package():
 
 
 def _metadata():
-    lines = ["Metadata-Version: 2.1", "Name: chipfire", f"Version: {version()}", f"Summary: {SUMMARY}"]
-    return "".join(f"{line}\n" for line in [*lines, "Requires-Python: >=3.9"]).encode()
+    lines = ["Metadata-Version: 2.1", "Name: chipfire", f"Version: {version()}", f"Summary: {stated('description')}"]
+    return "".join(f"{line}\n" for line in [*lines, f"Requires-Python: {stated('requires-python')}"]).encode()
 
 
 def _record_line(name, text):
@@ -99,6 +108,8 @@ def write_wheel(path, files, programs=()):
 
 def _carry_release(folder):
     """Writes the wheel with the program in release/ of the repository and returns its name, or None and says why not."""
+    if is_old():
+        return None  # (pip refuses the wheel, by what its metadata require)
     sys.path[:0] = [REPOSITORY, f"{REPOSITORY}/tools"]
     import release
     from packing import contents, wheel

@@ -50,6 +50,12 @@ go by numbers, dicts and Series of pandas by names. Numbers of chips and firings
 2,097,152 vertices and 8,388,608 edges.
 """
 
+import sys as _sys
+
+if _sys.version_info < (3, 9):
+    _this = ".".join(map(str, _sys.version_info[:3]))
+    raise ImportError(f"chipfire requires Python >=3.9, and {_sys.executable} is Python {_this}")
+
 from chipfire import library as library, machine
 from chipfire.animation import Frames, frames, frames_by_chips
 from chipfire.chips import CHIPS_HEADER as CHIPS_HEADER, Chips, Configuration

@@ -1,4 +1,5 @@
 """Each package is installed where there is nothing else, and answers."""
+import ast
 import functools
 import json
 import os
@@ -6,6 +7,7 @@ import re
 import shutil
 import sys
 import unittest
+import zipfile
 
 import made
 
@@ -200,3 +202,55 @@ class Wheel(Answers):
         asked = made.run(sys.executable, *ask, PYTHONPATH=room, PATH=path)
         self.assertEqual(asked.stdout, f"{path}/chipfire {made.version()}\n")
         self.assertIn("ProgramNotFound", made.run(sys.executable, *ask, PYTHONPATH=room, PATH=room).stderr)
+
+
+class OldPython(unittest.TestCase):
+    """A Python older than the package takes is told so."""
+
+    #: A Python that takes itself for an older one begins with this.
+    OLD = b"import sys\nsys.version_info = 3, 8, 18, 'final', 0\n"
+    STARTED = ("package", "tools/release.py", "packing/__init__.py", "python/build_wheel.py", "python/chipfire/__init__.py")
+
+    def runs(self, *words):
+        """What becomes of words for Python where Python takes itself for an older one."""
+        older = made.room()
+        made.write(f"{older}/sitecustomize.py", self.OLD)
+        return made.run(sys.executable, *words, PYTHONPATH=f"{older}:{made.ROOT}/python")
+
+    def required(self):
+        page = made.read(f"{made.ROOT}/python/pyproject.toml").decode()
+        return re.search(r'^requires-python = "(.*)"$', page, re.MULTILINE)[1]
+
+    def test_what_is_started_says_which_it_takes(self):
+        taken = (f"{made.ROOT}/tools/release.py", "--take", made.room(), "")
+        for words in ((f"{made.ROOT}/package",), taken, ("-c", "import chipfire")):
+            answer = self.runs(*words)
+            self.assertEqual((answer.returncode, answer.stdout), (1, ""), words)
+            said = f"requires Python {self.required()}, and {sys.executable} is Python 3.8.18"
+            self.assertTrue(answer.stderr.splitlines()[-1].endswith(said), answer.stderr)
+
+    def test_a_wheel_is_made_that_pip_can_refuse(self):
+        room = made.room()
+        make = f"import build_wheel; print(build_wheel.build_wheel({room!r}))"
+        answer = self.runs("-c", make)
+        self.assertEqual(answer.stdout, f"chipfire-{made.version()}-py3-none-any.whl\n", answer.stderr)
+        with zipfile.ZipFile(f"{room}/{answer.stdout.strip()}") as wheel:
+            metadata = wheel.read(f"chipfire-{made.version()}.dist-info/METADATA").decode()
+        self.assertIn(f"\nRequires-Python: {self.required()}\n", metadata)
+
+    def test_pip_refuses_it(self):
+        """By its own words, if it is new enough to read pyproject.toml."""
+        old = {version: path for version, path in made.pythons().items() if (3, 7) <= version < (3, 9)}
+        if not old:
+            self.skipTest("there is no Python of version 3.7 or 3.8")
+        for path in old.values():
+            room = made.room()
+            made.run(path, "-m", "venv", room, check=True)
+            answer = made.run(f"{room}/bin/pip", "install", "--no-index", f"{made.home()}/python")
+            self.assertIn("Package 'chipfire' requires a different Python: ", answer.stderr)
+            self.assertNotIn("Traceback", answer.stdout + answer.stderr)
+
+    def test_it_understands_what_says_so(self):
+        for name in self.STARTED:
+            tree = ast.parse(made.read(f"{made.ROOT}/{name}"), feature_version=(3, 7))
+            self.assertFalse([it for it in ast.walk(tree) if isinstance(it, ast.ImportFrom) and it.module == "__future__"])

@@ -256,10 +256,16 @@ static RUN: CommandRow = CommandRow {
     name: "run",
     about: "Plays a game to its end on threads, and writes the same report as plain",
     after_help: "\
+The vertices play as a distributed machine does: by messages, until a root sees that all is
+over. This is for traces, for chips that are fed, and to watch that machine. For the report
+alone use `plain`: on two games of 4,000 vertices run took 10 and 22 times as long, with four
+threads on four processors.
+
 The number of threads, the ring and --dealt change the time alone: the report stays the same,
 to the byte. One thread is quickest for a small game. For a large one, use --dealt with a
-thread for each core of the machine. In the queue more than two threads gain little. With a
-longer ring a vertex can send again before its last message was taken.
+thread for each core of the machine. In the queue use two threads: four took 0.95 to 1.5 times
+as long. With a longer ring a vertex can send again before its last message was taken, but a
+ring of 64 took 1.4 to 12 times as long as one of 1.
 
 With --feed the report is the same as if all chips were there at the start. The trace is
 written before the report. If it was cut, a line on standard error says so, and it may not

@@ -5,7 +5,8 @@ pub const VERSION: &str = "0.6.1";
 
 pub const PROGRAM: &str = "\
 Exit status: 0 done, and no vertex was stopped; 1 a fault, in one line on standard error; 2
-some vertex was stopped, or some of a trace is left; 3 the root is open.
+some vertex was stopped, `replay` has something left, or `judge` finds a claim early; 3
+`simulate` leaves the root open, `run` has too few turns (fault 61), or `judge` finds no claim.
 
 `chipfire explain N` explains fault N. `chipfire help COMMAND` has the options, the exit
 statuses and an example of a command.

@@ -1,9 +1,9 @@
 -- Flooding: a part that gets a message for the first time is marked, and sends one message on each of its edges.
 use Rattle.std.specs.Prelude.{◌≡◌, ◌≢◌, ◌↔◌, ℕ, ◌-◌, ◌<◌, ◌≤◌, nat_lt, Bool, true, false, not, ◌&&◌, ◌||◌, ◌==◌}
-use Rattle.std.specs.Prelude.{if◌then◌else◌, List, [], ◌∷◌, length, slice_index, slice_index_or, sum_by}
+use Rattle.std.specs.Prelude.{if◌then◌else◌, List, [], ◌∷◌, length, slice_index, slice_index_or, sum_by, replicate}
 use Rattle.chip_diffusing.specs.Network.{Network}
 use Rattle.chip_diffusing.specs.Computation.{World, sent_on, got_on, acked_on, settled_on}
-use Rattle.chip_flooding.specs.Running.{net, world, allowed}
+use Rattle.chip_flooding.specs.Running.{net, world, allowed, IsTopology, AreOpening}
 pub use Rattle.chip_flooding.specs.declared.flooding.Marking.{Marking}
 
 -- these edges, the last one first, lead from the root to p
@@ -45,6 +45,13 @@ pub record IsFlooding (n : Network) (w : World) (marked : List Bool) (done : Lis
   pub reached : (q : ℕ) → is_marked marked q ≡ true → IsReached n q
   pub passive : (q : ℕ) → q < n.parts → q ≢ p → (w q).passive ≡ true
   pub edges : (e : ℕ) → e < n.edges → IsFloodedOn n w marked done p first e
+
+-- no message was sent, and no part is marked
+pub record IsOpened (m : Marking) : Type 0 where
+  pub topology : IsTopology m.run.topology
+  pub opens : AreOpening m.run.topology m.run.topology.parts m.run.processes
+  pub unmarked : m.marked.items ≡ replicate m.run.topology.parts false
+  pub undone : m.done.items ≡ replicate (length m.run.topology.tails.items) 0
 
 -- no part is at work
 abbrev pub IsFlooded : Marking → Type 0

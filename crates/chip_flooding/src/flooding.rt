@@ -5,26 +5,54 @@ ghost use Rattle.chip_flooding.specs.Flooding.{MarksReached, IsFlooding, IsFlood
 use crate::process::Topology;
 use crate::run::Run;
 use std::alloc::{AllocError, Global};
+use std::marker::Model;
 
-/// Says of each part whether it can be reached from the root over edges from tail to head.
+/// A flood before its first message, with all the memory that it takes.
 ///
 /// The root sends a message on each of its edges. A part that gets its first message is marked, and does the same. When
 /// the root's books say that this is over, exactly the parts that can be reached are marked.
-pub fn flood(alloc: Global, topology: Topology) -> Result<Vec<bool>, AllocError>
-    requires { IsTopology topology }
-    ensures { IfOk result (λ marked. MarksReached (network_of topology) marked.items) }
-{
-    let root = topology.root;
-    let marked = all_false(alloc, topology.parts)?;
-    let done = vec![in alloc; 0; topology.tails.len()]?;
-    let run = Run::new(alloc, topology)?;
-    let mut marking = Marking { run, marked, done };
-    marking.start(root);
-    while !marking.run.is_over() {
-        let edge = marking.due_edge().unwrap();
-        marking.turn(edge);
+#[derive(Drop)]
+pub struct Flood {
+    marking: Marking,
+}
+
+impl Model for Flood {
+    ghost use Rattle.chip_flooding.specs.Running.{Topology};
+    ghost use Rattle.chip_flooding.specs.Flooding.{IsOpened};
+
+    ghost Value = { Topology };
+
+    ghost view = { λ flood. flood.marking.run.topology };
+
+    ghost invariant = { λ flood. IsOpened flood.marking };
+}
+
+impl Flood {
+    /// Takes the memory for a flood of these parts and edges.
+    pub fn opened(alloc: Global, topology: Topology) -> Result<Flood, AllocError>
+        requires { IsTopology topology }
+        ensures { IfOk result (λ flood. flood ≡ topology) }
+    {
+        let marked = all_false(alloc, topology.parts)?;
+        let done = vec![in alloc; 0; topology.tails.len()]?;
+        let run = Run::new(alloc, topology)?;
+        let marking = Marking { run, marked, done };
+        Ok(Flood { marking })
     }
-    Ok(marking.marked)
+
+    /// Floods, and says of each part whether it can be reached from the root over edges from tail to head.
+    pub fn finish(self) -> Vec<bool>
+        ensures { MarksReached (network_of self) result.items }
+    {
+        let mut marking = self.marking;
+        let root = marking.run.topology().root;
+        marking.start(root);
+        while !marking.run.is_over() {
+            let edge = marking.due_edge().unwrap();
+            marking.turn(edge);
+        }
+        marking.marked
+    }
 }
 
 /// `count` times false.

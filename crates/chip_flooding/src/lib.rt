@@ -2,7 +2,7 @@
 //! and the root sees from its own books when that is so.
 #![tactic(auto)]
 
-pub use flooding::flood;
+pub use flooding::Flood;
 pub use process::Topology;
 pub use run::Run;
 

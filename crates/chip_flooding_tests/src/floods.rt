@@ -1,6 +1,6 @@
 //! Floods of small networks, worked out by hand.
 
-use chip_flooding::{Topology, flood};
+use chip_flooding::{Flood, Topology};
 
 #[test]
 fn two_ways_and_a_ring_apart(rt: HostRuntime) {
@@ -10,7 +10,8 @@ fn two_ways_and_a_ring_apart(rt: HostRuntime) {
         tails: vec![in rt.alloc(); 5, 0, 1, 2, 0, 3, 4, 5].expect(&rt, "memory"),
         heads: vec![in rt.alloc(); 0, 1, 2, 0, 2, 4, 3, 2].expect(&rt, "memory"),
     };
-    let marked = flood(rt.alloc(), topology).expect(&rt, "memory");
+    let flood = Flood::opened(rt.alloc(), topology).expect(&rt, "memory");
+    let marked = flood.finish();
     assert!(rt; marked.as_slice() == [true, true, true, false, false, true].as_slice());
 }
 
@@ -22,6 +23,7 @@ fn two_edges_alike_and_a_loop(rt: HostRuntime) {
         tails: vec![in rt.alloc(); 0, 0, 1].expect(&rt, "memory"),
         heads: vec![in rt.alloc(); 1, 1, 1].expect(&rt, "memory"),
     };
-    let marked = flood(rt.alloc(), topology).expect(&rt, "memory");
+    let flood = Flood::opened(rt.alloc(), topology).expect(&rt, "memory");
+    let marked = flood.finish();
     assert!(rt; marked.as_slice() == [true, true, false].as_slice());
 }

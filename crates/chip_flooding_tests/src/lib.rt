@@ -1,4 +1,4 @@
-//! What no contract says of `chip_flooding`: that a flood has an answer.
+//! What no contract says of `chip_flooding`: that there is memory for a flood.
 #![tactic(auto)]
 
 #[cfg(test)]

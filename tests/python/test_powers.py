@@ -1,8 +1,10 @@
 """Power laws of draws whose exponent is known, and the plot of them."""
 import math
 import random
+import time
 import unittest
 from collections import Counter
+from unittest import mock
 
 import chipfire
 from test_sandpiles import has
@@ -12,6 +14,24 @@ def drawn(exponent, least, most, count, seed):
     """Draws of a known power law."""
     sizes = range(least, most + 1)
     return random.Random(seed).choices(sizes, [size**-exponent for size in sizes], k=count)
+
+
+def means(exponent, least, most, near):
+    """The mean logarithm of the sizes of a power law, less that of one of them, by adding all up."""
+    logs = [math.log1p((size - near) / near) for size in range(least, most + 1)]
+    top = min(exponent * logs[0], exponent * logs[-1])
+    weights = [math.exp(top - exponent * log) for log in logs]
+    return math.fsum(map(float.__mul__, weights, logs)) / math.fsum(weights)
+
+
+def quickest(call):
+    """The least time of a call, of three."""
+    times = []
+    for _ in range(3):
+        begun = time.thread_time()
+        call()
+        times.append(time.thread_time() - begun)
+    return min(times)
 
 
 class PowerLaw(unittest.TestCase):
@@ -41,6 +61,33 @@ class PowerLaw(unittest.TestCase):
         self.assertAlmostEqual(law.exponent, math.log2(3))
         self.assertAlmostEqual(law.error, 1 / math.sqrt(100 * 0.75 * 0.25 * math.log(2) ** 2))
 
+    def test_the_mean_logarithm_of_the_law_is_that_of_the_sizes(self):
+        for sizes, least, most in [([1, 1, 1, 2, 7, 300], 1, 300), ([1, 1, 3, 20, 6000], 1, 6000), ([1, 20_000], 1, 20_000),
+                                   ([5] * 9 + [6], 5, 9000), ([9999] * 20 + [9000, 9990], 1, 10_000),
+                                   ([400, 5000, 5000], 1, 8000), ([10**6] * 3 + [10**6 + 700], 10**6, 10**6 + 4000)]:
+            law, near = chipfire.power_law(sizes, least, most), sizes[0]
+            mean = math.fsum(math.log1p((size - near) / near) for size in sizes) / len(sizes)
+            self.assertLess(abs(means(law.exponent, least, most, near) - mean), 1e-9 / law.error / len(sizes) ** 0.5)
+
+    def test_sizes_that_are_seen_far_above_the_least_one(self):
+        # (from the largest one down they are geometric then: 100 of 101 lie one below it, so each is 100/201 of the next)
+        for size in (10**4, 10**6):
+            law = chipfire.power_law([size] * 100 + [size + 1])
+            self.assertLess(abs(law.exponent / (size * -math.log(201 / 100)) - 1), 3 / size)
+            self.assertEqual(law[2:], (1, size + 1, 101))
+        # (of two sizes, one of which is far more often: 2 ** exponent is 10^18)
+        for sign, counts in [(1, {1: 10**18, 2: 1}), (-1, {1: 1, 2: 10**18})]:
+            self.assertAlmostEqual(chipfire.power_law(counts).exponent, sign * 18 * math.log2(10))
+
+    @unittest.skipUnless(has("numpy"), "NumPy is not here")
+    def test_a_law_takes_no_longer_than_a_sum_over_its_range(self):
+        import numpy
+
+        for sizes in ([1, 3 * 10**6], [10**6] * 100 + [10**6 + 1]):
+            own = quickest(lambda: chipfire.power_law(sizes))
+            one = quickest(lambda: (numpy.arange(1.0, max(sizes) + 1) ** -1.5).sum())
+            self.assertLess(own, 1.5 * one)
+
     def test_what_is_refused(self):
         for sizes, options in [([0, 0], {}), ([3, 3], {}), ([1, 2], {"least": 0}), ([1, 2], {"least": 2}),
                                ([1, 9], {"most": 0}), ([], {})]:
@@ -50,7 +97,8 @@ class PowerLaw(unittest.TestCase):
                                      ([1, 2.5], TypeError, "size 1 is no whole number: 2.5"), ("12", TypeError, "'1'"),
                                      ([1, 2, float("nan")], TypeError, "size 2 is no whole number: nan"),
                                      ({1: 2, 3: -1}, ValueError, "the count of size 3 is below 0: -1"),
-                                     ({1: 0.5, 3: 1}, TypeError, "the count of size 1 is no whole number: 0.5")]:
+                                     ({1: 0.5, 3: 1}, TypeError, "the count of size 1 is no whole number: 0.5"),
+                                     ({1: 2**65, 3: 1}, ValueError, "the count of size 1 is above 18446744073709551616")]:
             with self.assertRaisesRegex(refusal, said):
                 chipfire.power_law(sizes)
 
@@ -65,6 +113,15 @@ class PowerLaw(unittest.TestCase):
         self.assertEqual(chipfire.power_law(numpy.array(sizes, float)), wanted)
         with self.assertRaisesRegex(TypeError, "size 1 is no whole number: 1.5"):
             chipfire.power_law(numpy.array([1, 1.5, 2]))
+
+    def test_the_line_of_sizes_far_above_the_least_one(self):
+        axes = mock.MagicMock()
+        with mock.patch("chipfire.powers.imported", return_value=None):
+            chipfire.plot_sizes([10**6] * 100 + [10**6 + 1], axes=axes)
+        (at, line), _ = axes.loglog.call_args
+        # (the largest one is as often as it was seen, by a geometric law, and the least one never)
+        self.assertEqual((at, line[0]), ([1, 10**6 + 1], 0))
+        self.assertLess(abs(line[1] / (101 * (1 - 100 / 201)) - 1), 1e-5)
 
     @unittest.skipUnless(has("matplotlib"), "Matplotlib is not here")
     def test_the_plot(self):

@@ -7,7 +7,9 @@ from __future__ import annotations
 
 import itertools
 import math
+import operator
 from collections import Counter, defaultdict
+from collections.abc import Callable, Iterator, Sequence
 from typing import Any, TypeVar
 
 from chipfire import smith
@@ -20,8 +22,8 @@ from chipfire.values import counted, whole
 Power = TypeVar("Power", int, tuple[int, int], tuple[int, ...])
 #: Coefficients by two powers.
 Terms = Counter[tuple[int, int]]
-#: How often each pair of vertices, the lower first, is joined.
-Joined = tuple[tuple[tuple[int, int], int], ...]
+#: What takes the last vertex out of a graph.
+Step = Callable[[int], Iterator[tuple[int, int, int]]]
 #: How many smaller graphs, or configurations, are looked at, if that is not said.
 MOST = 100_000
 
@@ -30,8 +32,8 @@ def tutte_polynomial(graph: AnyGraph, *, most: int = MOST) -> dict[tuple[int, in
     """The Tutte polynomial T(x, y) of an undirected graph with multiplicities: the coefficient of x^i y^j at (i, j).
 
     The edges of one vertex after the other are deleted and contracted; smaller graphs that come out the same are one. A
-    ValueError tells if there are more than `most` of them with one number of vertices. A complete graph of 8
-    vertices takes 0.01 s, and 4 by 4 squares 1 s. Nothing of this is proved, and the program is not asked."""
+    ValueError tells if there are more than `most` of them with one number of vertices: they are counted first, which
+    takes seconds. A complete graph of 8 vertices takes 0.01 s, and 4 by 4 squares 1 s. Nothing of this is proved, and the program is not asked."""
     found: Terms = Counter()
     for (i, j), count in _whitney(known_graph(graph), most, False).items():
         for power in range(i + 1):  # (x - 1 to the power i)
@@ -91,39 +93,80 @@ def _whitney(graph: Graph, most: int, is_one: bool) -> Terms:
 
     The last vertex is contracted into one of its neighbours, after its edges to those behind that are deleted. Of the
     m edges between the two, one is contracted, and the others become loops or are deleted: 1 + y + .. + y^(m - 1). Or
-    all edges of the vertex are deleted: x - 1."""
-    most, graphs = whole(most, "the most smaller graphs", 1), {_joined(graph): Counter({(0, 0): 1})}
-    for last in range(graph.vertices - 1, 0, -1):
-        smaller: dict[Joined, Terms] = defaultdict(Counter)
+    all edges of the vertex are deleted: x - 1. The graphs alone are made first, since their terms take far longer."""
+    start, steps = _steps(graph, is_one)
+    _refuse_more(start, steps, whole(most, "the most smaller graphs", 1))
+    graphs: dict[int, Terms] = {start: Counter({(0, 0): 1})}
+    for step in steps:
+        smaller: dict[int, Terms] = defaultdict(Counter)
         for joined, terms in graphs.items():
-            rest = {pair: count for pair, count in joined if pair[1] != last}
-            beside = [(pair[0], count) for pair, count in joined if pair[1] == last]
-            if not is_one:
-                _add(smaller[_key(rest)], terms, 1, 1)
-            for place, (into, mult) in enumerate(beside):
-                moved = Counter(rest)
-                for other, count in beside[:place]:
-                    moved[other, into] += count
-                _add(smaller[_key(moved)], terms, 0, mult)
-        if len(smaller) > most:
-            raise ValueError(f"{counted(len(smaller), 'smaller graph')} come out, and {most:,} at most are looked at")
+            for after, of_x, mult in step(joined):
+                _add(smaller[after], terms, of_x, mult)
         graphs = smaller
-    return graphs[()]
+    return graphs[0]
 
 
-def _joined(graph: Graph) -> Joined:
-    """The pairs of an undirected graph. The sink has place 0, so that it is the last vertex that is left."""
+def _refuse_more(start: int, steps: Sequence[Step], most: int) -> None:
+    """Refuses a graph of which more smaller ones come out with one number of vertices."""
+    graphs = {start}
+    for step in steps:
+        smaller: set[int] = set()
+        for joined in graphs:
+            smaller.update(after for after, _, _ in step(joined))
+            if len(smaller) > most:
+                told = f"{counted(len(smaller), 'smaller graph')} come out"
+                raise ValueError(f"at least {told}, and {most:,} at most are looked at")
+        graphs = smaller
+
+
+def _steps(graph: Graph, is_one: bool) -> tuple[int, list[Step]]:
+    """A graph as one number, which says how often each two vertices are joined, and how each vertex is taken out, from
+    the last one on. The pairs of a vertex with those before it stand behind the pairs of the vertices before it."""
+    joined = _joined(graph)
+    beside: list[set[int]] = [set() for _ in range(graph.vertices)]
+    for low, high in joined:
+        beside[high].add(low)
+    for some in reversed(beside):  # (what the last one is contracted into may be joined with all that are beside it)
+        for low, high in itertools.combinations(sorted(some), 2):
+            beside[high].add(low)
+    pairs = [(low, last) for last in reversed(range(graph.vertices)) for low in sorted(beside[last])]
+    bits, places = sum(joined.values()).bit_length(), dict(zip(pairs, itertools.count()))
+    steps = []
+    for last in range(graph.vertices - 1, 0, -1):
+        lower = sorted(beside[last])
+        first = len(lower) + min((places[low, last] for low in lower), default=0)
+        shifts = [[bits * (places[pair, into] - first) for pair in lower[:at]] for at, into in enumerate(lower)]
+        steps.append(_step(bits, shifts, is_one))
+    return sum(count << bits * places[pair] for pair, count in joined.items()), steps
+
+
+def _step(bits: int, shifts: Sequence[Sequence[int]], is_one: bool) -> Step:
+    """What comes out if the last vertex is taken out: graphs, each with the power of x - 1 and the m of its terms.
+    `shifts` has of each vertex beside the last one where its pairs with those before it stand then."""
+    places, mask = [bits * place for place in range(len(shifts))], 2**bits - 1
+
+    def step(joined: int) -> Iterator[tuple[int, int, int]]:
+        rest = joined >> bits * len(places)
+        counts = [joined >> place & mask for place in places]
+        if not is_one:
+            yield rest, 1, 1
+        for mult, row in zip(counts, shifts):
+            if mult:
+                yield rest + sum(map(operator.lshift, counts, row)), 0, mult
+
+    return step
+
+
+def _joined(graph: Graph) -> dict[tuple[int, int], int]:
+    """How often each pair of vertices is joined, the lower first, of an undirected graph. The sink has place 0, so that
+    it is the last vertex that is left."""
     sink, found = graph.sink, {}
     for tail, row in enumerate(smith.undirected(graph)):
         for head, less in row.items():
             if less < 0:
                 first, second = sorted(0 if it == sink else it + (it < sink) for it in (tail, head))
                 found[first, second] = -less
-    return _key(found)
-
-
-def _key(joined: dict[tuple[int, int], int]) -> Joined:
-    return tuple(sorted(joined.items()))
+    return found
 
 
 def _add(found: Terms, terms: Terms, of_x: int, mult: int) -> None:

@@ -3,6 +3,7 @@ import collections
 import itertools
 import math
 import unittest
+from unittest import mock
 
 import chipfire
 import model
@@ -84,6 +85,18 @@ class Tutte(unittest.TestCase):
             self.assertEqual(sum(count * 2 ** sum(power) for power, count in found.items()), 2**edges)
             self.assertEqual(sum(chipfire.level_polynomial(graph).values()), chipfire.order(graph))
 
+    def test_as_many_smaller_graphs_as_are_taken_are_enough(self):
+        # (by hand: the complete graph of 4 leaves the triangle, that with one double edge, and that with two)
+        four = chipfire.complete(4)
+        self.assertEqual(chipfire.tutte_polynomial(four, most=3), chipfire.tutte_polynomial(four))
+        with self.assertRaises(ValueError):
+            chipfire.tutte_polynomial(four, most=2)
+
+    def test_a_graph_that_is_too_large_is_refused_before_terms_are_multiplied(self):
+        with mock.patch("chipfire.polynomials._add", side_effect=AssertionError):
+            with self.assertRaisesRegex(ValueError, "smaller graphs come out, and 2,000 at most are looked at"):
+                chipfire.tutte_polynomial(chipfire.grid(6, 6), most=2000)
+
     @unittest.skipUnless(has("sympy"), "SymPy is not here")
     def test_sympy_takes_them(self):
         import sympy
@@ -99,6 +112,9 @@ class Tutte(unittest.TestCase):
             chipfire.tutte_polynomial(chipfire.Graph(3, 2, [(0, 1), (1, 2)]))
         with self.assertRaisesRegex(ValueError, "smaller graphs come out, and 20 at most are looked at"):
             chipfire.tutte_polynomial(chipfire.complete(8), most=20)
+        for word in (chipfire.tutte_polynomial, chipfire.level_polynomial):
+            with self.assertRaisesRegex(ValueError, "at least 20. smaller graphs come out, and 200 at most"):
+                word(chipfire.grid(5, 5), most=200)
         for word in (chipfire.avalanche_polynomial, chipfire.level_polynomial):
             with self.assertRaisesRegex(ValueError, "at most 2 recurrent configurations .* there are 6"):
                 word(chipfire.Graph(3, 2, [(0, 1), (0, 2), (1, 2, 3)]), most=2)

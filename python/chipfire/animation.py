@@ -15,7 +15,7 @@ from chipfire.chips import Chips
 from chipfire.pictures import SCALE, Palette, Picture
 from chipfire.program import AnyGraph, AnyProgram, known_chips, known_graph, plain
 from chipfire.reports import Report
-from chipfire.values import PAGE_POLICY, FileName, own_text, whole, write
+from chipfire.values import PAGE_POLICY, FileName, own_text, processors, whole, write
 
 #: How many limits there are, if none are given.
 COUNT = 24
@@ -86,7 +86,7 @@ def frames(
         limits = sorted({most * step // (COUNT - 1) for step in range(COUNT)})
     limits = tuple(limits)
     # (side by side, the plays of large graphs would take too much memory)
-    with ThreadPoolExecutor(1 if graph.vertices > 200_000 else os.cpu_count()) as pool:
+    with ThreadPoolExecutor(1 if graph.vertices > 200_000 else processors()) as pool:
         reports = tuple(pool.map(lambda it: known.get(it) or plain(graph, chips, limit=it, program=program), limits))
     return Frames(limits, reports, tuple(report.picture(columns, palette) for report in reports))
 

@@ -3,7 +3,6 @@
 from __future__ import annotations
 
 import itertools
-import os
 import random
 import threading
 from array import array
@@ -19,7 +18,9 @@ from chipfire.dropped import in_calls
 from chipfire.graphs import Graph
 from chipfire.process import ProgramNotFound
 from chipfire.program import AnyGraph, known_graph, read_chips
-from chipfire.values import FILE, generator, imported, side_by_side, whole
+from chipfire.values import (
+    FILE, generator, imported, known_seed, processors, require_memory, side_by_side, whole,
+)
 
 #: Of each vertex the heads of its edges, and how many chips one firing sends on the edges up to each of them.
 Outs = list[tuple[list[int], list[int]]]
@@ -29,10 +30,12 @@ def random_recurrent(graph: AnyGraph, seed: Any, count: int | None = None) -> An
     """A recurrent configuration of an undirected graph, each equally probable; or a list of `count`.
 
     Wilson's algorithm (1996) draws a spanning tree, and the burning bijection of Majumdar and Dhar (1992) makes chips
-    of it. Each has a `random.Random` of its own, whose seed `random.Random(seed)` makes. Edges into the sink need none
+    of it. Each has a `random.Random` of its own, whose seed `random.Random(seed)` makes. A seed is as in
+    `random_drops`. Edges into the sink need none
     back; a graph that is else directed is a ValueError. 60 by 60 squares take some 20 ms, and many by NumPy 5 ms each.
     Nothing of this is proved, and the program is not asked."""
     known, n = known_graph(graph), 1 if count is None else whole(count, "the number of configurations")
+    require_memory(8 * n * known.vertices, f"{n:,} configurations")
     chips, width = known.with_loops(_recurrent(known, seed, n)), known.vertices
     found = [Configuration(known, chips[it * width : (it + 1) * width]) for it in range(n)]
     return found[0] if count is None else found
@@ -166,6 +169,7 @@ class Chains:
     made    how many drops each chain made
     chips   what lies on each vertex after the last one, by numbers; the sink has what it got in all
     fired   which vertices fired by each drop, if that was asked for, else None
+    seed    the seed from which `chains` plays the same again; one that the system drew, if None was given
     """
 
     seeds: Sequence[str]
@@ -175,6 +179,7 @@ class Chains:
     made: Any
     chips: Any
     fired: Firings | None = None
+    seed: int | float | str | bytes | None = None
 
     def __repr__(self) -> str:
         return f"<Chains: {len(self.seeds)} of up to {len(self.size[0])} drops>"
@@ -185,17 +190,20 @@ def chains(
     fired: bool = False, until: str | None = None,
 ) -> Chains:
     """Drops chips on random vertices in n chains, each with its own seed and `drops` drops, each drop on what the play
-    of the one before it left. It takes the library: without it that is a `ProgramNotFound`.
+    of the one before it left. It takes the library: without it that is a `ProgramNotFound`. The seeds of the chains are
+    made of `seed`, which is as in `random_drops`; if it is None, the answer says which one was drawn.
 
     Each chain begins with `chips`: in one of their forms for all, or rows of an array or list, one for each. Without
     them each begins with a `random_recurrent` configuration of its own, from which on the drops are stationary.
-    `workers` threads play, by default as many as there are processors. An interrupt waits for chains that have begun.
+    `workers` threads play, by default as many as there are processors for this process. An interrupt waits for chains
+    that have begun. A drop takes 24 bytes, and a vertex 8 in each chain: what there is no memory for does not begin.
 
     If it is asked for what `fired`, or `until` a drop has a "loss" of chips, or "spans" a grid, which is that the
     vertices that fired touch two opposite borders, each call makes one drop of many chains, by NumPy. `until` stops a
     chain after the first such drop. In a direction that is joined there are no borders, and "spans" does not know that.
     Proved: sizes, extents, losses and counts of the drops. Not proved: that they are evenly drawn, and what stops."""
     known, n, drops = known_graph(graph), whole(n, "the number of chains", 1), whole(drops, "the number of drops")
+    require_memory(n * (24 * drops + 8 * known.vertices), f"{n:,} chains of {drops:,} drops")
     if until not in (None, "loss", "spans"):
         raise ValueError(f"chains go on until 'loss' or 'spans', and not {until!r}")
     if fired or until:
@@ -205,10 +213,9 @@ def chains(
     known.require()
     if known.vertices < 2 and drops:
         raise ValueError("the graph has only its sink, and so no vertex to drop on")
-    seed = random.getrandbits(64) if seed is None else seed
     chips = read_chips(chips, known) if isinstance(chips, FILE) else chips
-    play = _Chains(known, n, drops, seed, chips)
-    workers = min(n, min(os.cpu_count() or 1, 64) if workers is None else whole(workers, "workers", 1, 64))
+    play = _Chains(known, n, drops, known_seed(seed), chips)
+    workers = min(n, min(processors(), 64) if workers is None else whole(workers, "workers", 1, 64))
     pieces = []
     if fired or until:
         ends = [n * it // workers for it in range(workers + 1)]
@@ -222,7 +229,7 @@ class _Chains:
     """Chains as they are played: numbers of 64 bits, those of one chain behind those of another."""
 
     def __init__(self, graph: Graph, n: int, drops: int, seed: Any, chips: Any) -> None:
-        self.known, self.graph, self.drops = graph, graph.loop_free, drops
+        self.known, self.graph, self.drops, self.seed = graph, graph.loop_free, drops, seed
         self.seeds = [f"{seed} {chain}" for chain in range(n)]
         self.inner = array("Q", (it for it in range(graph.vertices) if it != graph.sink))
         self.made, self.ones, self.some = array("Q", [drops]) * n, array("Q", [1]) * drops, 1
@@ -288,7 +295,7 @@ class _Chains:
         numpy, n, chips = imported("numpy"), len(self.seeds), self.known.with_loops(self.chips)
         size, extent, lost, chips = (_by_rows(numpy, it, n) for it in (*self.columns, chips))
         made = numpy.frombuffer(self.made, "q") if numpy else self.made
-        return Chains(tuple(self.seeds), size, extent, lost, made, chips, fired)
+        return Chains(tuple(self.seeds), size, extent, lost, made, chips, fired, self.seed)
 
 
 def _stabilize(graph: Graph, chips: Any, fired: Any, stopped: Any) -> None:

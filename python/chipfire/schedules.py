@@ -6,7 +6,6 @@ or a class of your own, made of `chipfire.model.Core`. Everything here is comput
 
 from __future__ import annotations
 
-import random
 from collections import Counter, defaultdict, deque
 from collections.abc import Callable, Iterable, Sequence
 from dataclasses import dataclass
@@ -16,7 +15,7 @@ from chipfire.computations import Computation
 from chipfire.detectors import known_detector
 from chipfire.machine import Event, Reply, Schedule, Setting
 from chipfire.model import Core
-from chipfire.values import whole
+from chipfire.values import generator, whole
 
 Game = Union[Setting, Computation]
 Detector = Union[str, type[Core]]
@@ -53,7 +52,7 @@ def random_schedule(setting: Game, seed: Any, detector: Detector = "right", *, m
 
     The right detector closes the root in each. With another it may end because nothing can happen any more. After
     `most` events it is cut, and its `ended` is False: the events of a detector may go round for ever."""
-    core, draw, made = opened(setting, detector), random.Random(seed), Schedule()
+    core, draw, made = opened(setting, detector), generator(seed), Schedule()
     whole(most, "most")
     while not core.is_closed() and (events := core.enabled()):
         if len(made) == most:

@@ -83,9 +83,38 @@ def imported(name: str, wanted: str = "") -> Any:
         return None
 
 
+def known_seed(seed: Any) -> int | float | str | bytes:
+    """A seed as the one value that it stands for: a whole number, also of NumPy or a float like 3.0, as an int; another
+    float; a text or bytes. For None the system draws a number."""
+    if seed is None:
+        return random.getrandbits(64)
+    if isinstance(seed, (str, bytes, bytearray)):
+        return seed if isinstance(seed, str) else bytes(seed)
+    with contextlib.suppress(TypeError):
+        return whole(seed, "the seed", None)
+    if isinstance(seed, float) and seed == seed:
+        return seed
+    raise TypeError(f"a seed is a number, a text or bytes, and no {type(seed).__name__}")
+
+
 def generator(seed: Any) -> random.Random:
-    """What draws by a seed of Python's `random`, or by a whole number of NumPy."""
-    return random.Random(operator.index(seed) if hasattr(seed, "__index__") else seed)
+    """What draws by a seed, as Python's `random` does by its value."""
+    return random.Random(known_seed(seed))
+
+
+def processors() -> int:
+    """How many processors this process may use."""
+    return len(os.sched_getaffinity(0)) if hasattr(os, "sched_getaffinity") else os.cpu_count() or 1
+
+
+def require_memory(count: int, what: str) -> None:
+    """Refuses what takes more bytes than the machine has, or than this process may have, before it begins."""
+    limits, resource = [2**63], imported("resource")  # (which not every system has)
+    if resource:
+        soft, _ = resource.getrlimit(resource.RLIMIT_AS)
+        limits += [it for it in (soft, os.sysconf("SC_PHYS_PAGES") * os.sysconf("SC_PAGE_SIZE")) if it >= 0]
+    if count > min(limits):
+        raise MemoryError(f"{what} take {count:,} bytes, and there are {min(limits):,}")
 
 
 def side_by_side(work: Callable[[int], T], count: int, workers: int) -> list[T]:

@@ -127,6 +127,32 @@ class Random(unittest.TestCase):
         with self.assertRaisesRegex(ValueError, "only its sink"):
             chipfire.random_drops(chipfire.Graph(1, 0, []), 1, 1)
 
+    def test_a_float_that_is_whole_is_the_seed_of_its_number(self):
+        grid, wanted = chipfire.grid(4, 3), random.Random(3).choices(range(12), k=99)
+        for seed in (3, 3.0, -3.0):
+            self.assertEqual(list(chipfire.random_drops(grid, 99, seed)), wanted)
+        self.assertEqual(*(chipfire.random_recurrent(grid, seed) for seed in (3, 3.0)))
+        for seed in ("3", b"3", bytearray(b"3"), 2.5):
+            drawn = list(chipfire.random_drops(grid, 99, seed))
+            self.assertEqual(drawn, random.Random(seed).choices(range(12), k=99))
+            self.assertNotEqual(drawn, wanted)
+
+    def test_what_is_no_seed_is_refused_by_its_name(self):
+        seeds = [[3], (3, 4), {3: 4}, 3j, float("nan"), random.Random(3), object()]
+        if has("numpy"):
+            import numpy
+
+            seeds += [numpy.random.default_rng(3), numpy.random.SeedSequence(3), numpy.random.RandomState(3)]
+            seeds += [numpy.array([3]), numpy.array([3, 4]), numpy.array("3"), numpy.datetime64(3, "D")]
+        grid, setting = chipfire.grid(4, 3), chipfire.Setting(TRIANGLE, 3)
+        for seed in seeds:
+            for call in (lambda: chipfire.random_drops(grid, 9, seed), lambda: chipfire.random_recurrent(grid, seed),
+                         lambda: chipfire.random_schedule(setting, seed)):
+                with self.subTest(seed=seed), self.assertRaises(TypeError) as raised:
+                    call()
+                told = f"a seed is a number, a text or bytes, and no {type(seed).__name__}"
+                self.assertEqual(str(raised.exception), told)
+
     @unittest.skipUnless(has("numpy"), "NumPy is not here")
     def test_a_seed_may_be_a_number_of_numpy(self):
         import numpy

@@ -2,13 +2,20 @@
 
 Chains take the library: with CHIPFIRE, which names a program, they are refused.
 """
+import copy
 import itertools
+import os
+import pickle
 import random
+import subprocess
+import sys
 import unittest
 from collections import Counter
+from concurrent.futures import ThreadPoolExecutor
 from unittest import mock
 
 import chipfire
+from chipfire import ensembles, values
 from test_counts import slow_report
 from test_drops import rows_of, slow_rows
 from test_package import CHIPS_FILE, TRIANGLE
@@ -52,6 +59,16 @@ class Recurrent(unittest.TestCase):
             with mock.patch("chipfire.ensembles.imported", return_value=None):
                 self.assertEqual(chipfire.random_recurrent(graph, 1, 1100), together)
 
+    def test_what_there_is_no_memory_for_is_refused_before_it_begins(self):
+        # (a configuration of 6 squares and the sink takes 7 numbers of 8 bytes; a drop three)
+        for call, count in [("chains(g, 2**40, 4, 1)", 2**40 * (4 * 24 + 7 * 8)), ("chains(g, 1, 2**50, 1)", 24 * 2**50 + 56),
+                            ("chains(g, 1, 2**30, 1)", 24 * 2**30 + 56), ("random_recurrent(g, 1, 2**40)", 56 * 2**40)]:
+            lines = ["import chipfire, resource", "resource.setrlimit(resource.RLIMIT_AS, (2**31, 2**31))",
+                     "g = chipfire.grid(3, 2)", f"chipfire.{call}"]
+            ran = subprocess.run([sys.executable, "-c", "\n".join(lines)], stderr=subprocess.PIPE, timeout=60)
+            said = ran.stderr.decode().splitlines()[-1]
+            self.assertRegex(said, f"^MemoryError: .* take {count:,} bytes, and there are 2,147,483,648$")
+
     def test_what_is_refused(self):
         with self.assertRaisesRegex(ValueError, "'a' sends 2 to 'b' and gets 1 back"):
             chipfire.random_recurrent(chipfire.Graph(3, 2, [(0, 1, 2), (1, 0), (0, 2)], ["a", "b", "s"]), 1)
@@ -87,6 +104,40 @@ class Chains(unittest.TestCase):
                     together = [there + fallen[at] for at, there in enumerate(graph.chips(chips))]
                     self.assertEqual(found.chips[chain].tolist(), list(slow_report(graph, together).chips))
                 self.assertEqual((list(found.made), len({*found.seeds})), ([40] * 5, 5))
+
+    def test_the_seed_is_told_from_which_all_is_played_again(self):
+        grid = chipfire.grid(7, 5)
+        for seed, told in [(3, 3), ("3", "3"), (None, None), (3.0, 3), (2.5, 2.5), (b"3", b"3"), (bytearray(b"3"), b"3"),
+                           (True, 1), (-3, -3)]:
+            found = chipfire.chains(grid, 3, 40, seed)
+            self.assertTrue(seed is None or (type(found.seed), found.seed) == (type(told), told), seed)
+            again = chipfire.chains(grid, 3, 40, found.seed)
+            for one, other in [(found, again), (found, pickle.loads(pickle.dumps(found))), (found, copy.copy(found))]:
+                self.assertEqual((one.seed, one.seeds, repr(one)), (other.seed, other.seeds, repr(other)))
+                for name in ("size", "extent", "lost", "chips"):
+                    self.assertEqual(*([it.tolist() for it in getattr(of, name)] for of in (one, other)))
+            self.assertEqual((found, found != again), (found, True))
+        one, other = (chipfire.chains(grid, 3, 40, seed) for seed in (3, "3"))
+        self.assertNotEqual([it.tolist() for it in one.size], [it.tolist() for it in other.size])
+
+    def test_a_whole_float_is_the_same_seed_as_its_number(self):
+        grid = chipfire.grid(4, 4)
+        one, other = (chipfire.chains(grid, 2, 30, seed, chips=0) for seed in (3, 3.0))
+        self.assertEqual((one.seeds, [it.tolist() for it in one.size]), (other.seeds, [it.tolist() for it in other.size]))
+
+    def test_as_many_threads_play_as_there_are_processors_for_this_process(self):
+        grid, side_by_side = chipfire.grid(3, 3), "chipfire.ensembles.side_by_side"
+        for given in ({5}, {1, 2, 6}):
+            with mock.patch("os.sched_getaffinity", return_value=given), mock.patch("os.cpu_count", return_value=40):
+                with mock.patch(side_by_side, wraps=ensembles.side_by_side) as played:
+                    chipfire.chains(grid, 9, 5, 1)
+                self.assertEqual(played.call_args[0][2], len(given))
+                with mock.patch("chipfire.animation.ThreadPoolExecutor", wraps=ThreadPoolExecutor) as pool:
+                    chipfire.frames(grid, 5)
+                self.assertEqual(pool.call_args[0][0], len(given))
+        with mock.patch("os.sched_getaffinity"), mock.patch("os.cpu_count", return_value=3):
+            del os.sched_getaffinity
+            self.assertEqual(values.processors(), 3)
 
     def test_chains_begin_with_chips_of_their_own(self):
         grid = chipfire.grid(4, 4)

@@ -13,20 +13,21 @@ from chipfire.chips import Chips, Sums
 from chipfire.graphs import Graph
 from chipfire.program import AnyGraph, AnyProgram, known_graph
 from chipfire.sandpiles import superstable_representative
-from chipfire.values import counted, whole
+from chipfire.values import AsArray, counted, whole
 
 #: How many divisors are looked at to find a rank, if that is not said.
 MOST = 100_000
 
 
-class Divisor(Sums):
+class Divisor(AsArray, Sums):
     """The chips of all vertices of an undirected graph, the sink among them, by names; they may be below 0.
 
     graph    the graph, each edge of which leads both ways: a family, `Graph.undirected`, or one of another tool
     numbers  the chips by the numbers of the vertices
 
     They come in each form that `Graph.chips` takes, but a sequence has a number for each vertex, and one number is for
-    all of them. A divisor is never changed. It is a mapping, is added, subtracted and multiplied by numbers.
+    all of them. A divisor is never changed. It is a mapping, is added, subtracted and multiplied by numbers. NumPy takes
+    it as the array of its numbers, and pandas as a Series.
     """
 
     def __init__(self, graph: AnyGraph, chips: Chips) -> None:
@@ -51,6 +52,9 @@ class Divisor(Sums):
 
     def __len__(self) -> int:
         return self.graph.vertices
+
+    def _for_array(self) -> Sequence[Any]:
+        return self.numbers
 
     def is_effective(self) -> bool:
         """Whether no vertex has fewer than 0 chips."""

@@ -17,7 +17,7 @@ from dataclasses import dataclass
 from typing import TYPE_CHECKING, Any, Union
 
 from chipfire import rasters
-from chipfire.values import FileName, imported, whole, write
+from chipfire.values import AsArray, FileName, as_array, imported, whole, write
 
 if TYPE_CHECKING:
     from chipfire.graphs import Graph
@@ -196,7 +196,7 @@ def placed(graph: Graph, values: Sequence[int], positions: Positions, empty: int
     return [[numbers.get((y, x), empty) for x in xs] for y in ys]
 
 
-class Drawn:
+class Drawn(AsArray):
     """What reports and configurations have besides: pictures of their chips, and of how often vertices fired."""
 
     graph: Graph | None
@@ -257,14 +257,16 @@ class Drawn:
 
     def array(self, of: str = "chips", columns: int | None = None) -> Any:
         """The chips, or the "odometer", as an array of NumPy, by rows of the picture; 0 on the squares without any."""
+        return as_array(self._in_rows(of, columns))
+
+    def _for_array(self) -> Sequence[Any]:
+        return self._in_rows("chips", None)
+
+    def _in_rows(self, of: str, columns: int | None) -> list[Sequence[int]]:
         values = list(self._values(of))
         if self.graph is not None:
             values[self.graph.sink] = 0
-        numpy = imported("numpy", "an array is one of NumPy")
-        return numpy.array(in_rows(self.graph, values, columns, 0), dtype=numpy.int64)
-
-    def __array__(self, dtype: Any = None, copy: bool | None = None) -> Any:
-        return self.array().astype(dtype or "int64")
+        return in_rows(self.graph, values, columns, 0)
 
     def plot(
         self, columns: int | None = None, palette: Palette | None = None, axes: Any = None, *, of: str = "chips",

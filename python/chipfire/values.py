@@ -83,6 +83,29 @@ def imported(name: str, wanted: str = "") -> Any:
         return None
 
 
+def as_array(numbers: Sequence[Any], dtype: Any = None) -> Any:
+    """Whole numbers, or rows of them, as an array of NumPy, of 64 bits if no type is said."""
+    numpy = imported("numpy", "an array is one of NumPy")
+    exact, kind = numpy.array(numbers, dtype=object), numpy.dtype("int64" if dtype is None else dtype)
+    if kind.kind in "iu" and exact.size:
+        ends, held = (exact.min(), exact.max()), numpy.iinfo(kind)
+        if ends[0] < held.min or ends[1] > held.max:
+            raise OverflowError(f"numbers from {ends[0]} to {ends[1]} are more than {kind} holds: dtype=object does")
+    return exact.astype(kind)
+
+
+class AsArray:
+    """What NumPy takes for whole numbers, or rows of them."""
+
+    def _for_array(self) -> Sequence[Any]:
+        raise NotImplementedError
+
+    def __array__(self, dtype: Any = None, copy: bool | None = None) -> Any:
+        if copy is not None and not copy:
+            raise ValueError(f"an array of a {type(self).__name__} is always a copy")
+        return as_array(self._for_array(), dtype)
+
+
 def known_seed(seed: Any) -> int | float | str | bytes:
     """A seed as the one value that it stands for: a whole number, also of NumPy or a float like 3.0, as an int; another
     float; a text or bytes. For None the system draws a number."""

@@ -206,6 +206,36 @@ class Sums(unittest.TestCase):
         self.assertEqual(repr(chipfire.Divisor(chipfire.grid(9, 9), 1)), "<Divisor of 82 vertices: 82 chips>")
 
     @unittest.skipUnless(has("numpy"), "NumPy is not here")
+    def test_numpy_takes_the_numbers(self):
+        import numpy
+
+        one, other = chipfire.Divisor(K4, [5, 6, -7, 8]), chipfire.Divisor(K4, 2)
+        self.assertEqual(numpy.asarray(one).tolist(), [5, 6, -7, 8])
+        self.assertEqual(numpy.asarray(one).dtype, "int64")
+        self.assertEqual(numpy.array([one, other]).tolist(), [[5, 6, -7, 8], [2, 2, 2, 2]])
+        self.assertEqual(chipfire.Divisor(K4, numpy.asarray(one)), one)
+        for kind, wanted in [("i1", [5, 6, -7, 8]), (float, [5.0, 6.0, -7.0, 8.0]), (object, [5, 6, -7, 8])]:
+            found = numpy.asarray(one, dtype=kind)
+            self.assertEqual((found.tolist(), found.dtype), (wanted, numpy.dtype(kind)))
+        self.assertEqual(one.__array__(copy=True).tolist(), one.__array__("i8", None).tolist())
+        with self.assertRaisesRegex(ValueError, "an array of a Divisor is always a copy"):
+            one.__array__(copy=False)
+        large = chipfire.Divisor(K4, [2**70, 0, 0, -1])
+        self.assertEqual(numpy.asarray(large, dtype=object).tolist(), [2**70, 0, 0, -1])
+        for given, kind in [(large, None), (one, "u8"), (other * 200, "u1")]:
+            with self.assertRaisesRegex(OverflowError, "^numbers from .* to .* are more than .* holds"):
+                numpy.asarray(given, dtype=kind)
+
+    @unittest.skipUnless(has("pandas"), "pandas is not here")
+    def test_pandas_takes_the_numbers_by_names(self):
+        import pandas
+
+        graph = chipfire.Graph.undirected([("a", "b"), ("b", "c")], "c")
+        series = pandas.Series(chipfire.Divisor(graph, [3, -1, 4]))
+        self.assertEqual(series.to_dict(), {"a": 3, "b": -1, "c": 4})
+        self.assertEqual(chipfire.Divisor(graph, series[::-1]), {"a": 3, "b": -1, "c": 4})
+
+    @unittest.skipUnless(has("numpy"), "NumPy is not here")
     def test_numbers_of_numpy(self):
         import numpy
 

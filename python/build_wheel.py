@@ -126,15 +126,11 @@ def _carry_release(folder):
 
 def build_wheel(wheel_directory, config_settings=None, metadata_directory=None):
     """Writes the wheel and returns its name: with the program in release/ if that fits, and else without a program."""
-    noted = {}
-    if os.path.isfile(SOURCE):
-        name = _carry_release(wheel_directory)
-        if name:
-            return name
-        # (the repository will have a program)
-        noted = {"chipfire/repository": os.fsencode(REPOSITORY)}
-    write_wheel(os.path.join(wheel_directory, wheel_name(PURE)), wheel_files(PURE, noted))
-    return wheel_name(PURE)
+    name = _carry_release(wheel_directory) if os.path.isfile(SOURCE) else None
+    if name is None:
+        name = wheel_name(PURE)
+        write_wheel(os.path.join(wheel_directory, name), wheel_files(PURE, {}))
+    return name
 
 
 def build_sdist(sdist_directory, config_settings=None):

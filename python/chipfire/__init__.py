@@ -9,10 +9,11 @@
 The answers are the program's, whose contracts are proved; nothing of the package is. It stands on the standard library
 alone: `pip install ./python` installs it, and a copy of its folder works too. The program is found in this order: the
 `program` that a call or a `Program` names, the environment variable CHIPFIRE, the program that an installed package
-carries, `target/chipfire` of the repository that the package lies in or was installed from, the program in the
-`release` there, if `./chipfire` would take it, and `chipfire` on the PATH. Where its library lies too, which has the
-same bodies and proofs, short plays start no program: `chipfire.library` has the calls, and `find_library()` its file.
-A copy of the folder has no version to compare with the library's, and does not call it.
+carries, `target/chipfire` of the clone of the repository that the package lies in or that pip was named the folder of,
+the program in the `release` there, if `./chipfire` would take it, and `chipfire` in a folder of the PATH with a whole
+path. A clone that somebody but this user and root can change is passed over. Where its library lies too, which has the same bodies and proofs, short plays start no program:
+`chipfire.library` has the calls, and `find_library()` its file. A copy of the folder has no version to compare with the
+library's, and does not call it.
 
 The usual words of sandpiles are found under these names:
 
@@ -65,6 +66,9 @@ from chipfire.divisors import Divisor, canonical_divisor, genus
 from chipfire.dropped import Drops
 from chipfire.ensembles import Chains, Firings, chains, random_recurrent
 from chipfire.explorer import explore
+from chipfire.finding import (
+    ProgramNotFound, find_program as find_program, start_program as start_program, version,
+)
 from chipfire.graphs import (
     Graph, aztec, complete, cycle, from_edges, from_networkx, from_sage, grid, grid_for, path, region, torus, wheel,
 )
@@ -82,9 +86,7 @@ from chipfire.pages import page, recorded
 from chipfire.pictures import PALETTES, Picture
 from chipfire.polynomials import avalanche_polynomial, level_polynomial, tutte_polynomial
 from chipfire.powers import PowerLaw, plot_sizes, power_law
-from chipfire.process import (
-    Fault, ProgramNotFound, TraceCut, find_program as find_program, start_program as start_program, version,
-)
+from chipfire.process import Fault, TraceCut
 from chipfire.program import (
     Check, Program, check, drops, explain, identity, plain, read_chips, replay, resume, run, simulate, verify,
     write_chips,

@@ -26,13 +26,13 @@ from typing import Any, NoReturn
 from chipfire.choosing import choice_page_text
 from chipfire.detectors import DETECTORS, known_detector
 from chipfire.explorer import explore
+from chipfire.finding import environment, find_program
 from chipfire.judging import judge
 from chipfire.layout import Point
 from chipfire.ledger import Disagreement
 from chipfire.machine import SCHEDULE_HEADER, TRACE_HEADER, Setting
 from chipfire.model import Core
 from chipfire.pages import page_text, recorded, refuse_more
-from chipfire.process import find_program
 from chipfire.program import known_chips, known_graph, simulate
 from chipfire.schedules import Detector
 from chipfire.values import MAX_LIMIT, begins, read_rows, rows_text
@@ -107,7 +107,8 @@ def _judge(asked: argparse.Namespace) -> tuple[str, int]:
     """The verdict on a log, and the status."""
     *game, log = asked.files
     if not game:
-        ran = subprocess.run([asked.program or find_program(), "judge", log], stdout=subprocess.PIPE, encoding="utf-8")
+        words = [asked.program or find_program(), "judge", log]
+        ran = subprocess.run(words, stdout=subprocess.PIPE, encoding="utf-8", env=environment())
         return ran.stdout, ran.returncode
     judged = judge(_setting(game, asked, fed=asked.fed), log, also=asked.also)
     if not judged.fits and judged.is_true is None:

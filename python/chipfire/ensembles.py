@@ -15,8 +15,8 @@ from typing import Any, NamedTuple
 from chipfire import library
 from chipfire.chips import Chips, Configuration
 from chipfire.dropped import in_calls
+from chipfire.finding import ProgramNotFound
 from chipfire.graphs import Graph
-from chipfire.process import ProgramNotFound
 from chipfire.program import AnyGraph, known_graph, read_chips
 from chipfire.values import (
     FILE, generator, imported, known_seed, processors, require_memory, side_by_side, whole,

@@ -15,54 +15,104 @@ from __future__ import annotations
 
 import ctypes
 import functools
+import hashlib
 import os
 import warnings
 from array import array
 from collections.abc import Sequence
 from typing import TYPE_CHECKING, Any
 
-from chipfire.process import ProgramNotFound, find_program, refused, version
-from chipfire.values import MAX_LIMIT, FileName, whole
+from chipfire.finding import CARRIED, ProgramNotFound, find_program, source_of_version, version, version_of
+from chipfire.process import refused
+from chipfire.trust import doubt
+from chipfire.values import MAX_LIMIT, FileName, own_text, whole
 
 if TYPE_CHECKING:
     from chipfire.graphs import Graph
 
 #: The most that a play in this process may take: vertices and edges, times chips, and times firings of each vertex.
 MOST_WORK = 2**28
+_NAME = "libchipfire.so"
 _NUMBER, _SLICE = ctypes.c_uint64, (ctypes.c_void_p, ctypes.c_size_t)
 #: No numbers, one number, and a slice of length 0, which points to something.
 _NONE, _ZERO = array("Q"), array("Q", [0])
 _NOTHING = _ZERO.buffer_info()[0], 0
 
 
+def _places(folder: str) -> list[str]:
+    """Where the library may lie that goes with the program in a folder: beside it, or where both are installed."""
+    around = os.path.dirname(folder)
+    installed = [os.path.join(around, *it, _NAME) for it in (("lib",), ("lib", "x86_64-linux-gnu"))]
+    return [os.path.join(folder, _NAME), *installed * (os.path.basename(folder) == "bin")]
+
+
+def _stated(file: str, folder: str) -> str:
+    """The version that is stated of a library that goes with the program in a folder, without loading it; "" if none is.
+
+    A wheel, an archive and a Debian package have PROVED, which states the version and the library's checksum. In a
+    clone the sources state it, and `./chipfire` keeps a stamp beside what it took or built of them: that is of these
+    sources if the stamp is not older."""
+    around = os.path.dirname(folder)
+    for proved in (os.path.join(folder, "PROVED"), os.path.join(around, "share", "doc", "chipfire", "PROVED")):
+        if os.path.isfile(proved):
+            lines = own_text(proved).splitlines()
+            with open(file, "rb") as library:
+                is_meant = f"{_NAME} sha256:{hashlib.sha256(library.read()).hexdigest()}" in lines
+            return lines[0].partition(" ")[2] if is_meant else ""
+    stamp, source = os.path.join(folder, "chipfire.stamp"), source_of_version(around)
+    if not os.path.isfile(stamp) or not os.path.isfile(source):
+        return ""
+    changed = os.stat(source)
+    is_older = os.stat(stamp).st_mtime_ns < max(changed.st_mtime_ns, changed.st_ctime_ns)
+    return "" if is_older else version_of(around)
+
+
+def _why_not(file: str, folder: str) -> str | None:
+    """Why a library that is there is not loaded, which would run code of it; None if it may be."""
+    # (what the package carries is trusted as the package is)
+    why = None if folder == os.path.dirname(CARRIED) else doubt(file)
+    if why:
+        return f"{file} is not loaded, since {why}"
+    stated = _stated(file, folder)
+    if not stated:
+        return f"{file} is not loaded, since nothing states its version: ./chipfire states that in a clone"
+    return None if stated == version() else f"{file} has version {stated}, and the package {version()}"
+
+
+def _load(file: str) -> ctypes.CDLL:
+    """Loads the library, and says what its calls take."""
+    found = ctypes.CDLL(file)
+    found.chipfire_version.restype = _NUMBER
+    number = found.chipfire_version()
+    own = f"{number // 10**6}.{number // 1000 % 1000}.{number % 1000}"
+    if own != version():
+        raise OSError(f"it has version {own}, and the package {version()}")
+    calls = (found.chipfire_stabilize_all, 4), (found.chipfire_avalanches, 6), (found.chipfire_verify, 3)
+    for call, slices in calls:
+        call.restype = _NUMBER
+        call.argtypes = [_NUMBER, _NUMBER, *3 * _SLICE, _NUMBER, *slices * _SLICE, ctypes.POINTER(_NUMBER)]
+    return found
+
+
 @functools.cache
-def _beside() -> ctypes.CDLL | None:
-    """The library of the program that is found, if it has the package's version."""
+def _beside() -> tuple[ctypes.CDLL | None, str]:
+    """The library of the program that is found, if it may be loaded and has the package's version; and why not."""
     folder = os.path.dirname(os.path.realpath(find_program()))
-    installed = [os.path.join(os.path.dirname(folder), "lib", "libchipfire.so"), "libchipfire.so.0"]
-    for file in [os.path.join(folder, "libchipfire.so"), *installed * (os.path.basename(folder) == "bin")]:
+    for file in filter(os.path.isfile, _places(folder)):
         try:
-            found = ctypes.CDLL(file)
-        except OSError:
-            continue
-        found.chipfire_version.restype = _NUMBER
-        number = found.chipfire_version()
-        own = f"{number // 10**6}.{number // 1000 % 1000}.{number % 1000}"
-        if own != version():
-            told = f"{file} has version {own}, and the package {version()}: each call starts the program, slower"
-            warnings.warn(told, stacklevel=2)
-            return None
-        calls = (found.chipfire_stabilize_all, 4), (found.chipfire_avalanches, 6), (found.chipfire_verify, 3)
-        for call, slices in calls:
-            call.restype = _NUMBER
-            call.argtypes = [_NUMBER, _NUMBER, *3 * _SLICE, _NUMBER, *slices * _SLICE, ctypes.POINTER(_NUMBER)]
-        return found
-    return None
+            why = _why_not(file, folder)
+            if why is None:
+                return _load(file), ""
+        except (OSError, AttributeError) as error:
+            why = f"{file} cannot be loaded: {error}"
+        warnings.warn(f"{why}: each call starts the program, slower", stacklevel=2)
+        return None, why
+    return None, f"there is none beside {folder}"
 
 
 def _loaded() -> ctypes.CDLL | None:
     """The library, if CHIPFIRE does not name a program."""
-    return None if os.environ.get("CHIPFIRE") else _beside()
+    return None if os.environ.get("CHIPFIRE") else _beside()[0]
 
 
 def find_library() -> str | None:
@@ -112,7 +162,8 @@ def _call_on(call: str, graph: Graph, limit: int, **arrays: Any) -> None:
     """Makes a call on arrays of others, which must not overlap."""
     found = _loaded()
     if found is None:
-        raise ProgramNotFound(2, "there is no library of this version beside the program", "libchipfire.so")
+        why = "CHIPFIRE names a program" if os.environ.get("CHIPFIRE") else _beside()[1]
+        raise ProgramNotFound(2, f"there is no library to call: {why}", _NAME)
     edges = [("edges", column) for column in graph.long_columns]
     ends = sorted(_slice(name, numbers) for name, numbers in [*edges, *arrays.items()])
     if any(start + 8 * length > other for (start, length), (other, _) in zip(ends, ends[1:])):

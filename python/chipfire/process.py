@@ -1,4 +1,4 @@
-"""The program chipfire as a process: where it is, how it is asked, and what it refuses."""
+"""The program chipfire as a process: how it is asked, and what it refuses."""
 
 from __future__ import annotations
 
@@ -6,7 +6,6 @@ import ctypes
 import functools
 import os
 import re
-import shutil
 import signal
 import subprocess
 import sys
@@ -16,24 +15,18 @@ import weakref
 from collections.abc import Iterable, Mapping, Sequence
 from typing import TYPE_CHECKING, Any, Union
 
-from chipfire.values import HERE, MAX_LARGE_EDGES, MAX_LARGE_VERTICES, FileName, own_text
+from chipfire.finding import ProgramNotFound, environment, find_program, on_path
+from chipfire.values import MAX_LARGE_EDGES, MAX_LARGE_VERTICES, FileName
 
 if TYPE_CHECKING:
     from chipfire.graphs import Graph
 
-#: The program that the package may carry, and the repository that it may lie in.
-_CARRIED = os.path.join(HERE, "program", "chipfire")
-_REPOSITORY = os.path.dirname(os.path.dirname(HERE))
 #: The faults of a graph file, and of a file of rows.
 _OF_GRAPH, _OF_ROWS = (*range(1, 9), 20, 21, 22), (*range(23, 29), 10)
 #: What makes a process end with the thread that started it (PR_SET_PDEATHSIG), if the system has that; and the words
 #: that have setpriv do the same, sooner than Python makes a copy of itself to do it.
 _PRCTL = ctypes.CDLL(None).prctl if sys.platform == "linux" else None
 _SETPRIV = "setpriv", "--pdeathsig", "KILL", "--"
-
-
-class ProgramNotFound(FileNotFoundError):
-    """There is no program chipfire in any place that was looked at, or it cannot be started."""
 
 
 class TraceCut(UserWarning):
@@ -85,47 +78,6 @@ class Kept:
 
 #: What a file is called in faults, or the option that names it; and its name, or the file as it is kept here.
 Input = tuple[str, Union[FileName, Kept]]
-
-
-def _noted(name: str) -> str | None:
-    """What `build_wheel.py` noted in the package, if it did."""
-    return own_text(name) if os.path.isfile(os.path.join(HERE, name)) else None
-
-
-def version() -> str:
-    """The version: the program's source has it, or it was noted when the package was installed."""
-    source = os.path.join(_REPOSITORY, "crates", "chip_arguments", "src", "help_texts.rt")
-    if os.path.isfile(source):
-        with open(source, encoding="utf-8") as file:
-            return str(re.findall('VERSION: &str = "(.*)"', file.read())[0])
-    return _noted("version") or "unknown"
-
-
-@functools.cache
-def _released(repository: str) -> str | None:
-    """What starts the program in the release of a repository, if `./chipfire` takes it: target/chipfire, or itself."""
-    starter, taken = (os.path.join(repository, name) for name in ("chipfire", os.path.join("target", "chipfire")))
-    if not os.path.isfile(os.path.join(repository, "release", "PROVED")) or not os.access(starter, os.X_OK):
-        return None
-    if subprocess.run([starter, "--take"], stdin=subprocess.DEVNULL, stdout=subprocess.DEVNULL).returncode != 0:
-        return None
-    return taken if os.access(taken, os.X_OK) else starter
-
-
-def find_program() -> str:
-    """The program's file; the head of the package says in which order it is looked for."""
-    repository = _noted("repository") or _REPOSITORY
-    built = (it for it in (_CARRIED, os.path.join(repository, "target", "chipfire")) if os.access(it, os.X_OK))
-    found = os.environ.get("CHIPFIRE") or next(built, None) or _released(repository) or shutil.which("chipfire")
-    if found:
-        return found
-    hint = "./chipfire in the repository builds target/chipfire; name it by the environment variable CHIPFIRE"
-    raise ProgramNotFound(2, f"the program is not found ({hint})", "chipfire")
-
-
-def start_program() -> None:
-    """Becomes the program that the package carries, with the words of this process: the command `chipfire` of pip."""
-    os.execv(_CARRIED, [_CARRIED, *sys.argv[1:]])
 
 
 def ask(
@@ -212,10 +164,11 @@ def _is_untaken(program: str, words: Sequence[str]) -> bool:
 @functools.cache
 def _has_setpriv() -> bool:
     """Whether setpriv is there, and can do what `_started` has it do."""
-    setpriv = shutil.which(_SETPRIV[0])
-    words = [*_SETPRIV, _while_alive(setpriv or ""), "--version"]
-    quiet = subprocess.DEVNULL
-    return setpriv is not None and subprocess.run(words, stdin=quiet, stdout=quiet, stderr=quiet).returncode == 0
+    setpriv = on_path(_SETPRIV[0])
+    if setpriv is None:
+        return False
+    words, quiet = [*_SETPRIV, _while_alive(setpriv), "--version"], subprocess.DEVNULL
+    return subprocess.run(words, stdin=quiet, stdout=quiet, stderr=quiet, env=environment()).returncode == 0
 
 
 def _while_alive(file: str) -> str:
@@ -235,7 +188,7 @@ def _started(words: Sequence[str], kept: Sequence[int] = ()) -> tuple[int, str, 
     """Runs the program to its end, or to that of this Python: its status, its output, and the lines of its errors."""
     # (a signal of this Python's end comes to who has asked for it; if it ended sooner, setpriv finds no program)
     errors: list[str] = []
-    program = shutil.which(words[0])
+    program = on_path(words[0])
     if program is None:
         raise ProgramNotFound(2, "no program that can be started", words[0])
     by_setpriv = _has_setpriv()
@@ -244,6 +197,7 @@ def _started(words: Sequence[str], kept: Sequence[int] = ()) -> tuple[int, str, 
         running = subprocess.Popen(
             [*command, *words[1:]], stdin=subprocess.DEVNULL, stdout=output, stderr=subprocess.PIPE, encoding="utf-8",
             errors="replace", pass_fds=kept, preexec_fn=None if by_setpriv else functools.partial(_bind, os.getpid()),
+            env=environment(),
         )
         with running:
             try:

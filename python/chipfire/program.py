@@ -13,12 +13,13 @@ from chipfire import library
 from chipfire.chips import CHIPS_HEADER, GUESS_HEADER, Chips, Configuration, capped, chips_text
 from chipfire.chips import identity as identity_numbers
 from chipfire.dropped import ROWS_HEADER, Drops, columns_of, dropped_on, parts_of, played_drops
+from chipfire.finding import find_program
 from chipfire.graphs import Graph
 from chipfire.logs import judge_log
 from chipfire.machine import (
     SCHEDULE_HEADER, Firing, Schedule, Setting, Simulation, has_notes, read_schedule, trace_text,
 )
-from chipfire.process import Fault, Input, Kept, ask, find_program
+from chipfire.process import Fault, Input, Kept, ask
 from chipfire.reports import Report
 from chipfire.values import FILE, MAX_LIMIT, FileName, rows_text, whole, write
 

@@ -267,21 +267,24 @@ class Ways(WithFolder):
     @unittest.skipUnless(IS_HERE, "the library is not called")
     def test_it_lies_beside_the_program_or_where_one_installs_it(self):
         file, program = os.path.realpath(chipfire.find_library()), os.path.realpath(chipfire.find_program())
+        proved = os.path.join(os.path.dirname(program), "PROVED")
         ask = "import chipfire; print(chipfire.find_library())"
         environment = {"PYTHONPATH": os.environ["PYTHONPATH"], "PYTHONDONTWRITEBYTECODE": "1"}
-        for place, beside, found in [
-            ("apart", "apart/libchipfire.so", True), ("apart", "lib/libchipfire.so", False),
-            ("bin", "lib/libchipfire.so", True), ("bin", "loaded/libchipfire.so.0", True),
-            ("apart", "loaded/libchipfire.so.0", False),
+        beside, installed = "apart/PROVED", "share/doc/chipfire/PROVED"
+        for place, library_at, stated_at, found in [
+            ("apart", "apart/libchipfire.so", beside, True), ("apart", "lib/libchipfire.so", beside, False),
+            ("bin", "lib/libchipfire.so", installed, True),
+            ("bin", "lib/x86_64-linux-gnu/libchipfire.so", installed, True),
+            ("bin", "loaded/libchipfire.so.0", installed, False),
         ]:
-            with self.subTest(place=place, beside=beside), tempfile.TemporaryDirectory() as folder:
-                for name, source in ((f"{place}/chipfire", program), (beside, file)):
+            with self.subTest(place=place, at=library_at), tempfile.TemporaryDirectory() as folder:
+                for name, source in ((f"{place}/chipfire", program), (library_at, file), (stated_at, proved)):
                     os.makedirs(f"{folder}/{os.path.dirname(name)}", exist_ok=True)
                     shutil.copy(source, f"{folder}/{name}")
                 named = f"from chipfire import library; library.find_program = lambda: '{folder}/{place}/chipfire'"
                 words, loads = [sys.executable, "-c", f"{named}; {ask}"], {"LD_LIBRARY_PATH": f"{folder}/loaded"}
                 ran = subprocess.run(words, env={**environment, **loads}, capture_output=True, encoding="utf-8")
-                self.assertEqual((ran.stdout.strip() != "None", ran.stderr), (found, ""))
+                self.assertEqual((ran.stdout, ran.stderr), (f"{folder}/{library_at}\n" if found else "None\n", ""))
 
     def test_the_environment_names_the_program_alone(self):
         with mock.patch.dict(os.environ, {"CHIPFIRE": chipfire.find_program()}):

@@ -11,7 +11,8 @@ alone: `pip install ./python` installs it, and a copy of its folder works too. T
 `program` that a call or a `Program` names, the environment variable CHIPFIRE, the program that an installed package
 carries, `target/chipfire` of the clone of the repository that the package lies in or that pip was named the folder of,
 the program in the `release` there, if `./chipfire` would take it, and `chipfire` in a folder of the PATH with a whole
-path. A clone that somebody but this user and root can change is passed over. Where its library lies too, which has the same bodies and proofs, short plays start no program:
+path. A clone that somebody but this user and root can change is passed over. Who imports a package that finds none is
+warned. Where its library lies too, which has the same bodies and proofs, short plays start no program:
 `chipfire.library` has the calls, and `find_library()` its file. A copy of the folder has no version to compare with the
 library's, and does not call it.
 
@@ -67,7 +68,7 @@ from chipfire.dropped import Drops
 from chipfire.ensembles import Chains, Firings, chains, random_recurrent
 from chipfire.explorer import explore
 from chipfire.finding import (
-    ProgramNotFound, find_program as find_program, start_program as start_program, version,
+    ProgramNotFound, find_program as find_program, start_program as start_program, version, warn_without_program,
 )
 from chipfire.graphs import (
     Graph, aztec, complete, cycle, from_edges, from_networkx, from_sage, grid, grid_for, path, region, torus, wheel,
@@ -106,6 +107,7 @@ from chipfire.values import (
 from chipfire.wrong import wrong_page
 
 __version__ = version()
+warn_without_program()
 
 #: What is imported besides is reachable too; `chipfire.machine` describes it.
 __all__ = [

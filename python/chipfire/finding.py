@@ -15,6 +15,7 @@ import re
 import shutil
 import subprocess
 import sys
+import warnings
 from collections.abc import Iterator
 from urllib.parse import unquote_to_bytes, urlsplit
 
@@ -28,7 +29,11 @@ _AROUND = os.path.join(_PACKAGE, os.pardir, os.pardir)
 CARRIED = os.path.join(HERE, "program", "chipfire")
 #: The folders of a clone that `./chipfire` reads and runs.
 _READ = "crates", "packing", "python", "release", "target", "tools"
-#: What helps a package without a program.
+#: What a package without a program can do, and what helps.
+_WITHOUT = (
+    "Graphs, their matrices and sandpile groups, pictures, and explore, play, judge, page and choice_page for schedules "
+    "work without it; what plays a game raises ProgramNotFound."
+)
 _REMEDY = (
     "Name a program by the environment variable CHIPFIRE, or put one on the PATH: ./chipfire in a clone of the "
     "repository takes or builds target/chipfire, and docs/PACKAGES.md there names packages that have one"
@@ -168,6 +173,14 @@ def find_program() -> str:
         return _found(is_asked=True)
     except ProgramNotFound as why:
         raise ProgramNotFound(2, f"the program is not found: {why.strerror}. {_REMEDY}", "chipfire") from None
+
+
+def warn_without_program() -> None:
+    """Warns who imports the package if it has no program, and says why. This starts no process."""
+    try:
+        _found(is_asked=False)
+    except ProgramNotFound as why:
+        warnings.warn(f"chipfire has no program: {why.strerror}. {_WITHOUT} {_REMEDY}.", RuntimeWarning, stacklevel=3)
 
 
 def start_program() -> None:

@@ -133,6 +133,8 @@ class Places(WithFolder):
             found = self.asked(package, **how)
             self.assertEqual((found["program"], found["started"], found["loaded"]), (None, False, False), found)
             self.assertIn(why, found["why"])
+            self.assertEqual(len(found["imported"]), 1)
+            self.assertIn(why, found["imported"][0])
 
 
 def everybody_s(path, sticky=False):
@@ -345,6 +347,51 @@ class OnThePath(Places):
                 found = self.asked(self.file("copy"), path=path)
                 self.assertEqual((found["program"], found["explained"]), (f"{there}/chipfire", "fault 12"))
                 self.assertFalse(found["started"])
+
+
+class Without(Places):
+    """A package without a program."""
+
+    def setUp(self):
+        super().setUp()
+        shutil.copytree(f"{ROOT}/python/chipfire", self.file("copy/chipfire"))
+
+    def runs(self, code, *words, **environment):
+        """What Python says that runs this code."""
+        given = {"PYTHONPATH": self.file("copy"), "PATH": "/nowhere", "PYTHONDONTWRITEBYTECODE": "1", **environment}
+        return subprocess.run([sys.executable, *words, "-c", code], env=given, capture_output=True, encoding="utf-8")
+
+    def test_the_first_import_says_so_once(self):
+        told = self.runs("import chipfire\nimport chipfire, chipfire.library\nfrom chipfire import grid").stderr
+        self.assertTrue(told.startswith("<string>:1: RuntimeWarning: chipfire has no program: "), told)
+        self.assertEqual(told.count("Warning"), 1)
+        for said in ("the package carries none", "none is on the PATH", "work without it", "CHIPFIRE", "./chipfire"):
+            self.assertIn(said, told)
+
+    def test_it_can_be_told_not_to(self):
+        ran = self.runs("import chipfire", "-W", "ignore:chipfire has no program:RuntimeWarning")
+        self.assertEqual((ran.returncode, ran.stderr), (0, ""))
+
+    def test_nothing_is_said_if_there_is_one(self):
+        os.mkdir(self.file("bin"))
+        os.symlink(PROGRAM, self.file("bin/chipfire"))
+        for environment in ({"PATH": self.file("bin")}, {"CHIPFIRE": "/elsewhere"}):
+            self.assertEqual(self.runs("import chipfire", **environment).stderr, "")
+
+    def test_what_it_names_works(self):
+        works = (
+            "import chipfire as it, sys; from chipfire.model import Core\n"
+            "grid = it.grid(2, 2); small = it.Setting(it.path(1), (1, 0)); events = it.Schedule().take(1)\n"
+            "it.laplacian(grid), it.order(grid), it.Group(grid), it.Configuration(grid, 3).image(sys.argv[1] + '/a.png')\n"
+            "it.explore(small, 'right'), it.judge(small, []), it.page(it.play(small, events), sys.argv[1] + '/b.html')\n"
+            "it.choice_page('right', sys.argv[1] + '/c.html')\n"
+            "try: it.plain(grid, 3)\n"
+            "except it.ProgramNotFound: print(it.order(grid))\n")
+        words = [sys.executable, "-c", works, self.folder]
+        given = {"PYTHONPATH": self.file("copy"), "PATH": "/nowhere", "PYTHONDONTWRITEBYTECODE": "1"}
+        ran = subprocess.run(words, env=given, capture_output=True, encoding="utf-8")
+        # (the spanning trees of a cycle of 4 whose vertices have 2 edges each to a fifth)
+        self.assertEqual(ran.stdout, "192\n", ran.stderr)
 
 
 class Trust(WithFolder):

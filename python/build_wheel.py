@@ -107,29 +107,32 @@ def write_wheel(path, files, programs=()):
 
 
 def _carry_release(folder):
-    """Writes the wheel with the program in release/ of the repository and returns its name, or None and says why not."""
+    """Writes the wheel with the program in release/ of the repository, and returns its name; or None, and why not."""
     if is_old():
-        return None  # (pip refuses the wheel, by what its metadata require)
+        return None, "this Python is too old"  # (pip refuses the wheel, by what its metadata require)
     sys.path[:0] = [REPOSITORY, f"{REPOSITORY}/tools"]
     import release
     from packing import contents, wheel
     try:
         with tempfile.TemporaryDirectory(prefix="chipfire-wheel-") as room:
             stated, built = release.fitting(room)
-    except (release.Refused, OSError) as why:
-        print(f"chipfire: the package has no program, since the one in release/ is not taken: {why}", file=sys.stderr)
-        return None
+    except (release.Refused, OSError) as error:
+        print(f"chipfire: the package has no program, since the one in release/ is not taken: {error}", file=sys.stderr)
+        # (what an OSError says else names the folder that this runs in)
+        return None, f"the one in release/ was not taken: {getattr(error, 'strerror', None) or error}"
     build = contents.Build(built, stated, {})
     wheel.write(os.path.join(folder, wheel.name(build)), build)
-    return wheel.name(build)
+    return wheel.name(build), ""
 
 
 def build_wheel(wheel_directory, config_settings=None, metadata_directory=None):
     """Writes the wheel and returns its name: with the program in release/ if that fits, and else without a program."""
-    name = _carry_release(wheel_directory) if os.path.isfile(SOURCE) else None
+    name, why_not = None, "it was made of an archive without a release"
+    if os.path.isfile(SOURCE):
+        name, why_not = _carry_release(wheel_directory)
     if name is None:
         name = wheel_name(PURE)
-        write_wheel(os.path.join(wheel_directory, name), wheel_files(PURE, {}))
+        write_wheel(os.path.join(wheel_directory, name), wheel_files(PURE, {"chipfire/without": why_not.encode()}))
     return name
 
 

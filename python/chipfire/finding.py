@@ -1,8 +1,8 @@
 """Where the program is, and which version the package and a clone of the repository have.
 
-The head of the package says in which order the program is looked for. What the user names, by CHIPFIRE or the PATH, and
-what the package carries is started as it is. A clone is found by other means, so its program is started, and `./chipfire`
-in it run, only if nobody but this user and root can change what lies there (`chipfire.trust`).
+The head of the package says in which order the program is looked for. What the user names, by CHIPFIRE or the PATH,
+and what the package carries is started as it is. A clone is found by other means, so its program is started, and
+`./chipfire` in it run, only if nobody but this user and root can change what lies there (`chipfire.trust`).
 """
 
 from __future__ import annotations
@@ -23,7 +23,7 @@ from chipfire.trust import doubt, doubt_below
 from chipfire.values import HERE, own_text
 
 #: The package's folder as Python came to it, perhaps by symbolic links, and the clone that it may lie in.
-_PACKAGE = os.path.dirname(os.path.abspath(__file__))
+_PACKAGE = os.path.dirname(__file__) if os.path.isabs(__file__) else HERE
 _AROUND = os.path.join(_PACKAGE, os.pardir, os.pardir)
 #: The program that the package may carry.
 CARRIED = os.path.join(HERE, "program", "chipfire")
@@ -31,8 +31,8 @@ CARRIED = os.path.join(HERE, "program", "chipfire")
 _READ = "crates", "packing", "python", "release", "target", "tools"
 #: What a package without a program can do, and what helps.
 _WITHOUT = (
-    "Graphs, their matrices and sandpile groups, pictures, and explore, play, judge, page and choice_page for schedules "
-    "work without it; what plays a game raises ProgramNotFound."
+    "Graphs, their matrices and sandpile groups, pictures, and explore, play, judge, page and choice_page for "
+    "schedules work without it; what plays a game raises ProgramNotFound."
 )
 _REMEDY = (
     "Name a program by the environment variable CHIPFIRE, or put one on the PATH: ./chipfire in a clone of the "
@@ -60,9 +60,10 @@ def source_of_version(clone: str) -> str:
 
 
 def version_of(clone: str) -> str:
-    """The version of a clone's sources."""
+    """The version that a clone's sources state, or ""."""
     with open(source_of_version(clone), encoding="utf-8") as file:
-        return str(re.findall('VERSION: &str = "(.*)"', file.read())[0])
+        stated = re.search('VERSION: &str = "(.*)"', file.read())
+    return stated[1] if stated else ""
 
 
 def version() -> str:
@@ -136,14 +137,14 @@ def _takes(top: str) -> bool:
 
 
 def _program_of(clone: str, is_asked: bool) -> str:
-    """What starts the program of a clone: target/chipfire, or `./chipfire` if that takes the program in the release.
-    Where it is not asked whether it does so it may."""
+    """What starts the program of a clone: target/chipfire, or `./chipfire` if that takes the program in the release. If
+    it is not asked it may do so where the package lies; where it was installed from, it did not."""
     top = os.path.realpath(clone)
     taken, starter = os.path.join(top, "target", "chipfire"), os.path.join(top, "chipfire")
     _believe(top, doubt(clone, top))
     if not os.access(taken, os.X_OK):
         is_released = os.path.isfile(os.path.join(top, "release", "PROVED")) and os.access(starter, os.X_OK)
-        if not is_released or is_asked and not _takes(top):
+        if not is_released or not (_takes(top) if is_asked else clone == _AROUND):
             raise ProgramNotFound(2, f"the clone {top} has none: ./chipfire there builds it", top)
     if not os.access(taken, os.X_OK):
         return starter
@@ -164,7 +165,9 @@ def _found(is_asked: bool) -> str:
     if there := on_path("chipfire"):
         return there
     clones = "; ".join(whys) or "it neither lies in a clone of the repository nor was installed from the folder of one"
-    raise ProgramNotFound(2, f"the package carries none; {clones}; none is on the PATH", "chipfire")
+    noted = _noted("without")
+    carried = "the package carries none" + (f", since {noted}" if noted else "")
+    raise ProgramNotFound(2, f"{carried}; {clones}; none is on the PATH", "chipfire")
 
 
 def find_program() -> str:

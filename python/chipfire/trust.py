@@ -34,7 +34,7 @@ def _group(number: int) -> str:
 
 
 def _is_private(number: int) -> bool:
-    """Whether a group is this user's own, or root's: it has his name, is his primary group, and nobody else is in it."""
+    """Whether a group is this user's own, or root's: it has his name and is his primary group, and nobody else's."""
     try:
         group = _GROUPS.getgrgid(number)
         user = _USERS.getpwnam(group.gr_name)
@@ -64,7 +64,7 @@ def _doubt_of(path: str, state: os.stat_result, top: str) -> str | None:
 
 
 def _way(path: str) -> Iterator[tuple[str, os.stat_result]]:
-    """Each folder and symbolic link on the way from the root directory to what lies at a path, and that, with its state."""
+    """Each folder and symbolic link on the way from the root directory to what lies at a path, and that; with states."""
     at, left, links = os.sep, path.split(os.sep)[::-1], 0
     yield at, os.lstat(at)
     while left:
@@ -112,18 +112,18 @@ def doubt(path: str, top: str | None = None) -> str | None:
 
     Nobody does if each folder from the root directory down, each symbolic link on the way, and what lies at the path
     belong to this user or root, and only these two can write to them. A group may write that is the user's own. A
-    folder that others can write to may lie around `top`, a real path, if it is sticky as /tmp is: nobody else can rename
-    or remove there what these two own. In `top` and below it others could add files, so none of its folders may be. If
-    `top` is not said, it is the folder that the file lies in.
+    folder that others can write to may lie around `top`, a real path, if it is sticky as /tmp is: nobody else can
+    rename or remove there what these two own. In `top` and below it others could add files, so none of its folders may
+    be. If `top` is not said, it is the folder that the file lies in.
 
     What is found so stays so: who can write to nothing on the way changes nothing between this look and its use.
 
-    Lists of access (POSIX ACLs) are not read. If one lets others write, the file's group is shown as one that may write,
-    which is in doubt if it is not the user's own."""
+    Lists of access (POSIX ACLs) are not read. If one lets others write, the file's group is shown as one that may
+    write, which is in doubt if it is not the user's own."""
     return _first(_way(path), os.path.dirname(os.path.realpath(path)) if top is None else top)
 
 
 def doubt_below(top: str, names: Collection[str]) -> str | None:
-    """As `doubt`, of all that lies in a folder, a real path, and below those of its folders that have these names, where
-    no symbolic link may lie."""
+    """As `doubt`, of all that lies in a folder, a real path, and below those of its folders that have these names,
+    where no symbolic link may lie."""
     return _first(_all(top, names), top)

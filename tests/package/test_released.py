@@ -185,11 +185,25 @@ class Installed(unittest.TestCase):
         self.assertEqual(os.listdir(room), [name])
         self.assertTrue(made.read(f"{room}/{name}") == made.read(made.path_of(name, top)))
 
+    def test_a_wheel_without_the_program_says_why_and_not_where_it_was_made(self):
+        for spoil, why in ((change_sources, "it was built from other sources than these"),
+                           (lambda top: os.remove(f"{top}/release/PROVED"), "No such file or directory")):
+            top, room = clone(), made.room()
+            spoil(top)
+            build = f"import sys; sys.path.insert(0, 'python'); import build_wheel; build_wheel.build_wheel({room!r})"
+            made.run(sys.executable, "-c", build, cwd=top, check=True)
+            self.assertEqual(os.listdir(room), [f"chipfire-{made.version()}-py3-none-any.whl"])
+            with zipfile.ZipFile(f"{room}/{os.listdir(room)[0]}") as wheel:
+                having = [it for it in wheel.namelist() if os.path.basename(top).encode() in wheel.read(it)]
+                noted = wheel.read("chipfire/without").decode()
+            self.assertEqual((noted, having), (f"the one in release/ was not taken: {why}", []))
+
     def test_where_the_sources_are_others_it_is_installed_without_and_says_so(self):
         top = clone()
         change_sources(top)
         said, asked, _ = self.installs(f"{top}/python")
         self.assertIn("chipfire: the package has no program, since the one in release/ is not taken: it was built from", said)
+        self.assertIn("RuntimeWarning: chipfire has no program: the package carries none, since the one in", asked.stderr)
         self.assertIn("ProgramNotFound", asked.stderr)
 
 

@@ -157,7 +157,8 @@ class Clones(Places):
             self.assertEqual(found["told"], [])
 
     def test_one_that_others_may_change_is_not_used_and_its_library_not_loaded(self):
-        for number, (place, sticky) in enumerate([("", False), ("", True), ("target", False), ("target/chipfire", False)]):
+        spoiled_ones = [("", False), ("", True), ("target", False), ("target/chipfire", False)]
+        for number, (place, sticky) in enumerate(spoiled_ones):
             with self.subTest(place, sticky=sticky):
                 top = self.clone(f"clone{number}")
                 if loading_library():
@@ -207,8 +208,10 @@ class Clones(Places):
             os.mkdir(self.file(name))
             os.symlink(top, self.file(f"{name}/link"))
             os.chmod(self.file(name), mode)
-        packages = {name: (f"{self.file(name)}/link/python", self.installed(f"{self.file(name)}/link/python", f"of {name}"))
-                    for name in ("own", "sticky", "open")}
+        packages = {}
+        for name in ("own", "sticky", "open"):
+            python = f"{self.file(name)}/link/python"
+            packages[name] = python, self.installed(python, f"of {name}")
         self.finds(top, *packages["own"], *packages["sticky"])
         self.finds_none(f"{self.file('open')} can be written by everybody", *packages["open"])
         if IS_ROOT:
@@ -265,7 +268,8 @@ class Clones(Places):
             ({"dir_info": {"editable": True}}, "/a b/é/python"), ({"url": "file:///%ff"}, os.fsdecode(b"/\xff")),
             ({"url": "file://elsewhere/a"}, None), ({"url": "https://localhost/a"}, None), ({"url": "file:a"}, None),
             ({"url": "/a"}, None), ({"url": "file:///a%00b"}, None), ({"url": "file:///a?b"}, None), ({"url": 3}, None),
-            ({"dir_info": None}, None), ({"dir_info": []}, None), ({"vcs_info": {}}, None), ({"archive_info": {}}, None),
+            ({"dir_info": None}, None), ({"dir_info": []}, None), ({"vcs_info": {}}, None),
+            ({"archive_info": {}}, None),
         ]:
             with self.subTest(changed):
                 self.assertEqual(finding._folder_of({**good, **changed}), folder)
@@ -320,7 +324,8 @@ class Released(Places):
                 everybody_s(f"{top}/{place}")
                 found = self.asked(f"{top}/python", path="/usr/bin:/bin")
                 self.assertEqual((found["program"], found["started"]), (None, False), found)
-                self.assertIn(f"the clone {top} is not used, since {top}/{place} can be written by everybody", found["why"])
+                why = f"the clone {top} is not used, since {top}/{place} can be written by everybody"
+                self.assertIn(why, found["why"])
                 self.assertEqual(os.listdir(f"{top}/target"), [])
 
     def test_nor_if_a_link_lies_among_it(self):
@@ -372,6 +377,19 @@ class Without(Places):
         ran = self.runs("import chipfire", "-W", "ignore:chipfire has no program:RuntimeWarning")
         self.assertEqual((ran.returncode, ran.stderr), (0, ""))
 
+    def test_it_says_why_none_was_installed(self):
+        os.rename(self.clone(program=False), self.file("release"))
+        site = self.installed(self.file("release/python"))
+        with open(f"{site}/chipfire/without", "w", encoding="ascii") as file:
+            file.write("the one in release/ was not taken: it is for another system")
+        script(self.file("release/chipfire"), f": >{self.file('here')}/started", "exit 1")
+        os.mkdir(self.file("release/release"))
+        with open(self.file("release/release/PROVED"), "w", encoding="ascii"):
+            pass
+        told = self.runs("import chipfire", PYTHONPATH=site).stderr
+        self.assertIn("carries none, since the one in release/ was not taken: it is for another system; the clone", told)
+        self.assertFalse(os.path.exists(f"{self.file('here')}/started"))
+
     def test_nothing_is_said_if_there_is_one(self):
         os.mkdir(self.file("bin"))
         os.symlink(PROGRAM, self.file("bin/chipfire"))
@@ -382,8 +400,10 @@ class Without(Places):
         works = (
             "import chipfire as it, sys; from chipfire.model import Core\n"
             "grid = it.grid(2, 2); small = it.Setting(it.path(1), (1, 0)); events = it.Schedule().take(1)\n"
-            "it.laplacian(grid), it.order(grid), it.Group(grid), it.Configuration(grid, 3).image(sys.argv[1] + '/a.png')\n"
-            "it.explore(small, 'right'), it.judge(small, []), it.page(it.play(small, events), sys.argv[1] + '/b.html')\n"
+            "it.laplacian(grid), it.order(grid), it.Group(grid)\n"
+            "it.Configuration(grid, 3).image(sys.argv[1] + '/a.png')\n"
+            "it.explore(small, 'right'), it.judge(small, [])\n"
+            "it.page(it.play(small, events), sys.argv[1] + '/b.html')\n"
             "it.choice_page('right', sys.argv[1] + '/c.html')\n"
             "try: it.plain(grid, 3)\n"
             "except it.ProgramNotFound: print(it.order(grid))\n")
@@ -460,7 +480,8 @@ class Trust(WithFolder):
         root = SimpleNamespace(pw_name="root", pw_uid=0, pw_gid=gid)
         other = SimpleNamespace(pw_name="other", pw_uid=OTHER, pw_gid=gid)
         for group, users, said in [
-            (alone, [user], "none"), (SimpleNamespace(gr_name="me", gr_mem=["me"]), [user], "none"), (of_root, [root], "none"),
+            (alone, [user], "none"), (of_root, [root], "none"),
+            (SimpleNamespace(gr_name="me", gr_mem=["me"]), [user], "none"),
             (SimpleNamespace(gr_name="me", gr_mem=["other"]), [user], "can be written by the group me"),
             (SimpleNamespace(gr_name="all", gr_mem=[]), [user], "can be written by the group all"),
             (SimpleNamespace(gr_name="other", gr_mem=[]), [user, other], "can be written by the group other"),

@@ -628,7 +628,98 @@ class Judge(unittest.TestCase):
         self.assertEqual((judged.row, judged.fits, judged.claims, judged.is_true), (3, False, (), None))
         self.assertEqual(str(judged), "the log does not fit the game: row 3 says 'done 3', and the game 'not-now 7'; "
                                       "what follows is not judged")
-        self.assertFalse(chipfire.judge(FOUR, [*self.HASTY, ("take", 0, 0, "got 0 1")]).is_true)
+        judged = chipfire.judge(FOUR, [*self.HASTY, ("take", 0, 0, "got 0 1")])
+        self.assertEqual([(claim.row, claim.is_true) for claim in judged.claims], [(3, False)])
+        self.assertIs(judged.is_true, False)
+
+    #: Two vertices in a row, of which the second is the sink; the root's edges are 1 and 2.
+    ROW = chipfire.Graph(2, 1, ((0, 1),))
+
+    @staticmethod
+    def sent(edge, number, chips=1):
+        """The rows of a message: the one with this number on an edge."""
+        replies = {"clear": f"done {number}", "claim": f"sent {number} {chips}", "put": f"done {chips}"}
+        return [(kind, edge, 0, reply) for kind, reply in replies.items()]
+
+    def row_of(self, setting, log):
+        """The first row that differs, what the right detector replies there, and whether the log fits the game."""
+        judged = chipfire.judge(setting, log)
+        return judged.row, judged.right, judged.fits
+
+    def test_what_may_be_less_than_it_could_and_never_more(self):
+        # By hand: vertex 0 has three chips, fires each alone and sends all three, which no ring holds. The sink takes
+        # them. It may acknowledge two, and the last one too, since it waits for nothing: any number up to three.
+        game, log = chipfire.Setting(self.ROW, (3, 0)), [("take", 1, 0, "got 0 3")]
+        for number in range(3):
+            log += [("fire", 0, 1, f"done {number + 1}"), *self.sent(0, number)]
+        log += [("take", 0, 0, f"got {number} 1") for number in range(3)]
+        more = len(log)
+        for rows, differs in [
+            ([("ack", 0, 0, "done 3"), ("settle", 0, 0, "done 3"), ("ack", 1, 0, "done 1")], None),
+            ([("ack", 0, 0, "done 4")], (0, "done 3")), ([("ack", 0, 0, "done 0")], (0, "done 3")),
+            ([("ack", 0, 0, "done 1 2")], (0, "done 3")), ([("ack", 1, 0, "done 0")], (0, "not-now 15")),
+            ([("settle", 0, 0, "done 1")], (0, "done 0")),
+            ([("ack", 0, 0, "done 2"), ("settle", 0, 0, "done 3")], (1, "done 2")),
+            ([("ack", 0, 0, "done 2"), ("settle", 0, 0, "done 0"), ("settle", 0, 0, "done 2")], None),
+            # (as long as one is not seen, vertex 0 waits)
+            ([("ack", 0, 0, "done 3"), ("settle", 0, 0, "done 2"), ("ack", 1, 0, "done 1")], (2, "not-now 15")),
+            ([("ack", 0, 0, "done 3"), *[("settle", 0, 0, "done 1")] * 3, ("ack", 1, 0, "done 1")], None),
+        ]:
+            wanted = (None, "", True) if differs is None else (more + differs[0], differs[1], True)
+            self.assertEqual(self.row_of(game, [*log, *rows]), wanted, rows)
+
+    def test_a_cell_that_is_said_to_be_full_is_not_seen_empty(self):
+        game = chipfire.Setting(self.ROW, (2, 0))
+        log = [("take", 1, 0, "got 0 2"), ("fire", 0, 1, "done 1"), *self.sent(0, 0), ("fire", 0, 1, "done 2")]
+        clear, claim, _ = self.sent(0, 1)
+        self.assertEqual(self.row_of(game, [*log, clear, claim]), (None, "", True))
+        self.assertEqual(self.row_of(game, [*log, clear, ("clear", 0, 0, "full"), claim]), (8, "not-now 11", False))
+
+    def test_a_vertex_that_owes_nothing_is_engaged_anew(self):
+        # By hand: vertex 1 fires two chips. It gets one from vertex 0, acknowledges it, and owes nothing. One of the
+        # root engages it again, and with two chips it may not acknowledge that.
+        game = chipfire.Setting(chipfire.Graph(3, 2, ((0, 1), (1, 2, 2))), (1, 1, 0))
+        log = [("take", 2, 0, "got 0 1"), ("fire", 0, 1, "done 1"), *self.sent(0, 0), ("take", 0, 0, "got 0 1")]
+        log += [("ack", 0, 0, "done 1"), ("take", 3, 0, "got 0 1"), ("ack", 3, 0, "done 1")]
+        self.assertEqual(self.row_of(game, log), (8, "not-now 15", True))
+
+    def test_the_end_of_feeding(self):
+        # (the first edge of the root is 1; what was acknowledged on edge 0 is not the root's to see)
+        game, closed = chipfire.Setting(self.ROW, (0, 0), fed=True), ("root", 0, 0, "closed")
+        said = "the end of feeding is not noted"
+        for log, left in [([closed], (said,)), ([("settle", 1, 0, "done 0"), closed], (said,)),
+                          ([("end", 0, 0, "done 0"), closed], ())]:
+            judged = chipfire.judge(game, log)
+            self.assertEqual((judged.row, judged.left, judged.is_true), (None, left, not left))
+        (clear, *_), (*_, put) = self.sent(1, 0), self.sent(1, 0)
+        log = [clear, ("feed", 1, 1, "sent 0 1"), put, ("take", 1, 0, "got 0 1"), ("fire", 0, 1, "done 1")]
+        log += [*self.sent(0, 0), ("take", 0, 0, "got 0 1"), ("ack", 0, 0, "done 1")]
+        self.assertEqual(self.row_of(game, [*log, ("end", 0, 0, "done 1")]), (len(log), "done 0", True))
+        log += [("settle", 0, 0, "done 1"), ("ack", 1, 0, "done 1")]
+        for replies in (["done 1"], ["done 0", "done 1"]):
+            kinds = zip(("end", "settle"), replies)
+            rows = [*log, *((kind, int(kind == "settle"), 0, reply) for kind, reply in kinds), closed]
+            self.assertEqual((self.row_of(game, rows), chipfire.judge(game, rows).is_true), ((None, "", True), True))
+
+    def test_counts_are_read_once_nothing_is_left(self):
+        # (a detector that acknowledges nothing may read them too; how often a vertex fired is the game's to say)
+        game, log = chipfire.Setting(self.ROW, (1, 0)), [("take", 1, 0, "got 0 1"), ("fire", 0, 1, "done 1")]
+        log += self.sent(0, 0)
+        whole = [*log, ("take", 0, 0, "got 0 1")]
+        acks = [(kind, edge, 0, "done 1") for edge in (0, 1) for kind in ("ack", "settle")]
+        for rows, reply, differs in [(log, "done 1", "not-now 16"), (whole, "done 1", None),
+                                     (whole, "done 2", "not-now 16"), ([*whole, *acks], "done 2", "done 1")]:
+            wanted = (None, "", True) if differs is None else (len(rows), differs, True)
+            self.assertEqual(self.row_of(game, [*rows, ("read", 0, 0, reply)]), wanted)
+
+    def test_of_several_claims_the_first_false_or_the_last(self):
+        whole = self.logged("right", 3)
+        opened, closed = ("root", 0, 0, "open"), ("root", 0, 0, "closed")
+        for first, last, said in [(opened, closed, ("closed", True, False)), (closed, opened, ("closed", False, True)),
+                                  (opened, opened, ("open", True, True)), (closed, closed, ("closed", False, False))]:
+            judged = chipfire.judge(FOUR, [first, *whole, last])
+            self.assertEqual((judged.claim, judged.is_true, judged.is_missed), said)
+            self.assertIn(f"the claim in row {0 if first == closed else len(whole) + 1} that the root", str(judged))
 
     def test_a_log_from_a_file(self):
         with tempfile.TemporaryDirectory(prefix="chipfire-python-") as folder:

@@ -8,10 +8,9 @@ from typing import Any
 
 from chipfire.detectors import DETECTORS, known_detector
 from chipfire.layout import Point
-from chipfire.ledger import Ledger
+from chipfire.ledger import Ledger, ModelLedger
 from chipfire.machine import WORDS, Event, Setting, Simulation
-from chipfire.model import Core
-from chipfire.pages import Words, closed_end, filled, page_data
+from chipfire.pages import Words, closed_end, filled, keeps_books, page_data
 from chipfire.schedules import EVENTS, Detector, detector_name
 from chipfire.states import States
 from chipfire.values import FileName, counted, write
@@ -41,9 +40,13 @@ def choice_page_text(
     setting = setting or known.game
     if not isinstance(setting, Setting):
         raise TypeError(f"one picks the events of a chipfire.Setting, and not of {type(setting).__name__}")
-    choices = _Choices(setting, detector)
     data = page_data(Simulation((), None, setting=setting), positions)
-    data |= {"steps": [], "choices": choices.data(), "words": list(choices.words.numbers), "end": None}
+    choices = _Choices(setting, detector, Ledger(setting, detector))
+    found = choices.data()
+    if not keeps_books(detector, {step["kind"] for step in found["steps"]}):
+        choices = _Choices(setting, detector, ModelLedger(setting, detector, keeps_books=False))
+        found, data["start"], data["hidden"] = choices.data(), choices.start, WORDS["books"]
+    data |= {"steps": [], "choices": found, "words": list(choices.words.numbers), "end": None}
     says = known.says if name in DETECTORS else f"the class <code>{name}</code>"
     parts = {"says": says, "states": counted(len(choices.states), "state")}
     return filled(title or f"Choose each event: {name}", data, parts, "run-choices.html", "drawing.html")
@@ -52,9 +55,9 @@ def choice_page_text(
 class _Choices:
     """All states of a game in the order in which they are reached, and the moves from each."""
 
-    def __init__(self, setting: Setting, detector: Detector) -> None:
-        self.name, self.words, self.ledger = detector_name(detector), Words(setting), Ledger(setting, detector)
-        self.core: Core = self.ledger.core
+    def __init__(self, setting: Setting, detector: Detector, ledger: Ledger) -> None:
+        self.name, self.words, self.ledger = detector_name(detector), Words(setting), ledger
+        self.core, self.start = ledger.core, ledger.state()
         self.known = States(self.core)
         self.states = [self.known.noted()]
         self.places = {self.states[0]: 0}

@@ -12,7 +12,7 @@ import itertools
 import json
 import string
 from collections import deque
-from collections.abc import Iterable, Iterator, Mapping, Sequence
+from collections.abc import Collection, Iterable, Iterator, Mapping, Sequence
 from dataclasses import replace
 from typing import Any
 
@@ -23,7 +23,7 @@ from chipfire.ledger import Disagreement, Ledger, ModelLedger
 from chipfire.machine import WORDS, Event, Reply, Schedule, Setting, Simulation, TraceRow, read_trace
 from chipfire.model import Core
 from chipfire.program import AnyGraph, AnyProgram, known_chips, known_graph, replay, simulate
-from chipfire.schedules import Game, Play, is_early, opened, played
+from chipfire.schedules import Detector, Game, Play, is_early, opened, played
 from chipfire.sentences import Sentences
 from chipfire.values import FILE, MAX_LIMIT, PAGE_POLICY, FileName, counted, own_text, write
 
@@ -74,7 +74,8 @@ def page_text(
 
 def model_data(told: Play, words: Words, positions: Mapping[Any, Point] | None) -> dict[str, Any]:
     """What the page of a run shows that the model alone played."""
-    ledger, game = ModelLedger(told.game, told.detector, _keeps_books(told)), told.game
+    done = {event.kind for event, reply in zip(told.schedule, told.replies) if reply.is_done}
+    ledger, game = ModelLedger(told.game, told.detector, keeps_books(told.detector, done)), told.game
     start, roots = ledger.state(), ledger.core.outs(-1)
     shown = game if isinstance(game, Setting) else Setting(game.graph, tuple(int(e.put > 0) for e in roots))
     data = page_data(Simulation(told.replies, None, (), tuple(told.schedule), setting=shown), positions)
@@ -97,11 +98,11 @@ def model_data(told: Play, words: Words, positions: Mapping[Any, Point] | None) 
     return {**data, "start": start, "steps": steps, "end": end}
 
 
-def _keeps_books(told: Play) -> bool:
-    """Whether a detector keeps books of acknowledgements: not if it neither closes by them, nor ever acknowledges."""
-    make, rows = known_detector(told.detector).make, zip(told.schedule, told.replies)
-    is_other = make.may_ack is not Core.may_ack and make.is_closed is not Core.is_closed
-    return not is_other or any(event.kind == "ack" and reply.is_done for event, reply in rows)
+def keeps_books(detector: Detector, done: Collection[str]) -> bool:
+    """Whether a detector keeps books of acknowledgements: not if it neither closes by them, nor gives any on a page, of
+    whose events that did something these are the kinds."""
+    make = known_detector(detector).make
+    return "ack" in done or make.may_ack is Core.may_ack or make.is_closed is Core.is_closed
 
 
 def closed_end(left: Iterable[str]) -> dict[str, Any]:

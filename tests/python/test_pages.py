@@ -685,6 +685,25 @@ class Choices(unittest.TestCase):
                          {("The root is open, and nothing can happen any more.", True)})
         self.assertIn("the class <code>Never</code>", text)
 
+    def test_books_that_a_detector_does_not_keep(self):
+        class Looks(chipfire.model.Core):
+            """Looks at all parts at once, which nobody can, and acknowledges nothing."""
+
+            def may_ack(self, e):
+                return 0
+
+            def is_closed(self):
+                return not self.left()
+
+        books = {"deficit", "parent", "acknowledged", "settled", "owed"}
+        for detector, kept in ((Looks, set()), ("right", books), ("without-deficit", books)):
+            data = data_of(choosing.choice_page_text(detector, chipfire.Setting(TRIANGLE, (2, 0, 0))))
+            changed = {name for step in data["choices"]["steps"] for _, _, name, _, _ in step["changes"]}
+            self.assertEqual((changed & books, "hidden" in data), (kept, not kept))
+            self.assertEqual(data["start"]["root"][0]["deficit"], int(bool(kept)))
+            ends = {end["text"] for end in data["choices"]["ends"] if end}
+            self.assertIn("The root is closed: all is over.", ends)
+
     def test_what_has_no_page(self):
         for name, setting, said in [("right", chipfire.Setting(TRIANGLE, (6, 0, 0)), "more than 2,000 states"),
                                     ("safra", None, "events of its own"), ("hasty", None, "no detector 'hasty'")]:

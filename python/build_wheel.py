@@ -1,7 +1,7 @@
 """What pip asks to install the package: a wheel with the folder chipfire, made by the standard library alone.
 
-So `pip install ./python` needs no network and no other package. The functions are those of Python's PEP 517. The wheel
-carries the program in release/ of the repository if `./chipfire` takes it there.
+So `pip install ./python` needs no network and no other package. The functions are those of Python's PEP 517 and,
+for `pip install -e`, 660. The wheel carries the program in release/ of the repository if `./chipfire` takes it there.
 """
 import base64
 import gzip
@@ -81,12 +81,16 @@ def wheel_name(tag):
 
 def wheel_files(tag, carried):
     """Returns the files of the wheel for the machines of a tag, bytes by names, with what it carries beside the package."""
+    package = {name: _read(name) for name in _package()}
+    return _wheel(tag, {**package, "chipfire/version": version().encode(), **carried})
+
+
+def _wheel(tag, inside):
+    """Returns the files of a wheel that installs these, bytes by names."""
     info = f"chipfire-{version()}.dist-info"
     is_pure = str(tag == PURE).lower()
     files = {
-        **{name: _read(name) for name in _package()},
-        "chipfire/version": version().encode(),
-        **carried,
+        **inside,
         f"{info}/METADATA": _metadata(),
         f"{info}/WHEEL": f"Wheel-Version: 1.0\nGenerator: chipfire\nRoot-Is-Purelib: {is_pure}\nTag: {tag}\n".encode(),
         **({} if tag == PURE else {f"{info}/entry_points.txt": COMMAND}),
@@ -134,6 +138,13 @@ def build_wheel(wheel_directory, config_settings=None, metadata_directory=None):
         name = wheel_name(PURE)
         write_wheel(os.path.join(wheel_directory, name), wheel_files(PURE, {"chipfire/without": why_not.encode()}))
     return name
+
+
+def build_editable(wheel_directory, config_settings=None, metadata_directory=None):
+    """Writes the wheel that has Python find the package where it lies here, and returns its name. It has no command:
+    ./chipfire of the repository is that."""
+    write_wheel(os.path.join(wheel_directory, wheel_name(PURE)), _wheel(PURE, {"chipfire.pth": os.fsencode(HERE) + b"\n"}))
+    return wheel_name(PURE)
 
 
 def build_sdist(sdist_directory, config_settings=None):

@@ -204,6 +204,44 @@ class Wheel(Answers):
         self.assertIn("ProgramNotFound", made.run(sys.executable, *ask, PYTHONPATH=room, PATH=room).stderr)
 
 
+class Editable(unittest.TestCase):
+    """What `pip install -e` installs: the package as it lies in a clone, where it can be edited."""
+
+    ASK = "import chipfire; print(chipfire.__file__, chipfire.find_program(), chipfire.plain(chipfire.path(1), [3]).fired)"
+
+    def pythons(self):
+        """This Python, and that of the system if it is another and makes environments."""
+        yield sys.executable
+        system = shutil.which("python3", path=made.PATH)
+        if system and os.path.realpath(system) != os.path.realpath(sys.executable):
+            yield from [system] * (made.run(system, "-c", "import ensurepip").returncode == 0)
+
+    def is_installed(self, python, top):
+        """Installs it without network and without setuptools, edits it, and takes it away again."""
+        room = made.room()
+        made.run(python, "-m", "venv", room, check=True)
+        made.run(f"{room}/bin/pip", "uninstall", "-q", "-y", "setuptools", check=True)
+        made.run(*without_network(), f"{room}/bin/pip", "install", "--no-index", "-e", f"{top}/python", check=True)
+        asked = made.run(f"{room}/bin/python", "-c", self.ASK, cwd=made.rooms())
+        self.assertEqual(asked.stdout, f"{top}/python/chipfire/__init__.py {top}/target/chipfire (1, 0)\n", asked.stderr)
+        made.write(f"{top}/python/chipfire/more.py", b"print('edited')\n")
+        self.assertEqual(made.run(f"{room}/bin/python", "-c", "import chipfire.more", cwd=made.rooms()).stdout, "edited\n")
+        shown = made.run(f"{room}/bin/pip", "list", "--format=json", check=True).stdout
+        told = next(it for it in json.loads(shown) if it["name"] == "chipfire")
+        self.assertEqual((told["version"], told["editable_project_location"]), (made.version(), f"{top}/python"))
+        self.assertFalse(os.path.exists(f"{room}/bin/chipfire"))
+        made.run(f"{room}/bin/pip", "uninstall", "-y", "chipfire", check=True)
+        gone = made.run(f"{room}/bin/python", "-c", "import chipfire", cwd=made.rooms())
+        self.assertIn("ModuleNotFoundError", gone.stderr)
+
+    def test_it_is_the_package_of_the_clone(self):
+        for python in self.pythons():
+            top = made.checkout()
+            made.build(top)
+            self.is_installed(python, top)
+            self.assertEqual(sorted(os.listdir(f"{top}/python")), ["build_wheel.py", "chipfire", "pyproject.toml"])
+
+
 class OldPython(unittest.TestCase):
     """A Python older than the package takes is told so."""
 

@@ -116,6 +116,15 @@ class Made(unittest.TestCase):
         shown = made.run("bash", "-c", summed, "bash", *folders, cwd=made.home(), check=True).stdout.split()[0]
         self.assertIn(f"\nsources sha256:{shown}\n", made.read(f"{made.home()}/dist/PROVED").decode())
 
+    def test_the_lines_of_the_page_print_the_checksums(self):
+        made.need("tar", "xz")
+        stated = made.read(f"{made.home()}/dist/PROVED").decode()
+        for word, begin in (("sources", "find crates.txt "), ("program", "tar -xOf release/")):
+            line = re.search(rf"^    ({re.escape(begin)}.*)$", page(), re.MULTILINE)[1].replace("release/", "dist/")
+            for shell in ("sh", "bash"):
+                shown = made.run(shell, "-c", line, cwd=made.home(), LC_ALL="en_US.UTF-8", check=True).stdout.split()[0]
+                self.assertIn(f"\n{word} sha256:{shown}\n", stated, line)
+
     def test_sources_that_are_not_committed_are_told(self):
         top = made.checkout()
         with open(f"{top}/crates/chip_graph/src/lib.rt", "a", encoding="utf-8") as file:

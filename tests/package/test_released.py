@@ -90,6 +90,29 @@ class Carried(unittest.TestCase):
         self.assertIn("package: release: the sources are not those of a commit", answer.stderr)
 
 
+class Elsewhere(unittest.TestCase):
+    """On another system the starter and pip say the same of it."""
+
+    SAID = "it is for Linux x86_64, and this is Darwin arm64\n"
+
+    def test_the_starter(self):
+        tools = made.room()
+        made.write(f"{tools}/uname", b"#!/bin/sh\necho Darwin arm64\n")
+        os.chmod(f"{tools}/uname", 0o755)
+        answer = made.run(f"{made.ROOT}/chipfire", "--take", PATH=f"{tools}:{made.PATH}")
+        self.assertEqual((answer.returncode, answer.stdout, answer.stderr), (1, "", f"chipfire: {self.SAID}"))
+
+    def test_pip(self):
+        """It asks tools/release.py, as is done here."""
+        place, room = made.room(), made.room()
+        patch = "import platform\nplatform.system, platform.machine = (lambda: 'Darwin'), (lambda: 'arm64')\n"
+        made.write(f"{place}/sitecustomize.py", patch.encode())
+        taken = [f"{made.ROOT}/tools/release.py", "--take", room, ""]
+        answer = made.run(sys.executable, *taken, PYTHONPATH=place)
+        said = f"chipfire: the program in release/ is not taken: {self.SAID}"
+        self.assertEqual((answer.returncode, answer.stdout, answer.stderr), (1, "", said))
+
+
 class Python(unittest.TestCase):
     def asks(self, top, *python):
         """Asks the package that lies in a checkout, by a command that is Python."""

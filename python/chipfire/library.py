@@ -8,7 +8,8 @@ overlap, and no other thread writes to one meanwhile. On a fault all stay as the
 
 `plain`, `verify` of a report, and what stands on them go this way if neither the call nor CHIPFIRE names a program, the
 library lies where the program does and has the package's version, and the play is short. Else the program answers, as a
-process. In a forked child of a process with threads set CHIPFIRE, since the library asks for memory.
+process. In a forked child of a process with threads set CHIPFIRE, since the library asks for memory. To load a library
+runs code of it, so it is seen before whether somebody else can change it, and which version is stated of it.
 """
 
 from __future__ import annotations
@@ -75,7 +76,7 @@ def _why_not(file: str, folder: str) -> str | None:
         return f"{file} is not loaded, since {why}"
     stated = _stated(file, folder)
     if not stated:
-        return f"{file} is not loaded, since nothing states its version: ./chipfire states that in a clone"
+        return f"{file} is not loaded, since neither PROVED nor the stamp of ./chipfire states its version"
     return None if stated == version() else f"{file} has version {stated}, and the package {version()}"
 
 

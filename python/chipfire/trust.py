@@ -50,10 +50,11 @@ def _is_private(number: int) -> bool:
 def _doubt_of(path: str, state: os.stat_result, top: str) -> str | None:
     """Why somebody else may change one folder, symbolic link or file; outside `top` a folder may be sticky."""
     if state.st_uid not in (0, os.geteuid()):
-        return f"{path} belongs to {_user(state.st_uid)}, and neither to {_user(os.geteuid())} nor to root"
+        own = "root" if os.geteuid() == 0 else f"{_user(os.geteuid())} or root"
+        return f"{path} belongs to {_user(state.st_uid)}, and not to {own}"
     if stat.S_ISLNK(state.st_mode):  # (its folder says who can put another in its place)
         return None
-    is_inside = path == top or path.startswith(f"{top}/")
+    is_inside = os.path.join(path, "").startswith(os.path.join(top, ""))
     if stat.S_ISDIR(state.st_mode) and state.st_mode & stat.S_ISVTX and not is_inside:
         return None
     if state.st_mode & stat.S_IWOTH:

@@ -190,6 +190,22 @@ class Wheel(Answers):
         for name in ("PROVED", made.SHARED):
             self.assertIn(f"chipfire/program/{name}\n", shown)
 
+    def test_without_a_program_inside_it_calls_the_library_that_is_installed(self):
+        room, root = made.room(), made.room()
+        shutil.copytree(f"{made.home()}/python/chipfire", f"{room}/chipfire")
+        made.write(f"{room}/chipfire/version", made.version().encode())
+        made.run("dpkg-deb", "-x", made.path_of(".deb"), root, check=True)
+        ask = ["-c", "import chipfire; print(chipfire.find_library(), chipfire.plain(chipfire.path(1), [3]).fired)"]
+        for top, libraries in ((made.unpacked(), "lib"), (f"{root}/usr", "lib/x86_64-linux-gnu")):
+            asked = made.run(sys.executable, *ask, PYTHONPATH=room, PATH=f"{top}/bin")
+            self.assertEqual((asked.stdout, asked.stderr), (f"{top}/{libraries}/libchipfire.so (1, 0)\n", ""))
+            shutil.copytree(top, f"{room}/copy-{len(libraries)}", symlinks=True)
+            with open(f"{room}/copy-{len(libraries)}/{libraries}/libchipfire.so.0", "ab") as file:
+                file.write(b"\0")
+            asked = made.run(sys.executable, *ask, PYTHONPATH=room, PATH=f"{room}/copy-{len(libraries)}/bin")
+            self.assertEqual(asked.stdout, "None (1, 0)\n")
+            self.assertIn("libchipfire.so is not loaded, since neither PROVED nor", asked.stderr)
+
     def test_without_a_program_inside_it_finds_one_on_the_path(self):
         room, path = made.room(), made.room()
         sources = f"{made.room()}/python"

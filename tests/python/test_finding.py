@@ -178,7 +178,7 @@ class Clones(Places):
                 spoiled = f"{top}/{place}".rstrip("/")
                 os.chown(spoiled, OTHER, OTHER)
                 site = self.installed(f"{top}/python", f"site{number}")
-                self.finds_none(f"{spoiled} belongs to {OTHER}, and neither to", f"{top}/python", site)
+                self.finds_none(f"{spoiled} belongs to {OTHER}, and not to", f"{top}/python", site)
 
     @unittest.skipUnless(loading_library(), "there is no gcc, which makes a library that leaves a file")
     def test_a_library_of_somebody_else_is_not_loaded(self):
@@ -239,7 +239,7 @@ class Clones(Places):
             for name in (".", *inner, *files):
                 os.chown(f"{folder}/{name}", OTHER, OTHER)
         self.finds(top, f"{top}/python", user=OTHER, python=python)
-        self.finds_none(f"{top} belongs to {OTHER}, and neither to", f"{top}/python", user=OTHER + 1, python=python)
+        self.finds_none(f"{top} belongs to {OTHER}, and not to", f"{top}/python", user=OTHER + 1, python=python)
 
     def test_a_folder_without_crates_is_none(self):
         top = self.clone()
@@ -435,7 +435,8 @@ class Trust(WithFolder):
         for mode, top, said in [
             (0o777, None, "folder can be written by everybody"), (0o1777, None, "folder can be written by everybody"),
             (0o1777, self.folder, "folder can be written by everybody"), (0o1777, "/elsewhere", "none"),
-            (0o777, "/elsewhere", "folder can be written by everybody"),
+            (0o777, "/elsewhere", "folder can be written by everybody"), (0o1777, "/", "can be written by everybody"),
+            (0o1777, f"{self.file('folder')}er", "none"),
         ]:
             os.chmod(self.file("folder"), mode)
             with self.subTest(mode=mode, top=top):
@@ -466,7 +467,7 @@ class Trust(WithFolder):
     def test_by_owners(self):
         for path in (self.path, self.file("folder")):
             os.chown(path, OTHER, OTHER)
-            self.doubted(f"{path} belongs to {OTHER}, and neither to root nor to root")
+            self.doubted(f"{path} belongs to {OTHER}, and not to root")
             os.chown(path, 0, 0)
         os.chown(self.file("folder"), OTHER, OTHER)
         os.chmod(self.file("folder"), 0o1777)

@@ -1,5 +1,6 @@
 """Plays and drops by the library: beside firing one vertex at a time, beside the program, at the limits, without memory,
 and on four threads at once."""
+import ctypes
 import itertools
 import json
 import os
@@ -9,7 +10,7 @@ import resource
 import threading
 import unittest
 
-from library import LARGEST, LIBRARY, PROGRAM, Graph, Room, Slice, avalanches, run, stabilize_all, verify
+from library import LARGEST, LIBRARY, PROGRAM, WORD, Graph, Room, Slice, avalanches, run, stabilize_all, verify
 
 TRIANGLE = Graph(3, 2, [(0, 1, 1), (0, 2, 1), (1, 0, 1), (1, 2, 1)])
 
@@ -240,10 +241,24 @@ class Memory(unittest.TestCase):
             self.assertGreater(enough, 0)
             self.assertEqual(found, [90] * enough + [0] * (len(found) - enough))
 
+    def test_sizes_are_looked_at_before_memory_is_taken(self):
+        """With one edge too many, where no edge can be copied."""
+        edges, place, empty = (WORD * (2**23 + 1))(), Slice([7]), Slice([])
+        column = ctypes.addressof(edges), len(edges)
+        functions = (LIBRARY.chipfire_stabilize_all, 4), (LIBRARY.chipfire_avalanches, 6), (LIBRARY.chipfire_verify, 3)
+        for vertices, sink, fault in (0, 3, 1), (2**21 + 1, 0, 1), (3, 3, 2), (3, 2, 3):
+            for function, slices in functions:
+                words = [vertices, sink, *column * 3, LARGEST, *empty.words() * slices, place.words()[0]]
+                self.assertEqual(self.status(function, words, [], 0), fault)
+
     def child(self, function, graph, inputs, outputs, room):
         """Returns the status of a call in a process that may take so many bytes more than it has; 255 if slices are other."""
         inputs, outputs, place = [Slice(it) for it in inputs], [Slice(it) for it in outputs], Slice([7])
         words = [*graph.words(), LARGEST, *(word for it in (*inputs, *outputs) for word in it.words()), place.words()[0]]
+        return self.status(function, words, outputs, room)
+
+    def status(self, function, words, outputs, room):
+        """Returns the same of a call with these words, which may write these slices."""
         child = os.fork()
         if child == 0:
             with open("/proc/self/statm", encoding="ascii") as file:

@@ -1,3 +1,4 @@
 pub mod BatchLemmas
 pub mod DropLemmas
 pub mod BooksLemmas
+pub mod EdgesLemmas

@@ -1,10 +1,9 @@
 -- The numbers of faults of calls, where each is, and which is first.
-use Rattle.std.specs.Prelude.{◌≡◌, ◌⊎◌, ℕ, unwrap_or, Some}
-use Rattle.chip_graph.specs.declared.fault.GraphFault.TheVariants as graph_fault
+use Rattle.std.specs.Prelude.{◌≡◌, ℕ, length, unwrap_or, Some, None, Err}
 use Rattle.chip_graph.specs.FaultNumbers.{graph_fault_number, graph_fault_place, game_fault_number}
 use Rattle.chip_graph.specs.Limits.{large}
 use Rattle.chip_graph.specs.Multigraph.{Multigraph}
-use Rattle.chip_graph.specs.Faults.{IsGraphFault, fault_of_game}
+use Rattle.chip_graph.specs.Faults.{MakesGraph, fault_of_sizes, fault_of_game}
 use Rattle.chip_graph.specs.ChipGame.{ChipGame}
 use Rattle.chip_library.specs.declared.fault.CallFault.{CallFault}
 use Rattle.chip_library.specs.declared.fault.CallFault.TheVariants.{Lengths, Graph, Game, Vertex, Total, Stopped, Differs, NoMemory}
@@ -31,10 +30,10 @@ place_of (Stopped drop) = drop
 place_of (Differs vertex) = vertex
 place_of NoMemory = 0
 
--- the first fault of a graph, or want of memory
+-- the first fault of a graph; or want of memory, if there are not too many vertices and edges and the sink is a vertex
 abbrev pub IsFaultOfGraph : Multigraph → CallFault → Type 0
-IsFaultOfGraph G (Graph fault) = (fault ≡ graph_fault.NoMemory) ⊎ IsGraphFault large G fault
-IsFaultOfGraph G NoMemory = Unit {0}
+IsFaultOfGraph G (Graph fault) = MakesGraph large G (Err fault)
+IsFaultOfGraph G NoMemory = fault_of_sizes large G.vertices G.sink (length G.edges) ≡ None
 IsFaultOfGraph G _ = ⊥
 
 -- the first fault of a game, under its number, or want of memory

@@ -1,7 +1,7 @@
 //! A graph as lists with one number for each edge.
 
 use crate::fault::CallFault;
-use chip_graph::{Edge, Graph, Limits};
+use chip_graph::{Edge, Graph, GraphFault, Limits, MAX_EDGES, MAX_VERTICES};
 use std::alloc::{AllocError, Global};
 
 /// A graph's numbers of vertices and sink, and for each edge its tail, its head and how many chips a firing of the tail
@@ -16,10 +16,12 @@ pub struct EdgeLists<'a> {
 }
 
 impl EdgeLists<'_> {
-    ghost use Rattle.std.specs.Prelude.{◌≡◌, ◌↔◌, IsTrue, IfOk, MatchResult};
+    ghost use Rattle.std.specs.Prelude.{◌≡◌, ◌↔◌, length, IsTrue, IfOk, MatchResult};
     ghost use Rattle.chip_library.specs.EdgeLists.{HasWholeRows, edges_of, graph_of};
     ghost use Rattle.chip_library.specs.CallFaults.{IsFaultOfGraph};
     ghost use Rattle.chip_graph.specs.Multigraph.{IsGraph};
+    ghost use Rattle.chip_graph.specs.Limits.{large};
+    ghost use Rattle.chip_graph.specs.Faults.{refusal, fault_of_sizes};
 
     /// Whether the lists have one number each for each edge.
     pub(crate) fn has_whole_rows(&self) -> bool
@@ -28,15 +30,33 @@ impl EdgeLists<'_> {
         self.heads.len() == self.tails.len() && self.mults.len() == self.tails.len()
     }
 
-    /// The graph, or the first reason why it is none.
+    /// The graph, or the first reason why it is none. No edge is copied if there are too many.
+    #[tactic(auto, using(crate::proofs::EdgesLemmas::sizes_pass, crate::proofs::EdgesLemmas::sizes_refuse))]
     pub(crate) fn graph(&self, alloc: Global) -> Result<Graph, CallFault>
         requires { HasWholeRows self.now }
         ensures { MatchResult result (λ graph. (graph ≡ graph_of self.now) × IsGraph graph)
             (IsFaultOfGraph (graph_of self.now)) }
     {
+        self.check_sizes()?;
         let edges = self.edges(alloc)?;
         let graph = Graph::within(alloc, Limits::large(), self.vertices, self.sink, edges)?;
         Ok(graph)
+    }
+
+    /// The first fault of the sizes.
+    fn check_sizes(&self) -> Result<(), GraphFault>
+        ensures { result ≡ refusal (fault_of_sizes large self.now.vertices self.now.sink (length self.now.tails.now)) }
+    {
+        if self.vertices == 0 || self.vertices > MAX_VERTICES {
+            return Err(GraphFault::Vertices);
+        }
+        if self.sink >= self.vertices {
+            return Err(GraphFault::Sink);
+        }
+        if self.tails.len() as u64 > MAX_EDGES {
+            return Err(GraphFault::EdgeCount);
+        }
+        Ok(())
     }
 
     /// The edges.

@@ -13,8 +13,7 @@
  *     limit        how often each vertex may fire, 0 to 2^40
  *
  * Each call answers a status: 0 for success, else the number of the first fault, which `chipfire explain NUMBER` tells.
- * On a fault *place says where it is, or 0 if it is nowhere, and all slices stay as they were. Lengths come first,
- * then the graph, then the chips.
+ * On a fault *place says where it is, or 0 if it is nowhere, and all slices stay as they were.
  *
  *     1 vertices, 2 sink, 3 number of edges                              no place
  *     4 end of an edge, 5 mult, 6 loop, 7 edge out of the sink           the edge, from 0
@@ -22,17 +21,18 @@
  *     9 chips are not one number for each vertex; of many games: 12      no place
  *     10 more than 2^40 chips, 11 limit                                  the game or the drop, from 0
  *     12 slices that belong together have other lengths                  no place
- *     13 the limit stopped the play of a drop                            the drop
+ *     13 the limit stopped the play of a drop, or of the game before it  the drop, or 0
  *     26 a drop on no vertex                                             the drop
  *     53 what was claimed is not how the game ends                       the least vertex that differs
  *     90 memory ran out                                                  no place
  *
- * The faults of one game, or of one drop, come before those of the next. A drop has 26 first, then 10, then 13. The game
- * on which drops fall comes before all of them, and its place is 0 too.
+ * The first fault is the first of these: 12; 1, 2, 3; of the first edge that has a fault 4, 5, 6, 7; 8; of the first
+ * game that has a fault 9, 10, 11; of the game on which drops fall 13; of the first drop that has a fault 26, 10, 13; 53.
+ * 90 comes only where none of 12, 1, 2 and 3 does: these take no memory to find.
  *
  * The caller sees to this, which no call can check:
  *
- *   - No pointer is null, also at length 0. Each slice has its length, and what is written overlaps nothing else.
+ *   - Each slice has its length, and what is written overlaps nothing else. Only a slice of length 0 may be null.
  *   - One call at a time writes to one memory. Apart from that calls may run on any threads at once: nothing is kept
  *     from one to the next.
  *   - No call from a signal handler, nor in the forked child of a process that has threads. */

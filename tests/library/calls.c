@@ -210,9 +210,55 @@ static void try_detector(void)
     EXPECT(chipfire_sent(outs, 1, 0) == 46 && outs[0].messages == 1);
 }
 
+/* Slices of length 0 that are null: all of them, on the sink alone, and those that games and drops on the triangle may leave
+ * out. Vertices without chips are fault 9, and books without edges have none. */
+static void try_nulls(void)
+{
+    struct call c = begin();
+    uint64_t parent = CHIPFIRE_NEUTRAL, told = GUARD, place = GUARD;
+    EXPECT(chipfire_stabilize_all(1, 0, NULL, 0, NULL, 0, NULL, 0, 9, NULL, 0, NULL, 0, NULL, 0, NULL, 0, &place) == 0);
+    EXPECT(place == 0);
+    EXPECT(chipfire_stabilize_all(c.vertices, c.sink, c.tails, EDGES, c.heads, EDGES, c.mults, EDGES, c.limit, NULL, 0,
+                                  c.chips, GAMES * N, c.fired, GAMES * N, c.stopped, GAMES, &place) == 0);
+    EXPECT(are(c.chips, 6, NUMBERS(1, 0, 3, 1, 1, 5)) && are(c.fired, 6, NUMBERS(2, 1, 0, 0, 0, 0)));
+    EXPECT(chipfire_avalanches(1, 0, NULL, 0, NULL, 0, NULL, 0, 9, NULL, 0, NULL, 0, NULL, 0, NULL, 0, NULL, 0, NULL, 0,
+                               &place) == 9);
+    c = begin();
+    EXPECT(chipfire_avalanches(c.vertices, c.sink, c.tails, EDGES, c.heads, EDGES, c.mults, EDGES, c.limit, NULL, 0, NULL, 0,
+                               c.chips, N, NULL, 0, NULL, 0, NULL, 0, &place) == 0);
+    EXPECT(are(c.chips, 3, NUMBERS(1, 0, 3)));
+    EXPECT(chipfire_avalanches(1, 0, NULL, 0, NULL, 0, NULL, 0, 9, NUMBERS(0), 1, NUMBERS(2), 1, c.chips, 1, c.sizes, 1,
+                               c.extents, 1, c.losts, 1, &place) == 0);
+    EXPECT(c.chips[0] == 3 && c.sizes[0] == 0 && c.extents[0] == 0 && c.losts[0] == 0);
+    EXPECT(chipfire_verify(1, 0, NULL, 0, NULL, 0, NULL, 0, 9, NULL, 0, NULL, 0, NULL, 0, &place) == 9);
+    EXPECT(chipfire_verify(1, 0, NULL, 0, NULL, 0, NULL, 0, 9, NUMBERS(4), 1, NUMBERS(0), 1, NUMBERS(4), 1, &place) == 0);
+    EXPECT(chipfire_sent(NULL, 0, 0) == 46 && chipfire_got(NULL, 0, &parent, 0) == 46);
+    EXPECT(chipfire_may_ack(NULL, 0, NULL, 0, 0, 0, 1, &told) == 46);
+    EXPECT(chipfire_acked(NULL, 0, NULL, 0, &parent, 0, 1, 0) == 46);
+    EXPECT(chipfire_settled(NULL, 0, 0, 0, &told) == 46 && parent == CHIPFIRE_NEUTRAL && told == GUARD);
+    EXPECT(chipfire_deficit(NULL, 0, &told) == 0 && told == 0);
+    EXPECT(chipfire_is_over(NULL, 0, 1, &told) == 0 && told == 1);
+    EXPECT(chipfire_books_check(NULL, 0, NULL, 0, CHIPFIRE_NEUTRAL) == 0 && chipfire_books_check(NULL, 0, NULL, 0, 0) == 46);
+}
+
+/* A part without edges out acknowledges the message that engages it, and then the root, which has none into it, is over. */
+static void try_one_side(void)
+{
+    struct chipfire_tally ins[] = {{4, 0, 0}}, outs[] = {{4, 0, 0}};
+    uint64_t parent = CHIPFIRE_NEUTRAL, told = GUARD;
+    EXPECT(chipfire_sent(outs, 1, 4) == 0 && chipfire_got(ins, 1, &parent, 4) == 0 && parent == 4);
+    EXPECT(chipfire_books_check(ins, 1, NULL, 0, 4) == 0);
+    EXPECT(chipfire_books_check(NULL, 0, outs, 1, CHIPFIRE_NEUTRAL) == 0);
+    EXPECT(chipfire_may_ack(ins, 1, NULL, 0, parent, 4, 1, &told) == 0 && told == 1);
+    EXPECT(chipfire_acked(ins, 1, NULL, 0, &parent, 4, 1, 1) == 0 && parent == CHIPFIRE_NEUTRAL);
+    EXPECT(chipfire_settled(outs, 1, 4, 1, &told) == 0 && told == 1);
+}
+
 int main(void)
 {
     EXPECT(chipfire_version() > 0);
+    try_nulls();
+    try_one_side();
     try_games();
     try_drops();
     try_claims();

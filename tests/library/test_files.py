@@ -70,7 +70,7 @@ class Linked(Room):
 
 class Explained(Room):
     def test_each_fault_of_the_header(self):
-        table = text_of(HEADER).partition("then the chips.")[2].partition("The faults of one game")[0]
+        table = text_of(HEADER).partition("stay as they were.")[2].partition("The first fault")[0]
         numbers = re.findall(r"(?<![\^\d])([1-9]\d*) [a-z]", table)
         self.assertEqual(numbers, [*map(str, range(1, 14)), "26", "53", "90"])
         for number in numbers:
@@ -105,6 +105,18 @@ class Built(Room):
     def test_each_call_and_each_fault_from_C(self):
         for program in self.programs(f"{ROOT}/tests/library/calls.c"):
             self.assertEqual(self.runs(program), "")
+
+    def test_the_calls_with_a_sanitizer(self):
+        """Undefined behaviour of the caller, as a null pointer where none may be, ends the program."""
+        need("gcc")
+        sanitized = ["-fsanitize=undefined", "-fno-sanitize-recover=all"]
+        empty, calls = f"{self.room}/empty.c", f"{self.room}/calls"
+        with open(empty, "w", encoding="ascii") as file:
+            file.write("int main(void) { return 0; }\n")
+        if library.run("gcc", *sanitized, empty, "-o", calls).returncode:
+            self.skipTest("gcc has no sanitizer of undefined behaviour")
+        self.runs("gcc", "-std=c11", "-g", *STRICT, *sanitized, f"{ROOT}/tests/library/calls.c", STATIC, "-o", calls)
+        self.assertEqual(self.runs(calls), "")
 
     def test_the_example_answers_what_the_page_shows(self):
         shown = re.search(r"^\$ \./grid\n(.*?)^(?:\$|```)", text_of(PAGE), re.DOTALL | re.MULTILINE)[1]

@@ -10,7 +10,8 @@ import resource
 import threading
 import unittest
 
-from library import LARGEST, LIBRARY, PROGRAM, WORD, Graph, Room, Slice, avalanches, run, stabilize_all, verify
+from library import HEADER, LARGEST, LIBRARY, PROGRAM, WORD, Graph, Room, Slice
+from library import avalanches, called, run, stabilize_all, verify
 
 TRIANGLE = Graph(3, 2, [(0, 1, 1), (0, 2, 1), (1, 0, 1), (1, 2, 1)])
 
@@ -125,6 +126,34 @@ class Small(unittest.TestCase):
 
 class First(unittest.TestCase):
     """Which of two faults is told, as the header says."""
+
+    def test_in_the_order_of_the_header(self):
+        """A call has all faults but 3, which Memory has. Each is mended in turn: the next of the header's list is told."""
+        call = {"vertices": 0, "sink": 5, "edges": [(2, 7, 0), (1, 2, 0)], "chips": [LARGEST, 1], "limit": LARGEST + 1,
+                "at": [9], "amounts": []}
+        told = []
+        for mend in (
+            {"amounts": [LARGEST + 1]}, {"vertices": 3}, {"sink": 2}, {"edges": [(2, 2, 0), (1, 2, 0)]},
+            {"edges": [(2, 2, 1), (1, 2, 0)]}, {"edges": [(2, 0, 1), (1, 2, 0)]}, {"edges": [(0, 1, 1)]},
+            {"edges": [(0, 1, 1), (1, 2, 1)]}, {"chips": [LARGEST, 1, 0]}, {"chips": [1, 0, 0]}, {"limit": 0},
+            {"chips": [0, 0, 0]}, {"at": [0]}, {"amounts": [1]}, {"limit": 1},
+        ):
+            told.append(self.told_of(call))
+            call.update(mend)
+        self.assertEqual(self.told_of(call), 0)
+        graph = Graph(3, 2, call["edges"])
+        told += [verify(graph, [1, 0, 0], [0, 0, 0], [0, 0, 0], limit)[0] for limit in (LARGEST + 1, LARGEST)]
+        with open(HEADER, encoding="ascii") as file:
+            listed = file.read().partition("The first fault is the first of these:")[2].partition(".\n")[0]
+        wanted = [int(it) for it in re.findall(r"\d+", listed)]
+        self.assertEqual(told, [it for it in wanted[:-1] if it != 3] + [11, 53])
+        self.assertEqual((wanted[:4], wanted[-1]), ([12, 1, 2, 3], 53))
+
+    def told_of(self, call):
+        """Returns the status of a call for drops that writes nothing if it is refused."""
+        graph, columns = Graph(call["vertices"], call["sink"], call["edges"]), [[7] * len(call["at"]) for _ in range(3)]
+        return called(LIBRARY.chipfire_avalanches, graph, call["limit"], [call["at"], call["amounts"]],
+                      [call["chips"], *columns])[0]
 
     def test_of_games(self):
         few, many = [4, 0, 0], [4, 0, LARGEST]

@@ -122,8 +122,10 @@ uint64_t chipfire_verify(uint64_t vertices, uint64_t sink,
  *     46      there is no such edge, or a count is too high, or the books are not sound, if that is seen
  *     47      not all of these messages may be acknowledged yet
  *
- * A call that answers 0 keeps sound books sound. Of others nothing is promised, but it touches no memory except theirs.
- * chipfire_books_check tells which are sound; the other calls look at one edge, and at all only if they must add up.
+ * A call that returns 0 keeps sound books sound. chipfire_books_check says which are sound. On others a call touches no
+ * memory except theirs, and it sees this much: chipfire_deficit and chipfire_is_over read all of outs, and
+ * chipfire_may_ack and chipfire_acked read all of ins and outs if the edge is the parent. They return 46 if one of these
+ * tallies has more answered than messages, or more than 2^40 messages, or if there are too many.
  *
  * The caller sees to this too, which no call can check:
  *

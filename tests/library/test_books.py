@@ -18,9 +18,13 @@ def opened(side):
     return sum(messages - answered for _, messages, answered in side)
 
 
+def are_possible(side):
+    return all(answered <= messages <= LARGEST for _, messages, answered in side)
+
+
 def are_tallies(side):
     edges = [it[0] for it in side]
-    return edges == sorted(set(edges)) and all(answered <= messages <= LARGEST for _, messages, answered in side)
+    return edges == sorted(set(edges)) and are_possible(side)
 
 
 def are_sound(ins, outs, parent):
@@ -106,6 +110,17 @@ class Small(unittest.TestCase):
                     found = made(call, *books, *how)
                     self.assertEqual(found, wanted(call, *books, *how), (call, books, how))
                     self.assertEqual(check(*found[2:]), 0, (call, books, how))
+
+    def test_calls_that_add_up_refuse_impossible_ones(self):
+        for ins, outs, parent in self.books():
+            calls = []
+            if not are_possible(outs):
+                calls += [("deficit", 0), ("is_over", 0)]
+            if parent != NEUTRAL and not are_possible(ins + outs):
+                calls += [("may_ack", parent), ("acked", parent)]
+            for (call, edge), passive in itertools.product(calls, (0, 1)):
+                found = made(call, ins, outs, parent, edge, 0, passive)
+                self.assertEqual(found, (46, KEPT, ins, outs, parent), (call, passive))
 
     def test_others_are_kept_where_a_call_refuses_them(self):
         others = itertools.filterfalse(lambda it: are_sound(*it), self.books())

@@ -7,7 +7,7 @@ ghost use Rattle.chip_detect.specs.Acknowledging.{may_ack};
 ghost use Rattle.chip_detect.specs.Steps.{Got, Acked, Sent};
 ghost use Rattle.chip_diffusing.specs.Laws.{IsOver};
 ghost use Rattle.chip_library.specs.declared.detector.BooksFault.TheVariants.{NotSound};
-ghost use Rattle.chip_library.specs.PartBooks.{AreBooks, books_of, HasEdge, Notes, Tells, Settling};
+ghost use Rattle.chip_library.specs.PartBooks.{AreBooks, books_of, HasEdge, Notes, Tells, Settling, AddsUp, AddsUpForParent};
 ghost use Rattle.chip_exports.specs.Status.{Status, status_of, count_of, flag_of, is_true};
 
 use chip_detect::Tally;
@@ -45,7 +45,8 @@ pub extern "C" fn chipfire_may_ack(
 ) -> u64
     ensures { let books = books_of ins.now outs.now parent in
         Status result (λ done. Tells books (HasEdge (in_edges books) edge)
-        (λ n. n ≡ may_ack books edge (is_true passive)) done × (count.new ≡ count_of done count.old)) }
+        (λ n. n ≡ may_ack books edge (is_true passive)) done
+        × AddsUpForParent ins.now outs.now parent edge done × (count.new ≡ count_of done count.old)) }
 {
     told(may_ack(ins, outs, parent, edge, passive != 0), count)
 }
@@ -60,8 +61,9 @@ pub extern "C" fn chipfire_acked(
     passive: u64,
     count: u64,
 ) -> u64
-    ensures { Status {T = Unit {0}} result (Notes (books_of ins.old outs.now parent.old) (books_of ins.new outs.now parent.new)
-        (is_true passive) (Acked edge count)) }
+    ensures { Status {T = Unit {0}} result (λ done.
+        Notes (books_of ins.old outs.now parent.old) (books_of ins.new outs.now parent.new) (is_true passive) (Acked edge count) done
+        × AddsUpForParent ins.old outs.now parent.old edge done) }
 {
     status(acked(ins, outs, parent, edge, passive != 0, count))
 }
@@ -78,7 +80,8 @@ pub extern "C" fn chipfire_settled(outs: &mut [Tally], edge: u64, word: u64, mor
 #[unsafe(no_mangle)]
 pub extern "C" fn chipfire_deficit(outs: &[Tally], count: &mut u64) -> u64
     ensures { Status result (λ done. ((ins : List Tally) → (parent : ℕ) → let books = books_of ins outs.now parent in
-        Tells books (Unit {0}) (λ n. n ≡ deficit books) done) × (count.new ≡ count_of done count.old)) }
+        Tells books (Unit {0}) (λ n. n ≡ deficit books) done)
+        × AddsUp outs.now done × (count.new ≡ count_of done count.old)) }
 {
     told(deficit(outs), count)
 }
@@ -88,7 +91,8 @@ pub extern "C" fn chipfire_deficit(outs: &[Tally], count: &mut u64) -> u64
 pub extern "C" fn chipfire_is_over(outs: &[Tally], ended: u64, over: &mut u64) -> u64
     ensures { Status result (λ done. ((ins : List Tally) → (parent : ℕ) → let books = books_of ins outs.now parent in
         Tells books (Unit {0}) (λ is. (IsTrue is ↔ IsTrue (is_true ended) × (deficit books ≡ 0))
-        × (IsTrue is → IsOver books (is_true ended))) done) × (over.new ≡ flag_of done over.old)) }
+        × (IsTrue is → IsOver books (is_true ended))) done)
+        × AddsUp outs.now done × (over.new ≡ flag_of done over.old)) }
 {
     match is_over(outs, ended != 0) {
         Ok(is) => {

@@ -75,6 +75,14 @@ pub record ArePossible (ts : List Tally) : Type 0 where
   pub few : length ts ≤ edge_limit
   pub each : (i : ℕ) → i < length ts → IsPossible (tally_at ts i)
 
+-- a call that adds up all of these tallies refuses them if one is impossible
+abbrev pub AddsUp : {T : Type 0} → List Tally → Result T BooksFault → Type 0
+AddsUp ts told = (ArePossible ts → ⊥) → told ≡ Err NotSound
+
+-- a call for the edge e adds up both sides if e is the parent
+abbrev pub AddsUpForParent : {T : Type 0} → (ins outs : List Tally) → (parent e : ℕ) → Result T BooksFault → Type 0
+AddsUpForParent ins outs parent e told = parent ≡ e → AddsUp ins told × AddsUp outs told
+
 -- the slot of the edge e, and the tally there, which is possible
 pub record IsFound (ts : List Tally) (e : ℕ) (slot : Slot) (t : Tally) : Type 0 where
   pub slot_is : IsSlotOf (edges_of ts) slot

@@ -2,7 +2,9 @@
 //!
 //! A part has a tally of each edge into it and of each edge out of it, by ascending edges, and the number of its parent
 //! edge, or `NEUTRAL`. At first all counts are 0, and the part is neutral. A call does on them what that of
-//! `chip_detect::Detect` does, and nothing if it refuses. Books that are not sound harm nothing but themselves.
+//! `chip_detect::Detect` does, and nothing if it refuses. On books that are not sound it is safe, it changes nothing if it
+//! refuses, and it refuses if it adds up tallies of which one is impossible: with more answered than there was, or more
+//! than there may be.
 
 ghost use Rattle.std.specs.Prelude.{◌≡◌, ℕ, ◌↔◌, true, List, IsTrue, MatchOption, MatchResult};
 ghost use Rattle.std.specs.List.Sorted.{IsStrictlyIncreasing};
@@ -14,7 +16,7 @@ ghost use Rattle.chip_detect.specs.Steps.{Got, Acked, Sent};
 ghost use Rattle.chip_diffusing.specs.Laws.{IsOver};
 ghost use Rattle.chip_library.specs.declared.detector.BooksFault.TheVariants.{NotSound};
 ghost use Rattle.chip_library.specs.PartBooks.{books_of, parent_of, HasEdge, Notes, Tells, IsPossible, ArePossible, IsFound, Suits, Settling};
-ghost use Rattle.chip_library.specs.PartBooks.{AreNumbered, AreBooks};
+ghost use Rattle.chip_library.specs.PartBooks.{AddsUp, AddsUpForParent, AreNumbered, AreBooks};
 
 use chip_detect::{
     EDGE_LIMIT, MESSAGE_LIMIT, Slot, Tally, add_answers_at, add_message_at, may_ack_on_parent,
@@ -89,26 +91,27 @@ pub fn may_ack(
     edge: u64,
     passive: bool,
 ) -> Result<u64, BooksFault>
-    ensures { let books = books_of ins.now outs.now parent in
+    ensures told { let books = books_of ins.now outs.now parent in
         Tells books (HasEdge (in_edges books) edge) (λ count. count ≡ may_ack books edge passive) result }
+    ensures adds_up { AddsUpForParent ins.now outs.now parent edge result }
 {
     let Some((_, tally)) = found(ins, edge) else {
         return Err(BooksFault::NotSound);
     };
     let owed = tally.open();
-    if owed == 0 {
-        return Ok(0);
-    }
     if parent != edge {
         return Ok(owed);
     }
     let Some(all_owed) = all_open(ins) else {
         return Err(BooksFault::NotSound);
     };
-    match all_open(outs) {
-        Some(deficit) => Ok(may_ack_on_parent(owed, all_owed, deficit, passive)),
-        None => Err(BooksFault::NotSound),
+    let Some(deficit) = all_open(outs) else {
+        return Err(BooksFault::NotSound);
+    };
+    if owed == 0 {
+        return Ok(0);
     }
+    Ok(may_ack_on_parent(owed, all_owed, deficit, passive))
 }
 
 /// Notes that `count` messages of the edge are acknowledged, which the tail must not see before. It is too early if
@@ -121,8 +124,9 @@ pub fn acked(
     passive: bool,
     count: u64,
 ) -> Result<(), BooksFault>
-    ensures { Notes (books_of ins.old outs.now parent.old) (books_of ins.new outs.now parent.new) passive
+    ensures notes { Notes (books_of ins.old outs.now parent.old) (books_of ins.new outs.now parent.new) passive
         (Acked edge count) result }
+    ensures adds_up { AddsUpForParent ins.old outs.now parent.old edge result }
 {
     let Some((slot, tally)) = found(ins, edge) else {
         return Err(BooksFault::NotSound);
@@ -161,8 +165,9 @@ pub fn settled(outs: &mut [Tally], edge: u64, word: u64) -> Result<u64, BooksFau
 
 /// How many acknowledgements the part waits for.
 pub fn deficit(outs: &[Tally]) -> Result<u64, BooksFault>
-    ensures { (ins : List Tally) → (parent : ℕ) → let books = books_of ins outs.now parent in
+    ensures told { (ins : List Tally) → (parent : ℕ) → let books = books_of ins outs.now parent in
         Tells books (Unit {0}) (λ count. count ≡ deficit books) result }
+    ensures adds_up { AddsUp outs.now result }
 {
     match all_open(outs) {
         Some(count) => Ok(count),
@@ -172,9 +177,10 @@ pub fn deficit(outs: &[Tally]) -> Result<u64, BooksFault>
 
 /// Whether the root may say that the computation is over; `ended` says whether it will send no more.
 pub fn is_over(outs: &[Tally], ended: bool) -> Result<bool, BooksFault>
-    ensures { (ins : List Tally) → (parent : ℕ) → let books = books_of ins outs.now parent in
+    ensures told { (ins : List Tally) → (parent : ℕ) → let books = books_of ins outs.now parent in
         Tells books (Unit {0}) (λ over. (IsTrue over ↔ IsTrue ended × (deficit books ≡ 0)) × (IsTrue over → IsOver books ended))
         result }
+    ensures adds_up { AddsUp outs.now result }
 {
     match all_open(outs) {
         Some(deficit) => Ok(ended && deficit == 0),

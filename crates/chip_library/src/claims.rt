@@ -6,7 +6,7 @@ ghost use Rattle.chip_library.specs.Claims.{AgreesAt, IsDifference, Verifies};
 use crate::edges::EdgeLists;
 use crate::fault::CallFault;
 use crate::game::game_of;
-use chip_fire::{Unwatched, plain_given};
+use chip_fire::{Unwatched, Watch, plain_given};
 use chip_sequence::Outcome;
 use std::alloc::Global;
 
@@ -25,12 +25,27 @@ pub fn verify(
 ) -> Result<(), CallFault>
     ensures { Verifies edges.entry limit chips.now fired.now ends.now result }
 {
+    verify_watched(alloc, edges, limit, chips, fired, ends, &mut Unwatched)
+}
+
+/// Says what `verify` says, and reports to `watch` how its play goes on. The result is the same, whoever watches.
+pub fn verify_watched<W: Watch>(
+    alloc: Global,
+    edges: EdgeLists<'_>,
+    limit: u64,
+    chips: &[u64],
+    fired: &[u64],
+    ends: &[u64],
+    watch: &mut W,
+) -> Result<(), CallFault>
+    ensures { Verifies edges.entry limit chips.now fired.now ends.now result }
+{
     if !edges.has_whole_rows() || fired.len() != chips.len() || ends.len() != chips.len() {
         return Err(CallFault::Lengths);
     }
     let graph = edges.graph(alloc)?;
     let game = game_of(alloc, graph, limit, chips, 0)?;
-    let outcome = plain_given(alloc, &game, fired, &mut Unwatched)?;
+    let outcome = plain_given(alloc, &game, fired, watch)?;
     match first_difference(&outcome, fired, ends) {
         Some(vertex) => Err(CallFault::Differs(vertex)),
         None => Ok(()),

@@ -3,11 +3,11 @@
 //! A call answers that all is well and writes its slices, or tells the first fault and leaves them as they were.
 #![tactic(auto)]
 
-pub use claims::verify;
+pub use claims::{verify, verify_watched};
 pub use drops::avalanches;
 pub use edges::EdgeLists;
 pub use fault::CallFault;
-pub use stabilize::stabilize_all;
+pub use stabilize::{stabilize_all, stabilize_all_watched};
 
 mod claims;
 pub mod detector;

@@ -7,7 +7,7 @@ ghost use Rattle.chip_library.specs.Batch.{IsBatch, ArePlayed, IsFaultOfGames, S
 use crate::edges::EdgeLists;
 use crate::fault::CallFault;
 use crate::game::game_of;
-use chip_fire::{Unwatched, plain_given};
+use chip_fire::{Unwatched, Watch, plain_given};
 use chip_graph::Graph;
 use chip_sequence::Outcome;
 use std::alloc::{AllocError, Global};
@@ -34,11 +34,39 @@ pub fn stabilize_all(
         (record { chips = chips.old; fired = fired.old; stopped = stopped.old })
         (record { chips = chips.new; fired = fired.new; stopped = stopped.new }) result }
 {
+    stabilize_all_watched(
+        alloc,
+        edges,
+        limit,
+        guesses,
+        chips,
+        fired,
+        stopped,
+        &mut Unwatched,
+    )
+}
+
+/// Plays games as `stabilize_all` does, and reports to `watch` how each play goes on. The result is the same, whoever
+/// watches.
+pub fn stabilize_all_watched<W: Watch>(
+    alloc: Global,
+    edges: EdgeLists<'_>,
+    limit: u64,
+    guesses: &[u64],
+    chips: &mut [u64],
+    fired: &mut [u64],
+    stopped: &mut [u64],
+    watch: &mut W,
+) -> Result<(), CallFault>
+    ensures { StabilizesAll edges.entry limit guesses.now
+        (record { chips = chips.old; fired = fired.old; stopped = stopped.old })
+        (record { chips = chips.new; fired = fired.new; stopped = stopped.new }) result }
+{
     if !is_batch(edges, guesses, chips, fired, stopped) {
         return Err(CallFault::Lengths);
     }
     let graph = edges.graph(alloc)?;
-    let ends = play_each(alloc, graph, limit, guesses, chips, stopped.len())?;
+    let ends = play_each(alloc, graph, limit, guesses, chips, stopped.len(), watch)?;
     chips.copy_from_slice(&ends.chips);
     fired.copy_from_slice(&ends.fired);
     stopped.copy_from_slice(&ends.stopped);
@@ -99,13 +127,14 @@ impl Ends {
 }
 
 /// How `games` games end that begin with these chips.
-fn play_each(
+fn play_each<W: Watch>(
     alloc: Global,
     mut graph: Graph,
     limit: u64,
     guesses: &[u64],
     chips: &[u64],
     games: usize,
+    watch: &mut W,
 ) -> Result<Ends, CallFault>
     requires graph { IsGraph graph }
     requires chips_each { length chips.now ≡ games * graph.vertices }
@@ -121,7 +150,7 @@ fn play_each(
         let (start, later) = rest.split_at(vertices);
         let (guess, later_guesses) = left.split_at(vertices.min(left.len()));
         let game = game_of(alloc, graph, limit, start, number as u64)?;
-        let outcome = plain_given(alloc, &game, guess, &mut Unwatched)?;
+        let outcome = plain_given(alloc, &game, guess, watch)?;
         ends.push(&outcome)?;
         graph = game.into_graph();
         (rest, left) = (later, later_guesses);

@@ -10,4 +10,6 @@ mod drops;
 #[cfg(test)]
 mod graphs;
 #[cfg(test)]
+mod guesses;
+#[cfg(test)]
 mod stabilize;

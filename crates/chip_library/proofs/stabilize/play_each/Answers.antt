@@ -10,12 +10,12 @@ use Rattle.chip_library.proofs.BatchLemmas.{played_none, played_more, room_for_r
 use Rattle.chip_library.proofs.stabilize.play_each.Goals as goal
 
 pub loop-number-init : goal.loop-number-init
-loop-number-init c =
+loop-number-init g c =
     let (chips, fired, stopped) = c.in_ok-ends.ensures in
     (refl, rw (zero-mul c.args.graph.vertices) refl, rw (chips, fired, stopped) (played_none _ _ _))
 
 pub split_at-requires : goal.split_at-requires
-split_at-requires c =
+split_at-requires g c =
     let (graph, rest, played) = c.loop-number.invariant in
     let long = length-drop (c.loop-number.number * c.args.graph.vertices) c.args.chips.now in
     let room = room_for_row c.args.graph.vertices c.loop-number.number c.args.games c.loop-number-test.true in
@@ -24,7 +24,7 @@ split_at-requires c =
     let is = c.vertices-vertices.ensures.value in omega arith
 
 pub returns-in_err-game : goal.returns-in_err-game
-returns-in_err-game c =
+returns-in_err-game g c =
     let (same_graph, rest, played) = c.loop-number.invariant in
     let is : c.vertices-vertices.result ≡ c.args.graph.vertices = c.vertices-vertices.ensures.value in
     let start : c.split_at.result.0.now ≡ row c.args.graph.vertices c.args.chips.now c.loop-number.number =
@@ -33,7 +33,7 @@ returns-in_err-game c =
     rw (p.1, p.2) (inr (c.loop-number.number, c.loop-number-test.true, (λ j l. (played.each j l).is_game), rw (same_graph, start) at c.in_err-game.ensures))
 
 pub loop-number-preserved : goal.loop-number-preserved
-loop-number-preserved c =
+loop-number-preserved g c =
     let (same_graph, rest, played) = c.loop-number.invariant in
     let i : ℕ = c.loop-number.number in
     let G : Multigraph = c.args.graph in
@@ -52,6 +52,6 @@ loop-number-preserved c =
     )
 
 pub returns : goal.returns
-returns c =
+returns g c =
     let all : c.loop-number.number ≡ c.args.games = omega arith in
     rw all at c.loop-number.invariant.2

@@ -5,10 +5,10 @@ use Rattle.chip_sequence.specs.Counted.{game_from}
 use Rattle.chip_sequence.specs.Play.{IsPlayed}
 use Rattle.chip_library.specs.EdgeLists.{graph_of}
 use Rattle.chip_library.specs.Claims.{IsClaim}
-use Rattle.chip_library.proofs.claims.verify.Goals as goal
+use Rattle.chip_library.proofs.claims.verify_watched.Goals as goal
 
 pub returns-in-Some : goal.returns-in-Some
-returns-in-Some c =
+returns-in-Some g c =
     let is : c.in_ok-game.game ≡ game_from (graph_of c.args.edges) c.args.chips.now c.args.limit = c.in_ok-game.ensures.0
     ∙ ap (λ (G : Multigraph). game_from G c.args.chips.now c.args.limit) c.in_ok-graph.ensures.0 in
     let claim : IsClaim c.args.edges c.args.chips.now c.args.fired.now c.args.ends.now = search rules in
@@ -17,7 +17,7 @@ returns-in-Some c =
     inr (inr (inr (inr (claim, is_game, c.in_ok-outcome.outcome, played, c.in-Some.vertex, refl, c.in-Some.ensures))))
 
 pub returns : goal.returns
-returns c =
+returns g c =
     let is : c.in_ok-game.game ≡ game_from (graph_of c.args.edges) c.args.chips.now c.args.limit = c.in_ok-game.ensures.0
     ∙ ap (λ (G : Multigraph). game_from G c.args.chips.now c.args.limit) c.in_ok-graph.ensures.0 in
     let claim : IsClaim c.args.edges c.args.chips.now c.args.fired.now c.args.ends.now = search rules in

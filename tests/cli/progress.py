@@ -2,7 +2,7 @@
 
 The game is a chain on which each vertex but the last sends two chips back for one that it sends on, so that each vertex
 more doubles the firings: no counts are found for it that shorten the play. With 25 vertices it takes a few seconds, and
-with 40 nobody waits for its end.
+with 40 nobody waits for its end. And a heap on a lattice, for which counts are found, after many steps.
 """
 import json
 import math
@@ -15,6 +15,8 @@ import time
 
 SECONDS = 60
 SHORT, LONG, ENDLESS = 5, 25, 40
+# The heap of which it is guessed for seconds how it ends: the side of its lattice, and its chips.
+SIDE, HEAP = 301, 400_000
 # How many bytes the first piece of an input has that is read slowly, and how many seconds later the rest comes.
 FIRST, PAUSE = 7, 1.3
 READ = b"chipfire: progress: reading, %d bytes\n"
@@ -31,7 +33,7 @@ STARTS = {
 # What a command is at where it makes no rounds or turns.
 ON_ONE_THREAD = re.compile(
     rb"chipfire: progress: (reading, [0-9]+ bytes|read [0-9]+ vertices, [0-9]+ edges"
-    rb"|guessing, [0-9]+ steps, [0-9]+ chips still to move|writing [0-9]+ bytes)\n"
+    rb"|guessing, [0-9]+ steps, this try is off by [0-9]+ chips|writing [0-9]+ bytes)\n"
 )
 OTHERWISE = {
     "plain": ON_ONE_THREAD,
@@ -53,6 +55,38 @@ def write_uphill(folder, length):
         chips, none = [64] + [0] * length, [0] * (length + 1)
         said = {"chips": chips, "closed": True, "fired": none, "over": [], "sealed": [], "version": 1}
         file.write(json.dumps(said, separators=(",", ":")) + "\n")
+
+
+def write_heap(folder):
+    """Writes the game of a heap on a square lattice with loss at its rim, of which it is guessed for seconds how often
+    each vertex fires."""
+    at = lambda row, column: row * SIDE + column if 0 <= row < SIDE > column >= 0 else SIDE * SIDE
+    steps = [(1, 0), (-1, 0), (0, 1), (0, -1)]
+    squares = [(row, column) for row in range(SIDE) for column in range(SIDE)]
+    edges = [f"[{at(r, c)},{at(r + down, c + right)},1]" for r, c in squares for down, right in steps]
+    with open(f"{folder}/graph.json", "w", encoding="utf-8") as file:
+        sizes = f'"sink":{SIDE * SIDE},"version":1,"vertices":{SIDE * SIDE + 1}'
+        file.write(f'{{"edges":[{",".join(edges)}],{sizes}}}')
+    with open(f"{folder}/chips.csv", "w", encoding="utf-8") as file:
+        file.write(f"vertex,chips\n{at(SIDE // 2, SIDE // 2)},{HEAP}\n")
+
+
+def guessed(program):
+    """What is wrong with the lines of a long search: the numbers of each kind of line never fall, but those of which the
+    line says that they are of one try."""
+    with tempfile.TemporaryDirectory(prefix="chipfire-progress-") as room:
+        write_heap(room)
+        words = words_of(program, "plain", "--large", "--progress")
+        ran = subprocess.run(words, capture_output=True, timeout=SECONDS, cwd=room)
+    kinds = {}
+    for line in ran.stderr.splitlines():
+        said = re.sub(rb"this try is off by [0-9]+ chips", b"", line)
+        numbers = [int(number) for number in re.findall(rb"[0-9]+", said)]
+        kinds.setdefault(re.sub(rb"[0-9]+", b"", said), []).append(numbers)
+    if ran.returncode != 0 or sum(b"guessing" in kind for kind in kinds) != 1:
+        return [f"status {ran.returncode}, and these are no lines of one search: {ran.stderr!r}"]
+    falls = [rows for rows in kinds.values() if any(list(it) != sorted(it) for it in zip(*rows))]
+    return [f"numbers fall: {falls}"] if falls else []
 
 
 def words_of(program, command, *options):
@@ -153,6 +187,7 @@ def play_long(program):
     yield "progress.py", "run tells how it goes on", told(program, "run")
     yield "progress.py", "run tells how it goes on, one worker", told(program, "run", "--workers", "1")
     yield "progress.py", "run tells how it goes on, dealt out", told(program, "run", "--dealt")
+    yield "progress.py", "plain tells how a search goes on", guessed(program)
     rows = b"vertex,chips,size,extent,lost\n%d,1,0,0,0\n" % ENDLESS
     yield "progress.py", "avalanches tells how a drop goes on, after its rows", told(program, "avalanches", output=rows)
     yield "progress.py", "a long play answers the same", same(program, "plain")

@@ -14,12 +14,20 @@ use std::rt::Clock;
 pub struct RoundProgress<'a, R: Clock + Eprint> {
     console: &'a Console<'a, R>,
     rounds: u64,
+    /// How many steps the searches made that are over, and the one that is told of.
+    searched: u64,
+    steps: u64,
 }
 
 impl<'a, R: Clock + Eprint> RoundProgress<'a, R> {
     /// Before the first round.
     pub fn start(console: &'a Console<'a, R>) -> RoundProgress<'a, R> {
-        RoundProgress { console, rounds: 0 }
+        RoundProgress {
+            console,
+            rounds: 0,
+            searched: 0,
+            steps: 0,
+        }
     }
 }
 
@@ -47,13 +55,19 @@ impl<R: Clock + Eprint> Watch for RoundProgress<'_, R> {
     }
 
     fn searches(&mut self, search: &Search<'_>) {
+        self.steps = search.steps();
         if self.console.is_due() {
-            let steps = search.steps();
+            let steps = self.searched.saturating_add(self.steps);
             let chips = search.chips_to_move();
             let _ = eprintln!(self.console.rt;
-                "chipfire: progress: guessing, {steps} steps, {chips} chips still to move"
+                "chipfire: progress: guessing, {steps} steps, this try is off by {chips} chips"
             );
         }
+    }
+
+    fn searched(&mut self, _play: &Play<'_>, _played: u64, _searched: u64) {
+        self.searched = self.searched.saturating_add(self.steps);
+        self.steps = 0;
     }
 
     fn rounds(&mut self, more: u64, play: &Play<'_>) {

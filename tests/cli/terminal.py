@@ -51,7 +51,6 @@ TOLD = {
         ("52 Mismatch", ["in report.json", "fault 52 Mismatch: the report has another number of vertices than the graph"]),
     "verify graph.json chips.csv played.json":
         ("53 Differs 0", ["in played.json", "fault 53 Differs v: the report is not of this game, and v is the least vertex that differs"]),
-    "explain 14": ("91 Usage", ["fault 91 Usage: the arguments are no command"]),
 }
 # Commands that are none, and the words that have to stand below the fault.
 WRONG = {
@@ -59,6 +58,25 @@ WRONG = {
     "plain graph.json chips.csv --limit 1e3": ["1e3", "--limit"],
     "plain graph.json": ["CHIPS", "Usage: ", "plain"],
     "expalin 21": ["expalin", "explain"],
+    "--limt 5": ["'--limt'"],
+    "plain graph.json chips.csv --limit -1": ["'-1'"],
+    "plain graph.json chips.csv --limit=-1": ["'-1'", "--limit"],
+    "plain graph.json chips.csv --limit": ["--limit"],
+    "plain graph.json chips.csv --limit=1099511627777": ["'1099511627777'", "--limit"],
+    "plain graph.json chips.csv --limit 3 --limit 4": ["--limit"],
+    "plain graph.json chips.csv --large=3": ["'3'", "--large"],
+    "plain graph.json chips.csv more.csv": ["'more.csv'"],
+    "simulate graph.json chips.csv early.csv --ring 65": ["'65'", "--ring"],
+    "explain 14": ["'14'"],
+    "explain -- 14": ["'14'"],
+    "explain what": ["'what'"],
+    "explain 21 22": ["'22'"],
+    "explain 36893488147419103232": ["'36893488147419103232'"],
+    "explain rule 200": ["'200'"],
+    "explain rule two": ["'two'"],
+    "plain graph.json caf\udce9.csv": [r"'caf\xe9.csv'"],
+    "pl\udcffin graph.json chips.csv": [r"'pl\xffin'"],
+    f"plain {'x' * 5000} \udcff.csv": [r"'\xff.csv'"],
 }
 
 
@@ -101,7 +119,7 @@ def told_of_wrong(program, words):
     status, out, told, _ = run(program, words, True)
     line, _, below = told.partition("\n")
     alone = run(program, words, False)
-    missing = [it for it in WRONG[words] if it not in below]
+    missing = [it for it in [*WRONG[words], "error: "] if it not in below]
     is_well = (status, out, line) == (1, "", "chipfire: fault 91 Usage") and alone == (1, "", line + "\n", True)
     return [] if is_well and not missing else [f"{missing} is missing, or the rest is wrong: {told!r}, {alone}"]
 

@@ -6,7 +6,7 @@
 
 pub use commands::limits_of;
 pub use console::{Console, Reader};
-pub use terminal::tell_more;
+pub use terminal::{say_no_text, say_unexpected, tell_more};
 
 mod commands;
 mod console;

@@ -12,7 +12,7 @@ ghost use Rattle.chipfire.specs.ExitStatus.{status_of};
 
 use chip_arguments::{ArgumentsFault, Request, RunArguments, limits, parse};
 use chip_command::{Ended, Fault, Status, conclude, explanations, rules};
-use chip_console::{Console, limits_of, tell_more};
+use chip_console::{Console, limits_of, say_no_text, say_unexpected, tell_more};
 use chip_crew::{MAX_TRACE_ROWS, MAX_TURNS, MAX_WORKERS, Plan, Sharing};
 use chip_engine::{explain_engine, plain_engine};
 use chip_graph::MAX_LIMIT;
@@ -89,9 +89,13 @@ fn run<
         + Wait
         + Sync,
 >(rt: &R, about: &mut String) -> Result<Ended, Fault> {
-    let arguments: Vec<String> = env::args(rt)
-        .map_err(fault_of_arguments)?
-        .collect(rt.alloc())?;
+    let arguments: Vec<String> = match env::args(rt) {
+        Ok(arguments) => arguments.collect(rt.alloc())?,
+        Err(error) => {
+            let _ = say_no_text(about, rt);
+            return Err(fault_of_arguments(error));
+        }
+    };
     let mut output = io::writer(rt);
     if arguments.len() < 2 {
         let (mut graph, mut chips) = (TRIANGLE.as_bytes(), FOUR_CHIPS.as_bytes());
@@ -105,11 +109,16 @@ fn run<
                 if let Some(argument) = arguments.get(place) {
                     let _ = about.push_str(argument.as_str());
                 }
+            } else if ended == Err(Fault::Usage) {
+                let _ = say_unexpected(about, &arguments);
             }
             ended
         }
         Err(ArgumentsFault::Usage(said)) => {
             *about = said;
+            if about.is_empty() {
+                let _ = say_unexpected(about, &arguments);
+            }
             Err(Fault::Usage)
         }
         Err(ArgumentsFault::NoMemory) => Err(Fault::NoMemory),

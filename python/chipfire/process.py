@@ -142,10 +142,11 @@ def _meant(
 
 def _untaken(program: str, words: Sequence[str], inputs: Sequence[Input]) -> str:
     """Which words the program does not take, each by itself; all of them, if it takes each of them so."""
-    kinds = dict(zip(words[1:], (kind for kind, _ in inputs)))
+    kinds = [kind for kind, _ in inputs]
+    files = [kind for kind in kinds if kind != "number" and not kind.startswith("--")]
+    others = [word for word, kind in zip(words[1:], kinds) if kind not in files] + [*words[1 + len(kinds) :]]
     # (a file without a name cannot be opened, so nothing is played to find this out)
-    nameless = [words[0], *("" for kind in kinds.values() if kind != "number" and not kind.startswith("--"))]
-    others = [word for word in words[1:] if kinds.get(word, "--").startswith(("--", "number"))]
+    nameless = [words[0], *[""] * len(files)]
     wrong = [word for word in words if re.search("[\ud800-\udfff]", word)]
     if not wrong and _is_untaken(program, nameless):
         wrong = [words[0]]

@@ -578,6 +578,9 @@ class Mistakes(WithFolder):
             fault = self.fault(chipfire.plain, TRIANGLE, CHIPS_FILE, limit=3, program=self.program(f"{taken} || {usage}"))
             said = f"fault 91 Usage: it does not take the {told}"
             self.assertEqual(str(fault).partition("\n")[0].rstrip(), said, fault)
+        taken = 'case "$*" in *--limit*) false;; plain*) test $# -ge 3;; esac'
+        fault = self.fault(chipfire.plain, CHIPS_FILE, CHIPS_FILE, limit=3, program=self.program(f"{taken} || {usage}"))
+        self.assertEqual(fault.words, "it does not take the word `--limit=3`")
 
     def test_of_the_words_one_that_is_no_utf_8_is_told(self):
         fault = self.fault(chipfire.plain, TRIANGLE, os.fsdecode(b"caf\xe9.csv"), limit=3)

@@ -10,7 +10,9 @@ import stat
 import subprocess
 import tempfile
 import threading
-import time
+
+from progress import ENDLESS as LONGEST
+from progress import write_uphill
 
 SECONDS = 60
 DROPS = "vertex,chips\n0,1\n"
@@ -20,6 +22,8 @@ OLD = b"what was there before, which is longer than what is written now, be that
 GAME = ["graph.json", "chips.csv"]
 DROPPED = ["avalanches", *GAME, "drops.csv", "--report"]
 RUN = ["run", *GAME, "--workers", "1", "--trace"]
+# A row, and then a drop without an end, of the game that `write_uphill` writes.
+ENDLESS = ["avalanches", "graph.json", "none.csv", "drops.csv", "--report"]
 NOBODY = 65534
 
 
@@ -118,23 +122,51 @@ def cut(room):
     return compared(((err, status), wanted), (room.read("report.json"), OLD), (room.more(), ["report.json"]))
 
 
-def killed(room):
-    """A program that is killed leaves the old report, and one file beside it; the next one leaves that alone."""
-    room.write("report.json", OLD)
-    os.remove(room.path("drops.csv"))
-    os.mkfifo(room.path("drops.csv"))
-    process = room.start([*DROPPED, "report.json"])
-    with open(room.path("drops.csv"), "wb"), process:
-        until = time.monotonic() + SECONDS
-        while len(room.more()) < 2 and time.monotonic() < until:
-            time.sleep(0.01)
-        process.send_signal(signal.SIGKILL)
-    left = ["report.json", "report.json.chipfire-1"]
-    found = compared((room.more(), left), (room.read("report.json"), OLD))
-    os.remove(room.path("drops.csv"))
-    room.write("drops.csv", DROPS.encode())
+def stopped(room, name, left, begun):
+    """What is wrong where the program is stopped, by each signal that does, while it plays. The report was to be `name`,
+    `left` is what must be in the folder after that, and `begun` is what comes on its output before the long drop."""
+    found = []
+    for number in (signal.SIGINT, signal.SIGTERM, signal.SIGKILL):
+        process = room.start([*ENDLESS, name], stderr=subprocess.DEVNULL)
+        with process:
+            came = process.stdout.read(len(begun))
+            process.send_signal(number)
+            process.stdout.read()
+        found += compared((came, begun), (process.returncode, -number), (room.more(), left))
+    return found
+
+
+def interrupted(room):
+    """A program that is stopped while it plays leaves what was there: the old report, or none, and nothing beside."""
+    write_uphill(room.folder, LONGEST)
+    room.write("report.json", OLD, 0o640)
+    room.write("there", OLD)
+    os.link(room.path("there"), room.path("hard"))
+    os.symlink("there", room.path("soft"))
+    os.symlink("nowhere", room.path("dangling"))
+    room.before, left = room.before | {"none.csv"}, ["dangling", "hard", "report.json", "soft", "there"]
+    rows = b"vertex,chips,size,extent,lost\n%d,1,0,0,0\n" % LONGEST
+    found = []
+    for name in ["report.json", "new.json", "hard", "soft", "dangling", "n" * 250]:
+        found += stopped(room, name, left, rows)
+    return found + compared((room.read("report.json"), OLD), (room.read("there"), OLD))
+
+
+def grouped(room):
+    """A report is written in the place of a file of another group, which keeps that. Skipped where no group can be given
+    away."""
+    room.write("report.json", OLD, 0o640)
+    groups = [group for group in (NOBODY, *os.getgroups()) if group != os.stat(room.path("report.json")).st_gid]
+    try:
+        os.chown(room.path("report.json"), -1, groups[0])
+    except (PermissionError, IndexError):
+        return []
+    before = os.stat(room.path("report.json"))
     came = room.ran([*DROPPED, "report.json"])
-    return found + compared((came, (ROWS, b"", 0)), (room.read("report.json"), REPORT), (room.more(), left))
+    after = os.stat(room.path("report.json"))
+    found = compared((came, (ROWS, b"", 0)), (room.read("report.json"), REPORT), (room.more(), ["report.json"]))
+    owned = [(it.st_ino, it.st_uid, it.st_gid, it.st_mode) for it in (after, before)]
+    return found + compared(tuple(owned))
 
 
 def linked(room):
@@ -216,8 +248,8 @@ def mounted(room):
 
 def write_files(program, examples):
     """Writes into such files, and yields for each its place, its name and its faults."""
-    tests = [(test.__doc__, test) for test in (replaced, made, kept, cut, killed, linked, piped, full, nowhere)]
-    tests += [(test.__doc__, test) for test in (closed_folder, mounted)]
+    tests = [(test.__doc__, test) for test in (replaced, made, kept, cut, interrupted, grouped, linked, piped, full)]
+    tests += [(test.__doc__, test) for test in (nowhere, closed_folder, mounted)]
     for words in (DROPPED, RUN):
         for stream in ("stdout", "stderr"):
             for name in ("same", "hard", "soft", f"/dev/{stream}"):

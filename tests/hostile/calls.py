@@ -16,7 +16,8 @@ def seen_calls(machine, worked):
 
     def faults():
         seen, files, opens = machine.calls(worked.words), len(worked.files()), len(worked.opens())
-        is_read = seen["open"] == opens and seen["read"] >= 2 * files
+        # (the place of a report is tried before the play)
+        is_read = seen["open"] == opens + bool(worked.report) and seen["read"] >= 2 * files
         is_written = seen["err" if worked.fault else "out"] == 1 and (seen["file"] > 0) == (opens > files)
         is_well = is_read and is_written and seen["thread"] == worked.threads
         return [] if is_well else [f"of {files} files and {worked.threads} threads these calls were seen: {seen}"]
@@ -25,8 +26,8 @@ def seen_calls(machine, worked):
 
 
 def failing_opens(machine, worked):
-    """An open that fails names the argument; one that is interrupted is made again. A report is opened beside its place,
-    and in it where that fails."""
+    """An open that fails names the argument; one that is interrupted is made again. The place of a report is tried before
+    the play, beside it, and in it where that fails. An open that fails after the play is a write that fails."""
     opens = worked.opens()
     for number, place in enumerate(opens, 1):
         last = LAST if worked.report and number == len(opens) else number
@@ -44,12 +45,19 @@ def failing_opens(machine, worked):
 
             yield f"{worked.name}: open {number} fails by {name}", faults
     if worked.report:
+        tried = len(opens)
 
         def in_place():
-            ran, tally = machine.run_refusing(worked.words, ("open", len(opens), len(opens), errno.EACCES))
-            return worked.differences(ran) + ([] if tally["open"] == (len(opens) + 1, 1) else [f"opens: {tally}"])
+            ran, tally = machine.run_refusing(worked.words, ("open", tried, tried, errno.EACCES))
+            return worked.differences(ran) + ([] if tally["open"] == (tried + 2, 1) else [f"opens: {tally}"])
+
+        def unmade(error):
+            ran, _ = machine.run_refusing(worked.words, ("open", tried + 1, LAST, error))
+            return worked.faulted(ran, "93 Write", worked.out)
 
         yield f"{worked.name}: no file can be made beside its report", in_place
+        for name in OPEN_ERRORS:
+            yield f"{worked.name}: none can be made after the play by {name}", lambda name=name: unmade(getattr(errno, name))
 
 
 def failing_reads(machine, worked):

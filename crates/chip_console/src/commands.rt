@@ -70,7 +70,7 @@ impl<R: Files<File = File> + Input + Clock + Eprint + AllocGlobal> Console<'_, R
         output: &mut W,
     ) -> Result<Ended, Fault> {
         let (mut graph, mut chips, mut drops) = self.open_game_and(&asked.game, &asked.drops)?;
-        let mut report = self.create_report(&asked.report, &[&graph, &chips, &drops])?;
+        let mut report = self.try_report(&asked.report, &[&graph, &chips, &drops])?;
         let ended = avalanches_engine_with(
             self.rt.alloc(),
             &mut graph,
@@ -79,9 +79,12 @@ impl<R: Files<File = File> + Input + Clock + Eprint + AllocGlobal> Console<'_, R
             play_options(&asked.game),
             &mut RoundProgress::start(self),
             output,
-            &mut report.file,
+            &mut report,
         );
-        report.put(self.rt, ended)
+        match report {
+            Some(report) => report.put(ended),
+            None => ended,
+        }
     }
 
     /// Runs a schedule.

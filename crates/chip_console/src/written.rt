@@ -4,11 +4,11 @@ use crate::console::{Console, Reader, above_streams, is_same};
 use chip_arguments::FileArgument;
 use chip_command::{Ended, Fault};
 use std::alloc::AllocError;
-use std::fs;
 use std::fs::{File, Metadata, OpenFile};
-use std::io::{ErrorKind, Input};
+use std::io::{ErrorKind, Input, Write};
 use std::os::unix::fs::MetadataExt;
 use std::rt::{Clock, Files};
+use std::{fs, io};
 
 /// The folder in which the system says which files standard output and standard error are.
 const STREAMS: [&str; 2] = ["/dev/stdout", "/dev/stderr"];
@@ -16,32 +16,130 @@ const STREAMS: [&str; 2] = ["/dev/stdout", "/dev/stderr"];
 /// How many names are tried for a new file beside another one.
 const MOST_NAMES: u64 = 1000;
 
-/// The file of `--report`, if there is one. It is written beside its place if that can be, and put there once it is whole.
+/// The file of `--report`. Its place is tried at once, and it is made when the first bytes come: beside its place if that
+/// can be, and put there once it is whole.
 #[derive(Drop)]
-pub(crate) struct ReportFile<'a> {
+pub(crate) struct ReportFile<'a, R> {
+    rt: &'a R,
     path: &'a str,
-    /// The name that it has until then. `None` if it is written in its place.
-    beside: Option<String>,
-    pub(crate) file: Option<File>,
+    /// Whether it is made beside its place, and the name that it has there.
+    is_beside: bool,
+    name: String,
+    /// `None` until it is made, or held open.
+    file: Option<File>,
 }
 
-impl<'a> ReportFile<'a> {
-    /// Puts it in place after a command that ended well, and removes what is beside after a fault.
-    pub(crate) fn put<R: Files<File = File>>(
-        self,
-        rt: &R,
-        ended: Result<Ended, Fault>,
-    ) -> Result<Ended, Fault> {
-        let Some(beside) = &self.beside else {
-            return ended;
+impl<R: Files<File = File>> Write for ReportFile<'_, R> {
+    fn write(&mut self, buf: &[u8]) -> io::Result<usize> {
+        if self.file.is_none() {
+            self.file = if self.is_beside {
+                self.create_beside()?
+            } else {
+                Some(fs::create(self.rt, self.path).and_then(above_streams)?)
+            };
+        }
+        match &mut self.file {
+            Some(file) => file.write(buf),
+            None => Ok(0),
+        }
+    }
+
+    fn flush(&mut self) -> io::Result<()> {
+        Ok(())
+    }
+}
+
+impl<'a, R: Files<File = File> + AllocGlobal> ReportFile<'a, R> {
+    /// That of this path, if it can be made there. Nothing is left of the trial.
+    fn try_at(rt: &'a R, file: &FileArgument<'a>) -> Result<ReportFile<'a, R>, Fault> {
+        let mut report = ReportFile {
+            rt,
+            path: file.path,
+            is_beside: true,
+            name: String::new(rt.alloc()),
+            file: None,
         };
-        let beside = beside.as_str();
-        if ended.is_ok() && fs::rename(rt, beside, self.path).is_ok() {
+        if report.create_beside()?.is_some() {
+            let _ = fs::remove_file(rt, report.name.as_str());
+            return Ok(report);
+        }
+        report.is_beside = false;
+        report.file = report
+            .open_in_place()
+            .map_err(|_| Fault::Open(file.number))?;
+        Ok(report)
+    }
+
+    /// What is in the place and no regular file, as a pipe, opened for good. A regular file is opened, as it is, and closed
+    /// again, and a new one is removed again.
+    fn open_in_place(&self) -> io::Result<Option<File>> {
+        let is_new = fs::metadata(self.rt, self.path).is_err();
+        let mut options = File::options();
+        let opened = options.write(true).create(true).open(self.rt, self.path)?;
+        if !opened.metadata()?.is_file() {
+            return Ok(Some(above_streams(opened)?));
+        }
+        if is_new {
+            // (a link that leads to it stays)
+            if let Ok(whole) = self.rt.canonicalize(self.rt.alloc(), self.path) {
+                let _ = fs::remove_file(self.rt, whole.as_path());
+            }
+        }
+        Ok(None)
+    }
+}
+
+impl<R: Files<File = File>> ReportFile<'_, R> {
+    /// A new file beside the place, whose name is noted. `None` if none can be made there, or if what is in the place is
+    /// another thing than a file that can be written, of the same owner, with no other name.
+    fn create_beside(&mut self) -> Result<Option<File>, AllocError> {
+        let old = match fs::symlink_metadata(self.rt, self.path) {
+            Ok(old) if old.is_file() && old.nlink() == 1 => Some(old),
+            Err(error) if error.kind() == ErrorKind::NotFound && !self.path.is_empty() => None,
+            _ => return Ok(None),
+        };
+        let can_write = old.is_none()
+            || File::options().write(true).open(self.rt, self.path).is_ok();
+        if !can_write {
+            return Ok(None);
+        }
+        for number in 1..=MOST_NAMES {
+            self.name.clear();
+            let path = self.path;
+            write!(self.name, "{path}.chipfire-{number}")?;
+            match File::create_new(self.rt, self.name.as_str()) {
+                Ok(made) => return Ok(self.replacing(made, old)),
+                Err(error) if error.kind() == ErrorKind::AlreadyExists => {}
+                Err(_) => return Ok(None),
+            }
+        }
+        Ok(None)
+    }
+
+    /// A new file with the mode of the one that it will replace, if it has the same owner. Otherwise it is removed.
+    fn replacing(&self, made: File, old: Option<Metadata>) -> Option<File> {
+        let made = above_streams(made).ok().filter(|made| match &old {
+            Some(old) => takes_after(made, old),
+            None => true,
+        });
+        if made.is_none() {
+            let _ = fs::remove_file(self.rt, self.name.as_str());
+        }
+        made
+    }
+
+    /// Puts it in place after a command that ended well, and removes what is beside after a fault.
+    pub(crate) fn put(self, ended: Result<Ended, Fault>) -> Result<Ended, Fault> {
+        if !self.is_beside || self.file.is_none() {
+            return ended;
+        }
+        let beside = self.name.as_str();
+        if ended.is_ok() && fs::rename(self.rt, beside, self.path).is_ok() {
             return ended;
         }
         // A place that cannot be renamed into, as one where something is mounted, may still be written.
-        let is_put = ended.is_ok() && fs::copy(rt, beside, self.path).is_ok();
-        let _ = fs::remove_file(rt, beside);
+        let is_put = ended.is_ok() && fs::copy(self.rt, beside, self.path).is_ok();
+        let _ = fs::remove_file(self.rt, beside);
         if is_put || ended.is_err() {
             ended
         } else {
@@ -64,29 +162,17 @@ impl<R: Files<File = File> + Input + Clock + Eprint + AllocGlobal> Console<'_, R
         Ok(Some(self.empty(file)?))
     }
 
-    /// Creates the file of `--report`, if there is one, beside its place or in it.
-    pub(crate) fn create_report<'f>(
-        &self,
+    /// The file of `--report`, if there is one.
+    pub(crate) fn try_report<'f>(
+        &'f self,
         file: &Option<FileArgument<'f>>,
         inputs: &[&Reader<'_, R>],
-    ) -> Result<ReportFile<'f>, Fault> {
+    ) -> Result<Option<ReportFile<'f, R>>, Fault> {
         let Some(file) = file else {
-            return Ok(ReportFile {
-                path: "",
-                beside: None,
-                file: None,
-            });
+            return Ok(None);
         };
         self.refuse_used(file, inputs)?;
-        let (beside, file_of_report) = match self.create_beside(file.path)? {
-            Some((name, made)) => (Some(name), made),
-            None => (None, self.empty(file)?),
-        };
-        Ok(ReportFile {
-            path: file.path,
-            beside,
-            file: Some(file_of_report),
-        })
+        Ok(Some(ReportFile::try_at(self.rt, file)?))
     }
 
     /// Refuses a file to be written that is one of these inputs, or a file into which a standard stream goes.
@@ -113,42 +199,6 @@ impl<R: Files<File = File> + Input + Clock + Eprint + AllocGlobal> Console<'_, R
         fs::create(self.rt, file.path)
             .and_then(above_streams)
             .map_err(|_| Fault::Open(file.number))
-    }
-
-    /// A new file beside this place, with its name. `None` if none can be made there, or if what is in the place is
-    /// another thing than a file that can be written, of the same owner, with no other name.
-    fn create_beside(&self, path: &str) -> Result<Option<(String, File)>, AllocError> {
-        let old = match fs::symlink_metadata(self.rt, path) {
-            Ok(old) if old.is_file() && old.nlink() == 1 => Some(old),
-            Err(error) if error.kind() == ErrorKind::NotFound && !path.is_empty() => None,
-            _ => return Ok(None),
-        };
-        let can_write = old.is_none() || File::options().write(true).open(self.rt, path).is_ok();
-        if !can_write {
-            return Ok(None);
-        }
-        let alloc = self.rt.alloc();
-        for number in 1..=MOST_NAMES {
-            let name = format!(in alloc; "{path}.chipfire-{number}")?;
-            match File::create_new(self.rt, name.as_str()) {
-                Ok(made) => return Ok(self.replacing(name, made, old)),
-                Err(error) if error.kind() == ErrorKind::AlreadyExists => {}
-                Err(_) => return Ok(None),
-            }
-        }
-        Ok(None)
-    }
-
-    /// A new file with the mode of the one that it will replace, if it has the same owner. Otherwise it is removed.
-    fn replacing(&self, name: String, made: File, old: Option<Metadata>) -> Option<(String, File)> {
-        let made = above_streams(made).ok().filter(|made| match &old {
-            Some(old) => takes_after(made, old),
-            None => true,
-        });
-        if made.is_none() {
-            let _ = fs::remove_file(self.rt, name.as_str());
-        }
-        Some((name, made?))
     }
 }
 

@@ -4,9 +4,11 @@ use Rattle.chip_graph.specs.Limits.{SizeLimits, standard, large}
 use Rattle.chip_link.specs.Rings.{ring_of}
 use Rattle.chip_arguments.specs.declared.arguments.GameArguments.{GameArguments}
 use Rattle.chip_arguments.specs.declared.arguments.SimulationArguments.{SimulationArguments}
+use Rattle.chip_arguments.specs.declared.arguments.ReplayArguments.{ReplayArguments}
 use Rattle.chip_arguments.specs.declared.arguments.JudgeArguments.{JudgeArguments}
 use Rattle.chip_judge.specs.declared.judge.JudgeOptions.{JudgeOptions}
 use Rattle.chip_command.specs.declared.options.PlayOptions.{PlayOptions}
+use Rattle.chip_engine.specs.declared.replay.ReplayOptions.{ReplayOptions}
 use Rattle.chip_engine.specs.declared.simulate.SimulateOptions.{SimulateOptions}
 
 -- how large a graph and the files of its game may be
@@ -20,6 +22,10 @@ play_options asked = record { limits = limits_of asked.large; limit = asked.limi
 -- how a log is judged
 abbrev pub judge_options : JudgeArguments → JudgeOptions
 judge_options asked = record { limits = limits_of asked.large; past = asked.past }
+
+-- how a recorded run is replayed
+abbrev pub replay_options : ReplayArguments → ReplayOptions
+replay_options asked = record { play = play_options asked.game; complete = asked.complete }
 
 -- how a schedule is run, if a ring may have this number of cells
 abbrev pub simulate_options : SimulationArguments → Option SimulateOptions

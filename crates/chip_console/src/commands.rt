@@ -1,13 +1,17 @@
 //! The commands of one thread: each opens the files that its arguments name and calls its engine.
+//!
+//! What a file gives no clause can name. So a command takes who opens its files, and its clause is about files of which
+//! the bytes are known.
 
-ghost use Rattle.std.specs.Prelude.{◌≡◌};
-ghost use Rattle.chip_console.specs.Options.{limits_of, judge_options, play_options, simulate_options};
+ghost use Rattle.std.specs.Prelude.{◌≡◌, ◌⊎◌, IfErr, IfOk};
+ghost use Rattle.chip_console.specs.Commands.{Checks, Drops, Judges, Plays, Replays, Resumes, Simulates, Verifies};
+ghost use Rattle.chip_console.specs.Options.{limits_of, judge_options, play_options, replay_options, simulate_options};
 
-use crate::console::{Console, Reader};
+use crate::console::{Console, Opener};
 use crate::progress::{ClaimProgress, RoundProgress};
 use chip_arguments::{
-    AvalancheArguments, CheckArguments, FileArgument, GameArguments, JudgeArguments,
-    PlainArguments, ReplayArguments, SimulationArguments, VerifyArguments,
+    AvalancheArguments, CheckArguments, GameArguments, JudgeArguments, PlainArguments,
+    ReplayArguments, SimulationArguments, VerifyArguments,
 };
 use chip_command::{Ended, Fault};
 use chip_engine::{
@@ -24,22 +28,28 @@ use std::rt::{Clock, Files};
 
 impl<R: Files<File = File> + Input + Clock + Eprint + AllocGlobal> Console<'_, R> {
     /// Checks a graph.
-    pub fn check<W: Write>(
+    pub fn check<O: Opener, W: Write>(
         &self,
+        files: &O,
         asked: &CheckArguments<'_>,
         output: &mut W,
-    ) -> Result<Ended, Fault> {
-        let mut graph = self.open(&asked.graph)?;
+    ) -> Result<Ended, Fault>
+        ensures { Checks O.known asked.now (W.contents output.old) (W.contents output.new) result }
+    {
+        let mut graph = files.open(&asked.graph)?;
         check_engine_with(self.rt.alloc(), &mut graph, limits_of(asked.large), output)
     }
 
     /// Plays a game on one thread, from a guess if one is named.
-    pub fn play<W: Write>(
+    pub fn play<O: Opener, W: Write>(
         &self,
+        files: &O,
         asked: &PlainArguments<'_>,
         output: &mut W,
-    ) -> Result<Ended, Fault> {
-        let (mut graph, mut chips) = self.open_game(&asked.game)?;
+    ) -> Result<Ended, Fault>
+        ensures { Plays O.known asked.now (W.contents output.old) (W.contents output.new) result }
+    {
+        let (mut graph, mut chips) = open_game(files, &asked.game)?;
         let (alloc, options) = (self.rt.alloc(), play_options(&asked.game));
         let mut progress = RoundProgress::start(self);
         match &asked.guess {
@@ -47,7 +57,7 @@ impl<R: Files<File = File> + Input + Clock + Eprint + AllocGlobal> Console<'_, R
                 alloc,
                 &mut graph,
                 &mut chips,
-                &mut self.open(file)?,
+                &mut files.open(file)?,
                 options,
                 &mut progress,
                 output,
@@ -64,12 +74,16 @@ impl<R: Files<File = File> + Input + Clock + Eprint + AllocGlobal> Console<'_, R
     }
 
     /// Drops chips, one row after another.
-    pub fn drop_chips<W: Write>(
+    pub fn drop_chips<O: Opener, W: Write>(
         &self,
+        files: &O,
         asked: &AvalancheArguments<'_>,
         output: &mut W,
-    ) -> Result<Ended, Fault> {
-        let (mut graph, mut chips, mut drops) = self.open_game_and(&asked.game, &asked.drops)?;
+    ) -> Result<Ended, Fault>
+        ensures { Drops O.known asked.now (W.contents output.old) (W.contents output.new) result }
+    {
+        let (mut graph, mut chips) = open_game(files, &asked.game)?;
+        let mut drops = files.open(&asked.drops)?;
         let mut report = self.try_report(&asked.report, &[&graph, &chips, &drops])?;
         let ended = avalanches_engine_with(
             self.rt.alloc(),
@@ -88,18 +102,19 @@ impl<R: Files<File = File> + Input + Clock + Eprint + AllocGlobal> Console<'_, R
     }
 
     /// Runs a schedule.
-    pub fn simulate<W: Write>(
+    pub fn simulate<O: Opener, W: Write>(
         &self,
+        files: &O,
         asked: &SimulationArguments<'_>,
         output: &mut W,
-    ) -> Result<Ended, Fault> {
+    ) -> Result<Ended, Fault>
+        ensures { Simulates O.known asked.now (W.contents output.old) (W.contents output.new) result }
+    {
         let Some(options) = simulate_options(asked) else {
             return Err(Fault::Usage);
         };
-        let (mut graph, mut chips, mut schedule) = self.open_game_and(
-            &asked.game,
-            &asked.schedule,
-        )?;
+        let (mut graph, mut chips) = open_game(files, &asked.game)?;
+        let mut schedule = files.open(&asked.schedule)?;
         simulate_engine_with(
             self.rt.alloc(),
             &mut graph,
@@ -111,32 +126,36 @@ impl<R: Files<File = File> + Input + Clock + Eprint + AllocGlobal> Console<'_, R
     }
 
     /// Replays a recorded run.
-    pub fn replay<W: Write>(
+    pub fn replay<O: Opener, W: Write>(
         &self,
+        files: &O,
         asked: &ReplayArguments<'_>,
         output: &mut W,
-    ) -> Result<Ended, Fault> {
-        let (mut graph, mut chips, mut trace) = self.open_game_and(&asked.game, &asked.trace)?;
+    ) -> Result<Ended, Fault>
+        ensures { Replays O.known asked.now (W.contents output.old) (W.contents output.new) result }
+    {
+        let (mut graph, mut chips) = open_game(files, &asked.game)?;
+        let mut trace = files.open(&asked.trace)?;
         replay_engine_with(
             self.rt.alloc(),
             &mut graph,
             &mut chips,
             &mut trace,
-            ReplayOptions {
-                play: play_options(&asked.game),
-                complete: asked.complete,
-            },
+            replay_options(asked),
             output,
         )
     }
 
     /// Goes on with a play.
-    pub fn resume<W: Write>(
+    pub fn resume<O: Opener, W: Write>(
         &self,
+        files: &O,
         asked: &GameArguments<'_>,
         output: &mut W,
-    ) -> Result<Ended, Fault> {
-        let (mut graph, mut report) = self.open_game(asked)?;
+    ) -> Result<Ended, Fault>
+        ensures { Resumes O.known asked.now (W.contents output.old) (W.contents output.new) result }
+    {
+        let (mut graph, mut report) = open_game(files, asked)?;
         resume_engine_with(
             self.rt.alloc(),
             &mut graph,
@@ -148,12 +167,16 @@ impl<R: Files<File = File> + Input + Clock + Eprint + AllocGlobal> Console<'_, R
     }
 
     /// Says whether a report is true of a game.
-    pub fn verify<W: Write>(
+    pub fn verify<O: Opener, W: Write>(
         &self,
+        files: &O,
         asked: &VerifyArguments<'_>,
         output: &mut W,
-    ) -> Result<Ended, Fault> {
-        let (mut graph, mut chips, mut report) = self.open_game_and(&asked.game, &asked.report)?;
+    ) -> Result<Ended, Fault>
+        ensures { Verifies O.known asked.now (W.contents output.old) (W.contents output.new) result }
+    {
+        let (mut graph, mut chips) = open_game(files, &asked.game)?;
+        let mut report = files.open(&asked.report)?;
         verify_engine_with(
             self.rt.alloc(),
             &mut graph,
@@ -166,12 +189,15 @@ impl<R: Files<File = File> + Input + Clock + Eprint + AllocGlobal> Console<'_, R
     }
 
     /// Judges the claims of a log.
-    pub fn judge<W: Write>(
+    pub fn judge<O: Opener, W: Write>(
         &self,
+        files: &O,
         asked: &JudgeArguments<'_>,
         output: &mut W,
-    ) -> Result<Ended, Fault> {
-        let mut log = self.open(&asked.log)?;
+    ) -> Result<Ended, Fault>
+        ensures { Judges O.known asked.now (W.contents output.old) (W.contents output.new) result }
+    {
+        let mut log = files.open(&asked.log)?;
         judge_engine_with(
             self.rt.alloc(),
             &mut log,
@@ -180,24 +206,19 @@ impl<R: Files<File = File> + Input + Clock + Eprint + AllocGlobal> Console<'_, R
             output,
         )
     }
+}
 
-    /// Opens the graph of a game, and then what the game starts with.
-    pub fn open_game(
-        &self,
-        game: &GameArguments<'_>,
-    ) -> Result<(Reader<'_, R>, Reader<'_, R>), Fault> {
-        Ok((self.open(&game.graph)?, self.open(&game.start)?))
-    }
-
-    /// Opens the files of a game, and then one more.
-    fn open_game_and(
-        &self,
-        game: &GameArguments<'_>,
-        file: &FileArgument<'_>,
-    ) -> Result<(Reader<'_, R>, Reader<'_, R>, Reader<'_, R>), Fault> {
-        let (graph, start) = self.open_game(game)?;
-        Ok((graph, start, self.open(file)?))
-    }
+/// Opens the graph of a game, and then what the game starts with.
+pub fn open_game<O: Opener>(
+    files: &O,
+    game: &GameArguments<'_>,
+) -> Result<(O::File, O::File), Fault>
+    ensures opened { IfOk result (λ opened.
+        (O.File.remaining opened.0 ≡ O.known game.now.graph) × (O.File.remaining opened.1 ≡ O.known game.now.start)) }
+    ensures refused { IfErr result (λ fault.
+        (fault ≡ Fault.Open game.now.graph.number) ⊎ (fault ≡ Fault.Open game.now.start.number)) }
+{
+    Ok((files.open(&game.graph)?, files.open(&game.start)?))
 }
 
 /// What a simulation does, if its ring can be.
@@ -211,6 +232,16 @@ fn simulate_options(asked: &SimulationArguments<'_>) -> Option<SimulateOptions>
         books: asked.books,
         fed: asked.fed,
     })
+}
+
+/// How a recorded run is replayed.
+fn replay_options(asked: &ReplayArguments<'_>) -> ReplayOptions
+    ensures { result ≡ replay_options asked.now }
+{
+    ReplayOptions {
+        play: play_options(&asked.game),
+        complete: asked.complete,
+    }
 }
 
 /// How large a log may be, and whether pasts are listed.

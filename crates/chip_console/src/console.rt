@@ -1,5 +1,8 @@
 //! What a command reads, and when it writes lines of progress.
 
+ghost use Rattle.std.specs.Prelude.{◌≡◌, ℕ, List, Option, None, IfErr, IfOk};
+ghost use Rattle.chip_arguments.specs.declared.arguments.FileArgument.{FileArgument};
+
 use chip_arguments::FileArgument;
 use chip_command::Fault;
 use std::fs::{File, Metadata};
@@ -94,27 +97,53 @@ impl<'a, R: Clock + Eprint> Console<'a, R> {
     }
 }
 
-impl<R: Files<File = File> + Input + Clock + Eprint> Console<'_, R> {
+/// Opens the files that arguments name.
+pub trait Opener {
+    type File: Opened;
+
+    /// The bytes that the file of an argument gives, where they are known.
+    ghost known: { FileArgument → Option (List ℕ) };
+
+    fn open(&self, file: &FileArgument<'_>) -> Result<Self::File, Fault>
+        ensures opened { IfOk result (λ opened. Self.File.remaining opened ≡ known file.now) }
+        ensures refused { IfErr result (λ fault. fault ≡ Fault.Open file.now.number) };
+}
+
+/// A file that is read, and told from one that is written.
+pub trait Opened: Read + Drop {
+    /// Whether it is the file with this metadata.
+    fn is_file(&self, found: &Metadata) -> bool;
+}
+
+impl<'a, R: Files<File = File> + Input + Clock + Eprint> Opener for &'a Console<'a, R> {
+    type File = Reader<'a, R>;
+
+    ghost known = { λ _. None };
+
     /// Opens the file that an argument names, or takes standard input, which can be taken once. This allocates nothing, so
     /// if the system is out of memory the fault is `Open`.
-    pub fn open(&self, file: &FileArgument<'_>) -> Result<Reader<'_, R>, Fault> {
+    fn open(&self, file: &FileArgument<'_>) -> Result<Reader<'a, R>, Fault> {
         self.note(file);
         let source = if file.path != STANDARD_INPUT {
-            let opened = fs::open(self.rt, file.path).and_then(above_streams);
-            Source::File(opened.map_err(|_| Fault::Open(file.number))?)
+            match fs::open(self.rt, file.path).and_then(above_streams) {
+                Ok(opened) => Source::File(opened),
+                Err(_) => return Err(Fault::Open(file.number)),
+            }
         } else if self.has_standard.swap(true, SeqCst) {
             return Err(Fault::Open(file.number));
         } else {
             Source::Standard
         };
         Ok(Reader {
-            console: self,
+            console: *self,
             argument: file.number,
             source,
             bytes: 0,
         })
     }
+}
 
+impl<R: Clock + Eprint> Console<'_, R> {
     /// Notes that this file is opened or read now.
     pub(crate) fn note(&self, file: &FileArgument<'_>) {
         self.last.store(file.number, SeqCst);
@@ -148,9 +177,8 @@ pub struct Reader<'a, R: Input + Clock + Eprint> {
     bytes: u64,
 }
 
-impl<R: Files<File = File> + Input + Clock + Eprint> Reader<'_, R> {
-    /// Whether it is the file with this metadata.
-    pub(crate) fn is_file(&self, found: &Metadata) -> bool {
+impl<R: Files<File = File> + Input + Clock + Eprint> Opened for Reader<'_, R> {
+    fn is_file(&self, found: &Metadata) -> bool {
         let now = match &self.source {
             Source::File(file) => file.metadata(),
             Source::Standard => fs::metadata(self.console.rt, "/dev/stdin"),

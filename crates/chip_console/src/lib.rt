@@ -4,8 +4,8 @@
 //! The crate waits for no threads. Most of it is tested on the program.
 #![tactic(auto)]
 
-pub use commands::limits_of;
-pub use console::{Console, Reader};
+pub use commands::{limits_of, open_game};
+pub use console::{Console, Opened, Opener, Reader};
 pub use terminal::{say_no_text, say_unexpected, tell_more};
 
 mod commands;

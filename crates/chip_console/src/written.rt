@@ -1,6 +1,9 @@
 //! The files of options into which a command writes.
 
-use crate::console::{Console, Reader, above_streams, is_same};
+ghost use Rattle.std.specs.Prelude.{◌≡◌, IfOk, IsSome, OnErr, is_some};
+ghost use Rattle.chip_console.specs.Commands.{IsPut};
+
+use crate::console::{Console, Opened, above_streams, is_same};
 use chip_arguments::FileArgument;
 use chip_command::{Ended, Fault};
 use std::alloc::AllocError;
@@ -129,7 +132,9 @@ impl<R: Files<File = File>> ReportFile<'_, R> {
     }
 
     /// Puts it in place after a command that ended well, and removes what is beside after a fault.
-    pub(crate) fn put(self, ended: Result<Ended, Fault>) -> Result<Ended, Fault> {
+    pub(crate) fn put(self, ended: Result<Ended, Fault>) -> Result<Ended, Fault>
+        ensures { IsPut ended result }
+    {
         if !self.is_beside || self.file.is_none() {
             return ended;
         }
@@ -150,10 +155,10 @@ impl<R: Files<File = File>> ReportFile<'_, R> {
 
 impl<R: Files<File = File> + Input + Clock + Eprint + AllocGlobal> Console<'_, R> {
     /// Creates the file of `--trace`, if there is one, or empties it.
-    pub fn create(
+    pub fn create<I: Opened>(
         &self,
         file: &Option<FileArgument<'_>>,
-        inputs: &[&Reader<'_, R>],
+        inputs: &[&I],
     ) -> Result<Option<File>, Fault> {
         let Some(file) = file else {
             return Ok(None);
@@ -163,11 +168,14 @@ impl<R: Files<File = File> + Input + Clock + Eprint + AllocGlobal> Console<'_, R
     }
 
     /// The file of `--report`, if there is one.
-    pub(crate) fn try_report<'f>(
+    pub(crate) fn try_report<'f, I: Opened>(
         &'f self,
         file: &Option<FileArgument<'f>>,
-        inputs: &[&Reader<'_, R>],
-    ) -> Result<Option<ReportFile<'f, R>>, Fault> {
+        inputs: &[&I],
+    ) -> Result<Option<ReportFile<'f, R>>, Fault>
+        ensures opened { IfOk result (λ report. is_some report ≡ is_some file.now) }
+        ensures refused { OnErr result (IsSome file.now) }
+    {
         let Some(file) = file else {
             return Ok(None);
         };
@@ -176,7 +184,7 @@ impl<R: Files<File = File> + Input + Clock + Eprint + AllocGlobal> Console<'_, R
     }
 
     /// Refuses a file to be written that is one of these inputs, or a file into which a standard stream goes.
-    fn refuse_used(&self, file: &FileArgument<'_>, inputs: &[&Reader<'_, R>]) -> Result<(), Fault> {
+    fn refuse_used<I: Opened>(&self, file: &FileArgument<'_>, inputs: &[&I]) -> Result<(), Fault> {
         self.note(file);
         let Ok(found) = fs::metadata(self.rt, file.path) else {
             return Ok(());

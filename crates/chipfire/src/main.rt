@@ -12,7 +12,7 @@ ghost use Rattle.chipfire.specs.ExitStatus.{status_of};
 
 use chip_arguments::{ArgumentsFault, Request, RunArguments, limits, parse};
 use chip_command::{Ended, Fault, Status, conclude, explanations, rules};
-use chip_console::{Console, limits_of, say_no_text, say_unexpected, tell_more};
+use chip_console::{Console, Opener, limits_of, open_game, say_no_text, say_unexpected, tell_more};
 use chip_crew::{MAX_TRACE_ROWS, MAX_TURNS, MAX_WORKERS, Plan, Sharing};
 use chip_engine::{explain_engine, plain_engine};
 use chip_graph::MAX_LIMIT;
@@ -133,15 +133,15 @@ fn serve<
     let alloc = console.rt.alloc();
     match request {
         Request::Help(text) => conclude(output, text.as_bytes(), Ended::of(Status::Done)),
-        Request::Check(asked) => console.check(asked, output),
-        Request::Plain(asked) => console.play(asked, output),
-        Request::Avalanches(asked) => console.drop_chips(asked, output),
-        Request::Simulate(asked) => console.simulate(asked, output),
+        Request::Check(asked) => console.check(&console, asked, output),
+        Request::Plain(asked) => console.play(&console, asked, output),
+        Request::Avalanches(asked) => console.drop_chips(&console, asked, output),
+        Request::Simulate(asked) => console.simulate(&console, asked, output),
         Request::Run(asked) => play_on_threads(console, asked, output),
-        Request::Replay(asked) => console.replay(asked, output),
-        Request::Resume(asked) => console.resume(asked, output),
-        Request::Verify(asked) => console.verify(asked, output),
-        Request::Judge(asked) => console.judge(asked, output),
+        Request::Replay(asked) => console.replay(&console, asked, output),
+        Request::Resume(asked) => console.resume(&console, asked, output),
+        Request::Verify(asked) => console.verify(&console, asked, output),
+        Request::Judge(asked) => console.judge(&console, asked, output),
         Request::Explain(number) => explain_engine(
             alloc,
             "fault",
@@ -158,9 +158,9 @@ fn play_on_threads<
     R: Files<File = File> + Input + Clock + Eprint + AllocGlobal + Threads + Wait + Sync,
     W: io::Write,
 >(console: &Console<'_, R>, asked: &RunArguments<'_>, output: &mut W) -> Result<Ended, Fault> {
-    let (mut graph, mut chips) = console.open_game(&asked.game)?;
+    let (mut graph, mut chips) = open_game(&console, &asked.game)?;
     let mut feed = match &asked.feed {
-        Some(file) => Some(console.open(file)?),
+        Some(file) => Some((&console).open(file)?),
         None => None,
     };
     let mut trace = match &feed {

@@ -1,0 +1,98 @@
+-- What a command answers to its arguments: that one of its files could not be opened, or what its engine answers, by the
+-- limits and options that are asked for, of the bytes that the files of these arguments give.
+use Rattle.std.specs.Prelude.{◌≡◌, ◌⊎◌, ◌∷◌, [], ℕ, List, Contains, IsErr, IsOk, IsSome, Option, Some}
+use Rattle.std.specs.Prelude.{None, MatchOption, Result, Err, is_some}
+use Rattle.chip_arguments.specs.declared.arguments.FileArgument.{FileArgument}
+use Rattle.chip_arguments.specs.declared.arguments.GameArguments.{GameArguments}
+use Rattle.chip_arguments.specs.declared.arguments.CheckArguments.{CheckArguments}
+use Rattle.chip_arguments.specs.declared.arguments.PlainArguments.{PlainArguments}
+use Rattle.chip_arguments.specs.declared.arguments.AvalancheArguments.{AvalancheArguments}
+use Rattle.chip_arguments.specs.declared.arguments.SimulationArguments.{SimulationArguments}
+use Rattle.chip_arguments.specs.declared.arguments.ReplayArguments.{ReplayArguments}
+use Rattle.chip_arguments.specs.declared.arguments.VerifyArguments.{VerifyArguments}
+use Rattle.chip_arguments.specs.declared.arguments.JudgeArguments.{JudgeArguments}
+use Rattle.chip_command.specs.declared.ended.Ended.{Ended}
+use Rattle.chip_command.specs.declared.fault.Fault.{Fault}
+use Rattle.chip_command.specs.declared.fault.Fault.TheVariants.{Open, Usage, WriteFile}
+use Rattle.chip_command.specs.PlainCommand.{PlainAnswers}
+use Rattle.chip_engine.specs.AvalanchesCommand.{AvalanchesAnswers}
+use Rattle.chip_engine.specs.CheckCommand.{CheckAnswers}
+use Rattle.chip_engine.specs.GuessCommand.{GuessAnswers}
+use Rattle.chip_engine.specs.ReplayCommand.{ReplayAnswers}
+use Rattle.chip_engine.specs.ResumeCommand.{ResumeAnswers}
+use Rattle.chip_engine.specs.SimulateCommand.{SimulateAnswers}
+use Rattle.chip_engine.specs.VerifyCommand.{VerifyAnswers}
+use Rattle.chip_judge.specs.JudgeCommand.{JudgeAnswers}
+use Rattle.chip_console.specs.Options.{limits_of, judge_options, replay_options, simulate_options}
+
+-- the bytes that a file of an argument gives, where they are known
+abbrev pub Known : Type 0
+Known = FileArgument → Option (List ℕ)
+
+-- one of these files could not be opened, and nothing is written
+abbrev pub IsUnopened : List ℕ → Option (List ℕ) → Option (List ℕ) → Result Ended Fault → Type 0
+IsUnopened numbers old new result = (n : ℕ) × Contains numbers n × (result ≡ Err (Open n)) × (new ≡ old)
+
+abbrev pub Checks : Known → CheckArguments → Option (List ℕ) → Option (List ℕ) → Result Ended Fault → Type 0
+Checks known asked old new result = IsUnopened (asked.graph.number ∷ []) old new result
+    ⊎ CheckAnswers (limits_of asked.large) (known asked.graph) old new result
+
+-- without a guess, or with this one
+abbrev pub PlaysWith : Option FileArgument → Known → GameArguments → Option (List ℕ) → Option (List ℕ)
+    → Result Ended Fault → Type 0
+PlaysWith None known asked old new result = IsUnopened (asked.graph.number ∷ asked.start.number ∷ []) old new result
+    ⊎ PlainAnswers (limits_of asked.large) (known asked.graph) (known asked.start) asked.limit old new result
+PlaysWith (Some guess) known asked old new result =
+    IsUnopened (asked.graph.number ∷ asked.start.number ∷ guess.number ∷ []) old new result
+    ⊎ GuessAnswers (limits_of asked.large) (known asked.graph) (known asked.start) (known guess) asked.limit old new result
+
+abbrev pub Plays : Known → PlainArguments → Option (List ℕ) → Option (List ℕ) → Result Ended Fault → Type 0
+Plays known asked old new result = PlaysWith asked.guess known asked.game old new result
+
+-- a file could not be opened, that of the report too, or there is no memory to try its place; and nothing is written
+abbrev pub DropsNothing : AvalancheArguments → Option (List ℕ) → Option (List ℕ) → Result Ended Fault → Type 0
+DropsNothing asked old new result =
+    IsUnopened (asked.game.graph.number ∷ asked.game.start.number ∷ asked.drops.number ∷ []) old new result
+    ⊎ (IsSome asked.report × IsErr result × (new ≡ old))
+
+-- the report is put in its place, or it cannot be
+abbrev pub IsPut : Result Ended Fault → Result Ended Fault → Type 0
+IsPut ended result = (result ≡ ended) ⊎ (IsOk ended × (result ≡ Err WriteFile))
+
+-- the engine answers, with a report if one is asked for, and that is put in its place
+abbrev pub DropsAll : Known → AvalancheArguments → Option (List ℕ) → Option (List ℕ) → Result Ended Fault → Type 0
+DropsAll known asked old new result =
+    (ended : Result Ended Fault) × (before : Option (Option (List ℕ))) × (after : Option (Option (List ℕ)))
+    × (is_some before ≡ is_some asked.report)
+    × AvalanchesAnswers (limits_of asked.game.large) (known asked.game.graph) (known asked.game.start)
+    (known asked.drops) asked.game.limit (record { rows = old; report = before }) (record { rows = new; report = after })
+    ended × IsPut ended result
+
+abbrev pub Drops : Known → AvalancheArguments → Option (List ℕ) → Option (List ℕ) → Result Ended Fault → Type 0
+Drops known asked old new result = DropsNothing asked old new result ⊎ DropsAll known asked old new result
+
+abbrev pub Simulates : Known → SimulationArguments → Option (List ℕ) → Option (List ℕ) → Result Ended Fault → Type 0
+Simulates known asked old new result = MatchOption (simulate_options asked) ((result ≡ Err Usage) × (new ≡ old))
+    (λ options.
+    IsUnopened (asked.game.graph.number ∷ asked.game.start.number ∷ asked.schedule.number ∷ []) old new result
+    ⊎ SimulateAnswers (known asked.game.graph) (known asked.game.start) (known asked.schedule) options old new result)
+
+abbrev pub Replays : Known → ReplayArguments → Option (List ℕ) → Option (List ℕ) → Result Ended Fault → Type 0
+Replays known asked old new result =
+    IsUnopened (asked.game.graph.number ∷ asked.game.start.number ∷ asked.trace.number ∷ []) old new result
+    ⊎ ReplayAnswers (known asked.game.graph) (known asked.game.start) (known asked.trace) (replay_options asked)
+    old new result
+
+abbrev pub Resumes : Known → GameArguments → Option (List ℕ) → Option (List ℕ) → Result Ended Fault → Type 0
+Resumes known asked old new result = IsUnopened (asked.graph.number ∷ asked.start.number ∷ []) old new result
+    ⊎ ResumeAnswers (limits_of asked.large) (known asked.graph) (known asked.start) asked.limit old new result
+
+abbrev pub Verifies : Known → VerifyArguments → Option (List ℕ) → Option (List ℕ) → Result Ended Fault → Type 0
+Verifies known asked old new result =
+    IsUnopened (asked.game.graph.number ∷ asked.game.start.number ∷ asked.report.number ∷ []) old new result
+    ⊎ VerifyAnswers (limits_of asked.game.large) (known asked.game.graph) (known asked.game.start) (known asked.report)
+    asked.game.limit old new result
+
+abbrev pub Judges : Known → JudgeArguments → Option (List ℕ) → Option (List ℕ) → Result Ended Fault → Type 0
+Judges known asked old new result = IsUnopened (asked.log.number ∷ []) old new result
+    ⊎ JudgeAnswers (known asked.log) (judge_options asked) old new result

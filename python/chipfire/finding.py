@@ -68,9 +68,8 @@ def version_of(clone: str) -> str:
 
 def version() -> str:
     """The version: the program's source has it, or it was noted when the package was installed."""
-    if _lies_in_clone() and os.path.isfile(source_of_version(_AROUND)):
-        return version_of(_AROUND)
-    return _noted("version") or "unknown"
+    has_source = _lies_in_clone() and os.path.isfile(source_of_version(_AROUND))
+    return (version_of(_AROUND) if has_source else _noted("version")) or "unknown"
 
 
 def search_path() -> str:
@@ -79,7 +78,7 @@ def search_path() -> str:
 
 
 def environment() -> dict[str, str]:
-    """The environment of what is started."""
+    """The environment of what is started: this one, but for the PATH."""
     return {**os.environ, "PATH": search_path()}
 
 
@@ -104,12 +103,11 @@ def _installed_from() -> str | None:
     """The folder around the one that pip was named, if the dist-info beside the package says so."""
     name = f"chipfire-{_noted('version') or '*'}.dist-info"
     files = glob.glob(os.path.join(glob.escape(os.path.dirname(HERE)), name, "direct_url.json"))
-    # (in a sticky folder it may be somebody else's who has put it beside the package)
-    if len(files) != 1 or os.stat(files[0]).st_uid != os.stat(HERE).st_uid:
-        return None
     try:
-        folder = _folder_of(json.loads(own_text(files[0])))
-    except (OSError, ValueError, RecursionError):
+        # (in a sticky folder somebody else may have put one beside the package)
+        is_own = len(files) == 1 and os.stat(files[0]).st_uid == os.stat(HERE).st_uid
+        folder = _folder_of(json.loads(own_text(files[0]))) if is_own else None
+    except (OSError, ValueError, RecursionError):  # (it is damaged)
         return None
     return folder and os.path.join(folder, os.pardir)
 
@@ -124,7 +122,7 @@ def _clones() -> Iterator[str]:
 def _believe(top: str, why: str | None) -> None:
     """Refuses a clone, if somebody else may decide what lies in it."""
     if why:
-        remedy = "take that right away, or, if you trust it all the same, name its program by CHIPFIRE"
+        remedy = "change that by chown or chmod, or, if you trust it all the same, name its program by CHIPFIRE"
         raise ProgramNotFound(2, f"the clone {top} is not used, since {why}: {remedy}", top)
 
 
@@ -164,7 +162,8 @@ def _found(is_asked: bool) -> str:
             whys.append(str(why.strerror))
     if there := on_path("chipfire"):
         return there
-    clones = "; ".join(whys) or "it neither lies in a clone of the repository nor was installed from the folder of one"
+    none = "it neither lies in a clone of the repository nor was installed from the folder of one that is still there"
+    clones = "; ".join(whys) or none
     noted = _noted("without")
     carried = "the package carries none" + (f", since {noted}" if noted else "")
     raise ProgramNotFound(2, f"{carried}; {clones}; none is on the PATH", "chipfire")

@@ -13,7 +13,7 @@ from typing import TYPE_CHECKING, Any, TypeVar, Union
 from chipfire import library, smith
 from chipfire.pictures import Drawn
 from chipfire.process import Kept, ask
-from chipfire.values import MAX_CHIPS, FileName, counted, whole
+from chipfire.values import MAX_CHIPS, FileName, counted, no_graph, whole
 
 if TYPE_CHECKING:
     from chipfire.graphs import Graph
@@ -44,6 +44,8 @@ class Sums(Mapping[Hashable, int]):
     __array_ufunc__ = None  # (so that an array of NumPy and these are added here)
 
     def __init__(self, graph: Graph, chips: Chips) -> None:
+        if not hasattr(graph, "loop_free"):
+            raise no_graph(graph, "a graph is a chipfire.Graph")
         self.graph: Graph = graph
         self.numbers: tuple[int, ...] = self._numbers(graph, chips)
 

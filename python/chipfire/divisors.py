@@ -5,7 +5,7 @@ Stabilizations are the program's, whose answer is proved. Sums and ranks are not
 
 from __future__ import annotations
 
-from collections.abc import Callable, Hashable, Iterable, Iterator, Sequence
+from collections.abc import Callable, Hashable, Iterator, Sequence
 from typing import Any
 
 from chipfire import smith
@@ -36,13 +36,7 @@ class Divisor(AsArray, Sums):
 
     @classmethod
     def _numbers(cls, graph: Graph, chips: Chips) -> tuple[int, ...]:
-        if not hasattr(chips, "items") and not hasattr(chips, "fired"):
-            given: Any = chips.tolist() if hasattr(chips, "tolist") else chips
-            given = given if isinstance(given, Iterable) else [given] * graph.vertices
-            chips = given = given if hasattr(given, "__len__") else [*given]
-            if len(given) == graph.vertices - 1:
-                raise ValueError(f"a divisor has chips on the sink too, and there are {len(given)} numbers")
-        return graph.numbers(chips)
+        return graph.numbers(chips, with_sink=True)
 
     def __getitem__(self, name: Hashable) -> int:
         return self.numbers[self.graph.number(name)]

@@ -14,7 +14,7 @@ from chipfire.chips import CHIPS_HEADER, Configuration, capped
 from chipfire.graphs import Graph
 from chipfire.process import Fault
 from chipfire.reports import Report
-from chipfire.values import MAX_LIMIT, FileName, counted, imported, wholes
+from chipfire.values import MAX_LIMIT, FileName, counted, imported, in_order, listed, wholes
 
 ROWS_HEADER = "vertex,chips,size,extent,lost\n"
 #: How many drops become text at a time, and how many bytes of rows become numbers.
@@ -58,14 +58,24 @@ class Drops:
         return dict(sorted(Counter(getattr(self, of).tolist()).items()))
 
 
+def names_of(vertices: Any, what: str) -> Iterable[Any]:
+    """The names of vertices that stand in an order; a mask is refused, since true and false are no names there."""
+    wanted = f"the vertices of {what} are one for each drop"
+    if getattr(getattr(vertices, "dtype", None), "kind", "") == "b":
+        raise TypeError(f"{wanted}, and no mask")
+    found: Any = in_order(vertices, wanted)
+    if not isinstance(found, Iterable):
+        raise TypeError(f"{wanted}, and not {found!r}")
+    return found
+
+
 def dropped_on(graph: Graph, vertices: Any, amounts: Any) -> tuple[array[int], array[int]]:
     """The numbers of the vertices, and how many chips fall on each: one, if there are no amounts."""
-    vertices, amounts = (it.tolist() if hasattr(it, "tolist") else it for it in (vertices, amounts))
-    for what, them in [("vertices", vertices), ("amounts", () if amounts is None else amounts)]:
-        if not isinstance(them, Iterable):
-            raise TypeError(f"the {what} of drops are one for each drop, and not {them!r}")
-    at = array("Q", map(graph.number, vertices))
-    many = [1] * len(at) if amounts is None else wholes([*amounts], lambda drop: f"the number of chips of drop {drop}")
+    at = array("Q", map(graph.number, names_of(vertices, "drops")))
+    many: Sequence[int] = [1] * len(at)
+    if amounts is not None:
+        given = listed(amounts, "the amounts of drops are one for each drop")
+        many = wholes(given, lambda drop: f"the number of chips of drop {drop}")
     if len(many) != len(at):
         raise ValueError(f"there are {counted(len(at), 'drop')}, and {counted(len(many), 'amount')}")
     return at, array("Q", capped(many))

@@ -19,7 +19,7 @@ from chipfire.finding import ProgramNotFound
 from chipfire.graphs import Graph
 from chipfire.program import AnyGraph, known_graph, read_chips
 from chipfire.values import (
-    FILE, generator, imported, known_seed, processors, require_memory, side_by_side, whole,
+    FILE, generator, imported, in_order, known_seed, processors, require_memory, side_by_side, whole,
 )
 
 #: Of each vertex the heads of its edges, and how many chips one firing sends on the edges up to each of them.
@@ -238,7 +238,8 @@ class _Chains:
         if chips is None:
             self.chips = _recurrent(graph, seed, n)
             return
-        rows = [graph.chips(row) for row in chips] if _are_rows(graph, chips) else [graph.chips(chips)] * n
+        found = in_order(chips, "chips are rows, or those of all chains") if getattr(chips, "ndim", 1) > 1 else chips
+        rows = [graph.chips(row) for row in found] if _are_rows(graph, found) else [graph.chips(chips)] * n
         if len(rows) != n:
             raise ValueError(f"there are chips for {len(rows)} chains, and {n} chains")
         self.chips = array("Q", graph.without_loops([*itertools.chain.from_iterable(rows)]))
@@ -325,9 +326,9 @@ def _spans(graph: Graph) -> Callable[[Any], Any]:
 
 def _are_rows(graph: Graph, chips: Any) -> bool:
     """Whether chips are rows for chains, and not those of all: numbers, or rows of them in the graph's shape."""
-    if not isinstance(chips, (list, tuple)) and getattr(chips, "ndim", 1) < 2:
+    if not isinstance(chips, (list, tuple)) or hasattr(chips, "_fields"):
         return False
-    if any(hasattr(row, "items") or hasattr(row, "fired") for row in chips):
+    if any(hasattr(row, "items") or hasattr(row, "prior") for row in chips):
         return True
     if not all(hasattr(row, "__len__") for row in chips):
         return False

@@ -2,6 +2,7 @@
 
 from __future__ import annotations
 
+import contextlib
 import copy
 import functools
 import itertools
@@ -20,7 +21,10 @@ from typing import Any, NamedTuple
 
 from chipfire.chips import Chips, Configuration, Sums
 from chipfire.process import Kept
-from chipfire.values import MAX_LARGE_EDGES, MAX_LARGE_VERTICES, MAX_MULT, FileName, counted, ordered, whole, wholes
+from chipfire.values import (
+    MAX_LARGE_EDGES, MAX_LARGE_VERTICES, MAX_MULT, FileName, counted, in_order, is_of_networkx, listed, ordered,
+    whole, wholes,
+)
 
 #: Which squares lie beside one of a lattice, as (rows down, columns to the right) by the parity of its row and column.
 _BESIDE: dict[str, Sequence[Sequence[tuple[int, int]]]] = {
@@ -46,22 +50,47 @@ class Columns(NamedTuple):
     mults: array[int]
 
 
-def _rows(edges: Iterable[Any]) -> list[tuple[Any, ...]]:
-    """Edges (tail, head) or (tail, head, mult), all with their multiplicity."""
-    rows = []
-    if isinstance(edges, Mapping) or not isinstance(edges, Iterable):
-        raise TypeError(f"edges are rows (tail, head, mult), and this is a {type(edges).__name__}")
-    for edge, row in enumerate(edges):
-        fields = tuple(row) if isinstance(row, Iterable) else ()
-        if len(fields) not in (2, 3):
+def _rows(edges: Iterable[Any], is_directed: bool) -> list[tuple[Any, ...]]:
+    """Edges (tail, head), (tail, head, mult) or (tail, head, attributes), as those of NetworkX are, all with their
+    multiplicity. A row that has no order is an edge only if it leads both ways."""
+    rows: list[tuple[Any, ...]] = []
+    for edge, row in enumerate(_given_rows(edges, is_directed)):
+        is_one = isinstance(row, Iterable) and not isinstance(row, (str, bytes, Mapping))
+        is_one = is_one and not (isinstance(row, Set) and (is_directed or len(row) > 2))
+        fields = tuple(row.tolist() if hasattr(row, "tolist") else row) if is_one else ()
+        if len(fields) not in (2, 3) or any(isinstance(it, (list, set)) for it in fields):
             raise ValueError(f"edge {edge} is neither (tail, head) nor (tail, head, mult): {row!r}")
-        rows.append((*fields, 1)[:3])
+        mult = fields[2] if len(fields) > 2 else 1
+        rows.append((*fields[:2], mult.get("weight", 1) if isinstance(mult, Mapping) else mult))
     return rows
+
+
+def _given_rows(edges: Any, is_directed: bool) -> Iterable[Any]:
+    """The rows of edges. Views of NetworkX's edges have some: without the keys of a multigraph, which are no numbers of
+    chips. Those of an undirected graph are no directed edges."""
+    kind = type(edges).__name__
+    if is_of_networkx(edges) and kind.endswith(("EdgeView", "EdgeDataView")):
+        if is_directed and not kind.startswith(("Out", "In")):
+            raise TypeError(f"edges lead one way, and those of this {kind} lead both ways: see Graph.undirected")
+        if kind.endswith("EdgeView"):
+            return list(edges(data=False))
+        has_keys = getattr(edges, "keys", False) is True
+        return [(*row[:2], *row[2 + has_keys :]) for row in edges]
+    try:
+        found = in_order(edges, "edges are rows (tail, head, mult)")
+    except TypeError:
+        found = None
+    if not isinstance(found, Iterable):
+        hint = ": see from_networkx" if is_of_networkx(edges) else ": see from_edges" if hasattr(edges, "iloc") else ""
+        raise TypeError(f"edges are rows (tail, head, mult), and this is a {kind}{hint}")
+    if hasattr(edges, "toarray"):
+        raise TypeError(f"edges are rows (tail, head, mult), and this is a {kind}, as of a matrix")
+    return found
 
 
 def _columns(edges: Iterable[Any]) -> Columns:
     """Rows (tail, head) or (tail, head, mult) by columns."""
-    rows = _rows(edges)
+    rows = _rows(edges, True)
 
     def column(place: int, what: str) -> array[int]:
         return array("i", wholes([row[place] for row in rows], lambda edge: f"the {what} of edge {edge}", 0, 2**31 - 1))
@@ -154,10 +183,11 @@ class Graph:
 
     @classmethod
     def undirected(cls, edges: Iterable[Sequence[Any]], sink: Any) -> Graph:
-        """The graph of edges (name, name) or (name, name, mult), each of which is one edge each way.
+        """The graph of edges (name, name) or (name, name, mult), each of which is one edge each way; or of the edges of
+        a graph of NetworkX, each with its "weight" if that is among what its row has.
         The order of the names, or else that in which they come, gives the numbers. Sinks are as in `from_networkx`."""
-        rows = _rows(edges)
-        return _named(ordered(dict.fromkeys(name for row in rows for name in row[:2])), sink, rows, False)
+        rows = _rows(edges, False)
+        return _named(_names_of(rows), sink, rows, False)
 
     @classmethod
     def read(cls, file: FileName) -> Graph:
@@ -210,10 +240,11 @@ class Graph:
             hint = ""
             if isinstance(name, tuple) and len(name) == 2 and isinstance(self.names, range) and self.shape:
                 hint, (height, width) = f": a square of it is (row, column), below {self.shape}", self.shape
-                if name[0] in range(height) and name[1] in range(width):
-                    square = width * int(name[0]) + int(name[1])
-                    if square in self._by_square:
-                        return self._by_square[square]
+                with contextlib.suppress(ValueError):  # (which arrays raise)
+                    if name[0] in range(height) and name[1] in range(width):
+                        square = width * int(name[0]) + int(name[1])
+                        if square in self._by_square:
+                            return self._by_square[square]
             raise KeyError(f"the graph has no vertex {name!r}{hint}") from None
 
     @functools.cached_property
@@ -339,16 +370,21 @@ class Graph:
         number for each but the sink; or from a report. Configurations and reports of another graph are refused."""
         return self.numbers(chips, least=0)
 
-    def numbers(self, values: Any, least: int | None = None, of: str = "chips") -> tuple[int, ...]:
-        """The same, of `least` or more if that is said; or numbers of something else, as of "firings"."""
-        is_report = hasattr(values, "fired") and hasattr(values, "chips")
+    def numbers(
+        self, values: Any, least: int | None = None, of: str = "chips", *, with_sink: bool = False
+    ) -> tuple[int, ...]:
+        """The same, of `least` or more if that is said; or numbers of something else, as of "firings". If they are
+        wanted `with_sink`, a sequence has one for the sink too, and one number is for all vertices."""
+        is_report = hasattr(values, "prior") and hasattr(values, "chips")
         if is_report or isinstance(values, Sums):
             if values.graph is not None and not values.graph.is_like(self):
                 kind = "report" if is_report else type(values).__name__.lower()
                 raise ValueError(f"the {kind} is one of another graph")
             if is_report or values.graph.names == self.names:
                 values = values.chips if is_report else values.numbers
-        rows = self._by_names(values) if hasattr(values, "items") else self._in_order(values, of)
+        is_named = hasattr(values, "items") and not any(hasattr(values, it) for it in ("columns", "toarray"))
+        is_named = is_named and not is_of_networkx(values)
+        rows = self._by_names(values) if is_named else self._in_order(values, of, with_sink)
         return tuple(wholes(rows, lambda vertex: f"the number of {of} of vertex {self.names[vertex]!r}", least))
 
     def _by_names(self, values: Mapping[Hashable, Any]) -> list[Any]:
@@ -360,29 +396,41 @@ class Graph:
             found[vertex] = count
         return [found.get(vertex, 0) for vertex in range(self.vertices)]
 
-    def _in_order(self, values: Any, of: str) -> list[Any]:
-        values = values.tolist() if hasattr(values, "tolist") else values
-        if isinstance(values, (Set, str, bytes)):
-            kind = type(values).__name__
-            raise TypeError(f"{of} are a dict by names, or numbers in an order, and no {kind}: {values!r}")
-        rows = list(values) if isinstance(values, Iterable) else [values] * (self.vertices - 1)
-        if rows and all(isinstance(row, Iterable) and not isinstance(row, str) for row in rows):
-            return self._by_squares([list(row) for row in rows], of)
-        if len(rows) == self.vertices - 1:
+    def _in_order(self, values: Any, of: str, with_sink: bool) -> list[Any]:
+        wanted = f"{of} are a dict by names, or numbers in an order"
+        found = in_order(values, wanted)
+        if isinstance(found, Set):
+            raise TypeError(f"{wanted}, and no {type(values).__name__}: {values!r}")
+        is_one, inner = not isinstance(found, Iterable), self.vertices - (not with_sink)
+        rows = [found] * inner if is_one else list(found)
+        if not {*map(type, rows)} <= {int, float}:
+            rows = [in_order(row, wanted) if hasattr(row, "tolist") or hasattr(row, "columns") else row for row in rows]
+        # (an array of one direction, and what has fields of its own, has no rows)
+        may_have = not is_one and getattr(values, "ndim", 2) > 1 and not hasattr(values, "_fields")
+        if may_have and rows and all(isinstance(row, (list, tuple, range, array, Iterator)) for row in rows):
+            return self._by_squares([list(row) for row in rows], of, with_sink)
+        if len(rows) == self.vertices - 1 and not with_sink:
             rows.insert(self.sink, 0)
         if len(rows) != self.vertices:
+            if with_sink and len(rows) == self.vertices - 1:
+                raise ValueError(f"a divisor has chips on the sink too, and there are {len(rows)} numbers")
             raise ValueError(f"there are {of} for {len(rows)} vertices, and the graph has {self.vertices}")
         return rows
 
-    def _by_squares(self, rows: list[list[Any]], of: str) -> list[Any]:
-        """What stands in rows of the graph's shape, by numbers of vertices; the sink's square counts for nothing."""
+    def _by_squares(self, rows: list[list[Any]], of: str, with_sink: bool) -> list[Any]:
+        """What stands in rows of the graph's shape, by numbers of vertices. The sink's square counts for nothing, unless
+        its number is wanted too."""
         if self.shape is None or {*map(len, rows)} != {self.shape[1]} or len(rows) != self.shape[0]:
             widths = " or ".join(map(str, sorted({*map(len, rows)})))
             raise ValueError(f"the {of} stand in {len(rows)} rows of {widths}, and the graph has shape {self.shape}")
         flat = list(itertools.chain(*rows))
+        if any(isinstance(it, (list, tuple)) for it in flat):
+            raise ValueError(f"the {of} stand in rows of rows, and the graph has shape {self.shape}")
         if len(self.squares) < len(flat) and any(flat[it] for it in {*range(len(flat))}.difference(self.squares)):
             raise ValueError(f"there are {of} on a square that is no vertex of the graph")
-        found = [0 if vertex == self.sink else flat[square] for vertex, square in enumerate(self.squares)]
+        found = [flat[square] for square in self.squares]
+        if self.sink < len(found) and not with_sink:
+            found[self.sink] = 0
         return found + [0] * (self.vertices - len(found))
 
 
@@ -497,10 +545,9 @@ def region(mask: Iterable[Iterable[Any]], lattice: str = "square") -> Graph:
     A vertex loses a chip to the sink for each neighbour that it lacks. The lattice is "square"; "triangular", with 6
     neighbours: also those above to the right and below to the left; or "hexagonal", with 3: left, right, and below if
     row and column together are even, else above."""
-    mask = mask if isinstance(mask, Iterable) else [mask]
-    rows = [[*row] if isinstance(row, Iterable) else [str(row)] for row in mask]
-    if wrong := [row for row in rows if any(isinstance(it, str) or it != it for it in row)]:
-        raise TypeError(f"a row of a mask has true and false, and is not {wrong[0]}")
+    wanted = "a mask has rows of true and false"
+    found: Any = in_order(mask, wanted)
+    rows = [_mask_row(row) for row in (found if isinstance(found, Iterable) else [found])]
     if lattice not in _BESIDE:
         raise ValueError(f"no lattice is named {lattice!r}; there are {', '.join(_BESIDE)}")
     width = len(rows[0]) if rows else 0
@@ -509,6 +556,15 @@ def region(mask: Iterable[Iterable[Any]], lattice: str = "square") -> Graph:
         raise ValueError("a mask has rows of one length, and a square that is true")
     edges = _lattice_edges((len(rows), width), (False, False), lattice, squares, [0] * len(squares))
     return Graph(len(squares) + 1, len(squares), edges, shape=(len(rows), width), squares=squares, from_sink=None)
+
+
+def _mask_row(row: Any) -> list[Any]:
+    """A row of a mask."""
+    is_one = isinstance(row, Iterable) and not isinstance(row, (bytes, Set, Mapping))
+    found = [it.tolist() if hasattr(it, "tolist") else it for it in row] if is_one else [str(row)]
+    if not all(isinstance(it, (int, float)) and it == it for it in found):
+        raise TypeError(f"a row of a mask has true and false, and is not {found}")
+    return found
 
 
 def aztec(size: int) -> Graph:
@@ -553,12 +609,27 @@ def complete(vertices: int) -> Graph:
     return _both_ways(vertices, 0, itertools.combinations(range(vertices), 2))
 
 
+def _names_of(rows: Iterable[Sequence[Any]]) -> list[Any]:
+    """The names of the ends of edges."""
+    try:
+        names = ordered(dict.fromkeys(name for row in rows for name in row[:2]))
+    except TypeError:
+        wrong = next(name for row in rows for name in row[:2] if not isinstance(name, Hashable))
+        raise TypeError(f"an end of an edge is no name: {wrong!r}") from None
+    if lacking := [name for name in names if repr(name) in ("None", "nan", "NaT", "<NA>")]:
+        raise ValueError(f"an edge of the table lacks an end, which is {lacking[0]!r} there")
+    return names
+
+
 def _named(
     names: Iterable[Hashable], sink: Any, edges: Iterable[tuple[Any, ...]], is_directed: bool, loops: str | None = None,
     scale: int = 1,
 ) -> Graph:
     """A graph of named vertices. Edges out of the sink are in the Laplacian alone, since it never fires."""
+    sink = sink.tolist() if hasattr(sink, "tolist") else sink
     names, edges, is_one = list(names), list(edges), not isinstance(sink, (list, set, frozenset))
+    if not all(isinstance(it, Hashable) for it in ([sink] if is_one else sink)):
+        raise TypeError(f"a sink is the name of a vertex, or a list or set of them, and no {type(sink).__name__}")
     edges += [] if is_directed else [(head, tail, mult) for tail, head, mult in edges]
     several, known = {sink} if is_one else {*sink}, {*names}
     for name in several:
@@ -612,6 +683,8 @@ def from_networkx(
     but not sums, orders, the identity and what is superstable. Nothing is played on fewer chips than loops.
 
     Rational weights are taken `weight_scale` times: 0.25 and `Fraction(3, 4)` with 4, and a chip is a quarter then."""
+    if not callable(getattr(graph, "edges", None)) or not callable(getattr(graph, "is_directed", None)):
+        raise TypeError(f"this takes a graph of NetworkX, and no {type(graph).__name__}")
     edges = graph.edges(data=weight, default=1)
     return _named(graph.nodes(), sink, edges, graph.is_directed(), loops, weight_scale)
 
@@ -625,24 +698,29 @@ def from_edges(
     `source` and `target` name the columns of the ends, and `weight` that of how many chips the edge sends, one if there
     is no such column. Each edge leads both ways, unless they are `directed`. The order of the names, or else that in
     which they come, gives the numbers. All else is as in `from_networkx`."""
-    if not hasattr(table, "__getitem__") or isinstance(table, (list, tuple, str)):
+    if not isinstance(table, Mapping) and not hasattr(table, "columns") or is_of_networkx(table):
         kind = type(table).__name__
         raise TypeError(f"a table of edges is a DataFrame or a dict of columns, and no {kind}; see Graph.undirected")
-    columns = [table[name] for name in (source, target, weight) if name in (source, target) or name in table]
-    columns = [column.tolist() if hasattr(column, "tolist") else list(column) for column in columns]
+    if lacking := [name for name in (source, target) if name not in table]:
+        raise KeyError(f"the table has no column {lacking[0]!r}")
+    columns = []
+    for name in (source, target, weight):
+        if name in table:
+            column = table[name]
+            told = f"the column {name!r} of edges has values in an order"
+            columns.append(list(column) if isinstance(column, str) else listed(column, told))
     if len({*map(len, columns)}) > 1:
         raise ValueError(f"the columns of edges have {' and '.join(str(len(it)) for it in columns)} rows")
-    rows = _rows(zip(*columns))
-    names = ordered(dict.fromkeys(name for row in rows for name in row[:2]))
-    if lacking := [name for name in names if repr(name) in ("None", "nan", "NaT", "<NA>")]:
-        raise ValueError(f"an edge of the table lacks an end, which is {lacking[0]!r} there")
-    return _named(names, sink, rows, directed, loops, weight_scale)
+    rows = _rows(zip(*columns), True)
+    return _named(_names_of(rows), sink, rows, directed, loops, weight_scale)
 
 
 def from_sage(graph: Any, sink: Any = None, *, loops: str | None = None, weight_scale: int = 1) -> Graph:
     """A graph of SageMath: a `Sandpile` with the sink that it has, or a `DiGraph` or `Graph` and its sink.
     An edge sends as many chips as its label says, or one if it has none; one of label 0, which Sage adds in some
     graphs, is left out. Vertices have the order of Sage's `vertices()`. All else is as in `from_networkx`."""
+    if not callable(getattr(graph, "edge_iterator", None)):
+        raise TypeError(f"this takes a graph of SageMath, and no {type(graph).__name__}")
     if sink is None:
         if not hasattr(graph, "sink") or not hasattr(graph, "nonsink_vertices"):
             raise ValueError("which vertex is the sink?")

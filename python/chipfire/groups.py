@@ -5,13 +5,13 @@ from __future__ import annotations
 import functools
 import math
 import operator
-from collections.abc import Iterable, Sequence
+from collections.abc import Sequence
 
 from chipfire import smith
 from chipfire.chips import Chips, Configuration, identity
 from chipfire.graphs import Graph
 from chipfire.program import AnyGraph, AnyProgram, known_graph
-from chipfire.values import whole, wholes
+from chipfire.values import listed, whole, wholes
 
 #: The most vertices, the sink among them.
 MAX_GROUP_VERTICES = 401
@@ -50,9 +50,7 @@ class Group:
         It comes of the identity by chips that fall and are multiplied by 4, again and again: in as many plays as the
         largest factor has digits in base 4.
         Proved: the plays. Not proved: which chips fall."""
-        if not isinstance(coordinates, Iterable):
-            raise TypeError(f"coordinates stand in a list, and not as {coordinates!r}")
-        times = wholes(list(coordinates), lambda at: f"coordinate {at}", None)
+        times = wholes(listed(coordinates, "coordinates stand in a list"), lambda at: f"coordinate {at}", None)
         if len(times) != len(self.factors):
             raise ValueError(f"there are {len(times)} coordinates, and the group has {len(self.factors)} factors")
         counts = [0] * (self.graph.vertices - 1)

@@ -2,13 +2,14 @@
 
 from __future__ import annotations
 
+import itertools
 import math
 import operator
 from collections import Counter
 from collections.abc import Iterable, Mapping
 from typing import Any, NamedTuple
 
-from chipfire.values import imported, whole, wholes
+from chipfire.values import imported, listed, whole, wholes
 
 #: The greatest size, and the most that one may be seen.
 MAX_SIZE = MAX_COUNT = 2**64
@@ -148,8 +149,8 @@ def _counts(sizes: Any) -> Counter[int]:
         named = wholes([*sizes], lambda place: f"size {place}", None)
         counts = wholes([*sizes.values()], lambda place: f"the count of size {named[place]}", 0, MAX_COUNT)
         return Counter(dict(zip(named, counts)))
-    if not isinstance(sizes, Iterable):
-        raise TypeError(f"sizes come one by one, or as a histogram, and not as {sizes!r}")
-    values = sizes.ravel() if hasattr(sizes, "ravel") else sizes
-    values = values.tolist() if hasattr(values, "tolist") else list(values)
+    wanted = "sizes come one by one, or as a histogram"
+    values = listed(sizes.ravel() if hasattr(sizes, "ravel") else sizes, wanted)
+    while values and isinstance(values[0], list):  # (the rows of a sparse array)
+        values = [*itertools.chain.from_iterable(values)]
     return Counter(wholes(values, lambda place: f"size {place}", None))

@@ -21,7 +21,7 @@ from chipfire.machine import (
 )
 from chipfire.process import Fault, Input, Kept, ask
 from chipfire.reports import Report
-from chipfire.values import FILE, MAX_LIMIT, FileName, rows_text, whole, write
+from chipfire.values import FILE, MAX_LIMIT, FileName, no_graph, rows_text, whole, write
 
 if TYPE_CHECKING:
     from typing_extensions import Concatenate, ParamSpec
@@ -57,7 +57,7 @@ def known_graph(graph: AnyGraph, program: AnyProgram = None) -> Graph:
     if isinstance(graph, Graph):
         return graph
     if not isinstance(graph, FILE):
-        raise TypeError(f"a graph is a chipfire.Graph or the name of a file, and not of {type(graph).__name__}")
+        raise no_graph(graph, "a graph is a chipfire.Graph or the name of a file")
     try:
         return Graph.read(graph)
     except (OSError, RecursionError, TypeError, ValueError):
@@ -298,11 +298,17 @@ def identity(graph: AnyGraph, *, program: AnyProgram = None) -> Configuration:
 
 def write_chips(file: FileName, graph: Graph, chips: Chips) -> None:
     """Writes a chips file: a row for each vertex that has a chip."""
+    if not isinstance(graph, Graph):
+        raise no_graph(graph, "a graph is a chipfire.Graph")
     write(file, chips_text(graph.chips(chips)))
 
 
 def read_chips(file: FileName, graph: Graph, *, program: AnyProgram = None) -> tuple[int, ...]:
     """The chips of a chips file, one number for each vertex of the graph. The program reads it, or refuses it."""
+    if not isinstance(graph, Graph):
+        raise no_graph(graph, "a graph is a chipfire.Graph")
+    if not isinstance(file, FILE):
+        raise TypeError(f"a file of chips has a name, and is not of {type(file).__name__}")
     return plain(graph.loop_free, file, limit=0, program=program).chips
 
 

@@ -14,10 +14,10 @@ from typing import Any, cast
 
 from chipfire import library, smith
 from chipfire.chips import Chips, Configuration, burning, come_back, identity, played, played_many
-from chipfire.dropped import PART
+from chipfire.dropped import PART, names_of
 from chipfire.graphs import Graph
 from chipfire.program import AnyGraph, AnyProgram, known_graph, read_chips
-from chipfire.values import FILE, MAX_CHIPS, generator, imported, side_by_side, whole
+from chipfire.values import FILE, MAX_CHIPS, generator, imported, in_order, side_by_side, whole
 
 
 def _held(graph: AnyGraph, chips: Chips, program: AnyProgram) -> Configuration:
@@ -83,7 +83,8 @@ def stabilize_many(
     Proved: the chips. Not proved: that Python passes them on."""
     known, given = known_graph(graph, program), cast(Any, configurations)
     width, numpy = known.vertices, imported("numpy")
-    is_array = hasattr(given, "__array_interface__") and given.shape[1:] == (width,) and given.dtype.kind in "iuf"
+    is_array = numpy and isinstance(given, numpy.ndarray) and not isinstance(given, numpy.ma.MaskedArray)
+    is_array = is_array and given.shape[1:] == (width,) and given.dtype.kind in "iuf"
     if is_array and ((given >= 0) & (given <= MAX_CHIPS)).all() and (given % 1 == 0).all():
         start: Sequence[int] = array("Q", given.astype("u8").tobytes())
     else:
@@ -109,10 +110,13 @@ def are_recurrent(graph: AnyGraph, configurations: Iterable[Chips], *, program: 
 
 def _rows(graph: Graph, configurations: Any, least: int | None, program: AnyProgram) -> Iterator[tuple[int, ...]]:
     """The numbers of one configuration after the other."""
-    if hasattr(configurations, "items") or isinstance(configurations, FILE) or not hasattr(configurations, "__iter__"):
-        kind = type(configurations).__name__
-        raise TypeError(f"configurations are rows of an array, or stand in a list, and are no {kind}")
-    for place, row in enumerate(configurations):
+    wanted = "configurations are rows of an array, or stand in a list"
+    if getattr(configurations, "ndim", 2) < 2:
+        raise TypeError(f"{wanted}, and are no array of shape {configurations.shape}")
+    rows = in_order(configurations, wanted)
+    if not isinstance(rows, Iterable):
+        raise TypeError(f"{wanted}, and are no {type(rows).__name__}")
+    for place, row in enumerate(rows):
         is_file = isinstance(row, FILE)
         yield read_chips(row, graph, program=program) if is_file else graph.numbers(row, least, f"chips in row {place}")
 
@@ -302,12 +306,11 @@ def avalanches(
     start = _held(graph, chips, program)
     if not start.is_stable():
         raise ValueError("the chips are not stable: stabilize them first")
-    if not isinstance(vertices, Iterable):
-        raise TypeError(f"the vertices of avalanches are one for each drop, and not {vertices!r}")
+    names = names_of(vertices, "avalanches")
 
     def dropped() -> Iterator[Avalanche]:
         held = start
-        for name in vertices:
+        for name in names:
             left, counts = played(held + {held.graph.names[held.graph.number(name)]: 1}, program)
             fired = {it: count for it, count in zip(held.graph.names, counts) if count}
             lost, held = left[held.graph.sink], Configuration(held.graph, left)

@@ -7,11 +7,12 @@ import csv
 import importlib
 import io
 import itertools
+import math
 import operator
 import os
 import random
 from array import array
-from collections.abc import Callable, Iterable, Iterator, Sequence
+from collections.abc import Callable, ItemsView, Iterable, Iterator, Mapping, Sequence
 from concurrent.futures import ThreadPoolExecutor
 from typing import Any, TypeVar, Union
 
@@ -81,6 +82,44 @@ def imported(name: str, wanted: str = "") -> Any:
         if wanted:
             raise ImportError(f"{wanted}, which is not installed") from None
         return None
+
+
+def is_of_networkx(given: Any) -> bool:
+    """Whether something is a graph of NetworkX, or a view of one."""
+    return any(kind.__module__.partition(".")[0] == "networkx" for kind in type(given).__mro__)
+
+
+def in_order(given: Any, wanted: str) -> Any:
+    """Values that stand in an order, or one alone, as Python's own: an array of any library is a list, or one of rows.
+    What has no order, or only names of columns, is refused by its name, after words for what is `wanted`."""
+    found = given
+    if hasattr(found, "toarray"):  # (the sparse ones of SciPy)
+        require_memory(8 * math.prod(found.shape), "the places of a sparse array")
+        found = found.toarray()
+    is_other = hasattr(found, "__array_interface__") and found.dtype.kind in "mMV"  # (dates, and rows by names)
+    is_other = is_other or hasattr(found, "columns") or is_of_networkx(found)
+    found = found.tolist() if hasattr(found, "tolist") and not is_other else found
+    if is_other or isinstance(found, (str, bytes, bytearray, set, frozenset, Mapping, ItemsView)):
+        text = repr(given)
+        shown = f": {text}" if len(text) <= 60 and "\n" not in text else ""
+        raise TypeError(f"{wanted}, and no {type(given).__name__}{shown}")
+    return found
+
+
+def listed(given: Any, wanted: str) -> list[Any]:
+    """Values that stand in an order, as a list; one alone is refused."""
+    found = in_order(given, wanted)
+    if not isinstance(found, Iterable):
+        raise TypeError(f"{wanted}, and not {found!r}")
+    return list(found)
+
+
+def no_graph(given: Any, wanted: str) -> TypeError:
+    """What is said of something that is no graph where one is `wanted`."""
+    kind = type(given)
+    hint = ": chipfire.from_networkx makes one of it" if is_of_networkx(given) else ""
+    name = kind.__name__ if kind.__module__ == "builtins" else f"{kind.__module__}.{kind.__name__}"
+    return TypeError(f"{wanted}, and not of {name}{hint}")
 
 
 def as_array(numbers: Sequence[Any], dtype: Any = None) -> Any:

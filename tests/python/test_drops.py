@@ -56,7 +56,7 @@ class Rows(WithFolder):
         named = chipfire.Graph(3, 2, TRIANGLE.edges, ["left", (1, 1), "out"])
         found = chipfire.drops(named, {"left": 4}, iter(["left", (1, 1), "out", (1, 1), (1, 1)]))
         self.assertEqual(rows_of(found), [(1, 1, 1), (1, 1, 1), (0, 0, 0), (0, 0, 0), (2, 2, 2)])
-        for vertices in (range(2), array.array("i", [0, 1]), (it for it in (0, 1)), {0: "a", 1: "b"}):
+        for vertices in (range(2), array.array("i", [0, 1]), (it for it in (0, 1)), {0: "a", 1: "b"}.keys()):
             self.assertEqual(rows_of(chipfire.drops(TRIANGLE, [4, 0, 0], vertices)), [(1, 1, 1), (1, 1, 1)])
         self.assertEqual(rows_of(chipfire.Program().drops(TRIANGLE, 0, [], progress=True)), [])
 

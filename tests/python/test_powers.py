@@ -94,7 +94,7 @@ class PowerLaw(unittest.TestCase):
             with self.assertRaises(ValueError):
                 chipfire.power_law(sizes, **options)
         for sizes, refusal, said in [([], ValueError, "two sizes that differ"), ([0, 0], ValueError, "two sizes"),
-                                     ([1, 2.5], TypeError, "size 1 is no whole number: 2.5"), ("12", TypeError, "'1'"),
+                                     ([1, 2.5], TypeError, "size 1 is no whole number: 2.5"), ("12", TypeError, "and no str: '12'"),
                                      ([1, 2, float("nan")], TypeError, "size 2 is no whole number: nan"),
                                      ({1: 2, 3: -1}, ValueError, "the count of size 3 is below 0: -1"),
                                      ({1: 0.5, 3: 1}, TypeError, "the count of size 1 is no whole number: 0.5"),

@@ -19,4 +19,4 @@ pub mod laws;
 mod stabilize;
 
 /// The version of the library: 1,000,000 for each of the first number, 1,000 for each of the second, and the third.
-pub const VERSION: u64 = 6_001;
+pub const VERSION: u64 = 7_000;

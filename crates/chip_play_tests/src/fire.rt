@@ -234,40 +234,42 @@ fn limit_of_two(rt: HostRuntime) {
     plays(&rt, LIMIT_OF_TWO);
 }
 
-/// The last vertex of a long path.
+/// The last vertex of a path of as many vertices as there may be.
 pub(crate) const END: u64 = 4_095;
 
-/// As many vertices as there may be, on a path whose ends lose chips to its sink, the last vertex.
-fn long_path(rt: &(impl AllocGlobal + Abort)) -> Box<Graph> {
+/// A path whose ends lose chips to its sink, which is this vertex, the last one.
+fn path(rt: &(impl AllocGlobal + Abort), end: u32) -> Box<Graph> {
+    let end = u64::from(end);
     let mut rows = Vec::new(rt.alloc());
-    for vertex in 0..END {
+    for vertex in 0..end {
         rows.push((vertex, vertex + 1, 1)).expect(rt, "memory");
-        rows.push((vertex, vertex.checked_sub(1).unwrap_or(END), 1))
+        rows.push((vertex, vertex.checked_sub(1).unwrap_or(end), 1))
             .expect(rt, "memory");
     }
-    graph_of(rt, END + 1, END, &rows)
+    graph_of(rt, end + 1, end, &rows)
 }
 
-/// `more` chips in the middle of the path.
-pub(crate) fn heap(rt: &(impl AllocGlobal + Abort), more: u64, limit: u64) -> Box<Game> {
-    let mut start = vec![in rt.alloc(); 0; 4_096].expect(rt, "memory");
-    if let Some(chips) = start.get_mut(2_047) {
+/// `more` chips in the middle of a path up to this sink.
+pub(crate) fn heap(rt: &(impl AllocGlobal + Abort), end: u32, more: u64, limit: u64) -> Box<Game> {
+    let mut start = vec![in rt.alloc(); 0; end as usize + 1].expect(rt, "memory");
+    if let Some(chips) = start.get_mut(end as usize / 2) {
         *chips = more;
     }
-    let game = Game::new(Box::into_inner(long_path(rt)), start, limit).expect(rt, "a game");
+    let game = Game::new(Box::into_inner(path(rt, end)), start, limit).expect(rt, "a game");
     Box::new(rt.alloc(), game).expect(rt, "memory")
 }
 
-/// 2^20 chips in the middle of the path: firing alone would take minutes.
+/// 2^20 chips in the middle of a path of 1,024 vertices: rounds alone would take a million and more.
 pub(crate) fn long_game(rt: &(impl AllocGlobal + Abort), limit: u64) -> Box<Game> {
-    heap(rt, 1 << 20, limit)
+    heap(rt, 1_023, 1 << 20, limit)
 }
 
-/// The chips in the middle, at the first vertex and on the sink, once nothing may fire.
+/// The chips in the middle, at the first vertex and on the sink, once nothing may fire: one on each vertex but the
+/// middle, and all others on the sink.
 pub(crate) fn long_path_ends(rt: &impl Abort, outcome: &Outcome) {
-    assert!(rt; outcome.chips.get(2_047).copied() == Some(0));
+    assert!(rt; outcome.chips.get(511).copied() == Some(0));
     assert!(rt; outcome.chips.get(0).copied() == Some(1));
-    assert!(rt; outcome.chips.get(4_095).copied() == Some(1_044_482));
+    assert!(rt; outcome.chips.get(1_023).copied() == Some(1_047_554));
     assert!(rt; outcome.over.is_empty());
 }
 
@@ -276,8 +278,8 @@ fn plays_a_long_path(rt: HostRuntime) {
     let mut told = Told::nothing();
     let game = long_game(&rt, 1 << 40);
     let outcome = plain_watched(rt.alloc(), &game, &mut told).expect(&rt, "memory");
-    assert!(rt; outcome.fired.get(2_047).copied() == Some(1_071_645_696));
-    assert!(rt; outcome.fired.get(0).copied() == Some(522_241));
+    assert!(rt; outcome.fired.get(511).copied() == Some(268_304_640));
+    assert!(rt; outcome.fired.get(0).copied() == Some(523_777));
     long_path_ends(&rt, &outcome);
     assert!(rt; told.times > 1, "told on the way, and not at the end alone");
     assert!(rt;
@@ -292,7 +294,8 @@ pub(crate) fn one_more(rt: &(impl AllocGlobal + Abort), place: u64) -> Box<Game>
     if let Some(chips) = start.get_mut(place.saturating_sub(1) as usize) {
         *chips = 2;
     }
-    let game = Game::new(Box::into_inner(long_path(rt)), start, 1 << 40).expect(rt, "a game");
+    let graph = Box::into_inner(path(rt, END as u32));
+    let game = Game::new(graph, start, 1 << 40).expect(rt, "a game");
     Box::new(rt.alloc(), game).expect(rt, "memory")
 }
 
@@ -311,19 +314,18 @@ fn expect_one_more(rt: &(impl AllocGlobal + Abort), place: u64, by_rounds: bool)
     assert!(rt; outcome.over.is_empty());
 }
 
-/// One chip waits to move. The first plays end by the work list alone, and the last ones go on by rounds.
+/// One chip waits to move, and the play ends by the work list alone.
 #[test]
 fn one_chip_more_on_a_long_path(rt: HostRuntime) {
-    let places = [
-        (1, false),
-        (30, false),
-        (4_080, false),
-        (1_000, true),
-        (2_048, true),
-    ];
-    for (place, by_rounds) in places {
-        expect_one_more(&rt, place, by_rounds);
+    for place in [1, 30, 4_080] {
+        expect_one_more(&rt, place, false);
     }
+}
+
+/// It sets off so many that rounds go on.
+#[test]
+fn one_chip_more_far_from_the_ends(rt: HostRuntime) {
+    expect_one_more(&rt, 200, true);
 }
 
 /// The side of a grid whose borders lose chips to the sink.
@@ -384,16 +386,23 @@ fn first_sitting(rt: &(impl AllocGlobal + Abort), game: &Game) -> Resumed
     Resumed::first(rt.alloc(), outcome).expect(rt, "memory")
 }
 
-/// At first each vertex may fire once, and then as often as it can: the counts add up to those of one sitting.
+/// At first each vertex may fire once, and then as often as it can: the counts add up to those of one sitting, and are
+/// searched as in one.
 #[test]
 fn a_long_path_in_two_sittings(rt: HostRuntime) {
     let first = first_sitting(&rt, &long_game(&rt, 1));
-    assert!(rt; first.outcome.over.as_slice() == [2_047].as_slice());
-    let path = Box::into_inner(long_path(&rt));
-    let last = resume(rt.alloc(), path, &first, 1 << 40).expect(&rt, "a sitting");
-    assert!(rt; last.prior.get(2_047).copied() == Some(1));
-    assert!(rt; last.outcome.fired.get(2_047).copied() == Some(1_071_645_695));
+    assert!(rt; first.outcome.over.as_slice() == [511].as_slice());
+    let path = Box::into_inner(path(&rt, 1_023));
+    let mut told = Told::nothing();
+    let last = resume_watched(rt.alloc(), path, &first, 1 << 40, &mut told).expect(
+        &rt,
+        "a sitting",
+    );
+    assert!(rt; last.prior.get(511).copied() == Some(1));
+    assert!(rt; last.outcome.fired.get(511).copied() == Some(268_304_639));
     long_path_ends(&rt, &last.outcome);
+    assert!(rt; told.searches == 1, "{} searches", told.searches);
+    assert!(rt; told.rounds < 10_000, "{} rounds", told.rounds);
 }
 
 /// How often it was told something, of how many plays, of how many rounds in all, how many firings there were after the

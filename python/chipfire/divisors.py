@@ -26,8 +26,8 @@ class Divisor(AsArray, Sums):
     numbers  the chips by the numbers of the vertices
 
     They come in each form that `Graph.chips` takes, but a sequence has a number for each vertex, and one number is for
-    all of them. A divisor is never changed. It is a mapping, is added, subtracted and multiplied by numbers. NumPy takes
-    it as the array of its numbers, and pandas as a Series.
+    all of them. A divisor is never changed. It is a mapping, is added, subtracted and multiplied by numbers. NumPy
+    takes it as the array of its numbers, and pandas as a Series.
     """
 
     def __init__(self, graph: AnyGraph, chips: Chips) -> None:

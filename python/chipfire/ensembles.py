@@ -330,10 +330,19 @@ def _are_rows(graph: Graph, chips: Any) -> bool:
         return False
     if any(hasattr(row, "items") or hasattr(row, "prior") for row in chips):
         return True
-    if not all(hasattr(row, "__len__") for row in chips):
+    depths = {*map(_depth, chips)}
+    if 0 in depths or not depths:
         return False
-    is_deep = any(hasattr(next(iter(row), 0), "__len__") for row in chips)
-    return is_deep or graph.shape != (len(chips), *{*map(len, chips)})
+    return max(depths) > 1 or graph.shape != (len(chips), *{*map(len, chips)})
+
+
+def _depth(form: Any) -> int:
+    """In how many directions the numbers of a form stand: 0 if it is one number."""
+    if hasattr(form, "ndim"):
+        return int(form.ndim)
+    if not isinstance(form, (list, tuple, range, array)):
+        return 0
+    return 1 + (_depth(form[0]) if form else 0)
 
 
 def _by_rows(numpy: Any, numbers: array[int], n: int) -> Any:

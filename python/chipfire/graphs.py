@@ -418,8 +418,8 @@ class Graph:
         return rows
 
     def _by_squares(self, rows: list[list[Any]], of: str, with_sink: bool) -> list[Any]:
-        """What stands in rows of the graph's shape, by numbers of vertices. The sink's square counts for nothing, unless
-        its number is wanted too."""
+        """What stands in rows of the graph's shape, by numbers of vertices. The sink's square counts for nothing,
+        unless its number is wanted too."""
         if self.shape is None or {*map(len, rows)} != {self.shape[1]} or len(rows) != self.shape[0]:
             widths = " or ".join(map(str, sorted({*map(len, rows)})))
             raise ValueError(f"the {of} stand in {len(rows)} rows of {widths}, and the graph has shape {self.shape}")
@@ -698,7 +698,8 @@ def from_edges(
     `source` and `target` name the columns of the ends, and `weight` that of how many chips the edge sends, one if there
     is no such column. Each edge leads both ways, unless they are `directed`. The order of the names, or else that in
     which they come, gives the numbers. All else is as in `from_networkx`."""
-    if not isinstance(table, Mapping) and not hasattr(table, "columns") or is_of_networkx(table):
+    is_table = isinstance(table, Mapping) or hasattr(table, "columns") and hasattr(table, "__getitem__")
+    if not is_table or is_of_networkx(table):
         kind = type(table).__name__
         raise TypeError(f"a table of edges is a DataFrame or a dict of columns, and no {kind}; see Graph.undirected")
     if lacking := [name for name in (source, target) if name not in table]:

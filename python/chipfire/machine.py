@@ -15,7 +15,9 @@ from typing import Any, NamedTuple
 from chipfire import model
 from chipfire.graphs import Graph
 from chipfire.reports import Report
-from chipfire.values import MAX_LIMIT, MAX_VERTICES, FileName, begins, own_text, read_rows, rows_text, whole, write
+from chipfire.values import (
+    MAX_LIMIT, MAX_VERTICES, FileName, begins, no_graph, own_text, read_rows, rows_text, whole, write,
+)
 
 SCHEDULE_HEADER = ("event", "at", "count")
 NOTED_HEADER = (*SCHEDULE_HEADER, "note")
@@ -225,7 +227,7 @@ class Setting:
 
     def __post_init__(self) -> None:
         if not isinstance(self.graph, Graph):
-            raise TypeError(f"the graph of a setting is a chipfire.Graph, and not of {type(self.graph).__name__}")
+            raise no_graph(self.graph, "the graph of a setting is a chipfire.Graph")
         self.graph.refuse_loops()
         object.__setattr__(self, "chips", self.graph.chips(self.chips))
         object.__setattr__(self, "limit", whole(self.limit, "limit", 0, MAX_LIMIT))

@@ -33,7 +33,8 @@ def tutte_polynomial(graph: AnyGraph, *, most: int = MOST) -> dict[tuple[int, in
 
     The edges of one vertex after the other are deleted and contracted; smaller graphs that come out the same are one. A
     ValueError tells if there are more than `most` of them with one number of vertices: they are counted first, which
-    takes seconds. A complete graph of 8 vertices takes 0.01 s, and 4 by 4 squares 1 s. Nothing of this is proved, and the program is not asked."""
+    takes seconds. A complete graph of 8 vertices takes 0.01 s, and 4 by 4 squares 1 s. Nothing of this is proved, and
+    the program is not asked."""
     found: Terms = Counter()
     for (i, j), count in _whitney(known_graph(graph), most, False).items():
         for power in range(i + 1):  # (x - 1 to the power i)

@@ -9,7 +9,7 @@ from collections import Counter
 from collections.abc import Iterable, Mapping
 from typing import Any, NamedTuple
 
-from chipfire.values import imported, listed, whole, wholes
+from chipfire.values import imported, is_of_networkx, listed, whole, wholes
 
 #: The greatest size, and the most that one may be seen.
 MAX_SIZE = MAX_COUNT = 2**64
@@ -145,12 +145,11 @@ def plot_sizes(
 
 def _counts(sizes: Any) -> Counter[int]:
     """How many there are of each size; those of an array of several rows too."""
-    if isinstance(sizes, Mapping):
+    if isinstance(sizes, Mapping) and not is_of_networkx(sizes):
         named = wholes([*sizes], lambda place: f"size {place}", None)
         counts = wholes([*sizes.values()], lambda place: f"the count of size {named[place]}", 0, MAX_COUNT)
         return Counter(dict(zip(named, counts)))
-    wanted = "sizes come one by one, or as a histogram"
-    values = listed(sizes.ravel() if hasattr(sizes, "ravel") else sizes, wanted)
-    while values and isinstance(values[0], list):  # (the rows of a sparse array)
+    values = listed(sizes, "sizes come one by one, or as a histogram")
+    while values and isinstance(values[0], list):  # (the rows of an array)
         values = [*itertools.chain.from_iterable(values)]
     return Counter(wholes(values, lambda place: f"size {place}", None))

@@ -260,8 +260,8 @@ def order(graph: AnyGraph) -> int:
 def random_drops(graph: AnyGraph, count: int, seed: Any, *, program: AnyProgram = None) -> Iterator[Hashable]:
     """The names of `count` vertices but the sink, drawn evenly by `random.Random(seed)`, one after the other.
 
-    A seed is a whole number, also one of NumPy or a float like 3.0, which is 3; another float, a text or bytes; or None,
-    and then no two calls draw the same. The text "3" is another seed than 3."""
+    A seed is a whole number, also one of NumPy or a float like 3.0, which is 3; another float, a text or bytes; or
+    None, and then no two calls draw the same. The text "3" is another seed than 3."""
     known, draw, count = known_graph(graph, program), generator(seed), whole(count, "the number of drops")
     inner = [name for vertex, name in enumerate(known.names) if vertex != known.sink]
     if count and not inner:

@@ -61,7 +61,8 @@ class Recurrent(unittest.TestCase):
 
     def test_what_there_is_no_memory_for_is_refused_before_it_begins(self):
         # (a configuration of 6 squares and the sink takes 7 numbers of 8 bytes; a drop three)
-        for call, count in [("chains(g, 2**40, 4, 1)", 2**40 * (4 * 24 + 7 * 8)), ("chains(g, 1, 2**50, 1)", 24 * 2**50 + 56),
+        for call, count in [("chains(g, 2**40, 4, 1)", 2**40 * (4 * 24 + 7 * 8)),
+                            ("chains(g, 1, 2**50, 1)", 24 * 2**50 + 56),
                             ("chains(g, 1, 2**30, 1)", 24 * 2**30 + 56), ("random_recurrent(g, 1, 2**40)", 56 * 2**40)]:
             lines = ["import chipfire, resource", "resource.setrlimit(resource.RLIMIT_AS, (2**31, 2**31))",
                      "g = chipfire.grid(3, 2)", f"chipfire.{call}"]
@@ -107,8 +108,8 @@ class Chains(unittest.TestCase):
 
     def test_the_seed_is_told_from_which_all_is_played_again(self):
         grid = chipfire.grid(7, 5)
-        for seed, told in [(3, 3), ("3", "3"), (None, None), (3.0, 3), (2.5, 2.5), (b"3", b"3"), (bytearray(b"3"), b"3"),
-                           (True, 1), (-3, -3)]:
+        for seed, told in [(3, 3), ("3", "3"), (None, None), (3.0, 3), (2.5, 2.5), (b"3", b"3"),
+                           (bytearray(b"3"), b"3"), (True, 1), (-3, -3)]:
             found = chipfire.chains(grid, 3, 40, seed)
             self.assertTrue(seed is None or (type(found.seed), found.seed) == (type(told), told), seed)
             again = chipfire.chains(grid, 3, 40, found.seed)
@@ -123,7 +124,8 @@ class Chains(unittest.TestCase):
     def test_a_whole_float_is_the_same_seed_as_its_number(self):
         grid = chipfire.grid(4, 4)
         one, other = (chipfire.chains(grid, 2, 30, seed, chips=0) for seed in (3, 3.0))
-        self.assertEqual((one.seeds, [it.tolist() for it in one.size]), (other.seeds, [it.tolist() for it in other.size]))
+        self.assertEqual(one.seeds, other.seeds)
+        self.assertEqual(*([it.tolist() for it in of.size] for of in (one, other)))
 
     def test_as_many_threads_play_as_there_are_processors_for_this_process(self):
         grid, side_by_side = chipfire.grid(3, 3), "chipfire.ensembles.side_by_side"

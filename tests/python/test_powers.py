@@ -62,7 +62,8 @@ class PowerLaw(unittest.TestCase):
         self.assertAlmostEqual(law.error, 1 / math.sqrt(100 * 0.75 * 0.25 * math.log(2) ** 2))
 
     def test_the_mean_logarithm_of_the_law_is_that_of_the_sizes(self):
-        for sizes, least, most in [([1, 1, 1, 2, 7, 300], 1, 300), ([1, 1, 3, 20, 6000], 1, 6000), ([1, 20_000], 1, 20_000),
+        for sizes, least, most in [([1, 1, 1, 2, 7, 300], 1, 300), ([1, 1, 3, 20, 6000], 1, 6000),
+                                   ([1, 20_000], 1, 20_000),
                                    ([5] * 9 + [6], 5, 9000), ([9999] * 20 + [9000, 9990], 1, 10_000),
                                    ([400, 5000, 5000], 1, 8000), ([10**6] * 3 + [10**6 + 700], 10**6, 10**6 + 4000)]:
             law, near = chipfire.power_law(sizes, least, most), sizes[0]
@@ -70,7 +71,7 @@ class PowerLaw(unittest.TestCase):
             self.assertLess(abs(means(law.exponent, least, most, near) - mean), 1e-9 / law.error / len(sizes) ** 0.5)
 
     def test_sizes_that_are_seen_far_above_the_least_one(self):
-        # (from the largest one down they are geometric then: 100 of 101 lie one below it, so each is 100/201 of the next)
+        # (from the largest one down they are geometric then: 100 of 101 are one below it, each 100/201 of the next)
         for size in (10**4, 10**6):
             law = chipfire.power_law([size] * 100 + [size + 1])
             self.assertLess(abs(law.exponent / (size * -math.log(201 / 100)) - 1), 3 / size)
@@ -94,11 +95,12 @@ class PowerLaw(unittest.TestCase):
             with self.assertRaises(ValueError):
                 chipfire.power_law(sizes, **options)
         for sizes, refusal, said in [([], ValueError, "two sizes that differ"), ([0, 0], ValueError, "two sizes"),
-                                     ([1, 2.5], TypeError, "size 1 is no whole number: 2.5"), ("12", TypeError, "and no str: '12'"),
+                                     ([1, 2.5], TypeError, "size 1 is no whole number: 2.5"),
+                                     ("12", TypeError, "and no str: '12'"),
                                      ([1, 2, float("nan")], TypeError, "size 2 is no whole number: nan"),
                                      ({1: 2, 3: -1}, ValueError, "the count of size 3 is below 0: -1"),
                                      ({1: 0.5, 3: 1}, TypeError, "the count of size 1 is no whole number: 0.5"),
-                                     ({1: 2**65, 3: 1}, ValueError, "the count of size 1 is above 18446744073709551616")]:
+                                     ({1: 2**65, 3: 1}, ValueError, "count of size 1 is above 18446744073709551616")]:
             with self.assertRaisesRegex(refusal, said):
                 chipfire.power_law(sizes)
 

@@ -223,39 +223,34 @@ class Wheel(Answers):
 class Editable(unittest.TestCase):
     """What `pip install -e` installs: the package as it lies in a clone, where it can be edited."""
 
-    ASK = "import chipfire; print(chipfire.__file__, chipfire.find_program(), chipfire.plain(chipfire.path(1), [3]).fired)"
+    ASK = """
+import importlib.metadata, chipfire
+print(importlib.metadata.version("chipfire"), chipfire.__file__, chipfire.find_program())
+print(chipfire.plain(chipfire.path(1), [3]).fired)
+"""
 
-    def pythons(self):
-        """This Python, and that of the system if it is another and makes environments."""
-        yield sys.executable
-        system = shutil.which("python3", path=made.PATH)
-        if system and os.path.realpath(system) != os.path.realpath(sys.executable):
-            yield from [system] * (made.run(system, "-c", "import ensurepip").returncode == 0)
+    def python(self):
+        """Returns the Python of the system if it makes environments, and else this one."""
+        system = shutil.which("python3", path=made.PATH) or sys.executable
+        return system if made.run(system, "-c", "import ensurepip").returncode == 0 else sys.executable
 
-    def is_installed(self, python, top):
-        """Installs it without network and without setuptools, edits it, and takes it away again."""
-        room = made.room()
-        made.run(python, "-m", "venv", room, check=True)
+    def test_it_is_the_package_of_the_clone(self):
+        """It is installed without network and without setuptools, edited, and taken away again."""
+        top, room = made.checkout(), made.room()
+        made.build(top)
+        made.run(self.python(), "-m", "venv", room, check=True)
         made.run(f"{room}/bin/pip", "uninstall", "-q", "-y", "setuptools", check=True)
         made.run(*without_network(), f"{room}/bin/pip", "install", "--no-index", "-e", f"{top}/python", check=True)
         asked = made.run(f"{room}/bin/python", "-c", self.ASK, cwd=made.rooms())
-        self.assertEqual(asked.stdout, f"{top}/python/chipfire/__init__.py {top}/target/chipfire (1, 0)\n", asked.stderr)
+        found = f"{made.version()} {top}/python/chipfire/__init__.py {top}/target/chipfire\n(1, 0)\n"
+        self.assertEqual(asked.stdout, found, asked.stderr)
         made.write(f"{top}/python/chipfire/more.py", b"print('edited')\n")
         self.assertEqual(made.run(f"{room}/bin/python", "-c", "import chipfire.more", cwd=made.rooms()).stdout, "edited\n")
-        shown = made.run(f"{room}/bin/pip", "list", "--format=json", check=True).stdout
-        told = next(it for it in json.loads(shown) if it["name"] == "chipfire")
-        self.assertEqual((told["version"], told["editable_project_location"]), (made.version(), f"{top}/python"))
         self.assertFalse(os.path.exists(f"{room}/bin/chipfire"))
         made.run(f"{room}/bin/pip", "uninstall", "-y", "chipfire", check=True)
         gone = made.run(f"{room}/bin/python", "-c", "import chipfire", cwd=made.rooms())
         self.assertIn("ModuleNotFoundError", gone.stderr)
-
-    def test_it_is_the_package_of_the_clone(self):
-        for python in self.pythons():
-            top = made.checkout()
-            made.build(top)
-            self.is_installed(python, top)
-            self.assertEqual(sorted(os.listdir(f"{top}/python")), ["build_wheel.py", "chipfire", "pyproject.toml"])
+        self.assertEqual(sorted(os.listdir(f"{top}/python")), ["build_wheel.py", "chipfire", "pyproject.toml"])
 
 
 class OldPython(unittest.TestCase):
@@ -294,15 +289,14 @@ class OldPython(unittest.TestCase):
 
     def test_pip_refuses_it(self):
         """By its own words, if it is new enough to read pyproject.toml."""
-        old = {version: path for version, path in made.pythons().items() if (3, 7) <= version < (3, 9)}
+        old = [path for version, path in made.pythons().items() if (3, 7) <= version < (3, 9)]
         if not old:
             self.skipTest("there is no Python of version 3.7 or 3.8")
-        for path in old.values():
-            room = made.room()
-            made.run(path, "-m", "venv", room, check=True)
-            answer = made.run(f"{room}/bin/pip", "install", "--no-index", f"{made.home()}/python")
-            self.assertIn("Package 'chipfire' requires a different Python: ", answer.stderr)
-            self.assertNotIn("Traceback", answer.stdout + answer.stderr)
+        room = made.room()
+        made.run(old[0], "-m", "venv", room, check=True)
+        answer = made.run(f"{room}/bin/pip", "install", "--no-index", f"{made.home()}/python")
+        self.assertIn("Package 'chipfire' requires a different Python: ", answer.stderr)
+        self.assertNotIn("Traceback", answer.stdout + answer.stderr)
 
     def test_it_understands_what_says_so(self):
         for name in self.STARTED:

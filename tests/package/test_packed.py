@@ -39,8 +39,9 @@ def readelf(word, path=made.PROGRAM):
 
 
 def current_pythons():
-    """Returns the Pythons of this machine that ./package takes."""
-    return [path for version, path in made.pythons().items() if version >= (3, 9)]
+    """Returns the oldest and the newest Python of this machine that ./package takes."""
+    found = [path for version, path in made.pythons().items() if version >= (3, 9)]
+    return found[0], found[-1]
 
 
 def proved_crates():
@@ -64,7 +65,7 @@ class Made(unittest.TestCase):
         self.assertEqual(set(os.listdir(f"{made.home()}/dist")), names)
 
     def test_the_same_bytes_each_time(self):
-        """By any Python that is here, and whatever dpkg-deb is told by the environment."""
+        """By this Python, the oldest and the newest, and whatever dpkg-deb is told by the environment."""
         top = made.checkout()
         made.build(top)
         found = []

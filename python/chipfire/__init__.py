@@ -58,53 +58,42 @@ if _sys.version_info < (3, 9):
     _this = ".".join(map(str, _sys.version_info[:3]))
     raise ImportError(f"chipfire requires Python >=3.9, and {_sys.executable} is Python {_this}")
 
-from chipfire import library as library, machine
-from chipfire.animation import Frames, frames, frames_by_chips
-from chipfire.chips import CHIPS_HEADER as CHIPS_HEADER, Chips, Configuration
-from chipfire.choosing import choice_page
-from chipfire.computations import Computation
-from chipfire.divisors import Divisor, canonical_divisor, genus
-from chipfire.dropped import Drops
-from chipfire.ensembles import Chains, Firings, chains, random_recurrent
-from chipfire.explorer import explore
-from chipfire.finding import (
-    ProgramNotFound, find_program as find_program, start_program as start_program, version, warn_without_program,
-)
-from chipfire.graphs import (
-    Graph, aztec, complete, cycle, from_edges, from_networkx, from_sage, grid, grid_for, path, region, torus, wheel,
-)
-from chipfire.groups import Group
-from chipfire.judging import judge
-from chipfire.library import find_library as find_library
-from chipfire.logs import judge_log, read_json_lines, read_shiviz
-from chipfire.machine import (
-    RULES as RULES, SCHEDULE_HEADER as SCHEDULE_HEADER, TRACE_HEADER as TRACE_HEADER, Board as Board, Books as Books,
-    Event as Event, Firing as Firing, Reply as Reply, Schedule as Schedule, Setting as Setting,
-    Simulation as Simulation, TraceRow as TraceRow, read_schedule as read_schedule, read_trace as read_trace,
-    write_schedule as write_schedule, write_trace as write_trace,
-)
-from chipfire.pages import page, recorded
-from chipfire.pictures import PALETTES, Picture
-from chipfire.polynomials import avalanche_polynomial, level_polynomial, tutte_polynomial
-from chipfire.powers import PowerLaw, plot_sizes, power_law
-from chipfire.process import Fault, TraceCut
-from chipfire.program import (
-    Check, Program, check, drops, explain, identity, plain, read_chips, replay, resume, run, simulate, verify,
-    write_chips,
-)
-from chipfire.reports import Report
-from chipfire.sandpiles import (
-    Avalanche, add, are_recurrent, avalanche, avalanches, burning_configuration, burning_script, invariant_factors,
-    is_recurrent, is_stable, is_superstable, laplacian, order, random_drops, recurrent_representative, recurrents,
-    reduced_laplacian, stabilize, stabilize_many, superstable_representative, superstables, to_networkx, to_scipy,
-)
-from chipfire.schedules import model_log, play, random_schedule, shiviz, shrink
-from chipfire.values import (
-    MAX_CHIPS as MAX_CHIPS, MAX_EDGES as MAX_EDGES, MAX_LARGE_EDGES as MAX_LARGE_EDGES,
-    MAX_LARGE_VERTICES as MAX_LARGE_VERTICES, MAX_LIMIT as MAX_LIMIT, MAX_MULT as MAX_MULT,
-    MAX_VERTICES as MAX_VERTICES, FileName as FileName,
-)
-from chipfire.wrong import wrong_page
+from chipfire.backend import library
+from chipfire.lab import machine
+from chipfire.pictures.animation import Frames, frames, frames_by_chips
+from chipfire.configurations.configuration import CHIPS_HEADER as CHIPS_HEADER, Chips, Configuration
+from chipfire.lab.choosing import choice_page
+from chipfire.lab.computations import Computation
+from chipfire.divisors.divisor import Divisor, canonical_divisor, genus
+from chipfire.ensembles.drops import Drops
+from chipfire.ensembles.chains import Chains, Firings, chains
+from chipfire.ensembles.wilson import random_recurrent
+from chipfire.lab.explorer import explore
+from chipfire.backend.finding import ProgramNotFound, find_program as find_program, start_program as start_program, version, warn_without_program
+from chipfire.graphs.convert import from_edges, from_networkx, from_sage
+from chipfire.graphs.families import complete, cycle, path, torus, wheel
+from chipfire.graphs.graph import Graph
+from chipfire.graphs.lattices import aztec, grid, grid_for, region
+from chipfire.configurations.group import Group
+from chipfire.lab.judging import judge
+from chipfire.backend.library import find_library as find_library
+from chipfire.lab.logs import judge_log, read_json_lines, read_shiviz
+from chipfire.lab.machine import RULES as RULES, SCHEDULE_HEADER as SCHEDULE_HEADER, TRACE_HEADER as TRACE_HEADER, Board as Board, Books as Books, Event as Event, Firing as Firing, Reply as Reply, Schedule as Schedule, Setting as Setting, Simulation as Simulation, TraceRow as TraceRow, read_schedule as read_schedule, read_trace as read_trace, write_schedule as write_schedule, write_trace as write_trace
+from chipfire.lab.pages import page, recorded
+from chipfire.pictures.picture import PALETTES, Picture
+from chipfire.divisors.polynomials import avalanche_polynomial, level_polynomial, tutte_polynomial
+from chipfire.ensembles.power_law import PowerLaw, plot_sizes, power_law
+from chipfire.backend.process import Fault, TraceCut
+from chipfire.backend.commands import Check, Program, check, drops, explain, identity, plain, read_chips, replay, resume, run, simulate, verify, write_chips
+from chipfire.backend.report import Report
+from chipfire.configurations.laplacian import invariant_factors, laplacian, order, reduced_laplacian
+from chipfire.configurations.recurrent import are_recurrent, burning_configuration, burning_script, is_recurrent, is_superstable, recurrent_representative, recurrents, superstable_representative, superstables
+from chipfire.configurations.stabilization import add, is_stable, stabilize, stabilize_many
+from chipfire.ensembles.avalanche import Avalanche, avalanche, avalanches, random_drops
+from chipfire.graphs.convert import to_networkx, to_scipy
+from chipfire.lab.schedules import model_log, play, random_schedule, shiviz, shrink
+from chipfire.utils import MAX_CHIPS as MAX_CHIPS, MAX_EDGES as MAX_EDGES, MAX_LARGE_EDGES as MAX_LARGE_EDGES, MAX_LARGE_VERTICES as MAX_LARGE_VERTICES, MAX_LIMIT as MAX_LIMIT, MAX_MULT as MAX_MULT, MAX_VERTICES as MAX_VERTICES, FileName as FileName
+from chipfire.lab.wrong import wrong_page
 
 __version__ = version()
 warn_without_program()
@@ -123,3 +112,8 @@ __all__ = [
     "shrink", "simulate", "stabilize", "stabilize_many", "superstable_representative", "superstables", "to_networkx",
     "to_scipy", "torus", "tutte_polynomial", "verify", "wheel", "write_chips", "wrong_page",
 ]
+
+
+def __dir__() -> list[str]:
+    """The public names."""
+    return [*__all__, "__all__", "__doc__", "__file__", "__name__", "__path__", "__version__"]

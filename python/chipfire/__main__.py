@@ -23,20 +23,20 @@ import subprocess
 import sys
 from typing import Any, NoReturn
 
-from chipfire.choosing import choice_page_text
-from chipfire.detectors import DETECTORS, known_detector
-from chipfire.explorer import explore
-from chipfire.finding import environment, find_program
-from chipfire.judging import judge
-from chipfire.layout import Point
-from chipfire.ledger import Disagreement
-from chipfire.machine import SCHEDULE_HEADER, TRACE_HEADER, Setting
-from chipfire.model import Core
-from chipfire.pages import page_text, recorded, refuse_more
-from chipfire.program import known_chips, known_graph, simulate
-from chipfire.schedules import Detector
-from chipfire.values import MAX_LIMIT, begins, read_rows, rows_text
-from chipfire.wrong import wrong_page_text
+from chipfire.lab.choosing import choice_page_text
+from chipfire.lab.detectors import DETECTORS, known_detector
+from chipfire.lab.explorer import explore
+from chipfire.backend.finding import environment, find_program
+from chipfire.lab.judging import judge
+from chipfire.lab.layout import Point
+from chipfire.lab.ledger import Disagreement
+from chipfire.lab.machine import SCHEDULE_HEADER, TRACE_HEADER, Setting
+from chipfire.lab.model import Core
+from chipfire.lab.pages import page_text, recorded, refuse_more
+from chipfire.backend.commands import known_chips, known_graph, simulate
+from chipfire.lab.schedules import Detector
+from chipfire.utils import MAX_LIMIT, has_header as begins, read_rows, rows_text
+from chipfire.lab.wrong import wrong_page_text
 
 
 def _positions(file: str) -> dict[int, Point]:

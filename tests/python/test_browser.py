@@ -14,7 +14,7 @@ import unittest
 
 import browser
 import chipfire
-from chipfire.schedules import opened
+from chipfire.lab.schedules import opened
 from test_pages import DETECTOR, EXAMPLES, TRIANGLE, detector
 
 #: Reads off the page what its tables and its drawing show.
@@ -137,7 +137,7 @@ class InBrowser(unittest.TestCase):
 
     def open(self, simulation, size=(1280, 720), is_phone=False):
         """Opens the page of a simulation, and returns the simulation that it shows."""
-        told = chipfire.pages.spelled_out(simulation)
+        told = chipfire.lab.pages.spelled_out(simulation)
         self.browser.resize(*size, is_phone)
         chipfire.page(simulation, f"{self.folder}/run.html")
         self.browser.go(f"file://{self.folder}/run.html")
@@ -394,7 +394,7 @@ class Choices(InBrowser):
         for name, paths in [("right", 30), ("without-deficit", 10), ("at-once", 10)]:
             setting = chipfire.Setting(TRIANGLE, (4 if name == "right" else 3, 0, 0))
             self.open(name, setting=setting)
-            words = chipfire.sentences.Sentences(setting.graph)
+            words = chipfire.lab.sentences.Sentences(setting.graph)
             for seed in range(paths):
                 self.browser.value("leap(0)")
                 draw, core, done, picks = random.Random(f"{name} {seed}"), opened(setting, name), 0, []
@@ -402,7 +402,7 @@ class Choices(InBrowser):
                 while core.enabled():
                     picks.append(draw.randrange(len(core.enabled())))
                     done = self.pick(core, words, picks[-1], done)
-                    early += [done] * chipfire.schedules.is_early(core)
+                    early += [done] * chipfire.lab.schedules.is_early(core)
                 now = self.browser.value(self.NOW)
                 self.assertEqual((now["possible"], self.browser.value("at")), ([], done))
                 self.assertEqual(now["end"], f"The root was closed too early, after event {early[0]}." if early else
@@ -915,7 +915,7 @@ class Lessons(InBrowser):
         self.assertEqual(self.browser.complaints(), [])
 
     def test_a_vertex_can_be_dragged(self):
-        before = chipfire.layout.places_of(chipfire.Graph.read(f"{EXAMPLES}/triangle/graph.json"), [0]).vertices
+        before = chipfire.lab.layout.places_of(chipfire.Graph.read(f"{EXAMPLES}/triangle/graph.json"), [0]).vertices
         place = "(() => {{ const box = document.querySelector('{}').getBoundingClientRect(); " \
                 "return [box.x + box.width / 2, box.y + box.height / 2]; }})()".format('[data-vertex="1"] .body')
         for size, is_turned in [((1400, 900), False), ((1366, 600), True)]:

@@ -8,7 +8,10 @@ import unittest
 
 import chipfire
 import second_search
-from chipfire import computations, detectors, model, schedules
+from chipfire.lab import computations
+from chipfire.lab import detectors
+from chipfire.lab import model
+from chipfire.lab import schedules
 from test_pages import TRIANGLE
 
 #: Two vertices that send each other messages, and three in a row.

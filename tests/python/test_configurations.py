@@ -212,7 +212,7 @@ class Less(unittest.TestCase):
                    ("the sink among them", DIRECTED["the sink among them"])]
         for how, graph in by_program:
             self.check_all(how, graph, None)
-        with mock.patch("chipfire.chips.played_many", played):
+        with mock.patch("chipfire.configurations.configuration.stabilized_rows", played):
             for how, graph in by_hand:
                 self.check_all(how, graph, "nowhere")
 

@@ -7,7 +7,7 @@ import unittest
 
 import chipfire
 import model
-from chipfire import divisors
+from chipfire.divisors import divisor as divisors
 from small_graphs import graphs_of_sage, simple_graphs, undirected
 from test_sandpiles import has
 

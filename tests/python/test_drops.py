@@ -71,7 +71,7 @@ class Rows(WithFolder):
         self.assertEqual((type(found.lost), rows_of(found)), (array.array, [(1, 1, 1)] * 2))
 
     def test_many_rows_are_read_and_written_in_parts(self):
-        with mock.patch("chipfire.dropped._BYTES", 20), mock.patch("chipfire.dropped.PART", 3):
+        with mock.patch("chipfire.ensembles.drops._BYTES", 20), mock.patch("chipfire.ensembles.drops.PART", 3):
             found = chipfire.drops(TRIANGLE, [4, 0, 0], [0, 1] * 20, program=chipfire.find_program())
             self.assertEqual(rows_of(found), [(1, 1, 1)] * 40)
 

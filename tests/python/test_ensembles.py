@@ -15,7 +15,8 @@ from concurrent.futures import ThreadPoolExecutor
 from unittest import mock
 
 import chipfire
-from chipfire import ensembles, values
+from chipfire import ensembles
+from chipfire import utils as values
 from test_counts import slow_report
 from test_drops import rows_of, slow_rows
 from test_package import CHIPS_FILE, TRIANGLE

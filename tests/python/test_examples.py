@@ -87,7 +87,7 @@ class Scripts(unittest.TestCase):
             with tempfile.TemporaryDirectory(prefix="chipfire-python-") as folder:
                 said = script("early_acknowledgements.py", length, folder).splitlines()
                 files = [f"{folder}/{name}" for name in ("graph.json", "chips.csv", "schedule.csv")]
-                words = [sys.executable, f"{ROOT}/python/chipfire/model.py", *files]
+                words = [sys.executable, f"{ROOT}/python/chipfire/lab/model.py", *files]
                 wanted = subprocess.run(words, stdout=subprocess.PIPE, encoding="utf-8", check=True).stdout.splitlines()
             replies = [re.sub("   because .*", "", line.partition(": ")[2]) for line in said[:-1]]
             self.assertEqual([*replies, said[-1]], [*wanted[:-2], "the root is closed"])

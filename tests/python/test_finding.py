@@ -15,7 +15,8 @@ from types import SimpleNamespace
 from unittest import mock
 
 import chipfire
-from chipfire import finding, trust
+from chipfire.backend import finding
+from chipfire.backend import trust
 from test_package import ROOT, WithFolder
 
 PROGRAM = os.path.realpath(chipfire.find_program())

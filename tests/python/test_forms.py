@@ -236,7 +236,7 @@ def no_graphs():
     """What is no graph: what makes one, and its name in the refusal."""
     yield from [(None, "NoneType"), (3, "int"), ([(0, 1)], "list"), ({0: [1]}, "dict"), (b"graph.json", "bytes"),
                 ({1}, "set")]
-    yield chipfire.plain(GRID, 1), "chipfire.reports.Report"
+    yield chipfire.plain(GRID, 1), "chipfire.backend.report.Report"
     if numpy:
         yield from [(numpy.eye(3), "numpy.ndarray"), (numpy.int64(3), "numpy.int64")]
     if pandas:

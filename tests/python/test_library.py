@@ -19,7 +19,7 @@ from array import array
 from unittest import mock
 
 import chipfire
-from chipfire import library
+from chipfire.backend import library
 from test_counts import GRAPHS, slow_report
 from test_drops import rows_of, slow_rows
 from test_package import CHIPS_FILE, TRIANGLE, TRIANGLE_FILE, WithFolder
@@ -139,7 +139,7 @@ class Amounts(unittest.TestCase):
             chips, (at, amounts) = [9] * graph.vertices, zip(*drops)
             for quick in (0, 6, 50):
                 ticks = itertools.chain([0] * quick, itertools.count())
-                with mock.patch("time.monotonic", side_effect=ticks), mock.patch("chipfire.dropped.PART", 3):
+                with mock.patch("time.monotonic", side_effect=ticks), mock.patch("chipfire.ensembles.drops.PART", 3):
                     found = chipfire.drops(graph, chips, at, amounts=amounts)
                 self.assertEqual(rows_of(found), list(slow_rows(graph, chips, drops)))
 
@@ -171,7 +171,7 @@ class Ways(WithFolder):
 
     def counted(self):
         """What counts how often the program is started."""
-        return mock.patch("chipfire.process._started", wraps=chipfire.process._started)
+        return mock.patch("chipfire.backend.process._started", wraps=chipfire.backend.process._started)
 
     def test_short_plays_start_no_program(self):
         grid = chipfire.grid(4, 4)

@@ -10,7 +10,9 @@ import unittest
 from collections import Counter, defaultdict
 
 import chipfire
-from chipfire import computations, detectors, schedules
+from chipfire.lab import computations
+from chipfire.lab import detectors
+from chipfire.lab import schedules
 from test_package import ROOT, TRIANGLE, WithFolder
 
 sys.path.append(f"{ROOT}/tests/cli")

@@ -1,5 +1,6 @@
 """How the package is built: its modules, what it hands on, its signatures and its types."""
 import ast
+import importlib
 import inspect
 import os
 import pydoc
@@ -12,7 +13,13 @@ import unittest
 import chipfire
 
 PACKAGE = os.path.dirname(chipfire.__file__)
-MODULES = sorted(name[:-3] for name in os.listdir(PACKAGE) if name.endswith(".py"))
+#: The names of the modules in the package and its rooms, each room by its own `__init__`.
+MODULES = sorted(
+    os.path.relpath(f"{folder}/{name}", PACKAGE)[:-3].replace(os.sep, ".")
+    for folder, _, names in os.walk(PACKAGE) for name in names if name.endswith(".py")
+)
+#: The modules that stand beside the rooms under the names that pages of before have.
+NAMES_OF_BEFORE = {"computations", "detectors", "library", "machine", "model"}
 COMMANDS = (
     "check", "plain", "run", "simulate", "replay", "resume", "explain", "identity", "verify", "drops", "judge_log",
 )
@@ -46,7 +53,7 @@ print(chipfire.Schedule().take(4), chipfire.MAX_CHIPS, chipfire.find_program(), 
 
 
 def tree_of(module):
-    with open(f"{PACKAGE}/{module}.py", encoding="utf-8") as file:
+    with open(f"{PACKAGE}/{module.replace('.', '/')}.py", encoding="utf-8") as file:
         return ast.parse(file.read())
 
 
@@ -57,10 +64,10 @@ def imported(module):
         if isinstance(node, ast.If) and ast.unparse(node.test) == "TYPE_CHECKING":
             node.body = []
     for node in ast.walk(tree):
-        if isinstance(node, ast.ImportFrom) and node.module == "chipfire":
-            yield from (it.name if it.name in MODULES else "__init__" for it in node.names)
-        elif isinstance(node, ast.ImportFrom) and node.module.startswith("chipfire."):
-            yield node.module.partition(".")[2]
+        if isinstance(node, ast.ImportFrom) and node.module.partition(".")[0] == "chipfire":
+            room = node.module.partition(".")[2]
+            inner = [f"{room}.{it.name}".lstrip(".") for it in node.names]
+            yield from (it if it in MODULES else room or "__init__" for it in inner)
         elif isinstance(node, ast.Import):
             yield from ("__init__" for it in node.names if it.name == "chipfire")
 
@@ -75,9 +82,27 @@ class Modules(unittest.TestCase):
             below = {module: others for module, others in below.items() if module not in lowest}
 
     def test_the_package_itself_only_hands_on(self):
-        kinds = {type(node) for node in tree_of("__init__").body}
-        self.assertLessEqual(kinds, {ast.Expr, ast.ImportFrom, ast.Assign})
+        body = tree_of("__init__").body
+        others = [node for node in body if not isinstance(node, (ast.Expr, ast.Import, ast.ImportFrom, ast.Assign))]
+        self.assertEqual([ast.unparse(node).partition("\n")[0] for node in others], [
+            "if _sys.version_info < (3, 9):", "def __dir__() -> list[str]:",
+        ])
         self.assertEqual([name for name in chipfire.__all__ if not hasattr(chipfire, name)], [])
+
+    def test_a_list_of_its_names_has_the_public_ones_alone(self):
+        self.assertEqual([name for name in dir(chipfire) if not name.startswith("__")], sorted(chipfire.__all__))
+
+    def test_rooms_of_their_own_hand_on_nothing(self):
+        for module in MODULES:
+            if module.endswith(".__init__"):
+                self.assertEqual([type(node) for node in tree_of(module).body], [ast.Expr], module)
+
+    def test_modules_that_pages_name_are_where_they_were(self):
+        for name in sorted(NAMES_OF_BEFORE):
+            module = importlib.import_module(f"chipfire.{name}")
+            room = "backend" if name == "library" else "lab"
+            self.assertEqual(module.__name__, f"chipfire.{room}.{name}")
+            self.assertIs(module, importlib.import_module(f"chipfire.{room}.{name}"))
 
     def test_the_words_of_the_machine_are_in_its_module_and_reachable(self):
         told = pydoc.plain(pydoc.render_doc(chipfire))
@@ -121,6 +146,28 @@ class Signatures(unittest.TestCase):
         # (each square has an edge to each side, but two of those of a corner are one)
         self.assertEqual(repr(grid), "<Graph of 2001 vertices, 7996 edges, sink 2000>")
         self.assertIn("2001 vertices", repr(report))
+
+
+class Layout(unittest.TestCase):
+    @unittest.skipUnless(shutil.which("black"), "black is not here: Debian's package black has it")
+    def test_it_is_that_of_black(self):
+        words = ["black", "--check", "--quiet", "--line-length=100", "--target-version=py39", PACKAGE]
+        self.assertEqual(subprocess.run(words).returncode, 0)
+
+    def test_a_function_has_40_lines_at_most(self):
+        """Without its docstring."""
+        for module in MODULES:
+            for node in ast.walk(tree_of(module)):
+                if isinstance(node, ast.FunctionDef):
+                    first = node.body[1:2] if ast.get_docstring(node) else node.body[:1]
+                    length = node.end_lineno - (first[0].lineno if first else node.end_lineno) + 1
+                    self.assertLessEqual(length, 40, f"{module}: {node.name}")
+
+    def test_no_conditional_expression_is_in_another(self):
+        for module in MODULES:
+            for node in ast.walk(tree_of(module)):
+                inner = [it for it in ast.walk(node) if isinstance(it, ast.IfExp)] if isinstance(node, ast.IfExp) else []
+                self.assertLessEqual(len(inner), 1, f"{module}: {ast.unparse(node)}")
 
 
 @unittest.skipUnless(shutil.which("mypy"), "mypy is not here: Debian's package mypy has it")

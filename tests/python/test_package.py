@@ -22,7 +22,7 @@ from unittest import mock
 
 import chipfire
 import model
-from chipfire import process
+from chipfire.backend import process
 
 HERE = os.path.dirname(os.path.realpath(__file__))
 ROOT = os.path.dirname(os.path.dirname(HERE))
@@ -623,7 +623,7 @@ class Killed(WithFolder):
 
     # (a shell that starts the tests beside others has them ignore SIGINT)
     PLAY = ("import chipfire, signal, threading\nsignal.signal(signal.SIGINT, signal.default_int_handler)\n"
-            "if %r: chipfire.process._has_setpriv = lambda: False\n"
+            "if %r: chipfire.backend.process._has_setpriv = lambda: False\n"
             "g = chipfire.grid(9, 9)\n"
             "play = lambda: chipfire.plain(g, {0: 4}, program=%r)\n%s")
 

@@ -16,7 +16,11 @@ import time
 import unittest
 
 import chipfire
-from chipfire import choosing, layout, ledger, sentences, wrong
+from chipfire.lab import choosing
+from chipfire.lab import layout
+from chipfire.lab import ledger
+from chipfire.lab import sentences
+from chipfire.lab import wrong
 
 HERE = os.path.dirname(os.path.realpath(__file__))
 ROOT = os.path.dirname(os.path.dirname(HERE))
@@ -185,7 +189,7 @@ class States(unittest.TestCase):
         for name in DETECTOR:
             with self.subTest(name):
                 simulation = detector(name, books=True)
-                events = chipfire.pages.spell_rounds(simulation.setting, simulation.schedule, simulation.rounds)
+                events = chipfire.lab.pages.spell_rounds(simulation.setting, simulation.schedule, simulation.rounds)
                 self.follow(asked(simulation.setting, events))
 
     def test_random_schedules(self):
@@ -213,7 +217,7 @@ class Disagreements(unittest.TestCase):
         told = dataclasses.replace(self.simulation, **changed)
         book = ledger.Ledger(told.setting)
         with self.assertRaisesRegex(ledger.Disagreement, what):
-            for event, reply in chipfire.pages.compared(told, book):
+            for event, reply in chipfire.lab.pages.compared(told, book):
                 book.note(event, reply)
             book.close(told.report)
 
@@ -247,10 +251,10 @@ class Disagreements(unittest.TestCase):
         game = chipfire.Setting(TRIANGLE, (4, 0, 0))
         events = tuple(chipfire.Event(kind, 4) for kind in ("take", "ack", "settle"))
         with self.assertRaisesRegex(ledger.Disagreement, "event 1: the program replies not-now 15, and not done 1"):
-            chipfire.pages.page_text(dataclasses.replace(early, setting=game, schedule=events))
+            chipfire.lab.pages.page_text(dataclasses.replace(early, setting=game, schedule=events))
         for changed in ({"boards": self.with_board(3, root_deficit=2)}, {"report": None}):
             with self.assertRaises(ledger.Disagreement):
-                chipfire.pages.page_text(dataclasses.replace(self.simulation, **changed))
+                chipfire.lab.pages.page_text(dataclasses.replace(self.simulation, **changed))
 
     def test_a_report_that_is_another(self):
         report = self.simulation.report
@@ -270,7 +274,7 @@ class Spelled(unittest.TestCase):
             begun = random_events(numbers, setting.graph, seed % 3 * 40)
             with self.subTest(seed=seed):
                 for rounds in (seed % 7, seed % 7 + 1, 300):
-                    events = chipfire.pages.spell_rounds(setting, begun, rounds)
+                    events = chipfire.lab.pages.spell_rounds(setting, begun, rounds)
                     self.assertEqual(list(events[: len(begun)]), begun)
                     told, whole = asked(setting, events), asked(setting, begun, rounds=rounds)
                     self.assertEqual((told.report, told.replies[: len(begun)]), (whole.report, whole.replies))
@@ -316,7 +320,7 @@ class Spelled(unittest.TestCase):
     def test_a_trace_that_was_cut_leaves_the_root_open(self):
         told = chipfire.recorded(TRIANGLE, {0: 4}, [(0, "take", 4, 4), (0, "fire", 0, 2), (1, "take", 0, 2)])
         self.assertFalse(told.root_closed)
-        self.assertIn("that the root is open", chipfire.pages.page_text(told))
+        self.assertIn("that the root is open", chipfire.lab.pages.page_text(told))
 
 
 def rows_of(simulation):
@@ -434,7 +438,7 @@ class Pages(unittest.TestCase):
         self.folder = room.name
 
     def test_a_page_has_a_step_for_each_event(self):
-        data = data_of(chipfire.pages.page_text(detector("deficit")))
+        data = data_of(chipfire.lab.pages.page_text(detector("deficit")))
         self.assertEqual(len(data["steps"]), 32)
         self.assertEqual(data["words"][data["steps"][1]["event"]], "Vertex 0 fires twice.")
         changed = [change[:4] for change in data["steps"][0]["changes"]]
@@ -444,32 +448,32 @@ class Pages(unittest.TestCase):
         ])
 
     def test_rounds_are_shown_too(self):
-        data = data_of(chipfire.pages.page_text(detector("sealed-half-way")))
+        data = data_of(chipfire.lab.pages.page_text(detector("sealed-half-way")))
         self.assertGreater(len(data["steps"]), len(detector("sealed-half-way").schedule))
         self.assertEqual(data["words"][data["steps"][-1]["changes"][-1][4]], "the root is closed")
 
     def test_a_root_edge_is_drawn_where_chips_were_fed(self):
         for fed, edges in [(False, [4]), (True, [4, 5])]:
             told = chipfire.simulate(TRIANGLE, {0: 4}, chipfire.Schedule().feed(5, 1), fed=fed)
-            self.assertEqual(data_of(chipfire.pages.page_text(told))["rootEdges"], edges)
+            self.assertEqual(data_of(chipfire.lab.pages.page_text(told))["rootEdges"], edges)
 
     def test_a_page_without_books_asks_for_them(self):
         self.assertEqual(
-            chipfire.pages.page_text(detector("deficit")), chipfire.pages.page_text(detector("deficit", books=True))
+            chipfire.lab.pages.page_text(detector("deficit")), chipfire.lab.pages.page_text(detector("deficit", books=True))
         )
         with self.assertRaisesRegex(ValueError, "does not know what was asked"):
-            chipfire.pages.page_text(chipfire.Simulation((), None))
+            chipfire.lab.pages.page_text(chipfire.Simulation((), None))
 
     def test_more_rows_than_a_page_shows_are_refused_at_once(self):
         said = "a page shows at most 10,000 "
         with self.assertRaisesRegex(ValueError, f"{said}rows of a schedule or a trace"):
-            chipfire.pages.page_text(chipfire.simulate(TRIANGLE, {0: 4}, [("settle", 4)] * 10_001))
+            chipfire.lab.pages.page_text(chipfire.simulate(TRIANGLE, {0: 4}, [("settle", 4)] * 10_001))
         with self.assertRaisesRegex(ValueError, f"{said}rows"):
-            chipfire.pages.page_text(chipfire.play(chipfire.Setting(TRIANGLE, {0: 4}), [("settle", 4)] * 10_001))
-        self.assertEqual(len(data_of(chipfire.pages.page_text(
+            chipfire.lab.pages.page_text(chipfire.play(chipfire.Setting(TRIANGLE, {0: 4}), [("settle", 4)] * 10_001))
+        self.assertEqual(len(data_of(chipfire.lab.pages.page_text(
             chipfire.simulate(TRIANGLE, {0: 4}, [("settle", 4)] * 10_000)))["steps"]), 10_000)
         with self.assertRaisesRegex(ValueError, f"{said}events of rounds"):
-            chipfire.pages.page_text(chipfire.simulate(chipfire.grid(20, 20), {190: 2000}, [], rounds=10_000))
+            chipfire.lab.pages.page_text(chipfire.simulate(chipfire.grid(20, 20), {190: 2000}, [], rounds=10_000))
         with self.assertRaisesRegex(ValueError, f"{said}rows"):
             chipfire.recorded(TRIANGLE, {0: 4}, [(0, "take", 4, 4)] * 10_001)
         with open(f"{self.folder}/trace.csv", "w", encoding="utf-8") as file:
@@ -481,7 +485,7 @@ class Pages(unittest.TestCase):
         self.assertLess(time.process_time() - began, 1)
 
     def test_a_page_stands_alone(self):
-        text = chipfire.pages.page_text(detector("deficit"))
+        text = chipfire.lab.pages.page_text(detector("deficit"))
         self.assertEqual(set(re.findall(r"[a-z]+://[^\s\"']*", text)), {"http://www.w3.org/2000/svg"})
         self.assertEqual(re.findall(r"\b(?:src|href|url|import)\b\s*[=(]", text), [])
 
@@ -489,7 +493,7 @@ class Pages(unittest.TestCase):
         name = '</script><b title="x">&amp;'
         graph = chipfire.Graph(3, 2, TRIANGLE.edges, [name, "b", "out"])
         simulation = chipfire.simulate(graph, {name: 4}, [("take", 4)])
-        text = chipfire.pages.page_text(simulation, title=name)
+        text = chipfire.lab.pages.page_text(simulation, title=name)
         self.assertNotIn(name, text)
         self.assertIn(f"<title>{html.escape(name)}</title>", text)
         self.assertEqual(data_of(text)["names"][0], name)
@@ -506,12 +510,12 @@ class Pages(unittest.TestCase):
         self.assertEqual(pages[0], pages[1])
 
     def test_every_page_says_what_is_proved_and_what_is_not(self):
-        text = chipfire.pages.page_text(detector("deficit"))
+        text = chipfire.lab.pages.page_text(detector("deficit"))
         for words in ("What it answers is proved", "tested and not proved", "each of the 32 events"):
             self.assertIn(words, " ".join(text.split()))
 
     def test_a_refusal_says_why(self):
-        data = data_of(chipfire.pages.page_text(detector("deficit")))
+        data = data_of(chipfire.lab.pages.page_text(detector("deficit")))
         refused = [step for step in data["steps"] if not step["done"]]
         said = [f"{data['words'][step['event']]} {data['words'][step['reply']]}" for step in refused]
         wait = "Refused, by rule 15: it still waits for"
@@ -525,7 +529,7 @@ class Pages(unittest.TestCase):
         ])
         game = (chipfire.Graph(2, 1, ((0, 1), (0, 1))), {0: 2})
         events = chipfire.Schedule().take(2).ack(2).fire(0).ack(2).clear(0).claim(0).ack(2).put(0).send(1)
-        data = data_of(chipfire.pages.page_text(chipfire.simulate(*game, events.take(0).take(1).ack(0))))
+        data = data_of(chipfire.lab.pages.page_text(chipfire.simulate(*game, events.take(0).take(1).ack(0))))
         said = [data["words"][step["reply"]].split(": ")[1] for step in data["steps"] if not step["done"]]
         self.assertEqual(said, [
             "it can still fire. Nothing was done.",
@@ -536,7 +540,7 @@ class Pages(unittest.TestCase):
         ])
 
     def test_questions_of_events_and_their_answers(self):
-        data = data_of(chipfire.pages.page_text(detector("deficit")))
+        data = data_of(chipfire.lab.pages.page_text(detector("deficit")))
         asked = [(data["words"][step["ask"]], step["yes"]) for step in data["steps"] if "ask" in step]
         self.assertEqual(asked[0], ("Is there a message from the root that vertex 0 can take (edge 4)?", True))
         self.assertIn(("May vertex 0 acknowledge to the root (edge 4)?", False), asked)
@@ -549,7 +553,7 @@ class Pages(unittest.TestCase):
         games = [(random_game(random.Random(seed), fed=False), random.Random(seed)) for seed in range(20)]
         runs = [asked(setting, random_events(numbers, setting.graph, 250)) for setting, numbers in games]
         for told in [*runs, detector("engaging-message-last")]:
-            setting, data = told.setting, data_of(chipfire.pages.page_text(told))
+            setting, data = told.setting, data_of(chipfire.lab.pages.page_text(told))
             for event, reply, step in zip(told.schedule, told.replies, data["steps"]):
                 self.assertEqual(step["done"], reply.is_done)
                 if event.kind == "ack" and event.at < len(setting.graph.edges) + setting.graph.vertices:
@@ -568,13 +572,13 @@ class Pages(unittest.TestCase):
             self.assertEqual([data["reasons"][it] for it in found["why"]], [why])
 
     def test_the_end_is_said(self):
-        said = {name: data_of(chipfire.pages.page_text(detector(name)))["end"]["text"] for name in DETECTOR}
+        said = {name: data_of(chipfire.lab.pages.page_text(detector(name)))["end"]["text"] for name in DETECTOR}
         self.assertEqual(said["deficit"], "The root is closed: all is over.")
         stopped = "A limit or a seal stopped a vertex."
         self.assertEqual(said["sealed-half-way"], f"The root is closed: all is over. {stopped}")
         self.assertEqual(said["left-open"], "The root is open: it waits for 1 acknowledgement.")
         told = chipfire.simulate(TRIANGLE, {}, [], fed=True)
-        end = data_of(chipfire.pages.page_text(told))["end"]
+        end = data_of(chipfire.lab.pages.page_text(told))["end"]
         self.assertEqual(end, {"text": "The root is open: it has not noted the end of feeding.", "isWrong": False})
 
 
@@ -592,7 +596,7 @@ class Notes(unittest.TestCase):
             self.assertEqual((list(read), read.notes), (list(events), {0: "four, at once", 2: 'why "not"?'}))
             told = chipfire.simulate(TRIANGLE, {0: 4}, f"{folder}/noted.csv")
         self.assertEqual((told.notes, told.replies), (read.notes, chipfire.simulate(TRIANGLE, {0: 4}, events).replies))
-        steps = data_of(chipfire.pages.page_text(told))["steps"]
+        steps = data_of(chipfire.lab.pages.page_text(told))["steps"]
         self.assertEqual([step.get("note") for step in steps], ["four, at once", None, 'why "not"?'])
 
     def test_what_is_no_schedule_is_the_programs_fault(self):
@@ -642,7 +646,7 @@ class WrongDetectors(unittest.TestCase):
         for count, said in ((2, "The root is open."), (3, "The root is closed; vertex 0 can still fire."), (16, early),
                             (4, "The root is closed; edge 0 has 1 chip pending and edge 1 has 1 chip pending.")):
             told = chipfire.play(game, events[:count], "at-once")
-            self.assertEqual(data_of(chipfire.pages.page_text(told))["end"], {"text": said, "isWrong": count > 2})
+            self.assertEqual(data_of(chipfire.lab.pages.page_text(told))["end"], {"text": said, "isWrong": count > 2})
 
         class Forgets(chipfire.detectors.AtOnce):
             """Says that all is over before anything happens, and then that it is not."""
@@ -650,7 +654,7 @@ class WrongDetectors(unittest.TestCase):
             def is_closed(self):
                 return not any(e.delivered for e in self.edges)
 
-        end = data_of(chipfire.pages.page_text(chipfire.play(game, events, Forgets)))["end"]
+        end = data_of(chipfire.lab.pages.page_text(chipfire.play(game, events, Forgets)))["end"]
         self.assertEqual(end, {"text": early.replace("3", "0"), "isWrong": True})
 
     def test_what_is_not_wrong_has_no_page(self):
@@ -721,13 +725,13 @@ class CommandLine(unittest.TestCase):
         graph, chips = f"{EXAMPLES}/triangle/graph.json", f"{EXAMPLES}/triangle/no-chips.csv"
         ran = self.ask("page", graph, chips, f"{EXAMPLES}/detector/fed-twice.csv", "--fed", "--rounds", "10")
         self.assertEqual((ran.returncode, ran.stderr), (0, ""))
-        self.assertEqual(ran.stdout, chipfire.pages.page_text(detector("fed-twice")))
+        self.assertEqual(ran.stdout, chipfire.lab.pages.page_text(detector("fed-twice")))
 
     def test_a_page_of_a_trace(self):
         files = [f"{EXAMPLES}/triangle/{name}" for name in ("graph.json", "chips.csv", "trace.csv")]
         ran = self.ask("page", *files, "--title", "Recorded")
         self.assertEqual((ran.returncode, ran.stderr), (0, ""))
-        self.assertEqual(ran.stdout, chipfire.pages.page_text(chipfire.recorded(*files), title="Recorded"))
+        self.assertEqual(ran.stdout, chipfire.lab.pages.page_text(chipfire.recorded(*files), title="Recorded"))
         self.assertEqual(self.ask("page", *files, "--rounds", "3").returncode, 1)
 
     def test_the_limit_and_the_ring_of_a_game(self):
@@ -736,10 +740,10 @@ class CommandLine(unittest.TestCase):
         told = chipfire.simulate(*files, schedule, limit=1, ring=2, rounds=9)
         self.assertEqual((told.report.over, told.setting.ring), ((0,), 2))
         ran = self.ask("page", *files, schedule, "--limit", "1", "--ring", "2", "--rounds", "9")
-        self.assertEqual(ran.stdout, chipfire.pages.page_text(told))
+        self.assertEqual(ran.stdout, chipfire.lab.pages.page_text(told))
         ran = self.ask("page", *files, trace, "--limit", "7", "--ring", "4")
         told = chipfire.recorded(*files, trace, limit=7, ring=4)
-        self.assertEqual((ran.stdout, told.setting.limit), (chipfire.pages.page_text(told), 7))
+        self.assertEqual((ran.stdout, told.setting.limit), (chipfire.lab.pages.page_text(told), 7))
 
     def test_places_from_a_file(self):
         files = [f"{EXAMPLES}/triangle/{name}" for name in ("graph.json", "chips.csv", "trace.csv")]

@@ -22,7 +22,7 @@ from unittest import mock
 import browser
 import chipfire
 import play
-from chipfire import rasters
+from chipfire.pictures import raster as rasters
 from test_sandpiles import has
 
 COLOURS = ("#ffffff", "#f0c83c", "#286ebe", "#14141e", "#ec7050")
@@ -399,7 +399,7 @@ class Animations(Played):
         self.assertEqual(set(re.findall(r"</span> ([^&<]+)", page)), named)
 
     def test_a_page_may_load_what_a_page_of_a_run_may_and_its_own_pictures(self):
-        run = chipfire.pages.page_text(chipfire.simulate(self.grid, self.chips, [("take", 4)]))
+        run = chipfire.lab.pages.page_text(chipfire.simulate(self.grid, self.chips, [("take", 4)]))
         of_run, of_play = (re.search(r'<meta http-equiv="Content-Security-Policy"\s+content="([^"]*)">', page)[1]
                            for page in (run, self.frames.page()))
         self.assertIn("default-src 'none'; ", of_run)

@@ -93,7 +93,7 @@ class Tutte(unittest.TestCase):
             chipfire.tutte_polynomial(four, most=2)
 
     def test_a_graph_that_is_too_large_is_refused_before_terms_are_multiplied(self):
-        with mock.patch("chipfire.polynomials._add", side_effect=AssertionError):
+        with mock.patch("chipfire.divisors.polynomials._add", side_effect=AssertionError):
             with self.assertRaisesRegex(ValueError, "smaller graphs come out, and 2,000 at most are looked at"):
                 chipfire.tutte_polynomial(chipfire.grid(6, 6), most=2000)
 

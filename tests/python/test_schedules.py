@@ -15,7 +15,10 @@ import unittest
 
 import chipfire
 import second_search
-from chipfire import detectors, model, schedules, states
+from chipfire.lab import detectors
+from chipfire.lab import model
+from chipfire.lab import schedules
+from chipfire.lab import states
 from test_pages import TRIANGLE, random_game
 
 #: Vertex 0 has two edges to the sink.

@@ -1,0 +1,190 @@
+"""Where the program is, and which version the package and a clone of the repository have.
+
+The head of the package says in which order the program is looked for. What the user names, by CHIPFIRE or the PATH,
+and what the package carries is started as it is. A clone is found by other means, so its program is started, and
+`./chipfire` in it run, only if nobody but this user and root can change what lies there (`chipfire.trust`).
+"""
+
+from __future__ import annotations
+
+import functools
+import glob
+import json
+import os
+import re
+import shutil
+import subprocess
+import sys
+import warnings
+from collections.abc import Iterator
+from urllib.parse import unquote_to_bytes, urlsplit
+
+from chipfire.backend.trust import doubt, doubt_below
+from chipfire.utils import HERE, package_text
+
+#: The package's folder as Python came to it, perhaps by symbolic links, and the clone that it may lie in.
+_PACKAGE = os.path.dirname(os.path.dirname(__file__)) if os.path.isabs(__file__) else HERE
+_AROUND = os.path.join(_PACKAGE, os.pardir, os.pardir)
+#: The program that the package may carry.
+CARRIED = os.path.join(HERE, "program", "chipfire")
+#: The folders of a clone that `./chipfire` reads and runs.
+_READ = "crates", "packing", "python", "release", "target", "tools"
+#: What a package without a program can do, and what helps.
+_WITHOUT = (
+    "Graphs, their matrices and sandpile groups, pictures, and explore, play, judge, page and choice_page for "
+    "schedules work without it; what plays a game raises ProgramNotFound."
+)
+_REMEDY = (
+    "Name a program by the environment variable CHIPFIRE, or put one on the PATH: ./chipfire in a clone of the "
+    "repository takes or builds target/chipfire, and docs/PACKAGES.md there names packages that have one"
+)
+
+
+class ProgramNotFound(FileNotFoundError):
+    """There is no program chipfire in any place that was looked at, or it cannot be started."""
+
+
+def _noted(name: str) -> str | None:
+    """What `build_wheel.py` noted in the package, if it did."""
+    return package_text(name) if os.path.isfile(os.path.join(HERE, name)) else None
+
+
+def _lies_in_clone() -> bool:
+    """Whether the package's folder is that of a clone, or may be."""
+    return os.path.join(os.path.realpath(_AROUND), "python", "chipfire") == HERE
+
+
+def source_of_version(clone: str) -> str:
+    """The file of a clone that has its version."""
+    return os.path.join(clone, "crates", "chip_arguments", "src", "help_texts.rt")
+
+
+def version_of(clone: str) -> str:
+    """The version that a clone's sources state, or ""."""
+    with open(source_of_version(clone), encoding="utf-8") as file:
+        stated = re.search('VERSION: &str = "(.*)"', file.read())
+    return stated[1] if stated else ""
+
+
+def version() -> str:
+    """The version: the program's source has it, or it was noted when the package was installed."""
+    has_source = _lies_in_clone() and os.path.isfile(source_of_version(_AROUND))
+    return (version_of(_AROUND) if has_source else _noted("version")) or "unknown"
+
+
+def search_path() -> str:
+    """The PATH without its empty and relative entries, which would be searched from whatever folder one is in."""
+    return os.pathsep.join(it for it in os.get_exec_path() if os.path.isabs(it))
+
+
+def environment() -> dict[str, str]:
+    """The environment of what is started: this one, but for the PATH."""
+    return {**os.environ, "PATH": search_path()}
+
+
+def on_path(name: str) -> str | None:
+    """The program of a name on the PATH, or the one at a path."""
+    return shutil.which(name, path=search_path())
+
+
+def _folder_of(told: object) -> str | None:
+    """The folder that pip was named, by what stands in direct_url.json; None if it was named something else."""
+    if not isinstance(told, dict) or not isinstance(told.get("dir_info"), dict) or not isinstance(told.get("url"), str):
+        return None
+    parts = urlsplit(told["url"])
+    is_here = parts.scheme == "file" and parts.netloc.lower() in ("", "localhost") and not parts.query + parts.fragment
+    folder = os.fsdecode(unquote_to_bytes(parts.path))
+    is_other = not told.keys().isdisjoint(("vcs_info", "archive_info"))
+    return folder if is_here and not is_other and os.path.isabs(folder) and "\0" not in folder else None
+
+
+@functools.cache
+def _installed_from() -> str | None:
+    """The folder around the one that pip was named, if the dist-info beside the package says so."""
+    name = f"chipfire-{_noted('version') or '*'}.dist-info"
+    files = glob.glob(os.path.join(glob.escape(os.path.dirname(HERE)), name, "direct_url.json"))
+    try:
+        # (in a sticky folder somebody else may have put one beside the package)
+        is_own = len(files) == 1 and os.stat(files[0]).st_uid == os.stat(HERE).st_uid
+        folder = _folder_of(json.loads(package_text(files[0]))) if is_own else None
+    except (OSError, ValueError, RecursionError):  # (it is damaged)
+        return None
+    return folder and os.path.join(folder, os.pardir)
+
+
+def _clones() -> Iterator[str]:
+    """The clones that the package lies in and was installed from: a clone has crates/."""
+    for clone in (_AROUND if _lies_in_clone() else None, _installed_from()):
+        if clone and os.path.isdir(os.path.join(clone, "crates")):
+            yield clone
+
+
+def _believe(top: str, why: str | None) -> None:
+    """Refuses a clone, if somebody else may decide what lies in it."""
+    if why:
+        remedy = "change that by chown or chmod, or, if you trust it all the same, name its program by CHIPFIRE"
+        raise ProgramNotFound(2, f"the clone {top} is not used, since {why}: {remedy}", top)
+
+
+@functools.cache
+def _takes(top: str) -> bool:
+    """Whether `./chipfire` of a clone takes the program in its release, and could start it."""
+    starter, quiet = os.path.join(top, "chipfire"), subprocess.DEVNULL
+    _believe(top, doubt(starter, top) or doubt_below(top, _READ))
+    return subprocess.run([starter, "--take"], stdin=quiet, stdout=quiet, env=environment()).returncode == 0
+
+
+def _program_of(clone: str, is_asked: bool) -> str:
+    """What starts the program of a clone: target/chipfire, or `./chipfire` if that takes the program in the release. If
+    it is not asked it may do so where the package lies; where it was installed from, it did not."""
+    top = os.path.realpath(clone)
+    taken, starter = os.path.join(top, "target", "chipfire"), os.path.join(top, "chipfire")
+    _believe(top, doubt(clone, top))
+    if not os.access(taken, os.X_OK):
+        is_released = os.path.isfile(os.path.join(top, "release", "PROVED")) and os.access(starter, os.X_OK)
+        if not is_released or not (_takes(top) if is_asked else clone == _AROUND):
+            raise ProgramNotFound(2, f"the clone {top} has none: ./chipfire there builds it", top)
+    if not os.access(taken, os.X_OK):
+        return starter
+    _believe(top, doubt(taken, top))
+    return taken
+
+
+def _found(is_asked: bool) -> str:
+    """The program's file, or what would start it; without asking, no process is started to find out."""
+    if named := os.environ.get("CHIPFIRE") or (CARRIED if os.access(CARRIED, os.X_OK) else None):
+        return named
+    whys = []
+    for clone in _clones():
+        try:
+            return _program_of(clone, is_asked)
+        except ProgramNotFound as why:
+            whys.append(str(why.strerror))
+    if there := on_path("chipfire"):
+        return there
+    none = "it neither lies in a clone of the repository nor was installed from the folder of one that is still there"
+    clones = "; ".join(whys) or none
+    noted = _noted("without")
+    carried = "the package carries none" + (f", since {noted}" if noted else "")
+    raise ProgramNotFound(2, f"{carried}; {clones}; none is on the PATH", "chipfire")
+
+
+def find_program() -> str:
+    """The program's file; the head of the package says in which order it is looked for."""
+    try:
+        return _found(is_asked=True)
+    except ProgramNotFound as why:
+        raise ProgramNotFound(2, f"the program is not found: {why.strerror}. {_REMEDY}", "chipfire") from None
+
+
+def warn_without_program() -> None:
+    """Warns who imports the package if it has no program, and says why. This starts no process."""
+    try:
+        _found(is_asked=False)
+    except ProgramNotFound as why:
+        warnings.warn(f"chipfire has no program: {why.strerror}. {_WITHOUT} {_REMEDY}.", RuntimeWarning, stacklevel=3)
+
+
+def start_program() -> None:
+    """Becomes the program that the package carries, with the words of this process: the command `chipfire` of pip."""
+    os.execv(CARRIED, [CARRIED, *sys.argv[1:]])

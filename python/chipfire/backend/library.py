@@ -1,0 +1,225 @@
+"""libchipfire in this process: where it is, and its calls on arrays of whole numbers from 0 to 2^64 - 1.
+
+    chips, fired, stopped = (array("Q", numbers) for numbers in ([9, 0, 0, 0, 0], [0] * 5, [0]))
+    chipfire.library.stabilize_all(chipfire.grid(2, 2), chips, fired, stopped)
+
+An array is an `array.array("Q")`, or one of NumPy of `uint64` in C's order that can be written. No two arrays of a call
+overlap, and no other thread writes to one meanwhile. On a fault all stay as they were.
+
+`plain`, `verify` of a report, and what stands on them go this way if neither the call nor CHIPFIRE names a program, the
+library lies where the program does and has the package's version, and the play is short. Else the program answers, as a
+process. In a forked child of a process with threads set CHIPFIRE, since the library asks for memory. To load a library
+runs code of it, so it is seen before whether somebody else can change it, and which version is stated of it.
+"""
+
+from __future__ import annotations
+
+import ctypes
+import functools
+import hashlib
+import os
+import warnings
+from array import array
+from collections.abc import Sequence
+from typing import Any, TYPE_CHECKING
+
+from chipfire.backend.finding import CARRIED, find_program, ProgramNotFound, source_of_version, version, version_of
+from chipfire.backend.process import refused
+from chipfire.backend.trust import doubt
+from chipfire.utils import as_int, FileName, MAX_LIMIT, package_text
+
+if TYPE_CHECKING:
+    from chipfire.graphs.graph import Graph
+
+#: The most that a play in this process may take: vertices and edges, times chips, and times firings of each vertex.
+MOST_WORK = 2**28
+_NAME = "libchipfire.so"
+_NUMBER, _SLICE = ctypes.c_uint64, (ctypes.c_void_p, ctypes.c_size_t)
+#: No numbers, one number, and a slice of length 0, which points to something.
+_NONE, _ZERO = array("Q"), array("Q", [0])
+_NOTHING = _ZERO.buffer_info()[0], 0
+
+
+def _places(folder: str) -> list[str]:
+    """Where the library may lie that goes with the program in a folder: beside it, or where both are installed."""
+    around = os.path.dirname(folder)
+    installed = [os.path.join(around, *it, _NAME) for it in (("lib",), ("lib", "x86_64-linux-gnu"))]
+    return [os.path.join(folder, _NAME), *installed * (os.path.basename(folder) == "bin")]
+
+
+def _stated(file: str, folder: str) -> str:
+    """The version that is stated of a library that goes with the program in a folder, without loading it; "" if none is.
+
+    A wheel, an archive and a Debian package have PROVED, which states the version and the library's checksum. In a
+    clone the sources state it, and `./chipfire` keeps a stamp beside what it took or built of them: that is of these
+    sources if the stamp is not older."""
+    around = os.path.dirname(folder)
+    for proved in (os.path.join(folder, "PROVED"), os.path.join(around, "share", "doc", "chipfire", "PROVED")):
+        if os.path.isfile(proved):
+            lines = package_text(proved).splitlines()
+            with open(file, "rb") as library:
+                is_meant = f"{_NAME} sha256:{hashlib.sha256(library.read()).hexdigest()}" in lines
+            return lines[0].partition(" ")[2] if is_meant else ""
+    stamp, source = os.path.join(folder, "chipfire.stamp"), source_of_version(around)
+    if not os.path.isfile(stamp) or not os.path.isfile(source):
+        return ""
+    changed = os.stat(source)
+    is_older = os.stat(stamp).st_mtime_ns < max(changed.st_mtime_ns, changed.st_ctime_ns)
+    return "" if is_older else version_of(around)
+
+
+def _why_not(file: str, folder: str) -> str | None:
+    """Why a library that is there is not loaded, which would run code of it; None if it may be."""
+    # (what the package carries is trusted as the package is)
+    why = None if folder == os.path.dirname(CARRIED) else doubt(file)
+    if why:
+        return f"{file} is not loaded, since {why}"
+    stated = _stated(file, folder)
+    if not stated:
+        return f"{file} is not loaded, since neither PROVED nor the stamp of ./chipfire states its version"
+    return None if stated == version() else f"{file} has version {stated}, and the package {version()}"
+
+
+def _load(file: str) -> ctypes.CDLL:
+    """Loads the library, and says what its calls take."""
+    found = ctypes.CDLL(file)
+    found.chipfire_version.restype = _NUMBER
+    number = found.chipfire_version()
+    own = f"{number // 10**6}.{number // 1000 % 1000}.{number % 1000}"
+    if own != version():
+        raise OSError(f"it has version {own}, and the package {version()}")
+    calls = (found.chipfire_stabilize_all, 4), (found.chipfire_avalanches, 6), (found.chipfire_verify, 3)
+    for call, slices in calls:
+        call.restype = _NUMBER
+        call.argtypes = [_NUMBER, _NUMBER, *3 * _SLICE, _NUMBER, *slices * _SLICE, ctypes.POINTER(_NUMBER)]
+    return found
+
+
+@functools.cache
+def _beside() -> tuple[ctypes.CDLL | None, str]:
+    """The library of the program that is found, if it may be loaded and has the package's version; and why not."""
+    folder = os.path.dirname(os.path.realpath(find_program()))
+    for file in filter(os.path.isfile, _places(folder)):
+        try:
+            why = _why_not(file, folder)
+            if why is None:
+                return _load(file), ""
+        except (OSError, AttributeError) as error:
+            why = f"{file} cannot be loaded: {error}"
+        warnings.warn(f"{why}: each call starts the program, slower", stacklevel=2)
+        return None, why
+    return None, f"there is none beside {folder}"
+
+
+def _loaded() -> ctypes.CDLL | None:
+    """The library, if CHIPFIRE does not name a program."""
+    return None if os.environ.get("CHIPFIRE") else _beside()[0]
+
+
+def find_library() -> str | None:
+    """The library's file, or None if each call starts the program."""
+    return str(found._name) if (found := _loaded()) else None
+
+
+def most(graph: Graph) -> int:
+    """How many chips a game in this process may have, and how often each vertex may fire in it."""
+    return MOST_WORK // (graph.vertices + len(graph.columns.tails) or 1)
+
+
+def at_once(graph: Graph, chips: Sequence[int]) -> int:
+    """How many of these games, one after another, a call in this process may have; 0 if one is too long."""
+    width = graph.vertices or 1
+    return most(graph) // (1 + max([sum(chips[it : it + width]) for it in range(0, len(chips), width)], default=0))
+
+
+def _slice(name: str, numbers: Any) -> tuple[int, int]:
+    """Where an array begins, and how many numbers it has."""
+    if isinstance(numbers, array) and numbers.typecode == "Q":
+        return numbers.buffer_info() if numbers else _NOTHING
+    try:
+        view = memoryview(numbers)
+        if view.format in ("Q", "L"):
+            return (ctypes.addressof(ctypes.c_char.from_buffer(view)), view.nbytes // 8) if view.nbytes else _NOTHING
+    except TypeError:
+        pass
+    kind = "array of 64-bit numbers from 0 on, one behind another, that can be written"
+    raise TypeError(f"the {name} are no {kind}: {type(numbers).__name__}")
+
+
+def _call(call: Any, graph: Graph, limit: int, *arrays: Any, but: int = 0) -> int:
+    """Makes a call of the library. A fault is raised, `but` this one, whose number is returned; 0 if there is none."""
+    place, of_graph = _NUMBER(), (min(graph.vertices, 2**64 - 1), min(graph.sink, 2**64 - 1))
+    views = [memoryview(numbers) for numbers in arrays]  # (as long as there are views no array gets another length)
+    words = [word for numbers in (*graph.long_columns, *arrays) for word in _slice("numbers", numbers)]
+    number: int = call(*of_graph, *words[:6], limit, *words[6:], place)
+    for view in views:
+        view.release()
+    if number not in (0, but):
+        raise refused(number, place.value, graph)
+    return number
+
+
+def _call_on(call: str, graph: Graph, limit: int, **arrays: Any) -> None:
+    """Makes a call on arrays of others, which must not overlap."""
+    found = _loaded()
+    if found is None:
+        why = "CHIPFIRE names a program" if os.environ.get("CHIPFIRE") else _beside()[1]
+        raise ProgramNotFound(2, f"there is no library to call: {why}", _NAME)
+    edges = [("edges", column) for column in graph.long_columns]
+    ends = sorted(_slice(name, numbers) for name, numbers in [*edges, *arrays.items()])
+    if any(start + 8 * length > other for (start, length), (other, _) in zip(ends, ends[1:])):
+        raise ValueError(f"two of the {', '.join(arrays)} overlap")
+    _call(getattr(found, call), graph, as_int(limit, "limit", 0, MAX_LIMIT), *arrays.values())
+
+
+def stabilize_all(
+    graph: Graph, chips: Any, fired: Any, stopped: Any, *, guesses: Any = _NONE, limit: int = MAX_LIMIT
+) -> None:
+    """Stabilizes many games on a graph. `chips` has those of one game after another, and gets those at the end.
+
+    `fired` is as long, and gets how often each vertex fired. `stopped` gets of each game how many vertices the limit
+    stopped. `guesses` is empty, or as long as `chips`: how often each vertex may have fired in the end."""
+    _call_on("chipfire_stabilize_all", graph, limit, guesses=guesses, chips=chips, fired=fired, stopped=stopped)
+
+
+def avalanches(
+    graph: Graph, at: Any, amounts: Any, chips: Any, sizes: Any, extents: Any, losts: Any, *, limit: int = MAX_LIMIT
+) -> None:
+    """Drops `amounts` of chips on the vertices `at`, one after another, on `chips`, which gets what lies there then.
+
+    `sizes`, `extents` and `losts` get the numbers of each drop, as `Drops` has them. The limit is that of all firings
+    of a vertex; if it stops the play of a drop, that is fault 13."""
+    rows = {"sizes": sizes, "extents": extents, "losts": losts}
+    _call_on("chipfire_avalanches", graph, limit, at=at, amounts=amounts, chips=chips, **rows)
+
+
+def play(
+    graph: Graph, chips: Sequence[int], program: FileName | None, limit: int = MAX_LIMIT, guess: Sequence[int] = ()
+) -> tuple[array[int], array[int], int] | None:
+    """The chips and the counts at the end of one game after another, and how many vertices the limit stopped; or None
+    if one of them is the program's."""
+    found, width, at_most = _loaded() if program is None else None, graph.vertices or 1, most(graph)
+    if not found or not (some := at_once(graph, chips)):
+        return None
+    starts = range(0, len(chips), width)
+    ended = left, fired, stopped = array("Q"), array("Q"), array("Q")
+    for first in range(0, len(starts) or 1, some):
+        part, games = slice(first * width, (first + some) * width), len(starts[first : first + some])
+        start = chips[part] if isinstance(chips, array) else array("Q", chips[part])
+        here = start, _ZERO * len(start), _ZERO * games
+        _call(found.chipfire_stabilize_all, graph, min(limit, at_most), array("Q", guess[part]), *here)
+        for numbers, more in zip(ended, here):
+            numbers += more
+    return None if at_most < limit and any(stopped) else (left, fired, sum(stopped))
+
+
+def is_end(
+    graph: Graph, chips: Sequence[int], fired: Sequence[int], ends: Sequence[int], program: FileName | None, limit: int
+) -> bool | None:
+    """Whether these are the counts and the chips at the end of a game; or None if that is the program's to say."""
+    found, at_most = _loaded() if program is None else None, most(graph)
+    # (a game that is stopped here and not by its limit has a vertex that fires more often)
+    if not found or sum(chips) >= at_most or max(fired) >= at_most < limit:
+        return None
+    arrays = (array("Q", numbers) for numbers in (chips, fired, ends))
+    return _call(found.chipfire_verify, graph, min(limit, at_most), *arrays, but=53) == 0

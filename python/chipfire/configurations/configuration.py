@@ -1,0 +1,221 @@
+"""Configurations: the chips of all vertices but the sink, and what the program is asked about them."""
+
+from __future__ import annotations
+
+import functools
+import itertools
+import json
+import operator
+from array import array
+from collections.abc import Callable, Hashable, Iterator, Mapping, Sequence
+from typing import Any, TYPE_CHECKING, TypeVar, Union
+
+from chipfire.backend import library
+from chipfire.backend.process import ask, Kept
+from chipfire.configurations import smith
+from chipfire.pictures.picture import Drawn
+from chipfire.utils import as_int, FileName, MAX_CHIPS, no_graph, with_unit
+
+if TYPE_CHECKING:
+    from chipfire.graphs.graph import Graph
+
+T = TypeVar("T")
+AnySums = TypeVar("AnySums", bound="Sums")
+CHIPS_HEADER = ("vertex", "chips")
+GUESS_HEADER = ("vertex", "fired")
+#: Numbers of vertices: by their names, as a dict or a Series of pandas; as an array of the graph's shape; one for each
+#: vertex, or for each but the sink; one for all; what a report has; or the name of a chips file. A vertex that is not
+#: named has 0.
+Chips = Union[int, Sequence[Any], Mapping[Any, int], Any]
+
+
+def capped(counts: Sequence[int]) -> Sequence[int]:
+    """Counts of chips or firings, of which what is too much anyway is a number of 64 bits."""
+    return counts if max(counts, default=0) <= MAX_CHIPS else [min(count, MAX_CHIPS + 1) for count in counts]
+
+
+def chips_text(chips: Sequence[int], header: Sequence[str] = CHIPS_HEADER) -> str:
+    """The text of a chips file, or of a guess."""
+    return "".join([",".join(header), "\n", *(f"{at},{count}\n" for at, count in enumerate(capped(chips)) if count)])
+
+
+class Sums(Mapping[Hashable, int]):
+    """Chips by the names of vertices, as they are added and multiplied. They may be below 0, and are never changed."""
+
+    __array_ufunc__ = None  # (so that an array of NumPy and these are added here)
+
+    def __init__(self, graph: Graph, chips: Chips) -> None:
+        if not hasattr(graph, "loop_free"):
+            raise no_graph(graph, "a graph is a chipfire.Graph")
+        self.graph: Graph = graph
+        self.numbers: tuple[int, ...] = self._numbers(graph, chips)
+
+    @classmethod
+    def _numbers(cls, graph: Graph, chips: Chips) -> tuple[int, ...]:
+        """Chips by the numbers of the vertices."""
+        return graph.numbers(chips)
+
+    def __add__(self: AnySums, other: Chips) -> AnySums:
+        return type(self)(self.graph, list(map(operator.add, self.numbers, self._numbers(self.graph, other))))
+
+    __radd__ = __add__
+
+    def __sub__(self: AnySums, other: Chips) -> AnySums:
+        return self + -type(self)(self.graph, other)
+
+    def __rsub__(self: AnySums, other: Chips) -> AnySums:
+        return -self + other
+
+    def __mul__(self: AnySums, times: int) -> AnySums:
+        times = as_int(times, "how many times", None)
+        return type(self)(self.graph, [times * count for count in self.numbers])
+
+    __rmul__ = __mul__
+
+    def __neg__(self: AnySums) -> AnySums:
+        return self * -1
+
+    def __eq__(self, other: object) -> bool:
+        if isinstance(other, type(self)) and other.graph is self.graph:
+            return self.numbers == other.numbers
+        return super().__eq__(other)
+
+    def __hash__(self) -> int:
+        return hash(frozenset(self.items()))
+
+    def __repr__(self) -> str:
+        said = f"<{type(self).__name__} of {len(self)} vertices: {with_unit(self.degree, 'chip')}>"
+        return repr(dict(self)) if len(self) <= 20 else said
+
+    @property
+    def degree(self) -> int:
+        """How many chips there are."""
+        return sum(self.numbers)
+
+
+class Configuration(Drawn, Sums):
+    """The chips of all vertices of a graph but the sink, by names; they may be below 0. It is never changed.
+
+    graph    the graph
+    numbers  the chips by the numbers of the vertices, 0 for the sink
+
+    NumPy takes it as the array of its picture, and pandas as a Series, or in a DataFrame as `dict(configuration)`.
+    """
+
+    graph: Graph
+
+    def __init__(self, graph: Graph, chips: Chips) -> None:
+        super().__init__(graph, chips)
+        if graph.sink < graph.vertices:
+            self.numbers = (*self.numbers[: graph.sink], 0, *self.numbers[graph.sink + 1 :])
+
+    def __getitem__(self, name: Hashable) -> int:
+        vertex = self.graph.number(name)
+        if vertex == self.graph.sink:
+            raise KeyError(f"a configuration says nothing of the sink {name!r}")
+        return self.numbers[vertex]
+
+    def __iter__(self) -> Iterator[Hashable]:
+        return (name for vertex, name in enumerate(self.graph.names) if vertex != self.graph.sink)
+
+    def __len__(self) -> int:
+        return self.graph.vertices - 1
+
+    def stabilize(self, *, program: FileName | None = None) -> Configuration:
+        """What lies there when no vertex can fire any more: `chipfire.stabilize`."""
+        return Configuration(self.graph, stabilized(self, program)[0])
+
+    def is_stable(self) -> bool:
+        """Whether no vertex can fire: `chipfire.is_stable`."""
+        return all(map(operator.le, self.numbers, self.graph.max_stable().numbers))
+
+    def is_recurrent(self, *, program: FileName | None = None) -> bool:
+        """Whether it is recurrent: `chipfire.is_recurrent`."""
+        return burning_test(self.graph, [self.numbers], program)[0]
+
+    def is_superstable(self, *, program: FileName | None = None) -> bool:
+        """Whether it is superstable: `chipfire.is_superstable`."""
+        return (self.graph.max_stable() - self).is_recurrent(program=program)
+
+    def order(self) -> int:
+        """How many times it is added to itself until that is equivalent to no chips. Nothing of this is proved."""
+        return smith.order_of(smith.reduced(self.graph), dict(enumerate(self.values())))
+
+    def _values(self, of: str) -> Sequence[int]:
+        if of != "chips":
+            raise ValueError(f"a configuration has chips, and no {of}")
+        return self.numbers
+
+    def _title(self, of: str) -> str:
+        return with_unit(self.degree, "chip")
+
+
+def stabilized(chips: Configuration, program: FileName | None = None) -> tuple[Sequence[int], Sequence[int]]:
+    """What lies there when no vertex can fire any more, and how often each fired, by numbers."""
+    if any(count < 0 for count in chips.numbers):
+        name = next(name for name, count in chips.items() if count < 0)
+        others = "recurrent_representative and superstable_representative take such chips"
+        raise ValueError(f"the chips of vertex {name!r} are below 0, so nothing is played; {others}")
+    return stabilized_rows(chips.graph, chips.numbers, program)
+
+
+def stabilized_rows(graph: Graph, chips: Sequence[int], program: FileName | None) -> tuple[array[int], array[int]]:
+    """The same of the chips of one game after another."""
+    if graph.loops:
+        left, fired = stabilized_rows(graph.loop_free, graph.without_loops(chips), program)
+        return graph.with_loops(left), fired
+    found = library.play(graph, chips, program)
+    left, fired, stopped = found or (array("Q"), array("Q"), 0)
+    if not found and not chips:
+        ask(program, "check", [("graph", graph.kept)], graph=graph, begins="vertices ")
+    for start in () if found else range(0, len(chips), graph.vertices or 1):
+        files = [("graph", graph.kept), ("chips", Kept([chips_text(chips[start : start + graph.vertices]).encode()]))]
+        told = json.loads(ask(program, "plain", files, graph=graph))
+        left.extend(told["chips"])
+        fired.extend(told["fired"])
+        stopped += len(told["over"])
+    if stopped:
+        raise ValueError("a vertex fired 2^40 times, and the chips are not stable then")
+    return left, fired
+
+
+def burning_test(graph: Graph, rows: Sequence[tuple[int, ...]], program: FileName | None) -> list[bool]:
+    """Which configurations come back if the burning configuration is added and the sum is stabilized."""
+    if graph.loops:
+        return burning_test(graph.loop_free, [tuple(map(operator.sub, row, graph.loops)) for row in rows], program)
+    fuel, width, none = burning(graph, program)[1], graph.vertices, (0,) * graph.vertices
+    # (no play comes back to what has less than no chip somewhere)
+    burnt = (map(operator.add, row if min(row) >= 0 else none, fuel) for row in rows)
+    left, _ = stabilized_rows(graph, [*itertools.chain.from_iterable(burnt)], program)
+    left[graph.sink :: width] = array("Q", bytes(8 * len(rows)))
+    return [tuple(left[at : at + width]) == row for at, row in zip(range(0, len(left), width), rows)]
+
+
+def cached_on_graph(question: Callable[[Graph, FileName | None], T]) -> Callable[[Graph, FileName | None], T]:
+    """A question that is asked once of each graph and program; the graph keeps the answer."""
+
+    @functools.wraps(question)
+    def answer(graph: Graph, program: FileName | None) -> T:
+        known, key = graph.answers, (question.__name__, program)
+        found: T = known[key] if key in known else known.setdefault(key, question(graph, program))
+        return found
+
+    return answer
+
+
+@cached_on_graph
+def burning(graph: Graph, program: FileName | None) -> tuple[Sequence[int], Sequence[int]]:
+    """The least burning script, and the chips that it takes away, by numbers; `chipfire.burning_script` tells how."""
+    graph, none = graph.loop_free, [0] * graph.vertices
+    entering = graph.position_after(graph.degrees(), [1] * graph.vertices)
+    start = Configuration(graph, [max(count - 1, 0) for count in entering])
+    fired = none if start.is_stable() else stabilized(start, program)[1]
+    script = Configuration(graph, [count + 1 for count in fired]).numbers
+    return script, (-Configuration(graph, graph.position_after(none, script))).numbers
+
+
+@cached_on_graph
+def identity(graph: Graph, program: FileName | None) -> Sequence[int]:
+    """The recurrent identity, by numbers: with `m` the most stable chips, 2m less its stabilization, stabilized."""
+    twice = 2 * graph.max_stable()
+    return (twice - twice.stabilize(program=program)).stabilize(program=program).numbers

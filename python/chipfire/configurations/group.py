@@ -1,0 +1,74 @@
+"""The sandpile group as a product of cyclic groups: from configurations to their coordinates in it, and back."""
+
+from __future__ import annotations
+
+import functools
+import math
+import operator
+from collections.abc import Sequence
+
+from chipfire.backend.commands import AnyGraph, AnyProgram, known_graph
+from chipfire.configurations import smith
+from chipfire.configurations.configuration import Chips, Configuration, identity
+from chipfire.graphs.graph import Graph
+from chipfire.utils import as_int, as_ints, listed
+
+#: The most vertices, the sink among them.
+MAX_GROUP_VERTICES = 401
+
+
+class Group:
+    """The sandpile group of a graph, as the product of cyclic groups whose orders are `factors`.
+
+    graph    the graph, of up to 401 vertices, the sink among them; a ValueError tells if there are more
+    factors  the invariant factors of the group, above 1 and ascending: each divides the next
+
+    The group has a generator for each factor, found in 0.1 s for 20 by 20 squares, and as configurations in 2 s; in 4 s
+    for a random graph of 400 vertices and degree 4. Nothing of this is proved but the plays of `element`.
+    """
+
+    def __init__(self, graph: AnyGraph) -> None:
+        self.graph: Graph = known_graph(graph)
+        as_int(self.graph.vertices, "the number of vertices of a graph with its group", 1, MAX_GROUP_VERTICES)
+        factors, parts, self._units = smith.cyclic(smith.reduced(self.graph))
+        self.factors, self._parts = tuple(factors), [parts[place] for place in range(self.graph.vertices - 1)]
+
+    def __repr__(self) -> str:
+        return f"<Group of {' x '.join(f'Z/{factor}' for factor in self.factors) or 'one element'}>"
+
+    def coordinates(self, chips: Chips) -> tuple[int, ...]:
+        """The coordinates of chips, which may be below 0: how many times each generator they are, from 0 to its order
+        less 1. Sums of chips have the sums, and exactly those that are equivalent have the same.
+        This is the discrete logarithm."""
+        counts = [*Configuration(self.graph, chips).values()]
+        columns = ([part[at] for part in self._parts] for at in range(len(self.factors)))
+        return tuple(sum(map(operator.mul, counts, column)) % it for column, it in zip(columns, self.factors))
+
+    def element(self, coordinates: Sequence[int], *, program: AnyProgram = None) -> Configuration:
+        """The recurrent configuration of these coordinates, of which there is a number for each factor.
+
+        It comes of the identity by chips that fall and are multiplied by 4, again and again: in as many plays as the
+        largest factor has digits in base 4.
+        Proved: the plays. Not proved: which chips fall."""
+        times = as_ints(listed(coordinates, "coordinates stand in a list"), lambda at: f"coordinate {at}", None)
+        if len(times) != len(self.factors):
+            raise ValueError(f"there are {len(times)} coordinates, and the group has {len(self.factors)} factors")
+        counts = [0] * (self.graph.vertices - 1)
+        for count, unit in zip(times, self._units):
+            for place, many in unit.items():
+                counts[place] = (counts[place] + count * many) % self.factors[-1]
+        found = Configuration(self.graph, identity(self.graph, program))
+        for digit in reversed(range((max(counts, default=0).bit_length() + 1) // 2)):
+            found = (4 * found + [(count >> 2 * digit) % 4 for count in counts]).stabilize(program=program)
+        return found
+
+    @functools.cached_property
+    def generators(self) -> tuple[Configuration, ...]:
+        """The recurrent configurations that generate the group: each has a coordinate 1, and else 0."""
+        places = range(len(self.factors))
+        return tuple(self.element([int(at == place) for at in places]) for place in places)
+
+    def order(self, chips: Chips) -> int:
+        """How many times chips are added to themselves until that is equivalent to none."""
+        pairs = zip(self.coordinates(chips), self.factors)
+        return math.lcm(*(factor // math.gcd(count, factor) for count, factor in pairs))

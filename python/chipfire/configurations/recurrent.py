@@ -1,0 +1,119 @@
+"""Recurrent and superstable configurations: burning scripts, tests, representatives, lists of all."""
+
+from __future__ import annotations
+
+from collections.abc import Callable, Iterable, Iterator, Sequence
+
+from chipfire.backend.commands import AnyGraph, AnyProgram, known_graph
+from chipfire.configurations import smith
+from chipfire.configurations.configuration import burning, burning_test, Chips, Configuration, identity
+from chipfire.configurations.stabilization import as_configuration, as_rows
+from chipfire.graphs.graph import Graph
+
+
+def burning_script(graph: AnyGraph, *, program: AnyProgram = None) -> Configuration:
+    """The least burning script, by Speer: how often each vertex fires when a recurrent configuration burns: at least
+    once, on an undirected graph exactly once, and so that no vertex has more chips than before. It is one more than the
+    counts of a play that begins with one chip less on each vertex than edges lead in.
+    Proved: the counts of that play. Not proved: that they are the script."""
+    known = known_graph(graph, program)
+    return Configuration(known, burning(known, program)[0])
+
+
+def burning_configuration(graph: AnyGraph, *, program: AnyProgram = None) -> Configuration:
+    """The chips that `burning_script` takes away. Added to a recurrent configuration and stabilized, it comes back.
+    Proved: the counts of the play that `burning_script` tells of. Not proved: that they come to these chips."""
+    known = known_graph(graph, program)
+    return Configuration(known, burning(known, program)[1])
+
+
+def is_recurrent(graph: AnyGraph, chips: Chips, *, program: AnyProgram = None) -> bool:
+    """Whether a configuration is recurrent: stable, and what each can become by more chips and firings.
+
+    This is the burning test, for directed multigraphs too: a configuration is recurrent exactly if it comes back when
+    `burning_configuration` is added to it and the sum is stabilized.
+    Proved: the stabilizations. Not proved: the comparison, and that the test is right."""
+    return as_configuration(graph, chips, program).is_recurrent(program=program)
+
+
+def are_recurrent(graph: AnyGraph, configurations: Iterable[Chips], *, program: AnyProgram = None) -> list[bool]:
+    """Of many configurations whether each is recurrent; they come as in `stabilize_many`.
+    Proved and not proved: as of `is_recurrent`."""
+    known = known_graph(graph, program)
+    rows = as_rows(known, configurations, None, program)
+    return burning_test(known, [Configuration(known, row).numbers for row in rows], program)
+
+
+def recurrent_representative(graph: AnyGraph, chips: Chips, *, program: AnyProgram = None) -> Configuration:
+    """The one recurrent configuration to which firings, also backward, lead from this one; chips may be below 0. It is
+    the stable sum with the identity, after chips that are equivalent to none lifted all to 0 or more, and is tested.
+    Proved: the stabilizations. Not proved: the sums between them."""
+    held = as_configuration(graph, chips, program)
+    if min(held.numbers) < 0:
+        # (one chip more than is stable, less what these become, is equivalent to none, and 1 on each vertex at least)
+        full = held.graph.max_stable() + 1
+        lift = full - full.stabilize(program=program)
+        held += max(-(count // more) for count, more in zip(held.numbers, lift.numbers) if more) * lift
+    # (a sum is recurrent if one of the two is, and no chips of the other are below 0)
+    found = (held + identity(held.graph, program)).stabilize(program=program)
+    if not found.is_recurrent(program=program):
+        raise RuntimeError("what was found is not recurrent, by a mistake of this package")
+    return found
+
+
+def superstable_representative(graph: AnyGraph, chips: Chips, *, program: AnyProgram = None) -> Configuration:
+    """The one superstable configuration that is equivalent to this one, the q-reduced one; chips may be below 0.
+    With `m` the maximal stable one, it is `m` less the recurrent representative of `m` less this one, and so tested.
+    Proved: the stabilizations. Not proved: the sums between them."""
+    held = as_configuration(graph, chips, program)
+    most = held.graph.max_stable()
+    return most - recurrent_representative(held.graph, most - held, program=program)
+
+
+def is_superstable(graph: AnyGraph, chips: Chips, *, program: AnyProgram = None) -> bool:
+    """Whether a configuration is superstable: no vertices can fire together, not even several times each.
+
+    Together they may fire if none is left with fewer than 0 chips. On an undirected graph these are the parking
+    functions. The question is the same as whether what it lacks to the maximal stable configuration is recurrent.
+    Proved and not proved: as of `is_recurrent`."""
+    return as_configuration(graph, chips, program).is_superstable(program=program)
+
+
+def superstables(graph: AnyGraph, *, program: AnyProgram = None) -> Iterator[Configuration]:
+    """All superstable configurations of a small graph, one after the other; `order` says how many there are.
+    Nothing of this is proved but the burning script: Python burns each of them itself."""
+    known = known_graph(graph, program)
+    burns, waiting = _burns(known, program), [((0,) * known.vertices, 0)]
+    while waiting:
+        chips, first = waiting.pop()
+        yield Configuration(known, chips)
+        # (superstable chips without one of them are superstable, too)
+        for vertex in range(first, known.vertices):
+            more = (*chips[:vertex], chips[vertex] + 1, *chips[vertex + 1 :])
+            if vertex != known.sink and burns(more):
+                waiting.append((more, vertex))
+
+
+def _burns(graph: Graph, program: AnyProgram) -> Callable[[Sequence[int]], bool]:
+    """A test of chips: vertices below 0 give firings of the burning script back, all of them if it is superstable."""
+    script, fuel = burning(graph, program)
+    rows = [{head: less for head, less in row.items() if head != graph.sink} for row in smith.laplacian(graph)]
+
+    def burns(chips: Sequence[int]) -> bool:
+        left, firings = list(map(int.__sub__, chips, fuel)), sum(script)
+        poor = [vertex for vertex, count in enumerate(left) if count < 0]
+        for vertex in poor:
+            while left[vertex] < 0:
+                firings -= 1
+                for head, less in rows[vertex].items():
+                    left[head] += less
+                    poor += [head] * (left[head] < 0)
+        return firings == 0
+
+    return burns
+
+
+def recurrents(graph: AnyGraph, *, program: AnyProgram = None) -> Iterator[Configuration]:
+    """All recurrent configurations of a small graph: what its `superstables` lack to the maximal stable one."""
+    most = known_graph(graph, program).max_stable()
+    return (most - chips for chips in superstables(most.graph, program=program))

@@ -1,0 +1,1 @@
+"""Divisors on undirected graphs, and polynomials of graphs."""

@@ -1,0 +1,160 @@
+"""Divisors of undirected graphs: chips on all vertices, the sink among them, which any vertex gives and takes.
+
+Stabilizations are the program's, whose answer is proved. Sums and ranks are not; tests compare them with their words.
+"""
+
+from __future__ import annotations
+
+from collections.abc import Callable, Hashable, Iterator, Sequence
+from typing import Any
+
+from chipfire.backend.commands import AnyGraph, AnyProgram, known_graph
+from chipfire.configurations import smith
+from chipfire.configurations.configuration import Chips, Sums
+from chipfire.configurations.recurrent import superstable_representative
+from chipfire.graphs.graph import Graph
+from chipfire.utils import as_int, AsArray, with_unit
+
+#: How many divisors are looked at to find a rank, if that is not said.
+MOST = 100_000
+
+
+class Divisor(AsArray, Sums):
+    """The chips of all vertices of an undirected graph, the sink among them, by names; they may be below 0.
+
+    graph    the graph, each edge of which leads both ways: a family, `Graph.undirected`, or one of another tool
+    numbers  the chips by the numbers of the vertices
+
+    They come in each form that `Graph.chips` takes, but a sequence has a number for each vertex, and one number is for
+    all of them. A divisor is never changed. It is a mapping, is added, subtracted and multiplied by numbers. NumPy
+    takes it as the array of its numbers, and pandas as a Series.
+    """
+
+    def __init__(self, graph: AnyGraph, chips: Chips) -> None:
+        super().__init__(known_graph(graph), chips)
+        smith.undirected(self.graph)
+
+    @classmethod
+    def _numbers(cls, graph: Graph, chips: Chips) -> tuple[int, ...]:
+        return graph.numbers(chips, with_sink=True)
+
+    def __getitem__(self, name: Hashable) -> int:
+        return self.numbers[self.graph.number(name)]
+
+    def __iter__(self) -> Iterator[Hashable]:
+        return iter(self.graph.names)
+
+    def __len__(self) -> int:
+        return self.graph.vertices
+
+    def _for_array(self) -> Sequence[Any]:
+        return self.numbers
+
+    def is_effective(self) -> bool:
+        """Whether no vertex has fewer than 0 chips."""
+        return min(self.numbers) >= 0
+
+    def fire(self, counts: Chips) -> Divisor:
+        """What lies there after these firings of the vertices, the sink too, legal or not; counts below 0 borrow."""
+        left = list(self.numbers)
+        for count, row in zip(Divisor(self.graph, counts).numbers, smith.undirected(self.graph)):
+            for vertex, less in row.items():
+                left[vertex] -= count * less
+        return Divisor(self.graph, left)
+
+    def reduced(self, vertex: Hashable = None, *, program: AnyProgram = None) -> Divisor:
+        """The one equivalent divisor that is q-reduced, with q the vertex, or the sink if none is named: no vertex but
+        q is below 0, and no vertices without q can fire together and stay so.
+        Proved: the stabilizations. Not proved: the sums between them."""
+        graph = self.graph
+        if vertex is not None:
+            sink, rows = graph.number(vertex), enumerate(smith.undirected(graph))
+            edges = [(u, v, -less) for u, row in rows if u != sink for v, less in row.items() if less < 0]
+            graph = Graph(graph.vertices, sink, edges, graph.names, from_sink=None)
+        left = [*superstable_representative(graph, self.numbers, program=program).numbers]
+        left[graph.sink] = self.degree - sum(left)
+        return Divisor(self.graph, left)
+
+    def is_equivalent(self, other: Chips, *, program: AnyProgram = None) -> bool:
+        """Whether firings, also of the sink and backward, lead from this divisor to the other: linear equivalence.
+        Proved and not proved: as of `reduced`."""
+        return not any((self - other).reduced(program=program).numbers)
+
+    def effective(self, *, program: AnyProgram = None) -> Divisor | None:
+        """The equivalent divisor that is effective and reduced at the sink; None if none is effective.
+        Proved and not proved: as of `reduced`."""
+        found = self.reduced(program=program)
+        return found if found.is_effective() else None
+
+    def rank(self, *, most: int = MOST) -> int:
+        """The rank r, by Baker and Norine: if any r chips are taken away, what is left is equivalent to an effective
+        divisor, but not so if any r + 1 are; -1 if it is equivalent to none itself.
+
+        By Riemann and Roch, r(D) - r(K - D) = degree - genus + 1 with K the canonical divisor. So the one of lower
+        degree is searched: what is left of it, up to equivalence, after one chip less and less: of each degree up to
+        `order(graph)`. A ValueError tells if more than `most` divisors would be looked at. The usual 100,000 take some
+        15 s of 5 by 5 squares, and do for each graph of up to 10,000 spanning trees and genus 10.
+        Nothing of this is proved, and the program is not asked."""
+        most, other = as_int(most, "the most divisors", 1), canonical_divisor(self.graph) - self
+        if other.degree < self.degree:
+            return self.degree - genus(self.graph) + 1 + other.rank(most=most)
+        return -1 if self.degree < 0 else searched_rank(self, most)
+
+
+def genus(graph: AnyGraph) -> int:
+    """The genus of an undirected graph: how many edges it has, less its vertices but one."""
+    rows = smith.undirected(known_graph(graph))
+    return sum(row[vertex] for vertex, row in enumerate(rows)) // 2 - len(rows) + 1
+
+
+def canonical_divisor(graph: AnyGraph) -> Divisor:
+    """The canonical divisor of an undirected graph: on each vertex, how many edges it has, less 2."""
+    known = known_graph(graph)
+    return Divisor(known, [row[vertex] - 2 for vertex, row in enumerate(smith.undirected(known))])
+
+
+def searched_rank(divisor: Divisor, most: int = MOST) -> int:
+    """The rank of a divisor, by its definition: chips are taken away one by one."""
+    sink, reduced = divisor.graph.sink, _reducer(divisor.graph)
+    level, rank, seen = {reduced([*divisor.numbers])}, -1, 1
+    while all(chips[sink] >= 0 for chips in level):  # (what is reduced has most chips on the sink)
+        rank, less = rank + 1, set[tuple[int, ...]]()
+        for chips in level:
+            for vertex in range(len(chips)):
+                less.add(reduced([count - (at == vertex) for at, count in enumerate(chips)]))
+            if seen + len(less) > most:
+                raise ValueError(f"the rank is {rank} or more, and {with_unit(most, 'divisor')} do not tell which")
+        level, seen = less, seen + len(less)
+    return rank
+
+
+def _reducer(graph: Graph) -> Callable[[list[int]], tuple[int, ...]]:
+    """What makes small chips reduced at the sink, by Dhar."""
+    rows, sink = smith.undirected(graph), graph.sink
+
+    def fire(chips: list[int], vertices: Sequence[int], times: int) -> None:
+        for vertex in vertices:
+            for other, less in rows[vertex].items():
+                chips[other] -= times * less
+
+    def unburnt(chips: list[int]) -> dict[int, int]:
+        """The vertices that a fire from the sink leaves, each with its edges to those that burn."""
+        left, waiting = dict.fromkeys(range(len(rows)), 0), [sink]
+        for vertex in waiting:
+            if left.pop(vertex, None) is not None:
+                for other, less in rows[vertex].items():
+                    if other in left:
+                        left[other] -= less
+                        waiting += [other] * (chips[other] < left[other])
+        return left
+
+    def reduced(chips: list[int]) -> tuple[int, ...]:
+        while poor := [vertex for vertex, count in enumerate(chips) if count < 0 and vertex != sink]:
+            for vertex in poor:
+                fire(chips, [vertex], chips[vertex] // rows[vertex][vertex])
+        while left := unburnt(chips):
+            times = min(chips[vertex] // edges for vertex, edges in left.items() if edges)
+            fire(chips, [*left], times)
+        return tuple(chips)
+
+    return reduced

@@ -1,0 +1,178 @@
+"""Polynomials of small graphs, as dicts from powers to coefficients: `sympy.Poly.from_dict` takes each of them.
+
+Avalanches are the program's, whose answer is proved. All else is not; tests compare it with sums over all cases.
+"""
+
+from __future__ import annotations
+
+import itertools
+import math
+import operator
+from collections import Counter, defaultdict
+from collections.abc import Callable, Iterator, Sequence
+from typing import Any, TypeVar
+
+from chipfire.backend.commands import AnyGraph, AnyProgram, known_graph
+from chipfire.configurations import smith
+from chipfire.configurations.configuration import stabilized_rows
+from chipfire.configurations.laplacian import order
+from chipfire.configurations.recurrent import recurrents, superstables
+from chipfire.graphs.graph import Graph
+from chipfire.utils import as_int, with_unit
+
+Power = TypeVar("Power", int, tuple[int, int], tuple[int, ...])
+#: Coefficients by two powers.
+Terms = Counter[tuple[int, int]]
+#: What takes the last vertex out of a graph.
+Step = Callable[[int], Iterator[tuple[int, int, int]]]
+#: How many smaller graphs, or configurations, are looked at, if that is not said.
+MOST = 100_000
+
+
+def tutte_polynomial(graph: AnyGraph, *, most: int = MOST) -> dict[tuple[int, int], int]:
+    """The Tutte polynomial T(x, y) of an undirected graph with multiplicities: the coefficient of x^i y^j at (i, j).
+
+    The edges of one vertex after the other are deleted and contracted; smaller graphs that come out the same are one. A
+    ValueError tells if there are more than `most` of them with one number of vertices: they are counted first, which
+    takes seconds. A complete graph of 8 vertices takes 0.01 s, and 4 by 4 squares 1 s. Nothing of this is proved, and
+    the program is not asked."""
+    found: Terms = Counter()
+    for (i, j), count in _whitney(known_graph(graph), most, False).items():
+        for power in range(i + 1):  # (x - 1 to the power i)
+            found[power, j] += count * math.comb(i, power) * (-1) ** (i - power)
+    return _sorted(found)
+
+
+def level_polynomial(graph: AnyGraph, *, most: int = MOST, program: AnyProgram = None) -> dict[int, int]:
+    """How many recurrent configurations have each level: their chips less the least that a recurrent one has.
+
+    On an undirected graph it is T(1, y), by Merino, and found by deleting and contracting, as in `tutte_polynomial`. On
+    others all recurrent ones are gone through; a ValueError tells if there are more than `most`.
+    Loops are left out. Nothing of this is proved but the burning script of a directed graph."""
+    known = known_graph(graph, program).loop_free
+    if smith.is_undirected(known):
+        return _sorted({j: count for (_, j), count in _whitney(known, most, True).items()})
+    _require_few(known, most)
+    degrees = Counter(chips.degree for chips in superstables(known, program=program))
+    return _sorted({max(degrees) - degree: count for degree, count in degrees.items()})
+
+
+def avalanche_polynomial(
+    graph: AnyGraph, *, multivariable: bool = False, most: int = MOST, program: AnyProgram = None
+) -> dict[int, int] | dict[tuple[int, ...], int]:
+    """How many avalanches have each size, of one chip that is dropped on each vertex of each recurrent configuration.
+    If `multivariable`, how many have each odometer: the firings of each vertex but the sink, in their order.
+
+    A ValueError tells if there are more than `most` recurrent configurations.
+    Proved: the play that each chip causes. Not proved: that these are all, and the sums."""
+    known = known_graph(graph, program)
+    _require_few(known, most)
+    width, sink = known.vertices, known.sink
+    inner = [vertex for vertex in range(width) if vertex != sink]
+    found: Counter[Any] = Counter()
+    for chips in recurrents(known, program=program):
+        dropped = ([count + (at == vertex) for at, count in enumerate(chips.numbers)] for vertex in inner)
+        _, fired = stabilized_rows(known, [*itertools.chain.from_iterable(dropped)], program)
+        odometers = ([fired[at + vertex] for vertex in inner] for at in range(0, len(fired), width))
+        found.update(tuple(counts) if multivariable else sum(counts) for counts in odometers)
+    return _sorted(found)
+
+
+def _require_few(graph: Graph, most: int) -> None:
+    """Refuses a graph with too many recurrent configurations."""
+    count = order(graph)
+    if count > as_int(most, "the most configurations", 1):
+        raise ValueError(f"at most {most:,} recurrent configurations are gone through, and there are {count:,}")
+
+
+def _sorted(polynomial: dict[Power, int]) -> dict[Power, int]:
+    """The terms by ascending powers, without those of coefficient 0."""
+    return {power: count for power, count in sorted(polynomial.items()) if count}
+
+
+def _whitney(graph: Graph, most: int, is_one: bool) -> Terms:
+    """T(x, y) by powers of x - 1 and of y; at x = 1, if `is_one`.
+
+    The last vertex is contracted into one of its neighbours, after its edges to those behind that are deleted. Of the
+    m edges between the two, one is contracted, and the others become loops or are deleted: 1 + y + .. + y^(m - 1). Or
+    all edges of the vertex are deleted: x - 1. The graphs alone are made first, since their terms take far longer."""
+    start, steps = _steps(graph, is_one)
+    _refuse_more(start, steps, as_int(most, "the most smaller graphs", 1))
+    graphs: dict[int, Terms] = {start: Counter({(0, 0): 1})}
+    for step in steps:
+        smaller: dict[int, Terms] = defaultdict(Counter)
+        for joined, terms in graphs.items():
+            for after, of_x, mult in step(joined):
+                _add(smaller[after], terms, of_x, mult)
+        graphs = smaller
+    return graphs[0]
+
+
+def _refuse_more(start: int, steps: Sequence[Step], most: int) -> None:
+    """Refuses a graph of which more smaller ones come out with one number of vertices."""
+    graphs = {start}
+    for step in steps:
+        smaller: set[int] = set()
+        for joined in graphs:
+            smaller.update(after for after, _, _ in step(joined))
+            if len(smaller) > most:
+                told = f"{with_unit(len(smaller), 'smaller graph')} come out"
+                raise ValueError(f"at least {told}, and {most:,} at most are looked at")
+        graphs = smaller
+
+
+def _steps(graph: Graph, is_one: bool) -> tuple[int, list[Step]]:
+    """A graph as one number, which says how often each two vertices are joined, and how each vertex is taken out, from
+    the last one on. The pairs of a vertex with those before it stand behind the pairs of the vertices before it."""
+    joined = _joined(graph)
+    beside: list[set[int]] = [set() for _ in range(graph.vertices)]
+    for low, high in joined:
+        beside[high].add(low)
+    for some in reversed(beside):  # (what the last one is contracted into may be joined with all that are beside it)
+        for low, high in itertools.combinations(sorted(some), 2):
+            beside[high].add(low)
+    pairs = [(low, last) for last in reversed(range(graph.vertices)) for low in sorted(beside[last])]
+    bits, places = sum(joined.values()).bit_length(), dict(zip(pairs, itertools.count()))
+    steps = []
+    for last in range(graph.vertices - 1, 0, -1):
+        lower = sorted(beside[last])
+        first = len(lower) + min((places[low, last] for low in lower), default=0)
+        shifts = [[bits * (places[pair, into] - first) for pair in lower[:at]] for at, into in enumerate(lower)]
+        steps.append(_step(bits, shifts, is_one))
+    return sum(count << bits * places[pair] for pair, count in joined.items()), steps
+
+
+def _step(bits: int, shifts: Sequence[Sequence[int]], is_one: bool) -> Step:
+    """What comes out if the last vertex is taken out: graphs, each with the power of x - 1 and the m of its terms.
+    `shifts` has of each vertex beside the last one where its pairs with those before it stand then."""
+    places, mask = [bits * place for place in range(len(shifts))], 2**bits - 1
+
+    def step(joined: int) -> Iterator[tuple[int, int, int]]:
+        rest = joined >> bits * len(places)
+        counts = [joined >> place & mask for place in places]
+        if not is_one:
+            yield rest, 1, 1
+        for mult, row in zip(counts, shifts):
+            if mult:
+                yield rest + sum(map(operator.lshift, counts, row)), 0, mult
+
+    return step
+
+
+def _joined(graph: Graph) -> dict[tuple[int, int], int]:
+    """How often each pair of vertices is joined, the lower first, of an undirected graph. The sink has place 0, so that
+    it is the last vertex that is left."""
+    sink, found = graph.sink, {}
+    for tail, row in enumerate(smith.undirected(graph)):
+        for head, less in row.items():
+            if less < 0:
+                first, second = sorted(0 if it == sink else it + (it < sink) for it in (tail, head))
+                found[first, second] = -less
+    return found
+
+
+def _add(found: Terms, terms: Terms, of_x: int, mult: int) -> None:
+    """Adds terms, times a power of x - 1 and 1 + y + .. + y^(mult - 1)."""
+    for (i, j), count in terms.items():
+        for more in range(mult):
+            found[i + of_x, j + more] += count

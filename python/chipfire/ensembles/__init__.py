@@ -1,0 +1,1 @@
+"""Avalanches: single ones, series of drops, independent chains, and power laws."""

@@ -1,0 +1,248 @@
+"""Independent chains: many series of drops, each with a seed of its own."""
+
+from __future__ import annotations
+
+import itertools
+import random
+import threading
+from array import array
+from collections.abc import Callable, Sequence
+from dataclasses import dataclass
+from typing import Any, NamedTuple
+
+from chipfire.backend import library
+from chipfire.backend.commands import AnyGraph, known_graph, read_chips
+from chipfire.backend.finding import ProgramNotFound
+from chipfire.configurations.configuration import Chips
+from chipfire.ensembles.drops import in_calls
+from chipfire.ensembles.wilson import recurrent_rows
+from chipfire.graphs.graph import Graph
+from chipfire.utils import as_int, FILE, import_optional, in_order, known_seed, processors, require_memory, run_in_threads
+
+
+class Firings(NamedTuple):
+    """Which vertices fired by each drop, as the rows of a sparse matrix. The entries of drop `d` of chain `k`, with
+    `at = k * drops + d`, are those from `offsets[at]` to `offsets[at + 1]`: the names of `vertices`, in the order of
+    their numbers, and their `counts`. Names that are no whole numbers stand in an array of objects. A vertex that fires
+    takes 12 bytes, or 16 in a graph with names, and up to 60 before all are in order."""
+
+    offsets: Any
+    vertices: Any
+    counts: Any
+
+
+@dataclass(frozen=True, repr=False, eq=False)
+class Chains:
+    """What `chains` answers: arrays with a row for each chain, of NumPy if it is installed, else lists of rows.
+
+    seeds   the seed of each chain: `random_drops(graph, drops, seeds[k])` has the vertices of chain `k`
+    size    how many firings each drop of each chain caused; 0 for those that were not made
+    extent  how many different vertices fired
+    lost    how many chips the firings brought to the sink
+    made    how many drops each chain made
+    chips   what lies on each vertex after the last one, by numbers; the sink has what it got in all
+    fired   which vertices fired by each drop, if that was asked for, else None
+    seed    the seed from which `chains` plays the same again; one that the system drew, if None was given
+    """
+
+    seeds: Sequence[str]
+    size: Any
+    extent: Any
+    lost: Any
+    made: Any
+    chips: Any
+    fired: Firings | None = None
+    seed: int | float | str | bytes | None = None
+
+    def __repr__(self) -> str:
+        return f"<Chains: {len(self.seeds)} of up to {len(self.size[0])} drops>"
+
+
+def chains(
+    graph: AnyGraph, n: int, drops: int, seed: Any, *, chips: Chips | None = None, workers: int | None = None,
+    fired: bool = False, until: str | None = None,
+) -> Chains:
+    """Drops chips on random vertices in n chains, each with its own seed and `drops` drops, each drop on what the play
+    of the one before it left. It takes the library: without it that is a `ProgramNotFound`. The seeds of the chains are
+    made of `seed`, which is as in `random_drops`; if it is None, the answer says which one was drawn.
+
+    Each chain begins with `chips`: in one of their forms for all, or rows of an array or list, one for each. Without
+    them each begins with a `random_recurrent` configuration of its own, from which on the drops are stationary.
+    `workers` threads play, by default as many as there are processors for this process. An interrupt waits for chains
+    that have begun. A drop takes 24 bytes, and a vertex 8 in each chain: what there is no memory for does not begin.
+
+    If it is asked for what `fired`, or `until` a drop has a "loss" of chips, or "spans" a grid, which is that the
+    vertices that fired touch two opposite borders, each call makes one drop of many chains, by NumPy. `until` stops a
+    chain after the first such drop. In a direction that is joined there are no borders, and "spans" does not know that.
+    Proved: sizes, extents, losses and counts of the drops. Not proved: that they are evenly drawn, and what stops."""
+    known, n, drops = known_graph(graph), as_int(n, "the number of chains", 1), as_int(drops, "the number of drops")
+    require_memory(n * (24 * drops + 8 * known.vertices), f"{n:,} chains of {drops:,} drops")
+    if until not in (None, "loss", "spans"):
+        raise ValueError(f"chains go on until 'loss' or 'spans', and not {until!r}")
+    if fired or until:
+        import_optional("numpy", "what fired, and when to stop, are found by NumPy")
+    if library.find_library() is None:
+        raise ProgramNotFound(2, "chains take the library, which is not beside the program in this version", "chipfire")
+    known.require()
+    if known.vertices < 2 and drops:
+        raise ValueError("the graph has only its sink, and so no vertex to drop on")
+    chips = read_chips(chips, known) if isinstance(chips, FILE) else chips
+    play = _Chains(known, n, drops, known_seed(seed), chips)
+    workers = min(n, min(processors(), 64) if workers is None else as_int(workers, "workers", 1, 64))
+    pieces = []
+    if fired or until:
+        ends = [n * it // workers for it in range(workers + 1)]
+        pieces = run_in_threads(lambda it: play.step(range(ends[it], ends[it + 1]), until, fired), workers, workers)
+    else:
+        run_in_threads(play.whole, n, workers)
+    return play.told(_in_order(known, pieces, n * drops) if fired else None)
+
+
+class _Chains:
+    """Chains as they are played: numbers of 64 bits, those of one chain behind those of another."""
+
+    def __init__(self, graph: Graph, n: int, drops: int, seed: Any, chips: Any) -> None:
+        self.known, self.graph, self.drops, self.seed = graph, graph.loop_free, drops, seed
+        self.seeds = [f"{seed} {chain}" for chain in range(n)]
+        self.inner = array("Q", (it for it in range(graph.vertices) if it != graph.sink))
+        self.made, self.ones, self.some = array("Q", [drops]) * n, array("Q", [1]) * drops, 1
+        self.here, numpy = threading.local(), import_optional("numpy")  # (what each thread has for itself)
+        self.columns = [numpy.zeros(n * drops, "u8") if numpy else array("Q", bytes(8 * n * drops)) for _ in range(3)]
+        if chips is None:
+            self.chips = recurrent_rows(graph, seed, n)
+            return
+        found = in_order(chips, "chips are rows, or those of all chains") if getattr(chips, "ndim", 1) > 1 else chips
+        rows = [graph.chips(row) for row in found] if _are_rows(graph, found) else [graph.chips(chips)] * n
+        if len(rows) != n:
+            raise ValueError(f"there are chips for {len(rows)} chains, and {n} chains")
+        self.chips = array("Q", graph.without_loops([*itertools.chain.from_iterable(rows)]))
+        _stabilize(self.graph, self.chips, array("Q", bytes(8 * len(self.chips))), array("Q", bytes(8 * n)))
+
+    def drawn(self, chain: int) -> Any:
+        """The vertices of a chain, as `random_drops` draws them; by NumPy's twister, which is Python's."""
+        draw, numpy = random.Random(self.seeds[chain]), import_optional("numpy")
+        if not numpy:
+            return array("Q", draw.choices(self.inner, k=self.drops))
+        if not hasattr(self.here, "twister"):
+            self.here.twister = numpy.random.RandomState(0)
+        state = draw.getstate()[1]
+        self.here.twister.set_state(("MT19937", state[:-1], state[-1]))
+        places = (self.here.twister.random_sample(self.drops) * len(self.inner)).astype("i8")
+        return numpy.frombuffer(self.inner, "u8")[places]
+
+    def whole(self, chain: int) -> None:
+        """Plays a chain to its end. Its first call has as many drops as the last one of another chain."""
+        width, drops = self.graph.vertices, self.drops
+        left = memoryview(self.chips)[chain * width : (chain + 1) * width]
+        rows = [memoryview(column)[chain * drops : (chain + 1) * drops] for column in self.columns]
+        self.some = in_calls(self.graph, left, self.drawn(chain), self.ones, rows, some=self.some)
+
+    def step(self, group: range, until: str | None, wants_fired: bool) -> list[Any]:
+        """Plays some chains, one drop of each after the other; gets the drop, vertex and count of each that fired."""
+        numpy, width, drops = import_optional("numpy"), self.graph.vertices, self.drops
+        live, pieces, spans = numpy.array(group), [], _spans(self.graph) if until == "spans" else None
+        chips, made, *columns = (numpy.frombuffer(it, "u8") for it in (self.chips, self.made, *self.columns))
+        chips = chips.reshape(-1, width)
+        at = numpy.array([self.drawn(chain) for chain in group])
+        for drop in range(drops if len(live) else 0):
+            there = chips[live]
+            there[numpy.arange(len(live)), at[live - group.start, drop]] += 1
+            fired, stopped = numpy.zeros_like(there), numpy.zeros(len(live), "u8")
+            _stabilize(self.graph, there, fired, stopped)
+            lost = there[:, self.graph.sink] - chips[live, self.graph.sink]
+            for column, values in zip(columns, (fired.sum(1), (fired > 0).sum(1), lost)):
+                column[live * drops + drop] = values
+            chips[live] = there
+            if wants_fired:
+                chain, vertex = numpy.nonzero(fired)
+                pieces.append((live[chain] * drops + drop, vertex.astype("i4"), fired[chain, vertex].astype("i8")))
+            if until:
+                ended = spans(fired) if spans else lost > 0
+                made[live[ended]] = drop + 1
+                live = live[~ended]
+                if not len(live):
+                    break
+        return pieces
+
+    def told(self, fired: Firings | None) -> Chains:
+        """What was played, by rows."""
+        numpy, n, chips = import_optional("numpy"), len(self.seeds), self.known.with_loops(self.chips)
+        size, extent, lost, chips = (_by_rows(numpy, it, n) for it in (*self.columns, chips))
+        made = numpy.frombuffer(self.made, "q") if numpy else self.made
+        return Chains(tuple(self.seeds), size, extent, lost, made, chips, fired, self.seed)
+
+
+def _stabilize(graph: Graph, chips: Any, fired: Any, stopped: Any) -> None:
+    """Plays games to their ends, by the library."""
+    library.stabilize_all(graph, chips, fired, stopped)
+    if any(stopped):
+        raise ValueError("a vertex fired 2^40 times, and the chips are not stable then")
+
+
+def _spans(graph: Graph) -> Callable[[Any], Any]:
+    """What tells of each game whether the vertices that fired touch two opposite borders of the grid."""
+    if graph.shape is None:
+        raise ValueError("the graph is no grid, so nothing spans it")
+    height, width = graph.shape
+    places = [divmod(square, width) for square in graph.squares]
+    borders = [
+        [vertex for vertex, place in enumerate(places) if place[way] == end and vertex != graph.sink]
+        for way, last in enumerate((height - 1, width - 1)) for end in (0, last)
+    ]
+
+    def by(fired: Any) -> Any:
+        top, bottom, left, right = (fired[:, border].any(1) for border in borders)
+        return top & bottom | left & right
+
+    return by
+
+
+def _are_rows(graph: Graph, chips: Any) -> bool:
+    """Whether chips are rows for chains, and not those of all: numbers, or rows of them in the graph's shape."""
+    if not isinstance(chips, (list, tuple)) or hasattr(chips, "_fields"):
+        return False
+    if any(hasattr(row, "items") or hasattr(row, "prior") for row in chips):
+        return True
+    depths = {*map(_depth, chips)}
+    if 0 in depths or not depths:
+        return False
+    return max(depths) > 1 or graph.shape != (len(chips), *{*map(len, chips)})
+
+
+def _depth(form: Any) -> int:
+    """In how many directions the numbers of a form stand: 0 if it is one number."""
+    if hasattr(form, "ndim"):
+        return int(form.ndim)
+    if not isinstance(form, (list, tuple, range, array)):
+        return 0
+    return 1 + (_depth(form[0]) if form else 0)
+
+
+def _by_rows(numpy: Any, numbers: array[int], n: int) -> Any:
+    """Numbers in n rows."""
+    if numpy:
+        return numpy.frombuffer(numbers, "q").reshape(n, -1)
+    width = len(numbers) // n
+    return [array("q", numbers[it * width : (it + 1) * width]) for it in range(n)]
+
+
+def _in_order(graph: Graph, pieces: Sequence[Sequence[Any]], count: int) -> Firings:
+    """The vertices that fired by each drop, by the numbers of `count` drops."""
+    numpy = import_optional("numpy")
+    found = [it for piece in pieces for it in piece] or [[numpy.zeros(0, "i8")] * 3]
+    drop, vertices, counts = (numpy.concatenate(column) for column in zip(*found))
+    order = numpy.argsort(drop, kind="stable")
+    offsets = numpy.concatenate([[0], numpy.cumsum(numpy.bincount(drop, minlength=count))])
+    return Firings(offsets, _named(numpy, graph, vertices[order]), counts[order])
+
+
+def _named(numpy: Any, graph: Graph, vertices: Any) -> Any:
+    """The names of vertices that fired."""
+    if isinstance(graph.names, range):
+        return vertices
+    names = numpy.empty(graph.vertices, object)
+    for vertex, name in enumerate(graph.names):
+        names[vertex] = name
+    names[graph.sink] = 0  # (it never fires)
+    is_whole = all(type(name) is int and abs(name) < 2**63 for name in names)
+    return (names.astype("i8") if is_whole else names)[vertices]

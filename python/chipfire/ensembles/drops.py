@@ -1,0 +1,141 @@
+"""Chips that are dropped one after another, and what each of them caused."""
+
+from __future__ import annotations
+
+import time
+from array import array
+from collections import Counter
+from collections.abc import Iterable, Iterator, Sequence
+from dataclasses import dataclass
+from typing import Any
+
+from chipfire.backend import library
+from chipfire.backend.process import Fault
+from chipfire.backend.report import Report
+from chipfire.configurations.configuration import capped, CHIPS_HEADER, Configuration
+from chipfire.graphs.graph import Graph
+from chipfire.utils import as_ints, FileName, import_optional, in_order, listed, MAX_LIMIT, with_unit
+
+ROWS_HEADER = "vertex,chips,size,extent,lost\n"
+#: How many drops become text at a time, and how many bytes of rows become numbers.
+PART = 2**16
+_BYTES = 2**20
+
+
+@dataclass(frozen=True, repr=False, eq=False)
+class Drops:
+    """What chips came to that were dropped one after another, by columns: a number for each drop, in their order.
+
+    size    how many firings the drop caused: that of its avalanche
+    extent  how many different vertices fired
+    lost    how many chips the firings brought to the sink
+    report  the report of all together: of a play from the chips at the start and those that were dropped
+
+    The columns are arrays of NumPy if it is installed, else of the standard library. If a vertex has fired 2^40 times
+    in all, that stops the play of a drop: the drop is the last, and has no row; `report.closed` is false then.
+    """
+
+    size: Any
+    extent: Any
+    lost: Any
+    report: Report
+
+    def __len__(self) -> int:
+        return len(self.size)
+
+    def __repr__(self) -> str:
+        return f"<Drops: {with_unit(len(self), 'avalanche')}, {with_unit(sum(self.size.tolist()), 'firing')}>"
+
+    @property
+    def configuration(self) -> Configuration:
+        """The chips that lie there after the last drop, by names."""
+        return self.report.configuration
+
+    def histogram(self, of: str = "size") -> dict[int, int]:
+        """How many drops have each size that occurs, ascending; or each `extent`, or `lost`."""
+        if of not in ("size", "extent", "lost"):
+            raise ValueError(f"a drop has a 'size', an 'extent' and 'lost', and no {of!r}")
+        return dict(sorted(Counter(getattr(self, of).tolist()).items()))
+
+
+def names_of(vertices: Any, what: str) -> Iterable[Any]:
+    """The names of vertices that stand in an order; a mask is refused, since true and false are no names there."""
+    wanted = f"the vertices of {what} are one for each drop"
+    if getattr(getattr(vertices, "dtype", None), "kind", "") == "b":
+        raise TypeError(f"{wanted}, and no mask")
+    found: Any = in_order(vertices, wanted)
+    if not isinstance(found, Iterable):
+        raise TypeError(f"{wanted}, and not {found!r}")
+    return found
+
+
+def dropped_on(graph: Graph, vertices: Any, amounts: Any) -> tuple[array[int], array[int]]:
+    """The numbers of the vertices, and how many chips fall on each: one, if there are no amounts."""
+    at = array("Q", map(graph.number, names_of(vertices, "drops")))
+    many: Sequence[int] = [1] * len(at)
+    if amounts is not None:
+        given = listed(amounts, "the amounts of drops are one for each drop")
+        many = as_ints(given, lambda drop: f"the number of chips of drop {drop}")
+    if len(many) != len(at):
+        raise ValueError(f"there are {with_unit(len(at), 'drop')}, and {with_unit(len(many), 'amount')}")
+    return at, array("Q", capped(many))
+
+
+def played_drops(
+    graph: Graph, chips: Sequence[int], at: array[int], amounts: array[int], program: FileName | None
+) -> list[Any] | None:
+    """The columns of the drops by the library; None if the program is to be asked, since a limit may stop a vertex."""
+    found = library.play(graph, chips, program)
+    if not found or sum(chips) + max(amounts, default=0) > library.most(graph):
+        return None
+    left, columns = found[0], [array("Q", bytes(8 * len(at))) for _ in range(3)]
+    try:
+        in_calls(graph, left, at, amounts, columns, library.most(graph))
+    except Fault as fault:
+        if fault.number == 13:
+            return None
+        raise
+    return None if sum(found[1]) + sum(columns[0]) > MAX_LIMIT else _shown(columns)
+
+
+def in_calls(
+    graph: Graph, left: Any, at: Any, amounts: Any, columns: Sequence[Any], limit: int = MAX_LIMIT, some: int = 1
+) -> int:
+    """Drops on what is left, by calls in each of which a vertex fires `limit` times at most. One drop may be long, so
+    the first call has one if no other number is said; later calls have more, or fewer if one takes a tenth of a second.
+    How many the next one would have is returned."""
+    start = 0
+    while start < len(at):
+        begun, part = time.monotonic(), slice(start, start + some)
+        where, many, *rows = (memoryview(it)[part] for it in (at, amounts, *columns))
+        library.avalanches(graph, where, many, left, rows[0], rows[1], rows[2], limit=limit)
+        start, took = part.stop, time.monotonic() - begun
+        some = 32 * some if took < 0.003 else 2 * some if took < 0.1 else some // 2 or 1
+    return min(some, len(at) or 1)
+
+
+def parts_of(at: array[int], amounts: array[int]) -> Iterator[bytes]:
+    """The text of a file of drops, in parts."""
+    yield ",".join(CHIPS_HEADER).encode() + b"\n"
+    for start in range(0, len(at), PART):
+        rows = zip(at[start : start + PART], amounts[start : start + PART])
+        yield "".join([f"{vertex},{count}\n" for vertex, count in rows]).encode()
+
+
+def columns_of(text: str) -> list[Any]:
+    """The sizes, extents and numbers of lost chips in the rows that the program writes."""
+    columns = [array("q") for _ in range(3)]
+    at = len(ROWS_HEADER)
+    while at < len(text):
+        end = text.rindex("\n", at, at + _BYTES)
+        numbers = array("q", map(int, text[at:end].replace("\n", ",").split(",")))
+        for place, column in enumerate(columns, 2):
+            column.extend(numbers[place::5])
+        at = end + 1
+    return _shown(columns)
+
+
+def _shown(columns: list[array[int]]) -> list[Any]:
+    """Columns as whoever asked gets them."""
+    numpy = import_optional("numpy")
+    return [numpy.frombuffer(column, "q") if numpy else column for column in columns]

@@ -1,0 +1,1 @@
+"""Graphs: the class, lattices, families, and graphs from and to other tools."""

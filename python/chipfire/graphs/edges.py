@@ -1,0 +1,77 @@
+"""Edges in the forms in which they come: rows, columns, and views of NetworkX."""
+
+from __future__ import annotations
+
+from array import array
+from collections.abc import Hashable, Iterable, Mapping, Sequence, Set
+from typing import Any, NamedTuple
+
+from chipfire.utils import as_ints, in_order, is_of_networkx, sorted_if_possible
+
+
+class Columns(NamedTuple):
+    """Edges by columns: their tails, their heads, and how many chips each sends."""
+
+    tails: array[int]
+    heads: array[int]
+    mults: array[int]
+
+
+def edge_rows(edges: Iterable[Any], is_directed: bool) -> list[tuple[Any, ...]]:
+    """Edges (tail, head), (tail, head, mult) or (tail, head, attributes), as those of NetworkX are, all with their
+    multiplicity. A row that has no order is an edge only if it leads both ways."""
+    rows: list[tuple[Any, ...]] = []
+    for edge, row in enumerate(_given_rows(edges, is_directed)):
+        is_one = isinstance(row, Iterable) and not isinstance(row, (str, bytes, Mapping))
+        is_one = is_one and not (isinstance(row, Set) and (is_directed or len(row) > 2))
+        fields = tuple(row.tolist() if hasattr(row, "tolist") else row) if is_one else ()
+        if len(fields) not in (2, 3) or any(isinstance(it, (list, set)) for it in fields):
+            raise ValueError(f"edge {edge} is neither (tail, head) nor (tail, head, mult): {row!r}")
+        mult = fields[2] if len(fields) > 2 else 1
+        rows.append((*fields[:2], mult.get("weight", 1) if isinstance(mult, Mapping) else mult))
+    return rows
+
+
+def _given_rows(edges: Any, is_directed: bool) -> Iterable[Any]:
+    """The rows of edges. Views of NetworkX's edges have some: without the keys of a multigraph, which are no numbers of
+    chips. Those of an undirected graph are no directed edges."""
+    kind = type(edges).__name__
+    if is_of_networkx(edges) and kind.endswith(("EdgeView", "EdgeDataView")):
+        if is_directed and not kind.startswith(("Out", "In")):
+            raise TypeError(f"edges lead one way, and those of this {kind} lead both ways: see Graph.undirected")
+        if kind.endswith("EdgeView"):
+            return list(edges(data=False))
+        has_keys = getattr(edges, "keys", False) is True
+        return [(*row[:2], *row[2 + has_keys :]) for row in edges]
+    try:
+        found = in_order(edges, "edges are rows (tail, head, mult)")
+    except TypeError:
+        found = None
+    if not isinstance(found, Iterable):
+        hint = ": see from_networkx" if is_of_networkx(edges) else ": see from_edges" if hasattr(edges, "iloc") else ""
+        raise TypeError(f"edges are rows (tail, head, mult), and this is a {kind}{hint}")
+    if hasattr(edges, "toarray"):
+        raise TypeError(f"edges are rows (tail, head, mult), and this is a {kind}, as of a matrix")
+    return found
+
+
+def edge_columns(edges: Iterable[Any]) -> Columns:
+    """Rows (tail, head) or (tail, head, mult) by columns."""
+    rows = edge_rows(edges, True)
+
+    def column(place: int, what: str) -> array[int]:
+        return array("i", as_ints([row[place] for row in rows], lambda edge: f"the {what} of edge {edge}", 0, 2**31 - 1))
+
+    return Columns(column(0, "tail"), column(1, "head"), column(2, "multiplicity"))
+
+
+def names_of_ends(rows: Iterable[Sequence[Any]]) -> list[Any]:
+    """The names of the ends of edges."""
+    try:
+        names = sorted_if_possible(dict.fromkeys(name for row in rows for name in row[:2]))
+    except TypeError:
+        wrong = next(name for row in rows for name in row[:2] if not isinstance(name, Hashable))
+        raise TypeError(f"an end of an edge is no name: {wrong!r}") from None
+    if lacking := [name for name in names if repr(name) in ("None", "nan", "NaT", "<NA>")]:
+        raise ValueError(f"an edge of the table lacks an end, which is {lacking[0]!r} there")
+    return names

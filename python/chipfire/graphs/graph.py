@@ -1,0 +1,366 @@
+"""The class of graphs: directed multigraphs with a sink."""
+
+from __future__ import annotations
+
+import contextlib
+import copy
+import functools
+import itertools
+import json
+import operator
+import os
+import threading
+import weakref
+from array import array
+from collections import Counter, OrderedDict
+from collections.abc import Hashable, Iterable, Iterator, Mapping, Sequence, Set
+from typing import Any
+
+from chipfire.backend.process import Kept
+from chipfire.configurations.configuration import Chips, Configuration, Sums
+from chipfire.graphs.edges import Columns, edge_columns, edge_rows, names_of_ends
+from chipfire.graphs.named import parts_of_named
+from chipfire.utils import as_int, as_ints, FileName, in_order, is_of_networkx, MAX_LARGE_EDGES, MAX_LARGE_VERTICES, MAX_MULT, with_unit
+
+#: How many edges become text at a time.
+_PART = 2**16
+#: The files of the graphs that were asked about last, by the graph's `id`, and how many of them are kept.
+_FILES: OrderedDict[int, tuple[weakref.ref[Graph], Kept]] = OrderedDict()
+_MOST_FILES = 64
+_FILES_LOCK = threading.Lock()
+
+
+class Graph:
+    """A directed multigraph with a sink: the sandpile graph.
+
+    vertices  how many there are; they have the numbers from 0 on
+    sink      the number of the vertex that never fires
+    edges     rows (tail, head) or (tail, head, mult); a firing of the tail sends `mult` chips, or one, to the head
+    names     what the vertices are called in dicts, by number; their numbers, if none are given
+    shape     how many rows and columns a picture of it has, or None; `squares` has the place of each vertex in them,
+              by rows; a sink that is the last vertex has none
+    from_sink edges out of the sink, rows (head, mult) that only `laplacian` shows; None: one back for each edge into it
+    loops     how many chips each vertex needs to fire beyond those that it sends, and keeps; none, if it is empty
+
+    A graph is never changed. The program says whether chipfire takes it: `check(graph)`.
+    """
+
+    vertices: int
+    sink: int
+    columns: Columns
+    names: Sequence[Hashable]
+    squares: Sequence[int]
+    from_sink: Sequence[tuple[int, int]] | None
+    loops: Sequence[int]
+    answers: dict[Any, Any]  # (what was found out about it)
+
+    def __init__(
+        self, vertices: int, sink: int, edges: Iterable[Sequence[int]], names: Sequence[Hashable] = (),
+        shape: tuple[int, int] | None = None, squares: Sequence[int] | None = None,
+        from_sink: Sequence[tuple[int, int]] | None = (), loops: Sequence[int] = (),
+    ) -> None:
+        vertices, sink, names = as_int(vertices, "the number of vertices"), as_int(sink, "the sink"), tuple(names)
+        if names and len(names) != vertices:
+            raise ValueError(f"there are {len(names)} names, and the graph has {vertices} vertices")
+        if len({*names}) < len(names):
+            raise ValueError(f"two vertices are called {Counter(names).most_common(1)[0][0]!r}")
+        held = [count * (at != sink) for at, count in enumerate(as_ints(loops, lambda at: f"the loops of vertex {at}"))]
+        if held and len(held) != vertices:
+            raise ValueError(f"there are loops of {len(held)} vertices, and the graph has {vertices}")
+        vars(self).update(
+            vertices=vertices, sink=sink, columns=edges if isinstance(edges, Columns) else edge_columns(edges),
+            names=names or range(vertices), answers={}, **({} if shape is None else {"shape": shape}),
+            squares=range(vertices - (sink == vertices - 1)) if squares is None else squares, from_sink=from_sink,
+            loops=held if any(held) else (),
+        )
+
+    def __setattr__(self, name: str, value: Any) -> None:
+        raise AttributeError("a graph is never changed: make another one")
+
+    def __eq__(self, other: object) -> bool:
+        if not isinstance(other, Graph):
+            return False
+        return all(getattr(self, it) == getattr(other, it) for it in ("vertices", "sink", "names", "columns", "loops"))
+
+    def __hash__(self) -> int:
+        return hash((self.vertices, self.sink, *(column.tobytes() for column in self.columns)))
+
+    def __repr__(self) -> str:
+        sink = repr(self.names[self.sink]) if self.sink < self.vertices else self.sink
+        return f"<Graph of {self.vertices} vertices, {len(self.columns.tails)} edges, sink {sink}>"
+
+    @functools.cached_property
+    def edges(self) -> tuple[tuple[int, int, int], ...]:
+        """The edges as rows (tail, head, mult)."""
+        return tuple(zip(*self.columns))
+
+    @functools.cached_property
+    def long_columns(self) -> Columns:
+        """The edges by columns of 64-bit numbers, as the library takes them."""
+        self.refuse_loops()
+        return Columns(*(array("Q", column) for column in self.columns))
+
+    @functools.cached_property
+    def shape(self) -> tuple[int, int] | None:
+        """The shape of a grid that was not made as one; a single line of vertices is a row."""
+        tails, heads, _ = self.columns
+        width = max((head for tail, head in zip(tails, heads) if tail == 0 and head != self.sink), default=1)
+        squares = self.vertices - 1
+        width = squares if width == 1 else width
+        if squares < 1 or self.sink != squares or squares % width:
+            return None
+        inner = ((tail, head) for tail, head in zip(tails, heads) if head != squares)
+        is_grid = all(abs(u - v) == width or abs(u - v) == 1 and u // width == v // width for u, v in inner)
+        return (squares // width, width) if is_grid else None
+
+    @classmethod
+    def undirected(cls, edges: Iterable[Sequence[Any]], sink: Any) -> Graph:
+        """The graph of edges (name, name) or (name, name, mult), each of which is one edge each way; or of the edges of
+        a graph of NetworkX, each with its "weight" if that is among what its row has.
+        The order of the names, or else that in which they come, gives the numbers. Sinks are as in `from_networkx`."""
+        rows = edge_rows(edges, False)
+        return Graph(**parts_of_named(names_of_ends(rows), sink, rows, False))
+
+    @classmethod
+    def read(cls, file: FileName) -> Graph:
+        """The graph of a graph file. `check(file)` says what exactly is wrong with one that is none."""
+        with open(file, encoding="utf-8") as text:
+            value = json.load(text)
+        wanted = ["edges", "sink", "version", "vertices"]
+        if not isinstance(value, dict) or sorted(value) != wanted or value["version"] != 1:
+            raise ValueError(f"{os.fspath(file)} is no graph file of version 1")
+        return cls(value["vertices"], value["sink"], value["edges"])
+
+    def text(self) -> str:
+        """The text of the graph file, which has no names."""
+        return b"".join(self._parts()).decode()
+
+    def write(self, file: FileName) -> None:
+        """Writes the graph file."""
+        with open(file, "wb") as out:
+            out.writelines(self._parts())
+
+    @property
+    def kept(self) -> Kept:
+        """The graph file that the program reads. It stays as long as this graph, or until 64 others are asked about."""
+        key = id(self)
+        with _FILES_LOCK:
+            if key not in _FILES:
+                _FILES[key] = weakref.ref(self, lambda _: _FILES.pop(key, None)), Kept(self._parts())
+            _FILES.move_to_end(key)
+            if len(_FILES) > _MOST_FILES:
+                _FILES.popitem(last=False)  # (whoever plays on that graph has the file as long as that takes)
+            return _FILES[key][1]
+
+    def _parts(self) -> Iterator[bytes]:
+        """The text of the graph file in parts."""
+        self.refuse_loops()
+        yield b'{"edges":['
+        for start in range(0, len(self.columns.tails), _PART):
+            part = [column[start : start + _PART] for column in self.columns]
+            numbers = array("i", bytes(4)) * (3 * len(part[0]))
+            numbers[::3], numbers[1::3], numbers[2::3] = part
+            text = ("[%d,%d,%d]," * len(part[0]) % tuple(numbers)).encode()
+            yield b"," * (start > 0) + text[:-1]
+        yield f'],"sink":{self.sink},"version":1,"vertices":{self.vertices}}}\n'.encode()
+
+    def number(self, name: Hashable) -> int:
+        """The number of the vertex with this name or, without names, on this square (row, column); else a KeyError."""
+        try:
+            return self._numbers[name]
+        except (KeyError, TypeError):
+            hint = ""
+            if isinstance(name, tuple) and len(name) == 2 and isinstance(self.names, range) and self.shape:
+                hint, (height, width) = f": a square of it is (row, column), below {self.shape}", self.shape
+                with contextlib.suppress(ValueError):  # (which arrays raise)
+                    if name[0] in range(height) and name[1] in range(width):
+                        square = width * int(name[0]) + int(name[1])
+                        if square in self._by_square:
+                            return self._by_square[square]
+            raise KeyError(f"the graph has no vertex {name!r}{hint}") from None
+
+    @functools.cached_property
+    def _by_square(self) -> Sequence[int] | dict[int, int]:
+        """The vertices by their squares."""
+        return self.squares if isinstance(self.squares, range) else dict(zip(self.squares, itertools.count()))
+
+    @functools.cached_property
+    def _numbers(self) -> dict[Hashable, int]:
+        return dict(zip(self.names, itertools.count()))
+
+    def degrees(self) -> tuple[int, ...]:
+        """How many chips each vertex sends away when it fires, by numbers; 0 for the sink."""
+        return self._degrees
+
+    @functools.cached_property
+    def _degrees(self) -> tuple[int, ...]:
+        found = [0] * self.vertices
+        for tail, mult in zip(self.columns.tails, self.columns.mults):
+            found[tail] += mult
+        return tuple(found)
+
+    def position_after(self, chips: Any, counts: Any) -> list[int]:
+        """The chips of each vertex after these counts of firings, legal or not; counts below 0 take firings back.
+        Both come in the forms of chips."""
+        chips, counts = self.numbers(chips), self.numbers(counts, of="firings")
+        found = [there - count * degree for there, count, degree in zip(chips, counts, self.degrees())]
+        for tail, head, mult in zip(*self.columns):
+            found[head] += mult * counts[tail]
+        return found
+
+    def outs(self, vertex: int) -> list[int]:
+        """The numbers of the edges out of a vertex, ascending."""
+        return [edge for edge, tail in enumerate(self.columns.tails) if tail == vertex]
+
+    def ins(self, vertex: int) -> list[int]:
+        """The numbers of the edges into a vertex, ascending, without its root edge."""
+        return [edge for edge, head in enumerate(self.columns.heads) if head == vertex]
+
+    def root_edge(self, vertex: int) -> int:
+        """The number of the edge over which a vertex gets the chips that it starts with, in schedules and traces."""
+        return len(self.columns.tails) + vertex
+
+    def is_like(self, other: Graph) -> bool:
+        """Whether another graph is the same but for the order of its edges and the names of its vertices."""
+        is_same = (self.vertices, self.sink, self.loops) == (other.vertices, other.sink, other.loops)
+        return is_same and (self.columns == other.columns or sorted(self.edges) == sorted(other.edges))
+
+    @functools.cached_property
+    def wrong(self) -> str:
+        """What makes it no graph to play on, by the names of its vertices; an empty text if it is one."""
+        tails, heads, _ = self.columns
+        sizes = (self.vertices, MAX_LARGE_VERTICES, "vertices"), (len(tails), MAX_LARGE_EDGES, "edges")
+        for count, most, word in sizes:
+            if count > most:
+                return f"the graph has {count} {word}, and {most} at most can be played on"
+        if self.sink >= self.vertices:
+            return f"the sink is {self.sink}, and there are {self.vertices} vertices"
+        if max(max(tails, default=0), max(heads, default=0)) >= self.vertices:
+            edge = next(edge for edge, ends in enumerate(zip(tails, heads)) if max(ends) >= self.vertices)
+            return f"edge {edge} leads from {tails[edge]} to {heads[edge]}, and there are {self.vertices} vertices"
+        into: list[list[int]] = [[] for _ in range(self.vertices)]
+        for edge, (tail, head, mult) in enumerate(zip(*self.columns)):
+            if not 1 <= mult <= MAX_MULT or tail in (head, self.sink):
+                sends = f"sends {mult} chips, and 1 to {MAX_MULT} can be sent"
+                why = "is a loop" if tail == head else "leaves the sink"
+                ends = f"from {self.names[tail]!r} to {self.names[head]!r}"
+                return f"edge {edge} {ends} {why if 1 <= mult <= MAX_MULT else sends}"
+            into[head].append(tail)
+        reached, waiting = {self.sink}, [self.sink]
+        for vertex in waiting:
+            new = {*into[vertex]} - reached
+            reached |= new
+            waiting += new
+        lost = [repr(name) for vertex, name in enumerate(self.names) if vertex not in reached]
+        return f"no walk leads to the sink from {len(lost)} of the vertices: {', '.join(lost[:5])}" if lost else ""
+
+    def require(self) -> None:
+        """Refuses what is no graph to play on, if the program is not asked."""
+        if self.wrong:
+            raise ValueError(self.wrong)
+
+    def refuse_loops(self) -> None:
+        """Refuses a graph with loops, if only one without can be taken."""
+        if self.loops:
+            at, count = next((at, count) for at, count in enumerate(self.loops) if count)
+            told = f"vertex {self.names[at]!r} has {with_unit(count, 'loop')}"
+            raise ValueError(f"{told}: this takes a graph without loops")
+
+    @property
+    def loop_free(self) -> Graph:
+        """The same graph without loops."""
+        if self.loops and "loop_free" not in self.answers:
+            self.answers["loop_free"] = copy.copy(self)
+            vars(self.answers["loop_free"]).update(loops=(), answers={})
+        return self.answers.get("loop_free", self)
+
+    def without_loops(self, chips: Sequence[int]) -> Sequence[int]:
+        """The chips of one game after another, as plays of `loop_free` begin: less by the loops. Fewer are refused."""
+        found = [*map(operator.sub, chips, itertools.cycle(self.loops))] if self.loops else chips
+        for at, (left, loops) in enumerate(zip(found, itertools.cycle(self.loops))):
+            if left < 0 < loops:
+                name, has = self.names[at % self.vertices], with_unit(chips[at], "chip")
+                told = f"vertex {name!r} has {has} and {with_unit(loops, 'loop')}"
+                raise ValueError(f"{told}: nothing is played on fewer chips than loops")
+        return found
+
+    def with_loops(self, chips: Sequence[int]) -> array[int]:
+        """The chips of one game after another, of which plays of `loop_free` leave some: more by the loops."""
+        return array("Q", map(operator.add, chips, itertools.cycle(self.loops)) if self.loops else chips)
+
+    def max_stable(self) -> Configuration:
+        """The maximal stable configuration: each vertex but the sink has one chip less than it needs to fire."""
+        self.require()
+        needs = map(operator.add, self.degrees(), self.loops) if self.loops else self.degrees()
+        return Configuration(self, [count - 1 for count in needs])
+
+    def chips(self, chips: Chips) -> tuple[int, ...]:
+        """Chips as one number for each vertex, 0 or more.
+
+        They come by names from what has items, as dicts and Series of pandas, and from a configuration; as an array of
+        the graph's shape, or rows of one; as a sequence with a number for each vertex, or for each but the sink; as one
+        number for each but the sink; or from a report. Configurations and reports of another graph are refused."""
+        return self.numbers(chips, least=0)
+
+    def numbers(
+        self, values: Any, least: int | None = None, of: str = "chips", *, with_sink: bool = False
+    ) -> tuple[int, ...]:
+        """The same, of `least` or more if that is said; or numbers of something else, as of "firings". If they are
+        wanted `with_sink`, a sequence has one for the sink too, and one number is for all vertices."""
+        is_report = hasattr(values, "prior") and hasattr(values, "chips")
+        if is_report or isinstance(values, Sums):
+            if values.graph is not None and not values.graph.is_like(self):
+                kind = "report" if is_report else type(values).__name__.lower()
+                raise ValueError(f"the {kind} is one of another graph")
+            if is_report or values.graph.names == self.names:
+                values = values.chips if is_report else values.numbers
+        is_named = hasattr(values, "items") and not any(hasattr(values, it) for it in ("columns", "toarray"))
+        is_named = is_named and not is_of_networkx(values)
+        rows = self._by_names(values) if is_named else self._in_order(values, of, with_sink)
+        return tuple(as_ints(rows, lambda vertex: f"the number of {of} of vertex {self.names[vertex]!r}", least))
+
+    def _by_names(self, values: Mapping[Hashable, Any]) -> list[Any]:
+        found: dict[int, Any] = {}
+        for name, count in values.items():
+            vertex = self.number(name)
+            if vertex in found:
+                raise ValueError(f"vertex {name!r} is named twice")
+            found[vertex] = count
+        return [found.get(vertex, 0) for vertex in range(self.vertices)]
+
+    def _in_order(self, values: Any, of: str, with_sink: bool) -> list[Any]:
+        wanted = f"{of} are a dict by names, or numbers in an order"
+        found = in_order(values, wanted)
+        if isinstance(found, Set):
+            raise TypeError(f"{wanted}, and no {type(values).__name__}: {values!r}")
+        is_one, inner = not isinstance(found, Iterable), self.vertices - (not with_sink)
+        rows = [found] * inner if is_one else list(found)
+        if not {*map(type, rows)} <= {int, float}:
+            rows = [in_order(row, wanted) if hasattr(row, "tolist") or hasattr(row, "columns") else row for row in rows]
+        # (an array of one direction, and what has fields of its own, has no rows)
+        may_have = not is_one and getattr(values, "ndim", 2) > 1 and not hasattr(values, "_fields")
+        if may_have and rows and all(isinstance(row, (list, tuple, range, array, Iterator)) for row in rows):
+            return self._by_squares([list(row) for row in rows], of, with_sink)
+        if len(rows) == self.vertices - 1 and not with_sink:
+            rows.insert(self.sink, 0)
+        if len(rows) != self.vertices:
+            if with_sink and len(rows) == self.vertices - 1:
+                raise ValueError(f"a divisor has chips on the sink too, and there are {len(rows)} numbers")
+            raise ValueError(f"there are {of} for {len(rows)} vertices, and the graph has {self.vertices}")
+        return rows
+
+    def _by_squares(self, rows: list[list[Any]], of: str, with_sink: bool) -> list[Any]:
+        """What stands in rows of the graph's shape, by numbers of vertices. The sink's square counts for nothing,
+        unless its number is wanted too."""
+        if self.shape is None or {*map(len, rows)} != {self.shape[1]} or len(rows) != self.shape[0]:
+            widths = " or ".join(map(str, sorted({*map(len, rows)})))
+            raise ValueError(f"the {of} stand in {len(rows)} rows of {widths}, and the graph has shape {self.shape}")
+        flat = list(itertools.chain(*rows))
+        if any(isinstance(it, (list, tuple)) for it in flat):
+            raise ValueError(f"the {of} stand in rows of rows, and the graph has shape {self.shape}")
+        if len(self.squares) < len(flat) and any(flat[it] for it in {*range(len(flat))}.difference(self.squares)):
+            raise ValueError(f"there are {of} on a square that is no vertex of the graph")
+        found = [flat[square] for square in self.squares]
+        if self.sink < len(found) and not with_sink:
+            found[self.sink] = 0
+        return found + [0] * (self.vertices - len(found))

@@ -1,0 +1,1 @@
+"""The laboratory of termination detectors: models, the explorer, pages, logs and judging."""

@@ -1,0 +1,316 @@
+"""Logs of any distributed program: the verdicts on their claims that all is over, and logs of other forms.
+
+A log is rows (process, kind, channel), those of a process in its order; docs/FORMATS.md has the kinds.
+"""
+
+from __future__ import annotations
+
+import csv
+import itertools
+import json
+import os
+import re
+from collections import defaultdict
+from collections.abc import Callable, Hashable, Iterable, Iterator, Mapping, Sequence
+from dataclasses import dataclass
+from typing import Any, NamedTuple, Union
+
+from chipfire.backend.process import ask, Fault, Kept
+from chipfire.utils import FILE, FileName, rows_text, sorted_if_possible
+
+_HEADER = ("process", "kind", "channel")
+_SENDS, _GETS = ("send", "tell"), ("receive", "hear")
+_KINDS = (*_SENDS, *_GETS, "passive", "active", "over")
+#: How an answer of the program begins, and its fault of rows that fit together in no order.
+_BEGINS, _STUCK = ("over ", "end "), 70
+Row = tuple[Any, Any, Any]
+#: The key of a value in an object, its place in a list, or a function that finds the value there.
+Key = Union[str, int, Callable[[Any], Any]]
+
+
+class LogClaim(NamedTuple):
+    """A claim: row `row` of a process, from 0. It is early if something is `left`, and else right. `past` has how many
+    rows of each process are before an early one, if that was asked for."""
+
+    process: Hashable
+    row: int
+    left: str | None
+    past: dict[Hashable, int]
+
+
+@dataclass(frozen=True)
+class JudgedLog:
+    """What the program says of a log: its claims, by process and row; "claimed", "missed", "unclaimed", or "open: "
+    with what is left, as the end; and the first row of each process that was left out."""
+
+    claims: tuple[LogClaim, ...]
+    end: str
+    cut: Mapping[Hashable, int]
+
+    @property
+    def is_right(self) -> bool | None:
+        """Whether all claims are right; None if there is none."""
+        return all(claim.left is None for claim in self.claims) if self.claims else None
+
+    def __str__(self) -> str:
+        lines = [f"cut {process} {row}" for process, row in self.cut.items()]
+        for process, row, left, past in self.claims:
+            lines.append(f"over {process} {row} " + ("right" if left is None else f"early: {left}"))
+            lines += [f"past {other} {count}" for other, count in past.items()]
+        return "\n".join([*lines, f"end {self.end}"])
+
+
+def judge_log(
+    log: Iterable[Iterable[Any]] | FileName, *, past: bool = False, reactive: bool = False, cut: bool = False,
+    program: FileName | None = None,
+) -> JudgedLog:
+    """Judges the claims in a log of any distributed program that its computation is over, by the program's verdicts.
+
+    The log is rows (process, kind, channel) with any hashable names, or a file of such rows with numbers. The place of
+    a `Fault` is a row, or a process and its row, as they were given.
+
+    past      tells how many rows of each process are before an early claim, in the order with the fewest
+    reactive  for processes that do not log when they are passive: one that gets a message is active until its last
+              `send` before it gets the next, and one that sends before it gets any begins active. If it is active for
+              longer, this can acquit: in a trial 2 of 90 early claims were called right
+    cut       for logs that are cut off: if rows fit together in no order, those that wait at greatest progress are left
+              out with all behind them. The verdicts on the claims before them do not change, as tests on random logs
+              have it; that is not proved
+    """
+    options, gone = {"past": bool(past)}, dict[Hashable, int]()
+    if isinstance(log, FILE) and not (reactive or cut):
+        return _judged(ask(program, "judge", [("log", log)], options, begins=_BEGINS), None, gone)
+    rows = _Rows(_read(log, program) if isinstance(log, FILE) else log, reactive)
+    while True:
+        try:
+            return _judged(ask(program, "judge", [("log", rows.kept())], options, begins=_BEGINS), rows, gone)
+        except Fault as fault:
+            told = rows.fault(fault)
+            if not cut or told.number != _STUCK:
+                raise told from None
+            name, gone[name] = told.place
+            rows.rows = [it for it in rows.rows if it[1][0] != name or it[0] < rows.places[name][fault.place[1]]]
+
+
+def _read(file: FileName, program: FileName | None) -> list[Row]:
+    """The rows of a file, if the program finds no fault in their fields, whatever they mean together."""
+    try:
+        with open(file, encoding="utf-8-sig", errors="replace", newline="") as text:
+            header, *rows = filter(None, csv.reader(text))
+    except (OSError, ValueError, csv.Error):
+        ask(program, "judge", [("log", file)], begins=_BEGINS)
+        raise
+    fields = [[*row[:1], *("passive" if kind in _KINDS else kind for kind in row[1:2]), *row[2:]] for row in rows]
+    ask(program, "judge", [("log", Kept([rows_text(header, fields).encode()]))], begins=_BEGINS)
+    return [(int(process), kind, int(channel)) for process, kind, channel in rows]
+
+
+def _judged(text: str, rows: _Rows | None, gone: Mapping[Hashable, int]) -> JudgedLog:
+    """What the program wrote, with the names of rows in place of numbers, if it did not read them in a file."""
+    processes, channels = (list(rows.processes), list(rows.channels)) if rows else (range(2**22), range(2**24))
+    names: dict[str, Sequence[Any]] = {"process": processes, "channel": channels}
+
+    def named(words: str) -> str:
+        return re.sub("(process|channel) ([0-9]+)", lambda it: f"{it[1]} {names[it[1]][int(it[2])]}", words)
+
+    *lines, end = text.splitlines()
+    claims: list[LogClaim] = []
+    for word, process, number, *said in (line.split(" ", 3) for line in lines):
+        name, count = names["process"][int(process)], int(number)
+        count = rows.own(name, count) if rows else count
+        if word == "over":
+            claims.append(LogClaim(name, count, named(said[0].partition(": ")[2]) or None, {}))
+        elif count:
+            claims[-1].past[name] = count
+    return JudgedLog(tuple(claims), named(end.partition(" ")[2]), gone)
+
+
+class _Rows:
+    """Rows with any names. Row `i` of those that were given has place 2i, one that is put in an odd one."""
+
+    def __init__(self, log: Iterable[Any], is_reactive: bool) -> None:
+        self.given = list(log)
+        rows = [tuple(it) if isinstance(it, Iterable) and not isinstance(it, (str, bytes)) else () for it in self.given]
+        self.rows = [(2 * index, row if len(row) == len(_HEADER) else ()) for index, row in enumerate(rows)]
+        if is_reactive:
+            self.rows = sorted([*self.rows, *_activity(self.rows)], key=lambda it: it[0])
+        processes = dict.fromkeys(row[0] for _, row in self.rows if row)
+        channels = dict.fromkeys(row[2] for _, row in self.rows if row and row[1] in _SENDS + _GETS)
+        #: The numbers of names.
+        self.processes, self.channels = (dict(zip(sorted_if_possible(it), itertools.count())) for it in (processes, channels))
+        self.places: dict[Hashable, list[int]] = defaultdict(list)
+        for place, row in self.rows:
+            self.places[row[0] if row else None].append(place)
+
+    def kept(self) -> Kept:
+        """The file that the program reads; a row that is none has one field there."""
+        rows = [
+            (self.processes[row[0]], row[1], self.channels[row[2]] if row[1] in _SENDS + _GETS else 0) if row else [""]
+            for _, row in self.rows
+        ]
+        return Kept([rows_text(_HEADER, rows).encode(errors="replace")])
+
+    def own(self, process: Hashable, count: int) -> int:
+        """How many of the first rows of a process were given."""
+        return sum(place % 2 == 0 for place in self.places[process][:count])
+
+    def fault(self, told: Fault) -> Fault:
+        """A fault of the program, by the rows and the names that were given."""
+        place: tuple[Any, ...] = told.place
+        if told.number == _STUCK:
+            name = list(self.processes)[place[0]]
+            index, place = self.places[name][place[1]] // 2, (name, self.own(name, place[1]))
+        elif 24 <= told.number < 34 and place:  # (the place is a row)
+            index, place = self.rows[place[0]][0] // 2, (self.rows[place[0]][0] // 2,)
+        else:
+            return told
+        words = f"row {index} of the log is {self.given[index]!r}"
+        return Fault(told.number, told.name, place, told.explanation, told.status, words)
+
+
+def _activity(rows: Iterable[tuple[int, Sequence[Any]]]) -> Iterator[tuple[int, Row]]:
+    """What is put in: `active` before a first row that sends, `passive` behind the last sent before the next is got."""
+    first, last = dict[Hashable, int](), dict[Hashable, int]()
+    for place, (process, kind, _) in (it for it in rows if it[1]):
+        begin = first.setdefault(process, place)
+        if kind == "receive" and process in last:
+            yield last[process] + 1, (process, "passive", 0)
+        if kind == "send" and begin >= 0:
+            yield begin - 1, (process, "active", 0)
+        if kind in ("send", "receive", "active"):
+            first[process], last[process] = -1, place
+        elif kind == "passive":
+            last.pop(process, None)
+    for process, place in last.items():
+        yield place + 1, (process, "passive", 0)
+
+
+def read_json_lines(
+    files: Iterable[FileName] | FileName, *, process: Key | None = "process", kind: Key = "kind",
+    channel: Key = "channel",
+) -> list[Row]:
+    """The rows of logs of JSON lines, of one file or several, for `judge_log`.
+
+    Each argument is a key of the object in a line, or a function that finds its value there; lists become tuples. If
+    `process` is None, each file is a process of its name. A line whose kind is None is passed over. What is wrong is a
+    ValueError that names file and line.
+    """
+    rows: list[Row] = []
+    for file in [files] if isinstance(files, FILE) else files:
+        with open(file, "rb") as lines:
+            for number, line in ((it, line) for it, line in enumerate(lines, 1) if line.strip()):
+                try:
+                    its = json.loads(line)
+                    if said := _known(_value(its, kind)):
+                        name = os.fspath(file) if process is None else _value(its, process)
+                        rows.append((name, said, _value(its, channel) if said in _SENDS + _GETS else 0))
+                        hash(rows[-1])
+                except Exception as error:  # (whatever a function does)
+                    told = f"{os.fspath(file)}: line {number}: {type(error).__name__}: {error}"
+                    raise ValueError(told) from error
+    return rows
+
+
+def _value(of: Any, key: Key) -> Any:
+    value = key(of) if callable(key) else of[key]
+    return tuple(_value(value, it) for it in range(len(value))) if isinstance(value, (list, tuple)) else value
+
+
+def _known(kind: Any) -> Any:
+    if kind is not None and kind not in _KINDS:
+        raise ValueError(f"there is no kind {kind!r}, but {', '.join(_KINDS)}")
+    return kind
+
+
+class _Event(NamedTuple):
+    """An event of a log with clocks. If its text does not name its message, that is the host and its count there."""
+
+    line: int
+    host: str
+    clock: Mapping[str, int]
+    kind: str | None
+    message: Hashable
+
+
+def read_shiviz(
+    log: FileName, kind_of: Callable[[str], str | None], *, message_of: Callable[[str], Hashable] = lambda _: None,
+    expression: str = r"(?<host>\S*) (?<clock>{.*})\n(?<event>.*)", gaps: bool = False,
+) -> list[Row]:
+    r"""The rows of a log of GoVector or ShiViz, for `judge_log`: of its text, or of the file of that name.
+
+    kind_of     the kind of an event by its text, or None if it is passed over
+    message_of  the message that an event sends or gets, by its text, or None if the clocks tell. They cannot name the
+                sender of a message that brings nothing new
+    expression  as ShiViz takes it; if not said, that for GoVector. Where the event stands above its clock it is
+                `(?<event>.*)\n(?<host>\S*) (?<clock>{.*})`
+    gaps        takes a log without some of the events that its clocks count, as a logger with levels writes it. If a
+                `send`, an `active`, or a `tell` that was heard is not there, an early claim may be called right
+
+    A message has a channel for each process that gets it; no others are seen. A ValueError names a wrong line, and one
+    whose clock counts an event that is not there.
+    """
+    events = sorted(_events(log, kind_of, message_of, expression), key=lambda it: sum(it.clock.values()))
+    if not gaps:
+        _require_all(events)
+    places: dict[tuple[str, int], _Event] = {}
+    clocks: dict[str, Mapping[str, int]] = defaultdict(dict)
+    hosts: dict[tuple[bool, Hashable], dict[str | None, None]] = defaultdict(dict)
+    for number, it in enumerate(events):
+        if it.clock[it.host] <= clocks[it.host].get(it.host, 0):
+            raise ValueError(f"line {it.line}: the clock is no further than in an event before it")
+        if it.kind in _GETS:
+            message = _sent(it, clocks[it.host], places) if it.message is None else it.message
+            events[number] = it = it._replace(message=message)
+            hosts[it.kind == "hear", message][it.host] = None
+        clocks[it.host], places[it.host, it.clock[it.host]] = it.clock, it
+    rows: list[Row] = []
+    for it in events:
+        its = hosts[it.kind == "tell", it.message] or {None: None} if it.kind in _SENDS else {it.host: None}
+        rows += [(it.host, it.kind, (it.message, host)) for host in its if it.kind]
+    return rows
+
+
+def _require_all(events: Iterable[_Event]) -> None:
+    """Refuses events without one that a clock counts: that of a process counts its own, from 1."""
+    there = {(it.host, it.clock[it.host]) for it in events}
+    for it in events:
+        for host, count in it.clock.items():
+            last = count - 1 if host == it.host else count  # (the one before it, of its own)
+            if last > 0 and (host, last) not in there:
+                told = f"the clock counts event {last} of {host!r}, which is not there"
+                raise ValueError(f"line {it.line}: {told}; gaps=True takes the log as it is")
+
+
+def _sent(it: _Event, known: Mapping[str, int], places: Mapping[tuple[str, int], _Event]) -> Hashable:
+    """The message that an event gets: the one of its news that knows of all others sent it."""
+    news = [(host, count) for host, count in it.clock.items() if host != it.host and count > known.get(host, 0)]
+    for sender in filter(None, map(places.get, news)):
+        if sender.kind in _SENDS and all(sender.clock.get(host, 0) >= count for host, count in news):
+            return sender.message
+    raise ValueError(f"line {it.line}: the clock does not tell who sent the message: give message_of")
+
+
+def _events(
+    log: FileName, kind_of: Callable[[str], str | None], message_of: Callable[[str], Hashable], expression: str
+) -> Iterator[_Event]:
+    """The events of a log, at whose head its expression may stand."""
+    pattern, text = re.compile(re.sub(r"\(\?<(?![=!])", "(?P<", expression)), str(log).replace("\r\n", "\n")
+    if text and "\n" not in text:
+        with open(log, encoding="utf-8-sig") as file:
+            text = file.read()
+    for line, words in enumerate(pattern.sub(lambda it: "\n" * it[0].count("\n"), text).split("\n"), 1):
+        if words.strip() and not words.startswith("(?<"):
+            raise ValueError(f"line {line}: {expression} does not read {words!r}")
+    line, begin = 1, 0
+    for match in pattern.finditer(text):
+        line, begin = line + text.count("\n", begin, match.start()), match.start()
+        host, said = match["host"], match["event"].strip()
+        try:
+            clock, kind = json.loads(match["clock"]), _known(kind_of(said))
+            if not isinstance(clock, dict) or not {int} >= {*map(type, clock.values())} or clock.get(host, 0) < 1:
+                raise ValueError(f"{clock} is no clock of {host!r}")
+            message, = {message_of(said) if kind in _SENDS + _GETS else None}  # (a set takes what can be a name)
+        except Exception as error:  # (whatever a function does)
+            raise ValueError(f"line {line}: {type(error).__name__}: {error}") from error
+        place = None if kind in _GETS else (host, clock[host])
+        yield _Event(line, host, clock, kind, place if message is None else message)

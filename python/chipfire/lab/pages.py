@@ -1,0 +1,323 @@
+"""A page that shows a run of the machine event by event: one file of HTML, which asks for nothing else.
+
+Replies and books are the program's, but for what `play` played on the model alone. What stands where is the model's,
+and so are the events of rounds and of recorded runs that nobody wrote down: a `Ledger` compares each reply, the books
+after each event, and the report at the end. The page simulates nothing: it gets the facts that each event changed.
+"""
+
+from __future__ import annotations
+
+import html
+import itertools
+import json
+import string
+from collections import deque
+from collections.abc import Collection, Iterable, Iterator, Mapping, Sequence
+from dataclasses import replace
+from typing import Any
+
+from chipfire.backend.commands import AnyGraph, AnyProgram, known_chips, known_graph, replay, simulate
+from chipfire.configurations.configuration import Chips
+from chipfire.lab.detectors import known_detector
+from chipfire.lab.layout import places_of, Point
+from chipfire.lab.ledger import Disagreement, Ledger, ModelLedger
+from chipfire.lab.machine import Event, read_trace, Reply, Schedule, Setting, Simulation, TraceRow, WORDS
+from chipfire.lab.model import Core
+from chipfire.lab.schedules import Detector, Game, is_early, opened, Play, played
+from chipfire.lab.sentences import Sentences
+from chipfire.utils import FILE, FileName, MAX_LIMIT, package_text, PAGE_POLICY, with_unit, write_text
+
+#: The sizes of rings that are tried for a trace, which does not tell its own.
+RINGS = (1, 2, 4, 8, 16, 32, 64)
+#: How many rows of a schedule or a trace a page shows at most, and how many events of rounds.
+MOST_ROWS = 10_000
+_SAYS: dict[str, str] = WORDS["pages"]
+
+
+def page(
+    simulation: Simulation | Play, file: FileName, *, title: str = "A run of chipfire",
+    positions: Mapping[Any, Point] | None = None, program: AnyProgram = None,
+) -> None:
+    """Writes a page on which a run can be watched, event by event.
+
+    simulation  what `simulate` or `recorded` answered, of at most 10,000 rows; the program is asked once more, with
+                books, and the events of rounds are spelled out; or what `play` answered, for which nothing is asked
+    positions   where the vertices stand, by names: (to the right, down); else a grid is drawn as one, and other graphs
+                by the distances of their vertices, the same graph always alike
+    program     the program to ask, if not the one that is found"""
+    write_text(file, page_text(simulation, title=title, positions=positions, program=program))
+
+
+def page_text(
+    simulation: Simulation | Play, *, title: str = "A run of chipfire", positions: Mapping[Any, Point] | None = None,
+    program: AnyProgram = None,
+) -> str:
+    """The text of the page that `page` writes."""
+    if isinstance(simulation, Play) or not simulation.made_up:  # (the rows of a recorded run are counted already)
+        refuse_more(simulation.schedule)
+    if isinstance(simulation, Play):
+        words = Words(simulation.game)
+        data = model_data(simulation, words, positions) | {"words": list(words.numbers)}
+        return filled(title, data, model_parts(simulation), "run-model.html", "drawing.html")
+    told = spelled_out(simulation, program)
+    ledger, words = Ledger(told.game), Words(told.game)
+    steps = [words.step(ledger, *row) for row in compared(told, ledger)]
+    ledger.close(told.report)
+    for index, note in told.notes.items():
+        steps[index]["note"] = note
+    parts = {"events": with_unit(len(steps), "event"), "made_up": f"<p>{html.escape(told.made_up)}</p>"}
+    parts["end"] = _SAYS["report" if told.report else "no report"]
+    data = page_data(told, positions)
+    data |= {"steps": steps, "words": list(words.numbers), "end": {"text": _end(told, ledger), "isWrong": False}}
+    return filled(title, data, parts, "run-proved.html", "drawing.html")
+
+
+def model_data(told: Play, words: Words, positions: Mapping[Any, Point] | None) -> dict[str, Any]:
+    """What the page of a run shows that the model alone played."""
+    done = {event.kind for event, reply in zip(told.schedule, told.replies) if reply.is_done}
+    ledger, game = ModelLedger(told.game, told.detector, keeps_books(told.detector, done)), told.game
+    start, roots = ledger.state(), ledger.core.outs(-1)
+    shown = game if isinstance(game, Setting) else Setting(game.graph, tuple(int(e.put > 0) for e in roots))
+    data = page_data(Simulation(told.replies, None, (), tuple(told.schedule), setting=shown), positions)
+    if shown is not game:  # (what is called a sink is a vertex as any other)
+        data |= {it: WORDS["computation"][it] for it in ("titles", "hidden", "opening")}
+        data |= {"edges": [(*edge[:2], 1) for edge in data["edges"]]}
+        data |= {} if data["places"]["frame"] else {"sink": -1}
+    if not ledger.keeps_books:
+        data["hidden"] = [*data.get("hidden", ()), *WORDS["books"]]
+    steps: list[dict[str, Any]] = []
+    early = [0] * is_early(ledger.core)
+    for number, row in enumerate(zip(told.schedule, told.replies), 1):
+        steps.append(words.step(ledger, *row))
+        early += [number] * is_early(ledger.core)
+    for index, note in told.schedule.notes.items():
+        steps[index]["note"] = note
+    end = closed_end(told.left) if told.root_closed else {"text": "The root is open.", "isWrong": False}
+    if early and not end["isWrong"]:
+        end = {"text": _SAYS["early"].format(event=early[0]), "isWrong": True}
+    return {**data, "start": start, "steps": steps, "end": end}
+
+
+def keeps_books(detector: Detector, done: Collection[str]) -> bool:
+    """Whether a detector keeps books of acknowledgements: not if it neither closes by them, nor gives any on a page, of
+    whose events that did something these are the kinds."""
+    make = known_detector(detector).make
+    return "ack" in done or make.may_ack is Core.may_ack or make.is_closed is Core.is_closed
+
+
+def closed_end(left: Iterable[str]) -> dict[str, Any]:
+    """The last word on a root that is closed: it is wrong if something is left."""
+    still = " and ".join(it.replace(" can ", " can still ").replace(" is ", " is still ") for it in left)
+    return {"text": f"The root is closed; {still}." if still else _SAYS["closed"], "isWrong": bool(still)}
+
+
+def model_parts(told: Play) -> dict[str, str]:
+    """What such a page says of the detector and the computation."""
+    known, game = known_detector(told.detector), type(told.game)
+    names = [f"{made.__module__}.{made.__qualname__}" for made in (known.make, game)]
+    parts = {"says": known.says, "kind": names[0], "game": "chip-firing" if game is Setting else names[1]}
+    return {name: html.escape(text) for name, text in parts.items()}
+
+
+def refuse_more(rows: Sequence[Any] | FileName) -> None:
+    """Refuses a schedule or a trace that is too long for a page, before it is played."""
+    if isinstance(rows, FILE):
+        with open(rows, encoding="utf-8") as file:
+            count = sum(1 for _ in itertools.islice(file, MOST_ROWS + 2)) - 1
+    else:
+        count = len(rows)
+    if count > MOST_ROWS:
+        raise ValueError(f"a page shows at most {MOST_ROWS:,} rows of a schedule or a trace, and here are more")
+
+
+def filled(title: str, data: Mapping[str, Any], parts: Mapping[str, str], proved: str, drawings: str) -> str:
+    """The page of a run: what it says about proofs and its drawings come from files of the folder web, with parts."""
+    # (in a script of HTML no text may look like a tag)
+    text = json.dumps(data, separators=(",", ":")).replace("<", "\\u003c")
+    held = {"title": html.escape(title), "data": text, "policy": PAGE_POLICY, "style": package_text("web", "run.css")}
+    held |= {"script": package_text("web", "run.js"), "proved": string.Template(package_text("web", proved)).substitute(parts)}
+    held["drawings"] = string.Template(package_text("web", drawings)).substitute(parts)
+    return string.Template(package_text("web", "run.html")).substitute(held)
+
+
+def _end(told: Simulation, ledger: Ledger) -> str:
+    """The last word of a run."""
+    if told.report is not None:
+        return _SAYS["closed" if told.report.closed else "stopped"]
+    waits = with_unit(ledger.facts["root"][0]["deficit"], "acknowledgement")
+    return _SAYS["open" if ledger.core.ended else "not ended"].format(acknowledgements=waits)
+
+
+def recorded(
+    graph: AnyGraph, chips: Chips, trace: Iterable[Sequence[Any]] | FileName, *, limit: int | None = None,
+    ring: int | None = None, program: AnyProgram = None,
+) -> Simulation:
+    """A recorded run (`run` with `trace`) as a simulation with books: each vertex takes and fires what it wrote down.
+
+    No trace tells when a vertex sent and acknowledged, nor how the rows of different vertices lie beside each other:
+    such events are made up, as early as they can be. Rows that do not fit together are fault 70. The ring is that of
+    the run; if it is not told, the least of 1, 2, 4 and so on that plays all rows."""
+    if isinstance(trace, FILE):
+        refuse_more(trace)
+    rows = read_trace(trace) if isinstance(trace, FILE) else [TraceRow(*row) for row in trace]
+    refuse_more(rows)
+    known = known_graph(graph, program)
+    start = known_chips(known, chips, program)
+    replay(known, start, rows, limit=limit, program=program)
+    setting = Setting(known, start, MAX_LIMIT if limit is None else limit)
+    for cells in RINGS if ring is None else [ring]:
+        events = spell_trace(replace(setting, ring=cells), rows)
+        if events is not None:
+            told = simulate(known, start, events, limit=limit, ring=cells, books=True, program=program)
+            sizes = {"rows": with_unit(len(rows), "row"), "cells": with_unit(cells, "cell")}
+            return replace(told, made_up=_SAYS["recorded"].format(**sizes))
+    raise ValueError(f"the rows of the trace cannot be played over rings of {cells} cells: which ring had the run?")
+
+
+class _Spelled(Core):
+    """A game that writes its events down, but for looks that find nothing."""
+
+    def __init__(self, *words: Any) -> None:
+        super().__init__(*words)
+        self.events = Schedule()
+
+    def step(self, kind: str, at: int, count: int = 0) -> str:
+        reply = super().step(kind, at, count)
+        if reply not in ("empty", "full") and (kind, reply) != ("settle", "done 0"):
+            self.events.append(Event(kind, at, count))
+        return reply
+
+
+def spell_rounds(setting: Setting, schedule: Sequence[Event], rounds: int) -> tuple[Event, ...]:
+    """A schedule, and after it the events of `rounds` rounds of turns, or of those until the root is closed."""
+    core = played(setting, _Spelled, schedule)
+    core.events, before = Schedule(), -1
+    while rounds and len(core.events) > before:
+        before, rounds = len(core.events), rounds - 1
+        core.drive(1)
+        if len(core.events) > MOST_ROWS:
+            raise ValueError(f"a page shows at most {MOST_ROWS:,} events of rounds, and here are more")
+    return (*schedule, *core.events)
+
+
+class _Recorded(_Spelled):
+    """Plays the rows of a trace, each vertex its own in their order."""
+
+    rows: list[deque[TraceRow]]
+
+    def turn(self, v: int) -> None:
+        """Takes and fires as long as the next rows fit, sends, and acknowledges."""
+        rows = self.rows[v]
+        for e in self.outs(v):
+            self.step("settle", e.number)
+        while rows and self._fits(rows[0]):
+            row = rows.popleft()
+            if row.kind == "take":
+                self.step("take", row.edge)
+            else:
+                self.step("fire", v, row.count)
+                self.send(v)
+        self.send(v)
+        if not rows and self.vertices[v].halt is None and self.cause(v):
+            self.step("halt", v)
+        self.acknowledge(v)
+
+    def _fits(self, row: TraceRow) -> bool:
+        if row.kind == "take":
+            return self.edges[row.edge].delivered < self.edges[row.edge].put
+        return not self.is_pending(row.vertex) and not self.has_unput(row.vertex)
+
+
+def spell_trace(setting: Setting, trace: Sequence[TraceRow]) -> tuple[Event, ...] | None:
+    """Events in which each vertex takes and fires what its rows in a trace say; None if the rings are too small."""
+    core, made = opened(setting, _Recorded), -1
+    core.rows = [deque() for _ in core.vertices]
+    for row in trace:
+        core.rows[row.vertex].append(row)
+    while made < len(core.events):
+        made = len(core.events)
+        core.drive(1)
+    return None if any(core.rows) else tuple(core.events)
+
+
+def spelled_out(simulation: Simulation, program: AnyProgram = None) -> Simulation:
+    """What the program answers to a simulation now, with books, and the events of its rounds spelled out. If the
+    simulation was told anything else, that is a Disagreement."""
+    setting, schedule, made_up = simulation.game, simulation.schedule, simulation.made_up
+    if simulation.rounds:
+        schedule = spell_rounds(setting, schedule, simulation.rounds)
+        made_up = _SAYS["rounds"].format(events=with_unit(len(simulation.schedule), "event"))
+    told = asked(setting, schedule, program)
+    if told.report != simulation.report:
+        raise Disagreement("the program comes to another end than before")
+    for index, (reply, before) in enumerate(zip(told.replies, simulation.replies)):
+        if reply != before:
+            raise Disagreement(f"event {index}: the program replies {reply}, and not {before}")
+    if told.boards[: len(simulation.boards)] != simulation.boards:
+        raise Disagreement("the program has other books than the simulation")
+    return replace(told, made_up=made_up, notes=simulation.notes)
+
+
+def asked(setting: Setting, schedule: Iterable[Sequence[Any]], program: AnyProgram = None) -> Simulation:
+    """What the program answers to a schedule, with its books."""
+    options: dict[str, Any] = {"limit": setting.limit, "ring": setting.ring, "fed": setting.fed}
+    return simulate(setting.graph, setting.chips, schedule, books=True, program=program, **options)
+
+
+def page_data(told: Simulation, positions: Mapping[Any, Point] | None) -> dict[str, Any]:
+    """What the page shows but for the events: the graph and its places, and the opening."""
+    setting, graph, events = told.game, told.game.graph, zip(told.schedule, told.replies)
+    fed = {event.at - len(graph.edges) for event, reply in events if event.kind == "feed" and reply.is_done}
+    started = sorted(fed | {vertex for vertex, count in enumerate(setting.chips) if count})
+    places = places_of(graph, started, positions)
+    return {
+        "names": [str(name) for name in graph.names],
+        "sink": graph.sink,
+        "edges": [*graph.edges, *((None, vertex, 1) for vertex in range(graph.vertices))],
+        "graphEdges": len(graph.edges),
+        "rootEdges": [graph.root_edge(vertex) for vertex in started],
+        "places": vars(places),
+        "mayTurn": positions is None and places.frame is None,
+        "start": Ledger(setting).state(),
+        "opening": _SAYS["opening"].format(chips=with_unit(sum(setting.chips), "chip")),
+        "answers": WORDS["answers"],
+        "reasons": list(WORDS["reasons"].values()),
+    }
+
+
+def compared(told: Simulation, ledger: Ledger) -> Iterator[tuple[Event, Reply]]:
+    """The events with their replies; after each the ledger is compared with the books."""
+    for event, reply, board in zip(told.schedule, told.replies, told.boards):
+        yield event, reply
+        ledger.compare(board)
+
+
+class Words:
+    """The sentences of a page, each once, by numbers."""
+
+    def __init__(self, setting: Game) -> None:
+        self.sentences = Sentences(setting.graph, isinstance(setting, Setting))
+        self.numbers: dict[str, int] = {}
+
+    def number(self, text: str) -> int:
+        return self.numbers.setdefault(text, len(self.numbers))
+
+    def step(self, ledger: Ledger, event: Event, reply: Reply) -> dict[str, Any]:
+        """Notes an event, and returns the numbers of its words and what it changed."""
+        says, question = self.sentences, self.sentences.ask(event)
+        if event.kind == "ack" and not ledger.keeps_books:
+            question = None  # (no rule is about it)
+        step: dict[str, Any] = {"kind": event.kind, "at": event.at, "done": reply.is_done}
+        step["event"] = self.number(says.event(event, reply))
+        step["reply"] = self.number(says.reply(event, reply, ledger.core))
+        if question is not None:
+            # (of a wrong detector too it is asked what the rule allows)
+            is_vain = reply.kind in ("empty", "full") or event.kind == "settle" and reply.numbers == (0,)
+            is_ack, why = event.kind == "ack" and event.at < len(ledger.core.edges), says.reasons(event, ledger.core)
+            step |= {"ask": self.number(question), "yes": not why if is_ack else reply.is_done and not is_vain}
+            if why:
+                step["why"] = sorted({[*WORDS["reasons"]].index(reason) for reason, _ in why})
+        if event.kind == "put" and reply.is_done:
+            step["send"] = self.number(says.send(event, reply.numbers[0]))
+        changes = ledger.note(event, reply)
+        return {**step, "changes": [[*change, self.number(says.change(change))] for change in changes]}

@@ -1,0 +1,203 @@
+"""Games of a detector on the model: random schedules, a shrinker, and logs for ShiViz and `judge_log`.
+
+A game is a `Setting` of chip-firing, or another `Computation`. A detector is a name of `chipfire.detectors.DETECTORS`
+or a class of your own, made of `chipfire.model.Core`. Everything here is computed on that model and is not proved.
+"""
+
+from __future__ import annotations
+
+from collections import Counter, defaultdict, deque
+from collections.abc import Callable, Iterable, Sequence
+from dataclasses import dataclass
+from typing import Any, Union
+
+from chipfire.lab.computations import Computation
+from chipfire.lab.detectors import known_detector
+from chipfire.lab.machine import Event, Reply, Schedule, Setting
+from chipfire.lab.model import Core
+from chipfire.utils import as_int, random_generator
+
+Game = Union[Setting, Computation]
+Detector = Union[str, type[Core]]
+#: The events of the machine, and that of a computation in which a vertex goes on; a detector may have others.
+EVENTS = ("take", "ack", "fire", "clear", "claim", "put", "halt", "settle", "seal", "read", "feed", "end")
+WORK = "work"
+#: Rows of a log: process, kind, channel.
+_Acts = list[tuple[int, str, int]]
+
+
+def detector_name(detector: Detector) -> str:
+    """What a detector is called: its name, or that of its class."""
+    return detector if isinstance(detector, str) else detector.__name__
+
+
+def opened(setting: Game, detector: Detector = "right") -> Any:
+    """A game at its start, on the model: a `Core` of the detector's class."""
+    if isinstance(setting, Computation):
+        return setting.opened(known_detector(detector).make)
+    if not isinstance(setting, Setting):
+        known = "a chipfire.Setting of graph and chips, or a Computation"
+        raise TypeError(f"a game is {known}, and no {type(setting).__name__}")
+    graph = {"vertices": setting.graph.vertices, "sink": setting.graph.sink, "edges": setting.graph.edges}
+    return known_detector(detector).make(graph, setting.chips, setting.limit, setting.ring, setting.fed)
+
+
+def is_early(core: Core) -> bool:
+    """Whether the root is closed and something is left."""
+    return core.is_closed() and bool(core.left())
+
+
+def random_schedule(setting: Game, seed: Any, detector: Detector = "right", *, most: int = 100_000) -> Schedule:
+    """A schedule in which each event does something, drawn until the root is closed; the same seed draws the same.
+
+    The right detector closes the root in each. With another it may end because nothing can happen any more. After
+    `most` events it is cut, and its `ended` is False: the events of a detector may go round for ever."""
+    core, draw, made = opened(setting, detector), random_generator(seed), Schedule()
+    as_int(most, "most")
+    while not core.is_closed() and (events := core.enabled()):
+        if len(made) == most:
+            made.ended = False
+            break
+        made.append(Event(*draw.choice(events)))
+        core.step(*made[-1])
+    return made
+
+
+@dataclass(frozen=True)
+class Play:
+    """A run that the model alone played, with any detector: what it answers is not proved.
+
+    replies      a reply for each event
+    root_closed  whether the detector says in the end that all is over
+    left         what is left then, in words
+    """
+
+    game: Game
+    detector: Detector
+    schedule: Schedule
+    replies: tuple[Reply, ...]
+    root_closed: bool
+    left: tuple[str, ...]
+
+
+def play(setting: Game, events: Iterable[Sequence[Any]], detector: Detector = "right") -> Play:
+    """Plays a schedule on the model. `page` makes a page of it."""
+    core, schedule = opened(setting, detector), Schedule(events)
+    replies = []
+    for event in schedule:
+        kind, *numbers = core.step(*event).split() or ["done"]
+        replies.append(Reply(kind, tuple(int(word) for word in numbers if word.isdecimal())))
+    return Play(setting, detector, schedule, tuple(replies), core.is_closed(), tuple(core.left()))
+
+
+def played(setting: Game, detector: Detector, events: Iterable[Sequence[Any]]) -> Any:
+    """The game after a schedule, on the model."""
+    core = opened(setting, detector)
+    for event in events:
+        core.step(*event)
+    return core
+
+
+def shrink(
+    setting: Game, detector: Detector, events: Iterable[Sequence[Any]], is_bad: Callable[[Core], bool] = is_early
+) -> Schedule:
+    """A schedule after which the game is still bad, and no longer so if any one of its events is left out.
+
+    Bad is, if nothing else is said, that the root is closed and something is left."""
+    kept = [Event(*event) for event in events]
+    if not is_bad(played(setting, detector, kept)):
+        raise ValueError("nothing is wrong after this schedule, so there is nothing to shrink")
+    size = len(kept)
+    while size:
+        before = len(kept)
+        for at in range(before, 0, -size):
+            fewer = kept[: max(at - size, 0)] + kept[at:]
+            if is_bad(played(setting, detector, fewer)):
+                kept = fewer
+        # (smaller pieces are tried then; one event at a time until none can be left out)
+        size = size // 2 if size > 1 else int(len(kept) < before)
+    return Schedule(kept)
+
+
+def shiviz(setting: Game, events: Iterable[Sequence[Any]], detector: Detector = "right") -> str:
+    """A log that ShiViz draws: of each event two lines, the part with its vector clock, and what happened.
+
+    Events of a detector's own, such as those of a token, are a ValueError: their clocks are not known. ShiViz reads the
+    log with the expression `(?<host>\\S*) (?<clock>{.*})\\n(?<event>.*)`."""
+    core, lines = opened(setting, detector), []
+    clocks: dict[str, Counter[str]] = defaultdict(Counter)
+    #: The clocks that travel with the messages of an edge, and with its acknowledgements.
+    messages: dict[int, deque[Counter[str]]] = {e.number: deque([Counter()] * e.put) for e in core.edges}
+    answers: dict[int, Counter[str]] = defaultdict(Counter)
+    for event in events:
+        if event[0] not in (*EVENTS, WORK):
+            raise ValueError(f"{event[0]} is an event of {detector_name(detector)}: what it carries is not known")
+        kind, at, reply = event[0], event[1], core.step(*event)
+        if reply.startswith("not-now") or reply in ("empty", "full"):
+            continue
+        host = str(at) if kind in ("fire", "halt", WORK) else "root"  # (who also writes down the stopper's seals)
+        if kind in ("take", "ack"):
+            host = str(core.edges[at].head)
+        elif kind in ("clear", "claim", "put", "settle") and core.edges[at].tail >= 0:
+            host = str(core.edges[at].tail)
+        clock = clocks[host]
+        if kind in ("take", "settle"):
+            clock |= messages[at].popleft() if kind == "take" else answers[at]
+        clock[host] += 1
+        if kind == "put":
+            messages[at].append(clock.copy())
+        elif kind == "ack":
+            answers[at] = clock.copy()
+        told = ", ".join(f'"{name}":{count}' for name, count in sorted(clock.items()))
+        lines += [f"{host} {{{told}}}", f"{kind} {at}: {reply}"]
+    return "".join(f"{line}\n" for line in lines)
+
+
+def model_log(setting: Game, detector: Detector, events: Iterable[Sequence[Any]]) -> list[tuple[int, str, int]]:
+    """A schedule as a log for `chipfire.judge_log`: vertices are processes, and the root is the one behind them.
+
+    Messages of edge e are on channel e, and its acknowledgements go back there. With m edges, those of the root with
+    them, what a tail sees of the cells of e is told on m + e, and of a seal on 2m + e. A detector with events of its
+    own says in `tells` who tells whom. The root claims that all is over when it closes first.
+    """
+    core = opened(setting, detector)
+    root, is_over, seen = len(core.vertices), False, dict[tuple[str, int, int], _Acts]()
+    log: list[_Acts] = [[(root, "active", 0)], *([(root, "send", e.number)] * e.put for e in core.edges)]
+    active = {root}
+    for event in [None, *events]:
+        log.append(_acts(core, Event(*event), seen) if event else [])
+        active.update(process for process, kind, _ in log[-1] if kind == "receive")
+        rests = core.ended and not core.has_unput(root)
+        passive = [it for it in sorted(active) if (rests if it == root else core.is_passive(it))]
+        active.difference_update(passive)
+        log.append([(it, "passive", 0) for it in passive])
+        if core.is_closed() and not is_over:
+            is_over = True
+            log.append([(root, "over", 0)])
+    return [act for acts in log for act in acts]
+
+
+def _acts(core: Any, event: Event, seen: dict[tuple[str, int, int], _Acts]) -> _Acts:
+    """What an event adds to a log. A take or a seal is told if a tail sees it: until then its acts are in `seen`."""
+    (kind, at, _), root, many = event, len(core.vertices), len(core.edges)
+    own = [] if kind in (*EVENTS, WORK) else core.tells(kind, at)
+    said, *numbers = core.step(*event).split() or ["done"]
+    if said in ("not-now", "empty", "full") or kind in ("fire", "halt", "read", "feed", WORK):
+        return []
+    if kind not in EVENTS:
+        told = [(*pair, 3 * many + pair[0] * (root + 1) + pair[1]) for pair in own]
+        return [act for teller, hearer, it in told for act in ((teller, "tell", it), (hearer, "hear", it))]
+    e = core.edges[core.graph_edges if kind == "end" else at]
+    tail = root if e.tail < 0 else e.tail
+    if kind in ("take", "seal"):
+        new = (kind, at, e.delivered) if kind == "take" else (kind, at, 0)
+        return seen.setdefault(new, [(e.head, "receive", at)] if kind == "take" else [])
+    if kind in ("ack", "settle", "end"):
+        return [(e.head, "tell", at) if kind == "ack" else (tail, "hear", e.number)] * int(numbers[0])
+    old = ("seal", at, 0) if said == "sealed" else ("take", at, len(e.sent) - core.ring + 1)
+    acts = seen.pop(old, None) if kind == "clear" or said == "sealed" else None
+    if acts is None:
+        return [(tail, "send", at)] if kind == "put" else []
+    channel = many * (1 + (said == "sealed")) + at
+    acts.append((root if said == "sealed" else e.head, "tell", channel))
+    return [(tail, "hear", channel)]

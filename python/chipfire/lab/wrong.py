@@ -1,0 +1,64 @@
+"""A page for a wrong detector: the shortest schedule on which it closes too early, beside the right one."""
+
+from __future__ import annotations
+
+from collections.abc import Mapping
+from typing import Any
+
+from chipfire.backend.commands import AnyProgram
+from chipfire.lab.detectors import known_detector
+from chipfire.lab.explorer import explore
+from chipfire.lab.layout import Point
+from chipfire.lab.ledger import Ledger, ModelLedger
+from chipfire.lab.machine import Schedule, Setting
+from chipfire.lab.pages import asked, compared, filled, model_data, model_parts, Words
+from chipfire.lab.schedules import Detector, detector_name, EVENTS, Game, play, WORK
+from chipfire.utils import FileName, with_unit, write_text
+
+
+def wrong_page(
+    detector: Detector, file: FileName, setting: Game | None = None, *, title: str | None = None,
+    positions: Mapping[Any, Point] | None = None, program: AnyProgram = None,
+) -> None:
+    """Writes a page of the shortest schedule after which a wrong detector says too early that all is over.
+
+    detector  one of `chipfire.detectors.DETECTORS`, or a class
+    setting   the game to search, if not the one that stands there: a `Setting` or a `Computation`"""
+    write_text(file, wrong_page_text(detector, setting, title=title, positions=positions, program=program))
+
+
+def wrong_page_text(
+    detector: Detector, setting: Game | None = None, *, title: str | None = None,
+    positions: Mapping[Any, Point] | None = None, program: AnyProgram = None,
+) -> str:
+    """The text of the page that `wrong_page` writes."""
+    name, setting = detector_name(detector), setting or known_detector(detector).game
+    found = explore(setting, detector)
+    if found.schedule is None:
+        states = with_unit(found.states, "state")
+        none = f"{name} closes the root too early in no schedule of this game, which has {states}"
+        raise ValueError(none if found.is_whole else f"{name}: {found}")
+    told, words = play(setting, found.schedule, detector), Words(setting)
+    data = model_data(told, words, positions)
+    data |= {"beside": _beside(setting, found.schedule, words, program), "words": list(words.numbers)}
+    parts = {**model_parts(told), "states": with_unit(found.states, "state")}
+    proved = "run-wrong.html" if isinstance(setting, Setting) else "run-wrong-model.html"
+    return filled(title or f"A wrong detector: {name}", data, parts, proved, "two-drawings.html")
+
+
+def _beside(setting: Game, schedule: Schedule, words: Words, program: AnyProgram) -> dict[str, Any]:
+    """The start and the steps of the right detector, which the program plays if it can. The other's own events are none
+    of it."""
+    shared = Schedule(event for event in schedule if event.kind in (*EVENTS, WORK))
+    ledger = Ledger(setting) if isinstance(setting, Setting) else ModelLedger(setting)
+    start = ledger.state()
+    if isinstance(setting, Setting):
+        right = asked(setting, shared, program)
+        made = [words.step(ledger, *row) for row in compared(right, ledger)]
+        ledger.close(right.report)
+    else:
+        made = [words.step(ledger, *row) for row in zip(shared, play(setting, shared).replies)]
+    said, left = words.number("This is an event of the other detector."), iter(made)
+    own = {"done": True, "isOwn": True, "event": said, "reply": said, "changes": []}
+    steps = [next(left) if kind in (*EVENTS, WORK) else {"kind": kind, "at": at, **own} for kind, at, _ in schedule]
+    return {"start": start, "steps": steps}

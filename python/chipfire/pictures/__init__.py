@@ -1,0 +1,1 @@
+"""Pictures and animations of chips and firing counts."""

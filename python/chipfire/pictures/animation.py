@@ -1,0 +1,106 @@
+"""Plays as animations: positions at growing limits, or by chips that are dropped, as a page with a slider or a GIF."""
+
+from __future__ import annotations
+
+import html
+import json
+import os
+import string
+from collections.abc import Hashable, Iterable
+from concurrent.futures import ThreadPoolExecutor
+from dataclasses import dataclass, field, replace
+
+from chipfire.backend.commands import AnyGraph, AnyProgram, known_chips, known_graph, plain
+from chipfire.backend.report import Report
+from chipfire.configurations.configuration import Chips
+from chipfire.pictures import raster as rasters
+from chipfire.pictures.picture import Palette, Picture, SCALE
+from chipfire.utils import as_int, FileName, package_text, PAGE_POLICY, processors, write_text
+
+#: How many limits there are, if none are given.
+COUNT = 24
+
+
+@dataclass(frozen=True)
+class Frames:
+    """A play as it stands at growing limits.
+
+    limits    how often each vertex may fire, or how many chips were dropped, for each picture
+    reports   what the program answers at each of them
+    pictures  the pictures of these answers
+    unit      what the limits are called under a picture
+    """
+
+    limits: tuple[int, ...]
+    reports: tuple[Report, ...] = field(repr=False)
+    pictures: tuple[Picture, ...] = field(repr=False)
+    unit: str = "Limit"
+
+    def __post_init__(self) -> None:
+        if not self.limits:
+            raise ValueError("there are no pictures to show")
+
+    def __len__(self) -> int:
+        return len(self.limits)
+
+    def save(self, file: FileName, scale: int = SCALE, seconds: float = 0.25) -> None:
+        """Writes the animation: `.html` is a page with a slider; with Pillow, `.gif` shows each picture so long."""
+        if os.fspath(file).lower().endswith(".html"):
+            write_text(file, self.page())
+        else:
+            points = [picture.points(scale) for picture in self.pictures]
+            rasters.write(file, points, self.pictures[0].colours(), round(1000 * seconds))
+
+    def captions(self) -> list[str]:
+        """What stands under each picture."""
+        return [f"{self.unit} {limit}: {picture.title}" for limit, picture in zip(self.limits, self.pictures)]
+
+    def page(self) -> str:
+        """The text of a page with a slider: one file that loads nothing."""
+        shown = [{"source": it.data(), "caption": caption} for it, caption in zip(self.pictures, self.captions())]
+        first, used = self.pictures[0], {it for picture in self.pictures for row in picture.rows for it in {*row}}
+        return string.Template(package_text("web", "animation.html")).substitute(
+            frames=json.dumps(shown).replace("<", "\\u003c"), last=len(self) - 1, source=shown[0]["source"],
+            caption=html.escape(shown[0]["caption"]), columns=len(first.rows[0]), rows=len(first.rows),
+            legend=first.legend(used), policy=PAGE_POLICY,
+        )
+
+    def _repr_html_(self) -> str:
+        return f'<iframe width="800" height="700" style="border:0" srcdoc="{html.escape(self.page())}"></iframe>'
+
+
+def frames(
+    graph: AnyGraph, chips: Chips, limits: Iterable[int] | None = None, *, columns: int | None = None,
+    palette: Palette | None = None, program: AnyProgram = None,
+) -> Frames:
+    """The play of these chips as it stands at growing limits: each vertex may fire that often at most.
+
+    Without `limits`, up to 24 are spread evenly from 0, the start, to the end of the play. `columns` and `palette` are
+    those of `Report.picture`. Each limit is a play of its own.
+    Proved: the position at each limit, which no order of the firings changes. Not proved: that the pictures show it."""
+    graph, known = known_graph(graph, program), dict[int, Report]()
+    chips = known_chips(graph, chips, program)
+    if limits is None:
+        last = plain(graph, chips, program=program)
+        known, most = {max(last.fired): last}, max(last.fired)
+        limits = sorted({most * step // (COUNT - 1) for step in range(COUNT)})
+    limits = tuple(limits)
+    # (side by side, the plays of large graphs would take too much memory)
+    with ThreadPoolExecutor(1 if graph.vertices > 200_000 else processors()) as pool:
+        reports = tuple(pool.map(lambda it: known.get(it) or plain(graph, chips, limit=it, program=program), limits))
+    return Frames(limits, reports, tuple(report.picture(columns, palette) for report in reports))
+
+
+def frames_by_chips(
+    graph: AnyGraph, vertex: Hashable, counts: Iterable[int], *, columns: int | None = None,
+    palette: Palette | None = None, program: AnyProgram = None,
+) -> Frames:
+    """What becomes of chips that are dropped on a vertex, for each of these growing numbers of chips.
+    Proved: each position, to which all orders of drops and firings lead. Not proved: that the pictures show it."""
+    graph, counts, reports, held = known_graph(graph, program), tuple(counts), [], 0
+    at, chips, total = graph.number(vertex), [0] * graph.vertices, (0,) * graph.vertices
+    for count in counts:
+        chips[at] += as_int(count, "the number of chips", held) - held
+        reports.append(replace(plain(graph, chips, program=program), prior=total))
+        chips, total, held = list(reports[-1].chips), reports[-1].total, count
+    return Frames(counts, tuple(reports), tuple(report.picture(columns, palette) for report in reports), "Chips")

@@ -1,0 +1,227 @@
+"""What all modules stand on: limits, whole numbers, files and their rows, and libraries that may be missing."""
+
+from __future__ import annotations
+
+import contextlib
+import csv
+import importlib
+import io
+import itertools
+import math
+import operator
+import os
+import random
+from array import array
+from collections.abc import Callable, ItemsView, Iterable, Iterator, Mapping, Sequence
+from concurrent.futures import ThreadPoolExecutor
+from typing import Any, TypeVar, Union
+
+T = TypeVar("T")
+#: The most of a graph, and of a large one.
+MAX_VERTICES, MAX_EDGES = 4096, 65_536
+MAX_LARGE_VERTICES, MAX_LARGE_EDGES = 2**21, 2**23
+MAX_MULT = 2**20
+#: The most chips of a game, the most firings of a vertex, and the greatest limit.
+MAX_CHIPS = MAX_LIMIT = 2**40
+FileName = Union[str, "os.PathLike[str]"]
+#: What the name of a file is, if it is given in place of what stands in the file.
+FILE = (str, os.PathLike)
+HERE = os.path.dirname(os.path.realpath(__file__))
+#: What a page may load and start, as browsers take it: the style and the script that stand in it.
+PAGE_POLICY = "default-src 'none'; style-src 'unsafe-inline'; script-src 'unsafe-inline'"
+
+
+def as_int(value: Any, what: str, least: int | None = 0, most: int | None = None) -> int:
+    """A whole number of a range: an int, what stands for one, as the numbers of NumPy and Sage do, or a float like 4.0.
+    `least` and `most` are the ends of the range; None sets no end."""
+    try:
+        is_like_one = callable(getattr(value, "is_integer", None)) and value.is_integer()
+        number = int(value) if is_like_one else operator.index(value)
+    except TypeError:
+        raise TypeError(f"{what} is no whole number: {value!r}") from None
+    if least is not None and number < least:
+        raise ValueError(f"{what} is below {least}: {number}")
+    if most is not None and number > most:
+        raise ValueError(f"{what} is above {most}: {number}")
+    return number
+
+
+def as_ints(
+    values: Sequence[Any], what: Callable[[int], str], least: int | None = 0, most: int | None = None
+) -> Sequence[int]:
+    """Many numbers, each as `whole` has it; `what` says which is in a place."""
+    for code in "Qq":  # (as long as each is an int of up to 64 bits; most often none is below 0)
+        try:
+            found = array(code, values)
+        except (OverflowError, TypeError):
+            continue
+        is_least = least is None or code == "Q" and least == 0 or min(found, default=least) >= least
+        if is_least and (most is None or max(found, default=most) <= most):
+            return found
+    with contextlib.suppress(TypeError, ValueError):
+        return [as_int(value, "", least, most) for value in values]
+    return [as_int(value, what(place), least, most) for place, value in enumerate(values)]
+
+
+def sorted_if_possible(names: Iterable[Any]) -> list[Any]:
+    """Names in their order, or in that in which they come if they have none."""
+    names = list(names)
+    with contextlib.suppress(TypeError):
+        return sorted(names)
+    return names
+
+
+def import_optional(name: str, wanted: str = "") -> Any:
+    """A module of a library. If it is not installed, None, or an ImportError that says what was `wanted` of it."""
+    try:
+        return importlib.import_module(name)
+    except ImportError:
+        if wanted:
+            raise ImportError(f"{wanted}, which is not installed") from None
+        return None
+
+
+def is_of_networkx(given: Any) -> bool:
+    """Whether something is a graph of NetworkX, or a view of one."""
+    return any(kind.__module__.partition(".")[0] == "networkx" for kind in type(given).__mro__)
+
+
+def in_order(given: Any, wanted: str) -> Any:
+    """Values that stand in an order, or one alone, as Python's own: an array of any library is a list, or one of rows.
+    What has no order, or only names of columns, is refused by its name, after words for what is `wanted`."""
+    found = given
+    if hasattr(found, "toarray"):  # (the sparse ones of SciPy)
+        require_memory(8 * math.prod(found.shape), "the places of a sparse array")
+        found = found.toarray()
+    is_other = hasattr(found, "__array_interface__") and found.dtype.kind in "mMV"  # (dates, and rows by names)
+    is_other = is_other or hasattr(found, "columns") or is_of_networkx(found)
+    found = found.tolist() if hasattr(found, "tolist") and not is_other else found
+    if is_other or isinstance(found, (str, bytes, bytearray, set, frozenset, Mapping, ItemsView)):
+        text = repr(given)
+        shown = f": {text}" if len(text) <= 60 and "\n" not in text else ""
+        raise TypeError(f"{wanted}, and no {type(given).__name__}{shown}")
+    return found
+
+
+def listed(given: Any, wanted: str) -> list[Any]:
+    """Values that stand in an order, as a list; one alone is refused."""
+    found = in_order(given, wanted)
+    if not isinstance(found, Iterable):
+        raise TypeError(f"{wanted}, and not {found!r}")
+    return list(found)
+
+
+def no_graph(given: Any, wanted: str) -> TypeError:
+    """What is said of something that is no graph where one is `wanted`."""
+    kind = type(given)
+    hint = ": chipfire.from_networkx makes one of it" if is_of_networkx(given) else ""
+    name = kind.__name__ if kind.__module__ == "builtins" else f"{kind.__module__}.{kind.__name__}"
+    return TypeError(f"{wanted}, and not of {name}{hint}")
+
+
+def as_array(numbers: Sequence[Any], dtype: Any = None) -> Any:
+    """Whole numbers, or rows of them, as an array of NumPy, of 64 bits if no type is said."""
+    numpy = import_optional("numpy", "an array is one of NumPy")
+    exact, kind = numpy.array(numbers, dtype=object), numpy.dtype("int64" if dtype is None else dtype)
+    if kind.kind in "iu" and exact.size:
+        ends, held = (exact.min(), exact.max()), numpy.iinfo(kind)
+        if ends[0] < held.min or ends[1] > held.max:
+            raise OverflowError(f"numbers from {ends[0]} to {ends[1]} are more than {kind} holds: dtype=object does")
+    return exact.astype(kind)
+
+
+class AsArray:
+    """What NumPy takes for whole numbers, or rows of them."""
+
+    def _for_array(self) -> Sequence[Any]:
+        raise NotImplementedError
+
+    def __array__(self, dtype: Any = None, copy: bool | None = None) -> Any:
+        if copy is not None and not copy:
+            raise ValueError(f"an array of a {type(self).__name__} is always a copy")
+        return as_array(self._for_array(), dtype)
+
+
+def known_seed(seed: Any) -> int | float | str | bytes:
+    """A seed as the one value that it stands for: a whole number, also of NumPy or a float like 3.0, as an int; another
+    float; a text or bytes. For None the system draws a number."""
+    if seed is None:
+        return random.getrandbits(64)
+    if isinstance(seed, (str, bytes, bytearray)):
+        return seed if isinstance(seed, str) else bytes(seed)
+    with contextlib.suppress(TypeError):
+        return as_int(seed, "the seed", None)
+    if isinstance(seed, float) and seed == seed:
+        return seed
+    raise TypeError(f"a seed is a number, a text or bytes, and no {type(seed).__name__}")
+
+
+def random_generator(seed: Any) -> random.Random:
+    """What draws by a seed, as Python's `random` does by its value."""
+    return random.Random(known_seed(seed))
+
+
+def processors() -> int:
+    """How many processors this process may use."""
+    return len(os.sched_getaffinity(0)) if hasattr(os, "sched_getaffinity") else os.cpu_count() or 1
+
+
+def require_memory(count: int, what: str) -> None:
+    """Refuses what takes more bytes than the machine has, or than this process may have, before it begins."""
+    limits, resource = [2**63], import_optional("resource")  # (which not every system has)
+    if resource:
+        soft, _ = resource.getrlimit(resource.RLIMIT_AS)
+        limits += [it for it in (soft, os.sysconf("SC_PHYS_PAGES") * os.sysconf("SC_PAGE_SIZE")) if it >= 0]
+    if count > min(limits):
+        raise MemoryError(f"{what} take {count:,} bytes, and there are {min(limits):,}")
+
+
+def run_in_threads(work: Callable[[int], T], count: int, workers: int) -> list[T]:
+    """What work is for each number below `count`, on `workers` threads. After an error or interrupt none is begun."""
+    if workers == 1:
+        return [work(it) for it in range(count)]
+    pool = ThreadPoolExecutor(workers)
+    try:
+        return list(pool.map(work, range(count)))
+    finally:
+        pool.shutdown(cancel_futures=True)
+
+
+def with_unit(count: int, word: str) -> str:
+    """A number of something: "1 chip", "4 chips"."""
+    return f"{count:,} {word}" + ("" if count == 1 else "s")
+
+
+def package_text(*names: str) -> str:
+    """The text of a file that belongs to the package."""
+    with open(os.path.join(HERE, *names), encoding="utf-8", errors="surrogateescape") as file:
+        return file.read()
+
+
+def write_text(file: FileName, text: str) -> None:
+    with open(file, "w", encoding="utf-8", newline="") as out:
+        out.write(text)
+
+
+def rows_text(header: Sequence[str], rows: Iterable[Sequence[Any]]) -> str:
+    text = io.StringIO()
+    csv.writer(text, lineterminator="\n").writerows(itertools.chain([header], rows))
+    return text.getvalue()
+
+
+def has_header(file: FileName, header: Sequence[str]) -> bool:
+    """Whether a file of rows has this header."""
+    with open(file, encoding="utf-8-sig", errors="replace", newline="") as text:
+        return next(csv.reader(text), None) == list(header)
+
+
+def read_rows(file: FileName, header: Sequence[str]) -> Iterator[list[str]]:
+    """The rows of a file after its header. The program says what exactly is wrong with a file that it reads."""
+    with open(file, encoding="utf-8-sig", newline="") as text:
+        rows = [row for row in csv.reader(text) if row]
+    if not rows or rows[0] != list(header):
+        raise ValueError(f"{os.fspath(file)} does not begin with {','.join(header)}")
+    for index, row in enumerate(rows[1:]):
+        if len(row) != len(header):
+            raise ValueError(f"{os.fspath(file)}: row {index} has not {len(header)} fields")
+        yield row

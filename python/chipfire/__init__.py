@@ -69,7 +69,13 @@ from chipfire.ensembles.drops import Drops
 from chipfire.ensembles.chains import Chains, Firings, chains
 from chipfire.ensembles.wilson import random_recurrent
 from chipfire.lab.explorer import explore
-from chipfire.backend.finding import ProgramNotFound, find_program as find_program, start_program as start_program, version, warn_without_program
+from chipfire.backend.finding import (
+    ProgramNotFound,
+    find_program as find_program,
+    start_program as start_program,
+    version,
+    warn_without_program,
+)
 from chipfire.graphs.convert import from_edges, from_networkx, from_sage
 from chipfire.graphs.families import complete, cycle, path, torus, wheel
 from chipfire.graphs.graph import Graph
@@ -78,21 +84,72 @@ from chipfire.configurations.group import Group
 from chipfire.lab.judging import judge
 from chipfire.backend.library import find_library as find_library
 from chipfire.lab.logs import judge_log, read_json_lines, read_shiviz
-from chipfire.lab.machine import RULES as RULES, SCHEDULE_HEADER as SCHEDULE_HEADER, TRACE_HEADER as TRACE_HEADER, Board as Board, Books as Books, Event as Event, Firing as Firing, Reply as Reply, Schedule as Schedule, Setting as Setting, Simulation as Simulation, TraceRow as TraceRow, read_schedule as read_schedule, read_trace as read_trace, write_schedule as write_schedule, write_trace as write_trace
+from chipfire.lab.machine import (
+    RULES as RULES,
+    SCHEDULE_HEADER as SCHEDULE_HEADER,
+    TRACE_HEADER as TRACE_HEADER,
+    Board as Board,
+    Books as Books,
+    Event as Event,
+    Firing as Firing,
+    Reply as Reply,
+    Schedule as Schedule,
+    Setting as Setting,
+    Simulation as Simulation,
+    TraceRow as TraceRow,
+    read_schedule as read_schedule,
+    read_trace as read_trace,
+    write_schedule as write_schedule,
+    write_trace as write_trace,
+)
 from chipfire.lab.pages import page, recorded
 from chipfire.pictures.picture import PALETTES, Picture
 from chipfire.divisors.polynomials import avalanche_polynomial, level_polynomial, tutte_polynomial
 from chipfire.ensembles.power_law import PowerLaw, plot_sizes, power_law
 from chipfire.backend.process import Fault, TraceCut
-from chipfire.backend.commands import Check, Program, check, drops, explain, identity, plain, read_chips, replay, resume, run, simulate, verify, write_chips
+from chipfire.backend.commands import (
+    Check,
+    Program,
+    check,
+    drops,
+    explain,
+    identity,
+    plain,
+    read_chips,
+    replay,
+    resume,
+    run,
+    simulate,
+    verify,
+    write_chips,
+)
 from chipfire.backend.report import Report
 from chipfire.configurations.laplacian import invariant_factors, laplacian, order, reduced_laplacian
-from chipfire.configurations.recurrent import are_recurrent, burning_configuration, burning_script, is_recurrent, is_superstable, recurrent_representative, recurrents, superstable_representative, superstables
+from chipfire.configurations.recurrent import (
+    are_recurrent,
+    burning_configuration,
+    burning_script,
+    is_recurrent,
+    is_superstable,
+    recurrent_representative,
+    recurrents,
+    superstable_representative,
+    superstables,
+)
 from chipfire.configurations.stabilization import add, is_stable, stabilize, stabilize_many
 from chipfire.ensembles.avalanche import Avalanche, avalanche, avalanches, random_drops
 from chipfire.graphs.convert import to_networkx, to_scipy
 from chipfire.lab.schedules import model_log, play, random_schedule, shiviz, shrink
-from chipfire.utils import MAX_CHIPS as MAX_CHIPS, MAX_EDGES as MAX_EDGES, MAX_LARGE_EDGES as MAX_LARGE_EDGES, MAX_LARGE_VERTICES as MAX_LARGE_VERTICES, MAX_LIMIT as MAX_LIMIT, MAX_MULT as MAX_MULT, MAX_VERTICES as MAX_VERTICES, FileName as FileName
+from chipfire.utils import (
+    MAX_CHIPS as MAX_CHIPS,
+    MAX_EDGES as MAX_EDGES,
+    MAX_LARGE_EDGES as MAX_LARGE_EDGES,
+    MAX_LARGE_VERTICES as MAX_LARGE_VERTICES,
+    MAX_LIMIT as MAX_LIMIT,
+    MAX_MULT as MAX_MULT,
+    MAX_VERTICES as MAX_VERTICES,
+    FileName as FileName,
+)
 from chipfire.lab.wrong import wrong_page
 
 __version__ = version()
@@ -100,17 +157,98 @@ warn_without_program()
 
 #: What is imported besides is reachable too; `chipfire.machine` describes it.
 __all__ = [
-    "Avalanche", "Chains", "Check", "Chips", "Computation", "Configuration", "Divisor", "Drops", "Fault", "Firings",
-    "Frames", "Graph", "Group", "PALETTES", "Picture", "PowerLaw", "Program", "ProgramNotFound", "Report", "TraceCut",
-    "add", "are_recurrent", "avalanche", "avalanche_polynomial", "avalanches", "aztec", "burning_configuration",
-    "burning_script", "canonical_divisor", "chains", "check", "choice_page", "complete", "cycle", "drops", "explain",
-    "explore", "frames", "frames_by_chips", "from_edges", "from_networkx", "from_sage", "genus", "grid", "grid_for",
-    "identity", "invariant_factors", "is_recurrent", "is_stable", "is_superstable", "judge", "judge_log", "laplacian",
-    "level_polynomial", "machine", "model_log", "order", "page", "path", "plain", "play", "plot_sizes", "power_law",
-    "random_drops", "random_recurrent", "random_schedule", "read_chips", "read_json_lines", "read_shiviz", "recorded",
-    "recurrent_representative", "recurrents", "reduced_laplacian", "region", "replay", "resume", "run", "shiviz",
-    "shrink", "simulate", "stabilize", "stabilize_many", "superstable_representative", "superstables", "to_networkx",
-    "to_scipy", "torus", "tutte_polynomial", "verify", "wheel", "write_chips", "wrong_page",
+    "Avalanche",
+    "Chains",
+    "Check",
+    "Chips",
+    "Computation",
+    "Configuration",
+    "Divisor",
+    "Drops",
+    "Fault",
+    "Firings",
+    "Frames",
+    "Graph",
+    "Group",
+    "PALETTES",
+    "Picture",
+    "PowerLaw",
+    "Program",
+    "ProgramNotFound",
+    "Report",
+    "TraceCut",
+    "add",
+    "are_recurrent",
+    "avalanche",
+    "avalanche_polynomial",
+    "avalanches",
+    "aztec",
+    "burning_configuration",
+    "burning_script",
+    "canonical_divisor",
+    "chains",
+    "check",
+    "choice_page",
+    "complete",
+    "cycle",
+    "drops",
+    "explain",
+    "explore",
+    "frames",
+    "frames_by_chips",
+    "from_edges",
+    "from_networkx",
+    "from_sage",
+    "genus",
+    "grid",
+    "grid_for",
+    "identity",
+    "invariant_factors",
+    "is_recurrent",
+    "is_stable",
+    "is_superstable",
+    "judge",
+    "judge_log",
+    "laplacian",
+    "level_polynomial",
+    "machine",
+    "model_log",
+    "order",
+    "page",
+    "path",
+    "plain",
+    "play",
+    "plot_sizes",
+    "power_law",
+    "random_drops",
+    "random_recurrent",
+    "random_schedule",
+    "read_chips",
+    "read_json_lines",
+    "read_shiviz",
+    "recorded",
+    "recurrent_representative",
+    "recurrents",
+    "reduced_laplacian",
+    "region",
+    "replay",
+    "resume",
+    "run",
+    "shiviz",
+    "shrink",
+    "simulate",
+    "stabilize",
+    "stabilize_many",
+    "superstable_representative",
+    "superstables",
+    "to_networkx",
+    "to_scipy",
+    "torus",
+    "tutte_polynomial",
+    "verify",
+    "wheel",
+    "write_chips",
+    "wrong_page",
 ]
 
 

@@ -54,7 +54,8 @@ def _page(asked: argparse.Namespace) -> str:
         told = recorded(*game, **options)
     else:
         raise ValueError("--rounds and --fed go with a schedule; a trace is a run without them")
-    title, places = asked.title or "A run of chipfire", asked.positions and _positions(asked.positions)
+    title = asked.title or "A run of chipfire"
+    places = asked.positions and _positions(asked.positions)
     return page_text(told, title=title, positions=places, program=asked.program)
 
 
@@ -92,13 +93,20 @@ def _tried(asked: argparse.Namespace) -> str:
 
 def _explore(asked: argparse.Namespace) -> tuple[str, int]:
     """What is found, with the shortest schedule, and the status."""
-    detector, known = _detector(asked.name), known_detector(asked.name if asked.name in DETECTORS else "right").game
+    detector = _detector(asked.name)
+    known = known_detector(asked.name if asked.name in DETECTORS else "right").game
     options: dict[str, Any] = {"limit": asked.limit, "ring": asked.ring, "fed": bool(asked.feed)}
-    setting = _setting(asked.game, asked, **options) if asked.game else Setting(known.graph, known.chips, **options)
+    setting = (
+        _setting(asked.game, asked, **options)
+        if asked.game
+        else Setting(known.graph, known.chips, **options)
+    )
     found = explore(setting, detector, most=asked.most, feeds=asked.feed, seals=asked.seal)
     missed = found.lost if found.lost is not None else found.stuck
     shown = missed if found.schedule is None else found.schedule
-    status = 2 if found.schedule is not None else 3 if missed is not None else 0 if found.is_whole else 4
+    status = (
+        2 if found.schedule is not None else 3 if missed is not None else 0 if found.is_whole else 4
+    )
     rows = "" if shown is None else rows_text(SCHEDULE_HEADER, shown)
     return f"{found}\n{rows}", status
 
@@ -123,7 +131,9 @@ class _Parser(argparse.ArgumentParser):
         self.exit(1, f"{self.format_usage()}{self.prog}: error: {message}\n")
 
 
-def _add(commands: Any, name: str, says: str, more: str = "", **defaults: Any) -> argparse.ArgumentParser:
+def _add(
+    commands: Any, name: str, says: str, more: str = "", **defaults: Any
+) -> argparse.ArgumentParser:
     """Adds a command, what the list of all and its own help say of it, and what only its own help says more."""
     command: argparse.ArgumentParser = commands.add_parser(name, help=says, description=says + more)
     command.set_defaults(**defaults)
@@ -136,37 +146,84 @@ def _arguments() -> argparse.ArgumentParser:
     says = "writes a page of HTML on which a run can be watched event by event"
     page = _add(commands, "page", says, make=_page)
     says = "writes a page of the shortest schedule on which a wrong detector says too early that all is over"
-    wrong = _add(commands, "wrong", says, ", beside the right one", make=_tried, text=wrong_page_text)
+    wrong = _add(
+        commands, "wrong", says, ", beside the right one", make=_tried, text=wrong_page_text
+    )
     says = "writes a page on which one picks each event among those that may happen"
-    choose = _add(commands, "choose", says, ", on a game of at most 2,000 states", make=_tried, text=choice_page_text)
+    choose = _add(
+        commands,
+        "choose",
+        says,
+        ", on a game of at most 2,000 states",
+        make=_tried,
+        text=choice_page_text,
+    )
     says = "tries all schedules of a small game: status 0 right, 2 too early, 3 can miss the end, 4 too many states"
     found = _add(commands, "explore", says, make=_explore)
-    says = "judges a log: status 0 if its claims are true, 2 if one is false, 3 if it misses the end"
+    says = (
+        "judges a log: status 0 if its claims are true, 2 if one is false, 3 if it misses the end"
+    )
     log = _add(commands, "judge", says, make=_judge)
     page.add_argument("graph", metavar="GRAPH", help="a graph file")
     page.add_argument("chips", metavar="CHIPS", help="a chips file")
-    page.add_argument("events", metavar="SCHEDULE", help="a schedule, or the trace of a recorded run (run --trace)")
+    page.add_argument(
+        "events",
+        metavar="SCHEDULE",
+        help="a schedule, or the trace of a recorded run (run --trace)",
+    )
     for command in (wrong, choose, found):
-        command.add_argument("name", metavar="DETECTOR", help=f"FILE.py:CLASS, or one of {', '.join(DETECTORS)}")
-        command.add_argument("game", metavar="GRAPH CHIPS", nargs="*", help="another game than that of the detector")
-    found.add_argument("--most", type=int, default=100_000, metavar="N", help="how many states are looked at")
+        command.add_argument(
+            "name", metavar="DETECTOR", help=f"FILE.py:CLASS, or one of {', '.join(DETECTORS)}"
+        )
+        command.add_argument(
+            "game", metavar="GRAPH CHIPS", nargs="*", help="another game than that of the detector"
+        )
+    found.add_argument(
+        "--most", type=int, default=100_000, metavar="N", help="how many states are looked at"
+    )
     for it, limit, ring in ((page, None, None), (found, MAX_LIMIT, 1)):
-        it.add_argument("--limit", type=int, default=limit, metavar="F", help="how often each vertex may fire")
-        it.add_argument("--ring", type=int, default=ring, metavar="R", help="how many cells the ring of an edge has")
-    page.add_argument("--rounds", type=int, metavar="N", help="how many rounds of turns follow a schedule at most")
+        it.add_argument(
+            "--limit", type=int, default=limit, metavar="F", help="how often each vertex may fire"
+        )
+        it.add_argument(
+            "--ring",
+            type=int,
+            default=ring,
+            metavar="R",
+            help="how many cells the ring of an edge has",
+        )
+    page.add_argument(
+        "--rounds", type=int, metavar="N", help="how many rounds of turns follow a schedule at most"
+    )
     page.add_argument("--fed", action="store_true", help="the schedule may feed chips")
     for command in (page, wrong, choose):
         command.add_argument("--title", metavar="TEXT", help="what stands above the page")
-        command.add_argument("--positions", metavar="FILE", help="where the vertices stand: rows vertex,right,down")
+        command.add_argument(
+            "--positions", metavar="FILE", help="where the vertices stand: rows vertex,right,down"
+        )
     says = "the root feeds so many chips on its edge, each feed after the others"
-    found.add_argument("--feed", type=int, nargs=2, action="append", default=[], metavar=("EDGE", "CHIPS"), help=says)
-    found.add_argument("--seal", type=int, action="append", default=[], metavar="EDGE", help="it may be sealed")
+    found.add_argument(
+        "--feed",
+        type=int,
+        nargs=2,
+        action="append",
+        default=[],
+        metavar=("EDGE", "CHIPS"),
+        help=says,
+    )
+    found.add_argument(
+        "--seal", type=int, action="append", default=[], metavar="EDGE", help="it may be sealed"
+    )
     says = "GRAPH, CHIPS and a log of rows event,at,count,reply; or a log of any program alone"
     log.add_argument("files", metavar="FILE", nargs="+", help=says)
-    log.add_argument("--also", action="append", default=[], metavar="EVENT", help="an event of its own detector")
+    log.add_argument(
+        "--also", action="append", default=[], metavar="EVENT", help="an event of its own detector"
+    )
     log.add_argument("--fed", action="store_true", help="the root may feed chips")
     for command in (page, wrong, choose, found, log):
-        command.add_argument("--program", metavar="FILE", help="the program chipfire, if not the one that is found")
+        command.add_argument(
+            "--program", metavar="FILE", help="the program chipfire, if not the one that is found"
+        )
     return parser
 
 

@@ -18,8 +18,10 @@ from typing import Any, TypeVar, Union
 
 T = TypeVar("T")
 #: The most of a graph, and of a large one.
-MAX_VERTICES, MAX_EDGES = 4096, 65_536
-MAX_LARGE_VERTICES, MAX_LARGE_EDGES = 2**21, 2**23
+MAX_VERTICES = 4096
+MAX_EDGES = 65_536
+MAX_LARGE_VERTICES = 2**21
+MAX_LARGE_EDGES = 2**23
 MAX_MULT = 2**20
 #: The most chips of a game, the most firings of a vertex, and the greatest limit.
 MAX_CHIPS = MAX_LIMIT = 2**40
@@ -47,7 +49,10 @@ def as_int(value: Any, what: str, least: int | None = 0, most: int | None = None
 
 
 def as_ints(
-    values: Sequence[Any], what: Callable[[int], str], least: int | None = 0, most: int | None = None
+    values: Sequence[Any],
+    what: Callable[[int], str],
+    least: int | None = 0,
+    most: int | None = None,
 ) -> Sequence[int]:
     """Many numbers, each as `whole` has it; `what` says which is in a place."""
     for code in "Qq":  # (as long as each is an int of up to 64 bits; most often none is below 0)
@@ -88,12 +93,15 @@ def is_of_networkx(given: Any) -> bool:
 
 def in_order(given: Any, wanted: str) -> Any:
     """Values that stand in an order, or one alone, as Python's own: an array of any library is a list, or one of rows.
-    What has no order, or only names of columns, is refused by its name, after words for what is `wanted`."""
+    What has no order, or only names of columns, is refused by its name, after words for what is `wanted`.
+    """
     found = given
     if hasattr(found, "toarray"):  # (the sparse ones of SciPy)
         require_memory(8 * math.prod(found.shape), "the places of a sparse array")
         found = found.toarray()
-    is_other = hasattr(found, "__array_interface__") and found.dtype.kind in "mMV"  # (dates, and rows by names)
+    is_other = (
+        hasattr(found, "__array_interface__") and found.dtype.kind in "mMV"
+    )  # (dates, and rows by names)
     is_other = is_other or hasattr(found, "columns") or is_of_networkx(found)
     found = found.tolist() if hasattr(found, "tolist") and not is_other else found
     if is_other or isinstance(found, (str, bytes, bytearray, set, frozenset, Mapping, ItemsView)):
@@ -122,11 +130,15 @@ def no_graph(given: Any, wanted: str) -> TypeError:
 def as_array(numbers: Sequence[Any], dtype: Any = None) -> Any:
     """Whole numbers, or rows of them, as an array of NumPy, of 64 bits if no type is said."""
     numpy = import_optional("numpy", "an array is one of NumPy")
-    exact, kind = numpy.array(numbers, dtype=object), numpy.dtype("int64" if dtype is None else dtype)
+    exact = numpy.array(numbers, dtype=object)
+    kind = numpy.dtype("int64" if dtype is None else dtype)
     if kind.kind in "iu" and exact.size:
-        ends, held = (exact.min(), exact.max()), numpy.iinfo(kind)
+        ends = (exact.min(), exact.max())
+        held = numpy.iinfo(kind)
         if ends[0] < held.min or ends[1] > held.max:
-            raise OverflowError(f"numbers from {ends[0]} to {ends[1]} are more than {kind} holds: dtype=object does")
+            raise OverflowError(
+                f"numbers from {ends[0]} to {ends[1]} are more than {kind} holds: dtype=object does"
+            )
     return exact.astype(kind)
 
 
@@ -168,10 +180,14 @@ def processors() -> int:
 
 def require_memory(count: int, what: str) -> None:
     """Refuses what takes more bytes than the machine has, or than this process may have, before it begins."""
-    limits, resource = [2**63], import_optional("resource")  # (which not every system has)
+    # (which not every system has)
+    limits = [2**63]
+    resource = import_optional("resource")
     if resource:
         soft, _ = resource.getrlimit(resource.RLIMIT_AS)
-        limits += [it for it in (soft, os.sysconf("SC_PHYS_PAGES") * os.sysconf("SC_PAGE_SIZE")) if it >= 0]
+        limits += [
+            it for it in (soft, os.sysconf("SC_PHYS_PAGES") * os.sysconf("SC_PAGE_SIZE")) if it >= 0
+        ]
     if count > min(limits):
         raise MemoryError(f"{what} take {count:,} bytes, and there are {min(limits):,}")
 

@@ -13,11 +13,35 @@ from chipfire.backend import library
 from chipfire.backend.finding import find_program
 from chipfire.backend.process import ask, Fault, Input, Kept
 from chipfire.backend.report import Report
-from chipfire.configurations.configuration import capped, Chips, CHIPS_HEADER, chips_text, Configuration, GUESS_HEADER, identity as identity_numbers
-from chipfire.ensembles.drops import columns_of, dropped_on, Drops, parts_of, played_drops, ROWS_HEADER
+from chipfire.configurations.configuration import (
+    capped,
+    Chips,
+    CHIPS_HEADER,
+    chips_text,
+    Configuration,
+    GUESS_HEADER,
+    identity as identity_numbers,
+)
+from chipfire.ensembles.drops import (
+    columns_of,
+    dropped_on,
+    Drops,
+    parts_of,
+    played_drops,
+    ROWS_HEADER,
+)
 from chipfire.graphs.graph import Graph
 from chipfire.lab.logs import judge_log
-from chipfire.lab.machine import Firing, has_notes, read_schedule, Schedule, SCHEDULE_HEADER, Setting, Simulation, trace_text
+from chipfire.lab.machine import (
+    Firing,
+    has_notes,
+    read_schedule,
+    Schedule,
+    SCHEDULE_HEADER,
+    Setting,
+    Simulation,
+    trace_text,
+)
 from chipfire.utils import as_int, FILE, FileName, MAX_LIMIT, no_graph, rows_text, write_text
 
 if TYPE_CHECKING:
@@ -31,7 +55,11 @@ AnyGraph = Union[Graph, str, "os.PathLike[str]"]
 AnyProgram = Union[FileName, None]
 #: The least and the most that options may be which are whole numbers.
 _RANGES = {
-    "limit": (0, MAX_LIMIT), "ring": (1, 64), "workers": (1, 64), "turns": (1, 2**40), "trace_rows": (0, 2**20),
+    "limit": (0, MAX_LIMIT),
+    "ring": (1, 64),
+    "workers": (1, 64),
+    "turns": (1, 2**40),
+    "trace_rows": (0, 2**20),
     "rounds": (0, 2**40),
 }
 #: The options that are there or not.
@@ -64,7 +92,11 @@ def known_graph(graph: AnyGraph, program: AnyProgram = None) -> Graph:
 
 def known_chips(graph: Graph, chips: Chips, program: AnyProgram = None) -> tuple[int, ...]:
     """Chips by the numbers of the vertices, from a file or any other form; the latter may be below 0."""
-    return read_chips(chips, graph, program=program) if isinstance(chips, FILE) else graph.numbers(chips)
+    return (
+        read_chips(chips, graph, program=program)
+        if isinstance(chips, FILE)
+        else graph.numbers(chips)
+    )
 
 
 def _input(kind: str, given: Any, text: Callable[[Any], str]) -> Input:
@@ -76,7 +108,8 @@ class _Question:
     """What the program is asked about a graph, which may stand in a file."""
 
     def __init__(self, graph: AnyGraph, program: AnyProgram) -> None:
-        self.program, self.given = program, graph
+        self.program = program
+        self.given = graph
         self.own = None if isinstance(graph, FILE) else known_graph(graph)
 
     @functools.cached_property
@@ -87,7 +120,9 @@ class _Question:
         """What is given by the numbers of the vertices, if it is not the name of a file."""
         return given if isinstance(given, FILE) else self.graph.numbers(given, 0, of)
 
-    def chips(self, chips: Chips, kind: str = "chips", header: Sequence[str] = CHIPS_HEADER) -> Input:
+    def chips(
+        self, chips: Chips, kind: str = "chips", header: Sequence[str] = CHIPS_HEADER
+    ) -> Input:
         of = "chips" if header is CHIPS_HEADER else "firings"
         return _input(kind, self.numbers(chips, of), lambda numbers: chips_text(numbers, header))
 
@@ -104,15 +139,23 @@ class _Question:
 
 def check(graph: AnyGraph, *, program: AnyProgram = None) -> Check:
     """Looks whether a graph is one that chipfire takes: each vertex with its degree and its distance to the sink."""
-    lines = [line.split() for line in _Question(graph, program).ask("check", [], "vertices ").splitlines()]
+    lines = [
+        line.split()
+        for line in _Question(graph, program).ask("check", [], "vertices ").splitlines()
+    ]
     vertices, edges, sink = (int(words[1]) for words in lines[:3])
     degrees, distances = (tuple(int(words[place]) for words in lines[3:]) for place in (3, 5))
     return Check(vertices, edges, sink, degrees, distances)
 
 
 def plain(
-    graph: AnyGraph, chips: Chips, *, limit: int | None = None, guess: Chips | Report | None = None,
-    progress: bool = False, program: AnyProgram = None,
+    graph: AnyGraph,
+    chips: Chips,
+    *,
+    limit: int | None = None,
+    guess: Chips | Report | None = None,
+    progress: bool = False,
+    program: AnyProgram = None,
 ) -> Report:
     """Stabilizes: plays on one thread until no vertex is legal, or all that are have fired `limit` times.
 
@@ -121,17 +164,33 @@ def plain(
     once a second that tells how the play goes on."""
     if isinstance(graph, Graph) and graph.loops:
         start = graph.without_loops(known_chips(graph, chips, program))
-        free = plain(graph.loop_free, start, limit=limit, guess=guess, progress=progress, program=program)
+        free = plain(
+            graph.loop_free, start, limit=limit, guess=guess, progress=progress, program=program
+        )
         return replace(free, chips=tuple(graph.with_loops(free.chips)), graph=graph)
     question = _Question(graph, program)
     start = question.numbers(chips)
-    counts = () if guess is None else question.numbers(guess.total if isinstance(guess, Report) else guess, "firings")
+    counts = (
+        ()
+        if guess is None
+        else question.numbers(guess.total if isinstance(guess, Report) else guess, "firings")
+    )
     if question.own and not progress and isinstance(start, tuple) and isinstance(counts, tuple):
         if found := library.play(question.own, start, program, _limit(limit), capped(counts)):
             left, fired, stopped = found
-            return Report(tuple(left), tuple(fired), _legal(question.own, left) if stopped else (), graph=question.own)
-    files = [question.chips(start), *([] if guess is None else [question.chips(counts, "--guess", GUESS_HEADER)])]
-    return Report.parse(question.ask("plain", files, limit=limit, progress=progress), question.graph)
+            return Report(
+                tuple(left),
+                tuple(fired),
+                _legal(question.own, left) if stopped else (),
+                graph=question.own,
+            )
+    files = [
+        question.chips(start),
+        *([] if guess is None else [question.chips(counts, "--guess", GUESS_HEADER)]),
+    ]
+    return Report.parse(
+        question.ask("plain", files, limit=limit, progress=progress), question.graph
+    )
 
 
 def _limit(limit: int | None) -> int:
@@ -145,7 +204,12 @@ def _legal(graph: Graph, chips: Sequence[int]) -> tuple[int, ...]:
 
 
 def verify(
-    graph: AnyGraph, chips: Chips, report: Report | Chips, *, limit: int | None = None, progress: bool = False,
+    graph: AnyGraph,
+    chips: Chips,
+    report: Report | Chips,
+    *,
+    limit: int | None = None,
+    progress: bool = False,
     program: AnyProgram = None,
 ) -> bool:
     """Whether a report is what `plain` finds for this game and limit; or, in a form of chips, whether counts are those.
@@ -166,18 +230,28 @@ def verify(
     counts = question.graph.numbers(told.total if told else report, of="firings")
     if min((*counts, *(told.chips if told else ())), default=0) < 0:
         return False
-    start, own = question.numbers(chips), question.own
+    start = question.numbers(chips)
+    own = question.own
     if told and own and not own.loops and not progress and isinstance(start, tuple):
-        is_end = library.is_end(own, start, capped(counts), capped(told.chips), program, _limit(limit))
+        is_end = library.is_end(
+            own, start, capped(counts), capped(told.chips), program, _limit(limit)
+        )
         if is_end is not None:
-            return is_end and told == replace(told, over=_legal(own, told.chips), sealed=(), graph=own)
+            return is_end and told == replace(
+                told, over=_legal(own, told.chips), sealed=(), graph=own
+            )
     found = plain(graph, start, limit=limit, guess=counts, progress=progress, program=program)
     return found == replace(told, fired=counts, prior=None) if told else found.fired == counts
 
 
 def drops(
-    graph: AnyGraph, chips: Chips, vertices: Iterable[Hashable] | FileName, *, amounts: Iterable[int] | None = None,
-    progress: bool = False, program: AnyProgram = None,
+    graph: AnyGraph,
+    chips: Chips,
+    vertices: Iterable[Hashable] | FileName,
+    *,
+    amounts: Iterable[int] | None = None,
+    progress: bool = False,
+    program: AnyProgram = None,
 ) -> Drops:
     """Drops one chip after another, or several at a time, each on what the play of the one before it left.
 
@@ -187,10 +261,13 @@ def drops(
     Proved: each row, and the report. Not proved: that Python passes them on, and the histogram."""
     if isinstance(graph, Graph) and graph.loops:
         start = graph.without_loops(known_chips(graph, chips, program))
-        free = drops(graph.loop_free, start, vertices, amounts=amounts, progress=progress, program=program)
+        free = drops(
+            graph.loop_free, start, vertices, amounts=amounts, progress=progress, program=program
+        )
         left = tuple(graph.with_loops(free.report.chips))
         return replace(free, report=replace(free.report, chips=left, graph=graph))
-    question, rows = _Question(graph, program), cast(Any, vertices)
+    question = _Question(graph, program)
+    rows = cast(Any, vertices)
     start = question.numbers(chips)
     if not isinstance(vertices, FILE):
         at, many = dropped_on(question.graph, vertices, amounts)
@@ -205,14 +282,26 @@ def drops(
         raise ValueError("a file of drops says itself how many chips each has")
     report = Kept([])
     files: list[Input] = [question.chips(start), ("drops", rows), ("--report", report)]
-    size, extent, lost = columns_of(question.ask("avalanches", files, ROWS_HEADER, progress=progress))
+    size, extent, lost = columns_of(
+        question.ask("avalanches", files, ROWS_HEADER, progress=progress)
+    )
     return Drops(size, extent, lost, Report.parse(report.text(), question.graph))
 
 
 def run(
-    graph: AnyGraph, chips: Chips, *, limit: int | None = None, ring: int | None = None, workers: int | None = None,
-    dealt: bool = False, turns: int | None = None, feed: Chips | None = None, trace: FileName | None = None,
-    trace_rows: int | None = None, progress: bool = False, program: AnyProgram = None,
+    graph: AnyGraph,
+    chips: Chips,
+    *,
+    limit: int | None = None,
+    ring: int | None = None,
+    workers: int | None = None,
+    dealt: bool = False,
+    turns: int | None = None,
+    feed: Chips | None = None,
+    trace: FileName | None = None,
+    trace_rows: int | None = None,
+    progress: bool = False,
+    program: AnyProgram = None,
 ) -> Report:
     """Plays as `plain` does, with an actor for each vertex, on `workers` threads, by a program that has this command.
 
@@ -224,15 +313,30 @@ def run(
     question = _Question(graph, program)
     files = [question.chips(chips), *([] if feed is None else [question.chips(feed, "--feed")])]
     told = question.ask(
-        "run", files, limit=limit, ring=ring, workers=workers, turns=turns, trace_rows=trace_rows, dealt=dealt,
-        progress=progress, trace=None if trace is None else os.path.abspath(trace),
+        "run",
+        files,
+        limit=limit,
+        ring=ring,
+        workers=workers,
+        turns=turns,
+        trace_rows=trace_rows,
+        dealt=dealt,
+        progress=progress,
+        trace=None if trace is None else os.path.abspath(trace),
     )
     return Report.parse(told, question.graph)
 
 
 def simulate(
-    graph: AnyGraph, chips: Chips, schedule: Iterable[Sequence[Any]] | FileName, *, limit: int | None = None,
-    ring: int | None = None, rounds: int | None = None, books: bool = False, fed: bool = False,
+    graph: AnyGraph,
+    chips: Chips,
+    schedule: Iterable[Sequence[Any]] | FileName,
+    *,
+    limit: int | None = None,
+    ring: int | None = None,
+    rounds: int | None = None,
+    books: bool = False,
+    fed: bool = False,
     program: AnyProgram = None,
 ) -> Simulation:
     """Runs a schedule on the detector: a reply for each event, and the report if the root is closed then, or after so
@@ -244,17 +348,30 @@ def simulate(
     elif has_notes(schedule):
         schedule = read_schedule(schedule)
     chips = chips if isinstance(chips, FILE) else question.graph.chips(chips)
-    files = [question.chips(chips), _input("schedule", schedule, lambda events: rows_text(SCHEDULE_HEADER, events))]
-    text = question.ask("simulate", files, "", limit=limit, ring=ring, rounds=rounds, books=books, fed=fed)
-    given = {name: int(value) for name, value in (("limit", limit), ("ring", ring)) if value is not None}
+    files = [
+        question.chips(chips),
+        _input("schedule", schedule, lambda events: rows_text(SCHEDULE_HEADER, events)),
+    ]
+    text = question.ask(
+        "simulate", files, "", limit=limit, ring=ring, rounds=rounds, books=books, fed=fed
+    )
+    given = {
+        name: int(value) for name, value in (("limit", limit), ("ring", ring)) if value is not None
+    }
     setting = Setting(question.graph, known_chips(question.graph, chips, program), fed=fed, **given)
     events = read_schedule(schedule) if isinstance(schedule, FILE) else schedule
     told = Simulation.parse(text, question.graph)
-    return replace(told, schedule=tuple(events), notes=events.notes, rounds=int(rounds or 0), setting=setting)
+    return replace(
+        told, schedule=tuple(events), notes=events.notes, rounds=int(rounds or 0), setting=setting
+    )
 
 
 def replay(
-    graph: AnyGraph, chips: Chips, trace: Iterable[Sequence[Any]] | FileName, *, limit: int | None = None,
+    graph: AnyGraph,
+    chips: Chips,
+    trace: Iterable[Sequence[Any]] | FileName,
+    *,
+    limit: int | None = None,
     program: AnyProgram = None,
 ) -> list[Firing]:
     """The firings of a recorded run, in an order in which all that the vertices wrote down fits together."""
@@ -265,16 +382,25 @@ def replay(
 
 
 def resume(
-    graph: AnyGraph, report: Report | FileName, *, limit: int | None = None, progress: bool = False,
+    graph: AnyGraph,
+    report: Report | FileName,
+    *,
+    limit: int | None = None,
+    progress: bool = False,
     program: AnyProgram = None,
 ) -> Report:
     """Goes on from where a limit or a seal stopped a play; `total` of what comes is what was fired in all.
     A report of another graph is refused if it knows its own, or cannot be one of this; `prior` is not checked.
     `progress` is as in `plain`."""
     if not isinstance(report, (Report, *FILE)):
-        raise TypeError(f"a report is a chipfire.Report or the name of a file, and not of {type(report).__name__}")
-    question, own = _Question(graph, program), None if isinstance(report, FILE) else report
-    text = question.ask("resume", [_input("report", report, Report.text)], limit=limit, progress=progress)
+        raise TypeError(
+            f"a report is a chipfire.Report or the name of a file, and not of {type(report).__name__}"
+        )
+    question = _Question(graph, program)
+    own = None if isinstance(report, FILE) else report
+    text = question.ask(
+        "resume", [_input("report", report, Report.text)], limit=limit, progress=progress
+    )
     found = Report.parse(text, question.graph)
     if own and not (own.graph.is_like(question.graph) if own.graph else own.fits(question.graph)):
         raise ValueError("the report is one of another graph")
@@ -283,7 +409,9 @@ def resume(
 
 def explain(number: int | None = None, *, program: AnyProgram = None) -> str:
     """What the fault with this number means and what to do; without a number the table of all faults."""
-    words: list[Input] = [] if number is None else [("number", str(as_int(number, "a fault's number")))]
+    words: list[Input] = (
+        [] if number is None else [("number", str(as_int(number, "a fault's number")))]
+    )
     return ask(program, "explain", words, begins="fault ")
 
 
@@ -325,7 +453,8 @@ def _method(function: Callable[P, T]) -> Callable[Concatenate[Program, P], T]:
 
 class Program:
     """The program chipfire of this name, or the one that is found, and its commands as methods, which start it. What it
-    refuses is raised as a `Fault`. An option that is None is left out, so the program's own value stands."""
+    refuses is raised as a `Fault`. An option that is None is left out, so the program's own value stands.
+    """
 
     def __init__(self, program: AnyProgram = None) -> None:
         self.path = find_program() if program is None else os.fspath(program)

@@ -89,13 +89,25 @@ def on_path(name: str) -> str | None:
 
 def _folder_of(told: object) -> str | None:
     """The folder that pip was named, by what stands in direct_url.json; None if it was named something else."""
-    if not isinstance(told, dict) or not isinstance(told.get("dir_info"), dict) or not isinstance(told.get("url"), str):
+    if (
+        not isinstance(told, dict)
+        or not isinstance(told.get("dir_info"), dict)
+        or not isinstance(told.get("url"), str)
+    ):
         return None
     parts = urlsplit(told["url"])
-    is_here = parts.scheme == "file" and parts.netloc.lower() in ("", "localhost") and not parts.query + parts.fragment
+    is_here = (
+        parts.scheme == "file"
+        and parts.netloc.lower() in ("", "localhost")
+        and not parts.query + parts.fragment
+    )
     folder = os.fsdecode(unquote_to_bytes(parts.path))
     is_other = not told.keys().isdisjoint(("vcs_info", "archive_info"))
-    return folder if is_here and not is_other and os.path.isabs(folder) and "\0" not in folder else None
+    return (
+        folder
+        if is_here and not is_other and os.path.isabs(folder) and "\0" not in folder
+        else None
+    )
 
 
 @functools.cache
@@ -129,19 +141,26 @@ def _believe(top: str, why: str | None) -> None:
 @functools.cache
 def _takes(top: str) -> bool:
     """Whether `./chipfire` of a clone takes the program in its release, and could start it."""
-    starter, quiet = os.path.join(top, "chipfire"), subprocess.DEVNULL
+    starter = os.path.join(top, "chipfire")
+    quiet = subprocess.DEVNULL
     _believe(top, doubt(starter, top) or doubt_below(top, _READ))
-    return subprocess.run([starter, "--take"], stdin=quiet, stdout=quiet, env=environment()).returncode == 0
+    return (
+        subprocess.run([starter, "--take"], stdin=quiet, stdout=quiet, env=environment()).returncode
+        == 0
+    )
 
 
 def _program_of(clone: str, is_asked: bool) -> str:
     """What starts the program of a clone: target/chipfire, or `./chipfire` if that takes the program in the release. If
     it is not asked it may do so where the package lies; where it was installed from, it did not."""
     top = os.path.realpath(clone)
-    taken, starter = os.path.join(top, "target", "chipfire"), os.path.join(top, "chipfire")
+    taken = os.path.join(top, "target", "chipfire")
+    starter = os.path.join(top, "chipfire")
     _believe(top, doubt(clone, top))
     if not os.access(taken, os.X_OK):
-        is_released = os.path.isfile(os.path.join(top, "release", "PROVED")) and os.access(starter, os.X_OK)
+        is_released = os.path.isfile(os.path.join(top, "release", "PROVED")) and os.access(
+            starter, os.X_OK
+        )
         if not is_released or not (_takes(top) if is_asked else clone == _AROUND):
             raise ProgramNotFound(2, f"the clone {top} has none: ./chipfire there builds it", top)
     if not os.access(taken, os.X_OK):
@@ -174,7 +193,9 @@ def find_program() -> str:
     try:
         return _found(is_asked=True)
     except ProgramNotFound as why:
-        raise ProgramNotFound(2, f"the program is not found: {why.strerror}. {_REMEDY}", "chipfire") from None
+        raise ProgramNotFound(
+            2, f"the program is not found: {why.strerror}. {_REMEDY}", "chipfire"
+        ) from None
 
 
 def warn_without_program() -> None:
@@ -182,7 +203,11 @@ def warn_without_program() -> None:
     try:
         _found(is_asked=False)
     except ProgramNotFound as why:
-        warnings.warn(f"chipfire has no program: {why.strerror}. {_WITHOUT} {_REMEDY}.", RuntimeWarning, stacklevel=3)
+        warnings.warn(
+            f"chipfire has no program: {why.strerror}. {_WITHOUT} {_REMEDY}.",
+            RuntimeWarning,
+            stacklevel=3,
+        )
 
 
 def start_program() -> None:

@@ -23,7 +23,14 @@ from array import array
 from collections.abc import Sequence
 from typing import Any, TYPE_CHECKING
 
-from chipfire.backend.finding import CARRIED, find_program, ProgramNotFound, source_of_version, version, version_of
+from chipfire.backend.finding import (
+    CARRIED,
+    find_program,
+    ProgramNotFound,
+    source_of_version,
+    version,
+    version_of,
+)
 from chipfire.backend.process import refused
 from chipfire.backend.trust import doubt
 from chipfire.utils import as_int, FileName, MAX_LIMIT, package_text
@@ -34,9 +41,11 @@ if TYPE_CHECKING:
 #: The most that a play in this process may take: vertices and edges, times chips, and times firings of each vertex.
 MOST_WORK = 2**28
 _NAME = "libchipfire.so"
-_NUMBER, _SLICE = ctypes.c_uint64, (ctypes.c_void_p, ctypes.c_size_t)
+_NUMBER = ctypes.c_uint64
+_SLICE = (ctypes.c_void_p, ctypes.c_size_t)
 #: No numbers, one number, and a slice of length 0, which points to something.
-_NONE, _ZERO = array("Q"), array("Q", [0])
+_NONE = array("Q")
+_ZERO = array("Q", [0])
 _NOTHING = _ZERO.buffer_info()[0], 0
 
 
@@ -54,13 +63,17 @@ def _stated(file: str, folder: str) -> str:
     clone the sources state it, and `./chipfire` keeps a stamp beside what it took or built of them: that is of these
     sources if the stamp is not older."""
     around = os.path.dirname(folder)
-    for proved in (os.path.join(folder, "PROVED"), os.path.join(around, "share", "doc", "chipfire", "PROVED")):
+    for proved in (
+        os.path.join(folder, "PROVED"),
+        os.path.join(around, "share", "doc", "chipfire", "PROVED"),
+    ):
         if os.path.isfile(proved):
             lines = package_text(proved).splitlines()
             with open(file, "rb") as library:
                 is_meant = f"{_NAME} sha256:{hashlib.sha256(library.read()).hexdigest()}" in lines
             return lines[0].partition(" ")[2] if is_meant else ""
-    stamp, source = os.path.join(folder, "chipfire.stamp"), source_of_version(around)
+    stamp = os.path.join(folder, "chipfire.stamp")
+    source = source_of_version(around)
     if not os.path.isfile(stamp) or not os.path.isfile(source):
         return ""
     changed = os.stat(source)
@@ -77,7 +90,9 @@ def _why_not(file: str, folder: str) -> str | None:
     stated = _stated(file, folder)
     if not stated:
         return f"{file} is not loaded, since neither PROVED nor the stamp of ./chipfire states its version"
-    return None if stated == version() else f"{file} has version {stated}, and the package {version()}"
+    return (
+        None if stated == version() else f"{file} has version {stated}, and the package {version()}"
+    )
 
 
 def _load(file: str) -> ctypes.CDLL:
@@ -88,10 +103,21 @@ def _load(file: str) -> ctypes.CDLL:
     own = f"{number // 10**6}.{number // 1000 % 1000}.{number % 1000}"
     if own != version():
         raise OSError(f"it has version {own}, and the package {version()}")
-    calls = (found.chipfire_stabilize_all, 4), (found.chipfire_avalanches, 6), (found.chipfire_verify, 3)
+    calls = (
+        (found.chipfire_stabilize_all, 4),
+        (found.chipfire_avalanches, 6),
+        (found.chipfire_verify, 3),
+    )
     for call, slices in calls:
         call.restype = _NUMBER
-        call.argtypes = [_NUMBER, _NUMBER, *3 * _SLICE, _NUMBER, *slices * _SLICE, ctypes.POINTER(_NUMBER)]
+        call.argtypes = [
+            _NUMBER,
+            _NUMBER,
+            *3 * _SLICE,
+            _NUMBER,
+            *slices * _SLICE,
+            ctypes.POINTER(_NUMBER),
+        ]
     return found
 
 
@@ -129,7 +155,9 @@ def most(graph: Graph) -> int:
 def at_once(graph: Graph, chips: Sequence[int]) -> int:
     """How many of these games, one after another, a call in this process may have; 0 if one is too long."""
     width = graph.vertices or 1
-    return most(graph) // (1 + max([sum(chips[it : it + width]) for it in range(0, len(chips), width)], default=0))
+    return most(graph) // (
+        1 + max([sum(chips[it : it + width]) for it in range(0, len(chips), width)], default=0)
+    )
 
 
 def _slice(name: str, numbers: Any) -> tuple[int, int]:
@@ -139,7 +167,11 @@ def _slice(name: str, numbers: Any) -> tuple[int, int]:
     try:
         view = memoryview(numbers)
         if view.format in ("Q", "L"):
-            return (ctypes.addressof(ctypes.c_char.from_buffer(view)), view.nbytes // 8) if view.nbytes else _NOTHING
+            return (
+                (ctypes.addressof(ctypes.c_char.from_buffer(view)), view.nbytes // 8)
+                if view.nbytes
+                else _NOTHING
+            )
     except TypeError:
         pass
     kind = "array of 64-bit numbers from 0 on, one behind another, that can be written"
@@ -148,9 +180,14 @@ def _slice(name: str, numbers: Any) -> tuple[int, int]:
 
 def _call(call: Any, graph: Graph, limit: int, *arrays: Any, but: int = 0) -> int:
     """Makes a call of the library. A fault is raised, `but` this one, whose number is returned; 0 if there is none."""
-    place, of_graph = _NUMBER(), (min(graph.vertices, 2**64 - 1), min(graph.sink, 2**64 - 1))
-    views = [memoryview(numbers) for numbers in arrays]  # (as long as there are views no array gets another length)
-    words = [word for numbers in (*graph.long_columns, *arrays) for word in _slice("numbers", numbers)]
+    place = _NUMBER()
+    of_graph = (min(graph.vertices, 2**64 - 1), min(graph.sink, 2**64 - 1))
+    views = [
+        memoryview(numbers) for numbers in arrays
+    ]  # (as long as there are views no array gets another length)
+    words = [
+        word for numbers in (*graph.long_columns, *arrays) for word in _slice("numbers", numbers)
+    ]
     number: int = call(*of_graph, *words[:6], limit, *words[6:], place)
     for view in views:
         view.release()
@@ -173,17 +210,40 @@ def _call_on(call: str, graph: Graph, limit: int, **arrays: Any) -> None:
 
 
 def stabilize_all(
-    graph: Graph, chips: Any, fired: Any, stopped: Any, *, guesses: Any = _NONE, limit: int = MAX_LIMIT
+    graph: Graph,
+    chips: Any,
+    fired: Any,
+    stopped: Any,
+    *,
+    guesses: Any = _NONE,
+    limit: int = MAX_LIMIT,
 ) -> None:
     """Stabilizes many games on a graph. `chips` has those of one game after another, and gets those at the end.
 
     `fired` is as long, and gets how often each vertex fired. `stopped` gets of each game how many vertices the limit
-    stopped. `guesses` is empty, or as long as `chips`: how often each vertex may have fired in the end."""
-    _call_on("chipfire_stabilize_all", graph, limit, guesses=guesses, chips=chips, fired=fired, stopped=stopped)
+    stopped. `guesses` is empty, or as long as `chips`: how often each vertex may have fired in the end.
+    """
+    _call_on(
+        "chipfire_stabilize_all",
+        graph,
+        limit,
+        guesses=guesses,
+        chips=chips,
+        fired=fired,
+        stopped=stopped,
+    )
 
 
 def avalanches(
-    graph: Graph, at: Any, amounts: Any, chips: Any, sizes: Any, extents: Any, losts: Any, *, limit: int = MAX_LIMIT
+    graph: Graph,
+    at: Any,
+    amounts: Any,
+    chips: Any,
+    sizes: Any,
+    extents: Any,
+    losts: Any,
+    *,
+    limit: int = MAX_LIMIT,
 ) -> None:
     """Drops `amounts` of chips on the vertices `at`, one after another, on `chips`, which gets what lies there then.
 
@@ -194,30 +254,45 @@ def avalanches(
 
 
 def play(
-    graph: Graph, chips: Sequence[int], program: FileName | None, limit: int = MAX_LIMIT, guess: Sequence[int] = ()
+    graph: Graph,
+    chips: Sequence[int],
+    program: FileName | None,
+    limit: int = MAX_LIMIT,
+    guess: Sequence[int] = (),
 ) -> tuple[array[int], array[int], int] | None:
     """The chips and the counts at the end of one game after another, and how many vertices the limit stopped; or None
     if one of them is the program's."""
-    found, width, at_most = _loaded() if program is None else None, graph.vertices or 1, most(graph)
+    found = _loaded() if program is None else None
+    width = graph.vertices or 1
+    at_most = most(graph)
     if not found or not (some := at_once(graph, chips)):
         return None
     starts = range(0, len(chips), width)
     ended = left, fired, stopped = array("Q"), array("Q"), array("Q")
     for first in range(0, len(starts) or 1, some):
-        part, games = slice(first * width, (first + some) * width), len(starts[first : first + some])
+        part = slice(first * width, (first + some) * width)
+        games = len(starts[first : first + some])
         start = chips[part] if isinstance(chips, array) else array("Q", chips[part])
         here = start, _ZERO * len(start), _ZERO * games
-        _call(found.chipfire_stabilize_all, graph, min(limit, at_most), array("Q", guess[part]), *here)
+        _call(
+            found.chipfire_stabilize_all, graph, min(limit, at_most), array("Q", guess[part]), *here
+        )
         for numbers, more in zip(ended, here):
             numbers += more
     return None if at_most < limit and any(stopped) else (left, fired, sum(stopped))
 
 
 def is_end(
-    graph: Graph, chips: Sequence[int], fired: Sequence[int], ends: Sequence[int], program: FileName | None, limit: int
+    graph: Graph,
+    chips: Sequence[int],
+    fired: Sequence[int],
+    ends: Sequence[int],
+    program: FileName | None,
+    limit: int,
 ) -> bool | None:
     """Whether these are the counts and the chips at the end of a game; or None if that is the program's to say."""
-    found, at_most = _loaded() if program is None else None, most(graph)
+    found = _loaded() if program is None else None
+    at_most = most(graph)
     # (a game that is stopped here and not by its limit has a vertex that fires more often)
     if not found or sum(chips) >= at_most or max(fired) >= at_most < limit:
         return None

@@ -22,7 +22,8 @@ if TYPE_CHECKING:
     from chipfire.graphs.graph import Graph
 
 #: The faults of a graph file, and of a file of rows.
-_OF_GRAPH, _OF_ROWS = (*range(1, 9), 20, 21, 22), (*range(23, 29), 10)
+_OF_GRAPH = (*range(1, 9), 20, 21, 22)
+_OF_ROWS = (*range(23, 29), 10)
 #: What makes a process end with the thread that started it (PR_SET_PDEATHSIG), if the system has that; and the words
 #: that have setpriv do the same, sooner than Python makes a copy of itself to do it.
 _PRCTL = ctypes.CDLL(None).prctl if sys.platform == "linux" else None
@@ -45,11 +46,21 @@ class Fault(ValueError):
     """
 
     def __init__(
-        self, number: int, name: str, place: tuple[Any, ...], explanation: str, status: int, words: str = ""
+        self,
+        number: int,
+        name: str,
+        place: tuple[Any, ...],
+        explanation: str,
+        status: int,
+        words: str = "",
     ) -> None:
         super().__init__(number, name, place, explanation, status, words)
-        self.number, self.name, self.place = number, name, place
-        self.explanation, self.status, self.words = explanation, status, words
+        self.number = number
+        self.name = name
+        self.place = place
+        self.explanation = explanation
+        self.status = status
+        self.words = words
 
     def __str__(self) -> str:
         line = " ".join(["fault", str(self.number), self.name, *map(str, self.place)])
@@ -81,18 +92,30 @@ Input = tuple[str, Union[FileName, Kept]]
 
 
 def ask(
-    program: FileName | None, command: str, inputs: Sequence[Input] = (), options: Mapping[str, Any] | None = None,
-    graph: Graph | None = None, begins: str | tuple[str, ...] = '{"chips":[',
+    program: FileName | None,
+    command: str,
+    inputs: Sequence[Input] = (),
+    options: Mapping[str, Any] | None = None,
+    graph: Graph | None = None,
+    begins: str | tuple[str, ...] = '{"chips":[',
 ) -> str:
     """Runs a command, and returns what it writes, which `begins` so; a fault is raised. `graph` is the one that is
-    asked about, if Python has it. An option that is None or False is left out, and True is one without a value."""
+    asked about, if Python has it. An option that is None or False is left out, and True is one without a value.
+    """
     path = find_program() if program is None else os.fspath(program)
     options = {"large": command != "explain", **(options or {})}
-    given = {name: value for name, value in options.items() if value is not None and value is not False}
+    given = {
+        name: value for name, value in options.items() if value is not None and value is not False
+    }
     names = [f"/dev/fd/{it.number}" if isinstance(it, Kept) else os.fspath(it) for _, it in inputs]
     names = [f"./{name}" if name.startswith("-") else name for name in names]  # (it is no option)
-    words = [command, *(f"{kind}=" * kind.startswith("--") + name for (kind, _), name in zip(inputs, names))]
-    words += [f"--{name}" if value is True else f"--{name}={value}" for name, value in given.items()]
+    words = [
+        command,
+        *(f"{kind}=" * kind.startswith("--") + name for (kind, _), name in zip(inputs, names)),
+    ]
+    words += [
+        f"--{name}" if value is True else f"--{name}={value}" for name, value in given.items()
+    ]
     kept = [file.number for _, file in inputs if isinstance(file, Kept)]
     status, output, errors = _started([path, *words], kept)
     if status in (1, 3) and errors and errors[-1].startswith("chipfire: fault "):
@@ -103,9 +126,13 @@ def ask(
             told = _untaken(path, words, inputs)
         raise Fault(int(number), name, where, _explained(path, number), status, told)
     if status not in (0, 2, 3) or not output.startswith(begins):
-        raise RuntimeError(f"{path} {command} ended with status {status} and no answer of chipfire: {' '.join(errors)}")
+        raise RuntimeError(
+            f"{path} {command} ended with status {status} and no answer of chipfire: {' '.join(errors)}"
+        )
     if "chipfire: trace cut" in errors:
-        warnings.warn("a vertex took and fired more often than its trace has rows", TraceCut, stacklevel=3)
+        warnings.warn(
+            "a vertex took and fired more often than its trace has rows", TraceCut, stacklevel=3
+        )
     return output
 
 
@@ -123,20 +150,36 @@ def refused(number: int, place: int, graph: Graph) -> Fault:
 
 
 def _meant(
-    number: int, place: tuple[int, ...], words: Sequence[str], inputs: Sequence[Input], graph: Graph | None
+    number: int,
+    place: tuple[int, ...],
+    words: Sequence[str],
+    inputs: Sequence[Input],
+    graph: Graph | None,
 ) -> str:
     """Which of the files a fault is about, by its name, or what is wrong with the graph that Python has."""
     if number <= 8 and graph is not None:
         return f"{graph.wrong}."
     if number in (1, 3, 30):
-        most = "" if words[0] == "judge" else f"1 to {MAX_LARGE_VERTICES} vertices, up to {MAX_LARGE_EDGES} edges, and "
+        most = (
+            ""
+            if words[0] == "judge"
+            else f"1 to {MAX_LARGE_VERTICES} vertices, up to {MAX_LARGE_EDGES} edges, and "
+        )
         return f"{words[0]} takes {most}files of up to {2**28} bytes."
     if number == 92:
         return f"{re.sub('^--[a-z]+=', '', words[place[0]])} cannot be opened, or is also written"
-    kinds = {kind: file for kind, file in inputs if not isinstance(file, Kept) or kind in ("schedule", "trace")}
+    kinds = {
+        kind: file
+        for kind, file in inputs
+        if not isinstance(file, Kept) or kind in ("schedule", "trace")
+    }
     if number in (*_OF_GRAPH, *_OF_ROWS):
-        kinds = {kind: file for kind, file in kinds.items() if (kind == "graph") == (number in _OF_GRAPH)}
-    names = [f"the {kind}" if isinstance(file, Kept) else os.fspath(file) for kind, file in kinds.items()]
+        kinds = {
+            kind: file for kind, file in kinds.items() if (kind == "graph") == (number in _OF_GRAPH)
+        }
+    names = [
+        f"the {kind}" if isinstance(file, Kept) else os.fspath(file) for kind, file in kinds.items()
+    ]
     return f"in {' or '.join(names)}" if names and number <= 53 else ""
 
 
@@ -144,7 +187,9 @@ def _untaken(program: str, words: Sequence[str], inputs: Sequence[Input]) -> str
     """Which words the program does not take, each by itself; all of them, if it takes each of them so."""
     kinds = [kind for kind, _ in inputs]
     files = [kind for kind in kinds if kind != "number" and not kind.startswith("--")]
-    others = [word for word, kind in zip(words[1:], kinds) if kind not in files] + [*words[1 + len(kinds) :]]
+    others = [word for word, kind in zip(words[1:], kinds) if kind not in files] + [
+        *words[1 + len(kinds) :]
+    ]
     # (a file without a name cannot be opened, so nothing is played to find this out)
     nameless = [words[0], *[""] * len(files)]
     wrong = [word for word in words if re.search("[\ud800-\udfff]", word)]
@@ -152,7 +197,9 @@ def _untaken(program: str, words: Sequence[str], inputs: Sequence[Input]) -> str
         wrong = [words[0]]
     elif not wrong:
         wrong = [word for word in others if _is_untaken(program, [*nameless, word])]
-    kept = {f"/dev/fd/{file.number}": f"({kind})" for kind, file in inputs if isinstance(file, Kept)}
+    kept = {
+        f"/dev/fd/{file.number}": f"({kind})" for kind, file in inputs if isinstance(file, Kept)
+    }
     told = [ascii(kept.get(word, word))[1:-1] for word in wrong or words]
     return f"it does not take the word{'s' * (len(told) > 1)} `{' '.join(told)}`"
 
@@ -168,8 +215,12 @@ def _has_setpriv() -> bool:
     setpriv = on_path(_SETPRIV[0])
     if setpriv is None:
         return False
-    words, quiet = [*_SETPRIV, _while_alive(setpriv), "--version"], subprocess.DEVNULL
-    return subprocess.run(words, stdin=quiet, stdout=quiet, stderr=quiet, env=environment()).returncode == 0
+    words = [*_SETPRIV, _while_alive(setpriv), "--version"]
+    quiet = subprocess.DEVNULL
+    return (
+        subprocess.run(words, stdin=quiet, stdout=quiet, stderr=quiet, env=environment()).returncode
+        == 0
+    )
 
 
 def _while_alive(file: str) -> str:
@@ -196,8 +247,14 @@ def _started(words: Sequence[str], kept: Sequence[int] = ()) -> tuple[int, str, 
     command = [*_SETPRIV, _while_alive(program)] if by_setpriv else [program]
     with tempfile.TemporaryFile("w+", encoding="utf-8", newline="") as output:
         running = subprocess.Popen(
-            [*command, *words[1:]], stdin=subprocess.DEVNULL, stdout=output, stderr=subprocess.PIPE, encoding="utf-8",
-            errors="replace", pass_fds=kept, preexec_fn=None if by_setpriv else functools.partial(_bind, os.getpid()),
+            [*command, *words[1:]],
+            stdin=subprocess.DEVNULL,
+            stdout=output,
+            stderr=subprocess.PIPE,
+            encoding="utf-8",
+            errors="replace",
+            pass_fds=kept,
+            preexec_fn=None if by_setpriv else functools.partial(_bind, os.getpid()),
             env=environment(),
         )
         with running:

@@ -38,8 +38,14 @@ class Report(Drawn):
 
     def __post_init__(self) -> None:
         vertices = len(self.chips) if self.graph is None else self.graph.vertices
-        sizes = {len(self.chips), len(self.fired), vertices if self.prior is None else len(self.prior)}
-        if sizes != {vertices} or not all(0 <= vertex < vertices for vertex in (*self.over, *self.sealed)):
+        sizes = {
+            len(self.chips),
+            len(self.fired),
+            vertices if self.prior is None else len(self.prior),
+        }
+        if sizes != {vertices} or not all(
+            0 <= vertex < vertices for vertex in (*self.over, *self.sealed)
+        ):
             raise ValueError(f"the lists of the report do not fit a graph of {vertices} vertices")
         if self.graph is not None and self.total[self.graph.sink]:
             raise ValueError("the sink of the graph fired in the report")
@@ -78,7 +84,9 @@ class Report(Drawn):
 
     def _known_graph(self) -> Graph:
         if self.graph is None:
-            raise ValueError("this report does not know its graph: read it by Report.read(file, graph)")
+            raise ValueError(
+                "this report does not know its graph: read it by Report.read(file, graph)"
+            )
         return self.graph
 
     @classmethod
@@ -107,14 +115,23 @@ class Report(Drawn):
         if graph.vertices != len(self.chips):
             return False
         graph.refuse_loops()
-        degrees, start = graph.degrees(), graph.position_after(self.chips, [-count for count in self.total])
+        degrees = graph.degrees()
+        start = graph.position_after(self.chips, [-count for count in self.total])
         # (what a sealed edge held back lies where it would have gone, and may make a vertex legal that never stopped)
-        legal = {vertex for vertex, count in enumerate(self.chips) if count >= degrees[vertex] and not self.sealed}
+        legal = {
+            vertex
+            for vertex, count in enumerate(self.chips)
+            if count >= degrees[vertex] and not self.sealed
+        }
         return min(start) >= 0 and legal <= {*self.over, graph.sink}
 
     def text(self) -> str:
         """The text of the report, to the byte that of the program."""
-        told = {name: value for name, value in vars(self).items() if name != "graph" and value is not None}
+        told = {
+            name: value
+            for name, value in vars(self).items()
+            if name != "graph" and value is not None
+        }
         told |= {"closed": self.closed, "version": 1 if self.prior is None else 2}
         return json.dumps(told, separators=(",", ":"), sort_keys=True) + "\n"
 

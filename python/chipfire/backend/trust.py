@@ -66,7 +66,9 @@ def _doubt_of(path: str, state: os.stat_result, top: str) -> str | None:
 
 def _way(path: str) -> Iterator[tuple[str, os.stat_result]]:
     """Each folder and symbolic link on the way from the root directory to what lies at a path, and that; with states."""
-    at, left, links = os.sep, path.split(os.sep)[::-1], 0
+    at = os.sep
+    left = path.split(os.sep)[::-1]
+    links = 0
     yield at, os.lstat(at)
     while left:
         name = left.pop()
@@ -77,7 +79,8 @@ def _way(path: str) -> Iterator[tuple[str, os.stat_result]]:
             state = os.lstat(inner)
             yield inner, state
             if stat.S_ISLNK(state.st_mode):
-                target, links = os.readlink(inner), links + 1
+                target = os.readlink(inner)
+                links = links + 1
                 left += target.split(os.sep)[::-1]
                 inner = os.sep if target.startswith(os.sep) else at
             at = inner

@@ -31,12 +31,22 @@ Chips = Union[int, Sequence[Any], Mapping[Any, int], Any]
 
 def capped(counts: Sequence[int]) -> Sequence[int]:
     """Counts of chips or firings, of which what is too much anyway is a number of 64 bits."""
-    return counts if max(counts, default=0) <= MAX_CHIPS else [min(count, MAX_CHIPS + 1) for count in counts]
+    return (
+        counts
+        if max(counts, default=0) <= MAX_CHIPS
+        else [min(count, MAX_CHIPS + 1) for count in counts]
+    )
 
 
 def chips_text(chips: Sequence[int], header: Sequence[str] = CHIPS_HEADER) -> str:
     """The text of a chips file, or of a guess."""
-    return "".join([",".join(header), "\n", *(f"{at},{count}\n" for at, count in enumerate(capped(chips)) if count)])
+    return "".join(
+        [
+            ",".join(header),
+            "\n",
+            *(f"{at},{count}\n" for at, count in enumerate(capped(chips)) if count),
+        ]
+    )
 
 
 class Sums(Mapping[Hashable, int]):
@@ -56,7 +66,9 @@ class Sums(Mapping[Hashable, int]):
         return graph.numbers(chips)
 
     def __add__(self: AnySums, other: Chips) -> AnySums:
-        return type(self)(self.graph, list(map(operator.add, self.numbers, self._numbers(self.graph, other))))
+        return type(self)(
+            self.graph, list(map(operator.add, self.numbers, self._numbers(self.graph, other)))
+        )
 
     __radd__ = __add__
 
@@ -150,16 +162,22 @@ class Configuration(Drawn, Sums):
         return with_unit(self.degree, "chip")
 
 
-def stabilized(chips: Configuration, program: FileName | None = None) -> tuple[Sequence[int], Sequence[int]]:
+def stabilized(
+    chips: Configuration, program: FileName | None = None
+) -> tuple[Sequence[int], Sequence[int]]:
     """What lies there when no vertex can fire any more, and how often each fired, by numbers."""
     if any(count < 0 for count in chips.numbers):
         name = next(name for name, count in chips.items() if count < 0)
         others = "recurrent_representative and superstable_representative take such chips"
-        raise ValueError(f"the chips of vertex {name!r} are below 0, so nothing is played; {others}")
+        raise ValueError(
+            f"the chips of vertex {name!r} are below 0, so nothing is played; {others}"
+        )
     return stabilized_rows(chips.graph, chips.numbers, program)
 
 
-def stabilized_rows(graph: Graph, chips: Sequence[int], program: FileName | None) -> tuple[array[int], array[int]]:
+def stabilized_rows(
+    graph: Graph, chips: Sequence[int], program: FileName | None
+) -> tuple[array[int], array[int]]:
     """The same of the chips of one game after another."""
     if graph.loops:
         left, fired = stabilized_rows(graph.loop_free, graph.without_loops(chips), program)
@@ -169,7 +187,10 @@ def stabilized_rows(graph: Graph, chips: Sequence[int], program: FileName | None
     if not found and not chips:
         ask(program, "check", [("graph", graph.kept)], graph=graph, begins="vertices ")
     for start in () if found else range(0, len(chips), graph.vertices or 1):
-        files = [("graph", graph.kept), ("chips", Kept([chips_text(chips[start : start + graph.vertices]).encode()]))]
+        files = [
+            ("graph", graph.kept),
+            ("chips", Kept([chips_text(chips[start : start + graph.vertices]).encode()])),
+        ]
         told = json.loads(ask(program, "plain", files, graph=graph))
         left.extend(told["chips"])
         fired.extend(told["fired"])
@@ -179,24 +200,35 @@ def stabilized_rows(graph: Graph, chips: Sequence[int], program: FileName | None
     return left, fired
 
 
-def burning_test(graph: Graph, rows: Sequence[tuple[int, ...]], program: FileName | None) -> list[bool]:
+def burning_test(
+    graph: Graph, rows: Sequence[tuple[int, ...]], program: FileName | None
+) -> list[bool]:
     """Which configurations come back if the burning configuration is added and the sum is stabilized."""
     if graph.loops:
-        return burning_test(graph.loop_free, [tuple(map(operator.sub, row, graph.loops)) for row in rows], program)
-    fuel, width, none = burning(graph, program)[1], graph.vertices, (0,) * graph.vertices
+        return burning_test(
+            graph.loop_free, [tuple(map(operator.sub, row, graph.loops)) for row in rows], program
+        )
+    fuel = burning(graph, program)[1]
+    width = graph.vertices
+    none = (0,) * graph.vertices
     # (no play comes back to what has less than no chip somewhere)
     burnt = (map(operator.add, row if min(row) >= 0 else none, fuel) for row in rows)
     left, _ = stabilized_rows(graph, [*itertools.chain.from_iterable(burnt)], program)
     left[graph.sink :: width] = array("Q", bytes(8 * len(rows)))
-    return [tuple(left[at : at + width]) == row for at, row in zip(range(0, len(left), width), rows)]
+    return [
+        tuple(left[at : at + width]) == row for at, row in zip(range(0, len(left), width), rows)
+    ]
 
 
-def cached_on_graph(question: Callable[[Graph, FileName | None], T]) -> Callable[[Graph, FileName | None], T]:
+def cached_on_graph(
+    question: Callable[[Graph, FileName | None], T]
+) -> Callable[[Graph, FileName | None], T]:
     """A question that is asked once of each graph and program; the graph keeps the answer."""
 
     @functools.wraps(question)
     def answer(graph: Graph, program: FileName | None) -> T:
-        known, key = graph.answers, (question.__name__, program)
+        known = graph.answers
+        key = (question.__name__, program)
         found: T = known[key] if key in known else known.setdefault(key, question(graph, program))
         return found
 
@@ -206,7 +238,8 @@ def cached_on_graph(question: Callable[[Graph, FileName | None], T]) -> Callable
 @cached_on_graph
 def burning(graph: Graph, program: FileName | None) -> tuple[Sequence[int], Sequence[int]]:
     """The least burning script, and the chips that it takes away, by numbers; `chipfire.burning_script` tells how."""
-    graph, none = graph.loop_free, [0] * graph.vertices
+    none = [0] * graph.vertices
+    graph = graph.loop_free
     entering = graph.position_after(graph.degrees(), [1] * graph.vertices)
     start = Configuration(graph, [max(count - 1, 0) for count in entering])
     fired = none if start.is_stable() else stabilized(start, program)[1]

@@ -29,9 +29,15 @@ class Group:
 
     def __init__(self, graph: AnyGraph) -> None:
         self.graph: Graph = known_graph(graph)
-        as_int(self.graph.vertices, "the number of vertices of a graph with its group", 1, MAX_GROUP_VERTICES)
+        as_int(
+            self.graph.vertices,
+            "the number of vertices of a graph with its group",
+            1,
+            MAX_GROUP_VERTICES,
+        )
         factors, parts, self._units = smith.cyclic(smith.reduced(self.graph))
-        self.factors, self._parts = tuple(factors), [parts[place] for place in range(self.graph.vertices - 1)]
+        self._parts = [parts[place] for place in range(self.graph.vertices - 1)]
+        self.factors = tuple(factors)
 
     def __repr__(self) -> str:
         return f"<Group of {' x '.join(f'Z/{factor}' for factor in self.factors) or 'one element'}>"
@@ -42,7 +48,9 @@ class Group:
         This is the discrete logarithm."""
         counts = [*Configuration(self.graph, chips).values()]
         columns = ([part[at] for part in self._parts] for at in range(len(self.factors)))
-        return tuple(sum(map(operator.mul, counts, column)) % it for column, it in zip(columns, self.factors))
+        return tuple(
+            sum(map(operator.mul, counts, column)) % it for column, it in zip(columns, self.factors)
+        )
 
     def element(self, coordinates: Sequence[int], *, program: AnyProgram = None) -> Configuration:
         """The recurrent configuration of these coordinates, of which there is a number for each factor.
@@ -50,16 +58,22 @@ class Group:
         It comes of the identity by chips that fall and are multiplied by 4, again and again: in as many plays as the
         largest factor has digits in base 4.
         Proved: the plays. Not proved: which chips fall."""
-        times = as_ints(listed(coordinates, "coordinates stand in a list"), lambda at: f"coordinate {at}", None)
+        times = as_ints(
+            listed(coordinates, "coordinates stand in a list"), lambda at: f"coordinate {at}", None
+        )
         if len(times) != len(self.factors):
-            raise ValueError(f"there are {len(times)} coordinates, and the group has {len(self.factors)} factors")
+            raise ValueError(
+                f"there are {len(times)} coordinates, and the group has {len(self.factors)} factors"
+            )
         counts = [0] * (self.graph.vertices - 1)
         for count, unit in zip(times, self._units):
             for place, many in unit.items():
                 counts[place] = (counts[place] + count * many) % self.factors[-1]
         found = Configuration(self.graph, identity(self.graph, program))
         for digit in reversed(range((max(counts, default=0).bit_length() + 1) // 2)):
-            found = (4 * found + [(count >> 2 * digit) % 4 for count in counts]).stabilize(program=program)
+            found = (4 * found + [(count >> 2 * digit) % 4 for count in counts]).stabilize(
+                program=program
+            )
         return found
 
     @functools.cached_property

@@ -14,7 +14,8 @@ def laplacian(graph: AnyGraph, *, sparse: bool = False) -> Any:
 
     The sink never fires, but has a row too. In an undirected graph (a family, `Graph.undirected`, one of NetworkX or
     Sage) it sends back what it gets, so the matrix is symmetric. In a directed graph of NetworkX or Sage it has the
-    edges that it has there. In a `Graph` of rows, which has no edge out of the sink, and in one of a file it is 0."""
+    edges that it has there. In a `Graph` of rows, which has no edge out of the sink, and in one of a file it is 0.
+    """
     return _matrix(smith.laplacian(known_graph(graph)), sparse)
 
 
@@ -37,7 +38,8 @@ def invariant_factors(graph: AnyGraph) -> tuple[int, ...]:
     """The invariant factors of the sandpile group, above 1 and ascending; each divides the next.
 
     (4, 4) says that the group is that of the pairs of numbers modulo 4; one of one element has none. A grid of 40 by 40
-    takes a second, one of 50 by 50 some four. Nothing of this is proved, and the program is not asked."""
+    takes a second, one of 50 by 50 some four. Nothing of this is proved, and the program is not asked.
+    """
     return tuple(smith.invariant_factors(smith.reduced(known_graph(graph))))
 
 

@@ -6,7 +6,13 @@ from collections.abc import Callable, Iterable, Iterator, Sequence
 
 from chipfire.backend.commands import AnyGraph, AnyProgram, known_graph
 from chipfire.configurations import smith
-from chipfire.configurations.configuration import burning, burning_test, Chips, Configuration, identity
+from chipfire.configurations.configuration import (
+    burning,
+    burning_test,
+    Chips,
+    Configuration,
+    identity,
+)
 from chipfire.configurations.stabilization import as_configuration, as_rows
 from chipfire.graphs.graph import Graph
 
@@ -22,7 +28,8 @@ def burning_script(graph: AnyGraph, *, program: AnyProgram = None) -> Configurat
 
 def burning_configuration(graph: AnyGraph, *, program: AnyProgram = None) -> Configuration:
     """The chips that `burning_script` takes away. Added to a recurrent configuration and stabilized, it comes back.
-    Proved: the counts of the play that `burning_script` tells of. Not proved: that they come to these chips."""
+    Proved: the counts of the play that `burning_script` tells of. Not proved: that they come to these chips.
+    """
     known = known_graph(graph, program)
     return Configuration(known, burning(known, program)[1])
 
@@ -36,7 +43,9 @@ def is_recurrent(graph: AnyGraph, chips: Chips, *, program: AnyProgram = None) -
     return as_configuration(graph, chips, program).is_recurrent(program=program)
 
 
-def are_recurrent(graph: AnyGraph, configurations: Iterable[Chips], *, program: AnyProgram = None) -> list[bool]:
+def are_recurrent(
+    graph: AnyGraph, configurations: Iterable[Chips], *, program: AnyProgram = None
+) -> list[bool]:
     """Of many configurations whether each is recurrent; they come as in `stabilize_many`.
     Proved and not proved: as of `is_recurrent`."""
     known = known_graph(graph, program)
@@ -44,7 +53,9 @@ def are_recurrent(graph: AnyGraph, configurations: Iterable[Chips], *, program: 
     return burning_test(known, [Configuration(known, row).numbers for row in rows], program)
 
 
-def recurrent_representative(graph: AnyGraph, chips: Chips, *, program: AnyProgram = None) -> Configuration:
+def recurrent_representative(
+    graph: AnyGraph, chips: Chips, *, program: AnyProgram = None
+) -> Configuration:
     """The one recurrent configuration to which firings, also backward, lead from this one; chips may be below 0. It is
     the stable sum with the identity, after chips that are equivalent to none lifted all to 0 or more, and is tested.
     Proved: the stabilizations. Not proved: the sums between them."""
@@ -53,7 +64,9 @@ def recurrent_representative(graph: AnyGraph, chips: Chips, *, program: AnyProgr
         # (one chip more than is stable, less what these become, is equivalent to none, and 1 on each vertex at least)
         full = held.graph.max_stable() + 1
         lift = full - full.stabilize(program=program)
-        held += max(-(count // more) for count, more in zip(held.numbers, lift.numbers) if more) * lift
+        held += (
+            max(-(count // more) for count, more in zip(held.numbers, lift.numbers) if more) * lift
+        )
     # (a sum is recurrent if one of the two is, and no chips of the other are below 0)
     found = (held + identity(held.graph, program)).stabilize(program=program)
     if not found.is_recurrent(program=program):
@@ -61,7 +74,9 @@ def recurrent_representative(graph: AnyGraph, chips: Chips, *, program: AnyProgr
     return found
 
 
-def superstable_representative(graph: AnyGraph, chips: Chips, *, program: AnyProgram = None) -> Configuration:
+def superstable_representative(
+    graph: AnyGraph, chips: Chips, *, program: AnyProgram = None
+) -> Configuration:
     """The one superstable configuration that is equivalent to this one, the q-reduced one; chips may be below 0.
     With `m` the maximal stable one, it is `m` less the recurrent representative of `m` less this one, and so tested.
     Proved: the stabilizations. Not proved: the sums between them."""
@@ -83,7 +98,8 @@ def superstables(graph: AnyGraph, *, program: AnyProgram = None) -> Iterator[Con
     """All superstable configurations of a small graph, one after the other; `order` says how many there are.
     Nothing of this is proved but the burning script: Python burns each of them itself."""
     known = known_graph(graph, program)
-    burns, waiting = _burns(known, program), [((0,) * known.vertices, 0)]
+    burns = _burns(known, program)
+    waiting = [((0,) * known.vertices, 0)]
     while waiting:
         chips, first = waiting.pop()
         yield Configuration(known, chips)
@@ -97,10 +113,14 @@ def superstables(graph: AnyGraph, *, program: AnyProgram = None) -> Iterator[Con
 def _burns(graph: Graph, program: AnyProgram) -> Callable[[Sequence[int]], bool]:
     """A test of chips: vertices below 0 give firings of the burning script back, all of them if it is superstable."""
     script, fuel = burning(graph, program)
-    rows = [{head: less for head, less in row.items() if head != graph.sink} for row in smith.laplacian(graph)]
+    rows = [
+        {head: less for head, less in row.items() if head != graph.sink}
+        for row in smith.laplacian(graph)
+    ]
 
     def burns(chips: Sequence[int]) -> bool:
-        left, firings = list(map(int.__sub__, chips, fuel)), sum(script)
+        left = list(map(int.__sub__, chips, fuel))
+        firings = sum(script)
         poor = [vertex for vertex, count in enumerate(left) if count < 0]
         for vertex in poor:
             while left[vertex] < 0:

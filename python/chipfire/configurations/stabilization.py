@@ -19,20 +19,27 @@ def as_configuration(graph: AnyGraph, chips: Chips, program: AnyProgram) -> Conf
     known = known_graph(graph, program)
     if isinstance(chips, Configuration) and chips.graph is known:
         return chips
-    return Configuration(known, read_chips(chips, known, program=program) if isinstance(chips, FILE) else chips)
+    return Configuration(
+        known, read_chips(chips, known, program=program) if isinstance(chips, FILE) else chips
+    )
 
 
 def stabilize(graph: AnyGraph, chips: Chips, *, program: AnyProgram = None) -> Configuration:
     """What lies there when no vertex can fire any more: `plain(graph, chips).configuration`.
-    Proved: the chips, which are those of every play to the end, in any order. Not proved: that they are passed on."""
+    Proved: the chips, which are those of every play to the end, in any order. Not proved: that they are passed on.
+    """
     return as_configuration(graph, chips, program).stabilize(program=program)
 
 
-def add(graph: AnyGraph, first: Chips, second: Chips, *, program: AnyProgram = None) -> Configuration:
+def add(
+    graph: AnyGraph, first: Chips, second: Chips, *, program: AnyProgram = None
+) -> Configuration:
     """The stable sum: both configurations together, stabilized. The recurrent ones are a group under it.
     Proved: the stabilization. Not proved: that Python adds."""
     known = known_graph(graph, program)
-    return (as_configuration(known, first, program) + as_configuration(known, second, program)).stabilize(program=program)
+    return (
+        as_configuration(known, first, program) + as_configuration(known, second, program)
+    ).stabilize(program=program)
 
 
 def is_stable(graph: AnyGraph, chips: Chips) -> bool:
@@ -42,7 +49,11 @@ def is_stable(graph: AnyGraph, chips: Chips) -> bool:
 
 
 def stabilize_many(
-    graph: AnyGraph, configurations: Iterable[Chips], *, workers: int = 1, program: AnyProgram = None
+    graph: AnyGraph,
+    configurations: Iterable[Chips],
+    *,
+    workers: int = 1,
+    program: AnyProgram = None,
 ) -> Any:
     """What lies there when no vertex can fire any more, of many configurations: a row for each, with a column for each
     vertex by numbers, where the sink has its chips too.
@@ -50,26 +61,35 @@ def stabilize_many(
     They are rows of an array, or come in any form of chips. The answer is an array of NumPy if that is installed, else
     a list of rows. `workers` threads play side by side.
     Proved: the chips. Not proved: that Python passes them on."""
-    known, given = known_graph(graph, program), cast(Any, configurations)
-    width, numpy = known.vertices, import_optional("numpy")
-    is_array = numpy and isinstance(given, numpy.ndarray) and not isinstance(given, numpy.ma.MaskedArray)
+    known = known_graph(graph, program)
+    given = cast(Any, configurations)
+    width = known.vertices
+    numpy = import_optional("numpy")
+    is_array = (
+        numpy and isinstance(given, numpy.ndarray) and not isinstance(given, numpy.ma.MaskedArray)
+    )
     is_array = is_array and given.shape[1:] == (width,) and given.dtype.kind in "iuf"
     if is_array and ((given >= 0) & (given <= MAX_CHIPS)).all() and (given % 1 == 0).all():
         start: Sequence[int] = array("Q", given.astype("u8").tobytes())
     else:
         start = [*itertools.chain.from_iterable(as_rows(known, given, 0, program))]
-    count, workers = len(start) // (width or 1), as_int(workers, "workers", 1, 64)
+    count = len(start) // (width or 1)
+    workers = as_int(workers, "workers", 1, 64)
     # (an interrupt waits for the parts that have begun, so each is about one call)
     many = 1 if workers == 1 else max(workers, -(-count // (library.at_once(known, start) or 1)))
     ends = [width * (count * it // many) for it in range(many + 1)]
-    parts = run_in_threads(lambda it: stabilized_rows(known, start[ends[it] : ends[it + 1]], program)[0], many, workers)
+    parts = run_in_threads(
+        lambda it: stabilized_rows(known, start[ends[it] : ends[it + 1]], program)[0], many, workers
+    )
     left = array("Q", b"".join(part.tobytes() for part in parts))
     if numpy:
         return numpy.frombuffer(left, "q").reshape(-1, width)
     return [tuple(left[it : it + width]) for it in range(0, len(left), width or 1)]
 
 
-def as_rows(graph: Graph, configurations: Any, least: int | None, program: AnyProgram) -> Iterator[tuple[int, ...]]:
+def as_rows(
+    graph: Graph, configurations: Any, least: int | None, program: AnyProgram
+) -> Iterator[tuple[int, ...]]:
     """The numbers of one configuration after the other."""
     wanted = "configurations are rows of an array, or stand in a list"
     if getattr(configurations, "ndim", 2) < 2:
@@ -79,4 +99,6 @@ def as_rows(graph: Graph, configurations: Any, least: int | None, program: AnyPr
         raise TypeError(f"{wanted}, and are no {type(rows).__name__}")
     for place, row in enumerate(rows):
         is_file = isinstance(row, FILE)
-        yield read_chips(row, graph, program=program) if is_file else graph.numbers(row, least, f"chips in row {place}")
+        yield read_chips(row, graph, program=program) if is_file else graph.numbers(
+            row, least, f"chips in row {place}"
+        )

@@ -68,8 +68,11 @@ class Divisor(AsArray, Sums):
         Proved: the stabilizations. Not proved: the sums between them."""
         graph = self.graph
         if vertex is not None:
-            sink, rows = graph.number(vertex), enumerate(smith.undirected(graph))
-            edges = [(u, v, -less) for u, row in rows if u != sink for v, less in row.items() if less < 0]
+            sink = graph.number(vertex)
+            rows = enumerate(smith.undirected(graph))
+            edges = [
+                (u, v, -less) for u, row in rows if u != sink for v, less in row.items() if less < 0
+            ]
             graph = Graph(graph.vertices, sink, edges, graph.names, from_sink=None)
         left = [*superstable_representative(graph, self.numbers, program=program).numbers]
         left[graph.sink] = self.degree - sum(left)
@@ -95,7 +98,8 @@ class Divisor(AsArray, Sums):
         `order(graph)`. A ValueError tells if more than `most` divisors would be looked at. The usual 100,000 take some
         15 s of 5 by 5 squares, and do for each graph of up to 10,000 spanning trees and genus 10.
         Nothing of this is proved, and the program is not asked."""
-        most, other = as_int(most, "the most divisors", 1), canonical_divisor(self.graph) - self
+        most = as_int(most, "the most divisors", 1)
+        other = canonical_divisor(self.graph) - self
         if other.degree < self.degree:
             return self.degree - genus(self.graph) + 1 + other.rank(most=most)
         return -1 if self.degree < 0 else searched_rank(self, most)
@@ -115,22 +119,30 @@ def canonical_divisor(graph: AnyGraph) -> Divisor:
 
 def searched_rank(divisor: Divisor, most: int = MOST) -> int:
     """The rank of a divisor, by its definition: chips are taken away one by one."""
-    sink, reduced = divisor.graph.sink, _reducer(divisor.graph)
-    level, rank, seen = {reduced([*divisor.numbers])}, -1, 1
+    sink = divisor.graph.sink
+    reduced = _reducer(divisor.graph)
+    level = {reduced([*divisor.numbers])}
+    rank = -1
+    seen = 1
     while all(chips[sink] >= 0 for chips in level):  # (what is reduced has most chips on the sink)
-        rank, less = rank + 1, set[tuple[int, ...]]()
+        rank = rank + 1
+        less = set[tuple[int, ...]]()
         for chips in level:
             for vertex in range(len(chips)):
                 less.add(reduced([count - (at == vertex) for at, count in enumerate(chips)]))
             if seen + len(less) > most:
-                raise ValueError(f"the rank is {rank} or more, and {with_unit(most, 'divisor')} do not tell which")
-        level, seen = less, seen + len(less)
+                raise ValueError(
+                    f"the rank is {rank} or more, and {with_unit(most, 'divisor')} do not tell which"
+                )
+        level = less
+        seen = seen + len(less)
     return rank
 
 
 def _reducer(graph: Graph) -> Callable[[list[int]], tuple[int, ...]]:
     """What makes small chips reduced at the sink, by Dhar."""
-    rows, sink = smith.undirected(graph), graph.sink
+    rows = smith.undirected(graph)
+    sink = graph.sink
 
     def fire(chips: list[int], vertices: Sequence[int], times: int) -> None:
         for vertex in vertices:
@@ -139,7 +151,8 @@ def _reducer(graph: Graph) -> Callable[[list[int]], tuple[int, ...]]:
 
     def unburnt(chips: list[int]) -> dict[int, int]:
         """The vertices that a fire from the sink leaves, each with its edges to those that burn."""
-        left, waiting = dict.fromkeys(range(len(rows)), 0), [sink]
+        left = dict.fromkeys(range(len(rows)), 0)
+        waiting = [sink]
         for vertex in waiting:
             if left.pop(vertex, None) is not None:
                 for other, less in rows[vertex].items():
@@ -149,7 +162,9 @@ def _reducer(graph: Graph) -> Callable[[list[int]], tuple[int, ...]]:
         return left
 
     def reduced(chips: list[int]) -> tuple[int, ...]:
-        while poor := [vertex for vertex, count in enumerate(chips) if count < 0 and vertex != sink]:
+        while poor := [
+            vertex for vertex, count in enumerate(chips) if count < 0 and vertex != sink
+        ]:
             for vertex in poor:
                 fire(chips, [vertex], chips[vertex] // rows[vertex][vertex])
         while left := unburnt(chips):

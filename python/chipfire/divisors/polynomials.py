@@ -43,7 +43,9 @@ def tutte_polynomial(graph: AnyGraph, *, most: int = MOST) -> dict[tuple[int, in
     return _sorted(found)
 
 
-def level_polynomial(graph: AnyGraph, *, most: int = MOST, program: AnyProgram = None) -> dict[int, int]:
+def level_polynomial(
+    graph: AnyGraph, *, most: int = MOST, program: AnyProgram = None
+) -> dict[int, int]:
     """How many recurrent configurations have each level: their chips less the least that a recurrent one has.
 
     On an undirected graph it is T(1, y), by Merino, and found by deleting and contracting, as in `tutte_polynomial`. On
@@ -67,11 +69,14 @@ def avalanche_polynomial(
     Proved: the play that each chip causes. Not proved: that these are all, and the sums."""
     known = known_graph(graph, program)
     _require_few(known, most)
-    width, sink = known.vertices, known.sink
+    width = known.vertices
+    sink = known.sink
     inner = [vertex for vertex in range(width) if vertex != sink]
     found: Counter[Any] = Counter()
     for chips in recurrents(known, program=program):
-        dropped = ([count + (at == vertex) for at, count in enumerate(chips.numbers)] for vertex in inner)
+        dropped = (
+            [count + (at == vertex) for at, count in enumerate(chips.numbers)] for vertex in inner
+        )
         _, fired = stabilized_rows(known, [*itertools.chain.from_iterable(dropped)], program)
         odometers = ([fired[at + vertex] for vertex in inner] for at in range(0, len(fired), width))
         found.update(tuple(counts) if multivariable else sum(counts) for counts in odometers)
@@ -82,7 +87,9 @@ def _require_few(graph: Graph, most: int) -> None:
     """Refuses a graph with too many recurrent configurations."""
     count = order(graph)
     if count > as_int(most, "the most configurations", 1):
-        raise ValueError(f"at most {most:,} recurrent configurations are gone through, and there are {count:,}")
+        raise ValueError(
+            f"at most {most:,} recurrent configurations are gone through, and there are {count:,}"
+        )
 
 
 def _sorted(polynomial: dict[Power, int]) -> dict[Power, int]:
@@ -95,7 +102,8 @@ def _whitney(graph: Graph, most: int, is_one: bool) -> Terms:
 
     The last vertex is contracted into one of its neighbours, after its edges to those behind that are deleted. Of the
     m edges between the two, one is contracted, and the others become loops or are deleted: 1 + y + .. + y^(m - 1). Or
-    all edges of the vertex are deleted: x - 1. The graphs alone are made first, since their terms take far longer."""
+    all edges of the vertex are deleted: x - 1. The graphs alone are made first, since their terms take far longer.
+    """
     start, steps = _steps(graph, is_one)
     _refuse_more(start, steps, as_int(most, "the most smaller graphs", 1))
     graphs: dict[int, Terms] = {start: Counter({(0, 0): 1})}
@@ -123,29 +131,40 @@ def _refuse_more(start: int, steps: Sequence[Step], most: int) -> None:
 
 def _steps(graph: Graph, is_one: bool) -> tuple[int, list[Step]]:
     """A graph as one number, which says how often each two vertices are joined, and how each vertex is taken out, from
-    the last one on. The pairs of a vertex with those before it stand behind the pairs of the vertices before it."""
+    the last one on. The pairs of a vertex with those before it stand behind the pairs of the vertices before it.
+    """
     joined = _joined(graph)
     beside: list[set[int]] = [set() for _ in range(graph.vertices)]
     for low, high in joined:
         beside[high].add(low)
-    for some in reversed(beside):  # (what the last one is contracted into may be joined with all that are beside it)
+    for some in reversed(
+        beside
+    ):  # (what the last one is contracted into may be joined with all that are beside it)
         for low, high in itertools.combinations(sorted(some), 2):
             beside[high].add(low)
-    pairs = [(low, last) for last in reversed(range(graph.vertices)) for low in sorted(beside[last])]
-    bits, places = sum(joined.values()).bit_length(), dict(zip(pairs, itertools.count()))
+    pairs = [
+        (low, last) for last in reversed(range(graph.vertices)) for low in sorted(beside[last])
+    ]
+    bits = sum(joined.values()).bit_length()
+    places = dict(zip(pairs, itertools.count()))
     steps = []
     for last in range(graph.vertices - 1, 0, -1):
         lower = sorted(beside[last])
         first = len(lower) + min((places[low, last] for low in lower), default=0)
-        shifts = [[bits * (places[pair, into] - first) for pair in lower[:at]] for at, into in enumerate(lower)]
+        shifts = [
+            [bits * (places[pair, into] - first) for pair in lower[:at]]
+            for at, into in enumerate(lower)
+        ]
         steps.append(_step(bits, shifts, is_one))
     return sum(count << bits * places[pair] for pair, count in joined.items()), steps
 
 
 def _step(bits: int, shifts: Sequence[Sequence[int]], is_one: bool) -> Step:
     """What comes out if the last vertex is taken out: graphs, each with the power of x - 1 and the m of its terms.
-    `shifts` has of each vertex beside the last one where its pairs with those before it stand then."""
-    places, mask = [bits * place for place in range(len(shifts))], 2**bits - 1
+    `shifts` has of each vertex beside the last one where its pairs with those before it stand then.
+    """
+    places = [bits * place for place in range(len(shifts))]
+    mask = 2**bits - 1
 
     def step(joined: int) -> Iterator[tuple[int, int, int]]:
         rest = joined >> bits * len(places)
@@ -162,7 +181,8 @@ def _step(bits: int, shifts: Sequence[Sequence[int]], is_one: bool) -> Step:
 def _joined(graph: Graph) -> dict[tuple[int, int], int]:
     """How often each pair of vertices is joined, the lower first, of an undirected graph. The sink has place 0, so that
     it is the last vertex that is left."""
-    sink, found = graph.sink, {}
+    sink = graph.sink
+    found = {}
     for tail, row in enumerate(smith.undirected(graph)):
         for head, less in row.items():
             if less < 0:

@@ -14,12 +14,16 @@ from chipfire.ensembles.drops import names_of, PART
 from chipfire.utils import as_int, random_generator
 
 
-def random_drops(graph: AnyGraph, count: int, seed: Any, *, program: AnyProgram = None) -> Iterator[Hashable]:
+def random_drops(
+    graph: AnyGraph, count: int, seed: Any, *, program: AnyProgram = None
+) -> Iterator[Hashable]:
     """The names of `count` vertices but the sink, drawn evenly by `random.Random(seed)`, one after the other.
 
     A seed is a whole number, also one of NumPy or a float like 3.0, which is 3; another float, a text or bytes; or
     None, and then no two calls draw the same. The text "3" is another seed than 3."""
-    known, draw, count = known_graph(graph, program), random_generator(seed), as_int(count, "the number of drops")
+    known = known_graph(graph, program)
+    draw = random_generator(seed)
+    count = as_int(count, "the number of drops")
     inner = [name for vertex, name in enumerate(known.names) if vertex != known.sink]
     if count and not inner:
         raise ValueError("the graph has only its sink, and so no vertex to drop on")
@@ -47,7 +51,9 @@ class Avalanche:
     configuration: Configuration = field(repr=False)
 
 
-def avalanche(graph: AnyGraph, chips: Chips, vertex: Hashable, *, program: AnyProgram = None) -> Avalanche:
+def avalanche(
+    graph: AnyGraph, chips: Chips, vertex: Hashable, *, program: AnyProgram = None
+) -> Avalanche:
     """What happens when one chip is dropped on a vertex of a stable configuration.
     Proved: the play that the chip causes. Not proved: the sums of its numbers."""
     return next(avalanches(graph, chips, [vertex], program=program))
@@ -68,9 +74,12 @@ def avalanches(
     def dropped() -> Iterator[Avalanche]:
         held = start
         for name in names:
-            left, counts = stabilized(held + {held.graph.names[held.graph.number(name)]: 1}, program)
+            left, counts = stabilized(
+                held + {held.graph.names[held.graph.number(name)]: 1}, program
+            )
             fired = {it: count for it, count in zip(held.graph.names, counts) if count}
-            lost, held = left[held.graph.sink], Configuration(held.graph, left)
+            lost = left[held.graph.sink]
+            held = Configuration(held.graph, left)
             yield Avalanche(name, sum(counts), len(fired), lost, fired, held)
 
     return dropped()

@@ -17,7 +17,16 @@ from chipfire.configurations.configuration import Chips
 from chipfire.ensembles.drops import in_calls
 from chipfire.ensembles.wilson import recurrent_rows
 from chipfire.graphs.graph import Graph
-from chipfire.utils import as_int, FILE, import_optional, in_order, known_seed, processors, require_memory, run_in_threads
+from chipfire.utils import (
+    as_int,
+    FILE,
+    import_optional,
+    in_order,
+    known_seed,
+    processors,
+    require_memory,
+    run_in_threads,
+)
 
 
 class Firings(NamedTuple):
@@ -59,8 +68,15 @@ class Chains:
 
 
 def chains(
-    graph: AnyGraph, n: int, drops: int, seed: Any, *, chips: Chips | None = None, workers: int | None = None,
-    fired: bool = False, until: str | None = None,
+    graph: AnyGraph,
+    n: int,
+    drops: int,
+    seed: Any,
+    *,
+    chips: Chips | None = None,
+    workers: int | None = None,
+    fired: bool = False,
+    until: str | None = None,
 ) -> Chains:
     """Drops chips on random vertices in n chains, each with its own seed and `drops` drops, each drop on what the play
     of the one before it left. It takes the library: without it that is a `ProgramNotFound`. The seeds of the chains are
@@ -74,25 +90,36 @@ def chains(
     If it is asked for what `fired`, or `until` a drop has a "loss" of chips, or "spans" a grid, which is that the
     vertices that fired touch two opposite borders, each call makes one drop of many chains, by NumPy. `until` stops a
     chain after the first such drop. In a direction that is joined there are no borders, and "spans" does not know that.
-    Proved: sizes, extents, losses and counts of the drops. Not proved: that they are evenly drawn, and what stops."""
-    known, n, drops = known_graph(graph), as_int(n, "the number of chains", 1), as_int(drops, "the number of drops")
+    Proved: sizes, extents, losses and counts of the drops. Not proved: that they are evenly drawn, and what stops.
+    """
+    known = known_graph(graph)
+    n = as_int(n, "the number of chains", 1)
+    drops = as_int(drops, "the number of drops")
     require_memory(n * (24 * drops + 8 * known.vertices), f"{n:,} chains of {drops:,} drops")
     if until not in (None, "loss", "spans"):
         raise ValueError(f"chains go on until 'loss' or 'spans', and not {until!r}")
     if fired or until:
         import_optional("numpy", "what fired, and when to stop, are found by NumPy")
     if library.find_library() is None:
-        raise ProgramNotFound(2, "chains take the library, which is not beside the program in this version", "chipfire")
+        raise ProgramNotFound(
+            2,
+            "chains take the library, which is not beside the program in this version",
+            "chipfire",
+        )
     known.require()
     if known.vertices < 2 and drops:
         raise ValueError("the graph has only its sink, and so no vertex to drop on")
     chips = read_chips(chips, known) if isinstance(chips, FILE) else chips
     play = _Chains(known, n, drops, known_seed(seed), chips)
-    workers = min(n, min(processors(), 64) if workers is None else as_int(workers, "workers", 1, 64))
+    workers = min(
+        n, min(processors(), 64) if workers is None else as_int(workers, "workers", 1, 64)
+    )
     pieces = []
     if fired or until:
         ends = [n * it // workers for it in range(workers + 1)]
-        pieces = run_in_threads(lambda it: play.step(range(ends[it], ends[it + 1]), until, fired), workers, workers)
+        pieces = run_in_threads(
+            lambda it: play.step(range(ends[it], ends[it + 1]), until, fired), workers, workers
+        )
     else:
         run_in_threads(play.whole, n, workers)
     return play.told(_in_order(known, pieces, n * drops) if fired else None)
@@ -102,25 +129,46 @@ class _Chains:
     """Chains as they are played: numbers of 64 bits, those of one chain behind those of another."""
 
     def __init__(self, graph: Graph, n: int, drops: int, seed: Any, chips: Any) -> None:
-        self.known, self.graph, self.drops, self.seed = graph, graph.loop_free, drops, seed
+        self.known = graph
+        self.graph = graph.loop_free
+        self.drops = drops
+        self.seed = seed
         self.seeds = [f"{seed} {chain}" for chain in range(n)]
         self.inner = array("Q", (it for it in range(graph.vertices) if it != graph.sink))
-        self.made, self.ones, self.some = array("Q", [drops]) * n, array("Q", [1]) * drops, 1
-        self.here, numpy = threading.local(), import_optional("numpy")  # (what each thread has for itself)
-        self.columns = [numpy.zeros(n * drops, "u8") if numpy else array("Q", bytes(8 * n * drops)) for _ in range(3)]
+        self.made = array("Q", [drops]) * n
+        self.ones = array("Q", [1]) * drops
+        self.some = 1
+        # (what each thread has for itself)
+        self.here = threading.local()
+        numpy = import_optional("numpy")
+        self.columns = [
+            numpy.zeros(n * drops, "u8") if numpy else array("Q", bytes(8 * n * drops))
+            for _ in range(3)
+        ]
         if chips is None:
             self.chips = recurrent_rows(graph, seed, n)
             return
-        found = in_order(chips, "chips are rows, or those of all chains") if getattr(chips, "ndim", 1) > 1 else chips
-        rows = [graph.chips(row) for row in found] if _are_rows(graph, found) else [graph.chips(chips)] * n
+        found = (
+            in_order(chips, "chips are rows, or those of all chains")
+            if getattr(chips, "ndim", 1) > 1
+            else chips
+        )
+        rows = (
+            [graph.chips(row) for row in found]
+            if _are_rows(graph, found)
+            else [graph.chips(chips)] * n
+        )
         if len(rows) != n:
             raise ValueError(f"there are chips for {len(rows)} chains, and {n} chains")
         self.chips = array("Q", graph.without_loops([*itertools.chain.from_iterable(rows)]))
-        _stabilize(self.graph, self.chips, array("Q", bytes(8 * len(self.chips))), array("Q", bytes(8 * n)))
+        _stabilize(
+            self.graph, self.chips, array("Q", bytes(8 * len(self.chips))), array("Q", bytes(8 * n))
+        )
 
     def drawn(self, chain: int) -> Any:
         """The vertices of a chain, as `random_drops` draws them; by NumPy's twister, which is Python's."""
-        draw, numpy = random.Random(self.seeds[chain]), import_optional("numpy")
+        draw = random.Random(self.seeds[chain])
+        numpy = import_optional("numpy")
         if not numpy:
             return array("Q", draw.choices(self.inner, k=self.drops))
         if not hasattr(self.here, "twister"):
@@ -132,22 +180,30 @@ class _Chains:
 
     def whole(self, chain: int) -> None:
         """Plays a chain to its end. Its first call has as many drops as the last one of another chain."""
-        width, drops = self.graph.vertices, self.drops
+        width = self.graph.vertices
+        drops = self.drops
         left = memoryview(self.chips)[chain * width : (chain + 1) * width]
         rows = [memoryview(column)[chain * drops : (chain + 1) * drops] for column in self.columns]
         self.some = in_calls(self.graph, left, self.drawn(chain), self.ones, rows, some=self.some)
 
     def step(self, group: range, until: str | None, wants_fired: bool) -> list[Any]:
         """Plays some chains, one drop of each after the other; gets the drop, vertex and count of each that fired."""
-        numpy, width, drops = import_optional("numpy"), self.graph.vertices, self.drops
-        live, pieces, spans = numpy.array(group), [], _spans(self.graph) if until == "spans" else None
-        chips, made, *columns = (numpy.frombuffer(it, "u8") for it in (self.chips, self.made, *self.columns))
+        numpy = import_optional("numpy")
+        width = self.graph.vertices
+        drops = self.drops
+        live = numpy.array(group)
+        pieces = []
+        spans = _spans(self.graph) if until == "spans" else None
+        chips, made, *columns = (
+            numpy.frombuffer(it, "u8") for it in (self.chips, self.made, *self.columns)
+        )
         chips = chips.reshape(-1, width)
         at = numpy.array([self.drawn(chain) for chain in group])
         for drop in range(drops if len(live) else 0):
             there = chips[live]
             there[numpy.arange(len(live)), at[live - group.start, drop]] += 1
-            fired, stopped = numpy.zeros_like(there), numpy.zeros(len(live), "u8")
+            fired = numpy.zeros_like(there)
+            stopped = numpy.zeros(len(live), "u8")
             _stabilize(self.graph, there, fired, stopped)
             lost = there[:, self.graph.sink] - chips[live, self.graph.sink]
             for column, values in zip(columns, (fired.sum(1), (fired > 0).sum(1), lost)):
@@ -155,7 +211,13 @@ class _Chains:
             chips[live] = there
             if wants_fired:
                 chain, vertex = numpy.nonzero(fired)
-                pieces.append((live[chain] * drops + drop, vertex.astype("i4"), fired[chain, vertex].astype("i8")))
+                pieces.append(
+                    (
+                        live[chain] * drops + drop,
+                        vertex.astype("i4"),
+                        fired[chain, vertex].astype("i8"),
+                    )
+                )
             if until:
                 ended = spans(fired) if spans else lost > 0
                 made[live[ended]] = drop + 1
@@ -166,7 +228,9 @@ class _Chains:
 
     def told(self, fired: Firings | None) -> Chains:
         """What was played, by rows."""
-        numpy, n, chips = import_optional("numpy"), len(self.seeds), self.known.with_loops(self.chips)
+        numpy = import_optional("numpy")
+        n = len(self.seeds)
+        chips = self.known.with_loops(self.chips)
         size, extent, lost, chips = (_by_rows(numpy, it, n) for it in (*self.columns, chips))
         made = numpy.frombuffer(self.made, "q") if numpy else self.made
         return Chains(tuple(self.seeds), size, extent, lost, made, chips, fired, self.seed)
@@ -186,8 +250,13 @@ def _spans(graph: Graph) -> Callable[[Any], Any]:
     height, width = graph.shape
     places = [divmod(square, width) for square in graph.squares]
     borders = [
-        [vertex for vertex, place in enumerate(places) if place[way] == end and vertex != graph.sink]
-        for way, last in enumerate((height - 1, width - 1)) for end in (0, last)
+        [
+            vertex
+            for vertex, place in enumerate(places)
+            if place[way] == end and vertex != graph.sink
+        ]
+        for way, last in enumerate((height - 1, width - 1))
+        for end in (0, last)
     ]
 
     def by(fired: Any) -> Any:

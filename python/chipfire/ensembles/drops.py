@@ -14,7 +14,15 @@ from chipfire.backend.process import Fault
 from chipfire.backend.report import Report
 from chipfire.configurations.configuration import capped, CHIPS_HEADER, Configuration
 from chipfire.graphs.graph import Graph
-from chipfire.utils import as_ints, FileName, import_optional, in_order, listed, MAX_LIMIT, with_unit
+from chipfire.utils import (
+    as_ints,
+    FileName,
+    import_optional,
+    in_order,
+    listed,
+    MAX_LIMIT,
+    with_unit,
+)
 
 ROWS_HEADER = "vertex,chips,size,extent,lost\n"
 #: How many drops become text at a time, and how many bytes of rows become numbers.
@@ -77,18 +85,25 @@ def dropped_on(graph: Graph, vertices: Any, amounts: Any) -> tuple[array[int], a
         given = listed(amounts, "the amounts of drops are one for each drop")
         many = as_ints(given, lambda drop: f"the number of chips of drop {drop}")
     if len(many) != len(at):
-        raise ValueError(f"there are {with_unit(len(at), 'drop')}, and {with_unit(len(many), 'amount')}")
+        raise ValueError(
+            f"there are {with_unit(len(at), 'drop')}, and {with_unit(len(many), 'amount')}"
+        )
     return at, array("Q", capped(many))
 
 
 def played_drops(
-    graph: Graph, chips: Sequence[int], at: array[int], amounts: array[int], program: FileName | None
+    graph: Graph,
+    chips: Sequence[int],
+    at: array[int],
+    amounts: array[int],
+    program: FileName | None,
 ) -> list[Any] | None:
     """The columns of the drops by the library; None if the program is to be asked, since a limit may stop a vertex."""
     found = library.play(graph, chips, program)
     if not found or sum(chips) + max(amounts, default=0) > library.most(graph):
         return None
-    left, columns = found[0], [array("Q", bytes(8 * len(at))) for _ in range(3)]
+    left = found[0]
+    columns = [array("Q", bytes(8 * len(at))) for _ in range(3)]
     try:
         in_calls(graph, left, at, amounts, columns, library.most(graph))
     except Fault as fault:
@@ -99,17 +114,25 @@ def played_drops(
 
 
 def in_calls(
-    graph: Graph, left: Any, at: Any, amounts: Any, columns: Sequence[Any], limit: int = MAX_LIMIT, some: int = 1
+    graph: Graph,
+    left: Any,
+    at: Any,
+    amounts: Any,
+    columns: Sequence[Any],
+    limit: int = MAX_LIMIT,
+    some: int = 1,
 ) -> int:
     """Drops on what is left, by calls in each of which a vertex fires `limit` times at most. One drop may be long, so
     the first call has one if no other number is said; later calls have more, or fewer if one takes a tenth of a second.
     How many the next one would have is returned."""
     start = 0
     while start < len(at):
-        begun, part = time.monotonic(), slice(start, start + some)
+        begun = time.monotonic()
+        part = slice(start, start + some)
         where, many, *rows = (memoryview(it)[part] for it in (at, amounts, *columns))
         library.avalanches(graph, where, many, left, rows[0], rows[1], rows[2], limit=limit)
-        start, took = part.stop, time.monotonic() - begun
+        start = part.stop
+        took = time.monotonic() - begun
         some = 32 * some if took < 0.003 else 2 * some if took < 0.1 else some // 2 or 1
     return min(some, len(at) or 1)
 

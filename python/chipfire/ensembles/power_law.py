@@ -14,13 +14,15 @@ from chipfire.utils import as_int, as_ints, import_optional, is_of_networkx, lis
 #: The greatest size, and the most that one may be seen.
 MAX_SIZE = MAX_COUNT = 2**64
 #: How many sizes at each end of a large range are added up one by one; by which power of 2 parts between them grow.
-_ALONE, _GROWTH = 128, 1 / 4
+_ALONE = 128
+_GROWTH = 1 / 4
 #: The weights by which a sum differs from the integral at each end, by Gregory's formula with four differences.
 _GREGORY = tuple(weight / 1440 for weight in (965, -462, 336, -146, 27))
 #: The places on [-1, 1] and the weights of Gauss's rule of five.
 _GAUSS = [(0.0, 128 / 225)] + [
     (sign * math.sqrt(5 + way * 2 * math.sqrt(10 / 7)) / 3, (322 - way * 13 * math.sqrt(70)) / 900)
-    for way in (-1, 1) for sign in (-1, 1)
+    for way in (-1, 1)
+    for sign in (-1, 1)
 ]
 
 
@@ -39,7 +41,9 @@ class PowerLaw(NamedTuple):
     used: int
 
 
-def power_law(sizes: Iterable[int] | Mapping[int, int], least: int = 1, most: int | None = None) -> PowerLaw:
+def power_law(
+    sizes: Iterable[int] | Mapping[int, int], least: int = 1, most: int | None = None
+) -> PowerLaw:
     """The power law of sizes from `least`, 1 or more, to `most`, or to the largest, by maximum likelihood. Sizes out of
     that range are left out, as those of 0 are. They come one by one, or as a histogram; two at least must differ.
     The range has up to 10,000,000 sizes.
@@ -47,13 +51,21 @@ def power_law(sizes: Iterable[int] | Mapping[int, int], least: int = 1, most: in
     A border ends the law of avalanches, so `most` is best far below the largest one."""
     told = _counts(sizes)
     least = as_int(least, "the least size", 1, MAX_SIZE)
-    most = as_int(max([least, *told]) if most is None else most, "the greatest size", least, least + 10**7 - 1)
+    most = as_int(
+        max([least, *told]) if most is None else most,
+        "the greatest size",
+        least,
+        least + 10**7 - 1,
+    )
     seen = {size: count for size, count in told.items() if least <= size <= most}
     if len(seen) < 2:
         raise ValueError(f"a power law takes two sizes that differ, from {least} to {most}")
-    count, near = sum(seen.values()), max(seen, key=lambda size: seen[size])
+    count = sum(seen.values())
+    near = max(seen, key=lambda size: seen[size])
     sizes_there = _Range(least, most, near)
-    mean = math.fsum(times / count * math.log1p((size - near) / near) for size, times in seen.items())
+    mean = math.fsum(
+        times / count * math.log1p((size - near) / near) for size, times in seen.items()
+    )
     exponent, variance = sizes_there.exponent(mean)
     return PowerLaw(exponent, 1 / math.sqrt(count * variance), least, most, count)
 
@@ -76,22 +88,32 @@ class _Range:
             total = float(weights.sum())
             mean = float((weights * logs).sum()) / total
             return mean, float((weights * (logs - mean) ** 2).sum()) / total
-        weights = [count * math.exp(top - exponent * log) for count, log in zip(self.counts, self.logs)]
+        weights = [
+            count * math.exp(top - exponent * log) for count, log in zip(self.counts, self.logs)
+        ]
         total = math.fsum(weights)
         mean = math.fsum(map(operator.mul, weights, self.logs)) / total
-        return mean, math.fsum(weight * (log - mean) ** 2 for weight, log in zip(weights, self.logs)) / total
+        return (
+            mean,
+            math.fsum(weight * (log - mean) ** 2 for weight, log in zip(weights, self.logs))
+            / total,
+        )
 
     def exponent(self, mean: float) -> tuple[float, float]:
         """The exponent by which the logarithms have this mean, and their variance by it, in Newton's steps: the mean
         falls with the exponent, by the variance. A step that leaves what is known halves that."""
-        exponent, variance, low, high = 1.0, 0.0, -math.inf, math.inf
+        exponent = 1.0
+        variance = 0.0
+        low = -math.inf
+        high = math.inf
         for _ in range(200):
             found, variance = self.moments(exponent)
             low, high = (exponent, high) if found > mean else (low, exponent)
             following = exponent + (found - mean) / variance if variance else math.nan
             if not low <= following <= high:
                 following = (low + high) / 2
-            step, exponent = following - exponent, following
+            step = following - exponent
+            exponent = following
             if abs(step) <= 1e-9 * max(1.0, abs(exponent)):
                 break
         return exponent, variance
@@ -99,7 +121,9 @@ class _Range:
     def ends(self, exponent: float) -> list[float]:
         """How probable the least size and the largest one are by this exponent."""
         top = min(exponent * self.first, exponent * self.last)
-        total = math.fsum(count * math.exp(top - exponent * log) for count, log in zip(self.counts, self.logs))
+        total = math.fsum(
+            count * math.exp(top - exponent * log) for count, log in zip(self.counts, self.logs)
+        )
         return [math.exp(top - exponent * end) / total for end in (self.first, self.last)]
 
 
@@ -108,7 +132,8 @@ def _places(last: int) -> list[tuple[float, float]]:
     either end is that of all whole offsets.
 
     A range of up to 4 times `_ALONE` has each one. Else those at both ends are added up one by one. Between them stands
-    the integral, by Gauss's rule on parts that grow with the distance from the ends, and Gregory's sums at its own."""
+    the integral, by Gauss's rule on parts that grow with the distance from the ends, and Gregory's sums at its own.
+    """
     if last < 4 * _ALONE:
         return [(offset, 1.0) for offset in range(last + 1)]
     found = [(float(offset), 1.0) for offset in range(_ALONE)]
@@ -116,12 +141,17 @@ def _places(last: int) -> list[tuple[float, float]]:
     parts = math.ceil(math.log2(last / 2 / _ALONE) / _GROWTH)
     cuts = [_ALONE * (last / 2 / _ALONE) ** (part / parts) for part in range(parts + 1)]
     for low, high in zip(cuts, cuts[1:]):
-        found += [(low + (high - low) * (1 + at) / 2, (high - low) * weight / 2) for at, weight in _GAUSS]
+        found += [
+            (low + (high - low) * (1 + at) / 2, (high - low) * weight / 2) for at, weight in _GAUSS
+        ]
     return found + [(last - offset, weight) for offset, weight in reversed(found)]
 
 
 def plot_sizes(
-    sizes: Iterable[int] | Mapping[int, int], least: int = 1, most: int | None = None, axes: Any = None
+    sizes: Iterable[int] | Mapping[int, int],
+    least: int = 1,
+    most: int | None = None,
+    axes: Any = None,
 ) -> Any:
     """Draws by Matplotlib how many sizes there are, and their power law, into axes, or new ones, which it returns.
     Each point has the sizes from a power of 2 up to the next, and is at the number of them for each size. Sizes of 0
@@ -134,8 +164,14 @@ def plot_sizes(
         bits[size.bit_length()] += count if size > 0 else 0
     ends = [(2 ** (it - 1), 2**it - 1) for it in sorted(bits) if bits[it]]
     axes = pyplot.subplots()[1] if axes is None else axes
-    axes.loglog([math.sqrt(low * high) for low, high in ends], [bits[it.bit_length()] / it for it, _ in ends], "o")
-    line = [law.used * chance for chance in _Range(law.least, law.most, law.least).ends(law.exponent)]
+    axes.loglog(
+        [math.sqrt(low * high) for low, high in ends],
+        [bits[it.bit_length()] / it for it, _ in ends],
+        "o",
+    )
+    line = [
+        law.used * chance for chance in _Range(law.least, law.most, law.least).ends(law.exponent)
+    ]
     axes.loglog([law.least, law.most], line, label=f"exponent {law.exponent:.3f} ± {law.error:.3f}")
     axes.set_xlabel("size")
     axes.set_ylabel("how many, for each size")
@@ -147,7 +183,9 @@ def _counts(sizes: Any) -> Counter[int]:
     """How many there are of each size; those of an array of several rows too."""
     if isinstance(sizes, Mapping) and not is_of_networkx(sizes):
         named = as_ints([*sizes], lambda place: f"size {place}", None)
-        counts = as_ints([*sizes.values()], lambda place: f"the count of size {named[place]}", 0, MAX_COUNT)
+        counts = as_ints(
+            [*sizes.values()], lambda place: f"the count of size {named[place]}", 0, MAX_COUNT
+        )
         return Counter(dict(zip(named, counts)))
     values = listed(sizes, "sizes come one by one, or as a histogram")
     while values and isinstance(values[0], list):  # (the rows of an array)

@@ -27,20 +27,27 @@ def random_recurrent(graph: AnyGraph, seed: Any, count: int | None = None) -> An
     `random_drops`. Edges into the sink need none
     back; a graph that is else directed is a ValueError. 60 by 60 squares take some 20 ms, and many by NumPy 5 ms each.
     Nothing of this is proved, and the program is not asked."""
-    known, n = known_graph(graph), 1 if count is None else as_int(count, "the number of configurations")
+    known = known_graph(graph)
+    n = 1 if count is None else as_int(count, "the number of configurations")
     require_memory(8 * n * known.vertices, f"{n:,} configurations")
-    chips, width = known.with_loops(recurrent_rows(known, seed, n)), known.vertices
+    chips = known.with_loops(recurrent_rows(known, seed, n))
+    width = known.vertices
     found = [Configuration(known, chips[it * width : (it + 1) * width]) for it in range(n)]
     return found[0] if count is None else found
 
 
 def recurrent_rows(graph: Graph, seed: Any, n: int) -> array[int]:
     """The chips of n of them, one behind another, without the graph's loops. From 32 on NumPy draws many together."""
-    outs, base, numpy = _undirected(graph), random_generator(seed).getrandbits(64), import_optional("numpy")
+    outs = _undirected(graph)
+    base = random_generator(seed).getrandbits(64)
+    numpy = import_optional("numpy")
     draws = (random.Random(f"{base} {it}") for it in range(n))
     some = min(n, 2**10, 2**21 // (graph.vertices + sum(graph.columns.mults)))
     if numpy and some >= 32:
-        parts = (_burnt_together(numpy, graph, [*itertools.islice(draws, some)]) for _ in range(0, n, some))
+        parts = (
+            _burnt_together(numpy, graph, [*itertools.islice(draws, some)])
+            for _ in range(0, n, some)
+        )
         return array("Q", b"".join(part.tobytes() for part in parts))
     rows = (_burnt(graph, outs, *_tree(graph.sink, outs, draw)) for draw in draws)
     return array("Q", itertools.chain.from_iterable(rows))
@@ -65,18 +72,29 @@ def _undirected(graph: Graph) -> Outs:
 
 def _tree(sink: int, outs: Outs, draw: random.Random) -> tuple[list[int], list[int]]:
     """A random spanning tree: which of its chips goes to the next vertex, and how many edges lead to the sink."""
-    chance, (steps, depth) = draw.random, ([0] * len(outs), [0] * len(outs))
-    order, places, fixed = [*range(len(outs))], [*range(len(outs))], 1
-    order[0], order[sink], places[0], places[sink] = sink, 0, sink, 0
-    while fixed < len(outs):  # (those of the tree are the first, then those of the walk, which has no loops)
-        at, size, place = order[fixed], fixed + 1, fixed
+    chance = draw.random
+    (steps, depth) = ([0] * len(outs), [0] * len(outs))
+    order = [*range(len(outs))]
+    places = [*range(len(outs))]
+    fixed = 1
+    order[0] = sink
+    places[0] = sink
+    order[sink] = 0
+    places[sink] = 0
+    while fixed < len(
+        outs
+    ):  # (those of the tree are the first, then those of the walk, which has no loops)
+        at = order[fixed]
+        size = fixed + 1
+        place = fixed
         while place >= fixed:
             heads, ends = outs[at]
             steps[at] = step = int(chance() * ends[-1])
             at = heads[bisect(ends, step)]
             if (place := places[at]) >= fixed:
                 top = min(place, size)
-                other, size = order[top], top + 1
+                other = order[top]
+                size = top + 1
                 order[place], places[other], order[top], places[at] = other, place, at, top
         for level, passed in enumerate(reversed(order[fixed:size]), depth[at] + 1):
             depth[passed] = level
@@ -88,7 +106,10 @@ def _burnt(graph: Graph, outs: Outs, steps: Sequence[int], depth: Sequence[int])
     """The chips with which each vertex burns in the step after its next one, whose edges have an order."""
     found = [0] * graph.vertices
     for vertex, (heads, ends) in enumerate(outs):
-        level, step, start, left = depth[vertex] - 1, steps[vertex], 0, ends[-1] if ends else 0
+        level = depth[vertex] - 1
+        step = steps[vertex]
+        start = 0
+        left = ends[-1] if ends else 0
         for head, end in zip(heads, ends):
             if depth[head] < level:
                 left -= end - start
@@ -101,40 +122,58 @@ def _burnt(graph: Graph, outs: Outs, steps: Sequence[int], depth: Sequence[int])
 
 def _burnt_together(numpy: Any, graph: Graph, draws: list[random.Random]) -> Any:
     """What `_tree` and `_burnt` make by each generator, as rows of an array."""
-    stays = graph.sink, graph.vertices  # (a vertex more, where a walk stays if all others are in its tree)
+    stays = (
+        graph.sink,
+        graph.vertices,
+    )  # (a vertex more, where a walk stays if all others are in its tree)
     tails, heads, mults = map(numpy.append, graph.columns, (stays, stays, (1, 1)))
-    order, sizes = numpy.argsort(tails, kind="stable"), numpy.bincount(tails, mults).astype(int)
+    order = numpy.argsort(tails, kind="stable")
+    sizes = numpy.bincount(tails, mults).astype(int)
     tails, heads = (numpy.repeat(ends[order], mults[order]) for ends in (tails, heads))
-    first, most, chip = numpy.cumsum(sizes) - sizes, sizes.max(), numpy.arange(len(heads))
+    first = numpy.cumsum(sizes) - sizes
+    most = sizes.max()
+    chip = numpy.arange(len(heads))
     taken = _taken(numpy, graph.sink, sizes, first, heads - tails, draws)
     after = (heads - tails)[taken]
-    depth, after = (after != 0).astype(int), after + numpy.arange(len(after))
+    depth = (after != 0).astype(int)
+    after = after + numpy.arange(len(after))
     while (further := depth[after]).any():
-        depth, after = depth + further, after[after]
-    depth, taken = most * depth.reshape(len(draws), -1), taken.reshape(len(draws), -1)
+        depth = depth + further
+        after = after[after]
+    depth = most * depth.reshape(len(draws), -1)
+    taken = taken.reshape(len(draws), -1)
     # (a chip is burnt that leads to what burns before the next vertex, or with it and is not before the chip taken)
     is_burnt = depth.take(heads, 1) - chip <= (depth - most - taken).take(tails, 1)
     sizes[graph.sink] = 0
     return (sizes - numpy.add.reduceat(is_burnt, first, 1, "i8"))[:, :-1]
 
 
-def _taken(numpy: Any, sink: int, sizes: Any, first: Any, ways: Any, draws: list[random.Random]) -> Any:
+def _taken(
+    numpy: Any, sink: int, sizes: Any, first: Any, ways: Any, draws: list[random.Random]
+) -> Any:
     """The chips that `_tree` takes last from each vertex, in step: one by each generator at a time."""
-    zero, order = numpy.arange(len(draws)) * len(sizes), numpy.arange(len(draws) * len(sizes))
+    zero = numpy.arange(len(draws)) * len(sizes)
+    order = numpy.arange(len(draws) * len(sizes))
     order[zero], order[zero + sink] = zero + sink, zero
-    places, taken, last = order.copy(), numpy.tile(first, len(draws)), zero + len(sizes) - 1
-    at, fixed, size = order[zero + 1], zero + 1, zero + 2
+    places = order.copy()
+    taken = numpy.tile(first, len(draws))
+    last = zero + len(sizes) - 1
+    at = order[zero + 1]
+    fixed = zero + 1
+    size = zero + 2
     while len(live := numpy.flatnonzero(fixed < last)):
         zero, last, fixed, size, at = (it[live] for it in (zero, last, fixed, size, at))
         draws = [draws[it] for it in live.tolist()]
         for _ in range(32):
-            vertex, chance = at - zero, numpy.fromiter(map(random.Random.random, draws), "f8", len(draws))
+            vertex = at - zero
+            chance = numpy.fromiter(map(random.Random.random, draws), "f8", len(draws))
             taken[at] = chip = first[vertex] + (chance * sizes[vertex]).astype(int)
             place = places[(at := at + ways[chip])]
             ended = numpy.flatnonzero(place < fixed)
             fixed[ended] = place[ended] = size[ended]
             top = numpy.minimum(place, size)
-            at, other = order[place], order[top]
+            at = order[place]
+            other = order[top]
             order[place], order[top], places[other], places[at] = other, at, place, top
             size = top + 1
     return taken

@@ -15,7 +15,12 @@ from chipfire.utils import import_optional, is_of_networkx, listed, sorted_if_po
 
 
 def from_networkx(
-    graph: Any, sink: Any, weight: str | None = "weight", *, loops: str | None = None, weight_scale: int = 1
+    graph: Any,
+    sink: Any,
+    weight: str | None = "weight",
+    *,
+    loops: str | None = None,
+    weight_scale: int = 1,
 ) -> Graph:
     """A graph of NetworkX, of any of its four kinds, with one of its vertices as the sink, or a list or set of them.
 
@@ -28,26 +33,42 @@ def from_networkx(
     without loops then, with the chips that vertices keep more: so are plays, drops, and what is stable or recurrent;
     but not sums, orders, the identity and what is superstable. Nothing is played on fewer chips than loops.
 
-    Rational weights are taken `weight_scale` times: 0.25 and `Fraction(3, 4)` with 4, and a chip is a quarter then."""
-    if not callable(getattr(graph, "edges", None)) or not callable(getattr(graph, "is_directed", None)):
+    Rational weights are taken `weight_scale` times: 0.25 and `Fraction(3, 4)` with 4, and a chip is a quarter then.
+    """
+    if not callable(getattr(graph, "edges", None)) or not callable(
+        getattr(graph, "is_directed", None)
+    ):
         raise TypeError(f"this takes a graph of NetworkX, and no {type(graph).__name__}")
     edges = graph.edges(data=weight, default=1)
-    return Graph(**parts_of_named(graph.nodes(), sink, edges, graph.is_directed(), loops, weight_scale))
+    return Graph(
+        **parts_of_named(graph.nodes(), sink, edges, graph.is_directed(), loops, weight_scale)
+    )
 
 
 def from_edges(
-    table: Any, sink: Any, source: Hashable = "source", target: Hashable = "target", weight: Hashable = "weight",
-    directed: bool = False, *, loops: str | None = None, weight_scale: int = 1,
+    table: Any,
+    sink: Any,
+    source: Hashable = "source",
+    target: Hashable = "target",
+    weight: Hashable = "weight",
+    directed: bool = False,
+    *,
+    loops: str | None = None,
+    weight_scale: int = 1,
 ) -> Graph:
     """The graph of a table with a row for each edge: a DataFrame of pandas, or a dict of columns.
 
     `source` and `target` name the columns of the ends, and `weight` that of how many chips the edge sends, one if there
     is no such column. Each edge leads both ways, unless they are `directed`. The order of the names, or else that in
     which they come, gives the numbers. All else is as in `from_networkx`."""
-    is_table = isinstance(table, Mapping) or hasattr(table, "columns") and hasattr(table, "__getitem__")
+    is_table = (
+        isinstance(table, Mapping) or hasattr(table, "columns") and hasattr(table, "__getitem__")
+    )
     if not is_table or is_of_networkx(table):
         kind = type(table).__name__
-        raise TypeError(f"a table of edges is a DataFrame or a dict of columns, and no {kind}; see Graph.undirected")
+        raise TypeError(
+            f"a table of edges is a DataFrame or a dict of columns, and no {kind}; see Graph.undirected"
+        )
     if lacking := [name for name in (source, target) if name not in table]:
         raise KeyError(f"the table has no column {lacking[0]!r}")
     columns = []
@@ -57,24 +78,41 @@ def from_edges(
             told = f"the column {name!r} of edges has values in an order"
             columns.append(list(column) if isinstance(column, str) else listed(column, told))
     if len({*map(len, columns)}) > 1:
-        raise ValueError(f"the columns of edges have {' and '.join(str(len(it)) for it in columns)} rows")
+        raise ValueError(
+            f"the columns of edges have {' and '.join(str(len(it)) for it in columns)} rows"
+        )
     rows = edge_rows(zip(*columns), True)
     return Graph(**parts_of_named(names_of_ends(rows), sink, rows, directed, loops, weight_scale))
 
 
-def from_sage(graph: Any, sink: Any = None, *, loops: str | None = None, weight_scale: int = 1) -> Graph:
+def from_sage(
+    graph: Any, sink: Any = None, *, loops: str | None = None, weight_scale: int = 1
+) -> Graph:
     """A graph of SageMath: a `Sandpile` with the sink that it has, or a `DiGraph` or `Graph` and its sink.
     An edge sends as many chips as its label says, or one if it has none; one of label 0, which Sage adds in some
-    graphs, is left out. Vertices have the order of Sage's `vertices()`. All else is as in `from_networkx`."""
+    graphs, is left out. Vertices have the order of Sage's `vertices()`. All else is as in `from_networkx`.
+    """
     if not callable(getattr(graph, "edge_iterator", None)):
         raise TypeError(f"this takes a graph of SageMath, and no {type(graph).__name__}")
     if sink is None:
         if not hasattr(graph, "sink") or not hasattr(graph, "nonsink_vertices"):
             raise ValueError("which vertex is the sink?")
         sink = graph.sink()
-    labelled = ((tail, head, 1 if label is None else label) for tail, head, label in graph.edge_iterator(labels=True))
+    labelled = (
+        (tail, head, 1 if label is None else label)
+        for tail, head, label in graph.edge_iterator(labels=True)
+    )
     edges = (edge for edge in labelled if edge[2] != 0)
-    return Graph(**parts_of_named(sorted_if_possible(graph.vertex_iterator()), sink, edges, graph.is_directed(), loops, weight_scale))
+    return Graph(
+        **parts_of_named(
+            sorted_if_possible(graph.vertex_iterator()),
+            sink,
+            edges,
+            graph.is_directed(),
+            loops,
+            weight_scale,
+        )
+    )
 
 
 def to_scipy(graph: AnyGraph) -> Any:
@@ -89,11 +127,15 @@ def to_networkx(graph: AnyGraph) -> Any:
     graph's attribute "sink" names the sink, which has its edges of `laplacian`. So `from_networkx(it,
     it.graph["sink"])` plays the same. Its edges stand in the order of NetworkX: it `is_like` a graph without parallel
     edges, and need not equal it. Loops are refused."""
-    known, networkx = known_graph(graph), import_optional("networkx", "a graph of NetworkX is one of NetworkX")
+    known = known_graph(graph)
+    networkx = import_optional("networkx", "a graph of NetworkX is one of NetworkX")
     known.refuse_loops()
-    kind, names = networkx.Graph if smith.is_undirected(known) else networkx.DiGraph, known.names
+    kind = networkx.Graph if smith.is_undirected(known) else networkx.DiGraph
+    names = known.names
     found = kind(sink=names[known.sink])
     found.add_nodes_from(names)
     for tail, row in enumerate(smith.laplacian(known)):
-        found.add_weighted_edges_from((names[tail], names[head], -less) for head, less in row.items() if less < 0)
+        found.add_weighted_edges_from(
+            (names[tail], names[head], -less) for head, less in row.items() if less < 0
+        )
     return found

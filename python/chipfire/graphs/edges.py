@@ -38,7 +38,9 @@ def _given_rows(edges: Any, is_directed: bool) -> Iterable[Any]:
     kind = type(edges).__name__
     if is_of_networkx(edges) and kind.endswith(("EdgeView", "EdgeDataView")):
         if is_directed and not kind.startswith(("Out", "In")):
-            raise TypeError(f"edges lead one way, and those of this {kind} lead both ways: see Graph.undirected")
+            raise TypeError(
+                f"edges lead one way, and those of this {kind} lead both ways: see Graph.undirected"
+            )
         if kind.endswith("EdgeView"):
             return list(edges(data=False))
         has_keys = getattr(edges, "keys", False) is True
@@ -48,7 +50,13 @@ def _given_rows(edges: Any, is_directed: bool) -> Iterable[Any]:
     except TypeError:
         found = None
     if not isinstance(found, Iterable):
-        hint = ": see from_networkx" if is_of_networkx(edges) else ": see from_edges" if hasattr(edges, "iloc") else ""
+        hint = (
+            ": see from_networkx"
+            if is_of_networkx(edges)
+            else ": see from_edges"
+            if hasattr(edges, "iloc")
+            else ""
+        )
         raise TypeError(f"edges are rows (tail, head, mult), and this is a {kind}{hint}")
     if hasattr(edges, "toarray"):
         raise TypeError(f"edges are rows (tail, head, mult), and this is a {kind}, as of a matrix")
@@ -60,7 +68,15 @@ def edge_columns(edges: Iterable[Any]) -> Columns:
     rows = edge_rows(edges, True)
 
     def column(place: int, what: str) -> array[int]:
-        return array("i", as_ints([row[place] for row in rows], lambda edge: f"the {what} of edge {edge}", 0, 2**31 - 1))
+        return array(
+            "i",
+            as_ints(
+                [row[place] for row in rows],
+                lambda edge: f"the {what} of edge {edge}",
+                0,
+                2**31 - 1,
+            ),
+        )
 
     return Columns(column(0, "tail"), column(1, "head"), column(2, "multiplicity"))
 

@@ -11,9 +11,13 @@ from chipfire.graphs.graph import Graph
 from chipfire.utils import as_int, MAX_LARGE_EDGES, MAX_LARGE_VERTICES
 
 
-def _both_ways(vertices: int, sink: int, pairs: Iterable[tuple[int, int]], shape: Any = None) -> Graph:
+def _both_ways(
+    vertices: int, sink: int, pairs: Iterable[tuple[int, int]], shape: Any = None
+) -> Graph:
     """The graph with an edge each way for each pair, but none out of the sink."""
-    rows = sorted((tail, head, 1) for u, v in pairs for tail, head in ((u, v), (v, u)) if tail != sink)
+    rows = sorted(
+        (tail, head, 1) for u, v in pairs for tail, head in ((u, v), (v, u)) if tail != sink
+    )
     return Graph(vertices, sink, rows, shape=shape, from_sink=None)
 
 
@@ -39,7 +43,8 @@ def wheel(vertices: int) -> Graph:
 
 def torus(width: int, height: int) -> Graph:
     """A grid whose borders are joined, 3 by 3 at least: vertex `width * row + column`; vertex 0 is the sink."""
-    width, height = as_int(width, "the width of a torus", 3), as_int(height, "the height of a torus", 3)
+    width = as_int(width, "the width of a torus", 3)
+    height = as_int(height, "the height of a torus", 3)
     size = as_int(width * height, "the number of squares", 9, MAX_LARGE_VERTICES)
     right = ((v, v - v % width + (v + 1) % width) for v in range(size))
     below = ((v, (v + width) % size) for v in range(size))

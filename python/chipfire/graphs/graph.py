@@ -20,7 +20,17 @@ from chipfire.backend.process import Kept
 from chipfire.configurations.configuration import Chips, Configuration, Sums
 from chipfire.graphs.edges import Columns, edge_columns, edge_rows, names_of_ends
 from chipfire.graphs.named import parts_of_named
-from chipfire.utils import as_int, as_ints, FileName, in_order, is_of_networkx, MAX_LARGE_EDGES, MAX_LARGE_VERTICES, MAX_MULT, with_unit
+from chipfire.utils import (
+    as_int,
+    as_ints,
+    FileName,
+    in_order,
+    is_of_networkx,
+    MAX_LARGE_EDGES,
+    MAX_LARGE_VERTICES,
+    MAX_MULT,
+    with_unit,
+)
 
 #: How many edges become text at a time.
 _PART = 2**16
@@ -55,22 +65,40 @@ class Graph:
     answers: dict[Any, Any]  # (what was found out about it)
 
     def __init__(
-        self, vertices: int, sink: int, edges: Iterable[Sequence[int]], names: Sequence[Hashable] = (),
-        shape: tuple[int, int] | None = None, squares: Sequence[int] | None = None,
-        from_sink: Sequence[tuple[int, int]] | None = (), loops: Sequence[int] = (),
+        self,
+        vertices: int,
+        sink: int,
+        edges: Iterable[Sequence[int]],
+        names: Sequence[Hashable] = (),
+        shape: tuple[int, int] | None = None,
+        squares: Sequence[int] | None = None,
+        from_sink: Sequence[tuple[int, int]] | None = (),
+        loops: Sequence[int] = (),
     ) -> None:
-        vertices, sink, names = as_int(vertices, "the number of vertices"), as_int(sink, "the sink"), tuple(names)
+        vertices = as_int(vertices, "the number of vertices")
+        sink = as_int(sink, "the sink")
+        names = tuple(names)
         if names and len(names) != vertices:
             raise ValueError(f"there are {len(names)} names, and the graph has {vertices} vertices")
         if len({*names}) < len(names):
             raise ValueError(f"two vertices are called {Counter(names).most_common(1)[0][0]!r}")
-        held = [count * (at != sink) for at, count in enumerate(as_ints(loops, lambda at: f"the loops of vertex {at}"))]
+        held = [
+            count * (at != sink)
+            for at, count in enumerate(as_ints(loops, lambda at: f"the loops of vertex {at}"))
+        ]
         if held and len(held) != vertices:
-            raise ValueError(f"there are loops of {len(held)} vertices, and the graph has {vertices}")
+            raise ValueError(
+                f"there are loops of {len(held)} vertices, and the graph has {vertices}"
+            )
         vars(self).update(
-            vertices=vertices, sink=sink, columns=edges if isinstance(edges, Columns) else edge_columns(edges),
-            names=names or range(vertices), answers={}, **({} if shape is None else {"shape": shape}),
-            squares=range(vertices - (sink == vertices - 1)) if squares is None else squares, from_sink=from_sink,
+            vertices=vertices,
+            sink=sink,
+            columns=edges if isinstance(edges, Columns) else edge_columns(edges),
+            names=names or range(vertices),
+            answers={},
+            **({} if shape is None else {"shape": shape}),
+            squares=range(vertices - (sink == vertices - 1)) if squares is None else squares,
+            from_sink=from_sink,
             loops=held if any(held) else (),
         )
 
@@ -80,7 +108,10 @@ class Graph:
     def __eq__(self, other: object) -> bool:
         if not isinstance(other, Graph):
             return False
-        return all(getattr(self, it) == getattr(other, it) for it in ("vertices", "sink", "names", "columns", "loops"))
+        return all(
+            getattr(self, it) == getattr(other, it)
+            for it in ("vertices", "sink", "names", "columns", "loops")
+        )
 
     def __hash__(self) -> int:
         return hash((self.vertices, self.sink, *(column.tobytes() for column in self.columns)))
@@ -104,20 +135,25 @@ class Graph:
     def shape(self) -> tuple[int, int] | None:
         """The shape of a grid that was not made as one; a single line of vertices is a row."""
         tails, heads, _ = self.columns
-        width = max((head for tail, head in zip(tails, heads) if tail == 0 and head != self.sink), default=1)
+        width = max(
+            (head for tail, head in zip(tails, heads) if tail == 0 and head != self.sink), default=1
+        )
         squares = self.vertices - 1
         width = squares if width == 1 else width
         if squares < 1 or self.sink != squares or squares % width:
             return None
         inner = ((tail, head) for tail, head in zip(tails, heads) if head != squares)
-        is_grid = all(abs(u - v) == width or abs(u - v) == 1 and u // width == v // width for u, v in inner)
+        is_grid = all(
+            abs(u - v) == width or abs(u - v) == 1 and u // width == v // width for u, v in inner
+        )
         return (squares // width, width) if is_grid else None
 
     @classmethod
     def undirected(cls, edges: Iterable[Sequence[Any]], sink: Any) -> Graph:
         """The graph of edges (name, name) or (name, name, mult), each of which is one edge each way; or of the edges of
         a graph of NetworkX, each with its "weight" if that is among what its row has.
-        The order of the names, or else that in which they come, gives the numbers. Sinks are as in `from_networkx`."""
+        The order of the names, or else that in which they come, gives the numbers. Sinks are as in `from_networkx`.
+        """
         rows = edge_rows(edges, False)
         return Graph(**parts_of_named(names_of_ends(rows), sink, rows, False))
 
@@ -146,10 +182,14 @@ class Graph:
         key = id(self)
         with _FILES_LOCK:
             if key not in _FILES:
-                _FILES[key] = weakref.ref(self, lambda _: _FILES.pop(key, None)), Kept(self._parts())
+                _FILES[key] = weakref.ref(self, lambda _: _FILES.pop(key, None)), Kept(
+                    self._parts()
+                )
             _FILES.move_to_end(key)
             if len(_FILES) > _MOST_FILES:
-                _FILES.popitem(last=False)  # (whoever plays on that graph has the file as long as that takes)
+                _FILES.popitem(
+                    last=False
+                )  # (whoever plays on that graph has the file as long as that takes)
             return _FILES[key][1]
 
     def _parts(self) -> Iterator[bytes]:
@@ -170,8 +210,14 @@ class Graph:
             return self._numbers[name]
         except (KeyError, TypeError):
             hint = ""
-            if isinstance(name, tuple) and len(name) == 2 and isinstance(self.names, range) and self.shape:
-                hint, (height, width) = f": a square of it is (row, column), below {self.shape}", self.shape
+            if (
+                isinstance(name, tuple)
+                and len(name) == 2
+                and isinstance(self.names, range)
+                and self.shape
+            ):
+                hint = f": a square of it is (row, column), below {self.shape}"
+                (height, width) = self.shape
                 with contextlib.suppress(ValueError):  # (which arrays raise)
                     if name[0] in range(height) and name[1] in range(width):
                         square = width * int(name[0]) + int(name[1])
@@ -182,7 +228,11 @@ class Graph:
     @functools.cached_property
     def _by_square(self) -> Sequence[int] | dict[int, int]:
         """The vertices by their squares."""
-        return self.squares if isinstance(self.squares, range) else dict(zip(self.squares, itertools.count()))
+        return (
+            self.squares
+            if isinstance(self.squares, range)
+            else dict(zip(self.squares, itertools.count()))
+        )
 
     @functools.cached_property
     def _numbers(self) -> dict[Hashable, int]:
@@ -202,8 +252,11 @@ class Graph:
     def position_after(self, chips: Any, counts: Any) -> list[int]:
         """The chips of each vertex after these counts of firings, legal or not; counts below 0 take firings back.
         Both come in the forms of chips."""
-        chips, counts = self.numbers(chips), self.numbers(counts, of="firings")
-        found = [there - count * degree for there, count, degree in zip(chips, counts, self.degrees())]
+        chips = self.numbers(chips)
+        counts = self.numbers(counts, of="firings")
+        found = [
+            there - count * degree for there, count, degree in zip(chips, counts, self.degrees())
+        ]
         for tail, head, mult in zip(*self.columns):
             found[head] += mult * counts[tail]
         return found
@@ -222,21 +275,33 @@ class Graph:
 
     def is_like(self, other: Graph) -> bool:
         """Whether another graph is the same but for the order of its edges and the names of its vertices."""
-        is_same = (self.vertices, self.sink, self.loops) == (other.vertices, other.sink, other.loops)
-        return is_same and (self.columns == other.columns or sorted(self.edges) == sorted(other.edges))
+        is_same = (self.vertices, self.sink, self.loops) == (
+            other.vertices,
+            other.sink,
+            other.loops,
+        )
+        return is_same and (
+            self.columns == other.columns or sorted(self.edges) == sorted(other.edges)
+        )
 
     @functools.cached_property
     def wrong(self) -> str:
         """What makes it no graph to play on, by the names of its vertices; an empty text if it is one."""
         tails, heads, _ = self.columns
-        sizes = (self.vertices, MAX_LARGE_VERTICES, "vertices"), (len(tails), MAX_LARGE_EDGES, "edges")
+        sizes = (self.vertices, MAX_LARGE_VERTICES, "vertices"), (
+            len(tails),
+            MAX_LARGE_EDGES,
+            "edges",
+        )
         for count, most, word in sizes:
             if count > most:
                 return f"the graph has {count} {word}, and {most} at most can be played on"
         if self.sink >= self.vertices:
             return f"the sink is {self.sink}, and there are {self.vertices} vertices"
         if max(max(tails, default=0), max(heads, default=0)) >= self.vertices:
-            edge = next(edge for edge, ends in enumerate(zip(tails, heads)) if max(ends) >= self.vertices)
+            edge = next(
+                edge for edge, ends in enumerate(zip(tails, heads)) if max(ends) >= self.vertices
+            )
             return f"edge {edge} leads from {tails[edge]} to {heads[edge]}, and there are {self.vertices} vertices"
         into: list[list[int]] = [[] for _ in range(self.vertices)]
         for edge, (tail, head, mult) in enumerate(zip(*self.columns)):
@@ -246,13 +311,18 @@ class Graph:
                 ends = f"from {self.names[tail]!r} to {self.names[head]!r}"
                 return f"edge {edge} {ends} {why if 1 <= mult <= MAX_MULT else sends}"
             into[head].append(tail)
-        reached, waiting = {self.sink}, [self.sink]
+        reached = {self.sink}
+        waiting = [self.sink]
         for vertex in waiting:
             new = {*into[vertex]} - reached
             reached |= new
             waiting += new
         lost = [repr(name) for vertex, name in enumerate(self.names) if vertex not in reached]
-        return f"no walk leads to the sink from {len(lost)} of the vertices: {', '.join(lost[:5])}" if lost else ""
+        return (
+            f"no walk leads to the sink from {len(lost)} of the vertices: {', '.join(lost[:5])}"
+            if lost
+            else ""
+        )
 
     def require(self) -> None:
         """Refuses what is no graph to play on, if the program is not asked."""
@@ -279,14 +349,17 @@ class Graph:
         found = [*map(operator.sub, chips, itertools.cycle(self.loops))] if self.loops else chips
         for at, (left, loops) in enumerate(zip(found, itertools.cycle(self.loops))):
             if left < 0 < loops:
-                name, has = self.names[at % self.vertices], with_unit(chips[at], "chip")
+                name = self.names[at % self.vertices]
+                has = with_unit(chips[at], "chip")
                 told = f"vertex {name!r} has {has} and {with_unit(loops, 'loop')}"
                 raise ValueError(f"{told}: nothing is played on fewer chips than loops")
         return found
 
     def with_loops(self, chips: Sequence[int]) -> array[int]:
         """The chips of one game after another, of which plays of `loop_free` leave some: more by the loops."""
-        return array("Q", map(operator.add, chips, itertools.cycle(self.loops)) if self.loops else chips)
+        return array(
+            "Q", map(operator.add, chips, itertools.cycle(self.loops)) if self.loops else chips
+        )
 
     def max_stable(self) -> Configuration:
         """The maximal stable configuration: each vertex but the sink has one chip less than it needs to fire."""
@@ -299,14 +372,16 @@ class Graph:
 
         They come by names from what has items, as dicts and Series of pandas, and from a configuration; as an array of
         the graph's shape, or rows of one; as a sequence with a number for each vertex, or for each but the sink; as one
-        number for each but the sink; or from a report. Configurations and reports of another graph are refused."""
+        number for each but the sink; or from a report. Configurations and reports of another graph are refused.
+        """
         return self.numbers(chips, least=0)
 
     def numbers(
         self, values: Any, least: int | None = None, of: str = "chips", *, with_sink: bool = False
     ) -> tuple[int, ...]:
         """The same, of `least` or more if that is said; or numbers of something else, as of "firings". If they are
-        wanted `with_sink`, a sequence has one for the sink too, and one number is for all vertices."""
+        wanted `with_sink`, a sequence has one for the sink too, and one number is for all vertices.
+        """
         is_report = hasattr(values, "prior") and hasattr(values, "chips")
         if is_report or isinstance(values, Sums):
             if values.graph is not None and not values.graph.is_like(self):
@@ -314,10 +389,16 @@ class Graph:
                 raise ValueError(f"the {kind} is one of another graph")
             if is_report or values.graph.names == self.names:
                 values = values.chips if is_report else values.numbers
-        is_named = hasattr(values, "items") and not any(hasattr(values, it) for it in ("columns", "toarray"))
+        is_named = hasattr(values, "items") and not any(
+            hasattr(values, it) for it in ("columns", "toarray")
+        )
         is_named = is_named and not is_of_networkx(values)
         rows = self._by_names(values) if is_named else self._in_order(values, of, with_sink)
-        return tuple(as_ints(rows, lambda vertex: f"the number of {of} of vertex {self.names[vertex]!r}", least))
+        return tuple(
+            as_ints(
+                rows, lambda vertex: f"the number of {of} of vertex {self.names[vertex]!r}", least
+            )
+        )
 
     def _by_names(self, values: Mapping[Hashable, Any]) -> list[Any]:
         found: dict[int, Any] = {}
@@ -333,20 +414,32 @@ class Graph:
         found = in_order(values, wanted)
         if isinstance(found, Set):
             raise TypeError(f"{wanted}, and no {type(values).__name__}: {values!r}")
-        is_one, inner = not isinstance(found, Iterable), self.vertices - (not with_sink)
+        is_one = not isinstance(found, Iterable)
+        inner = self.vertices - (not with_sink)
         rows = [found] * inner if is_one else list(found)
         if not {*map(type, rows)} <= {int, float}:
-            rows = [in_order(row, wanted) if hasattr(row, "tolist") or hasattr(row, "columns") else row for row in rows]
+            rows = [
+                in_order(row, wanted) if hasattr(row, "tolist") or hasattr(row, "columns") else row
+                for row in rows
+            ]
         # (an array of one direction, and what has fields of its own, has no rows)
         may_have = not is_one and getattr(values, "ndim", 2) > 1 and not hasattr(values, "_fields")
-        if may_have and rows and all(isinstance(row, (list, tuple, range, array, Iterator)) for row in rows):
+        if (
+            may_have
+            and rows
+            and all(isinstance(row, (list, tuple, range, array, Iterator)) for row in rows)
+        ):
             return self._by_squares([list(row) for row in rows], of, with_sink)
         if len(rows) == self.vertices - 1 and not with_sink:
             rows.insert(self.sink, 0)
         if len(rows) != self.vertices:
             if with_sink and len(rows) == self.vertices - 1:
-                raise ValueError(f"a divisor has chips on the sink too, and there are {len(rows)} numbers")
-            raise ValueError(f"there are {of} for {len(rows)} vertices, and the graph has {self.vertices}")
+                raise ValueError(
+                    f"a divisor has chips on the sink too, and there are {len(rows)} numbers"
+                )
+            raise ValueError(
+                f"there are {of} for {len(rows)} vertices, and the graph has {self.vertices}"
+            )
         return rows
 
     def _by_squares(self, rows: list[list[Any]], of: str, with_sink: bool) -> list[Any]:
@@ -354,11 +447,17 @@ class Graph:
         unless its number is wanted too."""
         if self.shape is None or {*map(len, rows)} != {self.shape[1]} or len(rows) != self.shape[0]:
             widths = " or ".join(map(str, sorted({*map(len, rows)})))
-            raise ValueError(f"the {of} stand in {len(rows)} rows of {widths}, and the graph has shape {self.shape}")
+            raise ValueError(
+                f"the {of} stand in {len(rows)} rows of {widths}, and the graph has shape {self.shape}"
+            )
         flat = list(itertools.chain(*rows))
         if any(isinstance(it, (list, tuple)) for it in flat):
-            raise ValueError(f"the {of} stand in rows of rows, and the graph has shape {self.shape}")
-        if len(self.squares) < len(flat) and any(flat[it] for it in {*range(len(flat))}.difference(self.squares)):
+            raise ValueError(
+                f"the {of} stand in rows of rows, and the graph has shape {self.shape}"
+            )
+        if len(self.squares) < len(flat) and any(
+            flat[it] for it in {*range(len(flat))}.difference(self.squares)
+        ):
             raise ValueError(f"there are {of} on a square that is no vertex of the graph")
         found = [flat[square] for square in self.squares]
         if self.sink < len(found) and not with_sink:

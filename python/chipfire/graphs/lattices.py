@@ -19,11 +19,17 @@ _BESIDE: dict[str, Sequence[Sequence[tuple[int, int]]]] = {
     "hexagonal": [((0, -1), (0, 1), (1, 0)), ((-1, 0), (0, -1), (0, 1))],
 }
 #: What sizes of a grid are called, and a number that no number of a vertex makes 0 or more.
-_WORDS, _FAR = ("width", "height", *(f"size in direction {it}" for it in range(3, 22))), 2**40
+_WORDS = ("width", "height", *(f"size in direction {it}" for it in range(3, 22)))
+_FAR = 2**40
 
 
 def grid(
-    width: int, height: int, *more: int, periodic: bool | Sequence[bool] = False, loss: Any = 0, lattice: str = "square"
+    width: int,
+    height: int,
+    *more: int,
+    periodic: bool | Sequence[bool] = False,
+    loss: Any = 0,
+    lattice: str = "square",
 ) -> Graph:
     """The grid, in Sage `sandpiles.Grid(height, width)`: vertex `width * row + column`, or `(row, column)`, and the
     sink after them all. On the border it loses a chip to the sink on each side without a neighbour: each has degree 4.
@@ -41,15 +47,25 @@ def grid(
     if not any(joined) and not more and lattice == "square" and isinstance(loss, int) and loss == 0:
         return _plain_grid(*given)
     if lattice not in _BESIDE or more and lattice != "square":
-        raise ValueError(f"no lattice of {len(given)} directions is named {lattice!r}; there are {', '.join(_BESIDE)}")
+        raise ValueError(
+            f"no lattice of {len(given)} directions is named {lattice!r}; there are {', '.join(_BESIDE)}"
+        )
     if len(joined) != len(given) or len(given) < 2 + len(more):
-        raise ValueError(f"there are {2 + len(more)} directions, and {len(joined)} are periodic or not")
-    if any(is_joined and (size < 2 or size % 2 and lattice == "hexagonal") for is_joined, size in zip(joined, given)):
+        raise ValueError(
+            f"there are {2 + len(more)} directions, and {len(joined)} are periodic or not"
+        )
+    if any(
+        is_joined and (size < 2 or size % 2 and lattice == "hexagonal")
+        for is_joined, size in zip(joined, given)
+    ):
         least = "an even size" if lattice == "hexagonal" else "a size of 2 or more"
         raise ValueError(f"a periodic direction has {least}, and the sizes are {given}")
-    extents, sink = given[::-1], math.prod(given)
+    extents = given[::-1]
+    sink = math.prod(given)
     shape = (sink // given[0], given[0])
-    losses = Graph(sink + 1, sink, Columns(*(array("i") for _ in range(3))), shape=shape).numbers(loss, 0, "lost chips")
+    losses = Graph(sink + 1, sink, Columns(*(array("i") for _ in range(3))), shape=shape).numbers(
+        loss, 0, "lost chips"
+    )
     if losses[sink]:
         raise ValueError(f"the sink loses no chips, and {losses[sink]} are said")
     if all(joined) and not any(losses):
@@ -59,17 +75,23 @@ def grid(
 
 
 def _lattice_edges(
-    extents: Sequence[int], joined: Sequence[bool], lattice: str, squares: Sequence[int], losses: Sequence[int]
+    extents: Sequence[int],
+    joined: Sequence[bool],
+    lattice: str,
+    squares: Sequence[int],
+    losses: Sequence[int],
 ) -> list[tuple[int, int, int]]:
     """The edges of the `squares` of a lattice that are vertices, by rows, and the `losses` of each vertex besides."""
     units = [tuple(int(it == place) for it in range(len(extents))) for place in range(len(extents))]
     square = [*(tuple(-it for it in unit) for unit in units), *reversed(units)]
     ways = [square, square] if lattice == "square" else [[*some] for some in _BESIDE[lattice]]
     heads = {way: _moved(extents, joined, way) for some in ways for way in some}
-    edges, numbers = [], dict(zip(squares, itertools.count()))
+    edges = []
+    numbers = dict(zip(squares, itertools.count()))
     for at, place in enumerate(itertools.product(*map(range, extents))):
         if at in numbers:
-            vertex, beside = numbers[at], [numbers.get(heads[way][at]) for way in ways[sum(place) % 2]]
+            vertex = numbers[at]
+            beside = [numbers.get(heads[way][at]) for way in ways[sum(place) % 2]]
             edges += [(vertex, head, 1) for head in beside if head is not None]
             if lost := losses[vertex] + beside.count(None):
                 edges.append((vertex, len(squares), lost))
@@ -82,7 +104,13 @@ def _moved(extents: Sequence[int], joined: Sequence[bool], way: Sequence[int]) -
     stride = 1
     for extent, is_joined, step in [*zip(extents, joined, way)][::-1]:
         places = range(step, extent + step)
-        axes.insert(0, [stride * (it % extent) if is_joined or it in range(extent) else -_FAR for it in places])
+        axes.insert(
+            0,
+            [
+                stride * (it % extent) if is_joined or it in range(extent) else -_FAR
+                for it in places
+            ],
+        )
         stride *= extent
     return [*map(sum, itertools.product(*axes))]
 
@@ -92,7 +120,8 @@ def grid_for(chips: int) -> Graph:
 
     By Levine and Peres (2009, theorem 4.1), pi r^2 chips stay in a circle of radius (1 / sqrt(2) + e) r + c, for each e
     above 0 and some c. Here e is 0 and c is 2, tried for all piles of up to 9,000 chips and some greater ones, and not
-    proved: a report whose sink has no chip says that it was enough. A million chips get 801 by 801, and need 729."""
+    proved: a report whose sink has no chip says that it was enough. A million chips get 801 by 801, and need 729.
+    """
     half = math.isqrt(int(as_int(chips, "the number of chips") / (2 * math.pi))) + 2
     if (2 * half + 1) ** 2 >= MAX_LARGE_VERTICES:
         raise ValueError(f"a square for {chips} chips has more than {MAX_LARGE_VERTICES} vertices")
@@ -101,15 +130,22 @@ def grid_for(chips: int) -> Graph:
 
 def _plain_grid(width: int, height: int) -> Graph:
     """The grid of two directions, whose every border loses chips: rows between the first and the last are alike."""
-    sink, few, alike = width * height, width * min(height, 3), max(height - 2, 1)
-    squares, columns = array("i", range(sink)), Columns(array("i"), array("i"), array("i"))
+    sink = width * height
+    few = width * min(height, 3)
+    alike = max(height - 2, 1)
+    squares = array("i", range(sink))
+    columns = Columns(array("i"), array("i"), array("i"))
     edges = _lattice_edges((min(height, 3), width), (False, False), "square", range(few), [0] * few)
     for row, first, rows in ((0, 0, 1), (1, 0, alike), (2, alike - 1, 1)):
 
         def below(vertex: int) -> array[int]:
             """A vertex and those below it in these rows, or the sink as often."""
             start = vertex + width * first
-            return array("i", [sink]) * rows if vertex == few else squares[start : start + width * rows : width]
+            return (
+                array("i", [sink]) * rows
+                if vertex == few
+                else squares[start : start + width * rows : width]
+            )
 
         one = [edge for edge in edges if edge[0] // width == row]
         part = [array("i", [0]) * (rows * len(one)) for _ in columns]
@@ -133,11 +169,20 @@ def region(mask: Iterable[Iterable[Any]], lattice: str = "square") -> Graph:
     if lattice not in _BESIDE:
         raise ValueError(f"no lattice is named {lattice!r}; there are {', '.join(_BESIDE)}")
     width = len(rows[0]) if rows else 0
-    squares = [width * y + x for y, row in enumerate(rows) for x, is_there in enumerate(row) if is_there]
+    squares = [
+        width * y + x for y, row in enumerate(rows) for x, is_there in enumerate(row) if is_there
+    ]
     if {*map(len, rows)} != {width} or not squares:
         raise ValueError("a mask has rows of one length, and a square that is true")
     edges = _lattice_edges((len(rows), width), (False, False), lattice, squares, [0] * len(squares))
-    return Graph(len(squares) + 1, len(squares), edges, shape=(len(rows), width), squares=squares, from_sink=None)
+    return Graph(
+        len(squares) + 1,
+        len(squares),
+        edges,
+        shape=(len(rows), width),
+        squares=squares,
+        from_sink=None,
+    )
 
 
 def _mask_row(row: Any) -> list[Any]:

@@ -12,33 +12,53 @@ from chipfire.utils import as_int
 
 
 def parts_of_named(
-    names: Iterable[Hashable], sink: Any, edges: Iterable[tuple[Any, ...]], is_directed: bool, loops: str | None = None,
+    names: Iterable[Hashable],
+    sink: Any,
+    edges: Iterable[tuple[Any, ...]],
+    is_directed: bool,
+    loops: str | None = None,
     scale: int = 1,
 ) -> dict[str, Any]:
     """What `Graph` takes for a graph of named vertices. Edges out of the sink are in the Laplacian alone, since it never fires."""
     sink = sink.tolist() if hasattr(sink, "tolist") else sink
-    names, edges, is_one = list(names), list(edges), not isinstance(sink, (list, set, frozenset))
+    names = list(names)
+    edges = list(edges)
+    is_one = not isinstance(sink, (list, set, frozenset))
     if not all(isinstance(it, Hashable) for it in ([sink] if is_one else sink)):
-        raise TypeError(f"a sink is the name of a vertex, or a list or set of them, and no {type(sink).__name__}")
+        raise TypeError(
+            f"a sink is the name of a vertex, or a list or set of them, and no {type(sink).__name__}"
+        )
     edges += [] if is_directed else [(head, tail, mult) for tail, head, mult in edges]
-    several, known = {sink} if is_one else {*sink}, {*names}
+    several = {sink} if is_one else {*sink}
+    known = {*names}
     for name in several:
         if name not in known:
             raise KeyError(f"the graph has no vertex {name!r}")
     if not several:
         raise ValueError("the list of sinks is empty")
     if not is_one:
-        names, sink = [*(name for name in names if name not in several), "sink"], "sink"
+        names = [*(name for name in names if name not in several), "sink"]
+        sink = "sink"
         if "sink" in names[:-1]:
-            raise ValueError("a vertex that is none of the sinks is called 'sink', as the one that they become")
+            raise ValueError(
+                "a vertex that is none of the sinks is called 'sink', as the one that they become"
+            )
     if loops not in (None, "drop", "sage"):
-        raise ValueError(f"loops are left out ('drop') or played as by SageMath ('sage'), and not {loops!r}")
+        raise ValueError(
+            f"loops are left out ('drop') or played as by SageMath ('sage'), and not {loops!r}"
+        )
     numbers = {name: vertex for vertex, name in enumerate(names)}
     numbers |= dict.fromkeys(several, numbers[sink])
-    scale, at, held = as_int(scale, "the scale of weights", 1), numbers[sink], [0] * len(names)
+    scale = as_int(scale, "the scale of weights", 1)
+    at = numbers[sink]
+    held = [0] * len(names)
     of = "the multiplicity" if scale == 1 else f"{scale} times the weight"
     rows = [
-        (numbers[tail], numbers[head], as_int(_scaled(mult, scale), f"{of} of the edge from {tail!r} to {head!r}", 1))
+        (
+            numbers[tail],
+            numbers[head],
+            as_int(_scaled(mult, scale), f"{of} of the edge from {tail!r} to {head!r}", 1),
+        )
         for tail, head, mult in edges
     ]
     for tail, head, mult in rows if loops == "sage" else ():
@@ -46,7 +66,12 @@ def parts_of_named(
     kept = [row for row in rows if row[0] != at and not (loops and row[0] == row[1])]
     back = [(head, mult) for tail, head, mult in rows if tail == at != head]
     return {
-        "vertices": len(names), "sink": at, "edges": kept, "names": names, "from_sink": back, "loops": held
+        "vertices": len(names),
+        "sink": at,
+        "edges": kept,
+        "names": names,
+        "from_sink": back,
+        "loops": held,
     }
 
 

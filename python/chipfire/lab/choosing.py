@@ -20,18 +20,26 @@ MOST_STATES = 2000
 
 
 def choice_page(
-    detector: Detector, file: FileName, setting: Setting | None = None, *, title: str | None = None,
+    detector: Detector,
+    file: FileName,
+    setting: Setting | None = None,
+    *,
+    title: str | None = None,
     positions: Mapping[Any, Point] | None = None,
 ) -> None:
     """Writes a page on which one picks each event among those that may happen, from the start of a game on.
 
     detector  a name of `chipfire.detectors.DETECTORS` or a class; the events of others than the machine's have no words
-    setting   the game, if not the one that stands there; it has at most 2,000 states, if a send is one event"""
+    setting   the game, if not the one that stands there; it has at most 2,000 states, if a send is one event
+    """
     write_text(file, choice_page_text(detector, setting, title=title, positions=positions))
 
 
 def choice_page_text(
-    detector: Detector, setting: Setting | None = None, *, title: str | None = None,
+    detector: Detector,
+    setting: Setting | None = None,
+    *,
+    title: str | None = None,
     positions: Mapping[Any, Point] | None = None,
 ) -> str:
     """The text of the page that `choice_page` writes."""
@@ -39,25 +47,34 @@ def choice_page_text(
     known = known_detector(name if name in DETECTORS else "right")
     setting = setting or known.game
     if not isinstance(setting, Setting):
-        raise TypeError(f"one picks the events of a chipfire.Setting, and not of {type(setting).__name__}")
+        raise TypeError(
+            f"one picks the events of a chipfire.Setting, and not of {type(setting).__name__}"
+        )
     data = page_data(Simulation((), None, setting=setting), positions)
     choices = _Choices(setting, detector, Ledger(setting, detector))
     found = choices.data()
     if not keeps_books(detector, {step["kind"] for step in found["steps"]}):
         choices = _Choices(setting, detector, ModelLedger(setting, detector, keeps_books=False))
-        found, data["start"], data["hidden"] = choices.data(), choices.start, WORDS["books"]
+        found = choices.data()
+        data["start"] = choices.start
+        data["hidden"] = WORDS["books"]
     data |= {"steps": [], "choices": found, "words": list(choices.words.numbers), "end": None}
     says = known.says if name in DETECTORS else f"the class <code>{name}</code>"
     parts = {"says": says, "states": with_unit(len(choices.states), "state")}
-    return filled(title or f"Choose each event: {name}", data, parts, "run-choices.html", "drawing.html")
+    return filled(
+        title or f"Choose each event: {name}", data, parts, "run-choices.html", "drawing.html"
+    )
 
 
 class _Choices:
     """All states of a game in the order in which they are reached, and the moves from each."""
 
     def __init__(self, setting: Setting, detector: Detector, ledger: Ledger) -> None:
-        self.name, self.words, self.ledger = detector_name(detector), Words(setting), ledger
-        self.core, self.start = ledger.core, ledger.state()
+        self.name = detector_name(detector)
+        self.words = Words(setting)
+        self.ledger = ledger
+        self.core = ledger.core
+        self.start = ledger.state()
         self.known = States(self.core)
         self.states = [self.known.noted()]
         self.places = {self.states[0]: 0}
@@ -66,18 +83,26 @@ class _Choices:
 
     def data(self) -> dict[str, Any]:
         """Of each state its moves (the numbers of their steps, and where they lead), and its last word, if any."""
-        moves, ends = [], []
+        moves = []
+        ends = []
         for state in self.states:
             self.known.load(state)
             events = self.core.enabled()
             ends.append(self._end(bool(events)))
             moves.append([self._move(state, Event(*event)) for event in events])
         early = WORDS["pages"]["early"]
-        return {"steps": list(map(json.loads, self.steps)), "moves": moves, "ends": ends, "early": early}
+        return {
+            "steps": list(map(json.loads, self.steps)),
+            "moves": moves,
+            "ends": ends,
+            "early": early,
+        }
 
     def _move(self, state: tuple[int, ...], event: Event) -> tuple[list[int], int]:
         if event.kind not in EVENTS:
-            raise ValueError(f"{self.name} has events of its own, which no page shows; chipfire.explore tries them")
+            raise ValueError(
+                f"{self.name} has events of its own, which no page shows; chipfire.explore tries them"
+            )
         kinds = ("clear", "claim", "put") if event.kind == "clear" else (event.kind,)
         events = [event._replace(kind=kind) for kind in kinds]
         self.known.load(state)
@@ -85,14 +110,20 @@ class _Choices:
         reached = self.known.noted()
         self.known.load(state)
         self.ledger.look()
-        steps = [json.dumps(self.words.step(self.ledger, *row)) for row in zip(events, told.replies)]
+        steps = [
+            json.dumps(self.words.step(self.ledger, *row)) for row in zip(events, told.replies)
+        ]
         self.known.noted()
         if reached not in self.places:
             if len(self.states) == MOST_STATES:
-                raise ValueError(f"this game has more than {MOST_STATES:,} states: take fewer chips")
+                raise ValueError(
+                    f"this game has more than {MOST_STATES:,} states: take fewer chips"
+                )
             self.places[reached] = len(self.states)
             self.states.append(reached)
-        return [self.steps.setdefault(step, len(self.steps)) for step in steps], self.places[reached]
+        return [self.steps.setdefault(step, len(self.steps)) for step in steps], self.places[
+            reached
+        ]
 
     def _end(self, goes_on: bool) -> dict[str, Any] | None:
         """The last word of the present state."""

@@ -59,15 +59,26 @@ class Computation:
         """The state in a few letters, for pages: its values, but for those that are empty."""
         of_model = {*vars(Vertex()), "number", "outs"}
         own = [(name, value) for name, value in vars(state).items() if name not in of_model]
-        full = [(name, value) for name, value in own if value is not None and value is not False and value != ()]
+        full = [
+            (name, value)
+            for name, value in own
+            if value is not None and value is not False and value != ()
+        ]
         return " ".join(name if value is True else str(value) for name, value in full)
 
     def opened(self, make: type[Core]) -> Core:
         """A game at its start, with a detector."""
         graph = self.graph
-        held = {"vertices": graph.vertices, "sink": graph.sink, "edges": graph.edges, "computation": self}
+        held = {
+            "vertices": graph.vertices,
+            "sink": graph.sink,
+            "edges": graph.edges,
+            "computation": self,
+        }
         bases = (Computed,) if make is Core else (make, Computed)
-        game: Core = type(make.__name__, bases, {"__module__": make.__module__})(held, (), 2**40, 1, False)
+        game: Core = type(make.__name__, bases, {"__module__": make.__module__})(
+            held, (), 2**40, 1, False
+        )
         return game
 
 
@@ -84,9 +95,13 @@ class Computed(Core):
             vars(state).update(number=number, outs=tuple(e.number for e in self.outs(number)))
             if taken := [name for name in self.computation.begins if name in vars(state)]:
                 made = type(self.computation).__name__
-                raise ValueError(f"{made}.begins has {taken[0]!r}, which the model keeps: choose another name")
+                raise ValueError(
+                    f"{made}.begins has {taken[0]!r}, which the model keeps: choose another name"
+                )
             vars(state).update(copy.deepcopy(dict(self.computation.begins)))
-        self.claim_all(-1, [(self.graph_edges + vertex, load) for vertex, load in self.computation.on_start()])
+        self.claim_all(
+            -1, [(self.graph_edges + vertex, load) for vertex, load in self.computation.on_start()]
+        )
         for e in self.outs(-1):
             e.put = len(e.sent)
 
@@ -109,7 +124,9 @@ class Computed(Core):
             return "empty"
         e.delivered += 1
         self.on_take(e)
-        self.claim_all(e.head, self.computation.on_message(self.vertices[e.head], at, e.sent[e.delivered - 1]))
+        self.claim_all(
+            e.head, self.computation.on_message(self.vertices[e.head], at, e.sent[e.delivered - 1])
+        )
         return f"got {e.delivered - 1}"
 
     def put(self, at: int) -> str:
@@ -130,8 +147,9 @@ class Computed(Core):
         for at, load in sends:
             if at not in own:
                 raise ValueError(
-                    f"vertex {v} sends on edge {at}, which is none of its own" if v >= 0 else
-                    f"the root sends to vertex {at - self.graph_edges}, which is not there"
+                    f"vertex {v} sends on edge {at}, which is none of its own"
+                    if v >= 0
+                    else f"the root sends to vertex {at - self.graph_edges}, which is not there"
                 )
             e = self.edges[at]
             e.sent = (*e.sent, load)
@@ -151,7 +169,8 @@ class Flooding(Computation):
         return [(start, 0) for start in self.starts]
 
     def on_message(self, state: Any, edge: int, load: Any) -> Sends:
-        is_first, state.marked = not state.marked, True
+        is_first = not state.marked
+        state.marked = True
         return [(out, 0) for out in state.outs if is_first]
 
 
@@ -190,7 +209,8 @@ class RandomWalk(Computation):
         return len(state.outs)
 
     def on_work(self, state: Any, way: int) -> Sends:
-        hops, state.hops = state.hops[0], state.hops[1:]
+        hops = state.hops[0]
+        state.hops = state.hops[1:]
         return [(state.outs[way], hops - 1)]
 
 
@@ -205,13 +225,16 @@ class WorkStealing(Computation):
 
     def __init__(self, graph: Graph, depth: int, start: int = 0) -> None:
         super().__init__(graph)
-        self.depth, self.start = depth, start
+        self.depth = depth
+        self.start = start
 
     def on_start(self) -> Sends:
         return [(self.start, self.depth)]
 
     def on_message(self, state: Any, edge: int, load: Any) -> Sends:
-        state.tasks, state.done = (*state.tasks, *[load - 1] * (2 if load else 0)), state.done + (not load)
+        state.tasks, state.done = (*state.tasks, *[load - 1] * (2 if load else 0)), state.done + (
+            not load
+        )
         return ()
 
     def is_passive(self, state: Any) -> bool:
@@ -222,9 +245,11 @@ class WorkStealing(Computation):
 
     def on_work(self, state: Any, way: int) -> Sends:
         if way == 0:
-            newest, state.tasks = state.tasks[-1], state.tasks[:-1]
+            newest = state.tasks[-1]
+            state.tasks = state.tasks[:-1]
             return self.on_message(state, -1, newest)
-        oldest, state.tasks = state.tasks[0], state.tasks[1:]
+        oldest = state.tasks[0]
+        state.tasks = state.tasks[1:]
         return [(state.outs[way - 1], oldest)]
 
 

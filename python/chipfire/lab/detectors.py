@@ -74,7 +74,8 @@ class Probe(NamedTuple):
 class Safra(_Otherwise):
     """A token goes round: from the root to the last vertex, down to vertex 0, and back. It adds up what each part sent
     less what it took. A part that takes a message is black until it passes the token on, and blackens it. The root
-    closes when a white token comes back and the sum is 0, its own count with it. Else it sends another."""
+    closes when a white token comes back and the sum is 0, its own count with it. Else it sends another.
+    """
 
     own: Probe
 
@@ -96,7 +97,8 @@ class Safra(_Otherwise):
         self.own = self.own._replace(black=self.own.black | {e.head})
 
     def own_events(self) -> Iterator[Event]:
-        at, root = self.own.at, len(self.vertices)
+        at = self.own.at
+        root = len(self.vertices)
         if at < root and self.is_passive(at) or at == root and not self.is_closed():
             yield "pass_on", at, 0
 
@@ -104,12 +106,15 @@ class Safra(_Otherwise):
         """Whoever has the token sends it to the next, a vertex once it is passive."""
         if ("pass_on", at, 0) not in self.own_events():
             return "not-now"
-        own, root = self.own, len(self.vertices)
+        own = self.own
+        root = len(self.vertices)
         if at == root:
             self.own = own._replace(at=root - 1, sum=0, is_black=False)
         else:
             self.own = own._replace(
-                at=at - 1 if at else root, sum=own.sum + own.counts[at], black=own.black - {at},
+                at=at - 1 if at else root,
+                sum=own.sum + own.counts[at],
+                black=own.black - {at},
                 is_black=own.is_black or self.blackens(at),
             )
         return "done"
@@ -121,8 +126,11 @@ class Safra(_Otherwise):
         return at in self.own.black
 
     def is_closed(self) -> bool:
-        own, root = self.own, len(self.vertices)
-        return self.ended and own.at == root and not own.is_black and own.sum + own.counts[root] == 0
+        own = self.own
+        root = len(self.vertices)
+        return (
+            self.ended and own.at == root and not own.is_black and own.sum + own.counts[root] == 0
+        )
 
 
 class SafraColourless(Safra):
@@ -142,7 +150,8 @@ class Shares(NamedTuple):
 
 class Credit(_Otherwise):
     """The root has a credit of 1 and gives some with each message. A vertex adds what it takes, gives half of what it
-    has with each message, and gives back all when it is passive. The root closes when it has 1 again."""
+    has with each message, and gives back all when it is passive. The root closes when it has 1 again.
+    """
 
     own: Shares
 
@@ -174,7 +183,11 @@ class Credit(_Otherwise):
         self._lay(e, tuple(rest))
 
     def own_events(self) -> Iterator[Event]:
-        return (("give_back", v, 0) for v, it in enumerate(self.own.vertices) if it and self.is_passive(v))
+        return (
+            ("give_back", v, 0)
+            for v, it in enumerate(self.own.vertices)
+            if it and self.is_passive(v)
+        )
 
     def give_back(self, at: int) -> str:
         """A passive vertex gives its credit back to the root."""
@@ -207,17 +220,24 @@ DETECTORS = {
     "right": Known(Core, "the detector of Dijkstra and Scholten"),
     "at-once": Known(AtOnce, "a vertex acknowledges each message as soon as it has taken it"),
     "without-passive": Known(
-        WithoutPassive, "a vertex acknowledges the engaging message last, but also while it is at work"
+        WithoutPassive,
+        "a vertex acknowledges the engaging message last, but also while it is at work",
     ),
     "without-deficit": Known(
         WithoutDeficit, "a passive vertex acknowledges the engaging message, whatever it waits for"
     ),
-    "any-order": Known(AnyOrder, "a passive vertex that waits for nothing acknowledges in any order"),
+    "any-order": Known(
+        AnyOrder, "a passive vertex that waits for nothing acknowledges in any order"
+    ),
     "one-edge": Known(
-        OneEdge, "the root looks at the first edge alone on which it sent something", Setting(_TRIANGLE, (1, 2, 0))
+        OneEdge,
+        "the root looks at the first edge alone on which it sent something",
+        Setting(_TRIANGLE, (1, 2, 0)),
     ),
     "safra": Known(Safra, "Safra's token"),
-    "safra-colourless": Known(SafraColourless, "a token that adds up what was sent and taken, without colours"),
+    "safra-colourless": Known(
+        SafraColourless, "a token that adds up what was sent and taken, without colours"
+    ),
     "credit": Known(Credit, "credit that the root gives out and gets back"),
 }
 
@@ -226,7 +246,9 @@ def known_detector(name: str | type[Core]) -> Known:
     """The detector of a name; of a class, what its docstring says."""
     if not isinstance(name, str):
         if not (isinstance(name, type) and issubclass(name, Core)):
-            raise TypeError(f"a detector is a name or a class that is made of chipfire.model.Core, and not {name!r}")
+            raise TypeError(
+                f"a detector is a name or a class that is made of chipfire.model.Core, and not {name!r}"
+            )
         return Known(name, (name.__doc__ or name.__name__).strip().partition("\n")[0].rstrip("."))
     if name not in DETECTORS:
         raise ValueError(f"there is no detector {name!r}, but {', '.join(DETECTORS)}")

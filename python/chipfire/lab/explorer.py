@@ -58,8 +58,13 @@ class Explored:
 
 
 def explore(
-    setting: Game, detector: Detector = "right", *, most: int = 100_000, whole_sends: bool = True,
-    feeds: Iterable[Sequence[int]] = (), seals: Iterable[int] = (),
+    setting: Game,
+    detector: Detector = "right",
+    *,
+    most: int = 100_000,
+    whole_sends: bool = True,
+    feeds: Iterable[Sequence[int]] = (),
+    seals: Iterable[int] = (),
 ) -> Explored:
     """Goes through all schedules of a game, breadth first, until the root is closed and something is left. The game is
     a `Setting` of chip-firing or a `Computation`, the detector a name or a class; `chipfire.detectors` has both.
@@ -84,20 +89,33 @@ class _Search:
     """A search over numbered states. A move is a step with its replies, and has a number too."""
 
     def __init__(
-        self, setting: Game, detector: Detector, most: int, whole_sends: bool, feeds: Iterable[Sequence[int]],
+        self,
+        setting: Game,
+        detector: Detector,
+        most: int,
+        whole_sends: bool,
+        feeds: Iterable[Sequence[int]],
         seals: Iterable[int],
     ) -> None:
-        self.setting, self.detector, self.whole_sends = setting, detector, whole_sends
+        self.setting = setting
+        self.detector = detector
+        self.whole_sends = whole_sends
         self.most = as_int(most, "most", 1)
         self.core: Core = opened(setting, detector)
         self.shared = _shared(self.core, setting)
-        self.feeds = [(as_int(at, "the edge of a feed"), as_int(count, "a feed", 1)) for at, count in feeds]
+        self.feeds = [
+            (as_int(at, "the edge of a feed"), as_int(count, "a feed", 1)) for at, count in feeds
+        ]
         if self.feeds and not setting.fed:
             raise ValueError("there are feeds, and the setting is not fed")
         edges = range(self.core.graph_edges, len(self.core.edges))
         if strange := [at for at, _ in self.feeds if at not in edges]:
-            raise ValueError(f"edge {strange[0]} is none of the root's, which are {edges.start} to {edges.stop - 1}")
-        self.seals = [as_int(at, "the edge of a seal", 0, self.core.graph_edges - 1) for at in seals]
+            raise ValueError(
+                f"edge {strange[0]} is none of the root's, which are {edges.start} to {edges.stop - 1}"
+            )
+        self.seals = [
+            as_int(at, "the edge of a seal", 0, self.core.graph_edges - 1) for at in seals
+        ]
         if self.seals and not isinstance(setting, Setting):
             raise ValueError("there are seals, and the game is not one of chip-firing")
         self.opening = sum(len(e.sent) for e in self.core.outs(-1))
@@ -105,9 +123,14 @@ class _Search:
         start = self.states.noted()
         #: The states in their order, their numbers, from which one and by which move the search came to each, and
         #: which are closed.
-        self.order, self.places, self.came, self.closed = [start], {start: 0}, [(-1, -1)], [False]
+        self.order = [start]
+        self.places = {start: 0}
+        self.came = [(-1, -1)]
+        self.closed = [False]
         #: The moves from each state and where they lead, one state after the other, and where those of each begin.
-        self.moves, self.heads, self.firsts = array("i"), array("i"), array("q", [0])
+        self.moves = array("i")
+        self.heads = array("i")
+        self.firsts = array("q", [0])
         self.numbers: dict[tuple[int, tuple[str, ...]], int] = {}
         self.known: list[tuple[int, tuple[str, ...]]] = []
         #: The steps, and their numbers by their first events.
@@ -136,7 +159,9 @@ class _Search:
 
     def _searched(self) -> tuple[int | None, int | None]:
         """The first state in which the root is closed too early, and the first in which nothing can happen."""
-        stuck, core, states = None, self.core, self.states
+        stuck = None
+        core = self.core
+        states = self.states
         for at, state in enumerate(self.order):
             states.load(state)
             self.closed[at] = bool(core.is_closed())
@@ -156,11 +181,15 @@ class _Search:
 
     def _go_on(self, at: int, state: tuple[int, ...], steps: list[int]) -> None:
         """Takes each step from a state, as long as there are not too many states."""
-        load, noted, step_of, places = self.states.load, self.states.noted, self.core.step, self.places
+        load = self.states.load
+        noted = self.states.noted
+        step_of = self.core.step
+        places = self.places
         for step in steps:
             load(state)
             replies = tuple([step_of(*event) for event in self.steps[step]])
-            reached, head = noted(), len(self.order)
+            reached = noted()
+            head = len(self.order)
             move = self.numbers.setdefault((step, replies), len(self.numbers))
             found = places.get(reached)
             if found is None:
@@ -209,8 +238,11 @@ class _Search:
 
     def _lost(self) -> int | None:
         """The first state from which no closed one can be reached."""
-        able, firsts, heads = bytearray(self.closed), self.firsts, self.heads
-        waiting, before = [at for at in reversed(range(len(able))) if not able[at]], -1
+        able = bytearray(self.closed)
+        firsts = self.firsts
+        heads = self.heads
+        waiting = [at for at in reversed(range(len(able))) if not able[at]]
+        before = -1
         # (most moves lead to later states, so that a few rounds from the last one back do)
         while waiting and len(waiting) != before:
             before = len(waiting)
@@ -240,7 +272,8 @@ class _Search:
         for name, value in _shared(self.core, self.setting).items():
             if self.shared.get(name) != value:
                 raise ValueError(f"{name}, and changed: keep it in an attribute of the game")
-        draw, most = random.Random(0), 2 * len(self._way(len(self.order) - 1)) + 10
+        draw = random.Random(0)
+        most = 2 * len(self._way(len(self.order) - 1)) + 10
         for _ in range(REPLAYS):
             core = opened(self.setting, self.detector)
             self._walk(core, States(core, self.states), draw, most)
@@ -261,7 +294,9 @@ class _Search:
             place = draw.randrange(len(moves))
             number, replies = self.known[moves[place]]
             step = self.steps[number]
-            at, made, most = self.heads[self.firsts[at] + place], made + len(step), most - 1
+            at = self.heads[self.firsts[at] + place]
+            made = made + len(step)
+            most = most - 1
             if tuple(core.step(*event) for event in step) != replies:
                 raise self._other(made, "reply")
             if states.noted() != self.order[at]:
@@ -273,7 +308,10 @@ def _shared(core: Core, setting: Game) -> dict[str, Any]:
     classes = (*type(core).__mro__, *type(setting).__mro__)
     held = [(f"{made.__name__}.{{}} stands in a class", made) for made in classes]
     found = {}
-    for says, holder in [*held, (f"{type(setting).__name__}.{{}} stands in a computation", setting)]:
+    for says, holder in [
+        *held,
+        (f"{type(setting).__name__}.{{}} stands in a computation", setting),
+    ]:
         for name, value in vars(holder).items():
             if not name.startswith("__") and not callable(value) and not isinstance(value, Graph):
                 with contextlib.suppress(TypeError, RecursionError):

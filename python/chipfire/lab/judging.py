@@ -48,7 +48,10 @@ class Judged:
     @property
     def _said(self) -> Claim | None:
         """The first claim that is false, or else the last."""
-        return next((claim for claim in self.claims if not claim.is_true), self.claims[-1] if self.claims else None)
+        return next(
+            (claim for claim in self.claims if not claim.is_true),
+            self.claims[-1] if self.claims else None,
+        )
 
     @property
     def claim(self) -> str | None:
@@ -67,20 +70,30 @@ class Judged:
         return self._said.left if self._said else ()
 
     def __str__(self) -> str:
-        said = ["each reply is that of the right detector" if self.row is None else
-                f"row {self.row}: the log says {self.told!r}, the right detector {self.right!r}" if self.fits else
-                f"the log does not fit the game: row {self.row} says {self.told!r}, and the game {self.right!r}; what "
-                "follows is not judged"]
+        said = [
+            "each reply is that of the right detector"
+            if self.row is None
+            else f"row {self.row}: the log says {self.told!r}, the right detector {self.right!r}"
+            if self.fits
+            else f"the log does not fit the game: row {self.row} says {self.told!r}, and the game {self.right!r}; what "
+            "follows is not judged"
+        ]
         if self._said is not None:
-            rest = f", and left are: {'; '.join(self.left)}" if self.left else ", and nothing is left"
+            rest = (
+                f", and left are: {'; '.join(self.left)}" if self.left else ", and nothing is left"
+            )
             is_true = str(self._said.is_true).lower()
-            said.append(f"the claim in row {self._said.row} that the root is {self.claim} is {is_true}{rest}")
+            said.append(
+                f"the claim in row {self._said.row} that the root is {self.claim} is {is_true}{rest}"
+            )
         if self.is_missed:
             said.append("the end is missed: nothing is left, and the root is open")
         return "; ".join(said)
 
 
-def judge(setting: Setting, log: Iterable[Sequence[Any]] | FileName, *, also: Collection[str] = ()) -> Judged:
+def judge(
+    setting: Setting, log: Iterable[Sequence[Any]] | FileName, *, also: Collection[str] = ()
+) -> Judged:
     """Judges the log of somebody's own machine that plays a game: rows of an event, where it was, a count, its reply.
 
     It is a list of such rows, or a file whose header is event,at,count,reply. A row `root,0,0,closed` claims that the
@@ -108,12 +121,16 @@ def judge(setting: Setting, log: Iterable[Sequence[Any]] | FileName, *, also: Co
             if said != reply and kind not in ("ack", "settle", "end", "read"):
                 return Judged(index, reply, said, False, tuple(claims), False)
             if said != reply and row is None:
-                row, told, right = index, reply, said
+                row = index
+                told = reply
+                right = said
     is_missed = bool(claims) and claims[-1].said == "open" and not core.left()
     return Judged(row, told, right, True, tuple(claims), is_missed)
 
 
-def _rows(log: Iterable[Sequence[Any]] | FileName, also: Collection[str]) -> Iterator[tuple[str, int, int, str]]:
+def _rows(
+    log: Iterable[Sequence[Any]] | FileName, also: Collection[str]
+) -> Iterator[tuple[str, int, int, str]]:
     """The rows of a log, each with its numbers."""
     try:
         told = list(read_rows(log, LOG_HEADER)) if isinstance(log, FILE) else log
@@ -121,15 +138,24 @@ def _rows(log: Iterable[Sequence[Any]] | FileName, also: Collection[str]) -> Ite
         raise ValueError(f"{error}: this is no log of a detector of chip-firing") from None
     for index, row in enumerate(told):
         if isinstance(row, str) or len(row) != len(LOG_HEADER):
-            raise ValueError(f"row {index} has not {len(LOG_HEADER)} fields: {', '.join(LOG_HEADER)}")
+            raise ValueError(
+                f"row {index} has not {len(LOG_HEADER)} fields: {', '.join(LOG_HEADER)}"
+            )
         kind, at, count, reply = str(row[0]), *row[1:3], str(row[3]).strip()
         if kind not in (*EVENTS, CLAIM, *also):
             near = difflib.get_close_matches(kind.lower(), [*EVENTS, CLAIM, *also], 1)
             meant = f"{near[0]} is near" if near else "this is no log of a detector of chip-firing"
-            raise ValueError(f"row {index}: there is no event {kind!r}: {meant}, and `also` lists events of your own")
+            raise ValueError(
+                f"row {index}: there is no event {kind!r}: {meant}, and `also` lists events of your own"
+            )
         if kind == CLAIM and reply not in ("closed", "open"):
-            raise ValueError(f"row {index} claims that the root is {reply!r}, which is neither closed nor open")
-        numbers = [_number(value, f"row {index}: {name}") for name, value in (("at", at), ("count", count or 0))]
+            raise ValueError(
+                f"row {index} claims that the root is {reply!r}, which is neither closed nor open"
+            )
+        numbers = [
+            _number(value, f"row {index}: {name}")
+            for name, value in (("at", at), ("count", count or 0))
+        ]
         yield kind, numbers[0], numbers[1], reply
 
 
@@ -143,10 +169,13 @@ def _number(value: Any, what: str) -> int:
 
 def _answer(core: Core, kind: str, at: int, count: int, told: str) -> str:
     """Makes an event of a log, and answers what the log says if that is right, and else what is. A part may acknowledge
-    or settle less than it could, an edge be full with one message, and the root be read once nothing is left."""
+    or settle less than it could, an edge be full with one message, and the root be read once nothing is left.
+    """
     e = core.edges[at] if at < len(core.edges) else None
     word, *numbers = told.split() or [""]
-    done = int(numbers[0]) if word == "done" and len(numbers) == 1 and numbers[0].isdecimal() else -1
+    done = (
+        int(numbers[0]) if word == "done" and len(numbers) == 1 and numbers[0].isdecimal() else -1
+    )
     if kind == "clear" and told == "full" and e is not None and e.delivered < len(e.sent):
         e.clear = False
         return told
@@ -161,6 +190,11 @@ def _answer(core: Core, kind: str, at: int, count: int, told: str) -> str:
             e.settled += done
             core.ended = core.ended or kind == "end"
             return told
-    if kind == "read" and at < len(core.vertices) and done == core.vertices[at].fired and not core.left():
+    if (
+        kind == "read"
+        and at < len(core.vertices)
+        and done == core.vertices[at].fired
+        and not core.left()
+    ):
         return told
     return core.step(kind, at, count)

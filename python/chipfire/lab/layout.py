@@ -34,18 +34,27 @@ def columns_of(graph: Graph) -> int | None:
     return width if width and graph.is_like(grid(width, height)) else None
 
 
-def places_of(graph: Graph, started: Iterable[int], given: Mapping[Any, Point] | None = None) -> Places:
+def places_of(
+    graph: Graph, started: Iterable[int], given: Mapping[Any, Point] | None = None
+) -> Places:
     """The places of a graph whose root sends chips to the vertices `started`: given by names, of a grid, or found."""
     if given is not None:
         for name in graph.names:
             if name not in given or not all(map(math.isfinite, given[name])):
-                raise ValueError(f"the position of vertex {name!r} is no point: {given.get(name)!r}")
+                raise ValueError(
+                    f"the position of vertex {name!r} is no point: {given.get(name)!r}"
+                )
         return _below_root([(float(given[name][0]), float(given[name][1])) for name in graph.names])
     columns = columns_of(graph)
-    if columns:  # (the frame round the squares stands for the sink, since it takes what falls over the border)
-        places, rows = _in_rows(graph.vertices - 1, columns), (graph.vertices - 1) // columns
+    if (
+        columns
+    ):  # (the frame round the squares stands for the sink, since it takes what falls over the border)
+        places = _in_rows(graph.vertices - 1, columns)
+        rows = (graph.vertices - 1) // columns
         places.append(((columns - 1) / 2, rows - 0.2))
-        return Places(places, ((columns - 1) / 2, -1.45), ((-0.8, -0.8), (columns - 0.2, rows - 0.2)))
+        return Places(
+            places, ((columns - 1) / 2, -1.45), ((-0.8, -0.8), (columns - 0.2, rows - 0.2))
+        )
     if graph.vertices > MOST_BY_DISTANCE:
         return _below_root(_in_rows(graph.vertices, math.isqrt(graph.vertices - 1) + 1))
     return _from_distances(graph, sorted(started))
@@ -54,7 +63,8 @@ def places_of(graph: Graph, started: Iterable[int], given: Mapping[Any, Point] |
 def _below_root(places: Sequence[Point]) -> Places:
     """These places, and the root over their middle, as far off as they are from each other."""
     across, down = zip(*places)
-    width, height = max(across) - min(across), max(down) - min(down)
+    width = max(across) - min(across)
+    height = max(down) - min(down)
     apart = max(width, height) / math.sqrt(len(places)) or 1.0
     return Places(places, (min(across) + width / 2, min(down) - apart))
 
@@ -68,13 +78,18 @@ def _from_distances(graph: Graph, started: Sequence[int]) -> Places:
     points = _stressed(_distances(graph))
     down = points[graph.sink]
     away = down - (sum(points[vertex] for vertex in started) / len(started) if started else down)
-    turn = 1j * abs(away) / away if abs(away) > 1e-9 else 1  # (so that the sink is right below who gets chips)
+    turn = (
+        1j * abs(away) / away if abs(away) > 1e-9 else 1
+    )  # (so that the sink is right below who gets chips)
     vertices = [(round((point * turn).real, 3), round((point * turn).imag, 3)) for point in points]
     across = [vertices[vertex][0] for vertex in started or [graph.sink]]
     root = (round(sum(across) / len(across), 3), min(down for _, down in vertices) - 1)
     widths, heights = zip(*vertices, root)
-    if max(heights) - min(heights) > 2 * (max(widths) - min(widths)) + 1:  # (what is so high is laid on its side)
-        vertices, root = [(down, across) for across, down in vertices], root[::-1]
+    if (
+        max(heights) - min(heights) > 2 * (max(widths) - min(widths)) + 1
+    ):  # (what is so high is laid on its side)
+        vertices = [(down, across) for across, down in vertices]
+        root = root[::-1]
     return Places(vertices, root)
 
 
@@ -86,7 +101,8 @@ def _distances(graph: Graph) -> list[list[int]]:
         beside[head].add(tail)
     rows = []
     for start in range(graph.vertices):
-        found, waiting = {start: 0}, [start]
+        found = {start: 0}
+        waiting = [start]
         for vertex in waiting:
             new = beside[vertex] - found.keys()
             found |= dict.fromkeys(new, found[vertex] + 1)
@@ -98,13 +114,17 @@ def _distances(graph: Graph) -> list[list[int]]:
 def _stressed(distances: Sequence[Sequence[int]]) -> list[complex]:
     """Points whose distances come near to those that are wanted, near ones above all: stress majorization."""
     size = len(distances)
-    points = [cmath.rect(size / 6, 2 * math.pi * vertex / size) for vertex in range(size)]  # (on a circle at first)
+    points = [
+        cmath.rect(size / 6, 2 * math.pi * vertex / size) for vertex in range(size)
+    ]  # (on a circle at first)
     for _ in range(min(2000, 1_000_000 // size**2 + 1) if size > 1 else 0):
         for vertex, wanted in enumerate(distances):
-            total, weights = 0j, 0.0
+            total = 0j
+            weights = 0.0
             for other, distance in enumerate(wanted):
                 if distance:
-                    away, weight = points[vertex] - points[other], 1 / distance**2
+                    away = points[vertex] - points[other]
+                    weight = 1 / distance**2
                     total += weight * (points[other] + distance * away / (abs(away) or 1))
                     weights += weight
             points[vertex] = total / weights

@@ -18,7 +18,13 @@ Change = tuple[str, int, str, Any]
 #: The facts of the root, of each vertex and of each edge.
 State = dict[str, list[dict[str, Any]]]
 #: The facts that are the books of acknowledgements, as they are where none are kept.
-_NO_BOOKS: dict[str, Any] = {"deficit": 0, "parent": None, "acknowledged": 0, "settled": 0, "owed": 0}
+_NO_BOOKS: dict[str, Any] = {
+    "deficit": 0,
+    "parent": None,
+    "acknowledged": 0,
+    "settled": 0,
+    "owed": 0,
+}
 #: What stopped a vertex, by the model's word for it.
 _HALTS = {None: None, "sealed": "seal", "over": "limit"}
 
@@ -58,18 +64,33 @@ class Ledger:
 
     def _vertices(self, vertex: int) -> dict[str, Any]:
         """A vertex: its chips and firings, what halted it, the edge that engaged it, and its deficit."""
-        its, deficit = self.core.vertices[vertex], self.core.deficit(self.core.outs(vertex))
+        its = self.core.vertices[vertex]
+        deficit = self.core.deficit(self.core.outs(vertex))
         halted = _HALTS[its.halt]
-        return {"chips": its.chips, "fired": its.fired, "halted": halted, "parent": its.parent, "deficit": deficit}
+        return {
+            "chips": its.chips,
+            "fired": its.fired,
+            "halted": halted,
+            "parent": its.parent,
+            "deficit": deficit,
+        }
 
     def _edges(self, edge: int) -> dict[str, Any]:
         """An edge: its chips, its messages, those in cells as (place, chips), and what its ends noted of them."""
         its = self.core.edges[edge]
         return {
-            "pending": its.pending, "claimed": self._carried(its.sent[its.put :]),
-            "cells": [(at, self._carried(its.sent[at : at + 1])) for at in range(its.delivered, its.put)],
-            "clear": its.clear, "refused": its.refused, "sealed": its.sealed, "sent": len(its.sent),
-            "taken": its.delivered, "acknowledged": its.acked, "settled": its.settled,
+            "pending": its.pending,
+            "claimed": self._carried(its.sent[its.put :]),
+            "cells": [
+                (at, self._carried(its.sent[at : at + 1])) for at in range(its.delivered, its.put)
+            ],
+            "clear": its.clear,
+            "refused": its.refused,
+            "sealed": its.sealed,
+            "sent": len(its.sent),
+            "taken": its.delivered,
+            "acknowledged": its.acked,
+            "settled": its.settled,
             "owed": its.delivered - its.acked,
         }
 
@@ -84,19 +105,30 @@ class Ledger:
             return []
         core = self.core
         if event.kind in ("fire", "halt", "read"):
-            edges, vertices = core.outs(event.at), [event.at]
+            edges = core.outs(event.at)
+            vertices = [event.at]
         else:
             edge = core.edges[core.graph_edges if event.kind == "end" else event.at]
-            edges, vertices = [edge], [vertex for vertex in (edge.head, edge.tail) if vertex >= 0]
-        touched = [*(("edges", edge.number) for edge in edges), *(("vertices", it) for it in vertices), ("root", 0)]
+            edges = [edge]
+            vertices = [vertex for vertex in (edge.head, edge.tail) if vertex >= 0]
+        touched = [
+            *(("edges", edge.number) for edge in edges),
+            *(("vertices", it) for it in vertices),
+            ("root", 0),
+        ]
         return self._changes(touched)
 
     def _changes(self, touched: list[tuple[str, int]]) -> list[Change]:
         """What has changed of these facts: edges, vertices, and the root."""
         changes = []
         for kind, index in touched:
-            before, now = self.facts[kind][index], getattr(self, f"_{kind}")(index)
-            changes += [(kind, index, name, value) for name, value in now.items() if before.get(name) != value]
+            before = self.facts[kind][index]
+            now = getattr(self, f"_{kind}")(index)
+            changes += [
+                (kind, index, name, value)
+                for name, value in now.items()
+                if before.get(name) != value
+            ]
             self.facts[kind][index] = now
             if kind == "vertices":
                 self._books.pop(index, None)
@@ -115,7 +147,11 @@ class Ledger:
 
     def close(self, report: Union[Report, None]) -> None:
         """Compares the end with the report, which comes exactly if the root is closed."""
-        self._agree("the end", report and report.text().strip(), self.core.report() if self.core.is_closed() else None)
+        self._agree(
+            "the end",
+            report and report.text().strip(),
+            self.core.report() if self.core.is_closed() else None,
+        )
 
     @staticmethod
     def _agree(what: str, told: Any, known: Any) -> None:
@@ -125,23 +161,35 @@ class Ledger:
 
 class ModelLedger(Ledger):
     """The same of a run that the model alone plays. Loads and states of other computations are words, and so is what a
-    detector of another kind keeps: they are facts of the root. Of one that keeps no books none are shown."""
+    detector of another kind keeps: they are facts of the root. Of one that keeps no books none are shown.
+    """
 
-    def __init__(self, setting: Game, detector: Detector = "right", keeps_books: bool = True) -> None:
+    def __init__(
+        self, setting: Game, detector: Detector = "right", keeps_books: bool = True
+    ) -> None:
         self.keeps_books = keeps_books
         super().__init__(setting, detector)
 
     def _kept(self, facts: dict[str, Any]) -> dict[str, Any]:
         """Facts, without those of books that nobody keeps."""
-        return facts if self.keeps_books else {name: _NO_BOOKS.get(name, value) for name, value in facts.items()}
+        return (
+            facts
+            if self.keeps_books
+            else {name: _NO_BOOKS.get(name, value) for name, value in facts.items()}
+        )
 
     def _root(self, _: int) -> dict[str, Any]:
         own = [f"{name} {value}" for name, value in vars(self.core).items() if name != "ended"]
         return {**self._kept(super()._root(0)), **({"own": "; ".join(own)} if own else {})}
 
     def _vertices(self, vertex: int) -> dict[str, Any]:
-        facts, core = self._kept(super()._vertices(vertex)), self.core
-        return {**facts, "chips": core.computation.show(core.vertices[vertex])} if isinstance(core, Computed) else facts
+        facts = self._kept(super()._vertices(vertex))
+        core = self.core
+        return (
+            {**facts, "chips": core.computation.show(core.vertices[vertex])}
+            if isinstance(core, Computed)
+            else facts
+        )
 
     def _edges(self, edge: int) -> dict[str, Any]:
         return self._kept(super()._edges(edge))
@@ -152,4 +200,6 @@ class ModelLedger(Ledger):
     def note(self, event: Event, reply: Reply) -> list[Change]:
         """Makes an event, and returns what it changed."""
         self.core.step(*event)
-        return self._changes([(kind, index) for kind, rows in self.facts.items() for index in range(len(rows))])
+        return self._changes(
+            [(kind, index) for kind, rows in self.facts.items() for index in range(len(rows))]
+        )

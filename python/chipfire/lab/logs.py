@@ -19,10 +19,12 @@ from chipfire.backend.process import ask, Fault, Kept
 from chipfire.utils import FILE, FileName, rows_text, sorted_if_possible
 
 _HEADER = ("process", "kind", "channel")
-_SENDS, _GETS = ("send", "tell"), ("receive", "hear")
+_SENDS = ("send", "tell")
+_GETS = ("receive", "hear")
 _KINDS = (*_SENDS, *_GETS, "passive", "active", "over")
 #: How an answer of the program begins, and its fault of rows that fit together in no order.
-_BEGINS, _STUCK = ("over ", "end "), 70
+_BEGINS = ("over ", "end ")
+_STUCK = 70
 Row = tuple[Any, Any, Any]
 #: The key of a value in an object, its place in a list, or a function that finds the value there.
 Key = Union[str, int, Callable[[Any], Any]]
@@ -61,7 +63,11 @@ class JudgedLog:
 
 
 def judge_log(
-    log: Iterable[Iterable[Any]] | FileName, *, past: bool = False, reactive: bool = False, cut: bool = False,
+    log: Iterable[Iterable[Any]] | FileName,
+    *,
+    past: bool = False,
+    reactive: bool = False,
+    cut: bool = False,
     program: FileName | None = None,
 ) -> JudgedLog:
     """Judges the claims in a log of any distributed program that its computation is over, by the program's verdicts.
@@ -77,19 +83,26 @@ def judge_log(
               out with all behind them. The verdicts on the claims before them do not change, as tests on random logs
               have it; that is not proved
     """
-    options, gone = {"past": bool(past)}, dict[Hashable, int]()
+    options = {"past": bool(past)}
+    gone = dict[Hashable, int]()
     if isinstance(log, FILE) and not (reactive or cut):
         return _judged(ask(program, "judge", [("log", log)], options, begins=_BEGINS), None, gone)
     rows = _Rows(_read(log, program) if isinstance(log, FILE) else log, reactive)
     while True:
         try:
-            return _judged(ask(program, "judge", [("log", rows.kept())], options, begins=_BEGINS), rows, gone)
+            return _judged(
+                ask(program, "judge", [("log", rows.kept())], options, begins=_BEGINS), rows, gone
+            )
         except Fault as fault:
             told = rows.fault(fault)
             if not cut or told.number != _STUCK:
                 raise told from None
             name, gone[name] = told.place
-            rows.rows = [it for it in rows.rows if it[1][0] != name or it[0] < rows.places[name][fault.place[1]]]
+            rows.rows = [
+                it
+                for it in rows.rows
+                if it[1][0] != name or it[0] < rows.places[name][fault.place[1]]
+            ]
 
 
 def _read(file: FileName, program: FileName | None) -> list[Row]:
@@ -100,23 +113,31 @@ def _read(file: FileName, program: FileName | None) -> list[Row]:
     except (OSError, ValueError, csv.Error):
         ask(program, "judge", [("log", file)], begins=_BEGINS)
         raise
-    fields = [[*row[:1], *("passive" if kind in _KINDS else kind for kind in row[1:2]), *row[2:]] for row in rows]
+    fields = [
+        [*row[:1], *("passive" if kind in _KINDS else kind for kind in row[1:2]), *row[2:]]
+        for row in rows
+    ]
     ask(program, "judge", [("log", Kept([rows_text(header, fields).encode()]))], begins=_BEGINS)
     return [(int(process), kind, int(channel)) for process, kind, channel in rows]
 
 
 def _judged(text: str, rows: _Rows | None, gone: Mapping[Hashable, int]) -> JudgedLog:
     """What the program wrote, with the names of rows in place of numbers, if it did not read them in a file."""
-    processes, channels = (list(rows.processes), list(rows.channels)) if rows else (range(2**22), range(2**24))
+    processes, channels = (
+        (list(rows.processes), list(rows.channels)) if rows else (range(2**22), range(2**24))
+    )
     names: dict[str, Sequence[Any]] = {"process": processes, "channel": channels}
 
     def named(words: str) -> str:
-        return re.sub("(process|channel) ([0-9]+)", lambda it: f"{it[1]} {names[it[1]][int(it[2])]}", words)
+        return re.sub(
+            "(process|channel) ([0-9]+)", lambda it: f"{it[1]} {names[it[1]][int(it[2])]}", words
+        )
 
     *lines, end = text.splitlines()
     claims: list[LogClaim] = []
     for word, process, number, *said in (line.split(" ", 3) for line in lines):
-        name, count = names["process"][int(process)], int(number)
+        name = names["process"][int(process)]
+        count = int(number)
         count = rows.own(name, count) if rows else count
         if word == "over":
             claims.append(LogClaim(name, count, named(said[0].partition(": ")[2]) or None, {}))
@@ -130,14 +151,21 @@ class _Rows:
 
     def __init__(self, log: Iterable[Any], is_reactive: bool) -> None:
         self.given = list(log)
-        rows = [tuple(it) if isinstance(it, Iterable) and not isinstance(it, (str, bytes)) else () for it in self.given]
-        self.rows = [(2 * index, row if len(row) == len(_HEADER) else ()) for index, row in enumerate(rows)]
+        rows = [
+            tuple(it) if isinstance(it, Iterable) and not isinstance(it, (str, bytes)) else ()
+            for it in self.given
+        ]
+        self.rows = [
+            (2 * index, row if len(row) == len(_HEADER) else ()) for index, row in enumerate(rows)
+        ]
         if is_reactive:
             self.rows = sorted([*self.rows, *_activity(self.rows)], key=lambda it: it[0])
         processes = dict.fromkeys(row[0] for _, row in self.rows if row)
         channels = dict.fromkeys(row[2] for _, row in self.rows if row and row[1] in _SENDS + _GETS)
         #: The numbers of names.
-        self.processes, self.channels = (dict(zip(sorted_if_possible(it), itertools.count())) for it in (processes, channels))
+        self.processes, self.channels = (
+            dict(zip(sorted_if_possible(it), itertools.count())) for it in (processes, channels)
+        )
         self.places: dict[Hashable, list[int]] = defaultdict(list)
         for place, row in self.rows:
             self.places[row[0] if row else None].append(place)
@@ -145,7 +173,13 @@ class _Rows:
     def kept(self) -> Kept:
         """The file that the program reads; a row that is none has one field there."""
         rows = [
-            (self.processes[row[0]], row[1], self.channels[row[2]] if row[1] in _SENDS + _GETS else 0) if row else [""]
+            (
+                self.processes[row[0]],
+                row[1],
+                self.channels[row[2]] if row[1] in _SENDS + _GETS else 0,
+            )
+            if row
+            else [""]
             for _, row in self.rows
         ]
         return Kept([rows_text(_HEADER, rows).encode(errors="replace")])
@@ -159,9 +193,11 @@ class _Rows:
         place: tuple[Any, ...] = told.place
         if told.number == _STUCK:
             name = list(self.processes)[place[0]]
-            index, place = self.places[name][place[1]] // 2, (name, self.own(name, place[1]))
+            index = self.places[name][place[1]] // 2
+            place = (name, self.own(name, place[1]))
         elif 24 <= told.number < 34 and place:  # (the place is a row)
-            index, place = self.rows[place[0]][0] // 2, (self.rows[place[0]][0] // 2,)
+            index = self.rows[place[0]][0] // 2
+            place = (self.rows[place[0]][0] // 2,)
         else:
             return told
         words = f"row {index} of the log is {self.given[index]!r}"
@@ -170,7 +206,8 @@ class _Rows:
 
 def _activity(rows: Iterable[tuple[int, Sequence[Any]]]) -> Iterator[tuple[int, Row]]:
     """What is put in: `active` before a first row that sends, `passive` behind the last sent before the next is got."""
-    first, last = dict[Hashable, int](), dict[Hashable, int]()
+    first = dict[Hashable, int]()
+    last = dict[Hashable, int]()
     for place, (process, kind, _) in (it for it in rows if it[1]):
         begin = first.setdefault(process, place)
         if kind == "receive" and process in last:
@@ -178,7 +215,8 @@ def _activity(rows: Iterable[tuple[int, Sequence[Any]]]) -> Iterator[tuple[int, 
         if kind == "send" and begin >= 0:
             yield begin - 1, (process, "active", 0)
         if kind in ("send", "receive", "active"):
-            first[process], last[process] = -1, place
+            first[process] = -1
+            last[process] = place
         elif kind == "passive":
             last.pop(process, None)
     for process, place in last.items():
@@ -186,7 +224,10 @@ def _activity(rows: Iterable[tuple[int, Sequence[Any]]]) -> Iterator[tuple[int, 
 
 
 def read_json_lines(
-    files: Iterable[FileName] | FileName, *, process: Key | None = "process", kind: Key = "kind",
+    files: Iterable[FileName] | FileName,
+    *,
+    process: Key | None = "process",
+    kind: Key = "kind",
     channel: Key = "channel",
 ) -> list[Row]:
     """The rows of logs of JSON lines, of one file or several, for `judge_log`.
@@ -203,7 +244,9 @@ def read_json_lines(
                     its = json.loads(line)
                     if said := _known(_value(its, kind)):
                         name = os.fspath(file) if process is None else _value(its, process)
-                        rows.append((name, said, _value(its, channel) if said in _SENDS + _GETS else 0))
+                        rows.append(
+                            (name, said, _value(its, channel) if said in _SENDS + _GETS else 0)
+                        )
                         hash(rows[-1])
                 except Exception as error:  # (whatever a function does)
                     told = f"{os.fspath(file)}: line {number}: {type(error).__name__}: {error}"
@@ -213,7 +256,11 @@ def read_json_lines(
 
 def _value(of: Any, key: Key) -> Any:
     value = key(of) if callable(key) else of[key]
-    return tuple(_value(value, it) for it in range(len(value))) if isinstance(value, (list, tuple)) else value
+    return (
+        tuple(_value(value, it) for it in range(len(value)))
+        if isinstance(value, (list, tuple))
+        else value
+    )
 
 
 def _known(kind: Any) -> Any:
@@ -233,8 +280,12 @@ class _Event(NamedTuple):
 
 
 def read_shiviz(
-    log: FileName, kind_of: Callable[[str], str | None], *, message_of: Callable[[str], Hashable] = lambda _: None,
-    expression: str = r"(?<host>\S*) (?<clock>{.*})\n(?<event>.*)", gaps: bool = False,
+    log: FileName,
+    kind_of: Callable[[str], str | None],
+    *,
+    message_of: Callable[[str], Hashable] = lambda _: None,
+    expression: str = r"(?<host>\S*) (?<clock>{.*})\n(?<event>.*)",
+    gaps: bool = False,
 ) -> list[Row]:
     r"""The rows of a log of GoVector or ShiViz, for `judge_log`: of its text, or of the file of that name.
 
@@ -249,7 +300,9 @@ def read_shiviz(
     A message has a channel for each process that gets it; no others are seen. A ValueError names a wrong line, and one
     whose clock counts an event that is not there.
     """
-    events = sorted(_events(log, kind_of, message_of, expression), key=lambda it: sum(it.clock.values()))
+    events = sorted(
+        _events(log, kind_of, message_of, expression), key=lambda it: sum(it.clock.values())
+    )
     if not gaps:
         _require_all(events)
     places: dict[tuple[str, int], _Event] = {}
@@ -265,7 +318,11 @@ def read_shiviz(
         clocks[it.host], places[it.host, it.clock[it.host]] = it.clock, it
     rows: list[Row] = []
     for it in events:
-        its = hosts[it.kind == "tell", it.message] or {None: None} if it.kind in _SENDS else {it.host: None}
+        its = (
+            hosts[it.kind == "tell", it.message] or {None: None}
+            if it.kind in _SENDS
+            else {it.host: None}
+        )
         rows += [(it.host, it.kind, (it.message, host)) for host in its if it.kind]
     return rows
 
@@ -281,35 +338,61 @@ def _require_all(events: Iterable[_Event]) -> None:
                 raise ValueError(f"line {it.line}: {told}; gaps=True takes the log as it is")
 
 
-def _sent(it: _Event, known: Mapping[str, int], places: Mapping[tuple[str, int], _Event]) -> Hashable:
+def _sent(
+    it: _Event, known: Mapping[str, int], places: Mapping[tuple[str, int], _Event]
+) -> Hashable:
     """The message that an event gets: the one of its news that knows of all others sent it."""
-    news = [(host, count) for host, count in it.clock.items() if host != it.host and count > known.get(host, 0)]
+    news = [
+        (host, count)
+        for host, count in it.clock.items()
+        if host != it.host and count > known.get(host, 0)
+    ]
     for sender in filter(None, map(places.get, news)):
-        if sender.kind in _SENDS and all(sender.clock.get(host, 0) >= count for host, count in news):
+        if sender.kind in _SENDS and all(
+            sender.clock.get(host, 0) >= count for host, count in news
+        ):
             return sender.message
-    raise ValueError(f"line {it.line}: the clock does not tell who sent the message: give message_of")
+    raise ValueError(
+        f"line {it.line}: the clock does not tell who sent the message: give message_of"
+    )
 
 
 def _events(
-    log: FileName, kind_of: Callable[[str], str | None], message_of: Callable[[str], Hashable], expression: str
+    log: FileName,
+    kind_of: Callable[[str], str | None],
+    message_of: Callable[[str], Hashable],
+    expression: str,
 ) -> Iterator[_Event]:
     """The events of a log, at whose head its expression may stand."""
-    pattern, text = re.compile(re.sub(r"\(\?<(?![=!])", "(?P<", expression)), str(log).replace("\r\n", "\n")
+    pattern = re.compile(re.sub(r"\(\?<(?![=!])", "(?P<", expression))
+    text = str(log).replace("\r\n", "\n")
     if text and "\n" not in text:
         with open(log, encoding="utf-8-sig") as file:
             text = file.read()
-    for line, words in enumerate(pattern.sub(lambda it: "\n" * it[0].count("\n"), text).split("\n"), 1):
+    for line, words in enumerate(
+        pattern.sub(lambda it: "\n" * it[0].count("\n"), text).split("\n"), 1
+    ):
         if words.strip() and not words.startswith("(?<"):
             raise ValueError(f"line {line}: {expression} does not read {words!r}")
-    line, begin = 1, 0
+    line = 1
+    begin = 0
     for match in pattern.finditer(text):
-        line, begin = line + text.count("\n", begin, match.start()), match.start()
-        host, said = match["host"], match["event"].strip()
+        line = line + text.count("\n", begin, match.start())
+        begin = match.start()
+        host = match["host"]
+        said = match["event"].strip()
         try:
-            clock, kind = json.loads(match["clock"]), _known(kind_of(said))
-            if not isinstance(clock, dict) or not {int} >= {*map(type, clock.values())} or clock.get(host, 0) < 1:
+            clock = json.loads(match["clock"])
+            kind = _known(kind_of(said))
+            if (
+                not isinstance(clock, dict)
+                or not {int} >= {*map(type, clock.values())}
+                or clock.get(host, 0) < 1
+            ):
                 raise ValueError(f"{clock} is no clock of {host!r}")
-            message, = {message_of(said) if kind in _SENDS + _GETS else None}  # (a set takes what can be a name)
+            (message,) = {
+                message_of(said) if kind in _SENDS + _GETS else None
+            }  # (a set takes what can be a name)
         except Exception as error:  # (whatever a function does)
             raise ValueError(f"line {line}: {type(error).__name__}: {error}") from error
         place = None if kind in _GETS else (host, clock[host])

@@ -15,7 +15,18 @@ from typing import Any, NamedTuple
 from chipfire.backend.report import Report
 from chipfire.graphs.graph import Graph
 from chipfire.lab import model
-from chipfire.utils import as_int, FileName, has_header, MAX_LIMIT, MAX_VERTICES, no_graph, package_text, read_rows, rows_text, write_text
+from chipfire.utils import (
+    as_int,
+    FileName,
+    has_header,
+    MAX_LIMIT,
+    MAX_VERTICES,
+    no_graph,
+    package_text,
+    read_rows,
+    rows_text,
+    write_text,
+)
 
 SCHEDULE_HEADER = ("event", "at", "count")
 NOTED_HEADER = (*SCHEDULE_HEADER, "note")
@@ -25,7 +36,10 @@ WORDS: dict[str, Any] = json.loads(package_text("web", "words.json"))
 #: What each rule says that the reply `not-now N` names; docs/CORE.md has the table.
 RULES: dict[int, str] = {number: met for number, (met, _) in enumerate(WORDS["rules"], 1)}
 #: What it is called and what is so if it is not met.
-UNMET = {number: (name, str(unmet)) for (name, number), (_, unmet) in zip(model.RULES.items(), WORDS["rules"])}
+UNMET = {
+    number: (name, str(unmet))
+    for (name, number), (_, unmet) in zip(model.RULES.items(), WORDS["rules"])
+}
 
 
 class Event(NamedTuple):
@@ -43,7 +57,8 @@ def _event(kind: str, says: str) -> Callable[[Schedule, int], Schedule]:
         self.append(Event(kind, at))
         return self
 
-    add.__name__, add.__doc__ = kind, says
+    add.__name__ = kind
+    add.__doc__ = says
     return add
 
 
@@ -62,7 +77,10 @@ class Schedule(list[Event]):
     claim = _event("claim", "The tail of this edge claims the next place for all that is pending.")
     put = _event("put", "The tail of this edge puts the message that it claimed into its cell.")
     halt = _event("halt", "This vertex halts, if it has a cause.")
-    settle = _event("settle", "The tail of this edge, or the root, looks how many of its messages are acknowledged.")
+    settle = _event(
+        "settle",
+        "The tail of this edge, or the root, looks how many of its messages are acknowledged.",
+    )
     seal = _event("seal", "Nothing is sent on this edge from now on.")
     read = _event("read", "The root reads how often this vertex fired, once it is closed.")
 
@@ -116,12 +134,20 @@ def trace_text(trace: Iterable[Sequence[Any]]) -> str:
     return rows_text(TRACE_HEADER, (TraceRow(*row) for row in trace))
 
 
-def write_schedule(file: FileName, schedule: Iterable[Sequence[Any]], *, notes: bool = True) -> None:
+def write_schedule(
+    file: FileName, schedule: Iterable[Sequence[Any]], *, notes: bool = True
+) -> None:
     """Writes a schedule: a row for each event, which is a tuple of a kind, an edge or a vertex, and perhaps a count.
-    Notes are a fourth column, which only this package reads (the program: fault 23), and left out without `notes`."""
+    Notes are a fourth column, which only this package reads (the program: fault 23), and left out without `notes`.
+    """
     events = Schedule(schedule)
     noted = ((*event, events.notes.get(index, "")) for index, event in enumerate(events))
-    write_text(file, rows_text(NOTED_HEADER, noted) if events.notes and notes else rows_text(SCHEDULE_HEADER, events))
+    write_text(
+        file,
+        rows_text(NOTED_HEADER, noted)
+        if events.notes and notes
+        else rows_text(SCHEDULE_HEADER, events),
+    )
 
 
 def has_notes(file: FileName) -> bool:
@@ -132,7 +158,9 @@ def has_notes(file: FileName) -> bool:
 def read_schedule(file: FileName) -> Schedule:
     """The events of a schedule, with their notes."""
     schedule = Schedule()
-    for kind, at, count, *notes in read_rows(file, NOTED_HEADER if has_notes(file) else SCHEDULE_HEADER):
+    for kind, at, count, *notes in read_rows(
+        file, NOTED_HEADER if has_notes(file) else SCHEDULE_HEADER
+    ):
         schedule.append(Event(kind, int(at), int(count)))
         if any(notes):
             schedule.note(notes[0])
@@ -147,7 +175,9 @@ def write_trace(file: FileName, trace: Iterable[Sequence[Any]]) -> None:
 def read_trace(file: FileName) -> list[TraceRow]:
     """The rows of a trace file."""
     rows = read_rows(file, TRACE_HEADER)
-    return [TraceRow(int(vertex), kind, int(edge), int(count)) for vertex, kind, edge, count in rows]
+    return [
+        TraceRow(int(vertex), kind, int(edge), int(count)) for vertex, kind, edge, count in rows
+    ]
 
 
 @dataclass(frozen=True)
@@ -236,7 +266,8 @@ class Simulation:
     """What a schedule came to: a reply for each event, the report if the root closed, and a board for each reply if the
     books were asked for. The rest is what was asked, and in words what of the schedule nobody wrote.
 
-    A closed root says that all is over; `report.closed` says besides that no limit and no seal stopped a vertex."""
+    A closed root says that all is over; `report.closed` says besides that no limit and no seal stopped a vertex.
+    """
 
     replies: tuple[Reply, ...]
     report: Report | None
@@ -271,5 +302,7 @@ class Simulation:
     def game(self) -> Setting:
         """The setting, if `simulate` answered this simulation."""
         if self.setting is None:
-            raise ValueError("this simulation does not know what was asked: take what `simulate` answers")
+            raise ValueError(
+                "this simulation does not know what was asked: take what `simulate` answers"
+            )
         return self.setting

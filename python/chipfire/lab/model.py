@@ -18,9 +18,24 @@ from collections.abc import Iterable, Iterator, Mapping, Sequence
 from typing import Any, Union
 
 RULES = {
-    "NoSuch": 1, "Sink": 2, "Halted": 3, "Pending": 4, "Zero": 5, "Limit": 6, "NotLegal": 7, "NothingPending": 8,
-    "Refused": 9, "Unput": 10, "NotCleared": 11, "NotClaimed": 12, "NoCause": 13, "NothingOwed": 14, "Engaged": 15,
-    "NotClosed": 16, "Ended": 17, "TooMuch": 18,
+    "NoSuch": 1,
+    "Sink": 2,
+    "Halted": 3,
+    "Pending": 4,
+    "Zero": 5,
+    "Limit": 6,
+    "NotLegal": 7,
+    "NothingPending": 8,
+    "Refused": 9,
+    "Unput": 10,
+    "NotCleared": 11,
+    "NotClaimed": 12,
+    "NoCause": 13,
+    "NothingOwed": 14,
+    "Engaged": 15,
+    "NotClosed": 16,
+    "Ended": 17,
+    "TooMuch": 18,
 }
 #: The events that have a count.
 COUNTED = ("fire", "feed", "work")
@@ -42,7 +57,10 @@ class Edge:
     __slots__ = (*HELD, "__dict__")
 
     def __init__(self, number: int, tail: int, head: int, mult: int) -> None:
-        self.number, self.tail, self.head, self.mult = number, tail, head, mult
+        self.number = number
+        self.tail = tail
+        self.head = head
+        self.mult = mult
         self.sent: tuple[int, ...] = ()
         self.put = self.delivered = self.acked = self.settled = self.pending = 0
         self.clear = self.refused = self.sealed = False
@@ -67,27 +85,47 @@ class Core:
     #: Attributes that say nothing of what will happen, such as a count of polls: they are no part of the state.
     not_state: tuple[str, ...] = ()
     #: Attributes that a game has for good: they do not stand in its `__dict__`.
-    HELD: tuple[str, ...] = ("sink", "limit", "ring", "graph_edges", "vertices", "edges", "_ins", "_outs", "_degrees")
+    HELD: tuple[str, ...] = (
+        "sink",
+        "limit",
+        "ring",
+        "graph_edges",
+        "vertices",
+        "edges",
+        "_ins",
+        "_outs",
+        "_degrees",
+    )
     __slots__ = (*HELD, "__dict__")
 
     def __init__(
-        self, graph: Mapping[str, Any], chips: Sequence[int], limit: int = 2**40, ring: int = 1, fed: bool = False
+        self,
+        graph: Mapping[str, Any],
+        chips: Sequence[int],
+        limit: int = 2**40,
+        ring: int = 1,
+        fed: bool = False,
     ) -> None:
         self.sink: int = graph["sink"]
-        self.limit, self.ring, self.ended = limit, ring, not fed
+        self.limit = limit
+        self.ring = ring
+        self.ended = not fed
         self.vertices = [Vertex() for _ in range(graph["vertices"])]
         rows = [*graph["edges"], *((-1, vertex, 0) for vertex in range(graph["vertices"]))]
         self.edges = [Edge(number, *row) for number, row in enumerate(rows)]
         self.graph_edges = len(graph["edges"])
         self._ins: list[list[Edge]] = [[] for _ in self.vertices]
-        self._outs: list[list[Edge]] = [[] for _ in [*self.vertices, None]]  # (the last one is the root's)
+        self._outs: list[list[Edge]] = [
+            [] for _ in [*self.vertices, None]
+        ]  # (the last one is the root's)
         for e in self.edges:
             self._ins[e.head].append(e)
             self._outs[e.tail].append(e)
         self._degrees = [sum(e.mult for e in outs) for outs in self._outs]
         for vertex, e in enumerate(self.edges[self.graph_edges :]):
             if chips[vertex]:
-                e.sent, e.put = (chips[vertex],), 1
+                e.sent = (chips[vertex],)
+                e.put = 1
                 self.on_send(e)
 
     def ins(self, v: int) -> list[Edge]:
@@ -103,7 +141,9 @@ class Core:
         return v != self.sink and self.vertices[v].chips >= self._degrees[v]
 
     def is_pending(self, v: int) -> bool:
-        return any([e.pending for e in self._outs[v]])  # (this is asked most often, and a list is quicker)
+        return any(
+            [e.pending for e in self._outs[v]]
+        )  # (this is asked most often, and a list is quicker)
 
     def has_unput(self, v: int) -> bool:
         return any([e.put < len(e.sent) for e in self._outs[v]])
@@ -132,7 +172,11 @@ class Core:
 
     def may_let_go(self, e: Edge) -> bool:
         """Whether a vertex may acknowledge the message that engaged it, which came on this edge."""
-        return self.is_passive(e.head) and self.deficit(self.outs(e.head)) == 0 and self.others_owed(e) == 0
+        return (
+            self.is_passive(e.head)
+            and self.deficit(self.outs(e.head)) == 0
+            and self.others_owed(e) == 0
+        )
 
     def may_ack(self, e: Edge) -> int:
         """How many messages of an edge may be acknowledged now."""
@@ -150,7 +194,9 @@ class Core:
 
     def tells(self, kind: str, at: int) -> Iterable[tuple[int, int]]:
         """Who tells whom in such an event, for `chipfire.model_log`; the root is the part behind the vertices."""
-        raise ValueError(f"{kind} is an event of {type(self).__name__}, whose `tells` does not say who tells whom")
+        raise ValueError(
+            f"{kind} is an event of {type(self).__name__}, whose `tells` does not say who tells whom"
+        )
 
     # What may happen, and what is left.
 
@@ -158,7 +204,9 @@ class Core:
         """The events that would do something now; nothing is sealed or fed by itself."""
         found: list[Event] = [] if self.ended else [("end", 0, 0)]
         for e in self.edges:
-            number, sent, delivered = e.number, len(e.sent), e.delivered
+            number = e.number
+            sent = len(e.sent)
+            delivered = e.delivered
             if delivered < e.put:
                 found.append(("take", number, 0))
             if e.acked < delivered and self.may_ack(e) > 0:
@@ -183,7 +231,9 @@ class Core:
             if vertex.chips >= self._degrees[v] and not self.is_pending(v):
                 most = min(vertex.chips // self._degrees[v], self.limit - vertex.fired)
                 if most > MOST_FIRINGS:
-                    raise ValueError(f"vertex {v} may fire any number of times up to {most}, which are too many to list")
+                    raise ValueError(
+                        f"vertex {v} may fire any number of times up to {most}, which are too many to list"
+                    )
                 found += [("fire", v, count) for count in range(1, most + 1)]
             if self.cause(v):
                 found.append(("halt", v, 0))
@@ -197,26 +247,38 @@ class Core:
             if count:
                 found.append(f"edge {e.number} has {count} message" + "s" * (count > 1))
             if e.pending and self.vertices[e.tail].halt is None:
-                found.append(f"edge {e.number} has {e.pending} chip" + "s" * (e.pending > 1) + " pending")
-        found += [f"vertex {v} {todo}" for v in range(len(self.vertices)) if (todo := self.at_work(v))]
+                found.append(
+                    f"edge {e.number} has {e.pending} chip" + "s" * (e.pending > 1) + " pending"
+                )
+        found += [
+            f"vertex {v} {todo}" for v in range(len(self.vertices)) if (todo := self.at_work(v))
+        ]
         return found if self.ended else [*found, "the end of feeding is not noted"]
 
     def at_work(self, v: int) -> str:
         """What a vertex still does of itself, in words."""
         vertex = self.vertices[v]
-        return "can fire" if vertex.halt is None and self.is_legal(v) and vertex.fired < self.limit else ""
+        return (
+            "can fire"
+            if vertex.halt is None and self.is_legal(v) and vertex.fired < self.limit
+            else ""
+        )
 
     def cause(self, v: int) -> Union[str, None]:
         """What makes a vertex halt."""
         if any([e.refused for e in self._outs[v]]):
             return "sealed"
-        is_over = self.vertices[v].fired == self.limit and self.is_legal(v) and not self.is_pending(v)
+        is_over = (
+            self.vertices[v].fired == self.limit and self.is_legal(v) and not self.is_pending(v)
+        )
         return "over" if is_over else None
 
     def step(self, kind: str, at: int, count: int = 0) -> str:
         """Makes an event, if its rules are met, and returns the reply, as a line."""
         try:
-            made: str = getattr(self, kind)(at, count) if kind in COUNTED else getattr(self, kind)(at)
+            made: str = (
+                getattr(self, kind)(at, count) if kind in COUNTED else getattr(self, kind)(at)
+            )
         except NotNow as unmet:
             return f"not-now {RULES[unmet.args[0]]}"
         return made
@@ -237,7 +299,8 @@ class Core:
         e = self.edge(at)
         if e.delivered == e.put:
             return "empty"
-        place, count = e.delivered, e.sent[e.delivered]
+        place = e.delivered
+        count = e.sent[e.delivered]
         e.delivered += 1
         self.vertices[e.head].chips += count
         self.on_take(e)
@@ -287,7 +350,8 @@ class Core:
         if e.sealed:
             e.refused = True
             return "sealed"
-        e.sent, e.pending = (*e.sent, e.pending), 0
+        e.sent = (*e.sent, e.pending)
+        e.pending = 0
         self.on_send(e)
         return f"sent {len(e.sent) - 1} {e.sent[-1]}"
 
@@ -308,7 +372,8 @@ class Core:
 
     def settle(self, at: int) -> str:
         e = self.edge(at)
-        more, e.settled = e.acked - e.settled, e.acked
+        more = e.acked - e.settled
+        e.settled = e.acked
         return f"done {more}"
 
     def seal(self, at: int) -> str:
@@ -326,9 +391,12 @@ class Core:
         e = self.edge(at)
         self.need("Ended", not self.ended)
         self.need("Zero", count >= 1)
-        self.need("TooMuch", sum(sum(it.sent) for it in self.edges[self.graph_edges :]) + count <= 2**40)
+        self.need(
+            "TooMuch", sum(sum(it.sent) for it in self.edges[self.graph_edges :]) + count <= 2**40
+        )
         self.need("NotCleared", e.clear)
-        e.clear, e.sent = False, (*e.sent, count)
+        e.sent = (*e.sent, count)
+        e.clear = False
         self.on_send(e)
         return f"sent {len(e.sent) - 1} {count}"
 
@@ -391,8 +459,14 @@ class Core:
         lines = [f"  root deficit {self.deficit(self.edges[self.graph_edges :])}"]
         for v, vertex in enumerate(self.vertices):
             if vertex.parent is not None:
-                owes = "".join(f" {e.number}:{e.delivered - e.acked}" for e in self.ins(v) if e.delivered > e.acked)
-                lines.append(f"  vertex {v} parent {vertex.parent} deficit {self.deficit(self.outs(v))} owes{owes}")
+                owes = "".join(
+                    f" {e.number}:{e.delivered - e.acked}"
+                    for e in self.ins(v)
+                    if e.delivered > e.acked
+                )
+                lines.append(
+                    f"  vertex {v} parent {vertex.parent} deficit {self.deficit(self.outs(v))} owes{owes}"
+                )
         return "\n".join(lines)
 
     def report(self) -> str:
@@ -401,8 +475,17 @@ class Core:
         chips = [given - self.degree(v) * fired[v] for v, given in enumerate(start)]
         for e in self.edges[: self.graph_edges]:
             chips[e.head] += e.mult * fired[e.tail]
-        over, sealed = ([v for v, it in enumerate(self.vertices) if it.halt == why] for why in ("over", "sealed"))
-        said = {"chips": chips, "closed": not over + sealed, "fired": fired, "over": over, "sealed": sealed}
+        over, sealed = (
+            [v for v, it in enumerate(self.vertices) if it.halt == why]
+            for why in ("over", "sealed")
+        )
+        said = {
+            "chips": chips,
+            "closed": not over + sealed,
+            "fired": fired,
+            "over": over,
+            "sealed": sealed,
+        }
         return json.dumps({**said, "version": 1}, separators=(",", ":"))
 
 
@@ -417,8 +500,12 @@ def main() -> None:
         words.add_argument(name)
     for name, least in (("limit", 2**40), ("ring", 1), ("rounds", 0)):
         words.add_argument(f"--{name}", type=int, default=least)
-    words.add_argument("--books", action="store_true", help="what stands in the books after each reply")
-    words.add_argument("--fed", action="store_true", help="the root may feed chips until the end is noted")
+    words.add_argument(
+        "--books", action="store_true", help="what stands in the books after each reply"
+    )
+    words.add_argument(
+        "--fed", action="store_true", help="the root may feed chips until the end is noted"
+    )
     asked = words.parse_args()
     with open(asked.graph, encoding="utf-8") as file:
         graph = json.load(file)

@@ -16,16 +16,40 @@ from collections.abc import Collection, Iterable, Iterator, Mapping, Sequence
 from dataclasses import replace
 from typing import Any
 
-from chipfire.backend.commands import AnyGraph, AnyProgram, known_chips, known_graph, replay, simulate
+from chipfire.backend.commands import (
+    AnyGraph,
+    AnyProgram,
+    known_chips,
+    known_graph,
+    replay,
+    simulate,
+)
 from chipfire.configurations.configuration import Chips
 from chipfire.lab.detectors import known_detector
 from chipfire.lab.layout import places_of, Point
 from chipfire.lab.ledger import Disagreement, Ledger, ModelLedger
-from chipfire.lab.machine import Event, read_trace, Reply, Schedule, Setting, Simulation, TraceRow, WORDS
+from chipfire.lab.machine import (
+    Event,
+    read_trace,
+    Reply,
+    Schedule,
+    Setting,
+    Simulation,
+    TraceRow,
+    WORDS,
+)
 from chipfire.lab.model import Core
 from chipfire.lab.schedules import Detector, Game, is_early, opened, Play, played
 from chipfire.lab.sentences import Sentences
-from chipfire.utils import FILE, FileName, MAX_LIMIT, package_text, PAGE_POLICY, with_unit, write_text
+from chipfire.utils import (
+    FILE,
+    FileName,
+    MAX_LIMIT,
+    package_text,
+    PAGE_POLICY,
+    with_unit,
+    write_text,
+)
 
 #: The sizes of rings that are tried for a trace, which does not tell its own.
 RINGS = (1, 2, 4, 8, 16, 32, 64)
@@ -35,8 +59,12 @@ _SAYS: dict[str, str] = WORDS["pages"]
 
 
 def page(
-    simulation: Simulation | Play, file: FileName, *, title: str = "A run of chipfire",
-    positions: Mapping[Any, Point] | None = None, program: AnyProgram = None,
+    simulation: Simulation | Play,
+    file: FileName,
+    *,
+    title: str = "A run of chipfire",
+    positions: Mapping[Any, Point] | None = None,
+    program: AnyProgram = None,
 ) -> None:
     """Writes a page on which a run can be watched, event by event.
 
@@ -49,36 +77,57 @@ def page(
 
 
 def page_text(
-    simulation: Simulation | Play, *, title: str = "A run of chipfire", positions: Mapping[Any, Point] | None = None,
+    simulation: Simulation | Play,
+    *,
+    title: str = "A run of chipfire",
+    positions: Mapping[Any, Point] | None = None,
     program: AnyProgram = None,
 ) -> str:
     """The text of the page that `page` writes."""
-    if isinstance(simulation, Play) or not simulation.made_up:  # (the rows of a recorded run are counted already)
+    if (
+        isinstance(simulation, Play) or not simulation.made_up
+    ):  # (the rows of a recorded run are counted already)
         refuse_more(simulation.schedule)
     if isinstance(simulation, Play):
         words = Words(simulation.game)
         data = model_data(simulation, words, positions) | {"words": list(words.numbers)}
         return filled(title, data, model_parts(simulation), "run-model.html", "drawing.html")
     told = spelled_out(simulation, program)
-    ledger, words = Ledger(told.game), Words(told.game)
+    ledger = Ledger(told.game)
+    words = Words(told.game)
     steps = [words.step(ledger, *row) for row in compared(told, ledger)]
     ledger.close(told.report)
     for index, note in told.notes.items():
         steps[index]["note"] = note
-    parts = {"events": with_unit(len(steps), "event"), "made_up": f"<p>{html.escape(told.made_up)}</p>"}
+    parts = {
+        "events": with_unit(len(steps), "event"),
+        "made_up": f"<p>{html.escape(told.made_up)}</p>",
+    }
     parts["end"] = _SAYS["report" if told.report else "no report"]
     data = page_data(told, positions)
-    data |= {"steps": steps, "words": list(words.numbers), "end": {"text": _end(told, ledger), "isWrong": False}}
+    data |= {
+        "steps": steps,
+        "words": list(words.numbers),
+        "end": {"text": _end(told, ledger), "isWrong": False},
+    }
     return filled(title, data, parts, "run-proved.html", "drawing.html")
 
 
 def model_data(told: Play, words: Words, positions: Mapping[Any, Point] | None) -> dict[str, Any]:
     """What the page of a run shows that the model alone played."""
     done = {event.kind for event, reply in zip(told.schedule, told.replies) if reply.is_done}
-    ledger, game = ModelLedger(told.game, told.detector, keeps_books(told.detector, done)), told.game
-    start, roots = ledger.state(), ledger.core.outs(-1)
-    shown = game if isinstance(game, Setting) else Setting(game.graph, tuple(int(e.put > 0) for e in roots))
-    data = page_data(Simulation(told.replies, None, (), tuple(told.schedule), setting=shown), positions)
+    ledger = ModelLedger(told.game, told.detector, keeps_books(told.detector, done))
+    game = told.game
+    start = ledger.state()
+    roots = ledger.core.outs(-1)
+    shown = (
+        game
+        if isinstance(game, Setting)
+        else Setting(game.graph, tuple(int(e.put > 0) for e in roots))
+    )
+    data = page_data(
+        Simulation(told.replies, None, (), tuple(told.schedule), setting=shown), positions
+    )
     if shown is not game:  # (what is called a sink is a vertex as any other)
         data |= {it: WORDS["computation"][it] for it in ("titles", "hidden", "opening")}
         data |= {"edges": [(*edge[:2], 1) for edge in data["edges"]]}
@@ -92,7 +141,11 @@ def model_data(told: Play, words: Words, positions: Mapping[Any, Point] | None) 
         early += [number] * is_early(ledger.core)
     for index, note in told.schedule.notes.items():
         steps[index]["note"] = note
-    end = closed_end(told.left) if told.root_closed else {"text": "The root is open.", "isWrong": False}
+    end = (
+        closed_end(told.left)
+        if told.root_closed
+        else {"text": "The root is open.", "isWrong": False}
+    )
     if early and not end["isWrong"]:
         end = {"text": _SAYS["early"].format(event=early[0]), "isWrong": True}
     return {**data, "start": start, "steps": steps, "end": end}
@@ -107,15 +160,25 @@ def keeps_books(detector: Detector, done: Collection[str]) -> bool:
 
 def closed_end(left: Iterable[str]) -> dict[str, Any]:
     """The last word on a root that is closed: it is wrong if something is left."""
-    still = " and ".join(it.replace(" can ", " can still ").replace(" is ", " is still ") for it in left)
-    return {"text": f"The root is closed; {still}." if still else _SAYS["closed"], "isWrong": bool(still)}
+    still = " and ".join(
+        it.replace(" can ", " can still ").replace(" is ", " is still ") for it in left
+    )
+    return {
+        "text": f"The root is closed; {still}." if still else _SAYS["closed"],
+        "isWrong": bool(still),
+    }
 
 
 def model_parts(told: Play) -> dict[str, str]:
     """What such a page says of the detector and the computation."""
-    known, game = known_detector(told.detector), type(told.game)
+    known = known_detector(told.detector)
+    game = type(told.game)
     names = [f"{made.__module__}.{made.__qualname__}" for made in (known.make, game)]
-    parts = {"says": known.says, "kind": names[0], "game": "chip-firing" if game is Setting else names[1]}
+    parts = {
+        "says": known.says,
+        "kind": names[0],
+        "game": "chip-firing" if game is Setting else names[1],
+    }
     return {name: html.escape(text) for name, text in parts.items()}
 
 
@@ -127,15 +190,27 @@ def refuse_more(rows: Sequence[Any] | FileName) -> None:
     else:
         count = len(rows)
     if count > MOST_ROWS:
-        raise ValueError(f"a page shows at most {MOST_ROWS:,} rows of a schedule or a trace, and here are more")
+        raise ValueError(
+            f"a page shows at most {MOST_ROWS:,} rows of a schedule or a trace, and here are more"
+        )
 
 
-def filled(title: str, data: Mapping[str, Any], parts: Mapping[str, str], proved: str, drawings: str) -> str:
+def filled(
+    title: str, data: Mapping[str, Any], parts: Mapping[str, str], proved: str, drawings: str
+) -> str:
     """The page of a run: what it says about proofs and its drawings come from files of the folder web, with parts."""
     # (in a script of HTML no text may look like a tag)
     text = json.dumps(data, separators=(",", ":")).replace("<", "\\u003c")
-    held = {"title": html.escape(title), "data": text, "policy": PAGE_POLICY, "style": package_text("web", "run.css")}
-    held |= {"script": package_text("web", "run.js"), "proved": string.Template(package_text("web", proved)).substitute(parts)}
+    held = {
+        "title": html.escape(title),
+        "data": text,
+        "policy": PAGE_POLICY,
+        "style": package_text("web", "run.css"),
+    }
+    held |= {
+        "script": package_text("web", "run.js"),
+        "proved": string.Template(package_text("web", proved)).substitute(parts),
+    }
     held["drawings"] = string.Template(package_text("web", drawings)).substitute(parts)
     return string.Template(package_text("web", "run.html")).substitute(held)
 
@@ -149,8 +224,13 @@ def _end(told: Simulation, ledger: Ledger) -> str:
 
 
 def recorded(
-    graph: AnyGraph, chips: Chips, trace: Iterable[Sequence[Any]] | FileName, *, limit: int | None = None,
-    ring: int | None = None, program: AnyProgram = None,
+    graph: AnyGraph,
+    chips: Chips,
+    trace: Iterable[Sequence[Any]] | FileName,
+    *,
+    limit: int | None = None,
+    ring: int | None = None,
+    program: AnyProgram = None,
 ) -> Simulation:
     """A recorded run (`run` with `trace`) as a simulation with books: each vertex takes and fires what it wrote down.
 
@@ -168,10 +248,14 @@ def recorded(
     for cells in RINGS if ring is None else [ring]:
         events = spell_trace(replace(setting, ring=cells), rows)
         if events is not None:
-            told = simulate(known, start, events, limit=limit, ring=cells, books=True, program=program)
+            told = simulate(
+                known, start, events, limit=limit, ring=cells, books=True, program=program
+            )
             sizes = {"rows": with_unit(len(rows), "row"), "cells": with_unit(cells, "cell")}
             return replace(told, made_up=_SAYS["recorded"].format(**sizes))
-    raise ValueError(f"the rows of the trace cannot be played over rings of {cells} cells: which ring had the run?")
+    raise ValueError(
+        f"the rows of the trace cannot be played over rings of {cells} cells: which ring had the run?"
+    )
 
 
 class _Spelled(Core):
@@ -191,12 +275,16 @@ class _Spelled(Core):
 def spell_rounds(setting: Setting, schedule: Sequence[Event], rounds: int) -> tuple[Event, ...]:
     """A schedule, and after it the events of `rounds` rounds of turns, or of those until the root is closed."""
     core = played(setting, _Spelled, schedule)
-    core.events, before = Schedule(), -1
+    core.events = Schedule()
+    before = -1
     while rounds and len(core.events) > before:
-        before, rounds = len(core.events), rounds - 1
+        before = len(core.events)
+        rounds = rounds - 1
         core.drive(1)
         if len(core.events) > MOST_ROWS:
-            raise ValueError(f"a page shows at most {MOST_ROWS:,} events of rounds, and here are more")
+            raise ValueError(
+                f"a page shows at most {MOST_ROWS:,} events of rounds, and here are more"
+            )
     return (*schedule, *core.events)
 
 
@@ -230,7 +318,8 @@ class _Recorded(_Spelled):
 
 def spell_trace(setting: Setting, trace: Sequence[TraceRow]) -> tuple[Event, ...] | None:
     """Events in which each vertex takes and fires what its rows in a trace say; None if the rings are too small."""
-    core, made = opened(setting, _Recorded), -1
+    core = opened(setting, _Recorded)
+    made = -1
     core.rows = [deque() for _ in core.vertices]
     for row in trace:
         core.rows[row.vertex].append(row)
@@ -243,7 +332,9 @@ def spell_trace(setting: Setting, trace: Sequence[TraceRow]) -> tuple[Event, ...
 def spelled_out(simulation: Simulation, program: AnyProgram = None) -> Simulation:
     """What the program answers to a simulation now, with books, and the events of its rounds spelled out. If the
     simulation was told anything else, that is a Disagreement."""
-    setting, schedule, made_up = simulation.game, simulation.schedule, simulation.made_up
+    setting = simulation.game
+    schedule = simulation.schedule
+    made_up = simulation.made_up
     if simulation.rounds:
         schedule = spell_rounds(setting, schedule, simulation.rounds)
         made_up = _SAYS["rounds"].format(events=with_unit(len(simulation.schedule), "event"))
@@ -258,7 +349,9 @@ def spelled_out(simulation: Simulation, program: AnyProgram = None) -> Simulatio
     return replace(told, made_up=made_up, notes=simulation.notes)
 
 
-def asked(setting: Setting, schedule: Iterable[Sequence[Any]], program: AnyProgram = None) -> Simulation:
+def asked(
+    setting: Setting, schedule: Iterable[Sequence[Any]], program: AnyProgram = None
+) -> Simulation:
     """What the program answers to a schedule, with its books."""
     options: dict[str, Any] = {"limit": setting.limit, "ring": setting.ring, "fed": setting.fed}
     return simulate(setting.graph, setting.chips, schedule, books=True, program=program, **options)
@@ -266,8 +359,14 @@ def asked(setting: Setting, schedule: Iterable[Sequence[Any]], program: AnyProgr
 
 def page_data(told: Simulation, positions: Mapping[Any, Point] | None) -> dict[str, Any]:
     """What the page shows but for the events: the graph and its places, and the opening."""
-    setting, graph, events = told.game, told.game.graph, zip(told.schedule, told.replies)
-    fed = {event.at - len(graph.edges) for event, reply in events if event.kind == "feed" and reply.is_done}
+    setting = told.game
+    graph = told.game.graph
+    events = zip(told.schedule, told.replies)
+    fed = {
+        event.at - len(graph.edges)
+        for event, reply in events
+        if event.kind == "feed" and reply.is_done
+    }
     started = sorted(fed | {vertex for vertex, count in enumerate(setting.chips) if count})
     places = places_of(graph, started, positions)
     return {
@@ -304,7 +403,8 @@ class Words:
 
     def step(self, ledger: Ledger, event: Event, reply: Reply) -> dict[str, Any]:
         """Notes an event, and returns the numbers of its words and what it changed."""
-        says, question = self.sentences, self.sentences.ask(event)
+        says = self.sentences
+        question = self.sentences.ask(event)
         if event.kind == "ack" and not ledger.keeps_books:
             question = None  # (no rule is about it)
         step: dict[str, Any] = {"kind": event.kind, "at": event.at, "done": reply.is_done}
@@ -312,12 +412,21 @@ class Words:
         step["reply"] = self.number(says.reply(event, reply, ledger.core))
         if question is not None:
             # (of a wrong detector too it is asked what the rule allows)
-            is_vain = reply.kind in ("empty", "full") or event.kind == "settle" and reply.numbers == (0,)
-            is_ack, why = event.kind == "ack" and event.at < len(ledger.core.edges), says.reasons(event, ledger.core)
-            step |= {"ask": self.number(question), "yes": not why if is_ack else reply.is_done and not is_vain}
+            is_vain = (
+                reply.kind in ("empty", "full") or event.kind == "settle" and reply.numbers == (0,)
+            )
+            is_ack = event.kind == "ack" and event.at < len(ledger.core.edges)
+            why = says.reasons(event, ledger.core)
+            step |= {
+                "ask": self.number(question),
+                "yes": not why if is_ack else reply.is_done and not is_vain,
+            }
             if why:
                 step["why"] = sorted({[*WORDS["reasons"]].index(reason) for reason, _ in why})
         if event.kind == "put" and reply.is_done:
             step["send"] = self.number(says.send(event, reply.numbers[0]))
         changes = ledger.note(event, reply)
-        return {**step, "changes": [[*change, self.number(says.change(change))] for change in changes]}
+        return {
+            **step,
+            "changes": [[*change, self.number(says.change(change))] for change in changes],
+        }

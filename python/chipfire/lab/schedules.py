@@ -20,7 +20,20 @@ from chipfire.utils import as_int, random_generator
 Game = Union[Setting, Computation]
 Detector = Union[str, type[Core]]
 #: The events of the machine, and that of a computation in which a vertex goes on; a detector may have others.
-EVENTS = ("take", "ack", "fire", "clear", "claim", "put", "halt", "settle", "seal", "read", "feed", "end")
+EVENTS = (
+    "take",
+    "ack",
+    "fire",
+    "clear",
+    "claim",
+    "put",
+    "halt",
+    "settle",
+    "seal",
+    "read",
+    "feed",
+    "end",
+)
 WORK = "work"
 #: Rows of a log: process, kind, channel.
 _Acts = list[tuple[int, str, int]]
@@ -38,8 +51,14 @@ def opened(setting: Game, detector: Detector = "right") -> Any:
     if not isinstance(setting, Setting):
         known = "a chipfire.Setting of graph and chips, or a Computation"
         raise TypeError(f"a game is {known}, and no {type(setting).__name__}")
-    graph = {"vertices": setting.graph.vertices, "sink": setting.graph.sink, "edges": setting.graph.edges}
-    return known_detector(detector).make(graph, setting.chips, setting.limit, setting.ring, setting.fed)
+    graph = {
+        "vertices": setting.graph.vertices,
+        "sink": setting.graph.sink,
+        "edges": setting.graph.edges,
+    }
+    return known_detector(detector).make(
+        graph, setting.chips, setting.limit, setting.ring, setting.fed
+    )
 
 
 def is_early(core: Core) -> bool:
@@ -47,12 +66,17 @@ def is_early(core: Core) -> bool:
     return core.is_closed() and bool(core.left())
 
 
-def random_schedule(setting: Game, seed: Any, detector: Detector = "right", *, most: int = 100_000) -> Schedule:
+def random_schedule(
+    setting: Game, seed: Any, detector: Detector = "right", *, most: int = 100_000
+) -> Schedule:
     """A schedule in which each event does something, drawn until the root is closed; the same seed draws the same.
 
     The right detector closes the root in each. With another it may end because nothing can happen any more. After
-    `most` events it is cut, and its `ended` is False: the events of a detector may go round for ever."""
-    core, draw, made = opened(setting, detector), random_generator(seed), Schedule()
+    `most` events it is cut, and its `ended` is False: the events of a detector may go round for ever.
+    """
+    core = opened(setting, detector)
+    draw = random_generator(seed)
+    made = Schedule()
     as_int(most, "most")
     while not core.is_closed() and (events := core.enabled()):
         if len(made) == most:
@@ -82,7 +106,8 @@ class Play:
 
 def play(setting: Game, events: Iterable[Sequence[Any]], detector: Detector = "right") -> Play:
     """Plays a schedule on the model. `page` makes a page of it."""
-    core, schedule = opened(setting, detector), Schedule(events)
+    core = opened(setting, detector)
+    schedule = Schedule(events)
     replies = []
     for event in schedule:
         kind, *numbers = core.step(*event).split() or ["done"]
@@ -99,7 +124,10 @@ def played(setting: Game, detector: Detector, events: Iterable[Sequence[Any]]) -
 
 
 def shrink(
-    setting: Game, detector: Detector, events: Iterable[Sequence[Any]], is_bad: Callable[[Core], bool] = is_early
+    setting: Game,
+    detector: Detector,
+    events: Iterable[Sequence[Any]],
+    is_bad: Callable[[Core], bool] = is_early,
 ) -> Schedule:
     """A schedule after which the game is still bad, and no longer so if any one of its events is left out.
 
@@ -124,18 +152,27 @@ def shiviz(setting: Game, events: Iterable[Sequence[Any]], detector: Detector = 
 
     Events of a detector's own, such as those of a token, are a ValueError: their clocks are not known. ShiViz reads the
     log with the expression `(?<host>\\S*) (?<clock>{.*})\\n(?<event>.*)`."""
-    core, lines = opened(setting, detector), []
+    core = opened(setting, detector)
+    lines = []
     clocks: dict[str, Counter[str]] = defaultdict(Counter)
     #: The clocks that travel with the messages of an edge, and with its acknowledgements.
-    messages: dict[int, deque[Counter[str]]] = {e.number: deque([Counter()] * e.put) for e in core.edges}
+    messages: dict[int, deque[Counter[str]]] = {
+        e.number: deque([Counter()] * e.put) for e in core.edges
+    }
     answers: dict[int, Counter[str]] = defaultdict(Counter)
     for event in events:
         if event[0] not in (*EVENTS, WORK):
-            raise ValueError(f"{event[0]} is an event of {detector_name(detector)}: what it carries is not known")
-        kind, at, reply = event[0], event[1], core.step(*event)
+            raise ValueError(
+                f"{event[0]} is an event of {detector_name(detector)}: what it carries is not known"
+            )
+        kind = event[0]
+        at = event[1]
+        reply = core.step(*event)
         if reply.startswith("not-now") or reply in ("empty", "full"):
             continue
-        host = str(at) if kind in ("fire", "halt", WORK) else "root"  # (who also writes down the stopper's seals)
+        host = (
+            str(at) if kind in ("fire", "halt", WORK) else "root"
+        )  # (who also writes down the stopper's seals)
         if kind in ("take", "ack"):
             host = str(core.edges[at].head)
         elif kind in ("clear", "claim", "put", "settle") and core.edges[at].tail >= 0:
@@ -153,7 +190,9 @@ def shiviz(setting: Game, events: Iterable[Sequence[Any]], detector: Detector = 
     return "".join(f"{line}\n" for line in lines)
 
 
-def model_log(setting: Game, detector: Detector, events: Iterable[Sequence[Any]]) -> list[tuple[int, str, int]]:
+def model_log(
+    setting: Game, detector: Detector, events: Iterable[Sequence[Any]]
+) -> list[tuple[int, str, int]]:
     """A schedule as a log for `chipfire.judge_log`: vertices are processes, and the root is the one behind them.
 
     Messages of edge e are on channel e, and its acknowledgements go back there. With m edges, those of the root with
@@ -161,8 +200,13 @@ def model_log(setting: Game, detector: Detector, events: Iterable[Sequence[Any]]
     own says in `tells` who tells whom. The root claims that all is over when it closes first.
     """
     core = opened(setting, detector)
-    root, is_over, seen = len(core.vertices), False, dict[tuple[str, int, int], _Acts]()
-    log: list[_Acts] = [[(root, "active", 0)], *([(root, "send", e.number)] * e.put for e in core.edges)]
+    root = len(core.vertices)
+    is_over = False
+    seen = dict[tuple[str, int, int], _Acts]()
+    log: list[_Acts] = [
+        [(root, "active", 0)],
+        *([(root, "send", e.number)] * e.put for e in core.edges),
+    ]
     active = {root}
     for event in [None, *events]:
         log.append(_acts(core, Event(*event), seen) if event else [])
@@ -179,21 +223,29 @@ def model_log(setting: Game, detector: Detector, events: Iterable[Sequence[Any]]
 
 def _acts(core: Any, event: Event, seen: dict[tuple[str, int, int], _Acts]) -> _Acts:
     """What an event adds to a log. A take or a seal is told if a tail sees it: until then its acts are in `seen`."""
-    (kind, at, _), root, many = event, len(core.vertices), len(core.edges)
+    (kind, at, _) = event
+    root = len(core.vertices)
+    many = len(core.edges)
     own = [] if kind in (*EVENTS, WORK) else core.tells(kind, at)
     said, *numbers = core.step(*event).split() or ["done"]
     if said in ("not-now", "empty", "full") or kind in ("fire", "halt", "read", "feed", WORK):
         return []
     if kind not in EVENTS:
         told = [(*pair, 3 * many + pair[0] * (root + 1) + pair[1]) for pair in own]
-        return [act for teller, hearer, it in told for act in ((teller, "tell", it), (hearer, "hear", it))]
+        return [
+            act
+            for teller, hearer, it in told
+            for act in ((teller, "tell", it), (hearer, "hear", it))
+        ]
     e = core.edges[core.graph_edges if kind == "end" else at]
     tail = root if e.tail < 0 else e.tail
     if kind in ("take", "seal"):
         new = (kind, at, e.delivered) if kind == "take" else (kind, at, 0)
         return seen.setdefault(new, [(e.head, "receive", at)] if kind == "take" else [])
     if kind in ("ack", "settle", "end"):
-        return [(e.head, "tell", at) if kind == "ack" else (tail, "hear", e.number)] * int(numbers[0])
+        return [(e.head, "tell", at) if kind == "ack" else (tail, "hear", e.number)] * int(
+            numbers[0]
+        )
     old = ("seal", at, 0) if said == "sealed" else ("take", at, len(e.sent) - core.ring + 1)
     acts = seen.pop(old, None) if kind == "clear" or said == "sealed" else None
     if acts is None:

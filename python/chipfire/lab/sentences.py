@@ -16,16 +16,26 @@ _COUNTED = ("chip", "firing", "message", "acknowledgement")
 
 def _numbers(count: Any) -> dict[str, str]:
     """A number as it is said of each thing that is counted."""
-    return {f"{word}s": with_unit(count, word) for word in _COUNTED} if isinstance(count, int) else {}
+    return (
+        {f"{word}s": with_unit(count, word) for word in _COUNTED} if isinstance(count, int) else {}
+    )
 
 
 class Sentences:
     """The words for what happens on a graph: in chip-firing, or in a computation without a sink and with any loads."""
 
     def __init__(self, graph: Graph, is_firing: bool = True) -> None:
-        self.graph, self.is_firing = graph, is_firing
-        own = {} if is_firing else {name: said for name, said in WORDS["computation"].items() if name in WORDS}
-        self.words: dict[str, dict[str, str]] = {**WORDS, **{name: {**WORDS[name], **own[name]} for name in own}}
+        self.graph = graph
+        self.is_firing = is_firing
+        own = (
+            {}
+            if is_firing
+            else {name: said for name, said in WORDS["computation"].items() if name in WORDS}
+        )
+        self.words: dict[str, dict[str, str]] = {
+            **WORDS,
+            **{name: {**WORDS[name], **own[name]} for name in own},
+        }
 
     def vertex(self, vertex: int) -> str:
         """What a vertex is called."""
@@ -87,24 +97,40 @@ class Sentences:
             return "Done." if reply.is_done else "Refused. Nothing was done."
         kind = event.kind if reply.kind == "done" else reply.kind
         last = reply.numbers[-1] if reply.numbers else 0
-        why = "; ".join(it for _, it in self.reasons(event, core)) if core and reply.name == "Engaged" else ""
+        why = (
+            "; ".join(it for _, it in self.reasons(event, core))
+            if core and reply.name == "Engaged"
+            else ""
+        )
         place = str([*reply.numbers, 0][0])
-        words = {"number": str(last), "why": why or str(reply.why), "place": place, **_numbers(last)}
+        words = {
+            "number": str(last),
+            "why": why or str(reply.why),
+            "place": place,
+            **_numbers(last),
+        }
         if event.kind in ("settle", "end"):
             words["acknowledgements"] = with_unit(last, "new acknowledgement")
         return self.words["replies"][f"halt {last}" if kind == "halt" else kind].format(**words)
 
     def _waits(self, edge: int, core: Core) -> list[tuple[str, str]]:
         """What a vertex has still to do, or to wait for, before it may acknowledge the message that engaged it."""
-        vertex, waits = core.edges[edge].head, self.words["waits"]
-        outs, runs = core.outs(vertex), core.vertices[vertex].halt is None
-        pending, deficit = sum(out.pending for out in outs) if runs else 0, core.deficit(outs)
-        heads = dict.fromkeys(self.ends(out.number)[1] for out in outs if len(out.sent) > out.settled)
+        vertex = core.edges[edge].head
+        waits = self.words["waits"]
+        outs = core.outs(vertex)
+        runs = core.vertices[vertex].halt is None
+        pending = sum(out.pending for out in outs) if runs else 0
+        deficit = core.deficit(outs)
+        heads = dict.fromkeys(
+            self.ends(out.number)[1] for out in outs if len(out.sent) > out.settled
+        )
         found = [("work", waits["chips"])] if runs and not pending and core.is_legal(vertex) else []
         found += [("work", waits["pending"].format(**_numbers(pending)))] if pending else []
         found += [("work", waits["claimed"])] if core.has_unput(vertex) else []
         if deficit:
-            found.append(("deficit", waits["deficit"].format(heads=" and ".join(heads), **_numbers(deficit))))
+            found.append(
+                ("deficit", waits["deficit"].format(heads=" and ".join(heads), **_numbers(deficit)))
+            )
         for other in core.ins(vertex):
             owed = other.delivered - other.acked
             if owed and other.number != edge:
@@ -124,7 +150,13 @@ class Sentences:
         if name == "parent" and value is not None:
             words["tail"] = self.ends(value)[0]
         if name == "cells":
-            words["cells"] = " and ".join(f"{self.load(load)} at place {place}" for place, load in value)
+            words["cells"] = " and ".join(
+                f"{self.load(load)} at place {place}" for place, load in value
+            )
             value = list(value)
         said = (known.get(f"{key} {value}") or known[key]).format(**words)
-        return said if kind == "root" else f"{self.vertex(index) if kind == 'vertices' else f'edge {index}'}: {said}"
+        return (
+            said
+            if kind == "root"
+            else f"{self.vertex(index) if kind == 'vertices' else f'edge {index}'}: {said}"
+        )

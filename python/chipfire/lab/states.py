@@ -33,8 +33,12 @@ def frozen(value: Any, is_part: Callable[[int], Any]) -> Any:
     if isinstance(value, _CODE):
         raise TypeError("a function")
     if isinstance(value, (tuple, frozenset, list, set, dict)):
-        items = [frozen(item, is_part) for item in (value.items() if isinstance(value, dict) else value)]
-        if isinstance(value, (tuple, frozenset)) and all(item is it for item, it in zip(items, value)):
+        items = [
+            frozen(item, is_part) for item in (value.items() if isinstance(value, dict) else value)
+        ]
+        if isinstance(value, (tuple, frozenset)) and all(
+            item is it for item, it in zip(items, value)
+        ):
             return value
         return made, tuple(items) if isinstance(value, (tuple, list)) else frozenset(items)
     reduced = value.__reduce_ex__(4)
@@ -56,10 +60,17 @@ class States:
             raise ValueError(f"not_state is a tuple of names: not_state = ({core.not_state!r},)")
         #: What the detector leaves out; what the parts have for good; and what is not gone into, by its `id`.
         self.left_out = {*core.not_state}
-        self.good = [(part, name, getattr(part, name)) for part in self.parts for name in getattr(part, "HELD", ())]
+        self.good = [
+            (part, name, getattr(part, name))
+            for part in self.parts
+            for name in getattr(part, "HELD", ())
+        ]
         self.kept: dict[int, Any] = {id(part): index for index, part in enumerate(self.parts)}
         self.kept |= {id(value): name for part, name, value in self.good if part is core}
-        self.same = {id(it): it for it in [*self.parts, *(value for part, _, value in self.good if part is core)]}
+        self.same = {
+            id(it): it
+            for it in [*self.parts, *(value for part, _, value in self.good if part is core)]
+        }
         #: Of each part the numbers of its values; and by number the values that cannot be changed, the others, and
         #: whether they are those of the start.
         self.numbers: list[dict[Any, int]] = like.numbers if like else [{} for _ in self.parts]
@@ -68,9 +79,13 @@ class States:
         )
         #: Where the values of each part stand, and their names at the start.
         self.held = [vars(part) for part in self.parts]
-        self.names: list[list[str]] = like.names if like else [[*self._values(held)] for held in self.held]
+        self.names: list[list[str]] = (
+            like.names if like else [[*self._values(held)] for held in self.held]
+        )
         #: What knows the numbers of a part, and its values as they are read; none of a part that is read with care.
-        self.readers: list[tuple[Any, Any]] = [(its.get, held.values()) for its, held in zip(self.numbers, self.held)]
+        self.readers: list[tuple[Any, Any]] = [
+            (its.get, held.values()) for its, held in zip(self.numbers, self.held)
+        ]
         self.now: tuple[int, ...] = ()
 
     def noted(self) -> tuple[int, ...]:
@@ -81,22 +96,33 @@ class States:
         except TypeError:  # (some value can be changed)
             found = [None for _ in self.parts]
         if None in found:
-            found = [self._number(index) if number is None else number for index, number in enumerate(found)]
+            found = [
+                self._number(index) if number is None else number
+                for index, number in enumerate(found)
+            ]
         self.now = tuple(found)  # type: ignore[arg-type]
         return self.now
 
     def _values(self, held: dict[str, Any]) -> dict[str, Any]:
         """The values of a part, but for those that the detector leaves out."""
-        return {name: value for name, value in held.items() if name not in self.left_out} if self.left_out else held
+        return (
+            {name: value for name, value in held.items() if name not in self.left_out}
+            if self.left_out
+            else held
+        )
 
     def _number(self, index: int) -> int:
         """The number of what stands in a part, which is read with care."""
-        part, numbers, values = self.parts[index], self.numbers[index], self._values(self.held[index])
+        part = self.parts[index]
+        numbers = self.numbers[index]
+        values = self._values(self.held[index])
         is_usual = [*values] == self.names[index]
         if not is_usual or len(values) != len(self.held[index]):
             self.readers[index] = numbers.get, ()
         try:
-            key: Any = tuple(values.values()) if is_usual else ("attributes", frozenset(values.items()))
+            key: Any = (
+                tuple(values.values()) if is_usual else ("attributes", frozenset(values.items()))
+            )
             if key in numbers:
                 return numbers[key]
         except TypeError:
@@ -128,7 +154,9 @@ class States:
             plain, moving, is_usual = self.values[index][state[index]]
             held = self.held[index]
             if not is_usual or len(held) != len(self.names[index]):
-                for name in self._values(held).copy():  # (those of the start have to stand in their order)
+                for name in self._values(
+                    held
+                ).copy():  # (those of the start have to stand in their order)
                     del held[name]
             held.update(plain)
             if moving:
@@ -140,12 +168,21 @@ class States:
         for part, name, value in self.good:
             if getattr(part, name) is not value:
                 of = type(part).__name__
-                raise ValueError(f"{of}.{name} changed, which a game has for good: keep yours elsewhere")
+                raise ValueError(
+                    f"{of}.{name} changed, which a game has for good: keep yours elsewhere"
+                )
 
     def changed(self, before: tuple[int, ...]) -> list[str]:
         """The attributes in which the present state is another than one before."""
         found = []
         for index, (was, now) in enumerate(zip(before, self.now)):
-            old, new = ({**plain, **moving} for plain, moving, _ in map(self.values[index].__getitem__, (was, now)))
-            found += [name for name in {**old, **new} if name not in old or name not in new or old[name] != new[name]]
+            old, new = (
+                {**plain, **moving}
+                for plain, moving, _ in map(self.values[index].__getitem__, (was, now))
+            )
+            found += [
+                name
+                for name in {**old, **new}
+                if name not in old or name not in new or old[name] != new[name]
+            ]
         return found

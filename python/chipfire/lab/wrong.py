@@ -17,30 +17,47 @@ from chipfire.utils import FileName, with_unit, write_text
 
 
 def wrong_page(
-    detector: Detector, file: FileName, setting: Game | None = None, *, title: str | None = None,
-    positions: Mapping[Any, Point] | None = None, program: AnyProgram = None,
+    detector: Detector,
+    file: FileName,
+    setting: Game | None = None,
+    *,
+    title: str | None = None,
+    positions: Mapping[Any, Point] | None = None,
+    program: AnyProgram = None,
 ) -> None:
     """Writes a page of the shortest schedule after which a wrong detector says too early that all is over.
 
     detector  one of `chipfire.detectors.DETECTORS`, or a class
-    setting   the game to search, if not the one that stands there: a `Setting` or a `Computation`"""
-    write_text(file, wrong_page_text(detector, setting, title=title, positions=positions, program=program))
+    setting   the game to search, if not the one that stands there: a `Setting` or a `Computation`
+    """
+    write_text(
+        file, wrong_page_text(detector, setting, title=title, positions=positions, program=program)
+    )
 
 
 def wrong_page_text(
-    detector: Detector, setting: Game | None = None, *, title: str | None = None,
-    positions: Mapping[Any, Point] | None = None, program: AnyProgram = None,
+    detector: Detector,
+    setting: Game | None = None,
+    *,
+    title: str | None = None,
+    positions: Mapping[Any, Point] | None = None,
+    program: AnyProgram = None,
 ) -> str:
     """The text of the page that `wrong_page` writes."""
-    name, setting = detector_name(detector), setting or known_detector(detector).game
+    name = detector_name(detector)
+    setting = setting or known_detector(detector).game
     found = explore(setting, detector)
     if found.schedule is None:
         states = with_unit(found.states, "state")
         none = f"{name} closes the root too early in no schedule of this game, which has {states}"
         raise ValueError(none if found.is_whole else f"{name}: {found}")
-    told, words = play(setting, found.schedule, detector), Words(setting)
+    told = play(setting, found.schedule, detector)
+    words = Words(setting)
     data = model_data(told, words, positions)
-    data |= {"beside": _beside(setting, found.schedule, words, program), "words": list(words.numbers)}
+    data |= {
+        "beside": _beside(setting, found.schedule, words, program),
+        "words": list(words.numbers),
+    }
     parts = {**model_parts(told), "states": with_unit(found.states, "state")}
     proved = "run-wrong.html" if isinstance(setting, Setting) else "run-wrong-model.html"
     return filled(title or f"A wrong detector: {name}", data, parts, proved, "two-drawings.html")
@@ -58,7 +75,11 @@ def _beside(setting: Game, schedule: Schedule, words: Words, program: AnyProgram
         ledger.close(right.report)
     else:
         made = [words.step(ledger, *row) for row in zip(shared, play(setting, shared).replies)]
-    said, left = words.number("This is an event of the other detector."), iter(made)
+    said = words.number("This is an event of the other detector.")
+    left = iter(made)
     own = {"done": True, "isOwn": True, "event": said, "reply": said, "changes": []}
-    steps = [next(left) if kind in (*EVENTS, WORK) else {"kind": kind, "at": at, **own} for kind, at, _ in schedule]
+    steps = [
+        next(left) if kind in (*EVENTS, WORK) else {"kind": kind, "at": at, **own}
+        for kind, at, _ in schedule
+    ]
     return {"start": start, "steps": steps}

@@ -53,16 +53,28 @@ class Frames:
 
     def captions(self) -> list[str]:
         """What stands under each picture."""
-        return [f"{self.unit} {limit}: {picture.title}" for limit, picture in zip(self.limits, self.pictures)]
+        return [
+            f"{self.unit} {limit}: {picture.title}"
+            for limit, picture in zip(self.limits, self.pictures)
+        ]
 
     def page(self) -> str:
         """The text of a page with a slider: one file that loads nothing."""
-        shown = [{"source": it.data(), "caption": caption} for it, caption in zip(self.pictures, self.captions())]
-        first, used = self.pictures[0], {it for picture in self.pictures for row in picture.rows for it in {*row}}
+        shown = [
+            {"source": it.data(), "caption": caption}
+            for it, caption in zip(self.pictures, self.captions())
+        ]
+        first = self.pictures[0]
+        used = {it for picture in self.pictures for row in picture.rows for it in {*row}}
         return string.Template(package_text("web", "animation.html")).substitute(
-            frames=json.dumps(shown).replace("<", "\\u003c"), last=len(self) - 1, source=shown[0]["source"],
-            caption=html.escape(shown[0]["caption"]), columns=len(first.rows[0]), rows=len(first.rows),
-            legend=first.legend(used), policy=PAGE_POLICY,
+            frames=json.dumps(shown).replace("<", "\\u003c"),
+            last=len(self) - 1,
+            source=shown[0]["source"],
+            caption=html.escape(shown[0]["caption"]),
+            columns=len(first.rows[0]),
+            rows=len(first.rows),
+            legend=first.legend(used),
+            policy=PAGE_POLICY,
         )
 
     def _repr_html_(self) -> str:
@@ -70,37 +82,67 @@ class Frames:
 
 
 def frames(
-    graph: AnyGraph, chips: Chips, limits: Iterable[int] | None = None, *, columns: int | None = None,
-    palette: Palette | None = None, program: AnyProgram = None,
+    graph: AnyGraph,
+    chips: Chips,
+    limits: Iterable[int] | None = None,
+    *,
+    columns: int | None = None,
+    palette: Palette | None = None,
+    program: AnyProgram = None,
 ) -> Frames:
     """The play of these chips as it stands at growing limits: each vertex may fire that often at most.
 
     Without `limits`, up to 24 are spread evenly from 0, the start, to the end of the play. `columns` and `palette` are
     those of `Report.picture`. Each limit is a play of its own.
-    Proved: the position at each limit, which no order of the firings changes. Not proved: that the pictures show it."""
-    graph, known = known_graph(graph, program), dict[int, Report]()
+    Proved: the position at each limit, which no order of the firings changes. Not proved: that the pictures show it.
+    """
+    graph = known_graph(graph, program)
+    known = dict[int, Report]()
     chips = known_chips(graph, chips, program)
     if limits is None:
         last = plain(graph, chips, program=program)
-        known, most = {max(last.fired): last}, max(last.fired)
+        known = {max(last.fired): last}
+        most = max(last.fired)
         limits = sorted({most * step // (COUNT - 1) for step in range(COUNT)})
     limits = tuple(limits)
     # (side by side, the plays of large graphs would take too much memory)
     with ThreadPoolExecutor(1 if graph.vertices > 200_000 else processors()) as pool:
-        reports = tuple(pool.map(lambda it: known.get(it) or plain(graph, chips, limit=it, program=program), limits))
+        reports = tuple(
+            pool.map(
+                lambda it: known.get(it) or plain(graph, chips, limit=it, program=program), limits
+            )
+        )
     return Frames(limits, reports, tuple(report.picture(columns, palette) for report in reports))
 
 
 def frames_by_chips(
-    graph: AnyGraph, vertex: Hashable, counts: Iterable[int], *, columns: int | None = None,
-    palette: Palette | None = None, program: AnyProgram = None,
+    graph: AnyGraph,
+    vertex: Hashable,
+    counts: Iterable[int],
+    *,
+    columns: int | None = None,
+    palette: Palette | None = None,
+    program: AnyProgram = None,
 ) -> Frames:
     """What becomes of chips that are dropped on a vertex, for each of these growing numbers of chips.
-    Proved: each position, to which all orders of drops and firings lead. Not proved: that the pictures show it."""
-    graph, counts, reports, held = known_graph(graph, program), tuple(counts), [], 0
-    at, chips, total = graph.number(vertex), [0] * graph.vertices, (0,) * graph.vertices
+    Proved: each position, to which all orders of drops and firings lead. Not proved: that the pictures show it.
+    """
+    graph = known_graph(graph, program)
+    counts = tuple(counts)
+    reports = []
+    held = 0
+    at = graph.number(vertex)
+    chips = [0] * graph.vertices
+    total = (0,) * graph.vertices
     for count in counts:
         chips[at] += as_int(count, "the number of chips", held) - held
         reports.append(replace(plain(graph, chips, program=program), prior=total))
-        chips, total, held = list(reports[-1].chips), reports[-1].total, count
-    return Frames(counts, tuple(reports), tuple(report.picture(columns, palette) for report in reports), "Chips")
+        chips = list(reports[-1].chips)
+        total = reports[-1].total
+        held = count
+    return Frames(
+        counts,
+        tuple(reports),
+        tuple(report.picture(columns, palette) for report in reports),
+        "Chips",
+    )

@@ -28,8 +28,15 @@ def _blend(corners: Sequence[str], count: int) -> tuple[str, ...]:
     found = []
     for step in range(count):
         place, share = divmod(step * (len(corners) - 1), count - 1)
-        low, high = (bytes.fromhex(corners[min(it, len(corners) - 1)][1:]) for it in (place, place + 1))
-        found.append("#" + bytes((a * (count - 1 - share) + b * share) // (count - 1) for a, b in zip(low, high)).hex())
+        low, high = (
+            bytes.fromhex(corners[min(it, len(corners) - 1)][1:]) for it in (place, place + 1)
+        )
+        found.append(
+            "#"
+            + bytes(
+                (a * (count - 1 - share) + b * share) // (count - 1) for a, b in zip(low, high)
+            ).hex()
+        )
     return tuple(found)
 
 
@@ -38,12 +45,16 @@ def _blend(corners: Sequence[str], count: int) -> tuple[str, ...]:
 PALETTES: dict[str, Sequence[str]] = {
     "colours": ("#ffffff", "#f0c83c", "#286ebe", "#14141e", "#ec7050"),
     "greys": ("#ffffff", "#c8c8c8", "#8c8c8c", "#505050", "#000000"),
-    "viridis": _blend("#440154 #482878 #3e4989 #31688e #26828e #1f9e89 #35b779 #6ece58 #b5de2b #fde725".split(), 255),
+    "viridis": _blend(
+        "#440154 #482878 #3e4989 #31688e #26828e #1f9e89 #35b779 #6ece58 #b5de2b #fde725".split(),
+        255,
+    ),
 }
 SINK_COLOUR = "#a5d8c2"
 SCALE = 8
 #: In notebooks, a picture wider or higher than the first, in squares, is shown as points, at most the second wide.
-_MOST_SQUARES, _MOST_POINTS = 100, 800
+_MOST_SQUARES = 100
+_MOST_POINTS = 800
 #: The name of a palette, or its colours, each `#rrggbb`.
 Palette = Union[str, Sequence[str]]
 #: Where vertices stand, by their names: (to the right, down).
@@ -76,7 +87,8 @@ class Picture:
 
     def points(self, scale: int) -> list[bytes]:
         """The rows of points, with `scale` for a square's side."""
-        scale, lines = as_int(scale, "the scale", 1), []
+        scale = as_int(scale, "the scale", 1)
+        lines = []
         for row in self.rows:
             line = bytearray(scale * len(row))
             for place in range(scale):
@@ -90,7 +102,9 @@ class Picture:
 
     def svg(self, scale: int = SCALE) -> str:
         """The text of an SVG file, which can be made as large as one likes."""
-        width, height, scale = len(self.rows[0]), len(self.rows), as_int(scale, "the scale", 1)
+        width = len(self.rows[0])
+        height = len(self.rows)
+        scale = as_int(scale, "the scale", 1)
         size = f'viewBox="0 0 {width} {height}" width="{width * scale}" height="{height * scale}"'
         paths = [""] * len(self.palette)
         for y, row in enumerate(self.rows):
@@ -99,7 +113,11 @@ class Picture:
                 length = len(list(squares))
                 paths[number] += f"M{x} {y}h{length}v1h-{length}z"
                 x += length
-        shapes = (f'<path fill="{colour}" d="{path}"/>' for colour, path in zip(self.palette, paths) if path)
+        shapes = (
+            f'<path fill="{colour}" d="{path}"/>'
+            for colour, path in zip(self.palette, paths)
+            if path
+        )
         head = f'<svg xmlns="http://www.w3.org/2000/svg" {size} shape-rendering="crispEdges" role="img">'
         return "\n".join([head, f"<title>{html.escape(self.title)}</title>", *shapes, "</svg>\n"])
 
@@ -120,7 +138,9 @@ class Picture:
     def __str__(self) -> str:
         """The picture as text: the number of each square's colour, and a gap for the sink."""
         count = len(self.palette) - 1
-        signs = [_SIGNS[it if count <= len(_SIGNS) else it * len(_SIGNS) // count] for it in range(count)] + [" "]
+        signs = [
+            _SIGNS[it if count <= len(_SIGNS) else it * len(_SIGNS) // count] for it in range(count)
+        ] + [" "]
         return "\n".join("".join(signs[number] for number in row) for row in self.rows)
 
     __repr__ = __str__
@@ -130,7 +150,8 @@ class Picture:
         return f"data:image/png;base64,{base64.b64encode(rasters.png(self.points(1), self.colours())).decode()}"
 
     def _repr_html_(self) -> str:
-        width, title = len(self.rows[0]), html.escape(self.title)
+        width = len(self.rows[0])
+        title = html.escape(self.title)
         longest = max(width, len(self.rows))
         if longest <= _MOST_SQUARES:
             drawn = self.svg()
@@ -154,14 +175,20 @@ def colours_of(palette: Palette) -> tuple[str, ...]:
             raise ValueError(f"no palette is named {palette!r}; there are {', '.join(PALETTES)}")
         palette = PALETTES[palette]
     for colour in palette:
-        if len(colour) != 7 or colour[0] != "#" or not set(colour[1:].lower()) <= set("0123456789abcdef"):
+        if (
+            len(colour) != 7
+            or colour[0] != "#"
+            or not set(colour[1:].lower()) <= set("0123456789abcdef")
+        ):
             raise ValueError(f"a colour is #rrggbb, and not {colour!r}")
     if not 2 <= len(palette) <= 255:
         raise ValueError(f"a palette has 2 to 255 colours, and not {len(palette)}")
     return (*palette, SINK_COLOUR)
 
 
-def in_rows(graph: Graph | None, values: Sequence[int], columns: int | None, empty: int) -> list[Sequence[int]]:
+def in_rows(
+    graph: Graph | None, values: Sequence[int], columns: int | None, empty: int
+) -> list[Sequence[int]]:
     """Values of all vertices but a last sink in rows: of `columns`, or of the graph's shape, with what is `empty`."""
     if columns is not None:
         columns = as_int(columns, "the number of columns", 1)
@@ -173,20 +200,25 @@ def in_rows(graph: Graph | None, values: Sequence[int], columns: int | None, emp
         unknown = "the report does not know its graph" if graph is None else "the graph is no grid"
         raise ValueError(f"{unknown}: say how many columns the picture has")
     else:
-        squares, columns = math.prod(graph.shape), graph.shape[1]
+        squares = math.prod(graph.shape)
+        columns = graph.shape[1]
         if not isinstance(graph.squares, range):
             known = dict(zip(graph.squares, values))
             values = [known.get(square, empty) for square in range(squares)]
     return [values[start : start + columns] for start in range(0, squares, columns)]
 
 
-def placed(graph: Graph, values: Sequence[int], positions: Positions, empty: int) -> list[Sequence[int]]:
+def placed(
+    graph: Graph, values: Sequence[int], positions: Positions, empty: int
+) -> list[Sequence[int]]:
     """Values of the vertices that have positions, (to the right, down) by names, in rows of squares round them."""
     found: dict[tuple[int, int], Any] = {}
     for name, (right, down) in positions.items():
         other = found.setdefault((round(down), round(right)), name)
         if other != name:
-            raise ValueError(f"vertices {other!r} and {name!r} stand on one square: spread the positions")
+            raise ValueError(
+                f"vertices {other!r} and {name!r} stand on one square: spread the positions"
+            )
     if not found:
         raise ValueError("there are no positions, and so no squares")
     numbers = {square: values[graph.number(name)] for square, name in found.items()}
@@ -206,19 +238,27 @@ class Drawn(AsArray):
         raise NotImplementedError
 
     def picture(
-        self, columns: int | None = None, palette: Palette | None = None, *, of: str = "chips",
-        scale: str | None = None, positions: Positions | None = None,
+        self,
+        columns: int | None = None,
+        palette: Palette | None = None,
+        *,
+        of: str = "chips",
+        scale: str | None = None,
+        positions: Positions | None = None,
     ) -> Picture:
         """The picture of the chips, or `of` the "odometer": how often each vertex fired. It is tested, and not proved.
 
         `columns` is how many squares stand in a row; a graph with a shape knows that. `positions` has the places of
         vertices by names instead, (to the right, down), each of which becomes a square. `palette` names colours,
         "colours", "greys" or "viridis", or has them, each as `#rrggbb`: of 0, 1, 2 .. chips, and the last one of all
-        larger numbers. With a `scale`, "linear" (of an odometer) or "log", they are spread from 0 to the largest."""
-        values, sink = self._values(of), None if self.graph is None else self.graph.sink
+        larger numbers. With a `scale`, "linear" (of an odometer) or "log", they are spread from 0 to the largest.
+        """
+        values = self._values(of)
+        sink = None if self.graph is None else self.graph.sink
         scale = "linear" if scale is None and of == "odometer" else scale
         colours = colours_of(palette or ("viridis" if scale else "colours"))
-        last, most = len(colours) - 2, None
+        last = len(colours) - 2
+        most = None
         numbers = [last if count > last else count if count > 0 else 0 for count in values]
         if scale:
             if scale not in _SPREADS:
@@ -236,15 +276,24 @@ class Drawn(AsArray):
         return Picture(tuple(map(bytes, rows)), colours, self._title(of), most)
 
     def image(
-        self, file: FileName, columns: int | None = None, palette: Palette | None = None, scale: int | str = SCALE, *,
-        of: str = "chips", positions: Positions | None = None, points: int = SCALE,
+        self,
+        file: FileName,
+        columns: int | None = None,
+        palette: Palette | None = None,
+        scale: int | str = SCALE,
+        *,
+        of: str = "chips",
+        positions: Positions | None = None,
+        points: int = SCALE,
     ) -> None:
         """Writes what `picture` makes: `.png`, `.svg`, or with Pillow any other form. A square's side has as many
         points as `scale`, or as `points` if `scale` is "linear" or "log"."""
         spread, points = (scale, points) if isinstance(scale, str) else (None, scale)
         self.picture(columns, palette, of=of, scale=spread, positions=positions).save(file, points)
 
-    def show(self, columns: int | None = None, palette: Palette | None = None, *, of: str = "chips") -> None:
+    def show(
+        self, columns: int | None = None, palette: Palette | None = None, *, of: str = "chips"
+    ) -> None:
         """Shows the picture in a notebook; elsewhere prints it as text, with the number of chips on each square."""
         picture = self.picture(columns, palette, of=of)
         notebook = sys.modules.get("IPython")
@@ -267,23 +316,39 @@ class Drawn(AsArray):
         return in_rows(self.graph, values, columns, 0)
 
     def plot(
-        self, columns: int | None = None, palette: Palette | None = None, axes: Any = None, *, of: str = "chips",
-        scale: str | None = None, positions: Positions | None = None, bar: bool = False,
+        self,
+        columns: int | None = None,
+        palette: Palette | None = None,
+        axes: Any = None,
+        *,
+        of: str = "chips",
+        scale: str | None = None,
+        positions: Positions | None = None,
+        bar: bool = False,
     ) -> Any:
         """Draws the picture by Matplotlib into axes, or into new ones, which it returns. A colour `bar` stands beside
         it if that is wanted; all else is as in `picture`."""
-        colors, pyplot = (import_optional(f"matplotlib.{it}", "a plot is one of Matplotlib") for it in ("colors", "pyplot"))
+        colors, pyplot = (
+            import_optional(f"matplotlib.{it}", "a plot is one of Matplotlib")
+            for it in ("colors", "pyplot")
+        )
         picture = self.picture(columns, palette, of=of, scale=scale, positions=positions)
         axes = pyplot.subplots()[1] if axes is None else axes
         cmap = colors.ListedColormap(picture.palette)
         last = len(picture.palette) - 2
-        image = axes.imshow([list(row) for row in picture.rows], cmap=cmap, vmin=-0.5, vmax=last + 1.5)
+        image = axes.imshow(
+            [list(row) for row in picture.rows], cmap=cmap, vmin=-0.5, vmax=last + 1.5
+        )
         if bar:
             marks = dict(enumerate(picture.labels()[:-1]))
             if picture.most is not None:
-                most, powers = picture.most, [10**power for power in range(13) if 2 * 10**power <= picture.most]
+                most = picture.most
+                powers = [10**power for power in range(13) if 2 * 10**power <= picture.most]
                 between = powers if scale == "log" else [most * step // 4 for step in (1, 2, 3)]
-                marks |= {_spread([count], scale or "linear", most, last)[0]: f"{count:,}" for count in between}
+                marks |= {
+                    _spread([count], scale or "linear", most, last)[0]: f"{count:,}"
+                    for count in between
+                }
             marks = {number: label for number, label in marks.items() if label}
             drawn = axes.figure.colorbar(image, ax=axes, ticks=[*marks])
             drawn.ax.set_yticklabels(marks.values())
@@ -294,4 +359,6 @@ class Drawn(AsArray):
 
     def _repr_html_(self) -> str | None:
         """What a notebook shows: the picture if the graph has a shape, and else the text."""
-        return None if self.graph is None or self.graph.shape is None else self.picture()._repr_html_()
+        return (
+            None if self.graph is None or self.graph.shape is None else self.picture()._repr_html_()
+        )

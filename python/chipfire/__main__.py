@@ -104,11 +104,13 @@ def _explore(asked: argparse.Namespace) -> tuple[str, int]:
     found = explore(setting, detector, most=asked.most, feeds=asked.feed, seals=asked.seal)
     missed = found.lost if found.lost is not None else found.stuck
     shown = missed if found.schedule is None else found.schedule
-    status = (
-        2 if found.schedule is not None else 3 if missed is not None else 0 if found.is_whole else 4
-    )
     rows = "" if shown is None else rows_text(SCHEDULE_HEADER, shown)
-    return f"{found}\n{rows}", status
+    text = f"{found}\n{rows}"
+    if found.schedule is not None:
+        return text, 2
+    if missed is not None:
+        return text, 3
+    return text, 0 if found.is_whole else 4
 
 
 def _judge(asked: argparse.Namespace) -> tuple[str, int]:
@@ -121,7 +123,10 @@ def _judge(asked: argparse.Namespace) -> tuple[str, int]:
     judged = judge(_setting(game, asked, fed=asked.fed), log, also=asked.also)
     if not judged.fits and judged.is_true is None:
         raise ValueError(str(judged))
-    return f"{judged}\n", 2 if not judged.is_true else 3 if judged.is_missed else 0
+    text = f"{judged}\n"
+    if not judged.is_true:
+        return text, 2
+    return text, 3 if judged.is_missed else 0
 
 
 class _Parser(argparse.ArgumentParser):
@@ -137,72 +142,57 @@ def _add(
     """Adds a command, what the list of all and its own help say of it, and what only its own help says more."""
     command: argparse.ArgumentParser = commands.add_parser(name, help=says, description=says + more)
     command.set_defaults(**defaults)
+    command.add_argument(
+        "--program", metavar="FILE", help="the program chipfire, if not the one that is found"
+    )
     return command
 
 
-def _arguments() -> argparse.ArgumentParser:
-    parser = _Parser(prog="python -m chipfire", description="chipfire's Python package.")
-    commands = parser.add_subparsers(required=True, metavar="COMMAND")
+def _add_page(commands: Any) -> None:
     says = "writes a page of HTML on which a run can be watched event by event"
-    page = _add(commands, "page", says, make=_page)
-    says = "writes a page of the shortest schedule on which a wrong detector says too early that all is over"
-    wrong = _add(
-        commands, "wrong", says, ", beside the right one", make=_tried, text=wrong_page_text
-    )
-    says = "writes a page on which one picks each event among those that may happen"
-    choose = _add(
-        commands,
-        "choose",
-        says,
-        ", on a game of at most 2,000 states",
-        make=_tried,
-        text=choice_page_text,
-    )
-    says = "tries all schedules of a small game: status 0 right, 2 too early, 3 can miss the end, 4 too many states"
-    found = _add(commands, "explore", says, make=_explore)
+    command = _add(commands, "page", says, make=_page)
+    command.add_argument("graph", metavar="GRAPH", help="a graph file")
+    command.add_argument("chips", metavar="CHIPS", help="a chips file")
+    says = "a schedule, or the trace of a recorded run (run --trace)"
+    command.add_argument("events", metavar="SCHEDULE", help=says)
+    _add_limits(command, None, None)
+    says = "how many rounds of turns follow a schedule at most"
+    command.add_argument("--rounds", type=int, metavar="N", help=says)
+    command.add_argument("--fed", action="store_true", help="the schedule may feed chips")
+    _add_looks(command)
+
+
+def _add_wrong(commands: Any) -> None:
     says = (
-        "judges a log: status 0 if its claims are true, 2 if one is false, 3 if it misses the end"
+        "writes a page of the shortest schedule on which a wrong detector says too early that all "
+        "is over"
     )
-    log = _add(commands, "judge", says, make=_judge)
-    page.add_argument("graph", metavar="GRAPH", help="a graph file")
-    page.add_argument("chips", metavar="CHIPS", help="a chips file")
-    page.add_argument(
-        "events",
-        metavar="SCHEDULE",
-        help="a schedule, or the trace of a recorded run (run --trace)",
+    more = ", beside the right one"
+    command = _add(commands, "wrong", says, more, make=_tried, text=wrong_page_text)
+    _add_detector(command)
+    _add_looks(command)
+
+
+def _add_choose(commands: Any) -> None:
+    says = "writes a page on which one picks each event among those that may happen"
+    more = ", on a game of at most 2,000 states"
+    command = _add(commands, "choose", says, more, make=_tried, text=choice_page_text)
+    _add_detector(command)
+    _add_looks(command)
+
+
+def _add_explore(commands: Any) -> None:
+    says = (
+        "tries all schedules of a small game: status 0 right, 2 too early, 3 can miss the end, "
+        "4 too many states"
     )
-    for command in (wrong, choose, found):
-        command.add_argument(
-            "name", metavar="DETECTOR", help=f"FILE.py:CLASS, or one of {', '.join(DETECTORS)}"
-        )
-        command.add_argument(
-            "game", metavar="GRAPH CHIPS", nargs="*", help="another game than that of the detector"
-        )
-    found.add_argument(
-        "--most", type=int, default=100_000, metavar="N", help="how many states are looked at"
-    )
-    for it, limit, ring in ((page, None, None), (found, MAX_LIMIT, 1)):
-        it.add_argument(
-            "--limit", type=int, default=limit, metavar="F", help="how often each vertex may fire"
-        )
-        it.add_argument(
-            "--ring",
-            type=int,
-            default=ring,
-            metavar="R",
-            help="how many cells the ring of an edge has",
-        )
-    page.add_argument(
-        "--rounds", type=int, metavar="N", help="how many rounds of turns follow a schedule at most"
-    )
-    page.add_argument("--fed", action="store_true", help="the schedule may feed chips")
-    for command in (page, wrong, choose):
-        command.add_argument("--title", metavar="TEXT", help="what stands above the page")
-        command.add_argument(
-            "--positions", metavar="FILE", help="where the vertices stand: rows vertex,right,down"
-        )
+    command = _add(commands, "explore", says, make=_explore)
+    _add_detector(command)
+    says = "how many states are looked at"
+    command.add_argument("--most", type=int, default=100_000, metavar="N", help=says)
+    _add_limits(command, MAX_LIMIT, 1)
     says = "the root feeds so many chips on its edge, each feed after the others"
-    found.add_argument(
+    command.add_argument(
         "--feed",
         type=int,
         nargs=2,
@@ -211,19 +201,49 @@ def _arguments() -> argparse.ArgumentParser:
         metavar=("EDGE", "CHIPS"),
         help=says,
     )
-    found.add_argument(
-        "--seal", type=int, action="append", default=[], metavar="EDGE", help="it may be sealed"
+    says = "it may be sealed"
+    command.add_argument("--seal", type=int, action="append", default=[], metavar="EDGE", help=says)
+
+
+def _add_judge(commands: Any) -> None:
+    says = (
+        "judges a log: status 0 if its claims are true, 2 if one is false, 3 if it misses the end"
     )
+    command = _add(commands, "judge", says, make=_judge)
     says = "GRAPH, CHIPS and a log of rows event,at,count,reply; or a log of any program alone"
-    log.add_argument("files", metavar="FILE", nargs="+", help=says)
-    log.add_argument(
-        "--also", action="append", default=[], metavar="EVENT", help="an event of its own detector"
-    )
-    log.add_argument("--fed", action="store_true", help="the root may feed chips")
-    for command in (page, wrong, choose, found, log):
-        command.add_argument(
-            "--program", metavar="FILE", help="the program chipfire, if not the one that is found"
-        )
+    command.add_argument("files", metavar="FILE", nargs="+", help=says)
+    says = "an event of its own detector"
+    command.add_argument("--also", action="append", default=[], metavar="EVENT", help=says)
+    command.add_argument("--fed", action="store_true", help="the root may feed chips")
+
+
+def _add_detector(command: argparse.ArgumentParser) -> None:
+    """The arguments that name a detector and a game."""
+    says = f"FILE.py:CLASS, or one of {', '.join(DETECTORS)}"
+    command.add_argument("name", metavar="DETECTOR", help=says)
+    says = "another game than that of the detector"
+    command.add_argument("game", metavar="GRAPH CHIPS", nargs="*", help=says)
+
+
+def _add_limits(command: argparse.ArgumentParser, limit: int | None, ring: int | None) -> None:
+    says = "how often each vertex may fire"
+    command.add_argument("--limit", type=int, default=limit, metavar="F", help=says)
+    says = "how many cells the ring of an edge has"
+    command.add_argument("--ring", type=int, default=ring, metavar="R", help=says)
+
+
+def _add_looks(command: argparse.ArgumentParser) -> None:
+    """The options of how a page looks."""
+    command.add_argument("--title", metavar="TEXT", help="what stands above the page")
+    says = "where the vertices stand: rows vertex,right,down"
+    command.add_argument("--positions", metavar="FILE", help=says)
+
+
+def _arguments() -> argparse.ArgumentParser:
+    parser = _Parser(prog="python -m chipfire", description="chipfire's Python package.")
+    commands = parser.add_subparsers(required=True, metavar="COMMAND")
+    for add in (_add_page, _add_wrong, _add_choose, _add_explore, _add_judge):
+        add(commands)
     return parser
 
 

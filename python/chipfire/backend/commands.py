@@ -170,11 +170,9 @@ def plain(
         return replace(free, chips=tuple(graph.with_loops(free.chips)), graph=graph)
     question = _Question(graph, program)
     start = question.numbers(chips)
-    counts = (
-        ()
-        if guess is None
-        else question.numbers(guess.total if isinstance(guess, Report) else guess, "firings")
-    )
+    counts: Any = ()
+    if guess is not None:
+        counts = question.numbers(guess.total if isinstance(guess, Report) else guess, "firings")
     if question.own and not progress and isinstance(start, tuple) and isinstance(counts, tuple):
         if found := library.play(question.own, start, program, _limit(limit), capped(counts)):
             left, fired, stopped = found

@@ -111,9 +111,7 @@ def chains(
         raise ValueError("the graph has only its sink, and so no vertex to drop on")
     chips = read_chips(chips, known) if isinstance(chips, FILE) else chips
     play = _Chains(known, n, drops, known_seed(seed), chips)
-    workers = min(
-        n, min(processors(), 64) if workers is None else as_int(workers, "workers", 1, 64)
-    )
+    workers = _threads(n, workers)
     pieces = []
     if fired or until:
         ends = [n * it // workers for it in range(workers + 1)]
@@ -123,6 +121,13 @@ def chains(
     else:
         run_in_threads(play.whole, n, workers)
     return play.told(_in_order(known, pieces, n * drops) if fired else None)
+
+
+def _threads(n: int, workers: int | None) -> int:
+    """How many threads play n chains."""
+    if workers is None:
+        workers = min(processors(), 64)
+    return min(n, as_int(workers, "workers", 1, 64))
 
 
 class _Chains:

@@ -133,7 +133,12 @@ def in_calls(
         library.avalanches(graph, where, many, left, rows[0], rows[1], rows[2], limit=limit)
         start = part.stop
         took = time.monotonic() - begun
-        some = 32 * some if took < 0.003 else 2 * some if took < 0.1 else some // 2 or 1
+        if took < 0.003:
+            some = 32 * some
+        elif took < 0.1:
+            some = 2 * some
+        else:
+            some = some // 2 or 1
     return min(some, len(at) or 1)
 
 

@@ -76,7 +76,9 @@ class _Range:
     def __init__(self, least: int, most: int, near: int) -> None:
         offsets, self.counts = zip(*_places(most - least))
         self.logs = [math.log1p((offset + (least - near)) / near) for offset in offsets]
-        self.first, self.last, self.numpy = self.logs[0], self.logs[-1], import_optional("numpy")
+        self.first = self.logs[0]
+        self.last = self.logs[-1]
+        self.numpy = import_optional("numpy")
         self.arrays = [*map(self.numpy.array, (self.counts, self.logs))] if self.numpy else []
 
     def moments(self, exponent: float) -> tuple[float, float]:

@@ -73,7 +73,8 @@ def _undirected(graph: Graph) -> Outs:
 def _tree(sink: int, outs: Outs, draw: random.Random) -> tuple[list[int], list[int]]:
     """A random spanning tree: which of its chips goes to the next vertex, and how many edges lead to the sink."""
     chance = draw.random
-    (steps, depth) = ([0] * len(outs), [0] * len(outs))
+    steps = [0] * len(outs)
+    depth = [0] * len(outs)
     order = [*range(len(outs))]
     places = [*range(len(outs))]
     fixed = 1

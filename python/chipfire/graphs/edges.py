@@ -22,14 +22,24 @@ def edge_rows(edges: Iterable[Any], is_directed: bool) -> list[tuple[Any, ...]]:
     multiplicity. A row that has no order is an edge only if it leads both ways."""
     rows: list[tuple[Any, ...]] = []
     for edge, row in enumerate(_given_rows(edges, is_directed)):
-        is_one = isinstance(row, Iterable) and not isinstance(row, (str, bytes, Mapping))
-        is_one = is_one and not (isinstance(row, Set) and (is_directed or len(row) > 2))
-        fields = tuple(row.tolist() if hasattr(row, "tolist") else row) if is_one else ()
+        fields = _fields_of(row, is_directed)
         if len(fields) not in (2, 3) or any(isinstance(it, (list, set)) for it in fields):
             raise ValueError(f"edge {edge} is neither (tail, head) nor (tail, head, mult): {row!r}")
-        mult = fields[2] if len(fields) > 2 else 1
-        rows.append((*fields[:2], mult.get("weight", 1) if isinstance(mult, Mapping) else mult))
+        tail, head, *rest = fields
+        mult = rest[0] if rest else 1
+        if isinstance(mult, Mapping):
+            mult = mult.get("weight", 1)
+        rows.append((tail, head, mult))
     return rows
+
+
+def _fields_of(row: Any, is_directed: bool) -> tuple[Any, ...]:
+    """What stands in the row of an edge; nothing, if it is no row."""
+    if not isinstance(row, Iterable) or isinstance(row, (str, bytes, Mapping)):
+        return ()
+    if isinstance(row, Set) and (is_directed or len(row) > 2):
+        return ()
+    return tuple(row.tolist() if hasattr(row, "tolist") else row)
 
 
 def _given_rows(edges: Any, is_directed: bool) -> Iterable[Any]:
@@ -50,13 +60,11 @@ def _given_rows(edges: Any, is_directed: bool) -> Iterable[Any]:
     except TypeError:
         found = None
     if not isinstance(found, Iterable):
-        hint = (
-            ": see from_networkx"
-            if is_of_networkx(edges)
-            else ": see from_edges"
-            if hasattr(edges, "iloc")
-            else ""
-        )
+        hint = ""
+        if is_of_networkx(edges):
+            hint = ": see from_networkx"
+        elif hasattr(edges, "iloc"):
+            hint = ": see from_edges"
         raise TypeError(f"edges are rows (tail, head, mult), and this is a {kind}{hint}")
     if hasattr(edges, "toarray"):
         raise TypeError(f"edges are rows (tail, head, mult), and this is a {kind}, as of a matrix")
@@ -68,15 +76,9 @@ def edge_columns(edges: Iterable[Any]) -> Columns:
     rows = edge_rows(edges, True)
 
     def column(place: int, what: str) -> array[int]:
-        return array(
-            "i",
-            as_ints(
-                [row[place] for row in rows],
-                lambda edge: f"the {what} of edge {edge}",
-                0,
-                2**31 - 1,
-            ),
-        )
+        values = [row[place] for row in rows]
+        numbers = as_ints(values, lambda edge: f"the {what} of edge {edge}", 0, 2**31 - 1)
+        return array("i", numbers)
 
     return Columns(column(0, "tail"), column(1, "head"), column(2, "multiplicity"))
 

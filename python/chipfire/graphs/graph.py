@@ -40,6 +40,25 @@ _MOST_FILES = 64
 _FILES_LOCK = threading.Lock()
 
 
+def _checked_names(names: tuple[Hashable, ...], vertices: int) -> tuple[Hashable, ...]:
+    """Names, if there are none, or one for each vertex, all different."""
+    if names and len(names) != vertices:
+        raise ValueError(f"there are {len(names)} names, and the graph has {vertices} vertices")
+    if len({*names}) < len(names):
+        raise ValueError(f"two vertices are called {Counter(names).most_common(1)[0][0]!r}")
+    return names
+
+
+def _checked_loops(loops: Sequence[int], vertices: int, sink: int) -> Sequence[int]:
+    """Loops of each vertex, 0 of the sink; none, if no vertex has one."""
+    held = [*as_ints(loops, lambda at: f"the loops of vertex {at}")]
+    if held and len(held) != vertices:
+        raise ValueError(f"there are loops of {len(held)} vertices, and the graph has {vertices}")
+    if sink < len(held):
+        held[sink] = 0
+    return held if any(held) else ()
+
+
 class Graph:
     """A directed multigraph with a sink: the sandpile graph.
 
@@ -77,30 +96,19 @@ class Graph:
     ) -> None:
         vertices = as_int(vertices, "the number of vertices")
         sink = as_int(sink, "the sink")
-        names = tuple(names)
-        if names and len(names) != vertices:
-            raise ValueError(f"there are {len(names)} names, and the graph has {vertices} vertices")
-        if len({*names}) < len(names):
-            raise ValueError(f"two vertices are called {Counter(names).most_common(1)[0][0]!r}")
-        held = [
-            count * (at != sink)
-            for at, count in enumerate(as_ints(loops, lambda at: f"the loops of vertex {at}"))
-        ]
-        if held and len(held) != vertices:
-            raise ValueError(
-                f"there are loops of {len(held)} vertices, and the graph has {vertices}"
-            )
-        vars(self).update(
-            vertices=vertices,
-            sink=sink,
-            columns=edges if isinstance(edges, Columns) else edge_columns(edges),
-            names=names or range(vertices),
-            answers={},
-            **({} if shape is None else {"shape": shape}),
-            squares=range(vertices - (sink == vertices - 1)) if squares is None else squares,
-            from_sink=from_sink,
-            loops=held if any(held) else (),
-        )
+        if squares is None:
+            squares = range(vertices - (sink == vertices - 1))
+        stored = vars(self)  # (since a graph is never changed, no attribute can be set)
+        stored["vertices"] = vertices
+        stored["sink"] = sink
+        stored["names"] = _checked_names(tuple(names), vertices) or range(vertices)
+        stored["loops"] = _checked_loops(loops, vertices, sink)
+        stored["columns"] = edges if isinstance(edges, Columns) else edge_columns(edges)
+        stored["from_sink"] = from_sink
+        stored["squares"] = squares
+        if shape is not None:
+            stored["shape"] = shape
+        stored["answers"] = {}
 
     def __setattr__(self, name: str, value: Any) -> None:
         raise AttributeError("a graph is never changed: make another one")

@@ -54,12 +54,7 @@ def grid(
         raise ValueError(
             f"there are {2 + len(more)} directions, and {len(joined)} are periodic or not"
         )
-    if any(
-        is_joined and (size < 2 or size % 2 and lattice == "hexagonal")
-        for is_joined, size in zip(joined, given)
-    ):
-        least = "an even size" if lattice == "hexagonal" else "a size of 2 or more"
-        raise ValueError(f"a periodic direction has {least}, and the sizes are {given}")
+    _require_periodic_sizes(given, joined, lattice)
     extents = given[::-1]
     sink = math.prod(given)
     shape = (sink // given[0], given[0])
@@ -72,6 +67,14 @@ def grid(
         raise ValueError("no chip leaves a grid that is periodic on all sides: it takes a loss")
     edges = _lattice_edges(extents, joined[::-1], lattice, range(sink), losses)
     return Graph(sink + 1, sink, edges, shape=shape, from_sink=None)
+
+
+def _require_periodic_sizes(sizes: Sequence[int], joined: Sequence[bool], lattice: str) -> None:
+    """Refuses sizes of which one that is periodic cannot be joined with itself."""
+    for size, is_joined in zip(sizes, joined):
+        if is_joined and (size < 2 or size % 2 and lattice == "hexagonal"):
+            least = "an even size" if lattice == "hexagonal" else "a size of 2 or more"
+            raise ValueError(f"a periodic direction has {least}, and the sizes are {sizes}")
 
 
 def _lattice_edges(
@@ -187,8 +190,9 @@ def region(mask: Iterable[Iterable[Any]], lattice: str = "square") -> Graph:
 
 def _mask_row(row: Any) -> list[Any]:
     """A row of a mask."""
-    is_one = isinstance(row, Iterable) and not isinstance(row, (bytes, Set, Mapping))
-    found = [it.tolist() if hasattr(it, "tolist") else it for it in row] if is_one else [str(row)]
+    found = [str(row)]
+    if isinstance(row, Iterable) and not isinstance(row, (bytes, Set, Mapping)):
+        found = [it.tolist() if hasattr(it, "tolist") else it for it in row]
     if not all(isinstance(it, (int, float)) and it == it for it in found):
         raise TypeError(f"a row of a mask has true and false, and is not {found}")
     return found

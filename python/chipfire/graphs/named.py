@@ -3,7 +3,7 @@
 from __future__ import annotations
 
 import math
-from collections.abc import Hashable, Iterable
+from collections.abc import Hashable, Iterable, Mapping
 from decimal import Decimal
 from fractions import Fraction
 from typing import Any
@@ -20,50 +20,24 @@ def parts_of_named(
     scale: int = 1,
 ) -> dict[str, Any]:
     """What `Graph` takes for a graph of named vertices. Edges out of the sink are in the Laplacian alone, since it never fires."""
-    sink = sink.tolist() if hasattr(sink, "tolist") else sink
-    names = list(names)
-    edges = list(edges)
-    is_one = not isinstance(sink, (list, set, frozenset))
-    if not all(isinstance(it, Hashable) for it in ([sink] if is_one else sink)):
-        raise TypeError(
-            f"a sink is the name of a vertex, or a list or set of them, and no {type(sink).__name__}"
-        )
-    edges += [] if is_directed else [(head, tail, mult) for tail, head, mult in edges]
-    several = {sink} if is_one else {*sink}
-    known = {*names}
-    for name in several:
-        if name not in known:
-            raise KeyError(f"the graph has no vertex {name!r}")
-    if not several:
-        raise ValueError("the list of sinks is empty")
-    if not is_one:
-        names = [*(name for name in names if name not in several), "sink"]
-        sink = "sink"
-        if "sink" in names[:-1]:
-            raise ValueError(
-                "a vertex that is none of the sinks is called 'sink', as the one that they become"
-            )
     if loops not in (None, "drop", "sage"):
         raise ValueError(
             f"loops are left out ('drop') or played as by SageMath ('sage'), and not {loops!r}"
         )
-    numbers = {name: vertex for vertex, name in enumerate(names)}
-    numbers |= dict.fromkeys(several, numbers[sink])
-    scale = as_int(scale, "the scale of weights", 1)
-    at = numbers[sink]
+    names, numbers, at = _numbered(list(names), sink)
+    edges = list(edges)
+    if not is_directed:
+        edges += [(head, tail, mult) for tail, head, mult in edges]
+    rows = _numbered_rows(edges, numbers, as_int(scale, "the scale of weights", 1))
     held = [0] * len(names)
-    of = "the multiplicity" if scale == 1 else f"{scale} times the weight"
-    rows = [
-        (
-            numbers[tail],
-            numbers[head],
-            as_int(_scaled(mult, scale), f"{of} of the edge from {tail!r} to {head!r}", 1),
-        )
-        for tail, head, mult in edges
-    ]
     for tail, head, mult in rows if loops == "sage" else ():
-        held[tail] += mult * (tail == head)
-    kept = [row for row in rows if row[0] != at and not (loops and row[0] == row[1])]
+        if tail == head:
+            held[tail] += mult
+    kept = [
+        (tail, head, mult)
+        for tail, head, mult in rows
+        if tail != at and not (loops and tail == head)
+    ]
     back = [(head, mult) for tail, head, mult in rows if tail == at != head]
     return {
         "vertices": len(names),
@@ -73,6 +47,47 @@ def parts_of_named(
         "from_sink": back,
         "loops": held,
     }
+
+
+def _numbered(names: list[Any], sink: Any) -> tuple[list[Any], dict[Any, int], int]:
+    """The names of the vertices, of which several sinks become one, the last; their numbers; and the sink's."""
+    sink = sink.tolist() if hasattr(sink, "tolist") else sink
+    is_one = not isinstance(sink, (list, set, frozenset))
+    sinks = [sink] if is_one else [*sink]
+    if not all(isinstance(it, Hashable) for it in sinks):
+        raise TypeError(
+            f"a sink is the name of a vertex, or a list or set of them, and no {type(sink).__name__}"
+        )
+    known = {*names}
+    for name in sinks:
+        if name not in known:
+            raise KeyError(f"the graph has no vertex {name!r}")
+    if not sinks:
+        raise ValueError("the list of sinks is empty")
+    if not is_one:
+        names = [*(name for name in names if name not in sinks), "sink"]
+        sink = "sink"
+        if "sink" in names[:-1]:
+            raise ValueError(
+                "a vertex that is none of the sinks is called 'sink', as the one that they become"
+            )
+    numbers = {name: vertex for vertex, name in enumerate(names)}
+    return names, {**numbers, **dict.fromkeys(sinks, numbers[sink])}, numbers[sink]
+
+
+def _numbered_rows(
+    edges: Iterable[tuple[Any, ...]], numbers: Mapping[Any, int], scale: int
+) -> list[tuple[int, int, int]]:
+    """Edges by the numbers of their ends, with their weights times the scale, which are whole numbers above 0."""
+    of = "the multiplicity" if scale == 1 else f"{scale} times the weight"
+    return [
+        (
+            numbers[tail],
+            numbers[head],
+            as_int(_scaled(mult, scale), f"{of} of the edge from {tail!r} to {head!r}", 1),
+        )
+        for tail, head, mult in edges
+    ]
 
 
 def _scaled(weight: Any, scale: int) -> Any:

@@ -232,9 +232,10 @@ class WorkStealing(Computation):
         return [(self.start, self.depth)]
 
     def on_message(self, state: Any, edge: int, load: Any) -> Sends:
-        state.tasks, state.done = (*state.tasks, *[load - 1] * (2 if load else 0)), state.done + (
-            not load
-        )
+        if load:
+            state.tasks = (*state.tasks, load - 1, load - 1)
+        else:
+            state.done += 1
         return ()
 
     def is_passive(self, state: Any) -> bool:

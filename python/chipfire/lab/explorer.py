@@ -103,21 +103,8 @@ class _Search:
         self.most = as_int(most, "most", 1)
         self.core: Core = opened(setting, detector)
         self.shared = _shared(self.core, setting)
-        self.feeds = [
-            (as_int(at, "the edge of a feed"), as_int(count, "a feed", 1)) for at, count in feeds
-        ]
-        if self.feeds and not setting.fed:
-            raise ValueError("there are feeds, and the setting is not fed")
-        edges = range(self.core.graph_edges, len(self.core.edges))
-        if strange := [at for at, _ in self.feeds if at not in edges]:
-            raise ValueError(
-                f"edge {strange[0]} is none of the root's, which are {edges.start} to {edges.stop - 1}"
-            )
-        self.seals = [
-            as_int(at, "the edge of a seal", 0, self.core.graph_edges - 1) for at in seals
-        ]
-        if self.seals and not isinstance(setting, Setting):
-            raise ValueError("there are seals, and the game is not one of chip-firing")
+        self.feeds = self._taken_feeds(feeds)
+        self.seals = self._taken_seals(seals)
         self.opening = sum(len(e.sent) for e in self.core.outs(-1))
         self.states = States(self.core)
         start = self.states.noted()
@@ -137,6 +124,28 @@ class _Search:
         self.steps: list[Step] = []
         self.places_of_steps: dict[tuple[str, int, int], int] = {}
         self.is_whole = True
+
+    def _taken_feeds(self, feeds: Iterable[Sequence[int]]) -> list[tuple[int, int]]:
+        """Feeds as the edges and the numbers of chips; what cannot be fed is refused."""
+        found = [
+            (as_int(at, "the edge of a feed"), as_int(count, "a feed", 1)) for at, count in feeds
+        ]
+        if found and not self.setting.fed:
+            raise ValueError("there are feeds, and the setting is not fed")
+        edges = range(self.core.graph_edges, len(self.core.edges))
+        if strange := [at for at, _ in found if at not in edges]:
+            raise ValueError(
+                f"edge {strange[0]} is none of the root's, which are {edges.start} to {edges.stop - 1}"
+            )
+        return found
+
+    def _taken_seals(self, seals: Iterable[int]) -> list[int]:
+        """The edges that may be sealed; those of another game than chip-firing are refused."""
+        last = self.core.graph_edges - 1
+        found = [as_int(at, "the edge of a seal", 0, last) for at in seals]
+        if found and not isinstance(self.setting, Setting):
+            raise ValueError("there are seals, and the game is not one of chip-firing")
+        return found
 
     def result(self) -> Explored:
         """Searches, and plays what was found once more."""

@@ -69,15 +69,18 @@ class Judged:
         """What is left at that claim."""
         return self._said.left if self._said else ()
 
+    def _said_of_replies(self) -> str:
+        if self.row is None:
+            return "each reply is that of the right detector"
+        if self.fits:
+            return f"row {self.row}: the log says {self.told!r}, the right detector {self.right!r}"
+        return (
+            f"the log does not fit the game: row {self.row} says {self.told!r}, and the game "
+            f"{self.right!r}; what follows is not judged"
+        )
+
     def __str__(self) -> str:
-        said = [
-            "each reply is that of the right detector"
-            if self.row is None
-            else f"row {self.row}: the log says {self.told!r}, the right detector {self.right!r}"
-            if self.fits
-            else f"the log does not fit the game: row {self.row} says {self.told!r}, and the game {self.right!r}; what "
-            "follows is not judged"
-        ]
+        said = [self._said_of_replies()]
         if self._said is not None:
             rest = (
                 f", and left are: {'; '.join(self.left)}" if self.left else ", and nothing is left"

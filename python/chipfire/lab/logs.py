@@ -172,17 +172,14 @@ class _Rows:
 
     def kept(self) -> Kept:
         """The file that the program reads; a row that is none has one field there."""
-        rows = [
-            (
-                self.processes[row[0]],
-                row[1],
-                self.channels[row[2]] if row[1] in _SENDS + _GETS else 0,
-            )
-            if row
-            else [""]
-            for _, row in self.rows
-        ]
+        rows = [self._numbered(row) if row else ("",) for _, row in self.rows]
         return Kept([rows_text(_HEADER, rows).encode(errors="replace")])
+
+    def _numbered(self, row: Sequence[Any]) -> tuple[Any, ...]:
+        """A row by the numbers of its process and its channel."""
+        process, kind, channel = row
+        has_channel = kind in _SENDS + _GETS
+        return self.processes[process], kind, self.channels[channel] if has_channel else 0
 
     def own(self, process: Hashable, count: int) -> int:
         """How many of the first rows of a process were given."""
@@ -315,7 +312,8 @@ def read_shiviz(
             message = _sent(it, clocks[it.host], places) if it.message is None else it.message
             events[number] = it = it._replace(message=message)
             hosts[it.kind == "hear", message][it.host] = None
-        clocks[it.host], places[it.host, it.clock[it.host]] = it.clock, it
+        clocks[it.host] = it.clock
+        places[it.host, it.clock[it.host]] = it
     rows: list[Row] = []
     for it in events:
         its = (

@@ -155,8 +155,7 @@ class Sentences:
             )
             value = list(value)
         said = (known.get(f"{key} {value}") or known[key]).format(**words)
-        return (
-            said
-            if kind == "root"
-            else f"{self.vertex(index) if kind == 'vertices' else f'edge {index}'}: {said}"
-        )
+        if kind == "root":
+            return said
+        of = self.vertex(index) if kind == "vertices" else f"edge {index}"
+        return f"{of}: {said}"

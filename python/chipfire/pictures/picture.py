@@ -259,7 +259,7 @@ class Drawn(AsArray):
         colours = colours_of(palette or ("viridis" if scale else "colours"))
         last = len(colours) - 2
         most = None
-        numbers = [last if count > last else count if count > 0 else 0 for count in values]
+        numbers = [max(0, min(count, last)) for count in values]
         if scale:
             if scale not in _SPREADS:
                 raise ValueError(f"a scale is 'linear' or 'log', and not {scale!r}")

@@ -13,6 +13,7 @@ import unittest
 import chipfire
 
 PACKAGE = os.path.dirname(chipfire.__file__)
+ROOT = os.path.dirname(os.path.dirname(os.path.dirname(os.path.realpath(__file__))))
 #: The names of the modules in the package and its rooms, each room by its own `__init__`.
 MODULES = sorted(
     os.path.relpath(f"{folder}/{name}", PACKAGE)[:-3].replace(os.sep, ".")
@@ -80,6 +81,17 @@ class Modules(unittest.TestCase):
             lowest = {module for module, others in below.items() if not others & below.keys()}
             self.assertTrue(lowest, below)
             below = {module: others for module, others in below.items() if module not in lowest}
+
+    def test_each_module_imports_those_before_it_in_the_drawing(self):
+        with open(f"{ROOT}/docs/ARCHITECTURE.md", encoding="utf-8") as file:
+            drawing = file.read().partition("```rooms\n")[2].partition("```")[0]
+        order = []
+        for room, *names in (line.replace(",", "").split() for line in drawing.splitlines()):
+            order += [f"{room}.{name}" for name in names] or [room]
+        inner = {it for it in MODULES if not it.endswith("__init__")} - NAMES_OF_BEFORE - {"__main__"}
+        self.assertEqual(sorted(order), sorted(inner))
+        for place, module in enumerate(order):
+            self.assertLessEqual(set(imported(module)), {*order[:place]}, module)
 
     def test_the_package_itself_only_hands_on(self):
         body = tree_of("__init__").body

@@ -119,6 +119,6 @@ class Built(Room):
         self.assertEqual(self.runs(calls), "")
 
     def test_the_example_answers_what_the_page_shows(self):
-        shown = re.search(r"^\$ \./grid\n(.*?)^(?:\$|```)", text_of(PAGE), re.DOTALL | re.MULTILINE)[1]
+        shown = re.search(r"^\$ target/grid\n(.*?)^(?:\$|```)", text_of(PAGE), re.DOTALL | re.MULTILINE)[1]
         for program in self.programs(EXAMPLE):
             self.assertEqual(self.runs(program), shown)

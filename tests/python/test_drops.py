@@ -66,7 +66,7 @@ class Rows(WithFolder):
 
         found = chipfire.drops(TRIANGLE, [4, 0, 0], numpy.array([0, 1], "u1"))
         self.assertEqual((type(found.lost), found.lost.dtype, rows_of(found)), (numpy.ndarray, "q", [(1, 1, 1)] * 2))
-        with mock.patch("chipfire.dropped.imported", return_value=None):
+        with mock.patch("chipfire.ensembles.drops.import_optional", return_value=None):
             found = chipfire.drops(TRIANGLE, [4, 0, 0], numpy.array([0, 1]))
         self.assertEqual((type(found.lost), rows_of(found)), (array.array, [(1, 1, 1)] * 2))
 

@@ -15,8 +15,8 @@ from concurrent.futures import ThreadPoolExecutor
 from unittest import mock
 
 import chipfire
-from chipfire import ensembles
 from chipfire import utils as values
+from chipfire.ensembles import chains as chain_module
 from test_counts import slow_report
 from test_drops import rows_of, slow_rows
 from test_package import CHIPS_FILE, TRIANGLE
@@ -57,7 +57,7 @@ class Recurrent(unittest.TestCase):
         lonely = chipfire.Graph(1, 0, [])
         for graph in (chipfire.grid(20, 20), chipfire.cycle(60), MULTIGRAPH, LOSSY, heavy, lonely):
             together = chipfire.random_recurrent(graph, 1, 1100)
-            with mock.patch("chipfire.ensembles.imported", return_value=None):
+            with mock.patch("chipfire.ensembles.wilson.import_optional", return_value=None):
                 self.assertEqual(chipfire.random_recurrent(graph, 1, 1100), together)
 
     def test_what_there_is_no_memory_for_is_refused_before_it_begins(self):
@@ -129,13 +129,13 @@ class Chains(unittest.TestCase):
         self.assertEqual(*([it.tolist() for it in of.size] for of in (one, other)))
 
     def test_as_many_threads_play_as_there_are_processors_for_this_process(self):
-        grid, side_by_side = chipfire.grid(3, 3), "chipfire.ensembles.side_by_side"
+        grid, side_by_side = chipfire.grid(3, 3), "chipfire.ensembles.chains.run_in_threads"
         for given in ({5}, {1, 2, 6}):
             with mock.patch("os.sched_getaffinity", return_value=given), mock.patch("os.cpu_count", return_value=40):
-                with mock.patch(side_by_side, wraps=ensembles.side_by_side) as played:
+                with mock.patch(side_by_side, wraps=chain_module.run_in_threads) as played:
                     chipfire.chains(grid, 9, 5, 1)
                 self.assertEqual(played.call_args[0][2], len(given))
-                with mock.patch("chipfire.animation.ThreadPoolExecutor", wraps=ThreadPoolExecutor) as pool:
+                with mock.patch("chipfire.pictures.animation.ThreadPoolExecutor", wraps=ThreadPoolExecutor) as pool:
                     chipfire.frames(grid, 5)
                 self.assertEqual(pool.call_args[0][0], len(given))
         with mock.patch("os.sched_getaffinity"), mock.patch("os.cpu_count", return_value=3):
@@ -168,7 +168,9 @@ class Chains(unittest.TestCase):
     def test_the_numbers_without_numpy_are_the_same(self):
         grid = chipfire.grid(5, 3)
         found = chipfire.chains(grid, 3, 2000, 1)
-        with mock.patch("chipfire.ensembles.imported", return_value=None):
+        without = {"return_value": None}
+        with mock.patch("chipfire.ensembles.chains.import_optional", **without), \
+                mock.patch("chipfire.ensembles.wilson.import_optional", **without):
             other = chipfire.chains(grid, 3, 2000, 1)
         for name in ("size", "extent", "lost", "chips"):
             self.assertEqual([it.tolist() for it in getattr(other, name)], getattr(found, name).tolist())
@@ -263,7 +265,7 @@ class Chains(unittest.TestCase):
         if has("numpy"):
             with self.assertRaisesRegex(ValueError, "no grid"):
                 chipfire.chains(chipfire.complete(4), 1, 1, 1, until="spans")
-        with mock.patch("chipfire.ensembles.imported", side_effect=ImportError("which is not installed")):
+        with mock.patch("chipfire.ensembles.chains.import_optional", side_effect=ImportError("which is not installed")):
             with self.assertRaises(ImportError):
                 chipfire.chains(TRIANGLE, 1, 1, 1, chips=0, fired=True)
 

@@ -91,7 +91,7 @@ class Many(unittest.TestCase):
             self.assertEqual((found.shape, found.dtype), ((50, 3), "q"))
             self.assertEqual(found.tolist(), [list(slow_report(TRIANGLE, row).chips) for row in rows.tolist()])
         self.assertEqual(chipfire.stabilize_many(TRIANGLE, rows[:0]).shape, (0, 3))
-        with mock.patch("chipfire.sandpiles.imported", return_value=None):
+        with mock.patch("chipfire.configurations.stabilization.import_optional", return_value=None):
             self.assertEqual(chipfire.stabilize_many(TRIANGLE, rows), list(map(tuple, found.tolist())))
 
     def test_what_is_no_configuration_is_told_with_its_row(self):

@@ -118,7 +118,7 @@ class PowerLaw(unittest.TestCase):
 
     def test_the_line_of_sizes_far_above_the_least_one(self):
         axes = mock.MagicMock()
-        with mock.patch("chipfire.powers.imported", return_value=None):
+        with mock.patch("chipfire.ensembles.power_law.import_optional", return_value=None):
             chipfire.plot_sizes([10**6] * 100 + [10**6 + 1], axes=axes)
         (at, line), _ = axes.loglog.call_args
         # (the largest one is as often as it was seen, by a geometric law, and the least one never)

@@ -198,7 +198,7 @@ class Chains(unittest.TestCase):
     def test_vertices_that_fired_have_their_names(self):
         # (whole numbers that are not those of the vertices, names of any kind, and several sinks)
         square = [(0, 1), (1, 2), (2, 3), (3, 0), (2, 4), (0, 4), (4, 1)]
-        kinds = [{0: 4, 4: 0}, {0: 30, 1: -7, 2: 10**12, 3: 1, 4: 2}, {1: "b", 2: (2, 0), 3: None}, {0: 2**63}, {1: 1.5}]
+        kinds = [{0: 4, 4: 0}, {0: 30, 1: -7, 2: 10**12, 3: 1, 4: 2}, {1: "b", 2: (2, 0), 3: "c"}, {0: 2**63}, {1: 1.5}]
         graphs = [chipfire.Graph.undirected([[names.get(it, it) for it in edge] for edge in square], names.get(3, 3))
                   for names in kinds]
         graphs.append(chipfire.Graph.undirected([*square, (4, 5), (5, 6)], [1, 6]))

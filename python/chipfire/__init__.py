@@ -58,8 +58,13 @@ if _sys.version_info < (3, 9):
     _this = ".".join(map(str, _sys.version_info[:3]))
     raise ImportError(f"chipfire requires Python >=3.9, and {_sys.executable} is Python {_this}")
 
-from chipfire.backend import library
-from chipfire.lab import machine
+from chipfire.backend import library as library
+from chipfire.lab import (
+    computations as computations,
+    detectors as detectors,
+    machine,
+    model as model,
+)
 from chipfire.pictures.animation import Frames, frames, frames_by_chips
 from chipfire.configurations.configuration import CHIPS_HEADER as CHIPS_HEADER, Chips, Configuration
 from chipfire.lab.choosing import choice_page

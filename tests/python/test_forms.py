@@ -404,12 +404,14 @@ class Table(unittest.TestCase):
                 numbers = [*told, 0][:7] if is_plain and len(told) < 7 else told
                 self.check(call, make(), call(numbers) if is_plain else None, told)
 
+    @unittest.skipUnless(chipfire.find_library(), "some forms are results of the library")
     def test_forms_that_look_like_rows_of_one_square(self):
         for name, make, told in forms():
-            if isinstance(told,
-                str) and "another graph" not in told and "vertices" not in told and name not in ("sets", "dicts"):
-                with self.subTest(form=name), self.assertRaises((TypeError, ValueError, KeyError)):
-                    TALL.chips(make())
+            is_other = not isinstance(told, str) or "another graph" in told or "vertices" in told
+            if is_other or name in ("sets", "dicts"):
+                continue
+            with self.subTest(form=name), self.assertRaises((TypeError, ValueError, KeyError)):
+                TALL.chips(make())
         for wrong in ([{3}] * 6, [{3: 1}] * 6, [b"3"] * 6):
             with self.assertRaisesRegex(TypeError, "of vertex 0 is no whole number"):
                 TALL.chips(wrong)

@@ -53,11 +53,12 @@ def _numbered(names: list[Any], sink: Any) -> tuple[list[Any], dict[Any, int], i
     """The names of the vertices, of which several sinks become one, the last; their numbers; and the sink's."""
     sink = sink.tolist() if hasattr(sink, "tolist") else sink
     is_one = not isinstance(sink, (list, set, frozenset))
-    sinks = [sink] if is_one else [*sink]
-    if not all(isinstance(it, Hashable) for it in sinks):
+    given = [sink] if is_one else [*sink]
+    if not all(isinstance(it, Hashable) for it in given):
         raise TypeError(
             f"a sink is the name of a vertex, or a list or set of them, and no {type(sink).__name__}"
         )
+    sinks = dict.fromkeys(given)
     known = {*names}
     for name in sinks:
         if name not in known:

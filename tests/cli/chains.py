@@ -14,7 +14,7 @@ import tempfile
 NO_LIMIT = 2**40
 ROUNDS = 100_000
 #: The folder of chipfire.model, from examples/.
-MODEL = "../python/chipfire"
+MODEL = "../python/chipfire/lab"
 SECONDS = 60
 
 

@@ -1,5 +1,5 @@
 """Detectors that answer the exercises of docs/tasks/exercises.md. `python -m chipfire explore` ends with 0 for each."""
-from chipfire.lab.model import Core
+from chipfire.model import Core
 from given import Arrived, TwoCounters
 
 

@@ -1,5 +1,5 @@
 """Detectors that the exercises of docs/tasks/exercises.md begin with. Each closes the root too early."""
-from chipfire.lab.model import Core
+from chipfire.model import Core
 
 
 class Arrived(Core):

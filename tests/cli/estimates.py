@@ -1,4 +1,4 @@
-"""Games whose counts are searched for long: the chips that are still to move, as `--progress` tells them.
+"""Games whose counts are searched for long: by how many chips a try is off, as `--progress` tells it.
 
 A line comes once a second at most. So each program is stopped for a second time and again, and tells something whenever
 it goes on. Each search lasts some ten times as long as a program runs between two stops. The chips are at least 1 and at
@@ -13,7 +13,7 @@ import tempfile
 import time
 
 SECONDS, RUN, STOPPED, TRIES = 120, 0.02, 1.02, 5
-GUESSING = re.compile(rb"chipfire: progress: guessing, [0-9]+ steps, ([0-9]+) chips still to move\n")
+GUESSING = re.compile(rb"chipfire: progress: guessing, [0-9]+ steps, this try is off by ([0-9]+) chips\n")
 
 
 def grid(rows, columns):
@@ -71,5 +71,5 @@ def play_slowly(program):
     for name, (_, chips) in GAMES.items():
         told, total = [int(it) for it in GUESSING.findall(said[name])], sum(chips.values())
         wrong = [] if told and statuses[name] == 0 else [f"status {statuses[name]} after {said[name]!r}"]
-        wrong += [f"{it} of {total} chips still to move" for it in told if not 1 <= it <= total]
-        yield "estimates.py", f"the chips still to move of {name}", wrong
+        wrong += [f"off by {it} of {total} chips" for it in told if not 1 <= it <= total]
+        yield "estimates.py", f"by how many chips a try is off of {name}", wrong

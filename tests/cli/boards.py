@@ -3,12 +3,11 @@
 The games are small and drawn at random, and so are the events, those of a turn more often than others. What must come
 is known from chipfire.model, which shares nothing with the program: each reply, and the board behind it.
 """
-import json
-import random
-import tempfile
+import listed
+from chains import NO_LIMIT, Chain, faults_of, status_of
+from paths import model
 
-from chains import MODEL, NO_LIMIT, Chain, module_of, status_of
-
+GAMES = 200
 KINDS = ["take", "ack", "fire", "clear", "claim", "put", "settle"] * 20 + ["halt", "seal", "read"]
 EVENTS = 400
 OPEN = 3
@@ -32,7 +31,7 @@ class Schedule(Chain):
     def boards(self):
         """What of the program's answer is not as the slow simulation says."""
         limit, ring = self.draw.choice([NO_LIMIT, self.draw.randint(0, 4)]), self.draw.choice([1, 2, 64])
-        core = self.simulate.Core(self.graph, self.chips, limit, ring)
+        core = model().Core(self.graph, self.chips, limit, ring)
         rows, lines = ["event,at,count"], []
         for kind, at, count in self.events():
             rows.append(f"{kind},{at},{count}")
@@ -45,10 +44,5 @@ class Schedule(Chain):
         return self.differences([*words, "--ring", str(ring)], wanted, status)[1]
 
 
-def play_boards(program, examples, games):
-    """Runs so many random schedules, and returns for each its place, name and faults."""
-    simulate = module_of(f"{examples}/{MODEL}", "model")
-    for game in range(games):
-        with tempfile.TemporaryDirectory(prefix="chipfire-board-") as room:
-            schedule = Schedule(program, room, random.Random(f"board {game}"), None, simulate)
-            yield f"board {game}", f"{json.dumps(schedule.graph)} with {schedule.chips}", schedule.boards()
+def tests(program):
+    return listed.numbered(GAMES, faults_of, program, Schedule, "board", Schedule.boards)

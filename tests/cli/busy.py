@@ -5,6 +5,7 @@ The game is the chain of progress.py with 6 vertices before its sink. A queue's 
 have nothing to do, one a turn; a worker whose vertices are dealt out goes through them in the same order, a round at a
 time. So both are to take about as long. What counts is the least time of some plays of each, one after the other.
 """
+import functools
 import os
 import subprocess
 import sys
@@ -32,8 +33,8 @@ def least_times(program, room):
     return map(min, zip(*([seconds_of(words, room) for words in ways] for _ in range(PLAYS))))
 
 
-def play_busy(program):
-    """Yields the place of the check, its name and what was not as it must be."""
+def faults_of(program):
+    """What is not as it must be beside a busy process."""
     allowed = os.sched_getaffinity(0)
     os.sched_setaffinity(0, {min(allowed)})
     busy = subprocess.Popen([sys.executable, "-c", "while True: pass"])
@@ -45,5 +46,8 @@ def play_busy(program):
         busy.kill()
         busy.wait()
         os.sched_setaffinity(0, allowed)
-    wrong = [] if queue < TIMES * dealt + MORE else [f"it takes {queue:.3f} seconds, and dealt out {dealt:.3f}"]
-    yield "busy.py", "one worker goes on beside a busy process", wrong
+    return [] if queue < TIMES * dealt + MORE else [f"it takes {queue:.3f} seconds, and dealt out {dealt:.3f}"]
+
+
+def tests(program):
+    yield "one worker goes on beside a busy process", functools.partial(faults_of, program)

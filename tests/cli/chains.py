@@ -5,16 +5,18 @@ each further one goes on from the report that the program wrote, with a random l
 What must come is known from examples/play.py and chipfire.model, which share nothing with the program: the report
 of each sitting, and that all sittings together are a play that is never stopped.
 """
-import importlib.util
 import json
 import random
 import subprocess
 import tempfile
 
+import listed
+import play
+from paths import model
+
+GAMES = 300
 NO_LIMIT = 2**40
 ROUNDS = 100_000
-#: The folder of chipfire.model, from examples/.
-MODEL = "../python/chipfire/lab"
 SECONDS = 60
 
 
@@ -40,8 +42,8 @@ def status_of(report):
 class Chain:
     """One play in several sittings, with the files of each in a folder."""
 
-    def __init__(self, program, room, draw, play, simulate):
-        self.program, self.room, self.draw, self.play, self.simulate = program, room, draw, play, simulate
+    def __init__(self, program, room, draw):
+        self.program, self.room, self.draw = program, room, draw
         self.graph, self.chips = random_game(draw)
         self.write("graph.json", json.dumps(self.graph))
         rows = "".join(f"{vertex},{count}\n" for vertex, count in enumerate(self.chips))
@@ -64,8 +66,8 @@ class Chain:
         if self.draw.random() < 0.25:
             return self.sealed()
         limit, chips = self.draw.randint(0, 6), list(self.chips)
-        fired = self.play.play(self.graph, chips, limit, self.draw)
-        wanted = self.play.report(self.graph, chips, fired)
+        fired = play.play(self.graph, chips, limit, self.draw)
+        wanted = play.report(self.graph, chips, fired)
         words = ["plain", "graph.json", "chips.csv", "--limit", str(limit)]
         return self.differences(words, f"{wanted}\n", status_of(wanted))
 
@@ -73,7 +75,7 @@ class Chain:
         """A first sitting with an edge that is sealed before anything is sent on it."""
         edge = self.draw.randrange(len(self.graph["edges"]))
         self.write("schedule.csv", f"event,at,count\nseal,{edge},0\n")
-        core = self.simulate.Core(self.graph, self.chips, NO_LIMIT, 1)
+        core = model().Core(self.graph, self.chips, NO_LIMIT, 1)
         lines = [core.step("seal", edge)]
         core.drive(ROUNDS)
         report = core.report()
@@ -90,7 +92,7 @@ class Chain:
             if faults:
                 return faults
             self.write("report.json", report)
-            wanted = self.play.go_on(self.graph, json.loads(report), limit, self.draw)
+            wanted = play.go_on(self.graph, json.loads(report), limit, self.draw)
             option = [] if limit == NO_LIMIT else ["--limit", str(limit)]
             words = ["resume", "graph.json", "report.json", *option]
             report, faults = self.differences(words, f"{wanted}\n", status_of(wanted))
@@ -99,25 +101,20 @@ class Chain:
     def sum_of(self, last):
         """What is wrong with the sum of all sittings, of which this is the last one's report."""
         chips = list(self.chips)
-        fired = self.play.play(self.graph, chips, NO_LIMIT, self.draw)
+        fired = play.play(self.graph, chips, NO_LIMIT, self.draw)
         in_all = [a + b for a, b in zip(last["prior"], last["fired"])]
         is_well = (in_all, last["chips"]) == (fired, chips)
         shown = f"all sittings give {in_all} and {last['chips']}, one play gives {fired} and {chips}"
         return [] if is_well else [shown]
 
 
-def module_of(path, name):
-    """A script, to call what it has."""
-    spec = importlib.util.spec_from_file_location(name, f"{path}/{name}.py")
-    module = importlib.util.module_from_spec(spec)
-    spec.loader.exec_module(module)
-    return module
+def faults_of(number, program, kind, seed, asked):
+    """What is wrong with a game of this number: a method of a kind of `Chain` is asked for it."""
+    with tempfile.TemporaryDirectory(prefix="chipfire-game-") as room:
+        game = kind(program, room, random.Random(f"{seed} {number}"))
+        faults = asked(game)
+    return [f"{json.dumps(game.graph)} with {game.chips}", *faults] if faults else []
 
 
-def play_chains(program, examples, games):
-    """Plays so many chains, and returns for each its place, name and faults."""
-    play, simulate = module_of(examples, "play"), module_of(f"{examples}/{MODEL}", "model")
-    for game in range(games):
-        with tempfile.TemporaryDirectory(prefix="chipfire-chain-") as room:
-            chain = Chain(program, room, random.Random(game), play, simulate)
-            yield f"chain {game}", f"{json.dumps(chain.graph)} with {chain.chips}", chain.sittings()
+def tests(program):
+    return listed.numbered(GAMES, faults_of, program, Chain, "chain", Chain.sittings)

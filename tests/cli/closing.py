@@ -23,16 +23,20 @@ all.
 
 Rounds of the program's own close each example in as many rounds as its distances allow.
 """
+import functools
 import itertools
 import json
-import os
-import random
 import subprocess
 import tempfile
 
+import answers
+import listed
+import play
 from boards import OPEN, Schedule
-from chains import MODEL, NO_LIMIT, SECONDS, module_of, status_of
+from chains import NO_LIMIT, SECONDS, faults_of, status_of
+from paths import EXAMPLES, model
 
+GAMES = 300
 LENGTH = 10
 MOST_ROUNDS = 2**40
 
@@ -59,7 +63,7 @@ class Asking(Schedule):
         """The game, with what is told of it: how many steps count or are refused, and the rows and replies so far."""
         self.limit, self.ring = self.draw.choice([NO_LIMIT, self.draw.randint(0, 4)]), self.draw.randint(1, 3)
         self.fed = self.draw.random() < 0.5
-        self.core = self.simulate.Core(self.graph, self.chips, self.limit, self.ring, self.fed)
+        self.core = model().Core(self.graph, self.chips, self.limit, self.ring, self.fed)
         self.rows, self.lines, self.told, self.refused, self.feeds = ["event,at,count"], [], 0, 0, 0
         step = self.core.step
 
@@ -92,7 +96,7 @@ class Asking(Schedule):
         """How many steps can count or be refused, and how many messages there can be, of all chips that were given."""
         given = [sum(edge.sent) for edge in self.core.edges[self.core.graph_edges :]]
         self.whole = list(given)
-        self.fired = self.play.play(self.graph, self.whole, self.limit, self.draw)
+        self.fired = play.play(self.graph, self.whole, self.limit, self.draw)
         messages = sum(self.fired[tail] for tail, _, _ in self.graph["edges"]) + self.feeds
         starters = sum(1 for it in self.chips if it)
         counted = sum(self.fired) + 5 * messages + 3 * starters + len(given)
@@ -181,7 +185,7 @@ class Asking(Schedule):
         if (self.told, self.core.report()) != (told, report):
             return ["something stirred after the root was closed"]
         if not any(it.sealed for it in self.core.edges):
-            whole = self.play.report(self.graph, self.whole, self.fired)
+            whole = play.report(self.graph, self.whole, self.fired)
             faults = [] if report == whole else [f"{report}, and all chips at once come to {whole}"]
         self.write("schedule.csv", "".join(f"{row}\n" for row in self.rows))
         wanted = "".join(f"{line}\n" for line in [*self.lines, "root closed", report])
@@ -190,38 +194,25 @@ class Asking(Schedule):
         return faults + self.differences(words, wanted, status_of(report))[1]
 
 
-def play_closing(program, examples, games):
-    """Plays so many random games to their end, and returns for each its place, name and faults."""
-    play, simulate = module_of(examples, "play"), module_of(f"{examples}/{MODEL}", "model")
-    for game in range(games):
-        with tempfile.TemporaryDirectory(prefix="chipfire-closing-") as room:
-            asking = Asking(program, room, random.Random(f"closing {game}"), play, simulate)
-            yield f"closing {game}", f"{json.dumps(asking.graph)} with {asking.chips}", asking.closing()
-    yield from play_chain(program)
-    yield from play_rounds(program, examples)
-
-
 def last_line_of(program, words, room):
     """The status of a run, and the line of its answer that tells whether the root is closed."""
     ran = subprocess.run([program, "simulate", *words], cwd=room, stdout=subprocess.PIPE, timeout=SECONDS)
     return ran.returncode, [it for it in ran.stdout.decode().splitlines() if it.startswith("root ")]
 
 
-def play_chain(program):
-    """A chain by stretches that ask in the worst order: open after one fewer than it takes, and then closed."""
+def wrong_chain(program, stretches, wanted):
+    """What is wrong with a chain by so many stretches that ask in the worst order."""
     vertices = LENGTH + 1
     graph = {"edges": [[it, it + 1, 1] for it in range(LENGTH)], "sink": LENGTH, "version": 1, "vertices": vertices}
     stretch = [f"{kind},{at},{int(kind == 'fire')}" for kind, at in stretch_of(LENGTH, vertices)]
-    needed = 4 * LENGTH + 3
-    for stretches, wanted in ((needed - 1, (OPEN, ["root open"])), (needed, (0, ["root closed"]))):
-        with tempfile.TemporaryDirectory(prefix="chipfire-chain-") as room:
-            texts = {"graph.json": json.dumps(graph), "chips.csv": "vertex,chips\n0,1\n"}
-            texts["schedule.csv"] = "\n".join(["event,at,count", *stretch * stretches, ""])
-            for name, text in texts.items():
-                with open(f"{room}/{name}", "w", encoding="utf-8") as file:
-                    file.write(text)
-            got = last_line_of(program, ["graph.json", "chips.csv", "schedule.csv"], room)
-        yield "closing.py", f"a chain after {stretches} stretches", [] if got == wanted else [f"{got}, not {wanted}"]
+    with tempfile.TemporaryDirectory(prefix="chipfire-chain-") as room:
+        texts = {"graph.json": json.dumps(graph), "chips.csv": "vertex,chips\n0,1\n"}
+        texts["schedule.csv"] = "\n".join(["event,at,count", *stretch * stretches, ""])
+        for name, text in texts.items():
+            with open(f"{room}/{name}", "w", encoding="utf-8") as file:
+                file.write(text)
+        got = last_line_of(program, ["graph.json", "chips.csv", "schedule.csv"], room)
+    return [] if got == wanted else [f"{got}, not {wanted}"]
 
 
 def rounds_to_close(graph, chips):
@@ -238,18 +229,27 @@ def rounds_to_close(graph, chips):
     return (vertices + 5 * len(edges)) * min(NO_LIMIT, most) + 5 * total + vertices + 1
 
 
-def play_rounds(program, examples):
-    """Each example by rounds of turns alone, as many as surely close it, or as `--rounds` takes."""
-    for game in sorted(it.path for it in os.scandir(examples) if os.path.isfile(f"{it.path}/graph.json")):
-        with open(f"{game}/graph.json", encoding="utf-8") as file:
-            graph = json.load(file)
-        with open(f"{game}/chips.csv", encoding="utf-8") as file:
-            chips = [int(row.split(",")[1]) for row in file.read().split()[1:]]
-        rounds = min(rounds_to_close(graph, chips), MOST_ROUNDS)
-        with tempfile.NamedTemporaryFile("w", suffix=".csv", encoding="utf-8") as schedule:
-            schedule.write("event,at,count\n")
-            schedule.flush()
-            words = [f"{game}/graph.json", f"{game}/chips.csv", schedule.name, "--rounds", str(rounds)]
-            got = last_line_of(program, words, game)
-        faults = [] if got == (0, ["root closed"]) else [f"{got} after {rounds} rounds"]
-        yield "closing.py", f"{os.path.basename(game)} by {rounds} rounds", faults
+def wrong_rounds(program, name):
+    """What is wrong with an example by rounds of turns alone, as many as surely close it, or as `--rounds` takes."""
+    game = f"{EXAMPLES}/{name}"
+    with open(f"{game}/graph.json", encoding="utf-8") as file:
+        graph = json.load(file)
+    with open(f"{game}/chips.csv", encoding="utf-8") as file:
+        chips = [int(row.split(",")[1]) for row in file.read().split()[1:]]
+    rounds = min(rounds_to_close(graph, chips), MOST_ROUNDS)
+    with tempfile.NamedTemporaryFile("w", suffix=".csv", encoding="utf-8") as schedule:
+        schedule.write("event,at,count\n")
+        schedule.flush()
+        words = [f"{game}/graph.json", f"{game}/chips.csv", schedule.name, "--rounds", str(rounds)]
+        got = last_line_of(program, words, game)
+    return [] if got == (0, ["root closed"]) else [f"{got} after {rounds} rounds"]
+
+
+def tests(program):
+    """Yields random games, and then the chain, open after one stretch fewer than it takes, and the examples by rounds."""
+    yield from listed.numbered(GAMES, faults_of, program, Asking, "closing", Asking.closing)
+    needed = 4 * LENGTH + 3
+    for stretches, wanted in ((needed - 1, (OPEN, ["root open"])), (needed, (0, ["root closed"]))):
+        yield f"a chain after {stretches} stretches", functools.partial(wrong_chain, program, stretches, wanted)
+    for name in answers.games():
+        yield f"{name} by rounds", functools.partial(wrong_rounds, program, name)

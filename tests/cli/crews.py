@@ -8,6 +8,7 @@ and nothing is left but the vertices at their limit.
 A fed game has its chips in two files, those at the start and those that are fed; what must come is what play.py says of
 all of them together. Its trace replays on all chips where no vertex has some of both, since it then takes them at once.
 """
+import functools
 import json
 import random
 import subprocess
@@ -16,8 +17,11 @@ import tempfile
 from collections import Counter
 
 import chains
+import listed
 import progress
+from paths import EXAMPLES
 
+GAMES, FED_GAMES = 300, 200
 SECONDS = 60
 # How many vertices the chain has before its sink.
 LENGTH = 9
@@ -37,32 +41,32 @@ class Crew:
     # How many rows of each vertex are recorded.
     trace_rows = "4096"
 
-    def __init__(self, program, examples, draw):
+    def __init__(self, program, draw):
         graph, chips = chains.random_game(draw)
-        self.program, self.examples = program, examples
+        self.program = program
         self.limit = [] if draw.random() < 0.7 else ["--limit", str(draw.randint(0, 8))]
         self.options = ["--workers", str(draw.choice([1, 2, 3, 4, 8, 64])), "--ring", str(draw.choice([1, 2, 3, 64]))]
         self.has_trace = draw.random() < 0.5
         self.graph, self.chips = json.dumps(graph), chips_text(chips)
 
     @classmethod
-    def of_triangle(cls, program, examples):
+    def of_triangle(cls, program):
         """The small triangle by three workers, with its trace."""
-        return cls.of_files(program, examples, f"{examples}/triangle", "3")
+        return cls.of_files(program, f"{EXAMPLES}/triangle", "3")
 
     @classmethod
-    def of_chain(cls, program, examples):
+    def of_chain(cls, program):
         """The chain of progress.py, on which vertices fire up to ten thousands of times."""
         with tempfile.TemporaryDirectory(prefix="chipfire-crew-") as folder:
             progress.write_uphill(folder, LENGTH)
-            crew = cls.of_files(program, examples, folder, "2")
+            crew = cls.of_files(program, folder, "2")
         crew.trace_rows = str(2**17)
         return crew
 
     @classmethod
-    def of_files(cls, program, examples, folder, workers):
+    def of_files(cls, program, folder, workers):
         """The game of a folder by so many workers, with its trace."""
-        crew = cls(program, examples, random.Random("crew 0"))
+        crew = cls(program, random.Random("crew 0"))
         crew.limit, crew.options, crew.has_trace = [], ["--workers", workers], True
         with open(f"{folder}/graph.json", encoding="utf-8") as file:
             crew.graph = file.read()
@@ -80,7 +84,7 @@ class Crew:
                 with open(f"{folder}/{name}", "w", encoding="utf-8") as file:
                     file.write(text)
             game = ["graph.json", "chips.csv", *self.limit]
-            wanted = self.call([sys.executable, f"{self.examples}/play.py", *game], folder).stdout
+            wanted = self.call([sys.executable, f"{EXAMPLES}/play.py", *game], folder).stdout
             return [fault for way in WAYS for fault in self.faults_of(way, game, wanted, folder)]
 
     def faults_of(self, way, game, wanted, folder):
@@ -123,8 +127,8 @@ class FedCrew(Crew):
 
     feed = ["--feed", "feed.csv"]
 
-    def __init__(self, program, examples, draw):
-        super().__init__(program, examples, draw)
+    def __init__(self, program, draw):
+        super().__init__(program, draw)
         chips = [int(row.split(",")[1]) for row in self.chips.splitlines()[1:]]
         by_vertex = draw.random() < 0.5
         start = [draw.choice([0, count]) if by_vertex else draw.randint(0, count) for count in chips]
@@ -133,17 +137,22 @@ class FedCrew(Crew):
         self.feed_files = {"start.csv": chips_text(start), "feed.csv": chips_text(fed)}
 
 
-def play_crews(program, examples, count, fed_count):
-    """Plays so many games and so many that are fed, and yields of each its place, its name and what was not as it must
-    be."""
-    crews = {f"game {number} on threads": (Crew, f"crew {number}") for number in range(count)}
-    crews |= {f"fed game {number} on threads": (FedCrew, f"fed crew {number}") for number in range(fed_count)}
-    games = [(name, kind(program, examples, random.Random(seed))) for name, (kind, seed) in crews.items()]
-    games.append(("the triangle on three threads", Crew.of_triangle(program, examples)))
-    games.append(("long traces of a chain on two threads", Crew.of_chain(program, examples)))
-    for name, crew in games:
-        try:
-            faults = crew.faults()
-        except subprocess.TimeoutExpired:
-            faults = [f"it had not ended after {SECONDS} seconds"]
-        yield "crews.py", name, faults
+def faults_of(make):
+    """What is wrong with the game on threads that this makes."""
+    try:
+        return make().faults()
+    except subprocess.TimeoutExpired:
+        return [f"it had not ended after {SECONDS} seconds"]
+
+
+def numbered(number, program, kind, seed):
+    return faults_of(lambda: kind(program, random.Random(f"{seed} {number}")))
+
+
+def tests(program):
+    yield from listed.numbered(GAMES, numbered, program, Crew, "crew")
+    for number, faults in listed.numbered(FED_GAMES, numbered, program, FedCrew, "fed crew"):
+        yield f"fed {number}", faults
+    triangle, chain = (functools.partial(it, program) for it in (Crew.of_triangle, Crew.of_chain))
+    yield "the triangle on three threads", functools.partial(faults_of, triangle)
+    yield "long traces of a chain on two threads", functools.partial(faults_of, chain)

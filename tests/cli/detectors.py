@@ -5,6 +5,7 @@ docs/tasks/judge-a-log.md asks. Process 0 begins. No claim of a right detector m
 one at least one must be. A claim that was made while a task was open must be called early.
 """
 import fractions
+import functools
 import queue
 import random
 import sys
@@ -14,6 +15,7 @@ import time
 
 import logs
 
+RUNS = 100
 PROCESSES, ROOT, GENERATIONS = 5, 0, 30
 #: How many tasks come of the first one, and of each other.
 FIRST, OTHERS = 3, [0, 1, 1, 2]
@@ -274,25 +276,29 @@ def faults_of(answer, run, is_right):
     return []
 
 
-def judged(program, detector, runs):
-    """Runs a detector so many times. Returns how many runs there were, how many claims are called early, and what is
-    wrong with the answers."""
+def judged(program, detector):
+    """Runs a detector and judges its logs. Returns what is wrong with the answers."""
     number, early, faults, is_right = 0, 0, [], detector in RIGHT
     with tempfile.TemporaryDirectory() as room:
-        while number < runs or number < MORE * runs and early == 0 and not is_right:
+        while number < RUNS or number < MORE * RUNS and early == 0 and not is_right:
             run = Run(detector, f"{detector.__name__} {number}")
             answer = logs.answer(program, room, run.rows(), False)
             number, early, faults = number + 1, early + (answer[1] == 2), faults + faults_of(answer, run, is_right)
     if early == 0 and not is_right:
-        faults.append("no claim is called early")
-    return number, early, faults
+        faults.append(f"of {number} claims none is called early")
+    return faults
 
 
-def judge_detectors(program, runs):
-    """Judges each detector by so many runs, and tells what is wrong."""
+def judged_side_by_side(program, detector):
+    """The same, where threads give way to each other more often than Python has them do."""
     interval = sys.getswitchinterval()
     sys.setswitchinterval(1e-5)
+    try:
+        return judged(program, detector)
+    finally:
+        sys.setswitchinterval(interval)
+
+
+def tests(program):
     for detector in RIGHT + WRONG:
-        number, early, faults = judged(program, detector, runs)
-        yield "detectors", f"{detector.__name__}: {early} of {number} claims called early", faults
-    sys.setswitchinterval(interval)
+        yield detector.__name__, functools.partial(judged_side_by_side, program, detector)

@@ -9,6 +9,7 @@ that shares nothing with this.
 A message that is got wakes its part here: where it is passive again at once, that is a rest more.
 """
 import collections
+import functools
 import typing
 
 MOST = 2
@@ -139,15 +140,23 @@ TO_THE_ROOT = {"r": ("root", "A"), "back": ("A", "root")}
 STUCK = "send r, get r, send back, rest A, get back, rest root"
 
 
-def try_all():
-    """Tries all events of each computation, and returns for each its place, name and faults."""
+def wrong_search(edges, worlds):
+    """What is wrong with a computation by the rules as they are, which has so many worlds."""
+    found = Computation(edges).search()
+    return [] if found == (worlds, None, None) else [f"{found}, not {worlds} worlds"]
+
+
+def wrong_story(changed, edges, wrong, story):
+    """What is wrong with a computation one rule of which is changed: these events lead to a wrong world, and no fewer."""
+    computation, events = Computation(edges, changed), story.split(", ") if story else []
+    found, told = computation.search()[1:], computation.told(events)
+    is_well = found == (wrong, len(events)) and told == wrong
+    return [] if is_well else [f"{found}, and {told} after {story}"]
+
+
+def tests(_program):
     for name, edges, worlds in WORLDS:
-        found = Computation(edges).search()
-        yield "diffusing.py", name, [] if found == (worlds, None, None) else [f"{found}, not {worlds} worlds"]
+        yield name, functools.partial(wrong_search, edges, worlds)
     stories = [(it, BOTH_WAYS, "early", story) for it, story in CHANGES.items()]
     for changed, edges, wrong, story in [*stories, ("edges to the root", TO_THE_ROOT, "stuck", STUCK)]:
-        computation = Computation(edges, changed)
-        events = story.split(", ") if story else []
-        found, told = computation.search()[1:], computation.told(events)
-        is_well = found == (wrong, len(events)) and told == wrong
-        yield "diffusing.py", changed, [] if is_well else [f"{found}, and {told} after {story}"]
+        yield changed, functools.partial(wrong_story, changed, edges, wrong, story)

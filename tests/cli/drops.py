@@ -4,6 +4,7 @@ The random games are small: directed with multiplicities, one-way, or with an ed
 must come of them is known from examples/play.py and from player.c, which share nothing with the program and with each
 other: each row, and the report of all chips together. Of the million the mean size is known by Dhar's formula.
 """
+import functools
 import json
 import math
 import os
@@ -16,15 +17,18 @@ import tempfile
 
 import chains
 import large
+import listed
 import paced
+import play
 from largest import Room, rows_of
+from paths import HERE
 
-HERE = os.path.dirname(os.path.realpath(__file__))
+GAMES = 300
 NO_LIMIT = 2**40
 CHIPS, ROWS = ("vertex", "chips"), ("vertex", "chips", "size", "extent", "lost")
 ASKED = "avalanches graph.json chips.csv drops.csv"
 # Starts a program under limits of the system.
-LIMITED = [sys.executable, f"{os.path.dirname(HERE)}/hostile/limited.py"]
+LIMITED = [sys.executable, f"{HERE}/hostile/limited.py"]
 SIDE, NOT_COUNTED, COUNTED, BLOCK = 20, 10_000, 1_000_000, 1_000
 # Sizes of files and memory, in bytes and in MiB, that do not suffice for the million, or do.
 FILE_SIZES, MEMORIES = [0, 20, 65_536, 100_000, 5_000_000], [4, 8, 16, 32, 64, 256]
@@ -53,7 +57,7 @@ def random_game(draw):
     return Game(edges, sink, vertices, chips), drops + [(v, 1) for v in range(vertices)]
 
 
-def slow_answer(play, game, drops, draw):
+def slow_answer(game, drops, draw):
     """The rows of some drops and the report, by examples/play.py."""
     graph, left, rows = game.of_file, list(game.chips), []
     fired = play.play(graph, left, NO_LIMIT, draw)
@@ -66,23 +70,28 @@ def slow_answer(play, game, drops, draw):
     return rows_of(ROWS, rows), play.report(graph, left, fired) + "\n"
 
 
-def answer(player, room):
+def answer(room):
     """The rows and the report by player.c."""
-    words = [player, "graph.json", "chips.csv", str(NO_LIMIT), "drops.csv"]
+    words = [large.player(), "graph.json", "chips.csv", str(NO_LIMIT), "drops.csv"]
     how = {"stdout": subprocess.PIPE, "encoding": "ascii", "check": True, "timeout": large.SECONDS}
     text = subprocess.run(words, cwd=room.folder, **how).stdout
     rows = text[: text.index("{")]
     return rows, text[len(rows) :]
 
 
-def wrong_drops(program, player, folder, play, number):
+def faults_of(number, program):
+    """What is wrong with the rows and the reports of the random game of this number."""
+    with tempfile.TemporaryDirectory(prefix="chipfire-drops-") as folder:
+        return wrong_drops(program, folder, random.Random(f"drops {number}"))
+
+
+def wrong_drops(program, folder, draw):
     """What is wrong with the rows and the reports of one random game."""
-    draw = random.Random(f"drops {number}")
     game, drops = random_game(draw)
     room = Room(program, folder, game)
     room.write("drops.csv", rows_of(CHIPS, drops))
-    rows, report = slow_answer(play, game, drops, draw)
-    other = answer(player, room)
+    rows, report = slow_answer(game, drops, draw)
+    other = answer(room)
     if other != (rows, report):
         return [f"the players do not agree: {(rows, report)} and {other}"]
     faults = room.faults_of(f"{ASKED} --report report.json", rows) + room.faults_of(ASKED, rows)
@@ -128,12 +137,11 @@ def stopped(program):
     """
     edges, drops = [[0, 1, 2**20], [0, 2, 1], [1, 0, 1]], [(2, 1), (1, 1), (0, 2**38), (0, 1)]
     with tempfile.TemporaryDirectory(prefix="chipfire-drops-") as folder:
-        player = large.built(folder)
         for chips, rows, done in [([0] * 3, [(2, 1, 0, 0, 0), (1, 1, 1, 1, 0)], 3), ([2**39, 0, 0], [], 0)]:
             room = Room(program, folder, Game(edges, 2, 3, chips))
             room.write("chips.csv", rows_of(CHIPS, enumerate(together(chips, drops[:done]))))
             room.write("drops.csv", "vertex,chips\n")
-            _, report = answer(player, room)
+            _, report = answer(room)
             room.write("chips.csv", rows_of(CHIPS, enumerate(chips)))
             room.write("drops.csv", rows_of(CHIPS, drops))
             yield ASKED, room.faults_of(ASKED, rows_of(ROWS, rows), 2)
@@ -176,10 +184,10 @@ def million(program):
     """A million drops on the grid, where everything suffices and where it does not: arguments and faults."""
     draw = random.Random("a million")
     with tempfile.TemporaryDirectory(prefix="chipfire-drops-") as folder:
-        player, room = large.built(folder), Room(program, folder, grid())
+        room = Room(program, folder, grid())
         drops = ((v, 1) for v in draw.choices(range(SIDE * SIDE), k=NOT_COUNTED + COUNTED))
         room.write("drops.csv", rows_of(CHIPS, drops))
-        rows, report = answer(player, room)
+        rows, report = answer(room)
         arguments = f"{ASKED} --report report.json"
         yield arguments, room.faults_of(arguments, rows)
         yield "the report", [] if room.read("report.json") == report else ["another report"]
@@ -220,13 +228,7 @@ def cut(program, folder, rows, size):
     return [] if is_well else [f"status {ran.returncode}, {ran.stderr!r} and {len(written)} bytes"]
 
 
-def play_drops(program, examples, games):
-    """Plays drops on so many random games and on others, and yields for each its place, name and faults."""
-    play = chains.module_of(examples, "play")
-    with tempfile.TemporaryDirectory(prefix="chipfire-player-") as folder:
-        player = large.built(folder)
-        for number in range(games):
-            yield "drops.py", f"drops on game {number}", wrong_drops(program, player, folder, play, number)
-    for found in (by_hand(program), stopped(program), million(program)):
-        for arguments, faults in found:
-            yield "drops.py", f"chipfire {arguments}", faults
+def tests(program):
+    yield from listed.numbered(GAMES, faults_of, program)
+    for name, play_all in [("by hand", by_hand), ("stopped", stopped), ("a million", million)]:
+        yield name, functools.partial(listed.joined, play_all, program)

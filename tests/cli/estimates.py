@@ -4,6 +4,7 @@ A line comes once a second at most. So each program is stopped for a second time
 it goes on. Each search lasts some ten times as long as a program runs between two stops. The chips are at least 1 and at
 most those of the game.
 """
+import functools
 import json
 import os
 import re
@@ -26,16 +27,18 @@ def grid(rows, columns):
     return edges, sink
 
 
+#: The rows and columns of a grid, and its chips.
 GAMES = {
-    "a heap on a grid": (grid(250, 250), {125 * 251: 2**17}),
-    "four on each square": (grid(150, 150), {v: 4 for v in range(150 * 150)}),
-    "two heaps on a strip": (grid(60, 2000), {30 * 2000 + 500: 2**18, 30 * 2000 + 1500: 2**18}),
+    "a heap on a grid": ((250, 250), {125 * 251: 2**17}),
+    "four on each square": ((150, 150), {v: 4 for v in range(150 * 150)}),
+    "two heaps on a strip": ((60, 2000), {30 * 2000 + 500: 2**18, 30 * 2000 + 1500: 2**18}),
 }
 
 
 def write(game, room):
     """Writes the files of a game."""
-    (edges, sink), chips = game
+    sides, chips = game
+    edges, sink = grid(*sides)
     os.mkdir(room)
     with open(f"{room}/graph.json", "w", encoding="ascii") as file:
         json.dump({"edges": edges, "sink": sink, "version": 1, "vertices": sink + 1}, file)
@@ -53,8 +56,8 @@ def slowly(processes):
             time.sleep(seconds)
 
 
-def play_slowly(program):
-    """Plays each game, and yields its place, its name and what is wrong with what it told."""
+def told(program):
+    """What each game tells, and the statuses, by their names."""
     words = [program, "plain", "graph.json", "chips.csv", "--large", "--progress"]
     how = {"stdout": subprocess.DEVNULL, "stderr": subprocess.PIPE}
     with tempfile.TemporaryDirectory(prefix="chipfire-estimates-") as room:
@@ -68,8 +71,19 @@ def play_slowly(program):
             slowly(processes.values())
             said |= {name: process.communicate()[1] for name, process in processes.items()}
             statuses |= {name: process.returncode for name, process in processes.items()}
+    return said, statuses
+
+
+def faults_of(program):
+    """What is wrong with what the games tell, which are played side by side."""
+    said, statuses = told(program)
+    wrong = []
     for name, (_, chips) in GAMES.items():
-        told, total = [int(it) for it in GUESSING.findall(said[name])], sum(chips.values())
-        wrong = [] if told and statuses[name] == 0 else [f"status {statuses[name]} after {said[name]!r}"]
-        wrong += [f"off by {it} of {total} chips" for it in told if not 1 <= it <= total]
-        yield "estimates.py", f"by how many chips a try is off of {name}", wrong
+        off, total = [int(it) for it in GUESSING.findall(said[name])], sum(chips.values())
+        wrong += [] if off and statuses[name] == 0 else [f"{name}: status {statuses[name]} after {said[name]!r}"]
+        wrong += [f"{name}: off by {it} of {total} chips" for it in off if not 1 <= it <= total]
+    return wrong
+
+
+def tests(program):
+    yield "by how many chips a try is off", functools.partial(faults_of, program)

@@ -5,11 +5,13 @@ What must come is known from chipfire.model, which shares nothing with the progr
 a play that closes and that no seal stopped, examples/play.py says besides what one sitting makes of all chips together.
 """
 import json
-import random
-import tempfile
 
-from chains import MODEL, NO_LIMIT, Chain, module_of, status_of
+import listed
+import play
+from chains import NO_LIMIT, Chain, faults_of, status_of
+from paths import model
 
+GAMES = 200
 KINDS = ["take", "ack", "fire", "clear", "claim", "put", "settle"] * 10 + ["feed"] * 30 + ["halt", "read"]
 EVENTS = 120
 SEALED_ONE_IN = 4
@@ -47,7 +49,7 @@ class Feed(Chain):
     def replies(self):
         """What of the program's answer is not as the slow simulation says."""
         limit, ring = self.draw.choice([NO_LIMIT, self.draw.randint(0, 9)]), self.draw.choice([1, 2, 64])
-        core = self.simulate.Core(self.graph, self.chips, limit, ring, True)
+        core = model().Core(self.graph, self.chips, limit, ring, True)
         rows, lines = ["event,at,count"], []
         for kind, at, count in self.events():
             rows.append(f"{kind},{at},{count}")
@@ -69,15 +71,10 @@ class Feed(Chain):
         chips = [sum(edge.sent) for edge in core.edges[core.graph_edges :]]
         if sum(chips) > 10_000:
             return []
-        fired = self.play.play(self.graph, chips, limit, self.draw)
-        whole = self.play.report(self.graph, chips, fired)
+        fired = play.play(self.graph, chips, limit, self.draw)
+        whole = play.report(self.graph, chips, fired)
         return [] if whole == report else [f"all chips at once come to {whole}, fed they come to {report}"]
 
 
-def play_feeds(program, examples, games):
-    """Runs so many random schedules that feed, and returns for each its place, name and faults."""
-    play, simulate = module_of(examples, "play"), module_of(f"{examples}/{MODEL}", "model")
-    for game in range(games):
-        with tempfile.TemporaryDirectory(prefix="chipfire-feed-") as room:
-            feed = Feed(program, room, random.Random(f"feed {game}"), play, simulate)
-            yield f"feed {game}", f"{json.dumps(feed.graph)} with {feed.chips}", feed.replies()
+def tests(program):
+    return listed.numbered(GAMES, faults_of, program, Feed, "feed", Feed.replies)

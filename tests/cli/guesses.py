@@ -9,9 +9,12 @@ import random
 import tempfile
 
 import chains
+import listed
+import play
 import verdicts
 from largest import Room, rows_of
 
+GAMES = 300
 NO_LIMIT = 2**40
 COUNTS = ("vertex", "fired")
 # On how many games texts that are no guess are tried, too.
@@ -21,13 +24,13 @@ REFUSED = 20
 class Game:
     """A random game with a limit, and its report by the slow player."""
 
-    def __init__(self, draw, play):
+    def __init__(self, draw):
         self.of_file, self.chips = chains.random_game(draw)
         self.vertices, sink = self.of_file["vertices"], self.of_file["sink"]
         if draw.random() < 0.5:
             self.of_file["edges"] += [[head, tail, mult] for tail, head, mult in self.of_file["edges"] if head != sink]
         self.limit = draw.choice([NO_LIMIT, NO_LIMIT, draw.randint(0, 6)])
-        self.play, self.draw = play, draw
+        self.draw = draw
         self.truth = self.played(self.chips)
 
     def graph(self):
@@ -35,8 +38,8 @@ class Game:
 
     def played(self, chips):
         left = list(chips)
-        fired = self.play.play(self.of_file, left, self.limit, self.draw)
-        return json.loads(self.play.report(self.of_file, left, fired))
+        fired = play.play(self.of_file, left, self.limit, self.draw)
+        return json.loads(play.report(self.of_file, left, fired))
 
 
 def counts_near(draw, fired):
@@ -112,9 +115,11 @@ def wrong_answers(program, game, is_refused):
                 yield f"{game.graph()}, guess {guess!r}: expected {expected}, got {came}"
 
 
-def play_guesses(program, examples, games):
-    """Plays so many random games with guesses, and yields for each its place, name and what was wrong."""
-    play = chains.module_of(examples, "play")
-    for number in range(games):
-        game = Game(random.Random(f"guesses {number}"), play)
-        yield "guesses.py", f"guesses on game {number}", list(wrong_answers(program, game, number < REFUSED))
+def faults_of(number, program):
+    """What is wrong with the answers to the guesses of a game of this number."""
+    game = Game(random.Random(f"guesses {number}"))
+    return list(wrong_answers(program, game, number < REFUSED))
+
+
+def tests(program):
+    return listed.numbered(GAMES, faults_of, program)

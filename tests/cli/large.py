@@ -1,17 +1,12 @@
-#!/usr/bin/env python3
 """Large games, which are played by `--large`: random ones of 10,000 to 200,000 vertices, a heap on a grid of 255 by 255
 squares, and the largest that there are, of 2,097,152 vertices and 8,388,608 edges.
 
-    tests/cli/large.py [--program FILE] [--games N] [--anew]
-
-FILE is the program that ./chipfire built, if not said. N random games are played, 200 if not said; tests/cli/run plays
-12. Each is played on one thread and, but for chains, on two. On one-way graphs a game of few chips is played too, and
-its trace replayed. What must come of them is known from player.c, which shares nothing with the program and is built by
-`cc`. It takes half a minute for the heap, so the digest of its report stands here; --anew has it found once more. The
-answers of the largest games are known by arithmetic. The last line is `N passed, N failed`, and the status is 0 only if
-nothing failed.
+Each random game is played on one thread and, but for chains, on two. On one-way graphs a game of few chips is played
+too, and its trace replayed. What must come of them is known from player.c, which shares nothing with the program and is
+built by `cc`. It takes half a minute for the heap, so the digest of its report stands here; a long run of the tests has
+it found once more, and plays more games. The answers of the largest games are known by arithmetic.
 """
-import argparse
+import functools
 import hashlib
 import itertools
 import json
@@ -22,11 +17,10 @@ import sys
 import tempfile
 from collections import Counter
 
-sys.dont_write_bytecode = True
+import listed
 from largest import Fan, Room, report, rows_of
+from paths import HERE
 
-HERE = os.path.dirname(os.path.realpath(__file__))
-ROOT = os.path.dirname(os.path.dirname(HERE))
 NO_LIMIT = 2**40
 # How long player.c may take.
 SECONDS = 900
@@ -45,7 +39,7 @@ DIGEST = "ca5f0187d9f6d99870dc255c4a31be8fd5ab855fef8b6e65367e1ad75a870b79"
 # That of no bytes.
 EMPTY = hashlib.sha256(b"").hexdigest()
 # Starts a program under limits of the system.
-LIMITED = f"{ROOT}/tests/hostile/limited.py"
+LIMITED = f"{HERE}/hostile/limited.py"
 # How many MiB the heap is given: too few to read it, enough to play it, and enough to search its counts too.
 MEMORIES = [8, 12, 16, 32, 48]
 # By two threads, each of which keeps vertices of its own.
@@ -187,22 +181,24 @@ def status_of(text):
     return 0 if '"closed":true' in text else 2
 
 
-def built(folder):
-    """The program of player.c, built in this folder."""
-    subprocess.run(["cc", "-O2", "-o", f"{folder}/player", f"{HERE}/player.c"], check=True, timeout=SECONDS)
-    return f"{folder}/player"
+@functools.cache
+def player():
+    """The program of player.c, built once."""
+    path = f"{listed.folder('chipfire-player-')}/player"
+    subprocess.run(["cc", "-O2", "-o", path, f"{HERE}/cli/player.c"], check=True, timeout=SECONDS)
+    return path
 
 
-def played(player, room, limit=NO_LIMIT):
+def played(room, limit=NO_LIMIT):
     """The report that player.c writes of the game in a room."""
     how = {"cwd": room.folder, "stdout": subprocess.PIPE, "encoding": "ascii", "check": True, "timeout": SECONDS}
-    return subprocess.run([player, "graph.json", "chips.csv", str(limit)], **how).stdout
+    return subprocess.run([player(), "graph.json", "chips.csv", str(limit)], **how).stdout
 
 
-def sittings(player, room, game, kind, whole):
+def sittings(room, game, kind, whole):
     """A play in two sittings, the first of which has a limit, and the counts of both as guesses: arguments and faults."""
     limit = 1 + game.below(3)
-    first = played(player, room, limit)
+    first = played(room, limit)
     for command in ["plain graph.json chips.csv --large", THREADS]:
         arguments = f"{command} --limit {limit}"
         yield arguments, room.faults_of(arguments, first, status_of(first))
@@ -230,12 +226,12 @@ def guessed(room, kind, first, whole):
         yield arguments, faults
 
 
-def traced(player, room, game):
+def traced(room, game):
     """A play of few chips on threads with its trace, by which each vertex fires as often as the report says: arguments and
     faults. On a one-way graph each chip comes by a vertex at most once, so a vertex has at most two rows for each."""
     chips = [(game.below(game.vertices), ROWS // 8) for _ in range(4)]
     room.write("chips.csv", rows_of(("vertex", "chips"), sorted(dict(chips).items())))
-    whole = played(player, room)
+    whole = played(room)
     arguments = f"{THREADS} --trace trace.csv --trace-rows {ROWS}"
     yield arguments, room.faults_of(arguments, whole)
     # (all messages are taken, and in the second trace all but those of vertices that do not fire)
@@ -273,35 +269,35 @@ def refused(room, arguments, fault):
     yield arguments, [] if ran == wanted else [f"expected {wanted}, got {ran}"]
 
 
-def play_random(program, player, number):
+def play_random(program, number):
     """A random game and what else is asked of it: arguments and faults."""
     kind = KINDS[number % len(KINDS)]
     game = RandomGame(random.Random(f"large {number}"), kind)
     with tempfile.TemporaryDirectory(prefix="chipfire-large-") as folder:
         room = Room(program, folder, game)
-        whole = played(player, room)
+        whole = played(room)
         yield "plain --large graph.json chips.csv", room.faults_of("plain --large graph.json chips.csv", whole)
         # (heaps sink along a chain by so many rounds of turns that the others tell as much in less time)
         if kind != "chain":
             yield THREADS, room.faults_of(THREADS, whole)
         turn = number // len(KINDS) % 3
         if turn == 0:
-            yield from sittings(player, room, game, kind, whole)
+            yield from sittings(room, game, kind, whole)
         elif turn == 1:
             yield from looked_at(room, game)
         else:
             is_long = os.path.getsize(f"{folder}/graph.json") > MOST_BYTES
             yield from refused(room, "plain graph.json chips.csv", "30 TooLong" if is_long else "1 Vertices")
         if kind == "one_way":
-            yield from traced(player, room, game)
+            yield from traced(room, game)
 
 
-def play_heap(program, player, is_anew):
+def play_heap(program, is_anew):
     """The heap on the grid: arguments and faults."""
     with tempfile.TemporaryDirectory(prefix="chipfire-large-") as folder:
         room = Room(program, folder, Heap())
         if is_anew:
-            found = hashlib.sha256(played(player, room).encode()).hexdigest()
+            found = hashlib.sha256(played(room).encode()).hexdigest()
             yield "the digest", [] if found == DIGEST else [f"player.c says {found}"]
         written, errors, status = room.ran("plain graph.json chips.csv --large")
         got = hashlib.sha256(written.encode()).hexdigest(), errors, status
@@ -361,36 +357,15 @@ def play_longest(program):
         yield "plain graph.json chips.csv --large", room.faults_of("plain graph.json chips.csv --large", walk.end)
 
 
-def play_large(program, games=FEW_GAMES, is_anew=False):
-    """Plays large games, and returns for each run its place, name and faults."""
-    with tempfile.TemporaryDirectory(prefix="chipfire-player-") as folder:
-        player = built(folder)
-        runs = {f"large {number}": play_random(program, player, number) for number in range(games)}
-        runs |= {"large heap": play_heap(program, player, is_anew)}
-        runs |= {"large heap, little memory": play_heap_in_little_memory(program)}
-        runs |= {"large heap, a trace": trace_in_little_memory(program)}
-        runs |= {"largest fan": play_widest(program), "largest walk": play_longest(program)}
-        for place, found in runs.items():
-            for arguments, faults in found:
-                yield place, f"chipfire {arguments}", faults
-
-
-def main():
-    parser = argparse.ArgumentParser(description="Plays large games; see the head of this file.")
-    parser.add_argument("--program", default=f"{ROOT}/target/chipfire")
-    parser.add_argument("--games", type=int, default=MANY_GAMES)
-    parser.add_argument("--anew", action="store_true")
-    asked = parser.parse_args()
-    passed = failed = 0
-    for place, name, faults in play_large(os.path.realpath(asked.program), asked.games, asked.anew):
-        if faults:
-            failed += 1
-            print(f"FAILED {place} {name}", *faults, sep="\n    ", flush=True)
-        else:
-            passed += 1
-    print(f"{passed} passed, {failed} failed")
-    return 1 if failed else 0
-
-
-if __name__ == "__main__":
-    sys.exit(main())
+def tests(program, is_long):
+    for number in range(MANY_GAMES if is_long else FEW_GAMES):
+        yield str(number), functools.partial(listed.joined, play_random, program, number)
+    yield "heap", functools.partial(listed.joined, play_heap, program, is_long)
+    others = {
+        "heap, little memory": play_heap_in_little_memory,
+        "heap, a trace": trace_in_little_memory,
+        "fan": play_widest,
+        "walk": play_longest,
+    }
+    for name, play in others.items():
+        yield name, functools.partial(listed.joined, play, program)

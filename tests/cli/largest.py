@@ -3,10 +3,13 @@ workers, a chip that goes 4,095 steps, a schedule of 180,000 events, and outputs
 
 A command may always say that memory ran out, so that no contract refuses one which gives up at such sizes.
 """
+import functools
 import itertools
 import json
 import subprocess
 import tempfile
+
+import listed
 
 SECONDS = 120
 VERTICES = 4096
@@ -203,10 +206,13 @@ def play_path(room, path):
     yield arguments, faults if (errors, ended) == ("", 0) else [f"got status {ended} and {errors[:200]!r}"]
 
 
-def play_largest(program):
-    """Plays the largest games, and returns for each run its place, name and faults."""
-    fan, path = Fan(VERTICES, EDGES), Path()
-    for name, game, play in (("fan", fan, play_fan), ("trace", fan, play_trace), ("path", path, play_path)):
-        with tempfile.TemporaryDirectory(prefix="chipfire-largest-") as folder:
-            for arguments, faults in play(Room(program, folder, game), game):
-                yield f"largest {name}", f"chipfire {arguments}", faults
+def faults_of(program, game, play):
+    """What is wrong with the runs on one of these games."""
+    with tempfile.TemporaryDirectory(prefix="chipfire-largest-") as folder:
+        return listed.joined(play, Room(program, folder, game), game)
+
+
+def tests(program):
+    fan = Fan(VERTICES, EDGES)
+    for name, game, play in (("fan", fan, play_fan), ("trace", fan, play_trace), ("path", Path(), play_path)):
+        yield name, functools.partial(faults_of, program, game, play)

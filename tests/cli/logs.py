@@ -10,6 +10,9 @@ import subprocess
 import tempfile
 from collections import Counter
 
+import listed
+
+LOGS = 1000
 BASIC = {"send": 1, "receive": -1}
 CONTROL = {"tell": 1, "hear": -1}
 NAMES = {31: "End", 32: "Passive", 33: "Woken", 70: "Stuck"}
@@ -198,15 +201,18 @@ def expected(rows, with_past):
         return [], 1, f"chipfire: fault {number} {NAMES[number]} {' '.join(map(str, place))}\n"
 
 
-def judge_logs(program, count):
-    """Judges random logs, each also mixed in another way, and tells what is wrong with the answers."""
-    draw = random.Random(1)
-    with tempfile.TemporaryDirectory() as room:
-        for number in range(count):
-            rows, with_past = random_log(draw), draw.random() < 0.5
-            faults = []
-            for them in (rows, mixed(draw, rows)):
-                must, came = expected(them, with_past), answer(program, room, them, with_past)
-                if must != came:
-                    faults.append(f"{them}: expected {must}, came {came}")
-            yield "log", number, faults
+def faults_of(number, program):
+    """What is wrong with the answers to a random log of this number, and to it mixed in another way."""
+    draw = random.Random(f"log {number}")
+    rows, with_past = random_log(draw), draw.random() < 0.5
+    faults = []
+    with tempfile.TemporaryDirectory(prefix="chipfire-log-") as room:
+        for them in (rows, mixed(draw, rows)):
+            must, came = expected(them, with_past), answer(program, room, them, with_past)
+            if must != came:
+                faults.append(f"{them}: expected {must}, came {came}")
+    return faults
+
+
+def tests(program):
+    return listed.numbered(LOGS, faults_of, program)

@@ -4,6 +4,7 @@ looks at rows again and again.
 A time is the program's own on a processor. It is compared with the time for another log of as many rows, judged in the
 same run: for a judge that is linear in the rows both take about as long, whatever the machine and what else runs there.
 """
+import functools
 import resource
 import subprocess
 import tempfile
@@ -94,16 +95,34 @@ class Judge:
         return base_faults + faults
 
 
-def judge_long_logs(program):
-    """Judges long logs, and returns for each its place, name and faults."""
+def most_claims(judge):
+    """What is wrong with the largest log, each row of which is a claim."""
+    rows, count = largest_log()
+    assert len(HEADER) + sum(map(len, rows)) == MOST_BYTES and count > 2**20
+    return judge.judged(rows, all_right(count))[0]
+
+
+def many_claims(judge):
+    """What is wrong with a log of claims beside one of as many rows with one claim."""
+    other = (f"over 0 {CLAIMS - 1} right\nend claimed\n", "", 0)
+    return judge.compared(claims(CLAIMS), all_right(CLAIMS), one_claim(CLAIMS), other)
+
+
+def turned(judge, ring, wanted):
+    """What is wrong with a ring whose last process stands first, beside the same in its order."""
+    parts = [*ring(PROCESSES)]
+    return judge.compared(joined(reversed(parts)), wanted, joined(parts), wanted)
+
+
+def faults_of(program, test, *more):
+    """What a test finds wrong, which takes a `Judge`."""
     with tempfile.TemporaryDirectory(prefix="chipfire-long-") as folder:
-        judge = Judge(program, folder)
-        rows, count = largest_log()
-        assert len(HEADER) + sum(map(len, rows)) == MOST_BYTES and count > 2**20
-        yield "long log", f"{count} rows", judge.judged(rows, all_right(count))[0]
-        other = (f"over 0 {CLAIMS - 1} right\nend claimed\n", "", 0)
-        yield "long log", f"{CLAIMS} claims", judge.compared(claims(CLAIMS), all_right(CLAIMS), one_claim(CLAIMS), other)
-        for name, (ring, wanted) in RINGS.items():
-            parts = [*ring(PROCESSES)]
-            faults = judge.compared(joined(reversed(parts)), wanted, joined(parts), wanted)
-            yield "long log", f"a ring of {name} messages, the last process first", faults
+        return test(Judge(program, folder), *more)
+
+
+def tests(program):
+    yield "as many claims as there may be", functools.partial(faults_of, program, most_claims)
+    yield f"{CLAIMS} claims", functools.partial(faults_of, program, many_claims)
+    for name, ring in RINGS.items():
+        name = f"a ring of {name} messages, the last process first"
+        yield name, functools.partial(faults_of, program, turned, *ring)

@@ -5,6 +5,7 @@ when the program has waited for a second to write the next one: then it tells of
 """
 import concurrent.futures
 import fcntl
+import functools
 import itertools
 import json
 import os
@@ -193,9 +194,13 @@ def guesses():
     yield "verify plays from the start", verify(ON_LEAKING, report_of([0, 0, 5], [1, 0, 0]), lines, 1)
 
 
-def tell_all(program):
-    """Makes each play, side by side, and yields its place, its name and what was told wrongly."""
+def faults_of(program):
+    """What is told wrongly of the plays, which are made side by side, since each waits for seconds."""
     names, made = zip(*plays(), *guesses())
     with concurrent.futures.ThreadPoolExecutor(len(made)) as threads:
-        for name, wrong in zip(names, threads.map(lambda play: play.wrong(program), made)):
-            yield "paced.py", f"each line of progress: {name}", wrong
+        wrong = threads.map(lambda play: play.wrong(program), made)
+        return [f"{name}: {fault}" for name, faults in zip(names, wrong) for fault in faults]
+
+
+def tests(program):
+    yield "each line of progress", functools.partial(faults_of, program)

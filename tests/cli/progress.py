@@ -4,6 +4,7 @@ The game is a chain on which each vertex but the last sends two chips back for o
 more doubles the firings: no counts are found for it that shorten the play. With 25 vertices it takes a few seconds, and
 with 40 nobody waits for its end. And a heap on a lattice, for which counts are found, after many steps.
 """
+import functools
 import json
 import math
 import os
@@ -179,24 +180,28 @@ def read_slowly(program, name, *words):
     return wrong + wrong_lines(words[1], others, math.inf)
 
 
-def play_long(program):
-    """Plays long games, and yields of each its place, its name and what was not as it must be."""
-    yield "progress.py", "plain tells of a graph that it reads", read_slowly(program, "graph.json", "plain")
-    yield "progress.py", "plain tells of chips that it reads", read_slowly(program, "chips.csv", "plain")
-    yield "progress.py", "run tells of a graph that it reads", read_slowly(program, "graph.json", "run")
-    yield "progress.py", "run tells of chips that it reads", read_slowly(program, "chips.csv", "run")
-    yield "progress.py", "resume tells of a report that it reads", read_slowly(program, "report.json", "resume")
-    yield "progress.py", "plain tells how it goes on", told(program, "plain")
-    yield "progress.py", "resume tells how it goes on", told(program, "resume")
-    yield "progress.py", "run tells how it goes on", told(program, "run")
-    yield "progress.py", "run tells how it goes on, one worker", told(program, "run", "--workers", "1")
-    yield "progress.py", "run tells how it goes on, dealt out", told(program, "run", "--dealt")
-    yield "progress.py", "plain tells how a search goes on", guessed(program)
+def tests(program):
+    """Yields long games."""
     rows = b"vertex,chips,size,extent,lost\n%d,1,0,0,0\n" % ENDLESS
-    yield "progress.py", "avalanches tells how a drop goes on, after its rows", told(program, "avalanches", output=rows)
-    yield "progress.py", "a long play answers the same", same(program, "plain")
-    yield "progress.py", "a long sitting answers the same", same(program, "resume")
-    yield "progress.py", "a long drop answers the same", same(program, "avalanches")
-    yield "progress.py", "a play stopped by its limit answers the same", same(program, "plain", "--limit", "200000000")
     turns = ["--workers", "1", "--turns", "3000000"]
-    yield "progress.py", "a fault stands behind what was told", same(program, "run", *turns)
+    listed = [
+        ("plain tells of a graph that it reads", read_slowly, "graph.json", "plain"),
+        ("plain tells of chips that it reads", read_slowly, "chips.csv", "plain"),
+        ("run tells of a graph that it reads", read_slowly, "graph.json", "run"),
+        ("run tells of chips that it reads", read_slowly, "chips.csv", "run"),
+        ("resume tells of a report that it reads", read_slowly, "report.json", "resume"),
+        ("plain tells how it goes on", told, "plain"),
+        ("resume tells how it goes on", told, "resume"),
+        ("run tells how it goes on", told, "run"),
+        ("run tells how it goes on, one worker", told, "run", "--workers", "1"),
+        ("run tells how it goes on, dealt out", told, "run", "--dealt"),
+        ("plain tells how a search goes on", guessed),
+        ("avalanches tells how a drop goes on, after its rows", functools.partial(told, output=rows), "avalanches"),
+        ("a long play answers the same", same, "plain"),
+        ("a long sitting answers the same", same, "resume"),
+        ("a long drop answers the same", same, "avalanches"),
+        ("a play stopped by its limit answers the same", same, "plain", "--limit", "200000000"),
+        ("a fault stands behind what was told", same, "run", *turns),
+    ]
+    for name, test, *words in listed:
+        yield name, functools.partial(test, program, *words)

@@ -4,9 +4,12 @@ The run is of the triangle with four chips on vertex 0, event for event. Each ed
 places, ten rounds of turns follow, and `resume` goes on from the report. What all comes to is known from playing the game
 by hand: vertex 0 fires twice and vertex 1 once, which leaves one chip on vertex 0 and three on the sink.
 """
+import functools
 import json
 import subprocess
 import tempfile
+
+from paths import EXAMPLES
 
 EVENTS = """take,4 fire,0,2 clear,0 claim,0 put,0 clear,1 claim,1 put,1 take,0 fire,1,1 clear,2 claim,2 put,2 clear,3 claim,3
 put,3 take,1 take,3 ack,3 ack,1 take,2 settle,1 ack,2 settle,2 settle,3 ack,0 settle,0 ack,4 settle,4""".split()
@@ -19,9 +22,9 @@ def row(event):
     return ",".join((event.split(",") + ["0"])[:3])
 
 
-def faults(program, examples, edge, place):
+def faults_of(program, edge, place):
     """What is not as it must be where this edge is sealed before the event at this place."""
-    game = [f"{examples}/triangle/graph.json", f"{examples}/triangle/chips.csv"]
+    game = [f"{EXAMPLES}/triangle/graph.json", f"{EXAMPLES}/triangle/chips.csv"]
     with tempfile.TemporaryDirectory(prefix="chipfire-seal-") as room:
         events = EVENTS[:place] + [f"seal,{edge}"] + EVENTS[place:]
         with open(f"{room}/schedule.csv", "w", encoding="utf-8") as file:
@@ -42,8 +45,7 @@ def faults(program, examples, edge, place):
     return [] if (fired, end["chips"]) == (FIRED, CHIPS) else [f"{lines[-1]} is played on to {end}"]
 
 
-def play_seals(program, examples):
-    """Seals each edge at each place, and yields of each its place, its name and what was not as it must be."""
+def tests(program):
     for edge in range(4):
         for place in range(len(EVENTS) + 1):
-            yield "seals.py", f"edge {edge} sealed before event {place}", faults(program, examples, edge, place)
+            yield f"edge {edge} sealed before event {place}", functools.partial(faults_of, program, edge, place)

@@ -2,6 +2,7 @@
 the row, or what is wrong with the arguments. Where standard error is no terminal there is that line alone. And standard
 input where it is closed, and where it is the file of a trace.
 """
+import functools
 import os
 import pty
 import subprocess
@@ -143,12 +144,17 @@ def take_chips():
     os.dup2(os.open("chips.csv", os.O_RDONLY), 0)
 
 
-def play_terminals(program):
-    """Yields of each run its place, its name and what was not as it must be."""
+def tests(program):
     for words in TOLD:
-        yield "terminal.py", f"chipfire {words}", told_of(program, words)
+        yield f"chipfire {words}", functools.partial(told_of, program, words)
     for words in WRONG:
-        yield "terminal.py", f"chipfire {words}", told_of_wrong(program, words)
+        yield f"chipfire {shown(words)}", functools.partial(told_of_wrong, program, words)
     for words in ("check -", "plain graph.json -", "run graph.json none.csv --feed -"):
-        yield "terminal.py", f"standard input is closed: chipfire {words}", without_input(program, words)
-    yield "terminal.py", "a trace into standard input", traced_into_input(program)
+        yield f"standard input is closed: chipfire {words}", functools.partial(without_input, program, words)
+    yield "a trace into standard input", functools.partial(traced_into_input, program)
+
+
+def shown(words):
+    """Words as a name: without their middle where they are long, and bytes that are no text as numbers."""
+    short = words if len(words) <= 80 else f"{words[:40]} .. {words[-20:]}"
+    return short.encode(errors="surrogateescape").decode(errors="backslashreplace")

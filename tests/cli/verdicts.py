@@ -10,7 +10,10 @@ import subprocess
 import tempfile
 
 import chains
+import listed
+import play
 
+GAMES = 300
 NO_LIMIT = 2**40
 SECONDS = 60
 
@@ -47,7 +50,7 @@ def others(draw, truth, another):
     return [truth, split, less, more, moved, over, sealed, all_more, drawn, greatest, another]
 
 
-def wrong_verdicts(program, room, draw, play):
+def wrong_verdicts(program, room, draw):
     """What is wrong with the verdicts on the reports of one game."""
     graph, chips = chains.random_game(draw)
     limit = draw.choice([NO_LIMIT, draw.randint(0, 6)])
@@ -79,9 +82,11 @@ def wrong_verdicts(program, room, draw, play):
     return found
 
 
-def verify_reports(program, examples, games):
-    """Verifies the reports of so many games, and yields for each its place, name and what was wrong."""
-    play = chains.module_of(examples, "play")
-    for game in range(games):
-        with tempfile.TemporaryDirectory(prefix="chipfire-verdicts-") as room:
-            yield "verdicts.py", f"reports of game {game}", wrong_verdicts(program, room, random.Random(game), play)
+def faults_of(number, program):
+    """What is wrong with the verdicts on the reports of a game of this number."""
+    with tempfile.TemporaryDirectory(prefix="chipfire-verdicts-") as room:
+        return wrong_verdicts(program, room, random.Random(number))
+
+
+def tests(program):
+    return listed.numbered(GAMES, faults_of, program)

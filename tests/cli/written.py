@@ -3,6 +3,7 @@
 The game is the triangle of examples/. Four chips on vertex 0 end at 1, 0 and 3, and one more on vertex 0 fires it once:
 1 more chip on vertex 1 and on the sink.
 """
+import functools
 import os
 import shutil
 import signal
@@ -10,7 +11,9 @@ import stat
 import subprocess
 import tempfile
 import threading
+import unittest
 
+from paths import EXAMPLES
 from progress import ENDLESS as LONGEST
 from progress import write_uphill
 
@@ -30,10 +33,10 @@ NOBODY = 65534
 class Room:
     """A folder with the game, and a program to play it."""
 
-    def __init__(self, program, examples, folder):
+    def __init__(self, program, folder):
         self.program, self.folder = program, folder
         for name in ("graph.json", "chips.csv"):
-            shutil.copy(f"{examples}/triangle/{name}", folder)
+            shutil.copy(f"{EXAMPLES}/triangle/{name}", folder)
         self.write("drops.csv", DROPS.encode())
         self.before = set(os.listdir(folder))
 
@@ -153,14 +156,13 @@ def interrupted(room):
 
 
 def grouped(room):
-    """A report is written in the place of a file of another group, which keeps that. Skipped where no group can be given
-    away."""
+    """A report is written in the place of a file of another group, which keeps that."""
     room.write("report.json", OLD, 0o640)
     groups = [group for group in (NOBODY, *os.getgroups()) if group != os.stat(room.path("report.json")).st_gid]
     try:
         os.chown(room.path("report.json"), -1, groups[0])
     except (PermissionError, IndexError):
-        return []
+        raise unittest.SkipTest("no file can be given to another group here") from None
     before = os.stat(room.path("report.json"))
     came = room.ran([*DROPPED, "report.json"])
     after = os.stat(room.path("report.json"))
@@ -235,26 +237,28 @@ def closed_folder(room):
 
 
 def mounted(room):
-    """A file on which another one is mounted cannot be renamed over, and gets the bytes. Skipped where nobody may mount."""
+    """A file on which another one is mounted cannot be renamed over, and gets the bytes."""
     room.write("report.json", OLD)
     room.write("other", OLD)
     mount = f"mount --bind {room.path('other')} report.json && exec {room.program} {' '.join(DROPPED)} report.json"
     ran = subprocess.run(["unshare", "-m", "sh", "-c", mount], cwd=room.folder, capture_output=True, timeout=SECONDS)
     if ran.returncode != 0 and b"chipfire: fault" not in ran.stderr:
-        return []
+        raise unittest.SkipTest("no file can be mounted on another one here")
     came = ran.stdout, ran.stderr, ran.returncode
     return compared((came, (ROWS, b"", 0)), (room.read("other"), REPORT), (room.more(), ["other", "report.json"]))
 
 
-def write_files(program, examples):
-    """Writes into such files, and yields for each its place, its name and its faults."""
-    tests = [(test.__doc__, test) for test in (replaced, made, kept, cut, interrupted, grouped, linked, piped, full)]
-    tests += [(test.__doc__, test) for test in (nowhere, closed_folder, mounted)]
+def faults_of(program, test, *more):
+    """What a test finds wrong, which takes a `Room`."""
+    with tempfile.TemporaryDirectory(prefix="chipfire-written-") as folder:
+        return test(Room(program, folder), *more)
+
+
+def tests(program):
+    for test in (replaced, made, kept, cut, interrupted, grouped, linked, piped, full, nowhere, closed_folder, mounted):
+        yield test.__name__, functools.partial(faults_of, program, test)
     for words in (DROPPED, RUN):
         for stream in ("stdout", "stderr"):
             for name in ("same", "hard", "soft", f"/dev/{stream}"):
                 named = f"{words[0]} into {name}, which is its {stream}"
-                tests.append((named, lambda room, *it: used(room, *it), words, stream, name))
-    for name, test, *more in tests:
-        with tempfile.TemporaryDirectory(prefix="chipfire-written-") as folder:
-            yield "written.py", name, test(Room(program, examples, folder), *more)
+                yield named, functools.partial(faults_of, program, used, words, stream, name)

@@ -1,6 +1,7 @@
 """Opens, reads and writes that fail, are cut short, move one byte, or are interrupted, each in turn."""
 import errno
 
+import expected
 from machine import LAST
 from worked import FILE, differences
 
@@ -72,7 +73,7 @@ def failing_reads(machine, worked):
             yield f"{worked.name}: read {number} fails by {name}", faults
 
 
-def slow_reads(machine, reference, worked):
+def slow_reads(machine, worked):
     """Reads of one byte give the same; where one fails that is told, and one that gives nothing ends a file there."""
     slow = ("read", 1, LAST, ONE_BYTE)
     whole = lambda: worked.differences(machine.run_refusing(worked.words, slow)[0])
@@ -88,7 +89,7 @@ def slow_reads(machine, reference, worked):
         def cut(number=number, at=at, length=length):
             ran, _ = machine.run_refusing(worked.words, ("read", number, number, NOTHING), slow)
             left = [text[:length] if it == at else text for it, text in enumerate(files)]
-            wanted = reference.answer(worked.words[0], left, **worked.options())
+            wanted = expected.reference().answer(worked.words[0], left, **worked.options())
             return wanted.differences(ran.out, ran.err, ran.status)
 
         yield f"{worked.name}: read {number} of one byte fails", failing
@@ -160,14 +161,13 @@ def failing_threads(machine, worked):
         yield f"{worked.name}: thread {number} cannot be started", faults
 
 
-def tests(machine, reference, runs):
-    for worked in runs:
-        yield from seen_calls(machine, worked)
-        yield from failing_opens(machine, worked)
-        yield from failing_reads(machine, worked)
-        if worked.files():
-            yield from slow_reads(machine, reference, worked)
-        yield from failing_faults(machine, worked) if worked.fault else failing_writes(machine, worked)
-        if FILE in worked.words:
-            yield from failing_files(machine, worked)
-        yield from failing_threads(machine, worked)
+def kinds(worked):
+    """Yields what finds facts of a run."""
+    yield from (seen_calls, failing_opens, failing_reads)
+    if worked.files():
+        yield slow_reads
+    yield failing_faults if worked.fault else failing_writes
+    if FILE in worked.words:
+        yield failing_files
+    if worked.threads:
+        yield failing_threads

@@ -1,4 +1,5 @@
 """The program under test, and a library loaded before it that has calls fail."""
+import functools
 import itertools
 import os
 import struct
@@ -6,6 +7,7 @@ import subprocess
 import sys
 
 import launch
+import listed
 from worked import FILE
 
 HERE = os.path.dirname(os.path.realpath(__file__))
@@ -53,3 +55,9 @@ class Machine:
         """How many calls of each kind a run makes that nothing fails in."""
         _, tally = self.run_refusing(words)
         return {kind: calls for kind, (calls, _) in tally.items()}
+
+
+@functools.cache
+def of(program):
+    """The machine of this process, whose library is built once."""
+    return Machine(program, listed.folder("chipfire-hostile-"))

@@ -41,8 +41,8 @@ def of_search(machine, worked):
     yield f"{worked.name}: its search can do without memory", faults
 
 
-def tests(machine, runs):
-    for worked in runs:
-        yield from of_run(machine, worked)
-        if worked.near_limit:
-            yield from of_search(machine, worked)
+def kinds(worked):
+    """Yields what finds facts of a run."""
+    yield of_run
+    if worked.near_limit:
+        yield of_search

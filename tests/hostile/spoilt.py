@@ -1,14 +1,16 @@
 """Random logs of distributed programs, spoilt by their rows, fields and bytes: the verdicts, or the first fault, must
 be the model's."""
+import functools
 import os
 import random
 
+import expected
 import launch
-import model
+import logs
 import mutate
 
 HEADER = "process,kind,channel\n"
-KINDS = [it.decode() for it in sorted(model.KINDS_OF_MESSAGES | model.KINDS_ALONE)]
+KINDS = [it.decode() for it in sorted(expected.KINDS_OF_MESSAGES | expected.KINDS_ALONE)]
 FIELDS = [*KINDS, "fire", "Send", " send", '"send"', "sen\0d", "", *(it.decode() for it in mutate.NUMBERS)]
 # How many turns the longest log has.
 LONG = 60
@@ -59,18 +61,18 @@ def judged(program, text, options):
         return launch.start([program, "judge", "-", *options], actions=[(os.POSIX_SPAWN_DUP2, file, 0)]).end()
 
 
-def run_of(program, reference, seed):
+def run_of(program, seed):
     """What is wrong with the answer to the log of this seed."""
     draw = random.Random(seed)
-    text = spoilt(reference.logs.random_log(draw, *draw.choice([(), (LONG, 0)])), draw)
+    text = spoilt(logs.random_log(draw, *draw.choice([(), (LONG, 0)])), draw)
     options = {"past": draw.random() < 0.5, "large": draw.random() < 0.05}
     ran = judged(program, text, [f"--{name}" for name, value in options.items() if value])
-    found = reference.answer("judge", [text], **options).differences(ran.out, ran.err, ran.status)
+    found = expected.reference().answer("judge", [text], **options).differences(ran.out, ran.err, ran.status)
     return [f"chipfire judge - {options} on {text}", *found] if found else []
 
 
-def tests(program, reference, count):
-    """So many tests, each a name and what finds its faults."""
-    for number in range(count):
+def facts(program, numbers):
+    """Yields so many logs, each a name and what finds its faults."""
+    for number in numbers:
         seed = f"spoilt logs {number}"
-        yield seed, lambda seed=seed: run_of(program, reference, seed)
+        yield seed, functools.partial(run_of, program, seed)

@@ -3,6 +3,7 @@ import concurrent.futures
 import contextlib
 import dataclasses
 import filecmp
+import functools
 import itertools
 import json
 import os
@@ -14,6 +15,7 @@ import tempfile
 import threading
 import time
 
+import expected
 import launch
 from worked import FILE, NO_MEMORY, differences, fault_differences
 
@@ -131,11 +133,11 @@ def size_limits(machine, worked):
         yield f"{worked.name}: a file with room for {room} bytes", faults
 
 
-def odd_files(machine, worked, room):
+def odd_files(machine, worked):
     """A folder cannot be read, and a device without an end is too long; of files too many one cannot be opened, and no
     further file is needed than the arguments name."""
     for place, path in worked.files():
-        for odd, fault in ((room, "29 Read"), ("/dev/zero", "30 TooLong"), ("/proc/self/mem", "29 Read")):
+        for odd, fault in ((machine.room, "29 Read"), ("/dev/zero", "30 TooLong"), ("/proc/self/mem", "29 Read")):
 
             def faults(place=place, odd=odd, fault=fault):
                 words = [*worked.words[:place], odd, *worked.words[place + 1 :]]
@@ -258,11 +260,11 @@ def read_some(pipe, count):
     return found
 
 
-def leaving_readers(machine, reference):
+def leaving_readers(machine):
     """The reader of a long output goes away in its midst: what went out till then is right, and its length is told."""
     edges = [[vertex, vertex - 1, 1] for vertex in range(1, 4096)]
     text = json.dumps({"edges": edges, "sink": 0, "version": 1, "vertices": 4096}).encode()
-    whole = reference.answer("check", [text]).out
+    whole = expected.reference().answer("check", [text]).out
     # (a pipe holds 65,536 bytes, and more than these are still to come)
     for count in (0, 1, 4096, 65_536, 70_000, len(whole) + 1):
 
@@ -294,25 +296,27 @@ def with_long_graph(worked, file):
     return [*worked.words[:place], file.name, *worked.words[place + 1 :]]
 
 
-def killed(machine, worked, seed):
+def killed(machine, worked, seeds):
     """Ended from outside, as it reads a long file or its threads share a processor, it has written nothing, or all."""
+    for seed in seeds:
+        yield f"{worked.name}: ended at moment {seed}", functools.partial(ended, machine, worked, seed)
 
-    def faults():
-        with tempfile.NamedTemporaryFile(prefix="chipfire-hostile-") as file:
-            if worked.threads:
-                begun = machine.start(worked.words, limits="CORES=1")
-            else:
-                begun = machine.start(with_long_graph(worked, file))
-            time.sleep(random.Random(seed).uniform(0, 0.08))
-            os.kill(begun.process, signal.SIGTERM)
-            ran = begun.end()
-        # (the signal may also come between the last byte and the end of the program)
-        is_ended = ran.status == -signal.SIGTERM
-        if is_ended and not ran.out:
-            return differences(ran, b"", b"", -signal.SIGTERM) + worked.file_faults(ran)
-        return worked.differences(dataclasses.replace(ran, status=worked.status) if is_ended else ran)
 
-    yield f"{worked.name}: ended at moment {seed}", faults
+def ended(machine, worked, seed):
+    """What is wrong with a run that is ended at a moment of this seed."""
+    with tempfile.NamedTemporaryFile(prefix="chipfire-hostile-") as file:
+        if worked.threads:
+            begun = machine.start(worked.words, limits="CORES=1")
+        else:
+            begun = machine.start(with_long_graph(worked, file))
+        time.sleep(random.Random(seed).uniform(0, 0.08))
+        os.kill(begun.process, signal.SIGTERM)
+        ran = begun.end()
+    # (the signal may also come between the last byte and the end of the program)
+    is_ended = ran.status == -signal.SIGTERM
+    if is_ended and not ran.out:
+        return differences(ran, b"", b"", -signal.SIGTERM) + worked.file_faults(ran)
+    return worked.differences(dataclasses.replace(ran, status=worked.status) if is_ended else ran)
 
 
 def many_words(machine):
@@ -375,24 +379,22 @@ def wide_rows(machine, runs):
         yield f"{words[0]}: 16 MiB of commas behind {begin!r} in 160 MB", faults
 
 
-def tests(machine, reference, runs, kills):
-    for worked in runs:
-        yield from closed_streams(machine, worked)
-        yield from useless_streams(machine, worked)
-        yield from size_limits(machine, worked) if not worked.fault else ()
-        yield from odd_files(machine, worked, machine.room)
-        yield from files_over_inputs(machine, worked) if FILE in worked.words else ()
-        yield from small_spaces(machine, worked)
-        yield from several_at_once(machine, worked)
-        yield from slow_pipes(machine, worked)
-    for worked in [runs[0], *(it for it in runs if it.threads)]:
-        for seed in range(kills):
-            yield from killed(machine, worked, seed)
-    yield from unheard_progress(machine, "plain")
-    yield from unheard_progress(machine, "run", "--workers", "1", "--turns", "3000000")
-    yield from leaving_readers(machine, reference)
-    yield from small_stacks(machine)
-    yield from many_words(machine)
-    yield from wide_texts(machine)
-    yield from wide_reports(machine, runs)
-    yield from wide_rows(machine, runs)
+def kinds(worked):
+    """Yields what finds facts of a run."""
+    yield from (closed_streams, useless_streams)
+    if not worked.fault:
+        yield size_limits
+    yield odd_files
+    if FILE in worked.words:
+        yield files_over_inputs
+    yield from (small_spaces, several_at_once)
+    if worked.files():
+        yield slow_pipes
+
+
+def others(runs):
+    """Yields what finds facts of one run, or of none, each with more that it takes."""
+    yield unheard_progress, "plain"
+    yield unheard_progress, "run", "--workers", "1", "--turns", "3000000"
+    yield from ((leaving_readers,), (small_stacks,), (many_words,), (wide_texts,))
+    yield from ((wide_reports, runs), (wide_rows, runs))

@@ -1,10 +1,11 @@
 """Random games with mutated files: the answer, or the first fault, must be the model's."""
 import contextlib
+import functools
 import random
 import tempfile
 
+import expected
 import launch
-import model
 import mutate
 
 NAMES = {
@@ -54,27 +55,27 @@ def placed(command, paths, draw):
 
 
 def played(graph, chips):
-    """The report of a game, as a text, played to its end by the model."""
-    return model.report_answer(graph, list(chips), model.MAX_CHIPS).out.decode()
+    """The report of a game, as a text, played to its end by the expected."""
+    return expected.report_answer(graph, list(chips), expected.MAX_CHIPS).out.decode()
 
 
-def judged(reference, draw):
+def judged(draw):
     """A command at random, its files, mutated, its options, and the answer that must come.
 
     A third file of `run` is the one of its feeds, and one of `plain` a guess.
     """
     while True:
         command = draw.choice(mutate.COMMANDS)
-        files = mutate.mutated(mutate.random_files(command, draw, model.Replay, played), draw)
+        files = mutate.mutated(mutate.random_files(command, draw, expected.Replay, played), draw)
         options = options_of(command, draw)
-        with contextlib.suppress(model.Unjudged):
-            return command, files, options, reference.answer(command, files, **options)
+        with contextlib.suppress(expected.Unjudged):
+            return command, files, options, expected.reference().answer(command, files, **options)
 
 
-def run_of(program, reference, seed):
+def run_of(program, seed):
     """What is wrong with the answer to the files of this seed."""
     draw = random.Random(seed)
-    command, files, options, wanted = judged(reference, draw)
+    command, files, options, wanted = judged(draw)
     with tempfile.TemporaryDirectory(prefix="chipfire-hostile-") as room:
         paths = [f"{room}/{name}" for name in NAMES[command]]
         for path, text in zip(paths, files):
@@ -87,8 +88,8 @@ def run_of(program, reference, seed):
     return [f"chipfire {command} {words} on {files}", *found] if found else []
 
 
-def tests(program, reference, count):
-    """So many tests, each a name and what finds its faults."""
-    for number in range(count):
+def facts(program, numbers):
+    """Yields so many runs, each a name and what finds its faults."""
+    for number in numbers:
         seed = f"mutated files {number}"
-        yield seed, lambda seed=seed: run_of(program, reference, seed)
+        yield seed, functools.partial(run_of, program, seed)

@@ -1,11 +1,11 @@
-"""Runs with answers from outside: those that lie under examples/, which tests/cli/run compares with the scripts there.
+"""Runs with answers from outside: those that lie under examples/, which tests/cli/answers.py compares with the scripts there.
 
 A command is one more line of `worked_runs`. Words that end as files do are taken from examples/; the word `FILE` is a
 file that the run writes: its traces, or a report after its output.
 """
 import dataclasses
 
-import model
+import expected
 
 NO_MEMORY = "90 NoMemory"
 FILE_ENDS = (".json", ".csv")
@@ -102,14 +102,14 @@ class Worked:
         if not (lines.startswith(TRACE_HEADER) or TRACE_HEADER.startswith(text)) or (is_whole and text != lines):
             return [f"these are no traces: {text!r}"]
         graph_text, *chips_texts = self.bytes_of_files()
-        graph = model.read_graph(graph_text)
-        chips, feeds = (model.read_chips(it, graph) for it in (chips_texts + [CHIPS_HEADER])[:2])
+        graph = expected.read_graph(graph_text)
+        chips, feeds = (expected.read_chips(it, graph) for it in (chips_texts + [CHIPS_HEADER])[:2])
         try:
-            traces = model.read_traces(lines or TRACE_HEADER, graph)
-            limit = self.options().get("limit", model.MAX_CHIPS)
-            replay = model.Replay(graph, chips, traces, limit, feeds)
+            traces = expected.read_traces(lines or TRACE_HEADER, graph)
+            limit = self.options().get("limit", expected.MAX_CHIPS)
+            replay = expected.Replay(graph, chips, traces, limit, feeds)
             replay.use_all(is_whole)
-        except model.Fault as fault:
+        except expected.Fault as fault:
             return [f"traces of a run are {fault}: {text!r}"]
         fired = b'"fired":%b' % str(replay.fired).replace(" ", "").encode()
         return [f"the firings of {text!r} are not those of the report"] if is_whole and fired not in ran.out else []

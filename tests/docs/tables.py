@@ -1,23 +1,11 @@
-#!/usr/bin/env python3
-"""Compares the tables of docs/FORMATS.md with what the program and the Python package say: commands with their options and
-exit statuses, rules, and faults. What the help of the program says of exit statuses is compared with that of its commands.
-
-    tests/docs/tables [--program FILE]
-
-FILE is the program that ./chipfire built, if not said. The last line is `N passed, N failed`, each table one; the status
-is 0 only if nothing failed.
+"""The tables of docs/FORMATS.md say what the program and the Python package say: commands with their options and exit
+statuses, rules, and faults. What the help of the program says of exit statuses is compared with that of its commands.
 """
-import argparse
-import os
+import functools
 import re
-import sys
 
-sys.dont_write_bytecode = True
-HERE = os.path.dirname(os.path.realpath(__file__))
-ROOT = os.path.dirname(os.path.dirname(HERE))
-sys.path[:0] = [ROOT, f"{ROOT}/python"]
-from packing import usage  # noqa: E402  (what --help says)
-import chipfire  # noqa: E402
+from packing import usage  # (what --help says)
+from paths import ROOT
 
 
 def rows(page, cells):
@@ -91,6 +79,8 @@ def rules(page, _program):
     for one, its, other, others in rows(page, 4):
         if one.isdigit() and other.isdigit():
             said |= {int(one): its, int(other): others}
+    import chipfire
+
     return said, chipfire.RULES
 
 
@@ -104,22 +94,14 @@ def faults(page, program):
     return sorted(said), [(int(number), name) for number, name in listed]
 
 
-def main():
-    parser = argparse.ArgumentParser(description="Compares tables of docs/FORMATS.md; see the head of this file.")
-    parser.add_argument("--program", default=f"{ROOT}/target/chipfire")
-    program = os.path.realpath(parser.parse_args().program)
+def faults_of(program, table):
+    """Returns what is wrong with a table."""
     with open(f"{ROOT}/docs/FORMATS.md", encoding="utf-8") as file:
         page = file.read()
-    tables = (commands, options, statuses, statuses_of_all, rules, faults)
-    failed = 0
-    for table in tables:
-        said, true = table(page, program)
-        if said != true:
-            failed += 1
-            print(f"{table.__name__}: docs/FORMATS.md or the help has {said}, and in truth they are {true}")
-    print(f"{len(tables) - failed} passed, {failed} failed")
-    return 1 if failed else 0
+    said, true = table(page, program)
+    return [] if said == true else [f"docs/FORMATS.md or the help has {said}, and in truth they are {true}"]
 
 
-if __name__ == "__main__":
-    sys.exit(main())
+def tests(program):
+    for table in (commands, options, statuses, statuses_of_all, rules, faults):
+        yield table.__name__.replace("_", " "), functools.partial(faults_of, program, table)

@@ -1,35 +1,26 @@
-#!/usr/bin/env python3
-"""Does what the pages of the repository show, and compares what comes with what they show.
-
-    tests/docs/run [--program FILE] [PAGE..]
+"""The pages of the repository do what they show.
 
 A block of a page that begins with ```console is a session: a line `$ ` is a command for bash, lines `> ` behind it
 go on with it, and all others are what it writes, on standard output and standard error together. A command ends with
 status 0, or the next one is `echo $?` and shows which it was. A line `..` stands for any lines. The blocks of a page are
 one session, at the top of a clone of its own in which nothing was started yet, as the page has to say before its first
 block. The line by which the first start says where the program comes from is left out. In the end git may find nothing
-in the clone that is new or changed.
+in the clone that is new or changed. The clones have the program, with the libraries beside it, in release/.
 
-There is no network. For a page that imports NumPy, `python3` is that of the system, if the one on the PATH has it not;
-where both have it not, the page is skipped. So is a block that wants a compiler, or virtual environments of Python, that
-are not here. What is skipped is shown.
-
-FILE is the program that ./chipfire built, if not said; the clones have it, with the libraries beside it, in release/.
-PAGE is any that has sessions, all if none is named. Each command and each page counts once, in the last line
-`N passed, N failed`; the status is 0 only if nothing failed.
+There is no network. For a page that imports NumPy, `python3` is that of the system, if the one on the PATH has it not.
+A block that wants what is not here, such as a compiler or virtual environments of Python, is left out. If the rest of
+its page is well, the page is shown as skipped, with what was left out.
 """
-import argparse
 import functools
 import os
 import re
 import shutil
 import subprocess
-import sys
 import tempfile
+import unittest
 
-sys.dont_write_bytecode = True
-HERE = os.path.dirname(os.path.realpath(__file__))
-ROOT = os.path.dirname(os.path.dirname(HERE))
+from paths import ROOT
+
 SECONDS = 300
 SYSTEM = "/usr/bin/python3"
 MARK = "\0"
@@ -150,14 +141,9 @@ def faults_of_page(page, top):
     return faults
 
 
-def faults_of(page, top):
-    """For each command of a page, played at the top of a clone, its place and text, and what of it is not as the page
-    shows; and for the page."""
-    commands = commands_of(page)
-    skipped = missing(commands)
-    for block, tool in skipped.items():
-        print(f"SKIPPED {block}: {tool} is not here", flush=True)
-    commands = [it for it in commands if it.block not in skipped]
+def wrong_commands(commands, top):
+    """Yields for each command of a page, played at the top of a clone, its place and text, and what of it is not as the
+    page shows."""
     answers = played(top, commands)
     answers += [("the session had ended before", "0")] * (len(commands) - len(answers))
     following = [*commands[1:], None]
@@ -167,40 +153,23 @@ def faults_of(page, top):
             faults.append("shown:\n" + "\n".join(command.wanted) + "\ncame:\n" + text)
         if status != "0" and (after is None or after.text != "echo $?"):
             faults.append(f"it ended with status {status}, which the page does not show")
-        yield command.place, command.text, faults
-    yield os.path.relpath(page, ROOT), "", faults_of_page(page, top)
+        yield f"{command.place} {command.text}", faults
 
 
-def clones(program):
-    """Returns what makes a new clone, whose release/ has this program and the libraries beside it."""
-    os.environ["CHIPFIRE_PACKED"] = program
-    sys.path.append(f"{ROOT}/tests/package")
-    import test_released  # (it reads that variable)
-    return test_released.clone
+def faults_of(page):
+    """Returns what is wrong with a page."""
+    import test_released
+
+    commands, top = commands_of(page), test_released.clone()
+    left_out = missing(commands)
+    made = [it for it in commands if it.block not in left_out]
+    found = [f"{name}: {fault}" for name, faults in wrong_commands(made, top) for fault in faults]
+    found += faults_of_page(page, top)
+    if left_out and not found:
+        raise unittest.SkipTest("all but " + ", ".join(f"{block}, for want of {it}" for block, it in left_out.items()))
+    return found
 
 
-def main():
-    parser = argparse.ArgumentParser(description="Does what the pages show; see the head of this file.")
-    parser.add_argument("--program", default=f"{ROOT}/target/chipfire")
-    parser.add_argument("pages", nargs="*")
-    asked = parser.parse_args()
-    program = os.path.realpath(asked.program)
-    if not os.access(program, os.X_OK):
-        print(f"{program} is no program: ./chipfire builds it")
-        print("0 passed, 1 failed")
-        return 1
-    clone = clones(program)
-    passed = failed = 0
-    for page in asked.pages or pages():
-        for place, text, faults in faults_of(page, clone()):
-            if faults:
-                failed += 1
-                print(f"FAILED {place} {text}", *faults, sep="\n    ", flush=True)
-            else:
-                passed += 1
-    print(f"{passed} passed, {failed} failed")
-    return 1 if failed else 0
-
-
-if __name__ == "__main__":
-    sys.exit(main())
+def tests():
+    for page in pages():
+        yield os.path.relpath(page, ROOT), functools.partial(faults_of, page)

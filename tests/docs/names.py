@@ -1,25 +1,16 @@
-#!/usr/bin/env python3
-"""Looks up what the pages cite: each path is there, and each name stands somewhere in the sources. docs/PROVED.md says of
-each statement how many lines of definitions it rests on. What two pages say is the same: see `compared`.
+"""What the pages cite is there: each path is, and each name stands somewhere in the sources. docs/PROVED.md says of each
+statement how many lines of definitions it rests on. What two pages say is the same: see `COMPARED`.
 
-    tests/docs/names
-
-A page is a Markdown file of the repository. What it cites stands between backquotes on one line, outside of blocks. The
-last line is `N passed, N failed`, each page, each statement and each comparison one; the status is 0 only if nothing
-failed.
+A page is a Markdown file of the repository. What it cites stands between backquotes on one line, outside of blocks.
 """
 import functools
 import os
 import re
 import subprocess
-import sys
 
-sys.dont_write_bytecode = True
-HERE = os.path.dirname(os.path.realpath(__file__))
-ROOT = os.path.dirname(os.path.dirname(HERE))
-sys.path.append(f"{ROOT}/tools")
-import definitions  # noqa: E402  (what a statement rests on)
-import prove  # noqa: E402  (which crate stands on which)
+import definitions  # (what a statement rests on)
+import prove  # (which crate stands on which)
+from paths import ROOT
 
 CITED = re.compile(r"`([^`\n]+)`")
 #: A path has a slash, or the ending of a file of the repository.
@@ -252,50 +243,50 @@ def differing(one, other):
     return sorted(name for name in {*one, *other} if one.get(name) != other.get(name))
 
 
-def compared():
-    """Returns for each comparison what is wrong if it finds something, and what it finds."""
-    yield "the drawing of docs/ARCHITECTURE.md is not that of crates.txt", differing(drawn(), reduced())
-    yield "docs/PROVED.md does not trust the libraries that crates.txt has", sorted(trusted() ^ ports())
-    yield "the table of CONTRIBUTING.md is not what the READMEs of the tests say", differing(contributed(), tested_by())
-    yield "the table of CONTRIBUTING.md lacks crates", sorted(untested())
-    yield "docs/BENCHMARKS.md has no row for figures of README.md", unmeasured()
-    yield "it is not said what threads cost, by docs/BENCHMARKS.md", unsaid()
-    yield "README.md does not name the kit of release/PROVED, and no other", misproved()
-    yield "docs/GATE.md does not say what a crate without code costs", uncosted()
-    yield "the table of CONTRIBUTING.md does not name functions without tests", untested_functions()
-    yield "examples/detector/README.md counts other refusals than deficit.txt has", misplaced_refusals()
-    yield "examples/README.md does not name folders", unnamed_examples()
-    yield "pages that are packed cite docs/, and do not say that it is in no package", unpacked_pages()
+#: The comparisons: what is wrong if one finds something, and what finds it.
+COMPARED = {
+    "the drawing of docs/ARCHITECTURE.md is not that of crates.txt": lambda: differing(drawn(), reduced()),
+    "docs/PROVED.md does not trust the libraries that crates.txt has": lambda: sorted(trusted() ^ ports()),
+    "the table of CONTRIBUTING.md is not what the READMEs of the tests say": lambda: differing(contributed(), tested_by()),
+    "the table of CONTRIBUTING.md lacks crates": lambda: sorted(untested()),
+    "docs/BENCHMARKS.md has no row for figures of README.md": unmeasured,
+    "it is not said what threads cost, by docs/BENCHMARKS.md": unsaid,
+    "README.md does not name the kit of release/PROVED, and no other": misproved,
+    "docs/GATE.md does not say what a crate without code costs": uncosted,
+    "the table of CONTRIBUTING.md does not name functions without tests": untested_functions,
+    "examples/detector/README.md counts other refusals than deficit.txt has": misplaced_refusals,
+    "examples/README.md does not name folders": unnamed_examples,
+    "pages that are packed cite docs/, and do not say that it is in no package": unpacked_pages,
+}
 
 
-def miscounted(places):
-    """Returns for each of these places of docs/PROVED.md that has another number of lines what is wrong with it."""
-    for names, path, lines in places:
-        true = format(definitions.count(path, re.findall(r"\w+", names)), ",")
-        if lines != true:
-            yield f"docs/PROVED.md: {names} in {path} rests on {true} lines of definitions, and not on {lines}"
+def wrong_page(page):
+    """Returns what is wrong with what a page cites."""
+    found = sorted(set(dead(page)))
+    return [f"it cites what is not there: {', '.join(found)}"] if found else []
 
 
-def main():
-    failed = 0
-    pages = [it for it in files() if it.endswith(".md")]
-    for page in pages:
-        found = sorted(set(dead(page)))
-        if found:
-            failed += 1
-            print(f"{page} cites what is not there: {', '.join(found)}")
-    comparisons = list(compared())
-    for wrong, found in comparisons:
-        if found:
-            failed += 1
-            print(f"{wrong}: {', '.join(found)}")
-    places = PLACE.findall(" ".join(text_of("docs/PROVED.md").split()))
-    for wrong in miscounted(places):
-        failed += 1
-        print(wrong)
-    print(f"{len(pages) + len(places) + len(comparisons) - failed} passed, {failed} failed")
-    return 1 if failed else 0
+def wrong_comparison(wrong, find):
+    """Returns what is wrong if a comparison finds something."""
+    found = find()
+    return [f"{wrong}: {', '.join(found)}"] if found else []
 
 
-if __name__ == "__main__":
-    sys.exit(main())
+def places():
+    """Returns the places of docs/PROVED.md."""
+    return PLACE.findall(" ".join(text_of("docs/PROVED.md").split()))
+
+
+def wrong_place(names, path, lines):
+    """Returns what is wrong with a place of docs/PROVED.md: it has another number of lines."""
+    true = format(definitions.count(path, re.findall(r"\w+", names)), ",")
+    return [] if lines == true else [f"it rests on {true} lines of definitions, and not on {lines}"]
+
+
+def tests():
+    for page in (it for it in files() if it.endswith(".md")):
+        yield page, functools.partial(wrong_page, page)
+    for names, path, lines in places():
+        yield f"{names} in {path}", functools.partial(wrong_place, names, path, lines)
+    for wrong, find in COMPARED.items():
+        yield f"not {wrong}", functools.partial(wrong_comparison, wrong, find)

@@ -5,9 +5,14 @@ are played by chipfire.model and by `play` below, which fires a vertex as often 
 all their cuts, as tests/cli/logs.py does, or where there are too many by `least_cut` below.
 """
 import dataclasses
+import functools
 import json
 import math
 import re
+
+import logs
+import paths
+import play as slow_player
 
 MAX_MULT = 1 << 20
 MAX_CHIPS = 1 << 40
@@ -129,6 +134,12 @@ class Model:
         lines += ["root closed", core.report()]
         status = 0 if json.loads(lines[-1])["closed"] else 2
         return Answer("".join(f"{line}\n" for line in lines).encode(), status=status)
+
+
+@functools.cache
+def reference():
+    """The program as it must be."""
+    return Model(slow_player, paths.model(), logs)
 
 
 def whole(text, limits=STANDARD):

@@ -1,0 +1,12 @@
+"""The list of the tests of the pages: they do what they show, what they cite is there, and their tables are true."""
+
+import listed
+import names
+import sessions
+import tables
+
+
+def tests(program, _is_long):
+    """Returns all tests."""
+    sets = {"pages": sessions.tests(), "tables": tables.tests(program), "names": names.tests()}
+    return listed.named(sets)

@@ -1,0 +1,187 @@
+"""Runs modules of unittest classes on the Python that starts it, by pytest where that is there, and else by unittest.
+
+    tests/job.py FILE <WHAT
+
+tests/run.py starts it. WHAT is a JSON object: the `group`, its `modules`, the `way` and the `program`, the `names` of the
+tests or null for all of them, and whether they are only to be `listed`. FILE gets the `reader`, and for each test by
+its name what came of it, a word and a text.
+"""
+
+import contextlib
+import importlib
+import importlib.util
+import json
+import sys
+import tempfile
+import traceback
+import unittest
+
+import paths
+import ways
+
+#: What pytest would say of pytest.ini, where it keeps no cache.
+IGNORED = "ignore::pytest.PytestConfigWarning"
+PASSED, FAILED, SKIPPED = "passed", "failed", "skipped"
+
+
+class Outcomes(dict):
+    """What came of each test by its name. What a test or a part of it did wrong is never forgotten."""
+
+    def add(self, name, word, text=""):
+        before, said = self.get(name, (PASSED, ""))
+        if before == FAILED:
+            self[name] = (FAILED, f"{said}\n{text}")
+        elif before == PASSED or word == FAILED:
+            self[name] = (word, text)
+
+
+def name_of(case):
+    """Returns the name of a test of unittest: its module, class and method."""
+    return case.id().replace(".", "::")
+
+
+def cases_of(suite):
+    """Yields the tests of a suite, one after the other."""
+    for test in suite:
+        if isinstance(test, unittest.TestSuite):
+            yield from cases_of(test)
+        else:
+            yield test
+
+
+class Result(unittest.TestResult):
+    """Notes what comes of each test, and of the set-up of classes under their names."""
+
+    def __init__(self):
+        super().__init__()
+        self.outcomes = Outcomes()
+
+    def addSuccess(self, test):
+        self.outcomes.add(name_of(test), PASSED)
+
+    def addFailure(self, test, err):
+        super().addFailure(test, err)
+        self.outcomes.add(name_of(test), FAILED, self.failures[-1][1])
+
+    def addError(self, test, err):
+        super().addError(test, err)
+        self.outcomes.add(name_of(test), FAILED, self.errors[-1][1])
+
+    def addSkip(self, test, reason):
+        self.outcomes.add(name_of(test), SKIPPED, reason)
+
+    def addSubTest(self, test, subtest, err):
+        super().addSubTest(test, subtest, err)
+        if err is not None:
+            self.outcomes.add(name_of(test), FAILED, [*self.errors, *self.failures][-1][1])
+
+    def addUnexpectedSuccess(self, test):
+        self.outcomes.add(name_of(test), FAILED, "it was expected to fail")
+
+
+def cases_in(modules, outcomes):
+    """Returns the tests of these modules; of one that cannot be imported it is noted why."""
+    cases = []
+    for name in modules:
+        try:
+            module = importlib.import_module(name)
+        except unittest.SkipTest as skipped:
+            outcomes.add(name, SKIPPED, str(skipped))
+        except Exception:
+            outcomes.add(name, FAILED, traceback.format_exc())
+        else:
+            cases += cases_of(unittest.defaultTestLoader.loadTestsFromModule(module))
+    return cases
+
+
+def by_unittest(asked):
+    """Returns what came of the tests that are asked for, by unittest."""
+    result = Result()
+    cases = cases_in(asked["modules"], result.outcomes)
+    if asked["names"] is not None:
+        cases = [it for it in cases if name_of(it) in asked["names"]]
+    unittest.TestSuite(cases).run(result)
+    outcomes = result.outcomes
+    for case in cases:
+        if name_of(case) not in outcomes:
+            # (its class could not be set up, or was skipped by that)
+            place = f"setUpClass ({case.id().rpartition('.')[0]})".replace(".", "::")
+            outcomes.add(name_of(case), *outcomes.get(place, (FAILED, "it did not run")))
+    for place in [it for it in outcomes if it.startswith("setUpClass ")]:
+        del outcomes[place]
+    return outcomes
+
+
+class Recorder:
+    """A plugin of pytest that takes the tests with some names, and notes what comes of each."""
+
+    def __init__(self, names):
+        self.names, self.outcomes = names, Outcomes()
+
+    def name_of(self, node):
+        """Returns the name of a test as unittest has it."""
+        path, *parts = node.split("::")
+        return "::".join([path.rpartition("/")[2].removesuffix(".py"), *parts])
+
+    def pytest_collection_modifyitems(self, config, items):
+        if self.names is not None:
+            left = [it for it in items if self.name_of(it.nodeid) not in self.names]
+            items[:] = [it for it in items if it not in left]
+            config.hook.pytest_deselected(items=left)
+
+    def pytest_collectreport(self, report):
+        self.note(report, is_told=False)
+
+    def pytest_runtest_logreport(self, report):
+        self.note(report, is_told=report.when == "call")
+
+    def note(self, report, is_told):
+        """Notes what a report says; that all went well only where it is one of a whole test."""
+        name = self.name_of(report.nodeid)
+        if report.skipped:
+            self.outcomes.add(name, SKIPPED, report.longrepr[2].removeprefix("Skipped: "))
+        elif report.failed:
+            self.outcomes.add(name, FAILED, report.longreprtext)
+        elif is_told:
+            self.outcomes.add(name, PASSED)
+
+
+def by_pytest(asked):
+    """Returns what came of the tests that are asked for, by pytest; tests/conftest.py takes the way."""
+    import pytest
+
+    recorder = Recorder(asked["names"])
+    files = [f"{paths.HERE}/{asked['group']}/{it}.py" for it in asked["modules"]]
+    options = [f"--program={asked['program']}", f"--way={asked['way']}"]
+    status = pytest.main(
+        ["-q", "-p", "no:cacheprovider", "-W", IGNORED, *options, *files], plugins=[recorder]
+    )
+    if status not in (pytest.ExitCode.OK, pytest.ExitCode.TESTS_FAILED):
+        recorder.outcomes.add(" ".join(asked["modules"]), FAILED, f"pytest ended with {status!r}")
+    return recorder.outcomes
+
+
+def listed(asked):
+    """Returns the tests that there are; what comes of them is not known."""
+    outcomes = Outcomes()
+    for case in cases_in(asked["modules"], outcomes):
+        outcomes.add(name_of(case), PASSED)
+    return outcomes
+
+
+def main():
+    asked = json.load(sys.stdin)
+    has_pytest = importlib.util.find_spec("pytest") is not None
+    reader = "pytest" if has_pytest else "unittest"
+    with contextlib.ExitStack() as stack:
+        if asked["listed"] or not has_pytest:
+            folder = tempfile.TemporaryDirectory(prefix="chipfire-tests-")
+            ways.take(asked["way"], asked["program"], stack.enter_context(folder))
+        by_reader = by_pytest if has_pytest else by_unittest
+        outcomes = listed(asked) if asked["listed"] else by_reader(asked)
+    with open(sys.argv[1], "w", encoding="utf-8") as file:
+        json.dump({"reader": reader, "outcomes": outcomes}, file)
+
+
+if __name__ == "__main__":
+    main()

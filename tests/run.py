@@ -1,0 +1,369 @@
+#!/usr/bin/env python3
+"""Runs the tests of the built program, of its libraries and packages, of the Python package and of the pages.
+
+    tests/run.py [GROUP ..] [NAME ..] [-k WORDS] [--lf] [--list] [--long] [--program FILE]
+
+GROUPS are these, all of them if none is named:
+
+    cli       the command line: cases, random games, large ones, what is told and written
+    python    python/chipfire and examples/python, by each way of ways.py, on this Python and on the system's
+    docs      what the pages show, in a fresh clone; what they cite; the tables of docs/FORMATS.md
+    hostile   mutated files, refused memory, failing reads and writes, the system around the program
+    library   the libraries, from C and by ctypes
+    package   the packages that ./package makes
+
+A NAME begins the name of a test, or what follows its set; WORDS stand somewhere in it; with --lf the tests are made that
+failed when they were made last. --list shows the names. --long makes many more mutated files, logs and large games. FILE
+is the program that ./chipfire built, if not said; the libraries lie beside it.
+
+The tests of python, library and package are classes of unittest, which pytest runs if that Python has it, and else
+unittest. Those of the other groups are lists, which a loop goes through here; pytest takes the same lists. Processes do
+this side by side, as many as there are processors. A test that is skipped is shown with its reason and counted as
+neither. A group that is run as a whole may have no fewer tests than counts.txt says. The last line is `N passed, N
+failed`, and the status is 0 only if nothing failed.
+"""
+
+import argparse
+import collections
+import concurrent.futures
+import contextlib
+import dataclasses
+import importlib
+import json
+import multiprocessing
+import os
+import subprocess
+import sys
+import tempfile
+import time
+import typing
+import unittest
+
+import paths
+
+paths.add()
+import counts  # noqa: E402
+import job  # noqa: E402
+import listed  # noqa: E402
+import ways  # noqa: E402
+
+SYSTEM = "/usr/bin/python3"
+#: The names of tests that failed when they were made last, each after its group.
+LAST = f"{paths.ROOT}/target/tests-failed"
+LISTS = ("cli", "docs", "hostile")
+#: What takes longest, the first of it most: a group with a set of it, or all of it. It is begun before all else, and if
+#: it is listed it is dealt out to several processes.
+LONGEST = (
+    "package",
+    "hostile calls",
+    "cli large",
+    "hostile texts",
+    "hostile logs",
+    "hostile system",
+    "hostile memory",
+    "docs pages",
+    "cli crews",
+    "cli drops",
+    "cli guesses",
+    "cli verdicts",
+    "cli logs",
+    "cli progress",
+    "cli feeds",
+    "cli closing",
+    "python test_schedules",
+    "python test_computations",
+    "python test_package",
+)
+#: The listed tests of each group by their names. (Processes that are forked have them too.)
+TESTS = {}
+
+
+@dataclasses.dataclass
+class Job:
+    """Tests that one process makes, one after another: those of a set, or with `names` some of them."""
+
+    group: str
+    of_set: str
+    names: typing.Optional[list] = None
+    way: str = ""
+    python: str = sys.executable
+
+    def place(self):
+        """Where it stands among what takes longest, or behind all of that."""
+        words = [self.group, f"{self.group} {self.of_set}"]
+        return min((LONGEST.index(it) for it in words if it in LONGEST), default=len(LONGEST))
+
+    def road(self):
+        """What tests/counts.txt calls its way."""
+        return self.way if self.python == sys.executable else f"{self.way} elsewhere"
+
+    def told(self):
+        """What tells it from others."""
+        of_python = [self.way, self.python] if self.group == "python" else []
+        return ", ".join([f"{self.group} {self.of_set}", *of_python])
+
+
+@dataclasses.dataclass
+class Made:
+    """What came of a job: the reader of its tests, what came of each, how long it took, and what else was shown."""
+
+    reader: str
+    outcomes: dict
+    seconds: float
+    shown: str = ""
+
+    def count(self, word):
+        return sum(it[0] == word for it in self.outcomes.values())
+
+
+def listed_tests(group, program, is_long):
+    """Returns the tests of a list, by their names."""
+    module = importlib.import_module(f"{group}_tests")
+    return {it.name: it for it in module.tests(program, is_long)}
+
+
+def modules_of(group):
+    """Returns the modules of a group of unittest classes."""
+    names = sorted(os.listdir(f"{paths.HERE}/{group}"))
+    return [it[: -len(".py")] for it in names if it.startswith("test_") and it.endswith(".py")]
+
+
+def roads_of(group):
+    """Yields the ways that a group of unittest classes goes, each with its Python and its modules."""
+    modules = modules_of(group)
+    if group != "python":
+        yield "", sys.executable, modules
+        return
+    is_other = os.path.exists(SYSTEM) and os.path.realpath(SYSTEM) != os.path.realpath(
+        sys.executable
+    )
+    for python in [sys.executable, *[SYSTEM] * is_other]:
+        for way in ways.WAYS:
+            names = modules if way == "process" else [it for it in modules if it in ways.BY_LIBRARY]
+            yield way, python, [
+                it for it in names if python == sys.executable or it not in ways.BY_ONE
+            ]
+
+
+def outcome_of(test):
+    """Returns what came of a listed test, a word and a text."""
+    try:
+        faults = listed.faults_of(test)
+    except unittest.SkipTest as skipped:
+        return job.SKIPPED, str(skipped)
+    return (job.FAILED, "\n".join(faults)) if faults else (job.PASSED, "")
+
+
+def read(its, program, is_listed=False):
+    """Has job.py make the tests of a job, or list them."""
+    asked = {"group": its.group, "modules": its.of_set.split(), "way": its.way or ways.WAYS[0]}
+    asked |= {"program": program, "names": its.names, "listed": is_listed}
+    with tempfile.NamedTemporaryFile("r", prefix="chipfire-job-", encoding="utf-8") as file:
+        how = {
+            "stdout": subprocess.PIPE,
+            "stderr": subprocess.STDOUT,
+            "encoding": "utf-8",
+            "errors": "replace",
+        }
+        words = [its.python, f"{paths.HERE}/job.py", file.name]
+        ran = subprocess.run(words, input=json.dumps(asked), cwd=paths.ROOT, **how)
+        text = file.read()
+    if text:
+        return Made(**json.loads(text), seconds=0, shown=ran.stdout)
+    return Made(
+        "no reader",
+        {its.of_set: (job.FAILED, f"it ended with status {ran.returncode}")},
+        0,
+        ran.stdout,
+    )
+
+
+def made(its, program):
+    """Returns what came of a job."""
+    begun = time.monotonic()
+    if its.group in LISTS:
+        outcomes = {name: outcome_of(TESTS[its.group][name]) for name in its.names}
+        result = Made("a loop", outcomes, 0)
+    else:
+        result = read(its, program)
+    result.seconds = time.monotonic() - begun
+    return result
+
+
+class Choice:
+    """Which tests are asked for."""
+
+    def __init__(self, asked):
+        self.groups = [it for it in asked.words if it in paths.GROUPS] or list(paths.GROUPS)
+        self.starts = [it for it in asked.words if it not in paths.GROUPS]
+        self.words, self.last = asked.k, last_failed() if asked.lf else None
+        self.is_whole = not (self.starts or self.words or asked.lf)
+
+    def has(self, group, name):
+        """Whether a test is asked for."""
+        is_one = not self.starts or any(listed.is_named(name, it) for it in self.starts)
+        is_one &= not self.words or listed.has_words(name, self.words)
+        return is_one and (self.last is None or (group, name) in self.last)
+
+
+def last_failed():
+    """Returns the tests that failed when they were made last, each by its group and name."""
+    with contextlib.suppress(FileNotFoundError), open(LAST, encoding="utf-8") as file:
+        return {tuple(line.rstrip("\n").split(" ", 1)) for line in file}
+    return set()
+
+
+def keep_failed(results):
+    """Notes which tests failed, and which of those before did not."""
+    its = [
+        (it.group, name, word)
+        for it, result in results
+        for name, (word, _) in result.outcomes.items()
+    ]
+    failed = {(group, name) for group, name, word in its if word == job.FAILED}
+    kept = (last_failed() - {(group, name) for group, name, _ in its}) | failed
+    with open(LAST, "w", encoding="utf-8") as file:
+        file.writelines(f"{group} {name}\n" for group, name in sorted(kept))
+
+
+def jobs_of_list(group, choice, lanes):
+    """Yields the jobs of a list, and deals long sets out."""
+    sets = collections.defaultdict(list)
+    for name in TESTS[group]:
+        if choice.has(group, name):
+            sets[name.partition("::")[0]].append(name)
+    for of_set, names in sets.items():
+        parts = min(lanes, len(names)) if f"{group} {of_set}" in LONGEST else 1
+        yield from (Job(group, of_set, names[at::parts]) for at in range(parts))
+
+
+def names_of_classes(group, choice, program):
+    """Returns the names of the tests of unittest classes that are asked for."""
+    names = read(Job(group, " ".join(modules_of(group))), program, is_listed=True).outcomes
+    return [it for it in names if choice.has(group, it)]
+
+
+def jobs_of_classes(group, choice, program):
+    """Yields the jobs of a group of unittest classes, a module each."""
+    names = None if choice.is_whole else names_of_classes(group, choice, program)
+    for way, python, modules in roads_of(group):
+        for module in modules:
+            its = names and [it for it in names if it.partition("::")[0] == module]
+            if names is None or its:
+                yield Job(group, module, its, way, python)
+
+
+def jobs_of(choice, program, lanes):
+    """Returns the jobs of the tests that are asked for, the longest first."""
+    jobs = []
+    for group in choice.groups:
+        if group in LISTS:
+            jobs += jobs_of_list(group, choice, lanes)
+        else:
+            jobs += jobs_of_classes(group, choice, program)
+    return sorted(jobs, key=Job.place)
+
+
+def show(its, result):
+    """Shows what came of a job: what failed as a whole, and what was skipped by name."""
+    words = (job.PASSED, job.FAILED, job.SKIPPED)
+    said = ", ".join(f"{result.count(word)} {word}" for word in words)
+    print(f"== {its.told()}: {said} by {result.reader} in {result.seconds:.1f} s")
+    for name, (word, text) in result.outcomes.items():
+        if word == job.SKIPPED:
+            print(f"SKIPPED {name}: {text}")
+        elif word == job.FAILED:
+            print(f"FAILED {name}", *text.splitlines(), sep="\n    ")
+            print(f"To repeat it: {listed.repeating(its.group, name)}")
+    if result.shown and result.count(job.FAILED):
+        print("It wrote:", *result.shown.splitlines(), sep="\n    ")
+    sys.stdout.flush()
+
+
+def use_room(room):
+    """Has a process of the pool write into a folder, which goes in the end."""
+    tempfile.tempdir = room
+
+
+def run_all(jobs, program, lanes):
+    """Runs jobs side by side, shows what comes of each, and returns all of it."""
+    results = []
+    with tempfile.TemporaryDirectory(prefix="chipfire-tests-") as room:
+        # (some tests try there what another user may do)
+        os.chmod(room, 0o711)
+        fork = multiprocessing.get_context("fork")
+        with concurrent.futures.ProcessPoolExecutor(lanes, fork, use_room, (room,)) as pool:
+            begun = {pool.submit(made, it, program): it for it in jobs}
+            for future in concurrent.futures.as_completed(begun):
+                results.append((begun[future], future.result()))
+                show(*results[-1])
+    return results
+
+
+def too_few(results):
+    """Yields what is wrong with the numbers of tests of whole groups."""
+    numbers = collections.Counter()
+    for its, result in results:
+        numbers[its.group, its.road()] += len(result.outcomes)
+    for (group, road), count in numbers.items():
+        print(f"== {group} {road}".rstrip() + f": {count} tests")
+        yield from counts.wrong(group, road, count)
+
+
+def parsed():
+    """Returns what is asked for."""
+    parser = argparse.ArgumentParser(description="Runs tests; see the head of this file.")
+    parser.add_argument("--program", default=f"{paths.ROOT}/target/chipfire", metavar="FILE")
+    parser.add_argument("-k", metavar="WORDS", help="only tests whose names have these words")
+    parser.add_argument(
+        "--lf", action="store_true", help="only tests that failed when they were made last"
+    )
+    parser.add_argument("--list", action="store_true", help="shows the names of the tests")
+    parser.add_argument(
+        "--long", action="store_true", help="many more mutated files, logs and large games"
+    )
+    parser.add_argument("words", nargs="*", metavar="GROUP or NAME")
+    return parser.parse_args()
+
+
+def show_names(choice, program):
+    """Shows the names of the tests that are asked for, each after its group."""
+    for group in choice.groups:
+        if group in LISTS:
+            names = [it for it in TESTS[group] if choice.has(group, it)]
+        else:
+            names = names_of_classes(group, choice, program)
+        for name in names:
+            print(group, name)
+
+
+def main():
+    asked = parsed()
+    program = os.path.realpath(asked.program)
+    lanes = len(os.sched_getaffinity(0))
+    choice = Choice(asked)
+    if wrong := ways.missing(program):
+        print(wrong, "0 passed, 1 failed", sep="\n")
+        return 1
+    ways.take(ways.WAYS[0], program, None)
+    for group in set(LISTS) & set(choice.groups):
+        TESTS[group] = listed_tests(group, program, asked.long)
+    if asked.list:
+        show_names(choice, program)
+        return 0
+    jobs = jobs_of(choice, program, lanes)
+    if not jobs:
+        print("No test has such a name, or failed before.", "0 passed, 1 failed", sep="\n")
+        return 1
+    results = run_all(jobs, program, lanes)
+    keep_failed(results)
+    wrong = list(too_few(results)) if choice.is_whole else []
+    for line in wrong:
+        print(f"FAILED {line}")
+    passed, failed = (sum(it.count(word) for _, it in results) for word in (job.PASSED, job.FAILED))
+    print(f"{passed} passed, {failed + len(wrong)} failed")
+    return 1 if failed or wrong else 0
+
+
+if __name__ == "__main__":
+    sys.exit(main())

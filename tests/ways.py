@@ -1,0 +1,76 @@
+"""The ways in which tests find the program and the package, and which modules of tests/python go which way.
+
+By the *process* the environment variable CHIPFIRE names the program, so that each call of the package starts it. By the
+*library* the package lies in a folder with program and library, as in a wheel.
+"""
+
+import hashlib
+import os
+import shutil
+import subprocess
+
+import paths
+
+WAYS = ("process", "library")
+SHARED, STATIC = "libchipfire.so", "libchipfire.a"
+#: The modules that test what the library answers, and those that only one Python needs to run.
+BY_LIBRARY = (
+    "test_configurations",
+    "test_counts",
+    "test_divisors",
+    "test_drops",
+    "test_ensembles",
+    "test_forms",
+    "test_groups",
+    "test_library",
+    "test_loops",
+    "test_package",
+    "test_polynomials",
+    "test_sandpile_words",
+    "test_sandpiles",
+    "test_wrong_inputs",
+)
+BY_ONE = ("test_browser", "test_finding")
+
+
+def missing(program):
+    """Returns what is not there of a program and the libraries beside it, as a sentence, or nothing."""
+    folder = os.path.dirname(program)
+    here = set(os.listdir(folder)) if os.path.isdir(folder) else set()
+    if os.access(program, os.X_OK) and {SHARED, STATIC} <= here:
+        return ""
+    return f"{program} is no program, or has no libraries beside it: ./chipfire builds all"
+
+
+def carried(folder, program):
+    """Returns a folder with the package, which carries the program and the library with what is stated of it."""
+    package = shutil.copytree(f"{paths.PACKAGE}/chipfire", f"{folder}/chipfire")
+    os.mkdir(f"{package}/program")
+    shutil.copy(program, f"{package}/program/chipfire")
+    shutil.copy(f"{os.path.dirname(program)}/{SHARED}", f"{package}/program")
+    how = {"stdout": subprocess.PIPE, "encoding": "ascii", "check": True}
+    told = subprocess.run([program, "--version"], **how).stdout
+    with open(f"{package}/program/{SHARED}", "rb") as file:
+        digest = hashlib.sha256(file.read()).hexdigest()
+    stated = f"{told}{SHARED} sha256:{digest}\n"
+    for name, text in (("version", told.split()[-1]), ("program/PROVED", stated)):
+        with open(f"{package}/{name}", "w", encoding="ascii") as file:
+            file.write(text)
+    return folder
+
+
+def take(way, program, folder):
+    """Has the tests of this process go a way, which may write into a folder: their environment and what they import."""
+    os.environ.update(
+        CHIPFIRE_PACKED=program,
+        CHIPFIRE_BUILT=os.path.dirname(program),
+        PYTHONDONTWRITEBYTECODE="1",
+    )
+    package = paths.PACKAGE
+    if way == "process":
+        os.environ["CHIPFIRE"] = program
+    else:
+        os.environ.pop("CHIPFIRE", None)
+        package = carried(folder, program)
+    os.environ["PYTHONPATH"] = package
+    paths.add(package)

@@ -3,51 +3,42 @@ import io
 import lzma
 import tarfile
 
-from packing import changes, contents
-from packing.contents import LINK, File
-from packing.proved import version
+import contents
+from contents import archive_places as places
+from contents import archive_top as top
+from packing import build, changes
+from packing.build import LINK, File
 from packing.repository import Refused
 
-#: The folder of the libraries.
-LIBRARIES = "lib"
 
-
-def top(of=None):
-    """Returns the name of the one folder in the archive of a version: of this one if none is said."""
-    return f"chipfire-{of or version()}"
-
-
-def name_of(of):
-    """Returns the name of the archive of a version."""
-    return f"{top(of)}-x86_64-linux.tar.xz"
-
-
-def name(build):
+def name(packed):
     """Returns the archive's name."""
-    return name_of(build.stated.version)
+    return contents.archive_name(packed.stated.version)
 
 
-def files(build):
+def files(packed):
     """Returns the archive's files by their names."""
-    return {f"{top()}/{place}": file for place, file in contents.files(build, LIBRARIES).items()}
-
-
-def places(of=None):
-    """Returns where all is that PROVED is about, and PROVED, in the archive of a version: of this one if none is said."""
-    return {word: f"{top(of)}/{place}" for word, place in contents.places(LIBRARIES).items()}
+    inside = build.files(packed, contents.ARCHIVE_LIBRARIES)
+    return {f"{top()}/{place}": file for place, file in inside.items()}
 
 
 def documents(found):
     """Returns the documents among the files of an archive, by their places."""
-    return {place: found[f"{top()}/{place}"].data for place in (contents.MANUAL, *contents.COMPLETIONS)}
+    return {
+        place: found[f"{top()}/{place}"].data for place in (contents.MANUAL, *contents.COMPLETIONS)
+    }
 
 
-def write(path, build):
+def write(path, packed):
     """Writes the archive of a build. All its files are root's, and of the version's day."""
     with tarfile.open(path, "w:xz", format=tarfile.GNU_FORMAT) as archive:
-        for name, file in sorted(files(build).items()):
+        for name, file in sorted(files(packed).items()):
             entry = tarfile.TarInfo(name)
-            entry.size, entry.mode, entry.mtime = len(file.data), file.mode & 0o7777, changes.seconds()
+            entry.size, entry.mode, entry.mtime = (
+                len(file.data),
+                file.mode & 0o7777,
+                changes.seconds(),
+            )
             entry.uname = entry.gname = "root"
             if file.mode == LINK:
                 entry.type, entry.linkname, entry.size = tarfile.SYMTYPE, file.data.decode(), 0

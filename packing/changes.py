@@ -3,7 +3,7 @@ import calendar
 import re
 import time
 
-from packing.proved import version
+from contents import version
 from packing.repository import Refused, content
 
 

@@ -9,8 +9,12 @@ def words_of(command):
 
 def with_value(commands, is_file):
     """Returns the options whose value is the name of a file, or those with another value."""
-    options = {f"--{it.long}" for command in commands for it in command.options
-               if it.value and (it.value == FILE) == is_file}
+    options = {
+        f"--{it.long}"
+        for command in commands
+        for it in command.options
+        if it.value and (it.value == FILE) == is_file
+    }
     return "|".join(sorted(options))
 
 
@@ -56,11 +60,16 @@ def zsh_text(text):
     return text.replace("'", "'\\''").replace("[", "\\[").replace("]", "\\]").replace(":", "\\:")
 
 
+def zsh_value(option):
+    """Returns the words for _arguments about the value of an option."""
+    return f":{option.value}:{'_files' if option.value == FILE else ' '}"
+
+
 def zsh_options(options):
     """Returns the words for _arguments about options."""
     found = []
     for option in options:
-        sign, value = ("=", f":{option.value}:{'_files' if option.value == FILE else ' '}") if option.value else ("", "")
+        sign, value = ("=", zsh_value(option)) if option.value else ("", "")
         found += [f"'{word}{sign}[{zsh_text(option.text)}]{value}'" for word in option.words()]
     return found
 
@@ -68,8 +77,10 @@ def zsh_options(options):
 def zsh_operands(command):
     """Returns the words for _arguments about operands."""
     files = command.files()
-    return [f"'{place}:{zsh_text(text)}:{'_files' if name in files else ' '}'"
-            for place, (name, text) in enumerate(command.operands, 1)]
+    return [
+        f"'{place}:{zsh_text(text)}:{'_files' if name in files else ' '}'"
+        for place, (name, text) in enumerate(command.operands, 1)
+    ]
 
 
 def zsh_case(command):

@@ -7,13 +7,13 @@ import subprocess
 import tempfile
 import textwrap
 
-from packing import archive, changes, contents, needs
-from packing.contents import LINK, File
-from packing.proved import build_wheel, version
+import contents
+from contents import debian_places as places
+from contents import version
+from packing import archive, build, changes, needs
+from packing.build import LINK, File
+from wheels import gzipped
 
-DOCUMENTS = "usr/share/doc/chipfire"
-#: The folder of the libraries in /usr: that of this machine's kind.
-LIBRARIES = "lib/x86_64-linux-gnu"
 MAINTAINER = "The authors of chipfire <authors@chipfire.invalid>"
 COPYRIGHT = """\
 Format: https://www.debian.org/doc/packaging-manuals/copyright-format/1.0/
@@ -48,54 +48,59 @@ Description: distributed chip-firing machine that is proved right
 """
 
 
-def name(build):
+def name(packed):
     """Returns the package's file name."""
-    return f"chipfire_{version()}_amd64.deb"
-
-
-def packed(text):
-    """Returns a text as gzip packs it."""
-    return File(build_wheel.gzipped(text))
+    return contents.debian_name()
 
 
 def changelog():
     """Returns the list of changes as Debian writes it."""
-    points = "\n".join(textwrap.fill(it, 76, initial_indent="  * ", subsequent_indent="    ") for it in changes.entry()[1])
+    points = "\n".join(
+        textwrap.fill(it, 76, initial_indent="  * ", subsequent_indent="    ")
+        for it in changes.entry()[1]
+    )
     day = email.utils.formatdate(changes.seconds())
-    return f"chipfire ({version()}) unstable; urgency=medium\n\n{points}\n\n -- {MAINTAINER}  {day}\n"
+    return (
+        f"chipfire ({version()}) unstable; urgency=medium\n\n{points}\n\n -- {MAINTAINER}  {day}\n"
+    )
 
 
-def control(build, size):
+def control(packed, size):
     """Returns what dpkg reads of a build whose files have so many bytes."""
-    libc = "{}.{}".format(*needs.c_library(build.built["program"]))
-    return CONTROL.format(version=version(), maintainer=MAINTAINER, size=(size + 1023) // 1024, libc=libc)
+    libc = "{}.{}".format(*needs.c_library(packed.built["program"]))
+    return CONTROL.format(
+        version=version(), maintainer=MAINTAINER, size=(size + 1023) // 1024, libc=libc
+    )
 
 
-def files(build):
+def files(packed):
     """Returns the package's files by their names in the root, with those that dpkg reads below DEBIAN."""
-    found = {f"usr/{place}": file for place, file in contents.files(build, LIBRARIES).items()}
-    found[f"usr/{contents.MANUAL}.gz"] = packed(found.pop(f"usr/{contents.MANUAL}").data)
-    found[f"{DOCUMENTS}/changelog.gz"] = packed(changelog().encode())
-    found[f"{DOCUMENTS}/copyright"] = File(COPYRIGHT.encode())
-    found["usr/share/lintian/overrides/chipfire"] = File(OVERRIDES.encode())
-    sums = [f"{hashlib.md5(file.data).hexdigest()}  {name}\n" for name, file in sorted(found.items()) if file.mode != LINK]
+    inside = build.files(packed, contents.DEBIAN_LIBRARIES)
+    found = {f"usr/{place}": file for place, file in inside.items()}
+    found[contents.DEBIAN_MANUAL] = File(gzipped(found.pop(f"usr/{contents.MANUAL}").data))
+    found[contents.DEBIAN_CHANGES] = File(gzipped(changelog().encode()))
+    found[contents.DEBIAN_COPYRIGHT] = File(COPYRIGHT.encode())
+    found[contents.DEBIAN_OVERRIDES] = File(OVERRIDES.encode())
+    sums = [
+        f"{hashlib.md5(file.data).hexdigest()}  {name}\n"
+        for name, file in sorted(found.items())
+        if file.mode != LINK
+    ]
     size = sum(len(file.data) for file in found.values())
     found["DEBIAN/md5sums"] = File("".join(sums).encode())
     found["DEBIAN/shlibs"] = File(f"libchipfire 0 chipfire (>= {version()})\n".encode())
     found["DEBIAN/triggers"] = File(b"activate-noawait ldconfig\n")
-    found["DEBIAN/control"] = File(control(build, size).encode())
+    found["DEBIAN/control"] = File(control(packed, size).encode())
     return found
-
-
-def places():
-    """Returns where all is in it that PROVED is about, and PROVED."""
-    return {word: f"usr/{place}" for word, place in contents.places(LIBRARIES).items()}
 
 
 def documents(found):
     """Returns the documents among the files of a package, by their places."""
-    page = gzip.decompress(found[f"usr/{contents.MANUAL}.gz"].data)
-    return {contents.MANUAL: page, **{place: found[f"usr/{place}"].data for place in contents.COMPLETIONS}}
+    page = gzip.decompress(found[contents.DEBIAN_MANUAL].data)
+    return {
+        contents.MANUAL: page,
+        **{place: found[f"usr/{place}"].data for place in contents.COMPLETIONS},
+    }
 
 
 def lay_out(room, inside, seconds):
@@ -114,10 +119,10 @@ def lay_out(room, inside, seconds):
             os.utime(f"{folder}/{name}", (seconds, seconds), follow_symlinks=False)
 
 
-def write(path, build):
+def write(path, packed):
     """Writes the package of a build. All its files are root's, and of the version's day."""
     with tempfile.TemporaryDirectory(prefix="chipfire-deb-") as room:
-        lay_out(room, files(build), changes.seconds())
+        lay_out(room, files(packed), changes.seconds())
         words = ["dpkg-deb", "--root-owner-group", "-Zxz", "-z6", "--build", room, path]
         day = {"SOURCE_DATE_EPOCH": str(changes.seconds())}
         subprocess.run(words, check=True, stdout=subprocess.DEVNULL, env={**os.environ, **day})

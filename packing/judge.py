@@ -7,8 +7,9 @@ import tempfile
 import zipfile
 import zlib
 
-from packing import archive, contents, debian, proved, wheel
-from packing.contents import Build
+from contents import version
+from packing import archive, build, debian, proved, wheel
+from packing.build import Build
 from packing.repository import ROOT, Refused, content, sha256
 
 #: How the files of each form begin.
@@ -18,8 +19,19 @@ BUILT = (b"\x7fELF", b"!<arch>\n")
 #: What ./package made last, of these sources or of others.
 RECORD = f"{ROOT}/dist/PROVED"
 #: What comes of a file that was cut off or changed.
-BROKEN = (OSError, tarfile.TarError, zipfile.BadZipFile, lzma.LZMAError, zlib.error, subprocess.CalledProcessError,
-          EOFError, NotImplementedError, RuntimeError, ValueError, LookupError)
+BROKEN = (
+    OSError,
+    tarfile.TarError,
+    zipfile.BadZipFile,
+    lzma.LZMAError,
+    zlib.error,
+    subprocess.CalledProcessError,
+    EOFError,
+    NotImplementedError,
+    RuntimeError,
+    ValueError,
+    LookupError,
+)
 
 
 def packed_here():
@@ -35,17 +47,23 @@ def packed_here():
 def judge_built(data, here):
     """Returns what is stated of the bytes of a program or a library, where it is one that was packed here."""
     if here is None:
-        raise Refused("no program was packed of these sources here, and a program alone does not state its own: "
-                      "./package makes one to compare with")
+        raise Refused(
+            "no program was packed of these sources here, and a program alone does not state its own: "
+            "./package makes one to compare with"
+        )
     if sha256(data) not in here.sums.values():
-        raise Refused("it is not the program that ./package packed of these sources here, nor a library")
+        raise Refused(
+            "it is not the program that ./package packed of these sources here, nor a library"
+        )
     return here
 
 
 def judge_stated(stated, built, here):
     """Refuses what is stated of what was built, bytes by the words of PROVED, where it is not so."""
-    if stated.version != proved.version():
-        raise Refused(f"its PROVED states version {stated.version}, and these sources have {proved.version()}")
+    if stated.version != version():
+        raise Refused(
+            f"its PROVED states version {stated.version}, and these sources have {version()}"
+        )
     if stated.sources != proved.sources():
         raise Refused("its PROVED states other sources than these")
     for word, found in proved.sums_of(built).items():
@@ -57,7 +75,9 @@ def judge_stated(stated, built, here):
         if here is not None and stated.sums[word] != here.sums[word]:
             raise Refused(f"its {word} is not the one that ./package packed of these sources here")
     if here is not None and stated.kit != here.kit:
-        raise Refused(f"its PROVED states another kit than that of the program packed here: {stated.kit}")
+        raise Refused(
+            f"its PROVED states another kit than that of the program packed here: {stated.kit}"
+        )
 
 
 def documents_of(program):
@@ -67,7 +87,7 @@ def documents_of(program):
         with open(path, "wb") as file:
             file.write(program)
         os.chmod(path, 0o755)
-        return contents.documents(path)
+        return build.documents(path)
 
 
 def unpacked(form, path, part):
@@ -105,10 +125,17 @@ def judge_package(form, path, here):
 def ground(here):
     """Returns on what a judgement stands."""
     if here is None:
-        return ("Nothing was packed here to compare with: that program and library are what the kit made of these "
-                "sources, and what manual page and completions say, is taken from the file.")
-    if os.path.isfile(f"{ROOT}/release/PROVED") and content("release/PROVED") == here.text().encode():
-        return "It is the build in release/, which was not proved here: ./package --prove does that."
+        return (
+            "Nothing was packed here to compare with: that program and library are what the kit made of these "
+            "sources, and what manual page and completions say, is taken from the file."
+        )
+    if (
+        os.path.isfile(f"{ROOT}/release/PROVED")
+        and content("release/PROVED") == here.text().encode()
+    ):
+        return (
+            "It is the build in release/, which was not proved here: ./package --prove does that."
+        )
     return "It is the build that was proved here."
 
 

@@ -1,13 +1,17 @@
 """The manual page, as troff."""
 
 #: What troff writes for characters that it else takes for typographic ones.
-PLAIN = str.maketrans({"\\": "\\e", "-": "\\-", "'": "\\(aq", "`": "\\(ga", "^": "\\(ha", "~": "\\(ti", '"': "\\(dq"})
+PLAIN = str.maketrans(
+    {"\\": "\\e", "-": "\\-", "'": "\\(aq", "`": "\\(ga", "^": "\\(ha", "~": "\\(ti", '"': "\\(dq"}
+)
 GAMES = "The folder share/doc/chipfire/examples, beside the folder bin that has the program, has games to play."
 
 
 def escaped(text):
     """Returns a text of which troff takes no character for its own."""
-    return "\n".join(f"\\&{line}" if line.startswith(".") else line for line in text.translate(PLAIN).split("\n"))
+    return "\n".join(
+        f"\\&{line}" if line.startswith(".") else line for line in text.translate(PLAIN).split("\n")
+    )
 
 
 def entry(head, text):
@@ -40,7 +44,12 @@ def page(whole, commands, version, day):
     """Returns the page of the program, of this day."""
     summary = whole.summary[0].lower() + whole.summary[1:]
     lines = [f'.TH CHIPFIRE 1 "{day}" "chipfire {version}" "User Commands"', ".SH NAME"]
-    lines += [f"chipfire \\- {escaped(summary)}", ".SH SYNOPSIS", ".B chipfire", "[\\fICOMMAND\\fR [\\fIWORDS\\fR ...]]"]
+    lines += [
+        f"chipfire \\- {escaped(summary)}",
+        ".SH SYNOPSIS",
+        ".B chipfire",
+        "[\\fICOMMAND\\fR [\\fIWORDS\\fR ...]]",
+    ]
     lines += [".SH DESCRIPTION", *notes(whole.notes)[1:], ".SH OPTIONS"]
     for option in whole.options:
         lines += option_lines(option)

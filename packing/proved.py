@@ -1,18 +1,16 @@
 """PROVED: which sources program and libraries were proved and built from, by which kit, and which they are."""
 import re
-import sys
 from dataclasses import dataclass
 
-from packing.repository import ROOT, Refused, below, content, git, sha256
+from contents import BUILT
+from packing import crates
+from packing.repository import Refused, below, content, git, sha256
 
-sys.path += [f"{ROOT}/tools", f"{ROOT}/python"]
-import build_wheel  # noqa: E402  (where the version stands)
-import prove  # noqa: E402  (which crates a crate stands on)
-
-#: What is built, by its words in PROVED, and the crates that it is built of.
-BUILT = ("program", "libchipfire.so", "libchipfire.a")
+#: The crates that program and libraries are built of.
 CRATES = ("chipfire", "chip_exports")
-FORM = "chipfire {}\nkit {}\ncommit {}\nsources sha256:{}\n" + "".join(f"{it} sha256:{{}}\n" for it in BUILT)
+FORM = "chipfire {}\nkit {}\ncommit {}\nsources sha256:{}\n" + "".join(
+    f"{it} sha256:{{}}\n" for it in BUILT
+)
 
 
 @dataclass(frozen=True)
@@ -45,16 +43,13 @@ def sums_of(built):
     return {word: sha256(data) for word, data in built.items()}
 
 
-def version():
-    """Returns the version that stands in the sources."""
-    return build_wheel.version()
-
-
 def source_folders():
     """Returns the folders that all is proved and built from: those of its crates, and of all that these stand on."""
-    direct = prove.libraries()
-    names = {name for crate in CRATES for name in (*prove.below(crate, direct), crate)}
-    return [f"crates/{name}/{part}" for name in sorted(names) for part in ("src", "specs", "proofs")]
+    direct = crates.libraries()
+    names = {name for crate in CRATES for name in (*crates.below(crate, direct), crate)}
+    return [
+        f"crates/{name}/{part}" for name in sorted(names) for part in ("src", "specs", "proofs")
+    ]
 
 
 def sources():
@@ -79,5 +74,11 @@ def is_committed():
 
 def has_other_sources(name):
     """Returns whether the repository has this commit, and other sources in it than those that are checked out."""
-    is_known = re.fullmatch("[0-9a-f]{40,64}", name) and git("cat-file", "-e", f"{name}^{{commit}}") is not None
-    return bool(is_known) and git("diff", "--quiet", name, "--", "crates.txt", *source_folders()) is None
+    is_known = (
+        re.fullmatch("[0-9a-f]{40,64}", name)
+        and git("cat-file", "-e", f"{name}^{{commit}}") is not None
+    )
+    return (
+        bool(is_known)
+        and git("diff", "--quiet", name, "--", "crates.txt", *source_folders()) is None
+    )

@@ -3,7 +3,7 @@ import hashlib
 import os
 import subprocess
 
-ROOT = os.path.dirname(os.path.dirname(os.path.realpath(__file__)))
+from contents import REPOSITORY as ROOT
 
 
 class Refused(Exception):

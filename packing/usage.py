@@ -5,7 +5,9 @@ import re
 import subprocess
 from dataclasses import dataclass
 
-OPTION = re.compile(r"\s+(?:-(?P<short>\w), )?--(?P<long>[a-z-]+)(?: <(?P<value>[A-Z-]+)>)?\s{2,}(?P<text>\S.*)")
+OPTION = re.compile(
+    r"\s+(?:-(?P<short>\w), )?--(?P<long>[a-z-]+)(?: <(?P<value>[A-Z-]+)>)?\s{2,}(?P<text>\S.*)"
+)
 OPERAND = re.compile(r"\s+(?P<name><[A-Z]+>|\[[A-Z]+\])\s{2,}(?P<text>\S.*)")
 COMMAND = re.compile(r"\s+(?P<name>[a-z]+)\s{2,}(?P<text>\S.*)")
 #: The options whose value is the name of a file.
@@ -64,14 +66,18 @@ def read_help(name, text):
         usage=next(it for it in blocks if it.startswith("Usage: ")).removeprefix("Usage: "),
         operands=tuple((it["name"], it["text"]) for it in rows(blocks, "Arguments", OPERAND)),
         options=tuple(Option(**it) for it in rows(blocks, "Options", OPTION)),
-        commands=tuple(it["name"] for it in rows(blocks, "Commands", COMMAND) if it["name"] != "help"),
+        commands=tuple(
+            it["name"] for it in rows(blocks, "Commands", COMMAND) if it["name"] != "help"
+        ),
         notes=tuple(it for it in blocks[1:] if not it.startswith(titles)),
     )
 
 
 def answer(program, *words):
     """Returns what the program writes on standard output."""
-    return subprocess.run([program, *words], check=True, capture_output=True, encoding="utf-8").stdout
+    return subprocess.run(
+        [program, *words], check=True, capture_output=True, encoding="utf-8"
+    ).stdout
 
 
 def read_program(program):

@@ -1,39 +1,39 @@
 """The Python wheel that carries the program and the library, and installs the program as the command chipfire."""
 import zipfile
 
-from packing import contents, needs
-from packing.contents import File
-from packing.proved import build_wheel
+import contents
+import wheels
+from contents import wheel_places as places
+from packing import needs
+from packing.build import File
 from packing.repository import Refused
 
-FOLDER = "chipfire/program"
-PROGRAM = f"{FOLDER}/chipfire"
 
-
-def tag(build):
+def tag(packed):
     """Returns which machines the wheel is for."""
-    return "py3-none-manylinux_{}_{}_x86_64".format(*needs.c_library(build.built["program"]))
+    return "py3-none-manylinux_{}_{}_x86_64".format(*needs.c_library(packed.built["program"]))
 
 
-def name(build):
+def name(packed):
     """Returns the wheel's name."""
-    return build_wheel.wheel_name(tag(build))
+    return contents.wheel_name(tag(packed))
 
 
-def bytes_of(build):
+def bytes_of(packed):
     """Returns the wheel's files, bytes by names."""
-    carried = {**build.built, "PROVED": build.stated.text().encode()}
-    return build_wheel.wheel_files(tag(build), {place: carried[word] for word, place in places().items()})
+    carried = {**packed.built, "PROVED": packed.stated.text().encode()}
+    return wheels.with_package(
+        tag(packed), {place: carried[word] for word, place in places().items()}
+    )
 
 
-def files(build):
+def files(packed):
     """Returns the wheel's files by their names."""
-    return {name: File(data, 0o755 if name == PROGRAM else 0o644) for name, data in bytes_of(build).items()}
-
-
-def places():
-    """Returns where all is in it that PROVED is about, and PROVED: it has no library to link with."""
-    return {"program": PROGRAM, **{word: f"{FOLDER}/{word}" for word in (contents.SHARED, "PROVED")}}
+    program = places()["program"]
+    return {
+        name: File(data, 0o755 if name == program else 0o644)
+        for name, data in bytes_of(packed).items()
+    }
 
 
 def documents(found):
@@ -41,9 +41,9 @@ def documents(found):
     return {}
 
 
-def write(path, build):
+def write(path, packed):
     """Writes the wheel of a build."""
-    build_wheel.write_wheel(path, bytes_of(build), programs=[PROGRAM])
+    wheels.write(path, bytes_of(packed), programs=[places()["program"]])
 
 
 def read(path):
@@ -52,4 +52,6 @@ def read(path):
         entries = archive.infolist()
         if len({it.filename for it in entries}) < len(entries):
             raise Refused("a file is there twice in it")
-        return {it.filename: File(archive.read(it), it.external_attr >> 16 & 0o7777) for it in entries}
+        return {
+            it.filename: File(archive.read(it), it.external_attr >> 16 & 0o7777) for it in entries
+        }

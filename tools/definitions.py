@@ -64,7 +64,9 @@ def type_of(crate, name):
             with open(f"{folder}/{it}", encoding="utf-8") as file:
                 found = re.search(TYPE.format(name), file.read(), re.MULTILINE | re.DOTALL)
             if found:
-                return [line for line in found[0].splitlines() if not re.match(r"\s*(?://|#|$)", line)]
+                return [
+                    line for line in found[0].splitlines() if not re.match(r"\s*(?://|#|$)", line)
+                ]
     raise LookupError(f"no type {name} in {crate}")
 
 
@@ -85,7 +87,9 @@ def place_of(crate, module, name):
 
 def lines_of(crate, module, name):
     """Returns the lines of a definition."""
-    return type_of(crate, name) if module == "declared" else file_of(crate, module).definitions[name]
+    return (
+        type_of(crate, name) if module == "declared" else file_of(crate, module).definitions[name]
+    )
 
 
 def uses(crate, module, name):

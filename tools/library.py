@@ -12,14 +12,21 @@ import subprocess
 import sys
 import tempfile
 
-sys.dont_write_bytecode = True
-sys.path.insert(0, os.path.dirname(os.path.dirname(os.path.realpath(__file__))))
-from packing.contents import SHARED, SONAME, STATIC, link_soname  # noqa: E402
+import paths  # noqa: F401  (it has Python find the others)
+from contents import SHARED, SONAME, STATIC
+from packing.build import link_soname
 
 #: What others may call. Their memory is protected once the library is loaded, and it asks for no name that is not there.
 EXPORTS = "{ global: chipfire_*; local: *; };\n"
-WORDS = ["-shared", "-soname", SONAME, "--strip-all", "--build-id=none", "--no-undefined",
-         *(word for kind in ("now", "relro", "noexecstack") for word in ("-z", kind))]
+WORDS = [
+    "-shared",
+    "-soname",
+    SONAME,
+    "--strip-all",
+    "--build-id=none",
+    "--no-undefined",
+    *(word for kind in ("now", "relro", "noexecstack") for word in ("-z", kind)),
+]
 
 
 def kit():
@@ -37,14 +44,25 @@ def link(proved, folder):
         with open(f"{room}/exports", "w", encoding="ascii") as file:
             file.write(EXPORTS)
         inputs = ["--whole-archive", proved, "--no-whole-archive", heap, f"{tools}/lib/libc.so.6"]
-        shared = [f"{tools}/bin/ld.lld", *WORDS, "--version-script", f"{room}/exports", "-o", f"{room}/{SHARED}", *inputs]
+        shared = [
+            f"{tools}/bin/ld.lld",
+            *WORDS,
+            "--version-script",
+            f"{room}/exports",
+            "-o",
+            f"{room}/{SHARED}",
+            *inputs,
+        ]
         # (q adds the members of both, s the list of names, and D leaves out dates and owners)
         static = [f"{tools}/bin/llvm-ar", "qcsDL", f"{room}/{STATIC}", proved, heap]
         for words, name in ((shared, SHARED), (static, STATIC)):
             subprocess.run(words, check=True)
             # (the kit has its tools in one program, which does what it is called by. Names of compilers are left out)
-            subprocess.run(["llvm-objcopy", "--remove-section=.comment", f"{room}/{name}", f"{folder}/{name}"], check=True,
-                           executable=f"{tools}/bin/clang")
+            subprocess.run(
+                ["llvm-objcopy", "--remove-section=.comment", f"{room}/{name}", f"{folder}/{name}"],
+                check=True,
+                executable=f"{tools}/bin/clang",
+            )
     link_soname(folder)
 
 

@@ -25,7 +25,10 @@ import sys
 import time
 from concurrent.futures import FIRST_COMPLETED, ThreadPoolExecutor, wait
 
-ROOT = os.path.dirname(os.path.dirname(os.path.realpath(__file__)))
+import paths  # noqa: F401  (it has Python find the others)
+from packing.crates import below, libraries, name_in, rows
+from packing.repository import ROOT
+
 CRATES = f"{ROOT}/crates"
 TARGET = f"{ROOT}/target"
 # How many crates are proved at a time at most. The longest chain of crates bounds the time: what goes on beside it ends
@@ -46,31 +49,6 @@ COMMANDS = {}
 
 def say(text):
     print(f"chipfire: {text}", file=sys.stderr, flush=True)
-
-
-def rows(path):
-    """Returns the lines of a file without comments and empty lines."""
-    with open(path, encoding="utf-8") as lines:
-        return [it for it in (line.partition("#")[0].strip() for line in lines) if it]
-
-
-def name_in(row):
-    """Returns the name of the crate that a row of crates.txt is about."""
-    return row.partition(":")[0].split()[0]
-
-
-def libraries():
-    """Returns the names of the repository's crates, each with those of the crates that it stands on."""
-    named = {name_in(row): row.partition(":")[2].split() for row in rows(f"{ROOT}/crates.txt")}
-    return {name: [it for it in below if it in named] for name, below in named.items()}
-
-
-def below(name, direct):
-    """Returns all that a crate stands on, each after what it stands on itself."""
-    found = []
-    for it in direct[name]:
-        found += [low for low in [*below(it, direct), it] if low not in found]
-    return found
 
 
 def costs():
@@ -128,7 +106,9 @@ def prove(name, lower):
     shutil.rmtree(room, ignore_errors=True)
     os.makedirs(f"{room}/crates/{name}")
     with open(f"{room}/crates.txt", "w", encoding="utf-8") as its_rows:
-        its_rows.writelines(f"{row}\n" for row in rows(f"{ROOT}/crates.txt") if name_in(row) in [*lower, name])
+        its_rows.writelines(
+            f"{row}\n" for row in rows(f"{ROOT}/crates.txt") if name_in(row) in [*lower, name]
+        )
     for crate in [*lower, name]:
         for part in ("src", "specs", "proofs"):
             bring(f"{crate}/{part}", room, shutil.copy2)

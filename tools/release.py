@@ -14,12 +14,11 @@ import platform
 import subprocess
 import sys
 
-sys.dont_write_bytecode = True
-sys.path.insert(0, os.path.dirname(os.path.dirname(os.path.realpath(__file__))))
-from packing import archive, contents, judge, proved  # noqa: E402
-from packing.repository import ROOT, Refused, content, git  # noqa: E402
-
-import prove  # noqa: E402  (how long it takes to prove all)
+import paths  # noqa: F401  (it has Python find the others)
+import contents
+import prove
+from packing import archive, build, judge, proved
+from packing.repository import ROOT, Refused, content, git
 
 SYSTEM = ("Linux", "x86_64")
 #: What stands in target/chipfire.stamp if ./chipfire took the program from release/.
@@ -30,8 +29,11 @@ def released():
     """Returns what is stated of the build in release/, and what was built, bytes by the words of PROVED."""
     data = content("release/PROVED")
     stated = proved.read(data)
-    path, places = f"{ROOT}/release/{archive.name_of(stated.version)}", archive.places(stated.version)
-    _, built = judge.unpacked(archive, path, lambda found: {word: found[it].data for word, it in places.items()})
+    path = f"{ROOT}/release/{contents.archive_name(stated.version)}"
+    places = contents.archive_places(stated.version)
+    _, built = judge.unpacked(
+        archive, path, lambda found: {word: found[it].data for word, it in places.items()}
+    )
     if built.pop("PROVED") != data or proved.sums_of(built) != stated.sums:
         raise Refused("it is not the one that PROVED states")
     return stated, built
@@ -54,7 +56,7 @@ def fitting(folder):
     stated, built = released()
     if stated.sources != proved.sources():
         raise Refused("it was built from other sources than these")
-    contents.lay_out(folder, built)
+    build.lay_out(folder, built)
     if not starts(f"{folder}/{contents.PROGRAM}", stated.version):
         raise Refused("it does not start here")
     return stated, built
@@ -65,8 +67,10 @@ def take(folder, kit):
     stated, _ = fitting(folder)
     other = f"; the kit on the PATH is another, {kit}" if kit not in ("", stated.kit) else ""
     minutes = round(prove.minutes("chipfire"))
-    return (f"the program comes from release/: {stated.kit} proved and built it from these very sources, of commit "
-            f"{stated.commit[:12]}; ./chipfire --prove does it here, in some {minutes} min{other}")
+    return (
+        f"the program comes from release/: {stated.kit} proved and built it from these very sources, of commit "
+        f"{stated.commit[:12]}; ./chipfire --prove does it here, in some {minutes} min{other}"
+    )
 
 
 def check_version(stated):
@@ -75,8 +79,10 @@ def check_version(stated):
     for commit in (git("log", "--format=%H", "--", "release/PROVED") or "").split():
         lines = (git("show", f"{commit}:release/PROVED") or "").splitlines()
         if lines[:1] == [f"chipfire {stated.version}"] and lines[4:] != built:
-            raise Refused(f"the release of commit {commit[:12]} has version {stated.version}, and another program or "
-                          "library: the new one needs a version of its own")
+            raise Refused(
+                f"the release of commit {commit[:12]} has version {stated.version}, and another program or "
+                "library: the new one needs a version of its own"
+            )
 
 
 def compare(folder, kit):
@@ -87,7 +93,7 @@ def compare(folder, kit):
     if stated.sources != proved.sources():
         return f"release/ was built from other sources than these, at commit {stated.commit[:12]}."
     check_version(stated)
-    here = contents.built_in(folder)
+    here = build.built_in(folder)
     others = " and ".join(word for word in built if built[word] != here[word])
     if stated.kit != kit:
         answer = f"another {others}" if others else "the same"

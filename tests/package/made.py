@@ -124,7 +124,7 @@ def pythons():
 
 def package(top, *words, python=sys.executable, **more):
     """Runs ./package of a checkout."""
-    return run(python, f"{top}/package", *words, **more)
+    return run(python, f"{top}/package.py", *words, **more)
 
 
 def built():

@@ -250,7 +250,8 @@ print(chipfire.plain(chipfire.path(1), [3]).fired)
         made.run(f"{room}/bin/pip", "uninstall", "-y", "chipfire", check=True)
         gone = made.run(f"{room}/bin/python", "-c", "import chipfire", cwd=made.rooms())
         self.assertIn("ModuleNotFoundError", gone.stderr)
-        self.assertEqual(sorted(os.listdir(f"{top}/python")), ["build_wheel.py", "chipfire", "pyproject.toml"])
+        there = ["build_wheel.py", "chipfire", "contents.py", "pyproject.toml", "wheels.py"]
+        self.assertEqual(sorted(os.listdir(f"{top}/python")), there)
 
 
 class OldPython(unittest.TestCase):
@@ -258,7 +259,10 @@ class OldPython(unittest.TestCase):
 
     #: A Python that takes itself for an older one begins with this.
     OLD = b"import sys\nsys.version_info = 3, 8, 18, 'final', 0\n"
-    STARTED = ("package", "tools/release.py", "packing/__init__.py", "python/build_wheel.py", "python/chipfire/__init__.py")
+    STARTED = (
+        "package.py", "tools/paths.py", "tools/release.py", "python/build_wheel.py", "python/contents.py",
+        "python/wheels.py", "python/chipfire/__init__.py",
+    )
 
     def runs(self, *words):
         """What becomes of words for Python where Python takes itself for an older one."""
@@ -272,7 +276,7 @@ class OldPython(unittest.TestCase):
 
     def test_what_is_started_says_which_it_takes(self):
         taken = (f"{made.ROOT}/tools/release.py", "--take", made.room(), "")
-        for words in ((f"{made.ROOT}/package",), taken, ("-c", "import chipfire")):
+        for words in ((f"{made.ROOT}/package.py",), taken, ("-c", "import chipfire")):
             answer = self.runs(*words)
             self.assertEqual((answer.returncode, answer.stdout), (1, ""), words)
             said = f"requires Python {self.required()}, and {sys.executable} is Python 3.8.18"

@@ -12,7 +12,7 @@ import zipfile
 
 import made
 
-#: What build_wheel packs where Python's own gzip writes another system.
+#: What wheels.py packs where Python's own gzip writes another system.
 PACKED = """
 import gzip, sys
 own = gzip.compress
@@ -21,8 +21,8 @@ def compress(*words, **options):
     return packed[:9] + bytes([int(sys.argv[1])]) + packed[10:]
 gzip.compress = compress
 sys.path.insert(0, ".")
-import build_wheel
-print(build_wheel.gzipped(b"text").hex())
+import wheels
+print(wheels.gzipped(b"text").hex())
 """
 #: The C library of Debian 12, the oldest release that Debian supports.
 OLDEST = (2, 36)

@@ -1,25 +1,21 @@
-"""What is handed on: the program, the libraries with what C needs, PROVED, the manual page, completions and examples."""
+"""What was built, and the files that are handed on of it: those that the archive and the Debian package both have."""
 from __future__ import annotations
 
 import os
 from dataclasses import dataclass
 
+import contents
+from contents import BUILT, FILES, HEADER, MANUAL, PAGES, PROGRAM, SHARED, SONAME, version
 from packing import changes, completions, manual, usage
-from packing.proved import BUILT, Proved, version
+from packing.proved import Proved
 from packing.repository import ROOT, Refused, below, content
 
-MANUAL = "share/man/man1/chipfire.1"
-#: Where the completions stand, and who makes them.
+#: Who makes the completions, by their places.
 COMPLETIONS = {
-    "share/bash-completion/completions/chipfire": completions.bash,
-    "share/zsh/vendor-completions/_chipfire": completions.zsh,
-    "share/fish/vendor_completions.d/chipfire.fish": completions.fish,
+    contents.BASH: completions.bash,
+    contents.ZSH: completions.zsh,
+    contents.FISH: completions.fish,
 }
-PROVED = "share/doc/chipfire/PROVED"
-HEADER = "include/chipfire.h"
-#: What is built, as files in one folder; and the name under which what was linked with the library asks for it.
-PROGRAM, SHARED, STATIC = FILES = ("chipfire", "libchipfire.so", "libchipfire.a")
-SONAME = "libchipfire.so.0"
 #: The mode of a link, whose bytes are what it names.
 LINK = 0o120777
 PKG_CONFIG = """\
@@ -78,16 +74,12 @@ def documents(program):
     """Returns the manual page and the completions of the program with this path, by their places."""
     told = usage.answer(program, "--version").split()[1]
     if told != version():
-        raise Refused(f"the program says that it has version {told}, and its sources say {version()}")
+        raise Refused(
+            f"the program says that it has version {told}, and its sources say {version()}"
+        )
     whole, commands = usage.read_program(program)
     made = {place: make(whole, commands).encode() for place, make in COMPLETIONS.items()}
     return {MANUAL: manual.page(whole, commands, version(), changes.entry()[0]).encode(), **made}
-
-
-def places(libraries):
-    """Returns where what was built stands below a folder such as /usr, by the words of PROVED, and where PROVED does."""
-    found = f"bin/{PROGRAM}", f"{libraries}/{SONAME}", f"{libraries}/{STATIC}"
-    return {**dict(zip(BUILT, found)), "PROVED": PROVED}
 
 
 def pkg_config(libraries):
@@ -99,7 +91,7 @@ def pkg_config(libraries):
 def files(build, libraries):
     """Returns the files of a build, by their places below a folder such as /usr, with the libraries in a folder of it."""
     found = {place: File(data) for place, data in build.documents.items()}
-    for word, place in places(libraries).items():
+    for word, place in contents.places(libraries).items():
         data = build.stated.text().encode() if word == "PROVED" else build.built[word]
         found[place] = File(data, 0o755 if word == "program" else 0o644)
     found[f"{libraries}/{SHARED}"] = File(SONAME.encode(), LINK)
@@ -107,5 +99,5 @@ def files(build, libraries):
     found[HEADER] = File(content(HEADER))
     for name in below("examples"):
         mode = 0o755 if os.access(f"{ROOT}/{name}", os.X_OK) else 0o644
-        found[f"share/doc/chipfire/{name}"] = File(content(name), mode)
+        found[f"{PAGES}/{name}"] = File(content(name), mode)
     return found

@@ -21,7 +21,12 @@ def grid(side, chips):
     sink, edges = side * side, []
     for line in range(side):
         for column in range(side):
-            beside = [(line - 1, column), (line, column - 1), (line, column + 1), (line + 1, column)]
+            beside = [
+                (line - 1, column),
+                (line, column - 1),
+                (line, column + 1),
+                (line + 1, column),
+            ]
             inside = [a * side + b for a, b in beside if 0 <= a < side and 0 <= b < side]
             edges += [(line * side + column, head, 1) for head in inside]
             if len(inside) < 4:
@@ -105,7 +110,12 @@ def caterpillar(_):
     sink = 2 * STRIP
     _, end, path, chips = path_of(STRIP, sink)
     leaves = [(v, STRIP + v, 1) for v in range(STRIP)] + [(STRIP + v, v, 1) for v in range(STRIP)]
-    return sink + 1, sink, [(v, sink if head == end else head, 1) for v, head, _ in path] + leaves, chips
+    return (
+        sink + 1,
+        sink,
+        [(v, sink if head == end else head, 1) for v, head, _ in path] + leaves,
+        chips,
+    )
 
 
 def star(_):
@@ -206,15 +216,24 @@ def reaches_the_sink(vertices, sink, edges):
     return len(reached) == vertices
 
 
+def write_graph(path, vertices, sink, edges):
+    graph = {"edges": edges, "sink": sink, "version": 1, "vertices": vertices}
+    with open(path, "w", encoding="ascii") as file:
+        json.dump(graph, file, separators=(",", ":"))
+        file.write("\n")
+
+
+def write_rows(path, head, rows):
+    with open(path, "w", encoding="ascii") as file:
+        file.write(f"{head}\n" + "".join(",".join(map(str, row)) + "\n" for row in rows))
+
+
 def write(folder, name, vertices, sink, edges, chips):
     assert vertices <= 2**21 and len(edges) <= 2**23 and sum(chips.values()) <= 2**40, name
     assert all(tail not in (head, sink) and 1 <= mult <= MULT for tail, head, mult in edges), name
     assert reaches_the_sink(vertices, sink, edges), name
-    with open(f"{folder}/{name}.json", "w", encoding="ascii") as file:
-        json.dump({"edges": edges, "sink": sink, "version": 1, "vertices": vertices}, file, separators=(",", ":"))
-        file.write("\n")
-    with open(f"{folder}/{name}.csv", "w", encoding="ascii") as file:
-        file.write("vertex,chips\n" + "".join(f"{v},{count}\n" for v, count in chips.items()))
+    write_graph(f"{folder}/{name}.json", vertices, sink, edges)
+    write_rows(f"{folder}/{name}.csv", "vertex,chips", chips.items())
 
 
 def main(folder, seed="1"):

@@ -7,11 +7,12 @@ Each is a true run of so many rows at most: vertices take messages and fire one 
 the seed, and each writes down what it took and fired. The rows of a file stand by ascending vertices, as chipfire
 writes them.
 """
-import json
 import os
 import random
 import sys
 from collections import deque
+
+from inputs import write_graph, write_rows
 
 ROWS = 1_000_000
 BYTES = 2**24
@@ -85,10 +86,8 @@ def play(draw, vertices, sink, edges, chips):
 
 
 def write(folder, name, draw, vertices, sink, edges, chips):
-    with open(f"{folder}/{name}.json", "w", encoding="ascii") as file:
-        json.dump({"edges": edges, "sink": sink, "version": 1, "vertices": vertices}, file, separators=(",", ":"))
-    with open(f"{folder}/{name}.csv", "w", encoding="ascii") as file:
-        file.write("vertex,chips\n" + "".join(f"{v},{count}\n" for v, count in chips.items()))
+    write_graph(f"{folder}/{name}.json", vertices, sink, edges)
+    write_rows(f"{folder}/{name}.csv", "vertex,chips", chips.items())
     rows = play(draw, vertices, sink, edges, chips)
     text = "vertex,kind,edge,count\n" + "".join(row for of_one in rows for row in of_one)
     assert len(text) <= BYTES and max(map(len, rows)) <= 2**20, name

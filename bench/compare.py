@@ -1,23 +1,22 @@
 #!/usr/bin/env python3
 """Plays random games with chipfire and by the even and odd rounds of plain.cpp, and compares the reports to the byte.
 
-    bench/compare [--games N] [--seed S] [--program FILE]
+    bench/compare.py [--games N] [--seed S] [--program FILE]
 
 The games are grids, paths, trees, unions of cycles, random graphs and weighted ones, each with one of the limits 0, 1,
 7, 100, 10,000 and none. Most are over before a search of counts would begin. To have it begin at once, build a copy in
-which FIRST_LOOKS and FEW_LOOKS of crates/chip_fire/src/tuning.rt are 0 and AHEAD of crates/chip_guess is 1 << 20, and name its program. The status is 1 at the first report that differs, whose files stay in target/bench/compare.
+which FIRST_LOOKS and FEW_LOOKS of crates/chip_fire/src/tuning.rt are 0 and AHEAD of crates/chip_guess is 1 << 20, and
+name its program. The status is 1 at the first report that differs, whose files stay in target/bench/compare.
 """
-import argparse
 import collections
 import os
 import random
 import subprocess
-import sys
 
+import frame
 from inputs import write
 
-HERE = os.path.dirname(os.path.realpath(__file__))
-ROOM = f"{os.path.dirname(HERE)}/target/bench/compare"
+ROOM = f"{frame.ROOM}/compare"
 LIMITS = [0, 1, 7, 100, 10_000, None]
 
 
@@ -73,7 +72,10 @@ def game(draw):
     greatest = 2 ** draw.randint(1, 14) * (8 if weighted else 1)
     few = draw.sample(range(vertices), draw.randint(1, min(3, vertices)))
     holders = range(vertices) if draw.random() < 0.5 else few
-    chips = {v: draw.randint(0, greatest // (len(holders) if draw.random() < 0.5 else 1)) for v in holders}
+    chips = {
+        v: draw.randint(0, greatest // (len(holders) if draw.random() < 0.5 else 1))
+        for v in holders
+    }
     return kind.__name__ + (" with weights" if weighted else ""), (vertices, sink, edges, chips)
 
 
@@ -83,14 +85,12 @@ def report(words):
 
 
 def main():
-    words = argparse.ArgumentParser(description="Compares reports of random games; see the head of this file.")
+    words = frame.parser(__doc__)
     words.add_argument("--games", type=int, default=2500)
     words.add_argument("--seed", default="1")
-    words.add_argument("--program", default=f"{os.path.dirname(HERE)}/target/chipfire")
-    words = words.parse_args()
+    words = frame.read_words(words)
     os.makedirs(ROOM, exist_ok=True)
-    player = f"{ROOM}/plain"
-    subprocess.run(["g++", "-O2", "-std=c++17", "-o", player, f"{HERE}/plain.cpp"], check=True)
+    player = frame.compiled(["g++", "-O2", "-std=c++17"], "plain.cpp", "compare/plain")
     played = collections.Counter()
     for number in range(words.games):
         draw = random.Random(f"{words.seed} {number}")
@@ -98,11 +98,18 @@ def main():
         write(ROOM, "game", *made)
         limit = LIMITS[number % len(LIMITS)]
         files = [f"{ROOM}/game.json", f"{ROOM}/game.csv"]
-        ours = report([words.program, "plain", *([] if limit is None else ["--limit", str(limit)]), *files])
+        ours = report(
+            [words.program, "plain", *([] if limit is None else ["--limit", str(limit)]), *files]
+        )
         if ours != report([player, "rounds", *files, *([] if limit is None else [str(limit)])]):
-            sys.exit(f"bench/compare: game {number} of seed {words.seed} ({kind}, limit {limit}) is played differently")
+            frame.stop(
+                f"game {number} of seed {words.seed} ({kind}, limit {limit}) is played differently"
+            )
         played[kind] += 1
-    print(f"{words.games} games alike:", ", ".join(f"{count} {kind}" for kind, count in sorted(played.items())))
+    print(
+        f"{words.games} games alike:",
+        ", ".join(f"{count} {kind}" for kind, count in sorted(played.items())),
+    )
 
 
 if __name__ == "__main__":

@@ -1,21 +1,18 @@
 #!/usr/bin/env python3
 """Times chipfire's Python package beside SageMath on the same questions, and compares their answers.
 
-    sage -python bench/sage [--turns N]
+    sage -python bench/sagemath.py [--turns N]
 
 What counts is the least time of N turns (3, if not said), in seconds of processors, the program's among them, so a busy
 machine changes little. Each turn makes its graph anew, since Sage keeps what it has found. What is printed is Markdown,
 for docs/BENCHMARKS.md. The status is 1 if two answers differ.
 """
-import argparse
 import os
 import platform
-import sys
 
-sys.dont_write_bytecode = True
-sys.path.insert(0, f"{os.path.dirname(os.path.dirname(os.path.realpath(__file__)))}/python")
-import chipfire  # noqa: E402
-from sage.all import SandpileConfig, sandpiles, version  # noqa: E402
+import frame  # (it has Python find the next)
+import chipfire
+from sage.all import SandpileConfig, sandpiles, version
 
 
 def numbers(graph, configuration):
@@ -48,10 +45,18 @@ def factors_by_sage(side):
 
 #: What is asked, and of chipfire and Sage what answers.
 QUESTIONS = {
-    "the identity of 30 by 30 squares": (lambda: identity(30), lambda: sandpiles.Grid(30, 30).identity().values()),
+    "the identity of 30 by 30 squares": (
+        lambda: identity(30),
+        lambda: sandpiles.Grid(30, 30).identity().values(),
+    ),
     "the invariant factors of 20 by 20 squares": (
-        lambda: chipfire.invariant_factors(chipfire.grid(20, 20)), lambda: factors_by_sage(20)),
-    "63 by 63 squares, 2^13 in the middle": (lambda: stabilized(63, 2**13), lambda: stabilized_by_sage(63, 2**13)),
+        lambda: chipfire.invariant_factors(chipfire.grid(20, 20)),
+        lambda: factors_by_sage(20),
+    ),
+    "63 by 63 squares, 2^13 in the middle": (
+        lambda: stabilized(63, 2**13),
+        lambda: stabilized_by_sage(63, 2**13),
+    ),
 }
 
 
@@ -63,10 +68,10 @@ def timed(ask):
 
 
 def main():
-    parser = argparse.ArgumentParser(description="Times chipfire beside SageMath; see the head of this file.")
-    parser.add_argument("--turns", type=int, default=3)
-    turns = parser.parse_args().turns
-    print(f"{version()}, chipfire {chipfire.__version__}, {platform.processor() or platform.machine()}\n")
+    turns = frame.read_words(frame.parser(__doc__, turns=3)).turns
+    print(
+        f"{version()}, chipfire {chipfire.__version__}, {platform.processor() or platform.machine()}\n"
+    )
     print("| Question | chipfire | SageMath | ratio |\n|---|---:|---:|---:|")
     for name, asks in QUESTIONS.items():
         least = []
@@ -76,7 +81,7 @@ def main():
         (ours, seconds), (theirs, others) = least
         print(f"| {name} | {seconds:.2f} s | {others:.2f} s | {seconds / others:.3f} |", flush=True)
         if ours != theirs:
-            sys.exit(f"bench/sage: {name}: the answers differ")
+            frame.stop(f"{name}: the answers differ")
 
 
 if __name__ == "__main__":

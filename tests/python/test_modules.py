@@ -1,5 +1,6 @@
 """How the package is built: its modules, what it hands on, its signatures and its types."""
 import ast
+import glob
 import importlib
 import inspect
 import os
@@ -18,6 +19,12 @@ ROOT = os.path.dirname(os.path.dirname(os.path.dirname(os.path.realpath(__file__
 MODULES = sorted(
     os.path.relpath(f"{folder}/{name}", PACKAGE)[:-3].replace(os.sep, ".")
     for folder, _, names in os.walk(PACKAGE) for name in names if name.endswith(".py")
+)
+#: The Python that builds, packs and times: the paths of its files at the top of the repository.
+TOOLS = sorted(
+    os.path.relpath(it, ROOT)
+    for form in ("package.py", "bench/*.py", "packing/*.py", "python/*.py", "tools/*.py")
+    for it in glob.glob(f"{glob.escape(ROOT)}/{form}")
 )
 #: The modules that stand beside the rooms under the names that pages of before have.
 NAMES_OF_BEFORE = {"computations", "detectors", "library", "machine", "model"}
@@ -73,14 +80,53 @@ def imported(module):
             yield from ("__init__" for it in node.names if it.name == "chipfire")
 
 
+def tree_of_tool(path):
+    with open(f"{ROOT}/{path}", encoding="utf-8") as file:
+        return ast.parse(file.read())
+
+
+def imported_tools(path):
+    """The files of TOOLS that one imports anywhere: those beside it, at the top, in tools/ and in python/."""
+    for node in ast.walk(tree_of_tool(path)):
+        names = [it.name for it in node.names] if isinstance(node, (ast.Import, ast.ImportFrom)) else []
+        if isinstance(node, ast.ImportFrom):
+            names = [node.module, *(f"{node.module}.{it}" for it in names)]
+        for name in names:
+            file = f"{name.replace('.', '/')}.py"
+            places = [os.path.join(folder, file) for folder in (os.path.dirname(path), "", "tools", "python")]
+            yield from [it for it in places if it in TOOLS][:1]
+
+
+def trees():
+    """The trees of all files, of the package and of the tools, by their names."""
+    yield from ((module, tree_of(module)) for module in MODULES)
+    yield from ((path, tree_of_tool(path)) for path in TOOLS)
+
+
 class Modules(unittest.TestCase):
-    def test_no_import_goes_in_a_circle(self):
-        below = {module: set(imported(module)) for module in MODULES}
-        self.assertNotIn("__init__", set().union(*below.values()))
+    def goes_down(self, below):
+        """Looks that no import goes in a circle: `below` has what each module imports."""
         while below:
             lowest = {module for module, others in below.items() if not others & below.keys()}
             self.assertTrue(lowest, below)
             below = {module: others for module, others in below.items() if module not in lowest}
+
+    def test_no_import_goes_in_a_circle(self):
+        below = {module: set(imported(module)) for module in MODULES}
+        self.assertNotIn("__init__", set().union(*below.values()))
+        self.goes_down(below)
+
+    def test_no_import_of_what_packs_goes_in_a_circle(self):
+        below = {path: set(imported_tools(path)) for path in TOOLS}
+        for path, other in [
+            ("python/build_wheel.py", "tools/release.py"), ("tools/release.py", "packing/proved.py"),
+            ("packing/proved.py", "python/contents.py"), ("bench/run.py", "bench/frame.py"), ("package.py", "packing/wheel.py"),
+        ]:
+            self.assertIn(other, below[path], path)
+        self.goes_down(below)
+
+    def test_one_file_changes_where_python_searches(self):
+        self.assertEqual([it for it in TOOLS if "sys.path" in ast.unparse(tree_of_tool(it))], ["tools/paths.py"])
 
     def test_each_module_imports_those_before_it_in_the_drawing(self):
         with open(f"{ROOT}/docs/ARCHITECTURE.md", encoding="utf-8") as file:
@@ -163,21 +209,21 @@ class Signatures(unittest.TestCase):
 class Layout(unittest.TestCase):
     @unittest.skipUnless(shutil.which("black"), "black is not here: Debian's package black has it")
     def test_it_is_that_of_black(self):
-        words = ["black", "--check", "--quiet", "--line-length=100", "--target-version=py39", PACKAGE]
-        self.assertEqual(subprocess.run(words).returncode, 0)
+        words = ["black", "--check", "--quiet", "--line-length=100", "--target-version=py39", PACKAGE, *TOOLS]
+        self.assertEqual(subprocess.run(words, cwd=ROOT).returncode, 0)
 
     def test_a_function_has_40_lines_at_most(self):
         """Without its docstring."""
-        for module in MODULES:
-            for node in ast.walk(tree_of(module)):
+        for module, tree in trees():
+            for node in ast.walk(tree):
                 if isinstance(node, ast.FunctionDef):
                     first = node.body[1:2] if ast.get_docstring(node) else node.body[:1]
                     length = node.end_lineno - (first[0].lineno if first else node.end_lineno) + 1
                     self.assertLessEqual(length, 40, f"{module}: {node.name}")
 
     def test_no_conditional_expression_is_in_another(self):
-        for module in MODULES:
-            for node in ast.walk(tree_of(module)):
+        for module, tree in trees():
+            for node in ast.walk(tree):
                 inner = [it for it in ast.walk(node) if isinstance(it, ast.IfExp)] if isinstance(node, ast.IfExp) else []
                 self.assertLessEqual(len(inner), 1, f"{module}: {ast.unparse(node)}")
 

@@ -10,9 +10,11 @@ from packing.repository import Refused, content
 def entry():
     """Returns the day of the version, as YYYY-MM-DD, and the points of its entry, behind those that came after it.
 
-    Its entry has to be the first, or the second behind one of what came after it."""
+    Its entry has to be the first, or the second behind that of a version that is not yet released.
+    """
     name = re.escape(version())
-    pattern = rf"(?:# chipfire, after {name}\n(.*?))?^# chipfire {name}, (\d{{4}}-\d\d-\d\d)\n(.*?)(?=^# |\Z)"
+    coming = r"(?:# chipfire [\d.]+ \(not yet released\)\n(.*?))?"
+    pattern = rf"{coming}^# chipfire {name}, (\d{{4}}-\d\d-\d\d)\n(.*?)(?=^# |\Z)"
     fit = re.match(pattern, content("CHANGELOG.md").decode(), re.MULTILINE | re.DOTALL)
     if fit is None:
         raise Refused(f"CHANGELOG.md does not begin with version {version()} and its day")

@@ -208,7 +208,7 @@ class OneVersion(unittest.TestCase):
         self.assertEqual(shown.stdout, f"{version}\n")
         name = re.escape(version)
         changes = made.read(f"{made.ROOT}/CHANGELOG.md").decode()
-        self.assertRegex(changes, rf"(?s)\A(# chipfire, after {name}\n.*?\n)?# chipfire {name}, ")
+        self.assertRegex(changes, rf"(?s)\A(# chipfire [\d.]+ \(not yet released\)\n.*?\n)?# chipfire {name}, ")
 
     def test_it_stands_in_one_place(self):
         """Beside the source that the program has it from, only the changes, the tests of its answer and a release name it."""

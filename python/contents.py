@@ -13,7 +13,7 @@ SOURCE = f"{REPOSITORY}/crates/chip_arguments/src/help_texts.rt"
 #: What has the version: the program's source, and in an archive of these files alone its PKG-INFO.
 VERSIONS = {
     SOURCE: r'VERSION: &str = "(.*)"',
-    f"{HERE}/PKG-INFO": r"Version: (.*)",
+    f"{HERE}/PKG-INFO": r"(?m)^Version: (.*)$",
 }
 
 #: What is built, as files in one folder, and by its words in PROVED.

@@ -4,6 +4,7 @@ import gzip
 import hashlib
 import os
 import re
+import shutil
 import sys
 import tarfile
 import time
@@ -164,6 +165,17 @@ class Compressed(unittest.TestCase):
             found.add(made.read(f"{room}/{name}"))
         self.assertEqual({it[:10] for it in found}, {self.HEAD})
         self.assertEqual(len(found), 1)
+
+    def test_a_wheel_of_that_archive_has_the_version(self):
+        make = "import sys, build_wheel; print(build_wheel.{}(sys.argv[1]))"
+        room, python = made.room(), [sys.executable, "-c"]
+        name = made.run(*python, make.format("build_sdist"), room, cwd=f"{made.ROOT}/python", check=True).stdout.strip()
+        shutil.unpack_archive(f"{room}/{name}", room)
+        top = f"{room}/chipfire-{made.version()}"
+        wheel = made.run(*python, make.format("build_wheel"), room, cwd=top, check=True).stdout.strip()
+        self.assertEqual(wheel, f"chipfire-{made.version()}-py3-none-any.whl")
+        with zipfile.ZipFile(f"{room}/{wheel}") as inside:
+            self.assertEqual(inside.read("chipfire/version").decode(), made.version())
 
 
 class NotMade(unittest.TestCase):

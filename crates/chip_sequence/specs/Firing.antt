@@ -10,6 +10,10 @@ pub record IsLegal (G : Multigraph) (x : ℕ → ℕ) (v : ℕ) : Type 0 where
   pub not_sink : v ≢ G.sink
   pub enough_chips : degree G v ≤ x v
 
+-- no vertex may fire at x
+abbrev pub IsStable : Multigraph → (ℕ → ℕ) → Type 0
+IsStable G x = (v : ℕ) → IsLegal G x v → ⊥
+
 -- the vertices that may fire at x, ascending
 abbrev pub legal_vertices : Multigraph → (ℕ → ℕ) → List ℕ
 legal_vertices G x = filter_below (λ v. not (v == G.sink) && nat_le (degree G v) (x v)) G.vertices

@@ -1,0 +1,4 @@
+mod Names
+pub mod FiresToLemmas
+pub mod RecurrentLemmas
+pub mod WorkedLemmas

@@ -1,0 +1,4 @@
+//! Recurrent configurations: the stable ones that can be reached from every position by adding chips.
+#![tactic(auto)]
+
+pub mod laws;

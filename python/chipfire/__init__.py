@@ -59,21 +59,22 @@ if _sys.version_info < (3, 9):
     raise ImportError(f"chipfire requires Python >=3.9, and {_sys.executable} is Python {_this}")
 
 from chipfire.backend import library as library
-from chipfire.lab import (
-    computations as computations,
-    detectors as detectors,
-    machine,
-    model as model,
+from chipfire.backend.commands import (
+    Check,
+    Program,
+    check,
+    drops,
+    explain,
+    identity,
+    plain,
+    read_chips,
+    replay,
+    resume,
+    run,
+    simulate,
+    verify,
+    write_chips,
 )
-from chipfire.pictures.animation import Frames, frames, frames_by_chips
-from chipfire.configurations.configuration import CHIPS_HEADER as CHIPS_HEADER, Chips, Configuration
-from chipfire.lab.choosing import choice_page
-from chipfire.lab.computations import Computation
-from chipfire.divisors.divisor import Divisor, canonical_divisor, genus
-from chipfire.ensembles.drops import Drops
-from chipfire.ensembles.chains import Chains, Firings, chains
-from chipfire.ensembles.wilson import random_recurrent
-from chipfire.lab.explorer import explore
 from chipfire.backend.finding import (
     ProgramNotFound,
     find_program as find_program,
@@ -81,13 +82,45 @@ from chipfire.backend.finding import (
     version,
     warn_without_program,
 )
-from chipfire.graphs.convert import from_edges, from_networkx, from_sage
+from chipfire.backend.library import find_library as find_library
+from chipfire.backend.process import Fault, TraceCut
+from chipfire.backend.report import Report
+from chipfire.configurations.configuration import CHIPS_HEADER as CHIPS_HEADER, Chips, Configuration
+from chipfire.configurations.group import Group
+from chipfire.configurations.laplacian import invariant_factors, laplacian, order, reduced_laplacian
+from chipfire.configurations.recurrent import (
+    are_recurrent,
+    burning_configuration,
+    burning_script,
+    is_recurrent,
+    is_superstable,
+    recurrent_representative,
+    recurrents,
+    superstable_representative,
+    superstables,
+)
+from chipfire.configurations.stabilization import add, is_stable, stabilize, stabilize_many
+from chipfire.divisors.divisor import Divisor, canonical_divisor, genus
+from chipfire.divisors.polynomials import avalanche_polynomial, level_polynomial, tutte_polynomial
+from chipfire.ensembles.avalanche import Avalanche, avalanche, avalanches, random_drops
+from chipfire.ensembles.chains import Chains, Firings, chains
+from chipfire.ensembles.drops import Drops
+from chipfire.ensembles.power_law import PowerLaw, plot_sizes, power_law
+from chipfire.ensembles.wilson import random_recurrent
+from chipfire.graphs.convert import from_edges, from_networkx, from_sage, to_networkx, to_scipy
 from chipfire.graphs.families import complete, cycle, path, torus, wheel
 from chipfire.graphs.graph import Graph
 from chipfire.graphs.lattices import aztec, grid, grid_for, region
-from chipfire.configurations.group import Group
+from chipfire.lab import (
+    computations as computations,
+    detectors as detectors,
+    machine,
+    model as model,
+)
+from chipfire.lab.choosing import choice_page
+from chipfire.lab.computations import Computation
+from chipfire.lab.explorer import explore
 from chipfire.lab.judging import judge
-from chipfire.backend.library import find_library as find_library
 from chipfire.lab.logs import judge_log, read_json_lines, read_shiviz
 from chipfire.lab.machine import (
     RULES as RULES,
@@ -108,43 +141,10 @@ from chipfire.lab.machine import (
     write_trace as write_trace,
 )
 from chipfire.lab.pages import page, recorded
-from chipfire.pictures.picture import PALETTES, Picture
-from chipfire.divisors.polynomials import avalanche_polynomial, level_polynomial, tutte_polynomial
-from chipfire.ensembles.power_law import PowerLaw, plot_sizes, power_law
-from chipfire.backend.process import Fault, TraceCut
-from chipfire.backend.commands import (
-    Check,
-    Program,
-    check,
-    drops,
-    explain,
-    identity,
-    plain,
-    read_chips,
-    replay,
-    resume,
-    run,
-    simulate,
-    verify,
-    write_chips,
-)
-from chipfire.backend.report import Report
-from chipfire.configurations.laplacian import invariant_factors, laplacian, order, reduced_laplacian
-from chipfire.configurations.recurrent import (
-    are_recurrent,
-    burning_configuration,
-    burning_script,
-    is_recurrent,
-    is_superstable,
-    recurrent_representative,
-    recurrents,
-    superstable_representative,
-    superstables,
-)
-from chipfire.configurations.stabilization import add, is_stable, stabilize, stabilize_many
-from chipfire.ensembles.avalanche import Avalanche, avalanche, avalanches, random_drops
-from chipfire.graphs.convert import to_networkx, to_scipy
 from chipfire.lab.schedules import model_log, play, random_schedule, shiviz, shrink
+from chipfire.lab.wrong import wrong_page
+from chipfire.pictures.animation import Frames, frames, frames_by_chips
+from chipfire.pictures.picture import PALETTES, Picture
 from chipfire.utils import (
     MAX_CHIPS as MAX_CHIPS,
     MAX_EDGES as MAX_EDGES,
@@ -155,7 +155,6 @@ from chipfire.utils import (
     MAX_VERTICES as MAX_VERTICES,
     FileName as FileName,
 )
-from chipfire.lab.wrong import wrong_page
 
 __version__ = version()
 warn_without_program()

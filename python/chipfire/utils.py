@@ -17,18 +17,24 @@ from concurrent.futures import ThreadPoolExecutor
 from typing import Any, TypeVar, Union
 
 T = TypeVar("T")
+
 #: The most of a graph, and of a large one.
 MAX_VERTICES = 4096
 MAX_EDGES = 65_536
 MAX_LARGE_VERTICES = 2**21
 MAX_LARGE_EDGES = 2**23
 MAX_MULT = 2**20
+
 #: The most chips of a game, the most firings of a vertex, and the greatest limit.
 MAX_CHIPS = MAX_LIMIT = 2**40
+
 FileName = Union[str, "os.PathLike[str]"]
+
 #: What the name of a file is, if it is given in place of what stands in the file.
 FILE = (str, os.PathLike)
+
 HERE = os.path.dirname(os.path.realpath(__file__))
+
 #: What a page may load and start, as browsers take it: the style and the script that stand in it.
 PAGE_POLICY = "default-src 'none'; style-src 'unsafe-inline'; script-src 'unsafe-inline'"
 
@@ -54,7 +60,7 @@ def as_ints(
     least: int | None = 0,
     most: int | None = None,
 ) -> Sequence[int]:
-    """Many numbers, each as `whole` has it; `what` says which is in a place."""
+    """Many numbers, each as `as_int` has it; `what` says which is in a place."""
     for code in "Qq":  # (as long as each is an int of up to 64 bits; most often none is below 0)
         try:
             found = array(code, values)
@@ -99,9 +105,8 @@ def in_order(given: Any, wanted: str) -> Any:
     if hasattr(found, "toarray"):  # (the sparse ones of SciPy)
         require_memory(8 * math.prod(found.shape), "the places of a sparse array")
         found = found.toarray()
-    is_other = (
-        hasattr(found, "__array_interface__") and found.dtype.kind in "mMV"
-    )  # (dates, and rows by names)
+    # Dates, and rows by names, have these kinds.
+    is_other = hasattr(found, "__array_interface__") and found.dtype.kind in "mMV"
     is_other = is_other or hasattr(found, "columns") or is_of_networkx(found)
     found = found.tolist() if hasattr(found, "tolist") and not is_other else found
     if is_other or isinstance(found, (str, bytes, bytearray, set, frozenset, Mapping, ItemsView)):

@@ -50,9 +50,11 @@ if TYPE_CHECKING:
     P = ParamSpec("P")
 
 T = TypeVar("T")
+
 #: A graph, or the name of its file; the name of a program, or None for the one that is found.
 AnyGraph = Union[Graph, str, "os.PathLike[str]"]
 AnyProgram = Union[FileName, None]
+
 #: The least and the most that options may be which are whole numbers.
 _RANGES = {
     "limit": (0, MAX_LIMIT),
@@ -62,6 +64,7 @@ _RANGES = {
     "trace_rows": (0, 2**20),
     "rounds": (0, 2**40),
 }
+
 #: The options that are there or not.
 _FLAGS = {"progress", "dealt", "books", "fed"}
 

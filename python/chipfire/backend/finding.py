@@ -25,10 +25,13 @@ from chipfire.utils import HERE, package_text
 #: The package's folder as Python came to it, perhaps by symbolic links, and the clone that it may lie in.
 _PACKAGE = os.path.dirname(os.path.dirname(__file__)) if os.path.isabs(__file__) else HERE
 _AROUND = os.path.join(_PACKAGE, os.pardir, os.pardir)
+
 #: The program that the package may carry.
 CARRIED = os.path.join(HERE, "program", "chipfire")
+
 #: The folders of a clone that `./chipfire` reads and runs.
 _READ = "crates", "packing", "python", "release", "target", "tools"
+
 #: What a package without a program can do, and what helps.
 _WITHOUT = (
     "Graphs, their matrices and sandpile groups, pictures, and explore, play, judge, page and choice_page for "

@@ -40,9 +40,11 @@ if TYPE_CHECKING:
 
 #: The most that a play in this process may take: vertices and edges, times chips, and times firings of each vertex.
 MOST_WORK = 2**28
+
 _NAME = "libchipfire.so"
 _NUMBER = ctypes.c_uint64
 _SLICE = (ctypes.c_void_p, ctypes.c_size_t)
+
 #: No numbers, one number, and a slice of length 0, which points to something.
 _NONE = array("Q")
 _ZERO = array("Q", [0])
@@ -182,9 +184,8 @@ def _call(call: Any, graph: Graph, limit: int, *arrays: Any, but: int = 0) -> in
     """Makes a call of the library. A fault is raised, `but` this one, whose number is returned; 0 if there is none."""
     place = _NUMBER()
     of_graph = (min(graph.vertices, 2**64 - 1), min(graph.sink, 2**64 - 1))
-    views = [
-        memoryview(numbers) for numbers in arrays
-    ]  # (as long as there are views no array gets another length)
+    # As long as there are views no array gets another length.
+    views = [memoryview(numbers) for numbers in arrays]
     words = [
         word for numbers in (*graph.long_columns, *arrays) for word in _slice("numbers", numbers)
     ]

@@ -24,6 +24,7 @@ if TYPE_CHECKING:
 #: The faults of a graph file, and of a file of rows.
 _OF_GRAPH = (*range(1, 9), 20, 21, 22)
 _OF_ROWS = (*range(23, 29), 10)
+
 #: What makes a process end with the thread that started it (PR_SET_PDEATHSIG), if the system has that; and the words
 #: that have setpriv do the same, sooner than Python makes a copy of itself to do it.
 _PRCTL = ctypes.CDLL(None).prctl if sys.platform == "linux" else None

@@ -13,6 +13,7 @@ from chipfire.utils import import_optional
 #: The users and the groups of the system, if it has any.
 _USERS: Any = import_optional("pwd")
 _GROUPS: Any = import_optional("grp")
+
 #: How many symbolic links a path may go through.
 _MOST_LINKS = 40
 

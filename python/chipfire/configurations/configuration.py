@@ -23,6 +23,7 @@ T = TypeVar("T")
 AnySums = TypeVar("AnySums", bound="Sums")
 CHIPS_HEADER = ("vertex", "chips")
 GUESS_HEADER = ("vertex", "fired")
+
 #: Numbers of vertices: by their names, as a dict or a Series of pandas; as an array of the graph's shape; one for each
 #: vertex, or for each but the sink; one for all; what a report has; or the name of a chips file. A vertex that is not
 #: named has 0.

@@ -21,10 +21,13 @@ from chipfire.graphs.graph import Graph
 from chipfire.utils import as_int, with_unit
 
 Power = TypeVar("Power", int, tuple[int, int], tuple[int, ...])
+
 #: Coefficients by two powers.
 Terms = Counter[tuple[int, int]]
+
 #: What takes the last vertex out of a graph.
 Step = Callable[[int], Iterator[tuple[int, int, int]]]
+
 #: How many smaller graphs, or configurations, are looked at, if that is not said.
 MOST = 100_000
 
@@ -137,9 +140,8 @@ def _steps(graph: Graph, is_one: bool) -> tuple[int, list[Step]]:
     beside: list[set[int]] = [set() for _ in range(graph.vertices)]
     for low, high in joined:
         beside[high].add(low)
-    for some in reversed(
-        beside
-    ):  # (what the last one is contracted into may be joined with all that are beside it)
+    # What the last one is contracted into may be joined with all that are beside it.
+    for some in reversed(beside):
         for low, high in itertools.combinations(sorted(some), 2):
             beside[high].add(low)
     pairs = [

@@ -25,6 +25,7 @@ from chipfire.utils import (
 )
 
 ROWS_HEADER = "vertex,chips,size,extent,lost\n"
+
 #: How many drops become text at a time, and how many bytes of rows become numbers.
 PART = 2**16
 _BYTES = 2**20

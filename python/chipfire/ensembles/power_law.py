@@ -13,11 +13,14 @@ from chipfire.utils import as_int, as_ints, import_optional, is_of_networkx, lis
 
 #: The greatest size, and the most that one may be seen.
 MAX_SIZE = MAX_COUNT = 2**64
+
 #: How many sizes at each end of a large range are added up one by one; by which power of 2 parts between them grow.
 _ALONE = 128
 _GROWTH = 1 / 4
+
 #: The weights by which a sum differs from the integral at each end, by Gregory's formula with four differences.
 _GREGORY = tuple(weight / 1440 for weight in (965, -462, 336, -146, 27))
+
 #: The places on [-1, 1] and the weights of Gauss's rule of five.
 _GAUSS = [(0.0, 128 / 225)] + [
     (sign * math.sqrt(5 + way * 2 * math.sqrt(10 / 7)) / 3, (322 - way * 13 * math.sqrt(70)) / 900)

@@ -82,9 +82,8 @@ def _tree(sink: int, outs: Outs, draw: random.Random) -> tuple[list[int], list[i
     places[0] = sink
     order[sink] = 0
     places[sink] = 0
-    while fixed < len(
-        outs
-    ):  # (those of the tree are the first, then those of the walk, which has no loops)
+    # The vertices of the tree stand first in the order, then those of the walk, which has no loops.
+    while fixed < len(outs):
         at = order[fixed]
         size = fixed + 1
         place = fixed
@@ -123,10 +122,8 @@ def _burnt(graph: Graph, outs: Outs, steps: Sequence[int], depth: Sequence[int])
 
 def _burnt_together(numpy: Any, graph: Graph, draws: list[random.Random]) -> Any:
     """What `_tree` and `_burnt` make by each generator, as rows of an array."""
-    stays = (
-        graph.sink,
-        graph.vertices,
-    )  # (a vertex more, where a walk stays if all others are in its tree)
+    # One vertex more is where a walk stays if all others are in its tree.
+    stays = (graph.sink, graph.vertices)
     tails, heads, mults = map(numpy.append, graph.columns, (stays, stays, (1, 1)))
     order = numpy.argsort(tails, kind="stable")
     sizes = numpy.bincount(tails, mults).astype(int)

@@ -34,6 +34,7 @@ from chipfire.utils import (
 
 #: How many edges become text at a time.
 _PART = 2**16
+
 #: The files of the graphs that were asked about last, by the graph's `id`, and how many of them are kept.
 _FILES: OrderedDict[int, tuple[weakref.ref[Graph], Kept]] = OrderedDict()
 _MOST_FILES = 64
@@ -195,9 +196,8 @@ class Graph:
                 )
             _FILES.move_to_end(key)
             if len(_FILES) > _MOST_FILES:
-                _FILES.popitem(
-                    last=False
-                )  # (whoever plays on that graph has the file as long as that takes)
+                # Whoever plays on that graph has the file as long as that takes.
+                _FILES.popitem(last=False)
             return _FILES[key][1]
 
     def _parts(self) -> Iterator[bytes]:

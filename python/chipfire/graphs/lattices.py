@@ -18,6 +18,7 @@ _BESIDE: dict[str, Sequence[Sequence[tuple[int, int]]]] = {
     "triangular": [((-1, 0), (-1, 1), (0, -1), (0, 1), (1, -1), (1, 0))] * 2,
     "hexagonal": [((0, -1), (0, 1), (1, 0)), ((-1, 0), (0, -1), (0, 1))],
 }
+
 #: What sizes of a grid are called, and a number that no number of a vertex makes 0 or more.
 _WORDS = ("width", "height", *(f"size in direction {it}" for it in range(3, 22)))
 _FAR = 2**40

@@ -50,15 +50,20 @@ PALETTES: dict[str, Sequence[str]] = {
         255,
     ),
 }
+
 SINK_COLOUR = "#a5d8c2"
 SCALE = 8
+
 #: In notebooks, a picture wider or higher than the first, in squares, is shown as points, at most the second wide.
 _MOST_SQUARES = 100
 _MOST_POINTS = 800
+
 #: The name of a palette, or its colours, each `#rrggbb`.
 Palette = Union[str, Sequence[str]]
+
 #: Where vertices stand, by their names: (to the right, down).
 Positions = Mapping[Any, tuple[float, float]]
+
 _SPREADS: dict[str, Callable[[int], float]] = {"linear": float, "log": math.log1p}
 _SIGNS = "0123456789abcdefghijklmnopqrstuvwxyz"
 

@@ -12,6 +12,7 @@ from chipfire.graphs.graph import Graph
 from chipfire.graphs.lattices import grid
 
 Point = tuple[float, float]
+
 #: Up to this number of vertices the places come from distances; more are put in rows.
 MOST_BY_DISTANCE = 100
 
@@ -46,9 +47,8 @@ def places_of(
                 )
         return _below_root([(float(given[name][0]), float(given[name][1])) for name in graph.names])
     columns = columns_of(graph)
-    if (
-        columns
-    ):  # (the frame round the squares stands for the sink, since it takes what falls over the border)
+    # The frame round the squares stands for the sink, since it takes what falls over the border.
+    if columns:
         places = _in_rows(graph.vertices - 1, columns)
         rows = (graph.vertices - 1) // columns
         places.append(((columns - 1) / 2, rows - 0.2))
@@ -78,16 +78,14 @@ def _from_distances(graph: Graph, started: Sequence[int]) -> Places:
     points = _stressed(_distances(graph))
     down = points[graph.sink]
     away = down - (sum(points[vertex] for vertex in started) / len(started) if started else down)
-    turn = (
-        1j * abs(away) / away if abs(away) > 1e-9 else 1
-    )  # (so that the sink is right below who gets chips)
+    # The turn puts the sink right below the vertices that get chips.
+    turn = 1j * abs(away) / away if abs(away) > 1e-9 else 1
     vertices = [(round((point * turn).real, 3), round((point * turn).imag, 3)) for point in points]
     across = [vertices[vertex][0] for vertex in started or [graph.sink]]
     root = (round(sum(across) / len(across), 3), min(down for _, down in vertices) - 1)
     widths, heights = zip(*vertices, root)
-    if (
-        max(heights) - min(heights) > 2 * (max(widths) - min(widths)) + 1
-    ):  # (what is so high is laid on its side)
+    # A drawing that is so high is laid on its side.
+    if max(heights) - min(heights) > 2 * (max(widths) - min(widths)) + 1:
         vertices = [(down, across) for across, down in vertices]
         root = root[::-1]
     return Places(vertices, root)
@@ -114,9 +112,8 @@ def _distances(graph: Graph) -> list[list[int]]:
 def _stressed(distances: Sequence[Sequence[int]]) -> list[complex]:
     """Points whose distances come near to those that are wanted, near ones above all: stress majorization."""
     size = len(distances)
-    points = [
-        cmath.rect(size / 6, 2 * math.pi * vertex / size) for vertex in range(size)
-    ]  # (on a circle at first)
+    # At first the points lie on a circle.
+    points = [cmath.rect(size / 6, 2 * math.pi * vertex / size) for vertex in range(size)]
     for _ in range(min(2000, 1_000_000 // size**2 + 1) if size > 1 else 0):
         for vertex, wanted in enumerate(distances):
             total = 0j

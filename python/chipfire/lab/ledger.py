@@ -15,8 +15,10 @@ from chipfire.lab.schedules import Detector, Game, opened
 
 #: One fact that an event changed: "root", "vertices" or "edges", the number there, the fact's name, its new value.
 Change = tuple[str, int, str, Any]
+
 #: The facts of the root, of each vertex and of each edge.
 State = dict[str, list[dict[str, Any]]]
+
 #: The facts that are the books of acknowledgements, as they are where none are kept.
 _NO_BOOKS: dict[str, Any] = {
     "deficit": 0,
@@ -25,6 +27,7 @@ _NO_BOOKS: dict[str, Any] = {
     "settled": 0,
     "owed": 0,
 }
+
 #: What stopped a vertex, by the model's word for it.
 _HALTS = {None: None, "sealed": "seal", "over": "limit"}
 

@@ -22,10 +22,13 @@ _HEADER = ("process", "kind", "channel")
 _SENDS = ("send", "tell")
 _GETS = ("receive", "hear")
 _KINDS = (*_SENDS, *_GETS, "passive", "active", "over")
+
 #: How an answer of the program begins, and its fault of rows that fit together in no order.
 _BEGINS = ("over ", "end ")
 _STUCK = 70
+
 Row = tuple[Any, Any, Any]
+
 #: The key of a value in an object, its place in a list, or a function that finds the value there.
 Key = Union[str, int, Callable[[Any], Any]]
 
@@ -388,9 +391,8 @@ def _events(
                 or clock.get(host, 0) < 1
             ):
                 raise ValueError(f"{clock} is no clock of {host!r}")
-            (message,) = {
-                message_of(said) if kind in _SENDS + _GETS else None
-            }  # (a set takes what can be a name)
+            # A set takes what can be a name, and nothing else.
+            (message,) = {message_of(said) if kind in _SENDS + _GETS else None}
         except Exception as error:  # (whatever a function does)
             raise ValueError(f"line {line}: {type(error).__name__}: {error}") from error
         place = None if kind in _GETS else (host, clock[host])

@@ -37,10 +37,13 @@ RULES = {
     "Ended": 17,
     "TooMuch": 18,
 }
+
 #: The events that have a count.
 COUNTED = ("fire", "feed", "work")
+
 #: How many firings at a time are listed at most.
 MOST_FIRINGS = 1_000_000
+
 #: A kind of event, the edge or vertex that it is at, and a count.
 Event = tuple[str, int, int]
 
@@ -115,9 +118,8 @@ class Core:
         self.edges = [Edge(number, *row) for number, row in enumerate(rows)]
         self.graph_edges = len(graph["edges"])
         self._ins: list[list[Edge]] = [[] for _ in self.vertices]
-        self._outs: list[list[Edge]] = [
-            [] for _ in [*self.vertices, None]
-        ]  # (the last one is the root's)
+        # The last one is the root's.
+        self._outs: list[list[Edge]] = [[] for _ in [*self.vertices, None]]
         for e in self.edges:
             self._ins[e.head].append(e)
             self._outs[e.tail].append(e)
@@ -141,9 +143,8 @@ class Core:
         return v != self.sink and self.vertices[v].chips >= self._degrees[v]
 
     def is_pending(self, v: int) -> bool:
-        return any(
-            [e.pending for e in self._outs[v]]
-        )  # (this is asked most often, and a list is quicker)
+        # This is asked most often, and a list is quicker.
+        return any([e.pending for e in self._outs[v]])
 
     def has_unput(self, v: int) -> bool:
         return any([e.put < len(e.sent) for e in self._outs[v]])

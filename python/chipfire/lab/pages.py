@@ -53,6 +53,7 @@ from chipfire.utils import (
 
 #: The sizes of rings that are tried for a trace, which does not tell its own.
 RINGS = (1, 2, 4, 8, 16, 32, 64)
+
 #: How many rows of a schedule or a trace a page shows at most, and how many events of rounds.
 MOST_ROWS = 10_000
 _SAYS: dict[str, str] = WORDS["pages"]
@@ -84,9 +85,8 @@ def page_text(
     program: AnyProgram = None,
 ) -> str:
     """The text of the page that `page` writes."""
-    if (
-        isinstance(simulation, Play) or not simulation.made_up
-    ):  # (the rows of a recorded run are counted already)
+    # The rows of a recorded run are counted already.
+    if isinstance(simulation, Play) or not simulation.made_up:
         refuse_more(simulation.schedule)
     if isinstance(simulation, Play):
         words = Words(simulation.game)

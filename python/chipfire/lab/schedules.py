@@ -19,6 +19,7 @@ from chipfire.utils import as_int, random_generator
 
 Game = Union[Setting, Computation]
 Detector = Union[str, type[Core]]
+
 #: The events of the machine, and that of a computation in which a vertex goes on; a detector may have others.
 EVENTS = (
     "take",
@@ -35,6 +36,7 @@ EVENTS = (
     "end",
 )
 WORK = "work"
+
 #: Rows of a log: process, kind, channel.
 _Acts = list[tuple[int, str, int]]
 
@@ -170,9 +172,8 @@ def shiviz(setting: Game, events: Iterable[Sequence[Any]], detector: Detector = 
         reply = core.step(*event)
         if reply.startswith("not-now") or reply in ("empty", "full"):
             continue
-        host = (
-            str(at) if kind in ("fire", "halt", WORK) else "root"
-        )  # (who also writes down the stopper's seals)
+        # The root also writes down the stopper's seals.
+        host = str(at) if kind in ("fire", "halt", WORK) else "root"
         if kind in ("take", "ack"):
             host = str(core.edges[at].head)
         elif kind in ("clear", "claim", "put", "settle") and core.edges[at].tail >= 0:

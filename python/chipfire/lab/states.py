@@ -18,6 +18,7 @@ from chipfire.lab.model import Core
 #: What does not change, and is compared as it is; the first of these are met most often.
 _PLAIN = {int, bool, str, type(None), float, Fraction}
 _FIXED = (*_PLAIN, complex, bytes, enum.Enum, type)
+
 #: What has no value of its own to compare.
 _CODE = (FunctionType, MethodType)
 

@@ -25,8 +25,8 @@ The usual words of sandpiles are found under these names:
     stabilization              what `plain` finds: Report.chips, Report.configuration
     odometer, firing vector    Report.fired, and without the sink Report.odometer
     maximal stable             Graph.max_stable()
-    recurrent identity         identity(graph)
-    stable sum                 add(graph, first, second)
+    recurrent identity         identity(graph), Graph.identity()
+    stable sum                 add(graph, first, second), or first & second of configurations
     recurrent, superstable     is_recurrent(graph, chips), is_superstable(graph, chips); all of them: recurrents(graph)
     many configurations        stabilize_many(graph, rows), are_recurrent(graph, rows)
     equivalent, q-reduced      recurrent_representative(graph, chips), superstable_representative(graph, chips)

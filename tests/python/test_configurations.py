@@ -234,7 +234,7 @@ class Less(unittest.TestCase):
 
     def test_what_is_not_recurrent_is_not_returned(self):
         graph = chipfire.cycle(3)
-        with mock.patch("chipfire.configurations.recurrent.identity", return_value=[0, 0, 0]):
+        with mock.patch("chipfire.configurations.configuration.identity", return_value=[0, 0, 0]):
             self.assertEqual(chipfire.recurrent_representative(graph, 2), {1: 1, 2: 1})
             for call, chips in [(chipfire.recurrent_representative, 0), (chipfire.superstable_representative, 1)]:
                 with self.assertRaisesRegex(RuntimeError, "not recurrent"):

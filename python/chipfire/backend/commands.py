@@ -20,7 +20,6 @@ from chipfire.configurations.configuration import (
     chips_text,
     Configuration,
     GUESS_HEADER,
-    identity as identity_numbers,
 )
 from chipfire.ensembles.drops import (
     columns_of,
@@ -418,8 +417,7 @@ def explain(number: int | None = None, *, program: AnyProgram = None) -> str:
 
 def identity(graph: AnyGraph, *, program: AnyProgram = None) -> Configuration:
     """The recurrent identity: of the recurrent configurations, the one that adds nothing to any of them."""
-    graph = known_graph(graph, program)
-    return Configuration(graph, identity_numbers(graph, program))
+    return known_graph(graph, program).identity(program=program)
 
 
 def write_chips(file: FileName, graph: Graph, chips: Chips) -> None:

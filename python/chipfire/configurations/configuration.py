@@ -112,6 +112,7 @@ class Configuration(Drawn, Sums):
     graph    the graph
     numbers  the chips by the numbers of the vertices, 0 for the sink
 
+    `~c` is its stabilization, and `c & d` that of the sum, as in SageMath. `c + d` is the sum itself.
     NumPy takes it as the array of its picture, and pandas as a Series, or in a DataFrame as `dict(configuration)`.
     """
 
@@ -134,6 +135,14 @@ class Configuration(Drawn, Sums):
     def __len__(self) -> int:
         return self.graph.vertices - 1
 
+    def __invert__(self) -> Configuration:
+        return self.stabilize()
+
+    def __and__(self, other: Chips) -> Configuration:
+        return (self + other).stabilize()
+
+    __rand__ = __and__
+
     def stabilize(self, *, program: FileName | None = None) -> Configuration:
         """What lies there when no vertex can fire any more: `chipfire.stabilize`."""
         return Configuration(self.graph, stabilized(self, program)[0])
@@ -149,6 +158,15 @@ class Configuration(Drawn, Sums):
     def is_superstable(self, *, program: FileName | None = None) -> bool:
         """Whether it is superstable: `chipfire.is_superstable`."""
         return (self.graph.max_stable() - self).is_recurrent(program=program)
+
+    def equivalent_recurrent(self, *, program: FileName | None = None) -> Configuration:
+        """The recurrent configuration that is equivalent: `chipfire.recurrent_representative`."""
+        return recurrent_representative(self, program)
+
+    def equivalent_superstable(self, *, program: FileName | None = None) -> Configuration:
+        """The superstable configuration that is equivalent: `chipfire.superstable_representative`."""
+        most = self.graph.max_stable()
+        return most - recurrent_representative(most - self, program)
 
     def order(self) -> int:
         """How many times it is added to itself until that is equivalent to no chips. Nothing of this is proved."""
@@ -253,3 +271,19 @@ def identity(graph: Graph, program: FileName | None) -> Sequence[int]:
     """The recurrent identity, by numbers: with `m` the most stable chips, 2m less its stabilization, stabilized."""
     twice = 2 * graph.max_stable()
     return (twice - twice.stabilize(program=program)).stabilize(program=program).numbers
+
+
+def recurrent_representative(held: Configuration, program: FileName | None) -> Configuration:
+    """The recurrent configuration that is equivalent to this one; `chipfire.recurrent_representative` tells how."""
+    if min(held.numbers) < 0:
+        # (one chip more than is stable, less what these become, is equivalent to none, and 1 on each vertex at least)
+        full = held.graph.max_stable() + 1
+        lift = full - full.stabilize(program=program)
+        held += (
+            max(-(count // more) for count, more in zip(held.numbers, lift.numbers) if more) * lift
+        )
+    # (a sum is recurrent if one of the two is, and no chips of the other are below 0)
+    found = (held + identity(held.graph, program)).stabilize(program=program)
+    if not found.is_recurrent(program=program):
+        raise RuntimeError("what was found is not recurrent, by a mistake of this package")
+    return found

@@ -47,4 +47,4 @@ def order(graph: AnyGraph) -> int:
     """The order of the sandpile group: how many recurrent configurations there are, superstable ones, and spanning
     trees whose edges lead to the sink, each edge counted as often as its multiplicity.
     Nothing of this is proved, and the program is not asked."""
-    return smith.order(smith.reduced(known_graph(graph)))
+    return known_graph(graph).order()

@@ -11,7 +11,6 @@ from chipfire.configurations.configuration import (
     burning_test,
     Chips,
     Configuration,
-    identity,
 )
 from chipfire.configurations.stabilization import as_configuration, as_rows
 from chipfire.graphs.graph import Graph
@@ -59,19 +58,7 @@ def recurrent_representative(
     """The one recurrent configuration to which firings, also backward, lead from this one; chips may be below 0. It is
     the stable sum with the identity, after chips that are equivalent to none lifted all to 0 or more, and is tested.
     Proved: the stabilizations. Not proved: the sums between them."""
-    held = as_configuration(graph, chips, program)
-    if min(held.numbers) < 0:
-        # (one chip more than is stable, less what these become, is equivalent to none, and 1 on each vertex at least)
-        full = held.graph.max_stable() + 1
-        lift = full - full.stabilize(program=program)
-        held += (
-            max(-(count // more) for count, more in zip(held.numbers, lift.numbers) if more) * lift
-        )
-    # (a sum is recurrent if one of the two is, and no chips of the other are below 0)
-    found = (held + identity(held.graph, program)).stabilize(program=program)
-    if not found.is_recurrent(program=program):
-        raise RuntimeError("what was found is not recurrent, by a mistake of this package")
-    return found
+    return as_configuration(graph, chips, program).equivalent_recurrent(program=program)
 
 
 def superstable_representative(
@@ -80,9 +67,7 @@ def superstable_representative(
     """The one superstable configuration that is equivalent to this one, the q-reduced one; chips may be below 0.
     With `m` the maximal stable one, it is `m` less the recurrent representative of `m` less this one, and so tested.
     Proved: the stabilizations. Not proved: the sums between them."""
-    held = as_configuration(graph, chips, program)
-    most = held.graph.max_stable()
-    return most - recurrent_representative(held.graph, most - held, program=program)
+    return as_configuration(graph, chips, program).equivalent_superstable(program=program)
 
 
 def is_superstable(graph: AnyGraph, chips: Chips, *, program: AnyProgram = None) -> bool:

@@ -17,7 +17,8 @@ from collections.abc import Hashable, Iterable, Iterator, Mapping, Sequence, Set
 from typing import Any
 
 from chipfire.backend.process import Kept
-from chipfire.configurations.configuration import Chips, Configuration, Sums
+from chipfire.configurations import smith
+from chipfire.configurations.configuration import Chips, Configuration, identity, Sums
 from chipfire.graphs.edges import Columns, edge_columns, edge_rows, names_of_ends
 from chipfire.graphs.named import parts_of_named
 from chipfire.utils import (
@@ -374,6 +375,14 @@ class Graph:
         self.require()
         needs = map(operator.add, self.degrees(), self.loops) if self.loops else self.degrees()
         return Configuration(self, [count - 1 for count in needs])
+
+    def identity(self, *, program: FileName | None = None) -> Configuration:
+        """The recurrent identity: `chipfire.identity`."""
+        return Configuration(self, identity(self, program))
+
+    def order(self) -> int:
+        """The order of the sandpile group, and not the number of vertices: `chipfire.order`."""
+        return smith.order(smith.reduced(self))
 
     def chips(self, chips: Chips) -> tuple[int, ...]:
         """Chips as one number for each vertex, 0 or more.

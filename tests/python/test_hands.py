@@ -1,0 +1,92 @@
+"""What hands expect that come from SageMath, NumPy, SciPy and pandas: spellings, seeds, arrays, tables and files.
+
+Values come from SageMath's answers, from the slow words of `model`, and from calculations by hand.
+"""
+import itertools
+import unittest
+
+import chipfire
+import model
+from test_sandpiles import CASES
+
+IS_HERE = chipfire.find_library() is not None
+#: Four vertices in a row with names, each with an edge to the next one.
+ROW = chipfire.Graph.undirected([("a", "b"), ("b", "c"), ("c", "s")], "s")
+DIRECTED = chipfire.Graph(4, 3, [(0, 1, 2), (1, 2), (1, 3), (2, 1, 2), (2, 3)])
+
+
+def inner(graph, numbers):
+    """Numbers of all vertices, without that of the sink."""
+    return tuple(count for vertex, count in enumerate(numbers) if vertex != graph.sink)
+
+
+class Sage(unittest.TestCase):
+    def test_methods_of_a_graph_are_what_sage_says(self):
+        for case in CASES:
+            with self.subTest(case.how):
+                self.assertEqual(case.graph.identity(), case.named(case.stored["identity"]))
+                self.assertEqual(case.graph.order(), int(case.stored["order"]))
+
+    def test_the_wave_stabilizes_as_in_sage(self):
+        for case in CASES:
+            for play in case.stored["plays"]:
+                with self.subTest(case.how):
+                    chips = chipfire.Configuration(case.graph, case.named(play["chips"]))
+                    self.assertEqual(~chips, case.named(play["stable"]))
+                    self.assertIs(type(~chips), chipfire.Configuration)
+                    self.assertEqual(chips.equivalent_recurrent(), case.named(play["representative"]))
+
+    def test_the_ampersand_adds_and_stabilizes(self):
+        for graph in (chipfire.complete(4), ROW, DIRECTED):
+            stable = itertools.product(*(range(most + 2) for most in graph.max_stable().values()))
+            pairs = [*itertools.combinations([chipfire.Configuration(graph, it) for it in stable], 2)]
+            for first, second in pairs[:: len(pairs) // 60]:
+                together = [a + b for a, b in zip(first.numbers, second.numbers)]
+                wanted = inner(graph, model.stabilized(graph, together)[0])
+                numbers = tuple(second.values())
+                for found in (first & second, first & numbers, numbers & first, first & dict(second)):
+                    self.assertEqual(tuple(found.values()), wanted)
+        self.assertEqual(1 & ROW.max_stable(), ~(ROW.max_stable() + 1))
+
+    def test_the_group_of_the_square_by_hand(self):
+        # (one of the three vertices at most is empty, and that in the middle is in the identity: by firing all once)
+        square = chipfire.cycle(4)
+        element = chipfire.Configuration(square, (1, 1, 0))
+        powers = [square.identity()]
+        for _ in range(4):
+            powers.append(powers[-1] & element)
+        self.assertEqual(square.order(), 4)
+        self.assertEqual([tuple(it.values()) for it in powers], [(1, 0, 1), (1, 1, 0), (1, 1, 1), (0, 1, 1), (1, 0, 1)])
+
+    def test_representatives_are_the_only_equivalent_ones(self):
+        for graph in (chipfire.complete(4), DIRECTED):
+            class_of = model.classes(graph)
+            recurrents = {class_of(chips): inner(graph, chips) for chips in model.recurrents(graph)}
+            width = range(graph.vertices - 1)
+            full = {chips: [*chips[: graph.sink], 0, *chips[graph.sink :]] for chips in model.superstables(graph)}
+            superstables = {class_of(numbers): chips for chips, numbers in full.items()}
+            for chips in itertools.product(range(-2, 4), repeat=len(width)):
+                held = chipfire.Configuration(graph, chips)
+                found = held.equivalent_recurrent(), held.equivalent_superstable()
+                wanted = recurrents[class_of(held.numbers)], superstables[class_of(held.numbers)]
+                self.assertEqual(tuple(tuple(it.values()) for it in found), wanted, chips)
+
+    def test_what_is_refused(self):
+        most = ROW.max_stable()
+        for call in (lambda: ~(most - 5), lambda: most & -5, lambda: -5 & most):
+            with self.assertRaisesRegex(ValueError, "the chips of vertex 'a' are below 0"):
+                call()
+        rows = [({"z": 1}, KeyError, "no vertex 'z'"), ({1, 2}, TypeError, "no set"), ([0.5] * 3, TypeError, "'a'"),
+                (chipfire.cycle(4).max_stable(), ValueError, "one of another graph"), ([1], ValueError, "for 1 vertices")]
+        for wrong, kind, told in rows:
+            for call in (lambda: most & wrong, lambda: wrong & most):
+                with self.subTest(wrong=wrong), self.assertRaisesRegex(kind, told):
+                    call()
+        stuck = chipfire.Graph(3, 2, [(0, 1), (1, 0)])
+        for call in (stuck.identity, stuck.order):
+            with self.assertRaisesRegex(ValueError, "no walk leads to the sink from 2 of the vertices: 0, 1"):
+                call()
+
+
+if __name__ == "__main__":
+    unittest.main()

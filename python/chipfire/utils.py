@@ -161,16 +161,22 @@ class AsArray:
 
 def known_seed(seed: Any) -> int | float | str | bytes:
     """A seed as the one value that it stands for: a whole number, also of NumPy or a float like 3.0, as an int; another
-    float; a text or bytes. For None the system draws a number."""
+    float; a text or bytes. For None the system draws a number of 64 bits, and a `Generator` of NumPy the next one that
+    it has. That of a `SeedSequence` is the first of its state, the same each time."""
     if seed is None:
         return random.getrandbits(64)
+    if hasattr(seed, "bit_generator") and hasattr(seed, "integers"):
+        return int(seed.integers(2**64, dtype="uint64"))
+    if hasattr(seed, "generate_state"):
+        return int(seed.generate_state(1, "uint64")[0])
     if isinstance(seed, (str, bytes, bytearray)):
         return seed if isinstance(seed, str) else bytes(seed)
     with contextlib.suppress(TypeError):
         return as_int(seed, "the seed", None)
     if isinstance(seed, float) and seed == seed:
         return seed
-    raise TypeError(f"a seed is a number, a text or bytes, and no {type(seed).__name__}")
+    kinds = "a number, a text, bytes, or a Generator or SeedSequence of NumPy"
+    raise TypeError(f"a seed is {kinds}, and no {type(seed).__name__}")
 
 
 def random_generator(seed: Any) -> random.Random:

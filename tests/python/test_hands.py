@@ -3,11 +3,12 @@
 Values come from SageMath's answers, from the slow words of `model`, and from calculations by hand.
 """
 import itertools
+import random
 import unittest
 
 import chipfire
 import model
-from test_sandpiles import CASES
+from test_sandpiles import CASES, has
 
 IS_HERE = chipfire.find_library() is not None
 #: Four vertices in a row with names, each with an edge to the next one.
@@ -86,6 +87,76 @@ class Sage(unittest.TestCase):
         for call in (stuck.identity, stuck.order):
             with self.assertRaisesRegex(ValueError, "no walk leads to the sink from 2 of the vertices: 0, 1"):
                 call()
+
+
+#: What draws by a seed: each returns something that can be compared.
+DRAWS = {
+    "random_drops": lambda seed: list(chipfire.random_drops(chipfire.grid(4, 3), 99, seed)),
+    "random_recurrent": lambda seed: chipfire.random_recurrent(chipfire.grid(4, 3), seed),
+    "many of random_recurrent": lambda seed: chipfire.random_recurrent(chipfire.grid(4, 3), seed, 40),
+    "random_schedule": lambda seed: chipfire.random_schedule(chipfire.Setting(ROW, 3), seed),
+}
+if IS_HERE:
+    DRAWS["chains"] = lambda seed: chipfire.chains(ROW, 3, 20, seed).seeds
+    DRAWS["chains with starts"] = lambda seed: chipfire.chains(ROW, 3, 20, seed, chips=0).seeds
+
+
+class Seeds(unittest.TestCase):
+    def test_numbers_and_texts_draw_by_python_s_own(self):
+        for seed in (0, 3, -3, 2**70, "3", b"3", 2.5):
+            wanted = random.Random(seed).choices(range(12), k=99)
+            self.assertEqual(DRAWS["random_drops"](seed), wanted)
+
+    @unittest.skipUnless(has("numpy"), "NumPy is not here")
+    def test_a_generator_of_numpy_gives_the_next_number_that_it_has(self):
+        import numpy
+
+        for name, draw in DRAWS.items():
+            for kind in (numpy.random.PCG64, numpy.random.MT19937):
+                with self.subTest(name, kind=kind):
+                    generator, other = (numpy.random.Generator(kind(5)) for _ in range(2))
+                    for number in other.integers(0, 2**64, 3, "uint64").tolist():
+                        self.assertEqual(draw(generator), draw(number))
+                    self.assertEqual(generator.random(), other.random())
+
+    @unittest.skipUnless(has("numpy"), "NumPy is not here")
+    def test_a_sequence_of_seeds_gives_each_call_the_same(self):
+        import numpy
+
+        sequence = numpy.random.SeedSequence(5)
+        low, high = sequence.generate_state(2).tolist()
+        others = sequence.spawn(2)
+        for name, draw in DRAWS.items():
+            with self.subTest(name):
+                self.assertEqual([draw(sequence), draw(sequence)], [draw(low + 2**32 * high)] * 2)
+                self.assertEqual(draw(others[0]), draw(numpy.random.SeedSequence(5, spawn_key=(0,))))
+        self.assertEqual(len({tuple(DRAWS["random_drops"](it)) for it in (sequence, *others)}), 3)
+
+    @unittest.skipUnless(has("numpy") and IS_HERE, "NumPy or the library is not here")
+    def test_chains_have_the_number_that_plays_them_again(self):
+        import numpy
+
+        grid, generator = chipfire.grid(4, 3), numpy.random.default_rng(5)
+        number = int(numpy.random.default_rng(5).integers(0, 2**64, dtype="uint64"))
+        found = chipfire.chains(grid, 3, 40, generator)
+        self.assertEqual((type(found.seed), found.seed), (int, number))
+        again, other = chipfire.chains(grid, 3, 40, found.seed), chipfire.chains(grid, 3, 40, generator)
+        self.assertEqual((again.seeds, again.size.tolist()), (found.seeds, found.size.tolist()))
+        self.assertNotEqual(other.seeds, found.seeds)
+
+    @unittest.skipUnless(has("numpy"), "NumPy is not here")
+    def test_what_is_refused_draws_nothing(self):
+        import numpy
+
+        generator, state = numpy.random.default_rng(5), numpy.random.default_rng(5).bit_generator.state
+        lonely = chipfire.Graph(1, 0, [])
+        for call in (lambda: chipfire.random_drops(lonely, 1, generator),
+                     lambda: chipfire.random_drops(ROW, -1, generator),
+                     lambda: chipfire.random_recurrent(DIRECTED, generator),
+                     lambda: chipfire.chains(ROW, 0, 1, generator)):
+            with self.assertRaises(ValueError):
+                call()
+        self.assertEqual(generator.bit_generator.state, state)
 
 
 if __name__ == "__main__":

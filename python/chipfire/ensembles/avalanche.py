@@ -20,13 +20,15 @@ def random_drops(
     """The names of `count` vertices but the sink, drawn evenly by `random.Random(seed)`, one after the other.
 
     A seed is a whole number, also one of NumPy or a float like 3.0, which is 3; another float, a text or bytes; or
-    None, and then no two calls draw the same. The text "3" is another seed than 3."""
+    None, and then no two calls draw the same. The text "3" is another seed than 3. A `Generator` of NumPy gives one
+    number of 64 bits as the seed, and the next call gets its next one. A `SeedSequence` gives each call the same, by
+    its `generate_state`, and each that it spawns another one."""
     known = known_graph(graph, program)
-    draw = random_generator(seed)
     count = as_int(count, "the number of drops")
     inner = [name for vertex, name in enumerate(known.names) if vertex != known.sink]
     if count and not inner:
         raise ValueError("the graph has only its sink, and so no vertex to drop on")
+    draw = random_generator(seed)
     parts = (draw.choices(inner, k=min(PART, count - done)) for done in range(0, count, PART))
     return itertools.chain.from_iterable(parts)
 

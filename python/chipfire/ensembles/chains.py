@@ -51,7 +51,8 @@ class Chains:
     made    how many drops each chain made
     chips   what lies on each vertex after the last one, by numbers; the sink has what it got in all
     fired   which vertices fired by each drop, if that was asked for, else None
-    seed    the seed from which `chains` plays the same again; one that the system drew, if None was given
+    seed    the seed from which `chains` plays the same again: the one that was drawn, if None was given, and the number
+            that a `Generator` or a `SeedSequence` of NumPy gave
     """
 
     seeds: Sequence[str]
@@ -80,7 +81,7 @@ def chains(
 ) -> Chains:
     """Drops chips on random vertices in n chains, each with its own seed and `drops` drops, each drop on what the play
     of the one before it left. It takes the library: without it that is a `ProgramNotFound`. The seeds of the chains are
-    made of `seed`, which is as in `random_drops`; if it is None, the answer says which one was drawn.
+    made of `seed`, which is as in `random_drops`; the result has the one that None or a `Generator` drew.
 
     Each chain begins with `chips`: in one of their forms for all, or rows of an array or list, one for each. Without
     them each begins with a `random_recurrent` configuration of its own, from which on the drops are stationary.

@@ -24,8 +24,8 @@ def random_recurrent(graph: AnyGraph, seed: Any, count: int | None = None) -> An
 
     Wilson's algorithm (1996) draws a spanning tree, and the burning bijection of Majumdar and Dhar (1992) makes chips
     of it. Each has a `random.Random` of its own, whose seed `random.Random(seed)` makes. A seed is as in
-    `random_drops`. Edges into the sink need none
-    back; a graph that is else directed is a ValueError. 60 by 60 squares take some 20 ms, and many by NumPy 5 ms each.
+    `random_drops`. Edges into the sink need none back; a graph that is else directed is a ValueError. 60 by 60 squares
+    take some 20 ms, and many by NumPy 5 ms each.
     Nothing of this is proved, and the program is not asked."""
     known = known_graph(graph)
     n = 1 if count is None else as_int(count, "the number of configurations")

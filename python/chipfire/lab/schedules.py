@@ -71,7 +71,7 @@ def is_early(core: Core) -> bool:
 def random_schedule(
     setting: Game, seed: Any, detector: Detector = "right", *, most: int = 100_000
 ) -> Schedule:
-    """A schedule in which each event does something, drawn until the root is closed; the same seed draws the same.
+    """A schedule in which each event does something, drawn until the root is closed, by a seed as in `random_drops`.
 
     The right detector closes the root in each. With another it may end because nothing can happen any more. After
     `most` events it is cut, and its `ended` is False: the events of a detector may go round for ever.

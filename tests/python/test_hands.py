@@ -2,7 +2,9 @@
 
 Values come from SageMath's answers, from the slow words of `model`, and from calculations by hand.
 """
+import copy
 import itertools
+import pickle
 import random
 import unittest
 
@@ -157,6 +159,63 @@ class Seeds(unittest.TestCase):
             with self.assertRaises(ValueError):
                 call()
         self.assertEqual(generator.bit_generator.state, state)
+
+
+def some_graphs():
+    """Graphs with each thing that a graph may have."""
+    yield from [ROW, DIRECTED, chipfire.grid(4, 3), chipfire.torus(3, 4), chipfire.grid(2, 3, 2, loss=1), chipfire.aztec(2)]
+    yield chipfire.Graph.undirected([((0, "a"), (1, None), 3), ((1, None), 2.5)], 2.5)
+    yield chipfire.Graph(3, 2, [(0, 1, 3), (1, 2)], ["x", "y", "z"], from_sink=[(0, 2)], loops=[2, 0, 0])
+
+
+def asked(graph):
+    """Answers of all kinds about a graph, which keeps some of them."""
+    answers = [graph.shape, graph.edges, graph.degrees(), graph.wrong, graph.number(graph.names[0]), graph.squares]
+    answers += [graph.max_stable(), graph.identity(), graph.order(), chipfire.laplacian(graph), graph.loops, graph.names]
+    answers += [chipfire.is_recurrent(graph, graph.max_stable()), chipfire.burning_script(graph), graph.outs(0)]
+    answers += [chipfire.stabilize(graph, 7), chipfire.plain(graph, 7), (graph.max_stable() + 3).equivalent_superstable()]
+    if not graph.loops:
+        answers += [graph.text(), *map(list, graph.long_columns)]
+    return answers
+
+
+class Pickles(unittest.TestCase):
+    def test_a_pickle_of_a_graph_is_as_long_whatever_was_asked(self):
+        for graph in some_graphs():
+            before = pickle.dumps(graph)
+            wanted = asked(graph)
+            for protocol in range(pickle.HIGHEST_PROTOCOL + 1):
+                for other in (pickle.loads(pickle.dumps(graph, protocol)), copy.copy(graph), copy.deepcopy(graph)):
+                    self.assertEqual((other, other.answers, type(other)), (graph, {}, chipfire.Graph))
+                    self.assertEqual(other.from_sink, graph.from_sink)
+                self.assertEqual(asked(other), wanted)
+            # (a shape may have been found)
+            self.assertLess(len(pickle.dumps(graph)) - len(before), 40)
+            self.assertEqual(asked(pickle.loads(before)), wanted)
+
+    def test_results_carry_their_graph_and_nothing_that_it_keeps(self):
+        grid = chipfire.grid(60, 50)
+        # (an edge has three numbers of 32 bits, and a vertex few bytes in each result)
+        most = 12 * len(grid.columns.tails) + 12 * grid.vertices + 2000
+        report = chipfire.plain(grid, 7)
+        drops = chipfire.drops(grid, grid.max_stable(), [0, 1, 2])
+        results = [grid, report, report.configuration, drops, chipfire.Setting(grid, 3), ~grid.max_stable()]
+        for result in results:
+            before = len(pickle.dumps(result))
+            self.assertLess(before, most, type(result))
+            grid.identity(), grid.edges, grid.long_columns, grid.shape, grid.number(3), grid.wrong
+            self.assertEqual(len(pickle.dumps(result)), before)
+            again = pickle.loads(pickle.dumps(result))
+            if not isinstance(result, (chipfire.Drops, chipfire.Setting)):
+                self.assertEqual(again, result)
+        again = pickle.loads(pickle.dumps(drops))
+        self.assertEqual((again.size.tolist(), again.report), (drops.size.tolist(), drops.report))
+
+    def test_a_graph_that_was_unpickled_is_never_changed(self):
+        other = pickle.loads(pickle.dumps(ROW))
+        with self.assertRaisesRegex(AttributeError, "never changed"):
+            other.sink = 0
+        self.assertIsNot(other.answers, ROW.answers)
 
 
 if __name__ == "__main__":

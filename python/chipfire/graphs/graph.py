@@ -41,6 +41,9 @@ _FILES: OrderedDict[int, tuple[weakref.ref[Graph], Kept]] = OrderedDict()
 _MOST_FILES = 64
 _FILES_LOCK = threading.Lock()
 
+#: What a graph is made of; all else is found out about it.
+_MADE_OF = ("vertices", "sink", "columns", "names", "shape", "squares", "from_sink", "loops")
+
 
 def _checked_names(names: tuple[Hashable, ...], vertices: int) -> tuple[Hashable, ...]:
     """Names, if there are none, or one for each vertex, all different."""
@@ -73,7 +76,8 @@ class Graph:
     from_sink edges out of the sink, rows (head, mult) that only `laplacian` shows; None: one back for each edge into it
     loops     how many chips each vertex needs to fire beyond those that it sends, and keeps; none, if it is empty
 
-    A graph is never changed. The program says whether chipfire takes it: `check(graph)`.
+    A graph is never changed. The program says whether chipfire takes it: `check(graph)`. A copy and a pickle have what
+    it is made of, and nothing that was found out about it.
     """
 
     vertices: int
@@ -114,6 +118,13 @@ class Graph:
 
     def __setattr__(self, name: str, value: Any) -> None:
         raise AttributeError("a graph is never changed: make another one")
+
+    def __getstate__(self) -> dict[str, Any]:
+        stored = vars(self)
+        return {name: stored[name] for name in _MADE_OF if name in stored}
+
+    def __setstate__(self, state: dict[str, Any]) -> None:
+        vars(self).update(state, answers={})
 
     def __eq__(self, other: object) -> bool:
         if not isinstance(other, Graph):
@@ -350,7 +361,7 @@ class Graph:
         """The same graph without loops."""
         if self.loops and "loop_free" not in self.answers:
             self.answers["loop_free"] = copy.copy(self)
-            vars(self.answers["loop_free"]).update(loops=(), answers={})
+            vars(self.answers["loop_free"])["loops"] = ()
         return self.answers.get("loop_free", self)
 
     def without_loops(self, chips: Sequence[int]) -> Sequence[int]:

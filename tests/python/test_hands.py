@@ -218,5 +218,41 @@ class Pickles(unittest.TestCase):
         self.assertIsNot(other.answers, ROW.answers)
 
 
+class Sizes(unittest.TestCase):
+    def test_rows_and_columns_are_height_and_width(self):
+        options = [{}, {"loss": 1}, {"periodic": (True, False)}, {"lattice": "triangular"}, {"periodic": True, "loss": [3] * 6}]
+        for some in options:
+            with self.subTest(some):
+                found = chipfire.grid(rows=2, columns=3, **some)
+                self.assertEqual((found, found.shape), (chipfire.grid(3, 2, **some), (2, 3)))
+        torus = chipfire.torus(columns=4, rows=3)
+        self.assertEqual((torus, torus.shape), (chipfire.torus(4, 3), (3, 4)))
+        self.assertEqual(chipfire.grid(width=4, height=3), chipfire.grid(4, 3))
+        # (in a row below the first one, a vertex has that above it, and those beside it)
+        self.assertIn((3, 0, 1), chipfire.grid(rows=2, columns=3).edges)
+
+    def test_sizes_that_do_not_fit_together_are_refused_by_their_names(self):
+        rows = [((), {}, "said: none of them"), ((3,), {}, "said: width"), ((), {"rows": 3}, "said: rows"),
+                ((), {"columns": 3}, "said: columns"), ((3,), {"rows": 3}, "said: width, rows"),
+                ((3,), {"columns": 3}, "said: width, columns"), ((), {"height": 3, "columns": 3}, "said: height, columns"),
+                ((3, 3), {"rows": 3}, "said: width, height, rows"),
+                ((3, 3), {"rows": 3, "columns": 3}, "said: width, height, rows, columns")]
+        for make, name in ((chipfire.grid, "a grid"), (chipfire.torus, "a torus")):
+            for sizes, named, told in rows:
+                with self.subTest(name, told=told), self.assertRaises(TypeError) as raised:
+                    make(*sizes, **named)
+                self.assertEqual(str(raised.exception), f"{name} has a width and a height, or rows and columns; {told}")
+        with self.assertRaisesRegex(TypeError, "said: width, height, rows, columns"):
+            chipfire.grid(3, 3, 3, rows=3, columns=3)
+        for sizes, told in [({"rows": 0, "columns": 3}, "the number of rows is below 1: 0"),
+                            ({"rows": 3, "columns": -1}, "the number of columns is below 1: -1")]:
+            with self.assertRaisesRegex(ValueError, told):
+                chipfire.grid(**sizes)
+        with self.assertRaisesRegex(TypeError, "the number of rows is no whole number: 'x'"):
+            chipfire.grid(rows="x", columns=3)
+        with self.assertRaisesRegex(ValueError, "the number of rows of a torus is below 3: 2"):
+            chipfire.torus(rows=2, columns=3)
+
+
 if __name__ == "__main__":
     unittest.main()

@@ -5,9 +5,10 @@ from __future__ import annotations
 import itertools
 import math
 from collections.abc import Iterable
-from typing import Any
+from typing import Any, overload
 
 from chipfire.graphs.graph import Graph
+from chipfire.graphs.lattices import sizes_of
 from chipfire.utils import as_int, MAX_LARGE_EDGES, MAX_LARGE_VERTICES
 
 
@@ -41,10 +42,27 @@ def wheel(vertices: int) -> Graph:
     return _both_ways(vertices, 0, [*((v, v % len(rim) + 1) for v in rim), *((v, 0) for v in rim)])
 
 
+@overload
 def torus(width: int, height: int) -> Graph:
-    """A grid whose borders are joined, 3 by 3 at least: vertex `width * row + column`; vertex 0 is the sink."""
-    width = as_int(width, "the width of a torus", 3)
-    height = as_int(height, "the height of a torus", 3)
+    ...
+
+
+@overload
+def torus(*, rows: int, columns: int) -> Graph:
+    ...
+
+
+def torus(
+    width: int | None = None,
+    height: int | None = None,
+    *,
+    rows: int | None = None,
+    columns: int | None = None,
+) -> Graph:
+    """A grid whose borders are joined, 3 by 3 at least, by its sizes as in `grid`: vertex `width * row + column`;
+    vertex 0 is the sink."""
+    sizes = sizes_of("a torus", width, height, rows, columns)
+    width, height = (as_int(it, f"the {word} of a torus", 3) for word, it in sizes)
     size = as_int(width * height, "the number of squares", 9, MAX_LARGE_VERTICES)
     right = ((v, v - v % width + (v + 1) % width) for v in range(size))
     below = ((v, (v + width) % size) for v in range(size))

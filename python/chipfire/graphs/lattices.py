@@ -6,7 +6,7 @@ import itertools
 import math
 from array import array
 from collections.abc import Iterable, Mapping, Sequence, Set
-from typing import Any
+from typing import Any, overload
 
 from chipfire.graphs.edges import Columns
 from chipfire.graphs.graph import Graph
@@ -19,28 +19,70 @@ _BESIDE: dict[str, Sequence[Sequence[tuple[int, int]]]] = {
     "hexagonal": [((0, -1), (0, 1), (1, 0)), ((-1, 0), (0, -1), (0, 1))],
 }
 
-#: What sizes of a grid are called, and a number that no number of a vertex makes 0 or more.
-_WORDS = ("width", "height", *(f"size in direction {it}" for it in range(3, 22)))
+#: What further sizes of a grid are called, and a number that no number of a vertex makes 0 or more.
+_WORDS = [f"size in direction {it}" for it in range(3, 22)]
 _FAR = 2**40
 
 
+def sizes_of(
+    what: str, width: Any, height: Any, rows: Any, columns: Any
+) -> list[tuple[str, int | None]]:
+    """The width and the height by what they are called, from either pair of names; other pairs are refused."""
+    given = {"width": width, "height": height, "rows": rows, "columns": columns}
+    said = [name for name, size in given.items() if size is not None]
+    if said == ["rows", "columns"]:
+        return [("number of columns", columns), ("number of rows", rows)]
+    if said != ["width", "height"]:
+        named = ", ".join(said) or "none of them"
+        raise TypeError(f"{what} has a width and a height, or rows and columns; said: {named}")
+    return [("width", width), ("height", height)]
+
+
+@overload
 def grid(
     width: int,
     height: int,
     *more: int,
+    periodic: bool | Sequence[bool] = ...,
+    loss: Any = ...,
+    lattice: str = ...,
+) -> Graph:
+    ...
+
+
+@overload
+def grid(
+    *,
+    rows: int,
+    columns: int,
+    periodic: bool | Sequence[bool] = ...,
+    loss: Any = ...,
+    lattice: str = ...,
+) -> Graph:
+    ...
+
+
+def grid(
+    width: int | None = None,
+    height: int | None = None,
+    *more: int,
+    rows: int | None = None,
+    columns: int | None = None,
     periodic: bool | Sequence[bool] = False,
     loss: Any = 0,
     lattice: str = "square",
 ) -> Graph:
-    """The grid, in Sage `sandpiles.Grid(height, width)`: vertex `width * row + column`, or `(row, column)`, and the
-    sink after them all. On the border it loses a chip to the sink on each side without a neighbour: each has degree 4.
+    """The grid `grid(width, height)` or `grid(rows=height, columns=width)`, in Sage `sandpiles.Grid(height, width)`:
+    vertex `width * row + column`, or `(row, column)`, and the sink after them all. On the border it loses a chip to the
+    sink on each side without a neighbour: each has degree 4.
 
     With more sizes there are more directions: a third one has vertex `width * (height * layer + row) + column`, and a
     picture of it the layers one below the other. In a `periodic` direction, of 2 at least, the borders are joined: in
-    all, or as said of each, as `(True, False)` of a cylinder. A firing loses `loss` more chips, one number for all, or
-    in a form of chips one for each vertex. If all directions are periodic some is needed. The `lattice` is as in
-    `region`; that of "hexagonal" has an even size if it is periodic."""
-    given = [as_int(it, f"the {word}", 1) for it, word in zip((width, height, *more), _WORDS)]
+    all, or as said of each, that of the width first, as `(True, False)` of a cylinder. A firing loses `loss` more
+    chips, one number for all, or in a form of chips one for each vertex. If all directions are periodic some is needed.
+    The `lattice` is as in `region`; that of "hexagonal" has an even size if it is periodic."""
+    sizes = [*sizes_of("a grid", width, height, rows, columns), *zip(_WORDS, more)]
+    given = [as_int(it, f"the {word}", 1) for word, it in sizes]
     as_int(math.prod(given), "the number of squares", 1, MAX_LARGE_VERTICES - 1)
     joined = [*periodic] if isinstance(periodic, Iterable) else [periodic] * len(given)
     if wrong := [it for it in joined if it not in (False, True)]:

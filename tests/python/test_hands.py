@@ -7,6 +7,7 @@ import itertools
 import pickle
 import random
 import unittest
+from unittest import mock
 
 import chipfire
 import model
@@ -252,6 +253,38 @@ class Sizes(unittest.TestCase):
             chipfire.grid(rows="x", columns=3)
         with self.assertRaisesRegex(ValueError, "the number of rows of a torus is below 3: 2"):
             chipfire.torus(rows=2, columns=3)
+
+
+class Lists(unittest.TestCase):
+    def rows_of(self, found):
+        return [*map(tuple, found.tolist() if has("numpy") else found)]
+
+    def test_all_of_a_graph_are_rows_of_one_array(self):
+        for graph in (chipfire.complete(4), ROW, DIRECTED, chipfire.grid(2, 2), chipfire.Graph(1, 0, [])):
+            found = chipfire.recurrents(graph, as_array=True)
+            rows = self.rows_of(found)
+            self.assertEqual({*rows}, model.recurrents(graph))
+            self.assertEqual(len(rows), len({*rows}))
+            self.assertEqual(rows, [it.numbers for it in chipfire.recurrents(graph)])
+            others = self.rows_of(chipfire.superstables(graph, as_array=True))
+            self.assertEqual(others, [it.numbers for it in chipfire.superstables(graph)])
+            if graph.vertices > 1:
+                self.assertEqual({inner(graph, row) for row in others}, {*model.superstables(graph)})
+            if has("numpy"):
+                self.assertEqual((found.shape, found.dtype), ((graph.order(), graph.vertices), "int64"))
+                self.assertEqual(chipfire.are_recurrent(graph, found), [True] * len(rows))
+
+    def test_without_numpy_they_are_a_list_of_rows(self):
+        with mock.patch("chipfire.configurations.recurrent.import_optional", return_value=None):
+            found = chipfire.recurrents(ROW, as_array=True)
+        self.assertEqual(found, [it.numbers for it in chipfire.recurrents(ROW)])
+        self.assertIs(type(found), list)
+
+    def test_more_than_there_is_memory_for_are_refused_before_they_begin(self):
+        # (by Cayley there are 30^28 of them, each with 30 numbers of 8 bytes)
+        for call in (chipfire.recurrents, chipfire.superstables):
+            with self.assertRaisesRegex(MemoryError, f"{30**28:,} configurations of 30 vertices take "):
+                call(chipfire.complete(30), as_array=True)
 
 
 if __name__ == "__main__":

@@ -2,11 +2,21 @@
 
 from __future__ import annotations
 
-from typing import Any
+from typing import Any, Literal, overload
 
 from chipfire.backend.commands import AnyGraph, known_graph
 from chipfire.configurations import smith
 from chipfire.utils import import_optional
+
+
+@overload
+def laplacian(graph: AnyGraph, *, sparse: Literal[False] = ...) -> list[list[int]]:
+    ...
+
+
+@overload
+def laplacian(graph: AnyGraph, *, sparse: bool) -> Any:
+    ...
 
 
 def laplacian(graph: AnyGraph, *, sparse: bool = False) -> Any:
@@ -17,6 +27,16 @@ def laplacian(graph: AnyGraph, *, sparse: bool = False) -> Any:
     edges that it has there. In a `Graph` of rows, which has no edge out of the sink, and in one of a file it is 0.
     """
     return _matrix(smith.laplacian(known_graph(graph)), sparse)
+
+
+@overload
+def reduced_laplacian(graph: AnyGraph, *, sparse: Literal[False] = ...) -> list[list[int]]:
+    ...
+
+
+@overload
+def reduced_laplacian(graph: AnyGraph, *, sparse: bool) -> Any:
+    ...
 
 
 def reduced_laplacian(graph: AnyGraph, *, sparse: bool = False) -> Any:

@@ -2,7 +2,10 @@
 
 from __future__ import annotations
 
+import itertools
+import operator
 from collections.abc import Callable, Iterable, Iterator, Sequence
+from typing import Any, Literal, overload
 
 from chipfire.backend.commands import AnyGraph, AnyProgram, known_graph
 from chipfire.configurations import smith
@@ -14,6 +17,7 @@ from chipfire.configurations.configuration import (
 )
 from chipfire.configurations.stabilization import as_configuration, as_rows
 from chipfire.graphs.graph import Graph
+from chipfire.utils import import_optional, require_memory
 
 
 def burning_script(graph: AnyGraph, *, program: AnyProgram = None) -> Configuration:
@@ -79,20 +83,55 @@ def is_superstable(graph: AnyGraph, chips: Chips, *, program: AnyProgram = None)
     return as_configuration(graph, chips, program).is_superstable(program=program)
 
 
-def superstables(graph: AnyGraph, *, program: AnyProgram = None) -> Iterator[Configuration]:
+@overload
+def superstables(
+    graph: AnyGraph, *, as_array: Literal[False] = ..., program: AnyProgram = ...
+) -> Iterator[Configuration]:
+    ...
+
+
+@overload
+def superstables(graph: AnyGraph, *, as_array: bool, program: AnyProgram = ...) -> Any:
+    ...
+
+
+def superstables(graph: AnyGraph, *, as_array: bool = False, program: AnyProgram = None) -> Any:
     """All superstable configurations of a small graph, one after the other; `order` says how many there are.
+
+    With `as_array` all are rows of one array, with a column for each vertex by numbers, 0 for the sink; it is one of
+    NumPy if that is installed, else a list of rows. What there is no memory for is a MemoryError before it begins.
     Nothing of this is proved but the burning script: Python burns each of them itself."""
     known = known_graph(graph, program)
-    burns = _burns(known, program)
-    waiting = [((0,) * known.vertices, 0)]
+    if as_array:
+        return _all_rows(known, _superstable_rows(known, program))
+    return (Configuration(known, row) for row in _superstable_rows(known, program))
+
+
+def _superstable_rows(graph: Graph, program: AnyProgram) -> Iterator[tuple[int, ...]]:
+    """The chips of each superstable configuration, by numbers."""
+    burns = _burns(graph, program)
+    waiting = [((0,) * graph.vertices, 0)]
     while waiting:
         chips, first = waiting.pop()
-        yield Configuration(known, chips)
+        yield chips
         # (superstable chips without one of them are superstable, too)
-        for vertex in range(first, known.vertices):
+        for vertex in range(first, graph.vertices):
             more = (*chips[:vertex], chips[vertex] + 1, *chips[vertex + 1 :])
-            if vertex != known.sink and burns(more):
+            if vertex != graph.sink and burns(more):
                 waiting.append((more, vertex))
+
+
+def _all_rows(graph: Graph, rows: Iterable[tuple[int, ...]]) -> Any:
+    """One row for each element of the group, as an array of NumPy, or as a list."""
+    numpy = import_optional("numpy")
+    count = graph.order()
+    # (a row of Python's own is a tuple)
+    size = 8 * graph.vertices + (0 if numpy else 64)
+    require_memory(count * size, f"{count:,} configurations of {graph.vertices:,} vertices")
+    if not numpy:
+        return list(rows)
+    numbers = numpy.fromiter(itertools.chain.from_iterable(rows), "i8", count * graph.vertices)
+    return numbers.reshape(count, graph.vertices)
 
 
 def _burns(graph: Graph, program: AnyProgram) -> Callable[[Sequence[int]], bool]:
@@ -118,7 +157,24 @@ def _burns(graph: Graph, program: AnyProgram) -> Callable[[Sequence[int]], bool]
     return burns
 
 
-def recurrents(graph: AnyGraph, *, program: AnyProgram = None) -> Iterator[Configuration]:
-    """All recurrent configurations of a small graph: what its `superstables` lack to the maximal stable one."""
-    most = known_graph(graph, program).max_stable()
-    return (most - chips for chips in superstables(most.graph, program=program))
+@overload
+def recurrents(
+    graph: AnyGraph, *, as_array: Literal[False] = ..., program: AnyProgram = ...
+) -> Iterator[Configuration]:
+    ...
+
+
+@overload
+def recurrents(graph: AnyGraph, *, as_array: bool, program: AnyProgram = ...) -> Any:
+    ...
+
+
+def recurrents(graph: AnyGraph, *, as_array: bool = False, program: AnyProgram = None) -> Any:
+    """All recurrent configurations of a small graph: what its `superstables` lack to the maximal stable one.
+    They come one after the other, or `as_array`, as those do."""
+    known = known_graph(graph, program)
+    most = known.max_stable().numbers
+    rows = (tuple(map(operator.sub, most, chips)) for chips in _superstable_rows(known, program))
+    if as_array:
+        return _all_rows(known, rows)
+    return (Configuration(known, row) for row in rows)

@@ -10,7 +10,7 @@ import math
 import operator
 from collections import Counter, defaultdict
 from collections.abc import Callable, Iterator, Sequence
-from typing import Any, TypeVar
+from typing import Any, Literal, overload, TypeVar
 
 from chipfire.backend.commands import AnyGraph, AnyProgram, known_graph
 from chipfire.configurations import smith
@@ -60,6 +60,31 @@ def level_polynomial(
     _require_few(known, most)
     degrees = Counter(chips.degree for chips in superstables(known, program=program))
     return _sorted({max(degrees) - degree: count for degree, count in degrees.items()})
+
+
+@overload
+def avalanche_polynomial(
+    graph: AnyGraph,
+    *,
+    multivariable: Literal[False] = ...,
+    most: int = ...,
+    program: AnyProgram = ...,
+) -> dict[int, int]:
+    ...
+
+
+@overload
+def avalanche_polynomial(
+    graph: AnyGraph, *, multivariable: Literal[True], most: int = ..., program: AnyProgram = ...
+) -> dict[tuple[int, ...], int]:
+    ...
+
+
+@overload
+def avalanche_polynomial(
+    graph: AnyGraph, *, multivariable: bool, most: int = ..., program: AnyProgram = ...
+) -> dict[int, int] | dict[tuple[int, ...], int]:
+    ...
 
 
 def avalanche_polynomial(

@@ -8,7 +8,7 @@ from array import array
 from bisect import bisect
 from collections import Counter
 from collections.abc import Sequence
-from typing import Any
+from typing import Any, overload
 
 from chipfire.backend.commands import AnyGraph, known_graph
 from chipfire.configurations.configuration import Configuration
@@ -19,7 +19,19 @@ from chipfire.utils import as_int, import_optional, random_generator, require_me
 Outs = list[tuple[list[int], list[int]]]
 
 
-def random_recurrent(graph: AnyGraph, seed: Any, count: int | None = None) -> Any:
+@overload
+def random_recurrent(graph: AnyGraph, seed: Any, count: None = ...) -> Configuration:
+    ...
+
+
+@overload
+def random_recurrent(graph: AnyGraph, seed: Any, count: int) -> list[Configuration]:
+    ...
+
+
+def random_recurrent(
+    graph: AnyGraph, seed: Any, count: int | None = None
+) -> Configuration | list[Configuration]:
     """A recurrent configuration of an undirected graph, each equally probable; or a list of `count`.
 
     Wilson's algorithm (1996) draws a spanning tree, and the burning bijection of Majumdar and Dhar (1992) makes chips

@@ -11,6 +11,7 @@ from unittest import mock
 
 import chipfire
 import model
+import typed_use
 from test_sandpiles import CASES, has
 
 IS_HERE = chipfire.find_library() is not None
@@ -285,6 +286,11 @@ class Lists(unittest.TestCase):
         for call in (chipfire.recurrents, chipfire.superstables):
             with self.assertRaisesRegex(MemoryError, f"{30**28:,} configurations of 30 vertices take "):
                 call(chipfire.complete(30), as_array=True)
+
+
+class Types(unittest.TestCase):
+    def test_the_code_of_a_user_that_mypy_reads_also_runs(self):
+        self.assertEqual(typed_use.use(), 15)
 
 
 if __name__ == "__main__":

@@ -14,7 +14,8 @@ import unittest
 import chipfire
 
 PACKAGE = os.path.dirname(chipfire.__file__)
-ROOT = os.path.dirname(os.path.dirname(os.path.dirname(os.path.realpath(__file__))))
+HERE = os.path.dirname(os.path.realpath(__file__))
+ROOT = os.path.dirname(os.path.dirname(HERE))
 #: The names of the modules in the package and its rooms, each room by its own `__init__`.
 MODULES = sorted(
     os.path.relpath(f"{folder}/{name}", PACKAGE)[:-3].replace(os.sep, ".")
@@ -235,6 +236,7 @@ class Types(unittest.TestCase):
             with open(f"{folder}/use.py", "w", encoding="utf-8") as file:
                 file.write(USE)
             words = ["mypy", "--strict", "--no-color-output", f"--cache-dir={folder}", PACKAGE, f"{folder}/use.py"]
+            words.append(f"{HERE}/typed_use.py")
             environment = {**os.environ, "MYPYPATH": os.path.dirname(PACKAGE)}
             ran = subprocess.run(words, env=environment, cwd=folder, stdout=subprocess.PIPE, encoding="utf-8")
         self.assertIn("Success", ran.stdout)

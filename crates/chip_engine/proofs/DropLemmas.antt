@@ -14,7 +14,8 @@ use Rattle.chip_sequence.specs.declared.outcome.Outcome.{Outcome}
 use Rattle.chip_sequence.proofs.CertificateLemmas.{end_of_the_way}
 use Rattle.chip_engine.proofs.SittingLemmas.{none_legal}
 use Rattle.chip_fire.specs.declared.pile.Pile.{Pile}
-use Rattle.chip_fire.specs.Pile.{IsPile, IsStable}
+use Rattle.chip_fire.specs.Pile.{IsPile}
+use Rattle.chip_sequence.specs.Firing.{IsStable}
 use Rattle.chip_engine.specs.DropRows.{LeavesRows, EndsAt}
 use Rattle.chip_report.specs.ReportText.{is_closed}
 use Rattle.chip_command.proofs.InputLemmas.{none_parts}

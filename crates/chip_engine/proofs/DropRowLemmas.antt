@@ -15,7 +15,8 @@ use Rattle.chip_graph.specs.More.{HasMore}
 use Rattle.chip_fire.specs.declared.avalanche.Avalanche.{Avalanche}
 use Rattle.chip_fire.specs.declared.pile.Pile.{Pile}
 use Rattle.chip_fire.specs.Avalanches.{dropped, IsAvalanche}
-use Rattle.chip_fire.specs.Pile.{IsPile, IsStable}
+use Rattle.chip_fire.specs.Pile.{IsPile}
+use Rattle.chip_sequence.specs.Firing.{IsStable}
 use Rattle.chip_fire.proofs.DropLemmas.{told_more}
 use Rattle.chip_engine.specs.DropRows.{row_text, rows_text, IsOut, LeavesRows, most_held}
 

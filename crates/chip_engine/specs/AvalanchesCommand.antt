@@ -10,7 +10,7 @@ use Rattle.chip_graph.specs.declared.fault.GameFault.TheVariants.{Total}
 use Rattle.chip_file.specs.DropsText.{drops_of_text, drops_text_fault}
 use Rattle.chip_sequence.specs.Play.{IsPlayed}
 use Rattle.chip_sequence.specs.declared.outcome.Outcome.{Outcome}
-use Rattle.chip_fire.specs.Pile.{IsStable}
+use Rattle.chip_sequence.specs.Firing.{IsStable}
 use Rattle.chip_engine.specs.DropRows.{TellsRows, FailsOut, rows_text}
 use Rattle.chip_report.specs.ReportText.{is_closed, report_text}
 use Rattle.chip_report.specs.Written.{WritesAll}

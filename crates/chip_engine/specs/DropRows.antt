@@ -12,7 +12,8 @@ use Rattle.chip_fire.specs.declared.pile.Pile.{Pile}
 use Rattle.chip_command.specs.declared.fault.Fault.{Fault}
 use Rattle.chip_command.specs.declared.fault.Fault.TheVariants.{Write, NoMemory}
 use Rattle.chip_fire.specs.Avalanches.{AreAvalanches}
-use Rattle.chip_fire.specs.Pile.{IsPile, IsStable}
+use Rattle.chip_fire.specs.Pile.{IsPile}
+use Rattle.chip_sequence.specs.Firing.{IsStable}
 
 -- the row of a drop and its avalanche
 abbrev pub row_text : (ℕ × ℕ) × Avalanche → List ℕ

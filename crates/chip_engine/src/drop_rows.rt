@@ -4,7 +4,8 @@ ghost use Rattle.std.specs.Prelude.{◌≡◌, ℕ, ◌+◌, ◌<◌, ◌≤◌,
 ghost use Rattle.std.specs.Prelude.{string_bytes, length, true, Option, MatchResult};
 ghost use Rattle.chip_graph.specs.Limits.{max_total};
 ghost use Rattle.chip_graph.specs.More.{AreOfVertices, all_brought};
-ghost use Rattle.chip_fire.specs.Pile.{IsPile, IsStable};
+ghost use Rattle.chip_fire.specs.Pile.{IsPile};
+ghost use Rattle.chip_sequence.specs.Firing.{IsStable};
 ghost use Rattle.chip_engine.specs.DropRows.{WritesRows, IsOut, FailsOut, row_text, rows_text};
 
 use chip_command::Fault;

@@ -1,7 +1,8 @@
 //! Chips dropped one after another, by hand on the triangle.
 
 ghost use Rattle.std.specs.Prelude.{◌≡◌, sum, slice_index};
-ghost use Rattle.chip_fire.specs.Pile.{IsPile, IsStable};
+ghost use Rattle.chip_fire.specs.Pile.{IsPile};
+ghost use Rattle.chip_sequence.specs.Firing.{IsStable};
 
 use crate::engines::{Heard, NO_LIMIT, TRIANGLE, closed};
 use chip_command::{Ended, Fault, read_game};

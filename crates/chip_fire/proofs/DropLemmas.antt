@@ -36,7 +36,8 @@ use Rattle.chip_fire.specs.declared.avalanche.Avalanche.{Avalanche}
 use Rattle.chip_fire.specs.declared.pile.BegunDrop.{BegunDrop}
 use Rattle.chip_fire.specs.declared.pile.Pile.{Pile}
 use Rattle.chip_fire.specs.Avalanches.{dropped, IsAvalanche, AreAvalanches, DropsAddUp}
-use Rattle.chip_fire.specs.Pile.{IsPile, IsStable, IsBegunDrop, sum_between}
+use Rattle.chip_fire.specs.Pile.{IsPile, IsBegunDrop, sum_between}
+use Rattle.chip_sequence.specs.Firing.{IsStable}
 
 -- ---- the work list of a drop, and the avalanche by it
 

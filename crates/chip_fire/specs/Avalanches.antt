@@ -8,7 +8,7 @@ use Rattle.chip_sequence.specs.Sequence.{position_after, IsFiringSequence, count
 use Rattle.chip_sequence.specs.Sittings.{LeadsTo}
 use Rattle.chip_fire.specs.declared.avalanche.Avalanche.{Avalanche}
 use Rattle.chip_fire.specs.declared.pile.Pile.{Pile}
-use Rattle.chip_fire.specs.Pile.{IsStable}
+use Rattle.chip_sequence.specs.Firing.{IsStable}
 
 -- the position x with `count` more chips on v
 abbrev pub dropped : (ℕ → ℕ) → ℕ → ℕ → ℕ → ℕ

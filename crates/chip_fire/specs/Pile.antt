@@ -4,17 +4,13 @@ use Rattle.chip_graph.specs.Sums.{sum_below}
 use Rattle.chip_graph.specs.Multigraph.{Multigraph}
 use Rattle.chip_graph.specs.ChipGame.{ChipGame, IsGame}
 use Rattle.chip_graph.specs.More.{HasMore}
-use Rattle.chip_sequence.specs.Firing.{IsLegal}
+use Rattle.chip_sequence.specs.Firing.{IsStable}
 use Rattle.chip_sequence.specs.Sittings.{LeadsTo}
 use Rattle.chip_fire.specs.Rounds.{IsBegun, IsAtRest}
 use Rattle.chip_fire.specs.WorkList.{HasSupport}
 use Rattle.chip_fire.specs.declared.pile.BegunDrop.{BegunDrop}
 use Rattle.chip_fire.specs.declared.pile.Pile.{Pile}
 use Rattle.chip_fire.specs.declared.avalanche.Room.{Room}
-
--- no vertex is legal at x
-abbrev pub IsStable : Multigraph → (ℕ → ℕ) → Type 0
-IsStable G x = (v : ℕ) → IsLegal G x v → ⊥
 
 -- the sum over n vertices of h at how often each fired between these counts
 abbrev pub sum_between : (ℕ → ℕ) → ℕ → List ℕ → List ℕ → ℕ

@@ -4,7 +4,8 @@ ghost use Rattle.std.specs.Prelude.{◌≡◌, ◌↔◌, ℕ, ◌<◌, ◌≤�
 ghost use Rattle.chip_graph.specs.Limits.{max_limit, max_vertices};
 ghost use Rattle.chip_sequence.specs.Firing.{IsLegal};
 ghost use Rattle.chip_fire.specs.Rounds.{IsBegun, IsAtRest};
-ghost use Rattle.chip_fire.specs.Pile.{IsRoom, IsStable, IsWorkedOff, sum_between};
+ghost use Rattle.chip_fire.specs.Pile.{IsRoom, IsWorkedOff, sum_between};
+ghost use Rattle.chip_sequence.specs.Firing.{IsStable};
 ghost use Rattle.chip_fire.specs.WorkList.{HasSupport};
 
 use crate::play::Play;

@@ -7,7 +7,8 @@ ghost use Rattle.chip_graph.specs.More.{HasMore};
 ghost use Rattle.chip_sequence.specs.Play.{IsPlayed};
 ghost use Rattle.chip_fire.specs.Player.{PlaysOut};
 ghost use Rattle.chip_fire.specs.Avalanches.{dropped, TellsAvalanche};
-ghost use Rattle.chip_fire.specs.Pile.{IsPile, IsStable, IsBegunDrop};
+ghost use Rattle.chip_fire.specs.Pile.{IsPile, IsBegunDrop};
+ghost use Rattle.chip_sequence.specs.Firing.{IsStable};
 
 use crate::avalanche::{Avalanche, Room, play_out, tally, work_from};
 use crate::play::Play;

@@ -16,7 +16,8 @@ use Rattle.chip_sequence.proofs.EndLemmas.{continued}
 use Rattle.chip_sequence.proofs.CertificateLemmas.{end_of_the_way}
 use Rattle.chip_fire.specs.declared.pile.Pile.{Pile}
 use Rattle.chip_fire.specs.Avalanches.{dropped, IsAvalanche}
-use Rattle.chip_fire.specs.Pile.{IsPile, IsStable}
+use Rattle.chip_fire.specs.Pile.{IsPile}
+use Rattle.chip_sequence.specs.Firing.{IsStable}
 use Rattle.chip_fire.proofs.DropLemmas.{told_more}
 use Rattle.chip_library.specs.Drops.{Told, drops_of, ComesToRest, IsStopped, AreMade, Leaves, BeginsPile, AreOn}
 use Rattle.chip_library.specs.Drops.{AreTold, IsFaultOfDrop, IsFaultAfter}

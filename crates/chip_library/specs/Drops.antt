@@ -12,7 +12,8 @@ use Rattle.chip_sequence.specs.declared.outcome.Outcome.{Outcome}
 use Rattle.chip_fire.specs.declared.avalanche.Avalanche.{Avalanche}
 use Rattle.chip_fire.specs.declared.pile.Pile.{Pile}
 use Rattle.chip_fire.specs.Avalanches.{AreAvalanches}
-use Rattle.chip_fire.specs.Pile.{IsPile, IsStable}
+use Rattle.chip_fire.specs.Pile.{IsPile}
+use Rattle.chip_sequence.specs.Firing.{IsStable}
 use Rattle.chip_library.specs.declared.edges.EdgeLists.{EdgeLists}
 use Rattle.chip_library.specs.declared.fault.CallFault.{CallFault}
 use Rattle.chip_library.specs.declared.fault.CallFault.TheVariants.{Lengths, Vertex, Total, Stopped, NoMemory}

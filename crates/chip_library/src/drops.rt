@@ -4,7 +4,8 @@ ghost use Rattle.std.specs.Prelude.{◌≡◌, ◌↔◌, ◌⊎◌, ◌+◌, �
 ghost use Rattle.chip_graph.specs.Limits.{max_total};
 ghost use Rattle.chip_graph.specs.Multigraph.{IsGraph};
 ghost use Rattle.chip_sequence.specs.Counted.{game_from};
-ghost use Rattle.chip_fire.specs.Pile.{IsPile, IsStable};
+ghost use Rattle.chip_fire.specs.Pile.{IsPile};
+ghost use Rattle.chip_sequence.specs.Firing.{IsStable};
 ghost use Rattle.chip_fire.specs.declared.pile.Pile.{Pile};
 ghost use Rattle.chip_library.specs.declared.fault.CallFault.TheVariants.{NoMemory};
 ghost use Rattle.chip_library.specs.Drops.{Told, AreOn, AreTold, Avalanches, IsFaultAfter, Leaves};

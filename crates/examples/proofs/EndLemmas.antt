@@ -27,7 +27,7 @@ use Rattle.chip_command.proofs.OneReportLemmas.{same_numbers}
 use Rattle.chip_library.specs.Batch.{Games, ArePlayed, row, game_at}
 use Rattle.chip_report.specs.ReportText.{is_closed}
 use Rattle.chip_engine.proofs.SittingLemmas.{none_legal}
-use Rattle.chip_fire.specs.Pile.{IsStable}
+use Rattle.chip_sequence.specs.Firing.{IsStable}
 use Rattle.chip_part.specs.Setting.{Setting, setting_with}
 use Rattle.chip_core.specs.Positions.{firings as firings_in}
 use Rattle.chip_core.specs.Outcomes.{ComesTo}

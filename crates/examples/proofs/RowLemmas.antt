@@ -8,7 +8,7 @@ use Rattle.chip_sequence.specs.Firing.{legal_vertices}
 use Rattle.chip_sequence.specs.Play.{IsPlayed}
 use Rattle.chip_sequence.specs.declared.outcome.Outcome.{Outcome}
 use Rattle.chip_sequence.proofs.LegalLemmas.{legal_vertices_law}
-use Rattle.chip_fire.specs.Pile.{IsStable}
+use Rattle.chip_sequence.specs.Firing.{IsStable}
 use Rattle.chip_report.specs.ReportText.{is_closed}
 use Rattle.chip_command.specs.Reports.{plain_status}
 use Rattle.chip_command.proofs.OneReportLemmas.{one_more}

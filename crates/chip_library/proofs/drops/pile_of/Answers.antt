@@ -1,7 +1,7 @@
 use Rattle.std.proofs.Common.{◌≡◌, ◌<◌, ◌-◌, List, ℕ, length, slice_index, refl, sym, subst, arith, rules, inr}
 use Rattle.std.proofs.lemmas.Grind.{common_steps}
 use Rattle.chip_graph.specs.ChipGame.{ChipGame}
-use Rattle.chip_fire.specs.Pile.{IsStable}
+use Rattle.chip_sequence.specs.Firing.{IsStable}
 use Rattle.chip_library.specs.declared.fault.CallFault.TheVariants.{Stopped}
 use Rattle.chip_library.specs.Drops.{IsNoPile, BeginsPile}
 use Rattle.chip_library.proofs.DropLemmas.{stopped_there, outcome_ends, some_stopped, none_stopped}

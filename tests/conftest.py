@@ -22,7 +22,7 @@ SHORT = pytest.StashKey()
 
 def pytest_addoption(parser):
     group = parser.getgroup("chipfire")
-    group.addoption("--program", default=f"{paths.ROOT}/target/chipfire", metavar="FILE")
+    group.addoption("--program", default=paths.PROGRAM, metavar="FILE")
     group.addoption("--way", choices=ways.WAYS, default=ways.WAYS[0])
     group.addoption("--long", action="store_true", help="more mutated files, logs and large games")
 
@@ -57,7 +57,8 @@ def whole_groups(config):
     is_whole = {
         name: any(f"{it}/".startswith(f"{one}/") for one in asked) for name, it in folders.items()
     }
-    return [name for name in is_whole if is_whole[name] and not config.option.lf]
+    is_last = getattr(config.option, "lf", False)
+    return [name for name in is_whole if is_whole[name] and not is_last]
 
 
 @pytest.hookimpl(tryfirst=True)

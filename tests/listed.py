@@ -6,14 +6,23 @@ A name is `SET::TEST`, as in `chains::17`. A test may raise `unittest.SkipTest` 
 
 import atexit
 import collections
+import contextlib
 import functools
+import io
 import os
+import random
 import re
 import shlex
 import tempfile
 import traceback
 import typing
 import unittest
+
+import paths
+
+
+#: What Hypothesis has looked at.
+SHRUNK = []
 
 
 class Test(typing.NamedTuple):
@@ -32,10 +41,48 @@ def named(sets):
     return tests
 
 
-def numbered(count, faults_of, *more):
-    """Yields so many tests, whose names are their numbers, which the function takes first."""
+def drawn(count, seed, faults_of, *more):
+    """Yields so many tests of what is drawn at random, whose names are their numbers. The function takes the generator,
+    and what else is said."""
     for number in range(count):
-        yield str(number), functools.partial(faults_of, number, *more)
+        yield str(number), functools.partial(of_seed, f"{seed} {number}", faults_of, *more)
+
+
+def of_seed(seed, faults_of, *more):
+    """Returns what is wrong with what is drawn by a seed. The first time that something is, it is also shown of the
+    smallest thing that Hypothesis finds to be wrong, if Hypothesis is here."""
+    faults = faults_of(random.Random(seed), *more)
+    if not faults or (faults_of, more) in SHRUNK:
+        return faults
+    SHRUNK.append((faults_of, more))
+    smallest = shrunk(lambda draw: faults_of(draw, *more))
+    return [*faults, "The smallest that was found:", *smallest] if smallest else faults
+
+
+def shrunk(faults_of):
+    """Returns what is wrong with the smallest thing that Hypothesis draws and that is wrong, or nothing."""
+    try:
+        import hypothesis
+    except ImportError:
+        return []
+    found = []
+    settings = hypothesis.settings(
+        derandomize=True,
+        database=None,
+        deadline=None,
+        suppress_health_check=list(hypothesis.HealthCheck),
+    )
+
+    @settings
+    @hypothesis.given(hypothesis.strategies.randoms(use_true_random=False))
+    def try_one(draw):
+        found[:] = faults_of(draw)
+        assert not found
+
+    # (what it tells is in `found`; what is wrong now and then may be told as one more error)
+    with contextlib.suppress(Exception), contextlib.redirect_stdout(io.StringIO()):
+        try_one()
+    return found
 
 
 def joined(play, *arguments):
@@ -76,7 +123,9 @@ def is_named(name, start):
 
 def repeating(group, name):
     """Returns the command that makes one test again."""
-    return f"tests/run.py {group} -k {shlex.quote(name)}"
+    program = os.environ["CHIPFIRE_PACKED"]
+    more = "" if program == paths.PROGRAM else f" --program {shlex.quote(program)}"
+    return f"tests/run.py {group} -k {shlex.quote(name)}{more}"
 
 
 def for_pytest(group, tests):

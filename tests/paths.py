@@ -9,6 +9,8 @@ HERE = os.path.dirname(os.path.realpath(__file__))
 ROOT = os.path.dirname(HERE)
 EXAMPLES = f"{ROOT}/examples"
 PACKAGE = f"{ROOT}/python"
+#: The program that is tested if no other one is named.
+PROGRAM = f"{ROOT}/target/chipfire"
 #: The groups of tests, each a folder.
 GROUPS = ("cli", "python", "docs", "hostile", "library", "package")
 #: The folders whose modules a test may import, the first ones first where a name stands twice.

@@ -313,7 +313,7 @@ def too_few(results):
 def parsed():
     """Returns what is asked for."""
     parser = argparse.ArgumentParser(description="Runs tests; see the head of this file.")
-    parser.add_argument("--program", default=f"{paths.ROOT}/target/chipfire", metavar="FILE")
+    parser.add_argument("--program", default=paths.PROGRAM, metavar="FILE")
     parser.add_argument("-k", metavar="WORDS", help="only tests whose names have these words")
     parser.add_argument(
         "--lf", action="store_true", help="only tests that failed when they were made last"

@@ -45,4 +45,4 @@ class Schedule(Chain):
 
 
 def tests(program):
-    return listed.numbered(GAMES, faults_of, program, Schedule, "board", Schedule.boards)
+    return listed.drawn(GAMES, "board", faults_of, program, Schedule, Schedule.boards)

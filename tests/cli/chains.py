@@ -6,7 +6,6 @@ What must come is known from examples/play.py and chipfire.model, which share no
 of each sitting, and that all sittings together are a play that is never stopped.
 """
 import json
-import random
 import subprocess
 import tempfile
 
@@ -108,13 +107,13 @@ class Chain:
         return [] if is_well else [shown]
 
 
-def faults_of(number, program, kind, seed, asked):
-    """What is wrong with a game of this number: a method of a kind of `Chain` is asked for it."""
+def faults_of(draw, program, kind, asked):
+    """What is wrong with a random game: a method of a kind of `Chain` is asked for it."""
     with tempfile.TemporaryDirectory(prefix="chipfire-game-") as room:
-        game = kind(program, room, random.Random(f"{seed} {number}"))
+        game = kind(program, room, draw)
         faults = asked(game)
     return [f"{json.dumps(game.graph)} with {game.chips}", *faults] if faults else []
 
 
 def tests(program):
-    return listed.numbered(GAMES, faults_of, program, Chain, "chain", Chain.sittings)
+    return listed.drawn(GAMES, "chain", faults_of, program, Chain, Chain.sittings)

@@ -247,7 +247,7 @@ def wrong_rounds(program, name):
 
 def tests(program):
     """Yields random games, and then the chain, open after one stretch fewer than it takes, and the examples by rounds."""
-    yield from listed.numbered(GAMES, faults_of, program, Asking, "closing", Asking.closing)
+    yield from listed.drawn(GAMES, "closing", faults_of, program, Asking, Asking.closing)
     needed = 4 * LENGTH + 3
     for stretches, wanted in ((needed - 1, (OPEN, ["root open"])), (needed, (0, ["root closed"]))):
         yield f"a chain after {stretches} stretches", functools.partial(wrong_chain, program, stretches, wanted)

@@ -137,22 +137,27 @@ class FedCrew(Crew):
         self.feed_files = {"start.csv": chips_text(start), "feed.csv": chips_text(fed)}
 
 
-def faults_of(make):
-    """What is wrong with the game on threads that this makes."""
+def faults_of(crew):
+    """What is wrong with a game on threads."""
     try:
-        return make().faults()
+        return crew.faults()
     except subprocess.TimeoutExpired:
         return [f"it had not ended after {SECONDS} seconds"]
 
 
-def numbered(number, program, kind, seed):
-    return faults_of(lambda: kind(program, random.Random(f"{seed} {number}")))
+def of_random(draw, program, kind):
+    """What is wrong with a random game on threads."""
+    return faults_of(kind(program, draw))
+
+
+def of_known(program, make):
+    """What is wrong with a game on threads that this makes."""
+    return faults_of(make(program))
 
 
 def tests(program):
-    yield from listed.numbered(GAMES, numbered, program, Crew, "crew")
-    for number, faults in listed.numbered(FED_GAMES, numbered, program, FedCrew, "fed crew"):
+    yield from listed.drawn(GAMES, "crew", of_random, program, Crew)
+    for number, faults in listed.drawn(FED_GAMES, "fed crew", of_random, program, FedCrew):
         yield f"fed {number}", faults
-    triangle, chain = (functools.partial(it, program) for it in (Crew.of_triangle, Crew.of_chain))
-    yield "the triangle on three threads", functools.partial(faults_of, triangle)
-    yield "long traces of a chain on two threads", functools.partial(faults_of, chain)
+    yield "the triangle on three threads", functools.partial(of_known, program, Crew.of_triangle)
+    yield "long traces of a chain on two threads", functools.partial(of_known, program, Crew.of_chain)

@@ -79,14 +79,14 @@ def answer(room):
     return rows, text[len(rows) :]
 
 
-def faults_of(number, program):
-    """What is wrong with the rows and the reports of the random game of this number."""
+def faults_of(draw, program):
+    """What is wrong with the rows and the reports of a random game."""
     with tempfile.TemporaryDirectory(prefix="chipfire-drops-") as folder:
-        return wrong_drops(program, folder, random.Random(f"drops {number}"))
+        return wrong_drops(program, folder, draw)
 
 
 def wrong_drops(program, folder, draw):
-    """What is wrong with the rows and the reports of one random game."""
+    """What is wrong with the rows and the reports of a random game, in a folder."""
     game, drops = random_game(draw)
     room = Room(program, folder, game)
     room.write("drops.csv", rows_of(CHIPS, drops))
@@ -229,6 +229,6 @@ def cut(program, folder, rows, size):
 
 
 def tests(program):
-    yield from listed.numbered(GAMES, faults_of, program)
+    yield from listed.drawn(GAMES, "drops", faults_of, program)
     for name, play_all in [("by hand", by_hand), ("stopped", stopped), ("a million", million)]:
         yield name, functools.partial(listed.joined, play_all, program)

@@ -77,4 +77,4 @@ class Feed(Chain):
 
 
 def tests(program):
-    return listed.numbered(GAMES, faults_of, program, Feed, "feed", Feed.replies)
+    return listed.drawn(GAMES, "feed", faults_of, program, Feed, Feed.replies)

@@ -5,7 +5,6 @@ come is known from examples/play.py, whatever the guess: true counts, others, an
 counts must be certified if no vertex but the sink has a greater in-degree than out-degree, as on every undirected graph.
 """
 import json
-import random
 import tempfile
 
 import chains
@@ -17,8 +16,8 @@ from largest import Room, rows_of
 GAMES = 300
 NO_LIMIT = 2**40
 COUNTS = ("vertex", "fired")
-# On how many games texts that are no guess are tried, too.
-REFUSED = 20
+# On one game in how many texts that are no guess are tried, too.
+REFUSED = 15
 
 
 class Game:
@@ -115,11 +114,11 @@ def wrong_answers(program, game, is_refused):
                 yield f"{game.graph()}, guess {guess!r}: expected {expected}, got {came}"
 
 
-def faults_of(number, program):
-    """What is wrong with the answers to the guesses of a game of this number."""
-    game = Game(random.Random(f"guesses {number}"))
-    return list(wrong_answers(program, game, number < REFUSED))
+def faults_of(draw, program):
+    """What is wrong with the answers to the guesses of a random game."""
+    game = Game(draw)
+    return list(wrong_answers(program, game, draw.randrange(REFUSED) == 0))
 
 
 def tests(program):
-    return listed.numbered(GAMES, faults_of, program)
+    return listed.drawn(GAMES, "guesses", faults_of, program)

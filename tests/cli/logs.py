@@ -5,7 +5,6 @@ consistent if it can be reached from the empty one row by row, each met where it
 row lost, doubled or moved, or their rows in another order. A second run has the rows of the processes mixed in another
 way, and must write the same.
 """
-import random
 import subprocess
 import tempfile
 from collections import Counter
@@ -201,9 +200,8 @@ def expected(rows, with_past):
         return [], 1, f"chipfire: fault {number} {NAMES[number]} {' '.join(map(str, place))}\n"
 
 
-def faults_of(number, program):
-    """What is wrong with the answers to a random log of this number, and to it mixed in another way."""
-    draw = random.Random(f"log {number}")
+def faults_of(draw, program):
+    """What is wrong with the answers to a random log, and to it mixed in another way."""
     rows, with_past = random_log(draw), draw.random() < 0.5
     faults = []
     with tempfile.TemporaryDirectory(prefix="chipfire-log-") as room:
@@ -215,4 +213,4 @@ def faults_of(number, program):
 
 
 def tests(program):
-    return listed.numbered(LOGS, faults_of, program)
+    return listed.drawn(LOGS, "log", faults_of, program)

@@ -5,7 +5,6 @@ report is verified, also where some of its firings are told as those of earlier 
 least vertex is told at which it has another count, other chips, or another place in a list of halted vertices.
 """
 import json
-import random
 import subprocess
 import tempfile
 
@@ -82,11 +81,11 @@ def wrong_verdicts(program, room, draw):
     return found
 
 
-def faults_of(number, program):
-    """What is wrong with the verdicts on the reports of a game of this number."""
+def faults_of(draw, program):
+    """What is wrong with the verdicts on the reports of a random game."""
     with tempfile.TemporaryDirectory(prefix="chipfire-verdicts-") as room:
-        return wrong_verdicts(program, room, random.Random(number))
+        return wrong_verdicts(program, room, draw)
 
 
 def tests(program):
-    return listed.numbered(GAMES, faults_of, program)
+    return listed.drawn(GAMES, "verdicts", faults_of, program)

@@ -23,7 +23,7 @@ SHORT = pytest.StashKey()
 def pytest_addoption(parser):
     group = parser.getgroup("chipfire")
     group.addoption("--program", default=paths.PROGRAM, metavar="FILE")
-    group.addoption("--way", choices=ways.WAYS, default=ways.WAYS[0])
+    group.addoption("--way", choices=ways.WAYS, default=ways.PROCESS)
     group.addoption("--long", action="store_true", help="more mutated files, logs and large games")
 
 

@@ -137,12 +137,11 @@ def roads_of(group):
     is_other = os.path.exists(SYSTEM) and os.path.realpath(SYSTEM) != os.path.realpath(
         sys.executable
     )
-    for python in [sys.executable, *[SYSTEM] * is_other]:
-        for way in ways.WAYS:
-            names = modules if way == "process" else [it for it in modules if it in ways.BY_LIBRARY]
-            yield way, python, [
-                it for it in names if python == sys.executable or it not in ways.BY_ONE
-            ]
+    roads = [(sys.executable, it) for it in ways.here()]
+    roads += [(SYSTEM, it) for it in (ways.PROCESS, ways.LIBRARY) if is_other]
+    for python, way in roads:
+        names = [it for it in modules if way == ways.PROCESS or it in ways.BY_LIBRARY]
+        yield way, python, [it for it in names if python == sys.executable or it not in ways.BY_ONE]
 
 
 def outcome_of(test):
@@ -156,7 +155,7 @@ def outcome_of(test):
 
 def read(its, program, is_listed=False):
     """Has job.py make the tests of a job, or list them."""
-    asked = {"group": its.group, "modules": its.of_set.split(), "way": its.way or ways.WAYS[0]}
+    asked = {"group": its.group, "modules": its.of_set.split(), "way": its.way or ways.PROCESS}
     asked |= {"program": program, "names": its.names, "listed": is_listed}
     with tempfile.NamedTemporaryFile("r", prefix="chipfire-job-", encoding="utf-8") as file:
         how = {
@@ -345,7 +344,7 @@ def main():
     if wrong := ways.missing(program):
         print(wrong, "0 passed, 1 failed", sep="\n")
         return 1
-    ways.take(ways.WAYS[0], program, None)
+    ways.take(ways.PROCESS, program, None)
     for group in set(LISTS) & set(choice.groups):
         TESTS[group] = listed_tests(group, program, asked.long)
     if asked.list:

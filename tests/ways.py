@@ -1,17 +1,20 @@
 """The ways in which tests find the program and the package, and which modules of tests/python go which way.
 
 By the *process* the environment variable CHIPFIRE names the program, so that each call of the package starts it. By the
-*library* the package lies in a folder with program and library, as in a wheel.
+*library* the package lies in a folder with program and library, as in a wheel. *Without* is by the library, on a Python
+that has none of the packages which the package uses if they are there.
 """
 
 import hashlib
+import importlib.util
 import os
 import shutil
 import subprocess
 
 import paths
+import without
 
-WAYS = ("process", "library")
+WAYS = PROCESS, LIBRARY, WITHOUT = ("process", "library", "without")
 SHARED, STATIC = "libchipfire.so", "libchipfire.a"
 #: The modules that test what the library answers, and those that only one Python needs to run.
 BY_LIBRARY = (
@@ -59,6 +62,11 @@ def carried(folder, program):
     return folder
 
 
+def here():
+    """Returns the ways to go on this Python. Without NumPy, by the library is not told from without all such packages."""
+    return WAYS if importlib.util.find_spec("numpy") else (PROCESS, WITHOUT)
+
+
 def take(way, program, folder):
     """Has the tests of this process go a way, which may write into a folder: their environment and what they import."""
     os.environ.update(
@@ -67,10 +75,14 @@ def take(way, program, folder):
         PYTHONDONTWRITEBYTECODE="1",
     )
     package = paths.PACKAGE
-    if way == "process":
+    if way == PROCESS:
         os.environ["CHIPFIRE"] = program
     else:
         os.environ.pop("CHIPFIRE", None)
         package = carried(folder, program)
     os.environ["PYTHONPATH"] = package
+    if way == WITHOUT:
+        os.environ["PYTHONPATH"] += f"{os.pathsep}{paths.HERE}"
+        os.environ[without.NAME] = ",".join(without.OPTIONAL)
+        without.hide()
     paths.add(package)

@@ -51,6 +51,8 @@ SYSTEM = "/usr/bin/python3"
 #: The names of tests that failed when they were made last, each after its group.
 LAST = f"{paths.ROOT}/target/tests-failed"
 LISTS = ("cli", "docs", "hostile")
+#: The groups whose modules share what one of them makes first.
+SHARING = ("package",)
 #: What takes longest, the first of it most: a group with a set of it, or all of it. It is begun before all else, and if
 #: it is listed it is dealt out to several processes.
 LONGEST = (
@@ -243,13 +245,13 @@ def names_of_classes(group, choice, program):
 
 
 def jobs_of_classes(group, choice, program):
-    """Yields the jobs of a group of unittest classes, a module each."""
+    """Yields the jobs of a group of unittest classes, a module each but for those that share what they make."""
     names = None if choice.is_whole else names_of_classes(group, choice, program)
     for way, python, modules in roads_of(group):
-        for module in modules:
-            its = names and [it for it in names if it.partition("::")[0] == module]
+        for of_set in [" ".join(modules)] if group in SHARING else modules:
+            its = names and [it for it in names if it.partition("::")[0] in of_set.split()]
             if names is None or its:
-                yield Job(group, module, its, way, python)
+                yield Job(group, of_set, its, way, python)
 
 
 def jobs_of(choice, program, lanes):
@@ -322,7 +324,7 @@ def parsed():
         "--long", action="store_true", help="many more mutated files, logs and large games"
     )
     parser.add_argument("words", nargs="*", metavar="GROUP or NAME")
-    return parser.parse_args()
+    return parser.parse_intermixed_args()
 
 
 def show_names(choice, program):

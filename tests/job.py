@@ -36,8 +36,8 @@ class Outcomes(dict):
 
 
 def name_of(case):
-    """Returns the name of a test of unittest: its module, class and method."""
-    return case.id().replace(".", "::")
+    """Returns the name of a test of unittest, or of that which it is a part of: its module, class and method."""
+    return getattr(case, "test_case", case).id().replace(".", "::")
 
 
 def cases_of(suite):
@@ -75,6 +75,9 @@ class Result(unittest.TestResult):
         if err is not None:
             self.outcomes.add(name_of(test), FAILED, [*self.errors, *self.failures][-1][1])
 
+    def addExpectedFailure(self, test, err):
+        self.outcomes.add(name_of(test), PASSED)
+
     def addUnexpectedSuccess(self, test):
         self.outcomes.add(name_of(test), FAILED, "it was expected to fail")
 
@@ -101,15 +104,21 @@ def by_unittest(asked):
     if asked["names"] is not None:
         cases = [it for it in cases if name_of(it) in asked["names"]]
     unittest.TestSuite(cases).run(result)
-    outcomes = result.outcomes
-    for case in cases:
-        if name_of(case) not in outcomes:
-            # (its class could not be set up, or was skipped by that)
-            place = f"setUpClass ({case.id().rpartition('.')[0]})".replace(".", "::")
-            outcomes.add(name_of(case), *outcomes.get(place, (FAILED, "it did not run")))
-    for place in [it for it in outcomes if it.startswith("setUpClass ")]:
-        del outcomes[place]
-    return outcomes
+    tell_of_classes(cases, result.outcomes)
+    return result.outcomes
+
+
+def tell_of_classes(cases, outcomes):
+    """Has what came of the set-up of classes stand with all their tests that did not run, as pytest has it, and what
+    came of their end with the last one that ran."""
+    last = {name_of(it).rpartition("::")[0]: name_of(it) for it in cases}
+    for case in (it for it in cases if name_of(it) not in outcomes):
+        place = f"setUpClass ({name_of(case).rpartition('::')[0]})"
+        outcomes.add(name_of(case), *outcomes.get(place, (FAILED, "it did not run")))
+    for name, test in last.items():
+        outcomes.pop(f"setUpClass ({name})", None)
+        if end := outcomes.pop(f"tearDownClass ({name})", None):
+            outcomes.add(test, *end)
 
 
 class Recorder:
@@ -138,7 +147,9 @@ class Recorder:
     def note(self, report, is_told):
         """Notes what a report says; that all went well only where it is one of a whole test."""
         name = self.name_of(report.nodeid)
-        if report.skipped:
+        if hasattr(report, "wasxfail"):
+            self.outcomes.add(name, PASSED)
+        elif report.skipped:
             self.outcomes.add(name, SKIPPED, report.longrepr[2].removeprefix("Skipped: "))
         elif report.failed:
             self.outcomes.add(name, FAILED, report.longreprtext)

@@ -35,7 +35,9 @@ def hide():
     loaded = sorted(hidden() & sys.modules.keys())
     if loaded:
         raise RuntimeError(f"{NAME} comes too late: {', '.join(loaded)} is imported already")
-    sys.meta_path[:] = [Finder if it is importlib.machinery.PathFinder else it for it in sys.meta_path]
+    sys.meta_path[:] = [
+        Finder if it is importlib.machinery.PathFinder else it for it in sys.meta_path
+    ]
 
 
 def environment(*folders, **variables):

@@ -15,6 +15,7 @@ from types import SimpleNamespace
 from unittest import mock
 
 import chipfire
+import without
 from chipfire.backend import finding
 from chipfire.backend import trust
 from test_package import ROOT, WithFolder
@@ -112,7 +113,7 @@ class Places(WithFolder):
         for name in ("started", "loaded"):
             if os.path.exists(f"{here}/{name}"):
                 os.remove(f"{here}/{name}")
-        environment = {"PYTHONPATH": package, "PATH": path, "PYTHONDONTWRITEBYTECODE": "1"}
+        environment = without.environment(package, PATH=path)
         who = {} if user is None else {"user": user, "group": user, "extra_groups": []}
         ran = subprocess.run(
             [python, "-c", ASK], env=environment, cwd=here, stdout=subprocess.PIPE, stderr=subprocess.PIPE,
@@ -362,9 +363,9 @@ class Without(Places):
         super().setUp()
         shutil.copytree(f"{ROOT}/python/chipfire", self.file("copy/chipfire"))
 
-    def runs(self, code, *words, **environment):
+    def runs(self, code, *words, package="copy", **variables):
         """What Python says that runs this code."""
-        given = {"PYTHONPATH": self.file("copy"), "PATH": "/nowhere", "PYTHONDONTWRITEBYTECODE": "1", **environment}
+        given = without.environment(self.file(package), **{"PATH": "/nowhere", **variables})
         return subprocess.run([sys.executable, *words, "-c", code], env=given, capture_output=True, encoding="utf-8")
 
     def test_the_first_import_says_so_once(self):
@@ -387,15 +388,15 @@ class Without(Places):
         os.mkdir(self.file("release/release"))
         with open(self.file("release/release/PROVED"), "w", encoding="ascii"):
             pass
-        told = self.runs("import chipfire", PYTHONPATH=site).stderr
+        told = self.runs("import chipfire", package=site).stderr
         self.assertIn("carries none, since the one in release/ was not taken: it is for another system; the clone", told)
         self.assertFalse(os.path.exists(f"{self.file('here')}/started"))
 
     def test_nothing_is_said_if_there_is_one(self):
         os.mkdir(self.file("bin"))
         os.symlink(PROGRAM, self.file("bin/chipfire"))
-        for environment in ({"PATH": self.file("bin")}, {"CHIPFIRE": "/elsewhere"}):
-            self.assertEqual(self.runs("import chipfire", **environment).stderr, "")
+        for variables in ({"PATH": self.file("bin")}, {"CHIPFIRE": "/elsewhere"}):
+            self.assertEqual(self.runs("import chipfire", **variables).stderr, "")
 
     def test_what_it_names_works(self):
         works = (
@@ -409,7 +410,7 @@ class Without(Places):
             "try: it.plain(grid, 3)\n"
             "except it.ProgramNotFound: print(it.order(grid))\n")
         words = [sys.executable, "-c", works, self.folder]
-        given = {"PYTHONPATH": self.file("copy"), "PATH": "/nowhere", "PYTHONDONTWRITEBYTECODE": "1"}
+        given = without.environment(self.file("copy"), PATH="/nowhere")
         ran = subprocess.run(words, env=given, capture_output=True, encoding="utf-8")
         # (the spanning trees of a cycle of 4 whose vertices have 2 edges each to a fifth)
         self.assertEqual(ran.stdout, "192\n", ran.stderr)

@@ -19,6 +19,7 @@ from array import array
 from unittest import mock
 
 import chipfire
+import without
 from chipfire.backend import library
 from test_counts import GRAPHS, slow_report
 from test_drops import rows_of, slow_rows
@@ -259,7 +260,7 @@ class Ways(WithFolder):
         built = os.path.dirname(os.path.realpath(chipfire.find_program()))
         ask = "import chipfire; print(chipfire.find_library(), chipfire.plain(chipfire.path(2), [5, 0, 0]).fired)"
         path = f"{built}:{os.environ['PATH']}"
-        environment = {"PYTHONPATH": self.folder, "PATH": path, "PYTHONDONTWRITEBYTECODE": "1"}
+        environment = without.environment(self.folder, PATH=path)
         ran = subprocess.run([sys.executable, "-c", ask], env=environment, capture_output=True, encoding="utf-8")
         self.assertRegex(ran.stderr, "libchipfire.so has version [0-9.]+, and the package unknown")
         self.assertEqual(ran.stdout, f"None {chipfire.plain(chipfire.path(2), [5, 0, 0]).fired}\n")
@@ -269,7 +270,7 @@ class Ways(WithFolder):
         file, program = os.path.realpath(chipfire.find_library()), os.path.realpath(chipfire.find_program())
         proved = os.path.join(os.path.dirname(program), "PROVED")
         ask = "import chipfire; print(chipfire.find_library())"
-        environment = {"PYTHONPATH": os.environ["PYTHONPATH"], "PYTHONDONTWRITEBYTECODE": "1"}
+        package = os.path.dirname(os.path.dirname(chipfire.__file__))
         beside, installed = "apart/PROVED", "share/doc/chipfire/PROVED"
         for place, library_at, stated_at, found in [
             ("apart", "apart/libchipfire.so", beside, True), ("apart", "lib/libchipfire.so", beside, False),
@@ -283,7 +284,7 @@ class Ways(WithFolder):
                     shutil.copy(source, f"{folder}/{name}")
                 named = f"from chipfire import library; library.find_program = lambda: '{folder}/{place}/chipfire'"
                 words, loads = [sys.executable, "-c", f"{named}; {ask}"], {"LD_LIBRARY_PATH": f"{folder}/loaded"}
-                ran = subprocess.run(words, env={**environment, **loads}, capture_output=True, encoding="utf-8")
+                ran = subprocess.run(words, env=without.environment(package, **loads), capture_output=True, encoding="utf-8")
                 self.assertEqual((ran.stdout, ran.stderr), (f"{folder}/{library_at}\n" if found else "None\n", ""))
 
     def test_the_environment_names_the_program_alone(self):

@@ -12,6 +12,7 @@ import tempfile
 import unittest
 
 import chipfire
+import without
 
 PACKAGE = os.path.dirname(chipfire.__file__)
 HERE = os.path.dirname(os.path.realpath(__file__))
@@ -172,7 +173,7 @@ class Modules(unittest.TestCase):
 
     def test_what_is_asked_for_is_all_that_an_import_brings(self):
         asked = [sys.executable, "-c", "import chipfire, sys; print(*sys.modules)"]
-        environment = {**os.environ, "PYTHONPATH": os.path.dirname(PACKAGE)}
+        environment = {**os.environ, **without.environment(os.path.dirname(PACKAGE))}
         brought = subprocess.run(asked, env=environment, stdout=subprocess.PIPE, encoding="utf-8", check=True).stdout
         unwanted = {"numpy", "scipy", "PIL", "matplotlib", "networkx", "pandas", "importlib.metadata"}
         self.assertEqual(unwanted & {*brought.split()}, set())

@@ -22,6 +22,7 @@ from unittest import mock
 
 import chipfire
 import model
+import without
 from chipfire.backend import process
 
 HERE = os.path.dirname(os.path.realpath(__file__))
@@ -767,7 +768,7 @@ class Finding(WithFolder):
         ask = "import chipfire; print(chipfire.find_program())"
         shutil.copytree(f"{ROOT}/python/chipfire", self.file("copy/chipfire"))
         for path, status in [(self.folder, 0), (f"{self.folder}/empty", 1)]:
-            environment = {"PATH": path, "PYTHONPATH": self.file("copy"), "PYTHONDONTWRITEBYTECODE": "1"}
+            environment = without.environment(self.file("copy"), PATH=path)
             ran = subprocess.run([sys.executable, "-c", ask], env=environment, capture_output=True, encoding="utf-8")
             self.assertEqual((ran.returncode, ran.stdout), (status, "" if status else f"{self.folder}/chipfire\n"))
 
@@ -784,7 +785,7 @@ class Finding(WithFolder):
         os.mkdir(f"{clone}/target")
         os.symlink(chipfire.find_program(), f"{clone}/target/chipfire")
         ask = "import chipfire as it; print(it.__file__, it.__version__, it.plain(it.path(1), [3]).fired)"
-        environment = {"PATH": "", "PYTHONPATH": self.folder, "PYTHONDONTWRITEBYTECODE": "1"}
+        environment = without.environment(self.folder, PATH="")
         ran = subprocess.run([sys.executable, "-c", ask], env=environment, capture_output=True, encoding="utf-8")
         self.assertEqual(ran.stdout, f"{self.folder}/chipfire/__init__.py {chipfire.__version__} (1, 0)\n")
         files = [TRIANGLE_FILE, CHIPS_FILE, f"{EXAMPLES}/triangle/trace.csv"]

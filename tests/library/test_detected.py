@@ -19,8 +19,6 @@ import unittest
 
 from library import BUILT, INCLUDE, PROGRAM, ROOT, SHARED, STATIC, Room, need, run
 
-sys.path.append(f"{ROOT}/python")  # (knight.py finds the library by the package, if it is not told)
-
 #: How many runs there are, of a wrong use at most, and after how many early ends there are no more.
 SOAK = int(os.environ.get("CHIPFIRE_SOAK") or 0)
 RUNS, WRONG_RUNS, MOST_EARLY = (SOAK, SOAK, SOAK) if SOAK else (300, 10000, 1)
@@ -184,11 +182,11 @@ def knights(edits, runs, most_early, folder):
 
 
 class Soak(Room):
-    def told(self, name, *words):
+    def told(self, name, *words, **how):
         """Returns the outcome that a command writes, and how many of its logs the judge ends with each status. Shows
         both, with the seconds that the command took."""
         begun, folder = time.monotonic(), tempfile.mkdtemp(dir=self.room)
-        outcome = Outcome(*map(int, self.runs(*words, folder).split()))
+        outcome = Outcome(*map(int, self.runs(*words, folder, **how).split()))
         shown = ", ".join(f"{number} {word}" for word, number in outcome._asdict().items())
         seconds = time.monotonic() - begun
         judged = collections.Counter(run(PROGRAM, "judge", it.path).returncode for it in os.scandir(folder))
@@ -229,16 +227,18 @@ class Steal(Soak):
 
 
 class Knight(Soak):
+    #: knight.py imports the package.
+    ENVIRONMENT = {**os.environ, "PYTHONPATH": f"{ROOT}/python"}
+
     def test_it_finds_what_one_finds_move_by_move(self):
-        environment = {**os.environ, "PYTHONPATH": f"{ROOT}/python"}
-        found = self.runs(sys.executable, KNIGHT, "--library", SHARED, env=environment)
+        found = self.runs(sys.executable, KNIGHT, "--library", SHARED, env=self.ENVIRONMENT)
         right = moves_of_a_knight(8)
         self.assertEqual(found, "".join(" ".join(str(right[y, x]) for x in range(8)) + "\n" for y in range(8)))
 
     def outcome(self, name, runs):
         """Runs knight.py or a wrong use in a process of its own, since tests of memory follow in this one."""
         words = os.path.realpath(__file__), name, str(runs), str(MOST_EARLY)
-        return self.told(f"knight.py, {name}", sys.executable, *words)
+        return self.told(f"knight.py, {name}", sys.executable, *words, env=self.ENVIRONMENT)
 
     def test_it_ends_when_it_is_over(self):
         self.is_right()

@@ -5,18 +5,15 @@ Small logs are judged by hand, and random ones by all their consistent cuts (tes
 import json
 import random
 import re
-import sys
 import unittest
 from collections import Counter, defaultdict
 
 import chipfire
+import logs
 from chipfire.lab import computations
 from chipfire.lab import detectors
 from chipfire.lab import schedules
-from test_package import ROOT, TRIANGLE, WithFolder
-
-sys.path.append(f"{ROOT}/tests/cli")
-import logs  # noqa: E402  (verdicts by all consistent cuts)
+from test_package import TRIANGLE, WithFolder
 
 FOUR = chipfire.Setting(TRIANGLE, (4, 0, 0))
 GRID = chipfire.grid(2, 2)

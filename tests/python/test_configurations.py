@@ -4,6 +4,7 @@ import functools
 import importlib
 import itertools
 import json
+import math
 import pickle
 import random
 import tempfile
@@ -13,7 +14,8 @@ from unittest import mock
 
 import chipfire
 import model
-from test_sandpile_words import DIRECTED, random_graph
+from strategies import drawn, piles, random_graph
+from test_sandpile_words import DIRECTED
 from test_sandpiles import CASES, has
 
 GRID = chipfire.grid(3, 2)
@@ -31,6 +33,19 @@ def inner(graph, numbers):
 def full(graph, numbers):
     """Chips without the sink, with a 0 for it."""
     return [*numbers[: graph.sink], 0, *numbers[graph.sink :]]
+
+
+def far_chips(draw):
+    """A graph, and chips of which some are far below 0."""
+    graph = draw.choice([*DIRECTED.values(), GRID, chipfire.cycle(4)])
+    return graph, full(graph, piles(draw, graph, -30, 9))
+
+
+def near_chips(draw):
+    """A graph, and chips near 0."""
+    graphs = [*DIRECTED.values(), GRID, TEE, chipfire.cycle(12), chipfire.complete(5), random_graph(draw, 7, 9)]
+    graph = draw.choice(graphs)
+    return graph, full(graph, piles(draw, graph, -3, 5))
 
 
 class Forms(unittest.TestCase):
@@ -184,20 +199,15 @@ class Arithmetic(unittest.TestCase):
 class Less(unittest.TestCase):
     """Chips below 0."""
 
-    def test_representatives_of_directed_graphs(self):
-        draw = random.Random(19)
-        for how, graph in [*DIRECTED.items(), ("a grid", GRID), ("a cycle", chipfire.cycle(4))]:
-            recurrent, superstable = set(map(tuple, chipfire.recurrents(graph))), model.superstables(graph)
-            for _ in range(4):
-                chips = full(graph, [draw.randint(-30, 9) for _ in range(graph.vertices - 1)])
-                with self.subTest(how, chips=chips):
-                    found = chipfire.superstable_representative(graph, chips)
-                    self.assertTrue(model.are_equivalent(graph, chips, found.numbers))
-                    self.assertIn(tuple(inner(graph, found.numbers)), superstable)
-                    found = chipfire.recurrent_representative(graph, chips)
-                    self.assertTrue(model.are_equivalent(graph, chips, found.numbers))
-                    self.assertTrue(found.is_recurrent() and found.is_stable())
-            self.assertEqual(len(recurrent), len({tuple(it) for it in recurrent}))
+    @drawn(far_chips, 24)
+    def test_representatives_of_directed_graphs(self, game):
+        graph, chips = game
+        found = chipfire.superstable_representative(graph, chips)
+        self.assertTrue(model.are_equivalent(graph, chips, found.numbers))
+        self.assertTrue(model.is_superstable(inner(graph, found.numbers), model.taken(graph)))
+        found = chipfire.recurrent_representative(graph, chips)
+        self.assertTrue(model.are_equivalent(graph, chips, found.numbers))
+        self.assertTrue(found.is_recurrent() and found.is_stable())
 
     def test_representatives_of_all_chips_near_0(self):
         stabilized = functools.cache(model.stabilized)
@@ -273,21 +283,13 @@ class All(unittest.TestCase):
 
 
 class Groups(unittest.TestCase):
-    def test_the_order_of_an_element(self):
-        draw = random.Random(23)
-        graphs = [*DIRECTED.values(), GRID, TEE, chipfire.cycle(12), chipfire.complete(5), random_graph(draw, 7, 9)]
-        for graph in graphs:
-            for _ in range(5):
-                chips = full(graph, [draw.randint(-3, 5) for _ in range(graph.vertices - 1)])
-                script = model.script_between(graph, chips, [0] * graph.vertices)
-                wanted = 1
-                while any((wanted * times).denominator != 1 for times in script):
-                    wanted += 1
-                    if wanted > 5000:
-                        break
-                if wanted <= 5000:
-                    with self.subTest(chips=chips):
-                        self.assertEqual(chipfire.Configuration(graph, chips).order(), wanted)
+    @drawn(near_chips, 45)
+    def test_the_order_of_an_element(self, game):
+        """So many times the chips are equivalent to none, by whole firings."""
+        graph, chips = game
+        script = model.script_between(graph, chips, [0] * graph.vertices)
+        wanted = math.lcm(*(times.denominator for times in script))
+        self.assertEqual(chipfire.Configuration(graph, chips).order(), wanted)
 
     def test_the_order_divides_that_of_the_group(self):
         grid = chipfire.grid(12, 12)
@@ -409,7 +411,8 @@ class Families(unittest.TestCase):
 
         names = [Name() for _ in range(1000)]
         graph = chipfire.Graph.undirected(zip(names, names[1:]), names[::2])
-        self.assertEqual((graph.vertices, chipfire.order(graph)), (501, 2**499))
+        self.assertEqual((graph.vertices, graph.degrees()), (501, (2,) * 499 + (1, 0)))
+        self.assertEqual({(head, mult) for _, head, mult in graph.edges}, {(500, 1)})
         self.assertLess(len(compared), 1000)
 
     @unittest.skipUnless(has("networkx"), "NetworkX is not here")

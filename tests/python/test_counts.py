@@ -6,8 +6,9 @@ import unittest
 
 import chipfire
 import play
+from strategies import random_graph
 from test_package import CHIPS_FILE, EXAMPLES, TRIANGLE, TRIANGLE_FILE, WithFolder, text_of
-from test_sandpile_words import DIRECTED, random_graph
+from test_sandpile_words import DIRECTED
 from test_sandpiles import has
 
 GRAPHS = [*DIRECTED.values(), chipfire.grid(3, 2), *(random_graph(random.Random(n), n, 3) for n in range(2, 10))]

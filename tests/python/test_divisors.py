@@ -146,15 +146,23 @@ def subsets(items):
     return itertools.chain.from_iterable(itertools.combinations(items, size) for size in range(1, len(items) + 1))
 
 
+@functools.lru_cache(maxsize=None)
+def losses(vertices, edges, vertex):
+    """What each loses of the vertices that fire together, for all that can be chosen without one vertex."""
+    found = []
+    for fired in map(set, subsets(it for it in range(vertices) if it != vertex)):
+        cut = [edge for edge in edges if len(fired & {*edge}) == 1]
+        lost = collections.Counter(end for edge in cut for end in edge if end in fired)
+        found.append([(it, lost[it]) for it in fired])
+    return found
+
+
 class Reduced(unittest.TestCase):
     def assert_reduced(self, chips, edges, vertex):
         """None but one vertex is in debt, and no vertices without it can fire together and stay so."""
-        others = [it for it in range(len(chips)) if it != vertex]
-        self.assertTrue(all(chips[it] >= 0 for it in others))
-        for fired in map(set, subsets(others)):
-            cut = [edge for edge in edges if len(fired & {*edge}) == 1]
-            lost = collections.Counter(end for edge in cut for end in edge if end in fired)
-            self.assertTrue(any(lost[it] > chips[it] for it in fired), (chips, edges, fired))
+        self.assertTrue(all(count >= 0 for it, count in enumerate(chips) if it != vertex))
+        for lost in losses(len(chips), edges, vertex):
+            self.assertTrue(any(count > chips[it] for it, count in lost), (chips, edges, lost))
 
     def test_what_is_reduced_at_each_vertex(self):
         # (a program that is started for each play takes long)

@@ -6,6 +6,7 @@ import unittest
 from unittest import mock
 
 import chipfire
+from strategies import drawn
 from test_counts import GRAPHS, slow_report
 from test_package import CHIPS_FILE, TRIANGLE, TRIANGLE_FILE, WithFolder
 from test_sandpiles import has
@@ -27,6 +28,13 @@ def rows_of(found):
     return list(zip(found.size.tolist(), found.extent.tolist(), found.lost.tolist()))
 
 
+def game_with_drops(draw):
+    """A graph, chips, and drops of chips on vertices."""
+    graph = draw.choice(GRAPHS)
+    chips = [draw.randint(0, 9) for _ in range(graph.vertices)]
+    return graph, chips, [(draw.randrange(graph.vertices), draw.choice([0, 1, 1, 1, 20])) for _ in range(30)]
+
+
 class Rows(WithFolder):
     def test_the_triangle_by_hand(self):
         """From 1 and no chip: 2 and 0 fires 0, as 1 and 0 does after it; then 0 and 2 fires 1; at last both fire."""
@@ -36,21 +44,21 @@ class Rows(WithFolder):
             self.assertEqual((found.configuration, len(found)), ({0: 0, 1: 1}, 5))
             self.assertEqual(found.report, slow_report(TRIANGLE, [5, 3, 1]))
 
-    def test_rows_are_those_of_the_slow_player(self):
-        for number, graph in enumerate(GRAPHS):
-            draw = random.Random(number)
-            chips = [draw.randint(0, 9) for _ in range(graph.vertices)]
-            drops = [(draw.randrange(graph.vertices), draw.choice([0, 1, 1, 1, 20])) for _ in range(30)]
-            for some in (drops, [(vertex, 1) for vertex, _ in drops]):
-                text = "".join(f"{vertex},{count}\n" for vertex, count in some)
-                given = self.file("drops.csv", f"vertex,chips\n{text}") if some is drops else [it for it, _ in some]
-                together = list(chips)
-                for vertex, count in some:
-                    together[vertex] += count
-                with self.subTest(graph=graph, chips=chips, drops=some):
-                    found = chipfire.drops(graph, chips, given)
-                    self.assertEqual(rows_of(found), list(slow_rows(graph, chips, some)))
-                    self.assertEqual(found.report, slow_report(graph, together))
+    @drawn(game_with_drops, 13)
+    def test_rows_are_those_of_the_slow_player(self, game):
+        graph, chips, drops = game
+        text = "".join(f"{vertex},{count}\n" for vertex, count in drops)
+        ones = [(vertex, 1) for vertex, _ in drops]
+        for some, given in (
+            (drops, self.file("drops.csv", f"vertex,chips\n{text}")),
+            (ones, [vertex for vertex, _ in drops]),
+        ):
+            together = list(chips)
+            for vertex, count in some:
+                together[vertex] += count
+            found = chipfire.drops(graph, chips, given)
+            self.assertEqual(rows_of(found), list(slow_rows(graph, chips, some)))
+            self.assertEqual(found.report, slow_report(graph, together))
 
     def test_vertices_come_by_name_from_whatever_has_them(self):
         named = chipfire.Graph(3, 2, TRIANGLE.edges, ["left", (1, 1), "out"])

@@ -7,7 +7,7 @@ import unittest
 import chipfire
 import model
 from small_graphs import directed_graphs, simple_graphs, undirected
-from test_sandpile_words import random_graph
+from strategies import random_graph
 
 
 def small_graphs(directed=3, simple=5):

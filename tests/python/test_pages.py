@@ -21,6 +21,7 @@ from chipfire.lab import layout
 from chipfire.lab import ledger
 from chipfire.lab import sentences
 from chipfire.lab import wrong
+from strategies import drawn
 
 HERE = os.path.dirname(os.path.realpath(__file__))
 ROOT = os.path.dirname(os.path.dirname(HERE))
@@ -287,17 +288,15 @@ class Spelled(unittest.TestCase):
                     closed += told.root_closed
         self.assertEqual((halts, closed > 60), ({(0,), (1,)}, True))
 
-    def test_a_recorded_run_takes_and_fires_what_was_recorded(self):
-        for seed in range(12):
-            numbers = random.Random(seed)
-            setting = random_game(numbers, fed=False)
-            options = {"limit": setting.limit, "ring": setting.ring, "workers": 2}
-            with self.subTest(seed=seed), tempfile.TemporaryDirectory(prefix="chipfire-python-") as folder:
-                report = chipfire.run(setting.graph, setting.chips, trace=f"{folder}/trace.csv", **options)
-                trace = chipfire.read_trace(f"{folder}/trace.csv")
-                told = chipfire.recorded(setting.graph, setting.chips, f"{folder}/trace.csv", limit=setting.limit)
-            self.assertEqual(told.report, report)
-            self.assertEqual(sorted(rows_of(told), key=lambda row: row.vertex), trace)
+    @drawn(lambda numbers: random_game(numbers, fed=False), 12)
+    def test_a_recorded_run_takes_and_fires_what_was_recorded(self, setting):
+        options = {"limit": setting.limit, "ring": setting.ring, "workers": 2}
+        with tempfile.TemporaryDirectory(prefix="chipfire-python-") as folder:
+            report = chipfire.run(setting.graph, setting.chips, trace=f"{folder}/trace.csv", **options)
+            trace = chipfire.read_trace(f"{folder}/trace.csv")
+            told = chipfire.recorded(setting.graph, setting.chips, f"{folder}/trace.csv", limit=setting.limit)
+        self.assertEqual(told.report, report)
+        self.assertEqual(sorted(rows_of(told), key=lambda row: row.vertex), trace)
 
     def test_the_ring_of_a_recorded_run(self):
         # Vertex 0 fires so many times, 1 fires when it has all these messages, and 2 takes first what comes from 1.

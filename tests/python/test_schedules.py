@@ -15,10 +15,12 @@ import unittest
 
 import chipfire
 import second_search
+import without
 from chipfire.lab import detectors
 from chipfire.lab import model
 from chipfire.lab import schedules
 from chipfire.lab import states
+from strategies import drawn
 from test_pages import TRIANGLE, random_game
 
 #: Vertex 0 has two edges to the sink.
@@ -460,25 +462,23 @@ class Explorer(unittest.TestCase):
 
 
 class Model(unittest.TestCase):
-    def test_what_is_enabled_is_what_would_do_something(self):
+    @drawn(lambda numbers: numbers, 25)
+    def test_what_is_enabled_is_what_would_do_something(self, numbers):
         # Each event that could be named is tried on a copy of the game.
-        for seed in range(25):
-            numbers = random.Random(seed)
-            setting = random_game(numbers, fed=False)
-            core = schedules.opened(setting)
-            game = states.States(core)
-            for _ in range(60):
-                edges, vertices = range(len(core.edges)), range(len(core.vertices))
-                names = [(kind, at, 0) for kind in ("take", "ack", "settle", "clear", "claim", "put") for at in edges]
-                names += [("halt", at, 0) for at in vertices]
-                names += [("fire", at, count) for at in vertices for count in range(1, 40)]
-                game.noted()
-                wanted = {name for name in names if self.does_something(game, name)}
-                events = core.enabled()
-                self.assertEqual((set(events), len(events)), (wanted, len(wanted)))
-                if not events:
-                    break
-                core.step(*numbers.choice(events))
+        core = schedules.opened(random_game(numbers, fed=False))
+        game = states.States(core)
+        for _ in range(60):
+            edges, vertices = range(len(core.edges)), range(len(core.vertices))
+            names = [(kind, at, 0) for kind in ("take", "ack", "settle", "clear", "claim", "put") for at in edges]
+            names += [("halt", at, 0) for at in vertices]
+            names += [("fire", at, count) for at in vertices for count in range(1, 40)]
+            game.noted()
+            wanted = {name for name in names if self.does_something(game, name)}
+            events = core.enabled()
+            self.assertEqual((set(events), len(events)), (wanted, len(wanted)))
+            if not events:
+                break
+            core.step(*numbers.choice(events))
 
     @staticmethod
     def does_something(game, event):
@@ -491,18 +491,16 @@ class Model(unittest.TestCase):
 
 
 class RandomSchedules(unittest.TestCase):
-    def test_they_close_the_root_and_the_program_agrees(self):
-        for seed in range(300):
-            numbers = random.Random(f"class {seed}")
-            setting = random_game(numbers, fed=False)
-            events = chipfire.random_schedule(setting, seed)
-            core = schedules.opened(setting)
-            replies = [core.step(*event) for event in events]
-            told = chipfire.simulate(setting.graph, setting.chips, events, limit=setting.limit, ring=setting.ring)
-            with self.subTest(seed=seed):
-                self.assertEqual([str(reply) for reply in told.replies], replies)
-                self.assertTrue(told.root_closed and core.is_closed())
-                self.assertEqual(told.report.text().strip(), core.report())
+    @drawn(lambda numbers: (random_game(numbers, fed=False), numbers.randrange(2**32)), 300)
+    def test_they_close_the_root_and_the_program_agrees(self, game):
+        setting, seed = game
+        events = chipfire.random_schedule(setting, seed)
+        core = schedules.opened(setting)
+        replies = [core.step(*event) for event in events]
+        told = chipfire.simulate(setting.graph, setting.chips, events, limit=setting.limit, ring=setting.ring)
+        self.assertEqual([str(reply) for reply in told.replies], replies)
+        self.assertTrue(told.root_closed and core.is_closed())
+        self.assertEqual(told.report.text().strip(), core.report())
 
     def test_the_same_seed_draws_the_same(self):
         self.assertEqual(chipfire.random_schedule(FOUR, 5), chipfire.random_schedule(FOUR, 5))
@@ -751,7 +749,8 @@ class AtTheShell(unittest.TestCase):
     OWN = "from chipfire.model import Core\nclass Mine(Core):\n    def may_let_go(self, e):\n        return {}\n"
 
     def asked(self, *words):
-        environment = {**os.environ, "PYTHONPATH": os.path.dirname(os.path.dirname(chipfire.__file__))}
+        package = os.path.dirname(os.path.dirname(chipfire.__file__))
+        environment = {**os.environ, **without.environment(package)}
         ran = subprocess.run([sys.executable, "-m", "chipfire", *words], env=environment, encoding="utf-8",
                              stdout=subprocess.PIPE, stderr=subprocess.PIPE)
         return ran.returncode, ran.stdout or ran.stderr

@@ -12,6 +12,7 @@ import tempfile
 
 import counts
 import listed
+import parts
 import paths
 import pytest
 import ways
@@ -33,6 +34,7 @@ def pytest_configure(config):
         raise pytest.UsageError(wrong)
     config.stash[FOLDER] = tempfile.TemporaryDirectory(prefix="chipfire-tests-")
     ways.take(config.option.way, program, config.stash[FOLDER].name)
+    parts.show()
     if config.option.long:
         os.environ["CHIPFIRE_LONG"] = "yes"
 

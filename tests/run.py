@@ -6,7 +6,7 @@
 GROUPS are these, all of them if none is named:
 
     cli       the command line: cases, random games, large ones, what is told and written
-    python    python/chipfire and examples/python, by each way of ways.py, on this Python and on the system's
+    python    python/chipfire and examples/python, by each way of ways.py, on the system's Python if it has one
     docs      what the pages show, in a fresh clone; what they cite; the tables of docs/FORMATS.md
     hostile   mutated files, refused memory, failing reads and writes, the system around the program
     library   the libraries, from C and by ctypes
@@ -95,10 +95,6 @@ class Job:
         words = [self.group, f"{self.group} {self.of_set}"]
         return min((LONGEST.index(it) for it in words if it in LONGEST), default=len(LONGEST))
 
-    def road(self):
-        """What tests/counts.txt calls its way."""
-        return self.way if self.python == sys.executable else f"{self.way} elsewhere"
-
     def told(self):
         """What tells it from others."""
         of_python = [self.way, self.python] if self.group == "python" else []
@@ -136,14 +132,9 @@ def roads_of(group):
     if group != "python":
         yield "", sys.executable, modules
         return
-    is_other = os.path.exists(SYSTEM) and os.path.realpath(SYSTEM) != os.path.realpath(
-        sys.executable
-    )
-    roads = [(sys.executable, it) for it in ways.here()]
-    roads += [(SYSTEM, it) for it in (ways.PROCESS, ways.LIBRARY) if is_other]
-    for python, way in roads:
-        names = [it for it in modules if way == ways.PROCESS or it in ways.BY_LIBRARY]
-        yield way, python, [it for it in names if python == sys.executable or it not in ways.BY_ONE]
+    python = SYSTEM if os.path.exists(SYSTEM) else sys.executable
+    for way in ways.WAYS:
+        yield way, python, ways.modules(way, modules)
 
 
 def outcome_of(test):
@@ -305,7 +296,7 @@ def too_few(results):
     """Yields what is wrong with the numbers of tests of whole groups."""
     numbers = collections.Counter()
     for its, result in results:
-        numbers[its.group, its.road()] += len(result.outcomes)
+        numbers[its.group, its.way] += len(result.outcomes)
     for (group, road), count in numbers.items():
         print(f"== {group} {road}".rstrip() + f": {count} tests")
         yield from counts.wrong(group, road, count)

@@ -1,12 +1,11 @@
 """The ways in which tests find the program and the package, and which modules of tests/python go which way.
 
 By the *process* the environment variable CHIPFIRE names the program, so that each call of the package starts it. By the
-*library* the package lies in a folder with program and library, as in a wheel. *Without* is by the library, on a Python
-that has none of the packages which the package uses if they are there.
+*library* the package lies in a folder with program and library, as in a wheel. *Without* is the same without NumPy and
+the other packages that it can do without: they are hidden (without.py).
 """
 
 import hashlib
-import importlib.util
 import os
 import shutil
 import subprocess
@@ -16,7 +15,7 @@ import without
 
 WAYS = PROCESS, LIBRARY, WITHOUT = ("process", "library", "without")
 SHARED, STATIC = "libchipfire.so", "libchipfire.a"
-#: The modules that test what the library answers, and those that only one Python needs to run.
+#: The modules that test what the library answers, and those that ask for what may be hidden. All go by the process.
 BY_LIBRARY = (
     "test_configurations",
     "test_counts",
@@ -33,7 +32,29 @@ BY_LIBRARY = (
     "test_sandpiles",
     "test_wrong_inputs",
 )
-BY_ONE = ("test_browser", "test_finding")
+BY_NONE = (
+    "test_configurations",
+    "test_counts",
+    "test_drops",
+    "test_ensembles",
+    "test_examples",
+    "test_exchange",
+    "test_forms",
+    "test_lattices",
+    "test_library",
+    "test_pictures",
+    "test_powers",
+    "test_sandpile_words",
+    "test_sandpiles",
+    "test_without",
+    "test_wrong_inputs",
+)
+
+
+def modules(way, every):
+    """Returns the modules of tests/python, among all of them, that go a way."""
+    chosen = {PROCESS: every, LIBRARY: BY_LIBRARY, WITHOUT: BY_NONE}[way]
+    return [it for it in every if it in chosen]
 
 
 def missing(program):
@@ -60,11 +81,6 @@ def carried(folder, program):
         with open(f"{package}/{name}", "w", encoding="ascii") as file:
             file.write(text)
     return folder
-
-
-def here():
-    """Returns the ways to go on this Python. Without NumPy, by the library is not told from without all such packages."""
-    return WAYS if importlib.util.find_spec("numpy") else (PROCESS, WITHOUT)
 
 
 def take(way, program, folder):

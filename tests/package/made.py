@@ -85,14 +85,22 @@ def commit(top):
     run("git", *who, "commit", "-q", "--allow-empty", "-m", "tests", cwd=top, check=True)
 
 
-def checkout():
-    """Returns a new checkout of the repository as it is here, with nothing built in it, and no release."""
+@functools.cache
+def sources():
+    """Returns a checkout of the repository as it is here, with nothing built in it, and no release; no test changes it."""
     top = room()
     for name in (it for it in repository_files() if not it.startswith("release/")):
         os.makedirs(os.path.dirname(f"{top}/{name}"), exist_ok=True)
         shutil.copy(f"{ROOT}/{name}", f"{top}/{name}")
     run("git", "init", "-q", cwd=top, check=True)
     commit(top)
+    return top
+
+
+def checkout():
+    """Returns a new checkout of the same."""
+    top = room()
+    run("git", "clone", "-q", sources(), top, check=True)
     return top
 
 
@@ -122,13 +130,46 @@ def pythons():
     return dict(sorted(found.items()))
 
 
+@functools.cache
+def bare_environment(python):
+    """Returns an environment of a Python with nothing but pip in it; no test changes it."""
+    top = room()
+    run(python, "-m", "venv", top, check=True)
+    # (in a copy they would still start this one)
+    for name in glob.glob(f"{glob.escape(top)}/bin/pip*"):
+        os.remove(name)
+    return top
+
+
+def virtual_environment(python=sys.executable):
+    """Returns a new environment of a Python with nothing but pip in it: `bin/python -m pip`."""
+    top = f"{room()}/environment"
+    shutil.copytree(bare_environment(python), top, symlinks=True)
+    return top
+
+
+def pip(environment, *words, **more):
+    """Runs the pip of an environment where it has no network, as far as this system lets us."""
+    return run(*without_network(), f"{environment}/bin/python", "-m", "pip", *words, **more)
+
+
+@functools.cache
+def without_network():
+    """Returns what starts a command where it has no network, as far as this system lets us."""
+    words = ("unshare", "--net")
+    is_there = shutil.which(words[0], path=PATH) is not None
+    return words if is_there and run(*words, "true").returncode == 0 else ()
+
+
 def package(top, *words, python=sys.executable, **more):
     """Runs ./package of a checkout."""
     return run(python, f"{top}/package.py", *words, **more)
 
 
-def built():
-    """Returns a new checkout with the program and its packages."""
+@functools.cache
+def home():
+    """Returns a checkout with the program and its packages, which are tried; no test changes it."""
+    need("dpkg-deb")
     top = checkout()
     build(top)
     made = package(top)
@@ -137,11 +178,11 @@ def built():
     return top
 
 
-@functools.cache
-def home():
-    """Returns the checkout whose packages are tried; no test changes it."""
-    need("dpkg-deb")
-    return built()
+def copied():
+    """Returns a copy of that checkout, with its packages."""
+    top = room()
+    shutil.copytree(home(), top, symlinks=True, dirs_exist_ok=True)
+    return top
 
 
 def path_of(end, top=None):

@@ -51,13 +51,6 @@ def game():
     return graph, chips, played.stdout
 
 
-def without_network():
-    """Returns what starts a command where it has no network, as far as this system lets us."""
-    words = ["unshare", "--net"]
-    is_there = shutil.which(words[0], path=made.PATH) is not None
-    return words if is_there and made.run(*words, "true").returncode == 0 else []
-
-
 class Answers(unittest.TestCase):
     def answers(self, program):
         """Tries the game that is built in, the grid, and a fault."""
@@ -166,9 +159,8 @@ class Wheel(Answers):
     @functools.cache
     def room():
         """Returns an environment of Python with nothing but the wheel in it, which was installed without network."""
-        room = made.room()
-        made.run(sys.executable, "-m", "venv", room, check=True)
-        made.run(*without_network(), f"{room}/bin/pip", "install", "--no-index", made.path_of(".whl"), check=True)
+        room = made.virtual_environment()
+        made.pip(room, "install", "--no-index", made.path_of(".whl"), check=True)
         return room
 
     def test_its_command_answers(self):
@@ -184,8 +176,8 @@ class Wheel(Answers):
         self.assertEqual(made.read(program.strip()), made.read(made.PROGRAM))
 
     def test_pip_finds_nothing_wrong(self):
-        self.assertEqual(made.run(f"{self.room()}/bin/pip", "check").returncode, 0)
-        shown = made.run(f"{self.room()}/bin/pip", "show", "--files", "chipfire").stdout
+        self.assertEqual(made.pip(self.room(), "check").returncode, 0)
+        shown = made.pip(self.room(), "show", "--files", "chipfire").stdout
         self.assertIn(f"Version: {made.version()}\n", shown)
         for name in ("PROVED", made.SHARED):
             self.assertIn(f"chipfire/program/{name}\n", shown)
@@ -211,8 +203,7 @@ class Wheel(Answers):
         sources = f"{made.room()}/python"
         shutil.copytree(f"{made.home()}/python", sources)
         made.write(f"{sources}/PKG-INFO", f"Version: {made.version()}\n".encode())
-        pip = [f"{self.room()}/bin/pip", "install", "--no-index", "--target", room]
-        made.run(*pip, sources, check=True)
+        made.pip(self.room(), "install", "--no-index", "--target", room, sources, check=True)
         os.symlink(made.PROGRAM, f"{path}/chipfire")
         ask = ["-c", "import chipfire; print(chipfire.find_program(), chipfire.__version__)"]
         asked = made.run(sys.executable, *ask, PYTHONPATH=room, PATH=path)
@@ -236,18 +227,17 @@ print(chipfire.plain(chipfire.path(1), [3]).fired)
 
     def test_it_is_the_package_of_the_clone(self):
         """It is installed without network and without setuptools, edited, and taken away again."""
-        top, room = made.checkout(), made.room()
+        top, room = made.checkout(), made.virtual_environment(self.python())
         made.build(top)
-        made.run(self.python(), "-m", "venv", room, check=True)
-        made.run(f"{room}/bin/pip", "uninstall", "-q", "-y", "setuptools", check=True)
-        made.run(*without_network(), f"{room}/bin/pip", "install", "--no-index", "-e", f"{top}/python", check=True)
+        made.pip(room, "uninstall", "-q", "-y", "setuptools", check=True)
+        made.pip(room, "install", "--no-index", "-e", f"{top}/python", check=True)
         asked = made.run(f"{room}/bin/python", "-c", self.ASK, cwd=made.rooms())
         found = f"{made.version()} {top}/python/chipfire/__init__.py {top}/target/chipfire\n(1, 0)\n"
         self.assertEqual(asked.stdout, found, asked.stderr)
         made.write(f"{top}/python/chipfire/more.py", b"print('edited')\n")
         self.assertEqual(made.run(f"{room}/bin/python", "-c", "import chipfire.more", cwd=made.rooms()).stdout, "edited\n")
         self.assertFalse(os.path.exists(f"{room}/bin/chipfire"))
-        made.run(f"{room}/bin/pip", "uninstall", "-y", "chipfire", check=True)
+        made.pip(room, "uninstall", "-y", "chipfire", check=True)
         gone = made.run(f"{room}/bin/python", "-c", "import chipfire", cwd=made.rooms())
         self.assertIn("ModuleNotFoundError", gone.stderr)
         there = ["build_wheel.py", "chipfire", "contents.py", "pyproject.toml", "wheels.py"]
@@ -296,9 +286,8 @@ class OldPython(unittest.TestCase):
         old = [path for version, path in made.pythons().items() if (3, 7) <= version < (3, 9)]
         if not old:
             self.skipTest("there is no Python of version 3.7 or 3.8")
-        room = made.room()
-        made.run(old[0], "-m", "venv", room, check=True)
-        answer = made.run(f"{room}/bin/pip", "install", "--no-index", f"{made.home()}/python")
+        room = made.virtual_environment(old[0])
+        answer = made.pip(room, "install", "--no-index", f"{made.home()}/python")
         self.assertIn("Package 'chipfire' requires a different Python: ", answer.stderr)
         self.assertNotIn("Traceback", answer.stdout + answer.stderr)
 

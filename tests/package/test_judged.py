@@ -28,7 +28,7 @@ def repacked_archive(edit):
         modes = {entry.name: entry.mode for entry in old}
         files = {entry.name: entry.linkname if entry.issym() else old.extractfile(entry).read() for entry in old}
     edit(files)
-    with tarfile.open(path, "w:xz") as new:
+    with tarfile.open(path, "w:xz", preset=0) as new:
         for name, data in files.items():
             entry = tarfile.TarInfo(name)
             entry.mode = modes.get(name, 0o644)
@@ -60,7 +60,7 @@ def repacked_debian(edit):
     room, path = f"{made.room()}/deb", f"{made.room()}/chipfire.deb"
     made.run("dpkg-deb", "-R", made.path_of(".deb"), room, check=True)
     edit(room)
-    made.run("dpkg-deb", "--root-owner-group", "-b", room, path, check=True)
+    made.run("dpkg-deb", "--root-owner-group", "-z0", "-b", room, path, check=True)
     return path
 
 
@@ -133,8 +133,7 @@ class Taken(Checked):
             self.refuses(path, "no program was packed of these sources here", bare())
 
     def test_a_package_of_an_earlier_commit_with_the_same_sources(self):
-        top = made.room()
-        shutil.copytree(made.home(), top, dirs_exist_ok=True)
+        top = made.copied()
         made.commit(top)
         made.build(top)
         self.assertEqual(made.package(top).returncode, 0)
@@ -229,7 +228,7 @@ class SourcesChanged(Checked):
         self.refuses(made.PROGRAM, "not the program that ./package packed", other())
 
     def test_since_the_build(self):
-        top = made.built()
+        top = made.copied()
         path = f"{top}/crates/chip_graph/specs/Faults.antt"
         made.write(path, changed(made.read(path)))
         for package in (made.path_of(it, top) for it in PACKAGES):
@@ -274,7 +273,7 @@ class StatementChanged(Checked):
         self.refuses(self.replaced(kit, b"another kit"), "states another kit than that of the program packed here: another kit")
 
     def test_a_commit_with_other_sources(self):
-        top = made.built()
+        top = made.copied()
         text = made.read(f"{top}/dist/PROVED")
         with open(f"{top}/crates/chip_graph/src/lib.rt", "a", encoding="utf-8") as file:
             file.write("// one line more\n")

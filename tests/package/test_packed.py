@@ -157,11 +157,11 @@ class Compressed(unittest.TestCase):
             self.assertEqual((packed[:10], gzip.decompress(packed)), (self.HEAD, b"text"))
 
     def test_an_archive_of_the_sources_of_the_package(self):
-        make = "import sys; sys.path.insert(0, 'python'); import build_wheel; print(build_wheel.build_sdist(sys.argv[1]))"
+        make = "import build_wheel, sys; print(build_wheel.build_sdist(sys.argv[1]))"
         found = set()
         for python in current_pythons():
             room = made.room()
-            name = made.run(python, "-c", make, room, cwd=made.home(), check=True).stdout.strip()
+            name = made.run(python, "-c", make, room, PYTHONPATH=f"{made.home()}/python", check=True).stdout.strip()
             found.add(made.read(f"{room}/{name}"))
         self.assertEqual({it[:10] for it in found}, {self.HEAD})
         self.assertEqual(len(found), 1)

@@ -186,9 +186,8 @@ class Installed(unittest.TestCase):
 
     def installs(self, what):
         """Installs by pip without network, and returns what it says, and what the package answers in another folder."""
-        room = made.room()
-        made.run(sys.executable, "-m", "venv", room, check=True)
-        said = made.run(f"{room}/bin/pip", "install", "-v", "--no-index", what, check=True)
+        room = made.virtual_environment()
+        said = made.pip(room, "install", "-v", "--no-index", what, check=True)
         return said.stdout + said.stderr, made.run(f"{room}/bin/python", "-c", ASK, cwd=made.rooms()), room
 
     def test_the_address_of_a_clone_or_its_folder_gives_the_package_with_its_program(self):
@@ -203,8 +202,8 @@ class Installed(unittest.TestCase):
     def test_the_wheel_is_that_of_package(self):
         top, room = clone(), made.room()
         self.assertEqual(made.package(top).returncode, 0)
-        build = f"import sys; sys.path.insert(0, 'python'); import build_wheel; print(build_wheel.build_wheel({room!r}))"
-        name = made.run(sys.executable, "-c", build, cwd=top, check=True).stdout.strip()
+        build = f"import build_wheel; print(build_wheel.build_wheel({room!r}))"
+        name = made.run(sys.executable, "-c", build, PYTHONPATH=f"{top}/python", check=True).stdout.strip()
         self.assertEqual(os.listdir(room), [name])
         self.assertTrue(made.read(f"{room}/{name}") == made.read(made.path_of(name, top)))
 
@@ -213,8 +212,8 @@ class Installed(unittest.TestCase):
                            (lambda top: os.remove(f"{top}/release/PROVED"), "No such file or directory")):
             top, room = clone(), made.room()
             spoil(top)
-            build = f"import sys; sys.path.insert(0, 'python'); import build_wheel; build_wheel.build_wheel({room!r})"
-            made.run(sys.executable, "-c", build, cwd=top, check=True)
+            build = f"import build_wheel; build_wheel.build_wheel({room!r})"
+            made.run(sys.executable, "-c", build, PYTHONPATH=f"{top}/python", check=True)
             self.assertEqual(os.listdir(room), [f"chipfire-{made.version()}-py3-none-any.whl"])
             with zipfile.ZipFile(f"{room}/{os.listdir(room)[0]}") as wheel:
                 having = [it for it in wheel.namelist() if os.path.basename(top).encode() in wheel.read(it)]

@@ -1,11 +1,13 @@
 """The library as Python finds it by ctypes alone, and the program beside it."""
 import ctypes
+import operator
 import os
 import re
 import shutil
 import subprocess
 import tempfile
 import unittest
+from array import array
 
 ROOT = os.path.dirname(os.path.dirname(os.path.dirname(os.path.realpath(__file__))))
 BUILT = os.environ["CHIPFIRE_BUILT"]
@@ -46,14 +48,15 @@ class Slice:
 
     def __init__(self, numbers):
         self.numbers = list(numbers)
-        self.memory = (WORD * (len(self.numbers) + 1))(*self.numbers, self.GUARD)
+        self.memory = array("Q", self.numbers)
+        self.memory.append(self.GUARD)
 
     def words(self):
-        return ctypes.addressof(self.memory), len(self.numbers)
+        return self.memory.buffer_info()[0], len(self.numbers)
 
     def now(self):
-        *numbers, guard = self.memory
-        assert guard == self.GUARD, "written behind its end"
+        numbers = self.memory.tolist()
+        assert numbers.pop() == self.GUARD, "written behind its end"
         return numbers
 
 
@@ -62,7 +65,7 @@ class Graph:
 
     def __init__(self, vertices, sink, edges):
         self.vertices, self.sink, self.edges = vertices, sink, [tuple(it) for it in edges]
-        self.columns = [Slice(row[i] for row in self.edges) for i in range(3)]
+        self.columns = [Slice(map(operator.itemgetter(i), self.edges)) for i in range(3)]
 
     def words(self):
         return self.vertices, self.sink, *(word for it in self.columns for word in it.words())

@@ -290,6 +290,8 @@ class Memory(unittest.TestCase):
         """Returns the same of a call with these words, which may write these slices."""
         child = os.fork()
         if child == 0:
+            # (what other tests gave back may lie free in this process, and would be room too)
+            ctypes.CDLL(None).malloc_trim(0)
             with open("/proc/self/statm", encoding="ascii") as file:
                 taken = int(file.read().split()[0]) * resource.getpagesize()
             unlimited = resource.getrlimit(resource.RLIMIT_AS)

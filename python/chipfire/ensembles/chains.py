@@ -14,12 +14,15 @@ from chipfire.backend import library
 from chipfire.backend.commands import AnyGraph, known_graph, read_chips
 from chipfire.backend.finding import ProgramNotFound
 from chipfire.configurations.configuration import Chips
-from chipfire.ensembles.drops import in_calls
+from chipfire.ensembles import archive
+from chipfire.ensembles.drops import COLUMNS, in_calls
+from chipfire.ensembles.power_law import sizes_figure
 from chipfire.ensembles.wilson import recurrent_rows
 from chipfire.graphs.graph import Graph
 from chipfire.utils import (
     as_int,
     FILE,
+    FileName,
     import_optional,
     in_order,
     known_seed,
@@ -27,6 +30,10 @@ from chipfire.utils import (
     require_memory,
     run_in_threads,
 )
+
+
+#: The arrays of all chains beside those of `COLUMNS`.
+_OTHERS = ("made", "chips")
 
 
 class Firings(NamedTuple):
@@ -65,7 +72,71 @@ class Chains:
     seed: int | float | str | bytes | None = None
 
     def __repr__(self) -> str:
-        return f"<Chains: {len(self.seeds)} of up to {len(self.size[0])} drops>"
+        return f"<Chains: {self._title()}>"
+
+    def _title(self) -> str:
+        return f"{len(self.seeds)} of up to {len(self.size[0])} drops"
+
+    def _repr_html_(self) -> str | None:
+        """What a notebook shows: how many avalanches have each size, if Matplotlib is there, and else the text."""
+        return sizes_figure(self.size, f"Chains: {self._title()}")
+
+    def to_dataframe(self) -> Any:
+        """The columns as a DataFrame of pandas, with a row for each drop that was made, whose index has the numbers of
+        its chain and of the drop there."""
+        pandas = import_optional("pandas", "a table is one of pandas")
+        numpy = import_optional("numpy", "a table of pandas takes NumPy")
+        columns = {name: numpy.asarray(getattr(self, name), "i8") for name in COLUMNS}
+        drops = numpy.arange(columns["size"].shape[1])
+        is_made = drops < numpy.asarray(self.made, "i8")[:, None]
+        index = pandas.MultiIndex.from_arrays(numpy.nonzero(is_made), names=["chain", "drop"])
+        return pandas.DataFrame({name: it[is_made] for name, it in columns.items()}, index)
+
+    def save(self, file: FileName) -> None:
+        """Writes all of it to a file of arrays (`.npz`) of NumPy, which `Chains.load` reads. A file that is there is
+        replaced when the new one is whole. Names of vertices are numbers, texts, bytes, None, and tuples of them.
+        """
+        numpy = import_optional("numpy", "a file of results is one of NumPy")
+        said = {"seeds": self.seeds, "seed": archive.plain(self.seed, "the seed"), "names": None}
+        arrays = {name: numpy.array(getattr(self, name), "i8") for name in (*COLUMNS, *_OTHERS)}
+        if self.fired is not None:
+            vertices = numpy.asarray(self.fired.vertices)
+            if vertices.dtype == object:
+                numbers = {name: it for it, name in enumerate(dict.fromkeys(vertices.tolist()))}
+                said["names"] = archive.plain_names(numbers)
+                vertices = numpy.array([numbers[it] for it in vertices.tolist()], "i8")
+            arrays |= self.fired._replace(vertices=vertices)._asdict()
+        archive.save(file, "Chains", said, arrays)
+
+    @classmethod
+    def load(cls, file: FileName) -> Chains:
+        """The chains of a file that `save` wrote. Another file is a ValueError that says what it is."""
+        return archive.load(file, "Chains", _chains_of)
+
+
+def _chains_of(said: dict[str, Any], arrays: dict[str, Any]) -> Chains:
+    """The chains of what `Chains.save` wrote."""
+    numpy = import_optional("numpy", "a file of results is one of NumPy")
+    seeds = tuple(said["seeds"])
+    size, extent, lost, chips = (archive.whole(arrays[name], 2) for name in (*COLUMNS, "chips"))
+    made = archive.whole(arrays["made"])
+    if {size.shape, extent.shape, lost.shape} != {(len(seeds), size.shape[1])}:
+        raise ValueError("the columns differ in their shapes")
+    if {len(chips), len(made)} != {len(seeds)} or ((made < 0) | (made > size.shape[1])).any():
+        raise ValueError("the chains differ in their numbers")
+    fired = None
+    if "vertices" in arrays:
+        offsets, counts = (archive.whole(arrays[name]) for name in ("offsets", "counts"))
+        vertices = arrays["vertices"]
+        if len(offsets) != size.size + 1 or not len(counts) == len(vertices) == offsets[-1]:
+            raise ValueError("what fired is not that of these drops")
+        if said["names"] is not None:
+            names = numpy.empty(len(said["names"]), object)
+            for place, name in enumerate(said["names"]):
+                names[place] = archive.value_of(name)
+            vertices = names[archive.whole(vertices)]
+        fired = Firings(offsets, vertices, counts)
+    return Chains(seeds, size, extent, lost, made, chips, fired, archive.value_of(said["seed"]))
 
 
 def chains(

@@ -13,6 +13,8 @@ from chipfire.backend import library
 from chipfire.backend.process import Fault
 from chipfire.backend.report import Report
 from chipfire.configurations.configuration import capped, CHIPS_HEADER, Configuration
+from chipfire.ensembles import archive
+from chipfire.ensembles.power_law import sizes_figure
 from chipfire.graphs.graph import Graph
 from chipfire.utils import (
     as_ints,
@@ -25,6 +27,8 @@ from chipfire.utils import (
 )
 
 ROWS_HEADER = "vertex,chips,size,extent,lost\n"
+#: The numbers of each drop.
+COLUMNS = ("size", "extent", "lost")
 
 #: How many drops become text at a time, and how many bytes of rows become numbers.
 PART = 2**16
@@ -53,7 +57,15 @@ class Drops:
         return len(self.size)
 
     def __repr__(self) -> str:
-        return f"<Drops: {with_unit(len(self), 'avalanche')}, {with_unit(sum(self.size.tolist()), 'firing')}>"
+        return f"<Drops: {self._title()}>"
+
+    def _title(self) -> str:
+        firings = with_unit(sum(self.size.tolist()), "firing")
+        return f"{with_unit(len(self), 'avalanche')}, {firings}"
+
+    def _repr_html_(self) -> str | None:
+        """What a notebook shows: how many avalanches have each size, if Matplotlib is there, and else the text."""
+        return sizes_figure(self.size, self._title())
 
     @property
     def configuration(self) -> Configuration:
@@ -65,6 +77,46 @@ class Drops:
         if of not in ("size", "extent", "lost"):
             raise ValueError(f"a drop has a 'size', an 'extent' and 'lost', and no {of!r}")
         return dict(sorted(Counter(getattr(self, of).tolist()).items()))
+
+    def to_dataframe(self) -> Any:
+        """The columns as a DataFrame of pandas, with a row for each drop, whose number is the index."""
+        pandas = import_optional("pandas", "a table is one of pandas")
+        columns = {name: getattr(self, name) for name in COLUMNS}
+        return pandas.DataFrame(columns, pandas.RangeIndex(len(self), name="drop"), dtype="int64")
+
+    def save(self, file: FileName) -> None:
+        """Writes all of it to a file of arrays (`.npz`) of NumPy, which `Drops.load` reads. A file that is there is
+        replaced when the new one is whole. Names of vertices are numbers, texts, bytes, None, and tuples of them.
+        """
+        numpy = import_optional("numpy", "a file of results is one of NumPy")
+        report = self.report
+        said: dict[str, Any] = {"graph": None}
+        arrays = {name: numpy.array(getattr(self, name), "i8") for name in COLUMNS}
+        for name in ("chips", "fired", "over", "sealed", "prior"):
+            if getattr(report, name) is not None:
+                arrays[name] = numpy.array(getattr(report, name), "i8")
+        if report.graph is not None:
+            said["graph"], columns = archive.graph_parts(report.graph)
+            arrays |= columns
+        archive.save(file, "Drops", said, arrays)
+
+    @classmethod
+    def load(cls, file: FileName) -> Drops:
+        """The drops of a file that `save` wrote. Another file is a ValueError that says what it is."""
+        return archive.load(file, "Drops", _drops_of)
+
+
+def _drops_of(said: dict[str, Any], arrays: dict[str, Any]) -> Drops:
+    """The drops of what `Drops.save` wrote."""
+    size, extent, lost = (archive.whole(arrays[name]) for name in COLUMNS)
+    if {len(extent), len(lost)} != {len(size)}:
+        raise ValueError("the columns differ in their lengths")
+    graph = None if said["graph"] is None else archive.graph_of(said["graph"], arrays)
+    chips, fired, over, sealed = (
+        tuple(archive.whole(arrays[name]).tolist()) for name in ("chips", "fired", "over", "sealed")
+    )
+    prior = tuple(archive.whole(arrays["prior"]).tolist()) if "prior" in arrays else None
+    return Drops(size, extent, lost, Report(chips, fired, over, sealed, prior, graph))
 
 
 def names_of(vertices: Any, what: str) -> Iterable[Any]:

@@ -2,6 +2,9 @@
 
 from __future__ import annotations
 
+import base64
+import html
+import io
 import itertools
 import math
 import operator
@@ -164,24 +167,50 @@ def plot_sizes(
     pyplot = import_optional("matplotlib.pyplot", "a plot is one of Matplotlib")
     told = _counts(sizes)
     law = power_law(told, least, most)
+    axes = pyplot.subplots()[1] if axes is None else axes
+    _draw_sizes(axes, told)
+    line = [
+        law.used * chance for chance in _Range(law.least, law.most, law.least).ends(law.exponent)
+    ]
+    axes.loglog([law.least, law.most], line, label=f"exponent {law.exponent:.3f} ± {law.error:.3f}")
+    axes.legend()
+    return axes
+
+
+def _draw_sizes(axes: Any, told: Mapping[int, int]) -> None:
+    """Draws the points of `plot_sizes` into axes."""
     bits: Counter[int] = Counter()
     for size, count in told.items():
         bits[size.bit_length()] += count if size > 0 else 0
     ends = [(2 ** (it - 1), 2**it - 1) for it in sorted(bits) if bits[it]]
-    axes = pyplot.subplots()[1] if axes is None else axes
     axes.loglog(
         [math.sqrt(low * high) for low, high in ends],
         [bits[it.bit_length()] / it for it, _ in ends],
         "o",
     )
-    line = [
-        law.used * chance for chance in _Range(law.least, law.most, law.least).ends(law.exponent)
-    ]
-    axes.loglog([law.least, law.most], line, label=f"exponent {law.exponent:.3f} ± {law.error:.3f}")
     axes.set_xlabel("size")
     axes.set_ylabel("how many, for each size")
-    axes.legend()
-    return axes
+
+
+def sizes_figure(sizes: Any, title: str) -> str | None:
+    """What a notebook shows of an array of sizes, as HTML: the points of `plot_sizes`. None without Matplotlib, and if
+    no size is above 0."""
+    figures = import_optional("matplotlib.figure")
+    if figures is None:
+        return None
+    numpy = import_optional("numpy", "Matplotlib takes NumPy")
+    found = numpy.unique(numpy.asarray(sizes), return_counts=True)
+    told = dict(zip(*(it.tolist() for it in found)))
+    if max(told, default=0) < 1:
+        return None
+    figure = figures.Figure(figsize=(5, 3.5), tight_layout=True)
+    _draw_sizes(figure.subplots(), told)
+    picture = io.BytesIO()
+    figure.savefig(picture, format="png")
+    data = base64.b64encode(picture.getvalue()).decode()
+    said = html.escape(title)
+    drawn = f'<img alt="how many there are of each size" src="data:image/png;base64,{data}">'
+    return f"<figure>{drawn}<figcaption>{said}</figcaption></figure>"
 
 
 def _counts(sizes: Any) -> Counter[int]:

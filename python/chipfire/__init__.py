@@ -37,6 +37,7 @@ The usual words of sandpiles are found under these names:
     avalanche                  avalanche(graph, chips, vertex), avalanches(graph, chips, vertices); by the million:
                                drops(graph, chips, vertices), with random_drops(graph, count, seed)
     many series of drops       chains(graph, n, drops, seed), from random_recurrent(graph, seed); power_law(sizes)
+    tables, files of results   Drops.to_dataframe(), Drops.save(file), Drops.load(file), and those of Chains
 
 `image` and `show` draw reports and configurations, `frames` draws plays. `page` makes a page on which one watches a run
 of the distributed machine, `wrong_page` one on which a wrong detector fails, `choice_page` one on which one picks each

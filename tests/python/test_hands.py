@@ -1,4 +1,4 @@
-"""What hands expect that come from SageMath, NumPy, SciPy and pandas: spellings, seeds, arrays, tables and files.
+"""What users of SageMath, NumPy, SciPy and pandas expect: spellings, seeds, sizes, arrays, tables, files and types.
 
 Values come from SageMath's answers, from the slow words of `model`, and from calculations by hand.
 """
@@ -331,6 +331,7 @@ def played_drops():
         for vertices in (list(chipfire.random_drops(graph, 60, 1)), []):
             found = chipfire.drops(graph, graph.max_stable(), vertices)
             yield from [found, dataclasses.replace(found, report=dataclasses.replace(found.report, graph=None))]
+    yield chipfire.drops(chipfire.grid(4, 3), 3, [1, 2, 1], amounts=[4, 0, 2**12])
     report = chipfire.Report((1, 0, 3), (4, 2, 0), over=(0,), sealed=(1,), prior=(2**40, 0, 0))
     yield dataclasses.replace(chipfire.drops(chipfire.cycle(3), 0, [1, 2]), report=report)
 

@@ -66,11 +66,10 @@ def load(file: FileName, kind: str, make: Callable[[dict[str, Any], dict[str, An
             raise ValueError(wrong)
         given.seek(0)
         try:
-            parts = numpy.load(given, allow_pickle=False)
-            require_memory(
-                sum(it.file_size for it in parts.zip.infolist()), f"the arrays of {name}"
-            )
-            arrays = {it: parts[it] for it in parts.files}
+            with numpy.load(given, allow_pickle=False) as parts:
+                size = sum(it.file_size for it in parts.zip.infolist())
+                require_memory(size, f"the arrays of {name}")
+                arrays = {it: parts[it] for it in parts.files}
             header = json.loads(arrays.pop(_HEADER).tobytes())
             found = (header.pop("chipfire"), header.pop("version"))
         except (MemoryError, OSError):

@@ -82,8 +82,9 @@ class Chains:
         return sizes_figure(self.size, f"Chains: {self._title()}")
 
     def to_dataframe(self) -> Any:
-        """The columns as a DataFrame of pandas, with a row for each drop that was made, whose index has the numbers of
-        its chain and of the drop there."""
+        """The columns `size`, `extent` and `lost` as a DataFrame of pandas, of 64 bits, with a row for each drop that was
+        made. Its index has the numbers of the `chain` and of the `drop` there, from 0 on. Without pandas that is an
+        ImportError."""
         pandas = import_optional("pandas", "a table is one of pandas")
         numpy = import_optional("numpy", "a table of pandas takes NumPy")
         columns = {name: numpy.asarray(getattr(self, name), "i8") for name in COLUMNS}
@@ -93,9 +94,7 @@ class Chains:
         return pandas.DataFrame({name: it[is_made] for name, it in columns.items()}, index)
 
     def save(self, file: FileName) -> None:
-        """Writes all of it to a file of arrays (`.npz`) of NumPy, which `Chains.load` reads. A file that is there is
-        replaced when the new one is whole. Names of vertices are numbers, texts, bytes, None, and tuples of them.
-        """
+        """Writes all of it to a file of arrays (`.npz`) of NumPy, which `Chains.load` reads, as `Drops.save` does."""
         numpy = import_optional("numpy", "a file of results is one of NumPy")
         said = {"seeds": self.seeds, "seed": archive.plain(self.seed, "the seed"), "names": None}
         arrays = {name: numpy.array(getattr(self, name), "i8") for name in (*COLUMNS, *_OTHERS)}
@@ -110,7 +109,7 @@ class Chains:
 
     @classmethod
     def load(cls, file: FileName) -> Chains:
-        """The chains of a file that `save` wrote. Another file is a ValueError that says what it is."""
+        """The chains of a file that `save` wrote; others are refused as by `Drops.load`."""
         return archive.load(file, "Chains", _chains_of)
 
 

@@ -79,14 +79,16 @@ class Drops:
         return dict(sorted(Counter(getattr(self, of).tolist()).items()))
 
     def to_dataframe(self) -> Any:
-        """The columns as a DataFrame of pandas, with a row for each drop, whose number is the index."""
+        """The columns `size`, `extent` and `lost` as a DataFrame of pandas, of 64 bits. Its index `drop` is the number of
+        each, from 0 on. Without pandas that is an ImportError."""
         pandas = import_optional("pandas", "a table is one of pandas")
         columns = {name: getattr(self, name) for name in COLUMNS}
         return pandas.DataFrame(columns, pandas.RangeIndex(len(self), name="drop"), dtype="int64")
 
     def save(self, file: FileName) -> None:
-        """Writes all of it to a file of arrays (`.npz`) of NumPy, which `Drops.load` reads. A file that is there is
-        replaced when the new one is whole. Names of vertices are numbers, texts, bytes, None, and tuples of them.
+        """Writes all of it, the graph too, to a file of arrays (`.npz`) of NumPy, which `Drops.load` reads. A file that is
+        there is replaced when the new one is whole, and stays if an error comes before. Names of vertices are numbers,
+        texts, bytes, None, and tuples of them; others are a TypeError. Without NumPy that is an ImportError.
         """
         numpy = import_optional("numpy", "a file of results is one of NumPy")
         report = self.report
@@ -102,7 +104,8 @@ class Drops:
 
     @classmethod
     def load(cls, file: FileName) -> Drops:
-        """The drops of a file that `save` wrote. Another file is a ValueError that says what it is."""
+        """The drops of a file that `save` wrote. One of another kind or of a later version, and what is no such file, is
+        a ValueError that says so. Nothing that stands in a file is run."""
         return archive.load(file, "Drops", _drops_of)
 
 

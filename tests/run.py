@@ -64,17 +64,25 @@ LONGEST = (
     "hostile system",
     "hostile memory",
     "docs pages",
+    "python test_browser",
+    "python test_divisors",
+    "library test_games",
+    "python test_modules",
+    "python test_schedules",
+    "python test_loops",
+    "python test_pages",
+    "python test_logs",
+    "python test_computations",
+    "python test_configurations",
+    "python test_package",
+    "cli progress",
     "cli crews",
     "cli drops",
     "cli guesses",
     "cli verdicts",
     "cli logs",
-    "cli progress",
     "cli feeds",
     "cli closing",
-    "python test_schedules",
-    "python test_computations",
-    "python test_package",
 )
 #: The listed tests of each group by their names. (Processes that are forked have them too.)
 TESTS = {}
@@ -235,14 +243,25 @@ def names_of_classes(group, choice, program):
     return [it for it in names if choice.has(group, it)]
 
 
-def jobs_of_classes(group, choice, program):
-    """Yields the jobs of a group of unittest classes, a module each but for those that share what they make."""
+def dealt(group, modules, lanes):
+    """Deals modules out: a long one is alone, those that share what they make are together, and the others are in as many
+    parts as there are processes, since each part starts a Python."""
+    if group in SHARING:
+        return [modules]
+    alone = [it for it in modules if f"{group} {it}" in LONGEST]
+    others = [it for it in modules if it not in alone]
+    return [*([it] for it in alone), *(others[at::lanes] for at in range(min(lanes, len(others))))]
+
+
+def jobs_of_classes(group, choice, program, lanes):
+    """Yields the jobs of a group of unittest classes."""
     names = None if choice.is_whole else names_of_classes(group, choice, program)
     for way, python, modules in roads_of(group):
-        for of_set in [" ".join(modules)] if group in SHARING else modules:
-            its = names and [it for it in names if it.partition("::")[0] in of_set.split()]
-            if names is None or its:
-                yield Job(group, of_set, its, way, python)
+        if names is not None:
+            modules = [it for it in modules if any(name.startswith(f"{it}::") for name in names)]
+        for part in dealt(group, modules, lanes):
+            its = names and [it for it in names if it.partition("::")[0] in part]
+            yield Job(group, " ".join(part), its, way, python)
 
 
 def jobs_of(choice, program, lanes):
@@ -252,7 +271,7 @@ def jobs_of(choice, program, lanes):
         if group in LISTS:
             jobs += jobs_of_list(group, choice, lanes)
         else:
-            jobs += jobs_of_classes(group, choice, program)
+            jobs += jobs_of_classes(group, choice, program, lanes)
     return sorted(jobs, key=Job.place)
 
 

@@ -306,7 +306,9 @@ def run_all(jobs, program, lanes):
         with concurrent.futures.ProcessPoolExecutor(lanes, fork, use_room, (room,)) as pool:
             begun = {pool.submit(made, it, program): it for it in jobs}
             for future in concurrent.futures.as_completed(begun):
-                results.append((begun[future], future.result()))
+                its, error = begun[future], future.exception()
+                lost = {its.of_set: (job.FAILED, repr(error))}
+                results.append((its, Made("no reader", lost, 0) if error else future.result()))
                 show(*results[-1])
     return results
 

@@ -176,11 +176,11 @@ static uint64_t judged(const struct chipfire_tally *outs, size_t length, uint64_
     return refusal;
 }
 
-/* Begins a log in a folder, of the run with this number. */
+/* Begins a log in a folder, of the run with this number: it takes the place of the one that was so many runs before. */
 static bool begin_log(const char *folder, long run)
 {
     char path[4096];
-    if (snprintf(path, sizeof path, "%s/%ld.csv", folder, run) >= (int)sizeof path) return false;
+    if (snprintf(path, sizeof path, "%s/%ld.csv", folder, run % LOGS) >= (int)sizeof path) return false;
     rows = fopen(path, "w");
     return rows != NULL && fputs("process,kind,channel\n", rows) >= 0;
 }
@@ -197,9 +197,9 @@ int main(int count, char **words)
         is_over = false;
         ways = 0;
         tasks = 0;
-        if (run < LOGS && !begin_log(words[3], run)) return 1;
+        if (!begin_log(words[3], run)) return 1;
         if (example() != 0) return 1;
-        if (rows != NULL && fclose(rows) != 0) return 1;
+        if (fclose(rows) != 0) return 1;
         rows = NULL;
         wrong += early + missed == before && ways != WAYS;
     }

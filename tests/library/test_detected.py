@@ -3,8 +3,8 @@
 When they end is compared with the truth, a count of open tasks or messages under a lock of its own. A run ends *early*
 if the root says that it is over while some are open, and is *missed* if it does not say so 10 seconds after the last
 one. There are 300 runs, and a wrong use is run until one ends early. With CHIPFIRE_SOAK there are so many runs of each.
-The first 100 runs of each leave logs: `chipfire judge` calls no claim of the right ones early, and of a wrong use at
-least those that were.
+The last 100 runs of each leave logs: `chipfire judge` calls no claim of the right ones early, and of a wrong use at
+least that of the run that ended early.
 """
 import collections
 import math
@@ -166,7 +166,7 @@ class Judge:
 
 
 def knights(edits, runs, most_early, folder):
-    """Runs knight.py after edits on 3 by 3 squares so many times, or fewer if so many have ended early. The first leave
+    """Runs knight.py after edits on 3 by 3 squares so many times, or fewer if so many have ended early. The last leave
     logs in a folder."""
     judge, example = Judge(), types.ModuleType("knight")
     example.__dict__.update({it: getattr(judge, it) for it in EDITED_IN})
@@ -174,9 +174,8 @@ def knights(edits, runs, most_early, folder):
     library, right, run, wrong = example.load(SHARED), moves_of_a_knight(3), 0, 0
     while run < runs and judge.early < most_early:
         found, is_timely = judge.run(example.Search(library, 3))
-        if run < LOGS:
-            with open(f"{folder}/{run}.csv", "w", encoding="ascii") as file:
-                file.writelines(["process,kind,channel\n", *judge.rows])
+        with open(f"{folder}/{run % LOGS}.csv", "w", encoding="ascii") as file:
+            file.writelines(["process,kind,channel\n", *judge.rows])
         run, wrong = run + 1, wrong + (is_timely and found != right)
     return Outcome(run, judge.early, judge.missed, wrong)
 

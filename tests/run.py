@@ -222,6 +222,7 @@ def keep_failed(results):
     ]
     failed = {(group, name) for group, name, word in its if word == job.FAILED}
     kept = (last_failed() - {(group, name) for group, name, _ in its}) | failed
+    os.makedirs(os.path.dirname(LAST), exist_ok=True)
     with open(LAST, "w", encoding="utf-8") as file:
         file.writelines(f"{group} {name}\n" for group, name in sorted(kept))
 

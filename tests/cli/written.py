@@ -130,13 +130,18 @@ def stopped(room, name, left, begun):
     `left` is what must be in the folder after that, and `begun` is what comes on its output before the long drop."""
     found = []
     for number in (signal.SIGINT, signal.SIGTERM, signal.SIGKILL):
-        process = room.start([*ENDLESS, name], stderr=subprocess.DEVNULL)
+        process = room.start([*ENDLESS, name], stderr=subprocess.DEVNULL, preexec_fn=hear_signals)
         with process:
             came = process.stdout.read(len(begun))
             process.send_signal(number)
             process.stdout.read()
         found += compared((came, begun), (process.returncode, -number), (room.more(), left))
     return found
+
+
+def hear_signals():
+    """Has a signal end the process, also where what starts the tests has it ignored: a shell does, of what it does beside."""
+    signal.signal(signal.SIGINT, signal.SIG_DFL)
 
 
 def interrupted(room):

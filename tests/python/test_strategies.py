@@ -38,13 +38,15 @@ class Drawn(unittest.TestCase):
         self.assertEqual(failures_of(test), [])
         self.assertEqual(told, [random.Random(number).random() for number in range(5)])
 
-    def test_each_number_that_fails_is_shown(self):
-        with mock.patch.object(strategies, "hypothesis", None):
-            test = drawn(lambda draw: draw.randrange(4), 40)(
-                lambda self, value: self.assertEqual(value, 0)
-            )
-        wanted = [number for number in range(40) if random.Random(number).randrange(4)]
-        self.assertEqual(len(failures_of(test)), len(wanted))
+    def test_what_fails_for_some_number_fails(self):
+        some = [random.Random(number).randrange(4) for number in range(40)]
+        self.assertEqual(set(some), {0, 1, 2, 3})
+        for bound, is_failing in ((3, True), (4, False)):
+            with mock.patch.object(strategies, "hypothesis", None):
+                test = drawn(lambda draw: draw.randrange(4), 40)(
+                    lambda self, value: self.assertLess(value, bound)
+                )
+            self.assertEqual(bool(failures_of(test)), is_failing)
 
     def test_graphs_are_shown_with_their_edges(self):
         graph = chipfire.Graph(3, 2, [(0, 1), (1, 2, 5)])

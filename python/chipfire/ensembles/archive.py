@@ -24,10 +24,15 @@ _HEADER = "header"
 _MAGIC = b"PK\x03\x04"
 
 
+def numpy_of_files() -> Any:
+    """NumPy, which these files take."""
+    return import_optional("numpy", "a file of results is one of NumPy")
+
+
 def save(file: FileName, kind: str, said: Mapping[str, Any], arrays: Mapping[str, Any]) -> None:
     """Writes a result of this kind: arrays of numbers, and what else is said of it, as JSON has it. A file that is
     there already is replaced when the new one is whole, and stays as it was if that fails."""
-    numpy = import_optional("numpy", "a file of results is one of NumPy")
+    numpy = numpy_of_files()
     header = {**said, "chipfire": kind, "version": VERSION}
     text = numpy.frombuffer(json.dumps(header, sort_keys=True).encode("ascii"), "u1")
     _write_whole(file, lambda out: numpy.savez(out, **{_HEADER: text}, **arrays))
@@ -58,7 +63,7 @@ def _write_whole(file: FileName, write: Callable[[BinaryIO], object]) -> None:
 def load(file: FileName, kind: str, make: Callable[[dict[str, Any], dict[str, Any]], T]) -> T:
     """What is made of the header and the arrays of a file of this kind. Another kind, a later version, and what is no
     such file are refused."""
-    numpy = import_optional("numpy", "a file of results is one of NumPy")
+    numpy = numpy_of_files()
     name = os.fspath(file)
     wrong = f"{name} is no file of chipfire's {kind}"
     with open(file, "rb") as given:
@@ -122,7 +127,7 @@ def plain_names(names: Iterable[Any]) -> list[Any]:
 
 def graph_parts(graph: Graph) -> tuple[dict[str, Any], dict[str, Any]]:
     """A graph as what is said of it, and arrays."""
-    numpy = import_optional("numpy", "a file of results is one of NumPy")
+    numpy = numpy_of_files()
     back = graph.from_sink
     said = {
         "vertices": graph.vertices,

@@ -95,7 +95,7 @@ class Chains:
 
     def save(self, file: FileName) -> None:
         """Writes all of it to a file of arrays (`.npz`) of NumPy, which `Chains.load` reads, as `Drops.save` does."""
-        numpy = import_optional("numpy", "a file of results is one of NumPy")
+        numpy = archive.numpy_of_files()
         said = {"seeds": self.seeds, "seed": archive.plain(self.seed, "the seed"), "names": None}
         arrays = {name: numpy.array(getattr(self, name), "i8") for name in (*COLUMNS, *_OTHERS)}
         if self.fired is not None:
@@ -115,7 +115,7 @@ class Chains:
 
 def _chains_of(said: dict[str, Any], arrays: dict[str, Any]) -> Chains:
     """The chains of what `Chains.save` wrote."""
-    numpy = import_optional("numpy", "a file of results is one of NumPy")
+    numpy = archive.numpy_of_files()
     seeds = tuple(said["seeds"])
     size, extent, lost, chips = (archive.whole(arrays[name], 2) for name in (*COLUMNS, "chips"))
     made = archive.whole(arrays["made"])

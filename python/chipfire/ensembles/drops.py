@@ -74,7 +74,7 @@ class Drops:
 
     def histogram(self, of: str = "size") -> dict[int, int]:
         """How many drops have each size that occurs, ascending; or each `extent`, or `lost`."""
-        if of not in ("size", "extent", "lost"):
+        if of not in COLUMNS:
             raise ValueError(f"a drop has a 'size', an 'extent' and 'lost', and no {of!r}")
         return dict(sorted(Counter(getattr(self, of).tolist()).items()))
 
@@ -90,7 +90,7 @@ class Drops:
         there is replaced when the new one is whole, and stays if an error comes before. Names of vertices are numbers,
         texts, bytes, None, and tuples of them; others are a TypeError. Without NumPy that is an ImportError.
         """
-        numpy = import_optional("numpy", "a file of results is one of NumPy")
+        numpy = archive.numpy_of_files()
         report = self.report
         said: dict[str, Any] = {"graph": None}
         arrays = {name: numpy.array(getattr(self, name), "i8") for name in COLUMNS}

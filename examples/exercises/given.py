@@ -31,6 +31,9 @@ class TwoCounters(Core):
         if not self.is_closed() and self.is_passive(self.next):
             yield "visit", self.next, 0
 
+    def tells(self, kind, at):
+        return [(at, at + 1)]
+
     def visit(self, at):
         """The wave comes to a vertex, and from the last one to the root."""
         self.sums = (self.sums[0] + self.sent[at], self.sums[1] + self.taken[at])

@@ -8,9 +8,9 @@
     python -m chipfire judge GRAPH CHIPS LOG
     python -m chipfire judge LOG
 
-DETECTOR is a name or FILE.py:CLASS. `explore` ends with status 0 if the detector never closes the root too early and
-can always close it, 2 if it can close it too early, 3 if it can miss the end, and 4 if there are too many states to
-tell. `judge` ends with 0 if all claims of the log are true, 2 if one is false, and 3 if the log misses the end; with
+DETECTOR is a name or FILE.py:CLASS. `explore` ends with status 0 if the detector is right in all schedules of this game,
+2 if it can close the root too early, 3 if it can miss the end, 4 if there are more states than --most, and 5 if it looks
+at others; with 2, 3 and 5 a schedule shows it. `judge` ends with 0 if all claims of the log are true, 2 if one is false, and 3 if the log misses the end; with
 LOG alone it is the program's `judge`. An error is 1.
 """
 
@@ -25,7 +25,7 @@ from typing import Any, NoReturn
 
 from chipfire.lab.choosing import choice_page_text
 from chipfire.lab.detectors import DETECTORS, known_detector
-from chipfire.lab.explorer import explore
+from chipfire.lab.explorer import DetectorError, explore
 from chipfire.backend.finding import environment, find_program
 from chipfire.lab.judging import judge
 from chipfire.lab.layout import Point
@@ -70,6 +70,8 @@ def _setting(files: list[str], asked: argparse.Namespace, **options: Any) -> Set
 def _detector(name: str) -> Detector:
     """A detector by its name, or the class in FILE.py:CLASS."""
     file, colon, wanted = name.rpartition(":")
+    if name.endswith(".py"):
+        raise ValueError(f"{name} is a file, and a detector is a class in it: {name}:CLASS")
     if not colon:
         known_detector(name)
         return name
@@ -101,16 +103,16 @@ def _explore(asked: argparse.Namespace) -> tuple[str, int]:
         if asked.game
         else Setting(known.graph, known.chips, **options)
     )
-    found = explore(setting, detector, most=asked.most, feeds=asked.feed, seals=asked.seal)
-    missed = found.lost if found.lost is not None else found.stuck
-    shown = missed if found.schedule is None else found.schedule
-    rows = "" if shown is None else rows_text(SCHEDULE_HEADER, shown)
-    text = f"{found}\n{rows}"
-    if found.schedule is not None:
-        return text, 2
-    if missed is not None:
-        return text, 3
-    return text, 0 if found.is_whole else 4
+    found = explore(
+        setting,
+        detector,
+        most=asked.most,
+        whole_sends=asked.whole_sends,
+        feeds=asked.feed,
+        seals=asked.seal,
+    )
+    rows = "" if found.shown is None else rows_text(SCHEDULE_HEADER, found.shown)
+    return f"{found}\n{rows}", found.status
 
 
 def _judge(asked: argparse.Namespace) -> tuple[str, int]:
@@ -183,13 +185,15 @@ def _add_choose(commands: Any) -> None:
 
 def _add_explore(commands: Any) -> None:
     says = (
-        "tries all schedules of a small game: status 0 right, 2 too early, 3 can miss the end, "
-        "4 too many states"
+        "tries all schedules of a small game: status 0 right in this game, 2 too early, "
+        "3 can miss the end, 4 too many states, 5 looks at others"
     )
     command = _add(commands, "explore", says, make=_explore)
     _add_detector(command)
     says = "how many states are looked at"
     command.add_argument("--most", type=int, default=100_000, metavar="N", help=says)
+    says = "a send is one step, and not clear, claim and put: fewer states, and less is found"
+    command.add_argument("--whole-sends", action="store_true", help=says)
     _add_limits(command, MAX_LIMIT, 1)
     says = "the root feeds so many chips on its edge, each feed after the others"
     command.add_argument(
@@ -255,6 +259,8 @@ def main() -> int:
         sys.stdout.buffer.write(text.encode())
     except (Disagreement, OSError, ValueError) as error:
         print(f"chipfire: {error}", file=sys.stderr)
+        if isinstance(error, DetectorError) and error.schedule:
+            sys.stdout.write(rows_text(SCHEDULE_HEADER, error.schedule))
         return 1
     except SystemExit as error:
         print(f"chipfire: the detector ended the command with exit({error})", file=sys.stderr)

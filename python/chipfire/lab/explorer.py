@@ -3,35 +3,67 @@
 from __future__ import annotations
 
 import contextlib
+import os
 import random
+import traceback
 from array import array
-from collections.abc import Iterable, Iterator, Sequence
-from dataclasses import dataclass
+from collections.abc import Callable, Iterable, Iterator, Sequence
+from dataclasses import dataclass, replace
 from typing import Any
 
 from chipfire.graphs.graph import Graph
+from chipfire.lab.endings import Moves
+from chipfire.lab.locality import unknown
 from chipfire.lab.machine import Event, Schedule, Setting
-from chipfire.lab.model import Core
-from chipfire.lab.schedules import Detector, detector_name, Game, is_early, opened, played
+from chipfire.lab.model import Core, TooManyEvents, TooManyFirings
+from chipfire.lab.schedules import (
+    Detector,
+    detector_name,
+    Game,
+    is_early,
+    model_log,
+    NameTaken,
+    opened,
+    played,
+)
+from chipfire.lab.shadow import GAME_EVENTS, Shadow
 from chipfire.lab.states import frozen, States
 from chipfire.utils import as_int, with_unit
 
-#: How many random schedules of each search are played once more.
+#: How many random schedules of each search are played once more, and of how many the logs are judged.
 REPLAYS = 200
+LOGS = 1000
+#: The statuses with which the command `explore` ends.
+RIGHT, EARLY, MISSED, UNDECIDED, NOT_LOCAL = 0, 2, 3, 4, 5
 Step = tuple[Event, ...]
+
+
+class DetectorError(ValueError):
+    """A detector cannot be tried: why, and the schedule after which that shows."""
+
+    def __init__(self, reason: str, schedule: Schedule) -> None:
+        super().__init__(reason)
+        self.schedule = schedule
 
 
 @dataclass(frozen=True)
 class Explored:
     """What all schedules of a game come to.
 
-    states     how many states the game has, or had until a schedule was found, or `most`
-    schedule   a shortest schedule after which the root is closed and something is left; None if none was found
-    left       what is left then
-    stuck      a shortest schedule after which the root is open and nothing can happen; None if none was found
-    lost       a shortest schedule after which the root is open and stays so, be it that nothing can happen or that
-               events go on for ever; None if there is none, or if that was not tried
-    is_whole   whether these are all states; else a schedule was found, or there are more than `most`, and no `lost`
+    states       how many states the game has, or had until a schedule was found, or `most`
+    schedule     a shortest schedule after which the root is closed and something is left; None if none was found
+    left         what is left then
+    stuck        a shortest schedule after which the root is open and nothing can happen; None if none was found
+    lost         a shortest schedule after which the root is open and stays so, be it that nothing can happen or that
+                 events go on for ever; None if there is none, or if that was not tried
+    is_whole     whether these are all states; else a schedule was found, or there are more than `most`, and no `lost`
+    endless      a schedule whose last events, `round` many, can go round for ever, none forgotten that is possible, while
+                 the root is open; None if there is none, or if that was not tried
+    round        how many these are
+    not_local    a schedule after which the root is closed, and no message told it of what happened; None if none was
+                 found among the shortest to each closed root and 1,000 random ones, or if that was not tried
+    unknown      what no message told it then
+    whole_sends  whether a send was one step
     """
 
     states: int
@@ -40,21 +72,60 @@ class Explored:
     stuck: Schedule | None = None
     lost: Schedule | None = None
     is_whole: bool = True
+    endless: Schedule | None = None
+    round: int = 0
+    not_local: Schedule | None = None
+    unknown: str = ""
+    whole_sends: bool = False
+
+    @property
+    def status(self) -> int:
+        """The status of the command: 0 right, 2 too early, 3 can miss the end, 4 too many states, 5 not local."""
+        if self.schedule is not None:
+            return EARLY
+        if self.lost is not None or self.endless is not None or self.stuck is not None:
+            return MISSED
+        if self.not_local is not None:
+            return NOT_LOCAL
+        return RIGHT if self.is_whole else UNDECIDED
+
+    @property
+    def shown(self) -> Schedule | None:
+        """The schedule that shows what is wrong. Where the root can never be closed, it is one to the end of a run."""
+        if self.schedule is not None:
+            return self.schedule
+        missed = (self.lost or None, self.stuck, self.endless, self.not_local)
+        return next((found for found in missed if found is not None), None)
 
     def __str__(self) -> str:
-        among = f"among {with_unit(self.states, 'state')}"
-        if self.schedule is not None:
-            after = with_unit(len(self.schedule), "event")
-            return f"too early: after {after} the root is closed, and left are: {'; '.join(self.left)} ({among})"
-        if self.stuck is not None and not self.is_whole:
-            after = with_unit(len(self.stuck), "event")
-            return f"stuck: after {after} the root is open and nothing can happen ({among}; the others are not tried)"
-        if not self.is_whole:
+        sends = ", with each send as one step" if self.whole_sends else ""
+        among = f"among {with_unit(self.states, 'state')}{sends}"
+        status = self.status
+        after = f"after {with_unit(len(self.shown or ()), 'event')}"
+        if status == UNDECIDED:
             return f"not too early {among}; the others are not tried, nor whether the root can always be closed"
-        if self.lost is not None:
-            after = with_unit(len(self.lost), "event")
-            return f"never too early, but after {after} the root can never be closed ({among})"
-        return f"never too early, and the root can always be closed ({among})"
+        if status == EARLY:
+            return f"too early: {after} the root is closed, and left are: {'; '.join(self.left)} ({among})"
+        if status == MISSED:
+            return f"{self._missed(after)} ({among}{'' if self.is_whole else '; the others are not tried'})"
+        if status == NOT_LOCAL:
+            return f"not local: {after} the root is closed, and no message told it that {self.unknown} ({among})"
+        right = "never too early in any schedule of this game, and the root can always be closed"
+        return f"{right}; no look at others was found ({among})"
+
+    def _missed(self, after: str) -> str:
+        """How the end is missed."""
+        if not self.is_whole:
+            return f"stuck: {after} the root is open and nothing can happen"
+        if self.lost:
+            return f"never too early, but {after} the root can never be closed"
+        rounds = f"it is open, and their end, a round of {with_unit(self.round, 'event')}, can go on for ever"
+        if self.lost is None:
+            return (
+                f"never too early, but only a favourable schedule closes the root: {after} {rounds}"
+            )
+        goes = rounds if self.stuck is None else "nothing can happen, and it is open"
+        return f"never too early, but the root can never be closed: {after} {goes}"
 
 
 def explore(
@@ -62,26 +133,31 @@ def explore(
     detector: Detector = "right",
     *,
     most: int = 100_000,
-    whole_sends: bool = True,
+    whole_sends: bool = False,
     feeds: Iterable[Sequence[int]] = (),
     seals: Iterable[int] = (),
 ) -> Explored:
     """Goes through all schedules of a game, breadth first, until the root is closed and something is left. The game is
     a `Setting` of chip-firing or a `Computation`, the detector a name or a class; `chipfire.detectors` has both.
 
-    A firing of several at a time is one step, and so is a send (clear, claim, put), unless `whole_sends` is False.
+    A firing of several at a time is one step. A send is three: clear, claim and put, as on threads. With `whole_sends`
+    it is one, so that there are fewer states, and a detector that is wrong between them is not found.
 
     most   how many states are looked at, from 1 on; if there are more, the result says what was found among these
     feeds  what the root feeds, in this order: (root edge, chips), in a setting that is `fed`. It may note the end at
            any time, and feeds no more after that
     seals  edges of the graph that may be sealed, each at any time
 
-    Not tried are other chips, feeds, seals, limits and rings, and messages that are lost, come twice, or overtake.
+    Not tried are other chips, feeds, seals, limits and rings, and messages that are lost, come twice, or overtake. That
+    each part knows what messages told it, and no more, is looked for in the logs of the shortest schedule to each closed
+    root and of 1,000 random ones: a look at others that never helps to close the root is not found.
 
     The state is all that stands in attributes of the game, its edges and its vertices, but for those that the class of
     the detector names in `not_state`. An attribute that cannot be compared is a ValueError. So is a detector that does
     not do the same again on a game of its own, because its state stands elsewhere or it asks chance or the clock: the
-    schedules found are played so, and 200 random ones."""
+    schedules found are played so, and 200 random ones. So are an exception in a class, a detector that changes the game
+    or opens a closed root, and an event of its own of which `tells` does not say who tells whom. The error's `schedule`
+    leads there."""
     return _Search(setting, detector, most, whole_sends, feeds, seals).result()
 
 
@@ -99,21 +175,26 @@ class _Search:
     ) -> None:
         self.setting = setting
         self.detector = detector
-        self.whole_sends = whole_sends
+        self.name = detector_name(detector)
+        self.whole_sends = bool(whole_sends)
+        self.options: dict[str, Any] = {"whole_sends": self.whole_sends}
         self.most = as_int(most, "most", 1)
-        self.core: Core = opened(setting, detector)
+        self.chance = random.getstate()
+        self.core: Core = self._opened()
         self.shared = _shared(self.core, setting)
         self.feeds = self._taken_feeds(feeds)
         self.seals = self._taken_seals(seals)
         self.opening = sum(len(e.sent) for e in self.core.outs(-1))
         self.states = States(self.core)
+        self.shadow = Shadow(setting)
         start = self.states.noted()
-        #: The states in their order, their numbers, from which one and by which move the search came to each, and
-        #: which are closed.
+        #: The states in their order, their numbers, from which one and by which move the search came to each, which are
+        #: closed, and the state of the shadow beside each.
         self.order = [start]
         self.places = {start: 0}
         self.came = [(-1, -1)]
         self.closed = [False]
+        self.shadows = array("i", [0])
         #: The moves from each state and where they lead, one state after the other, and where those of each begin.
         self.moves = array("i")
         self.heads = array("i")
@@ -124,6 +205,15 @@ class _Search:
         self.steps: list[Step] = []
         self.places_of_steps: dict[tuple[str, int, int], int] = {}
         self.is_whole = True
+        #: Where the search is: a state, and the step that it takes from there, or -1.
+        self.trail = 0, -1
+
+    def _opened(self) -> Any:
+        """The game at its start; an exception in a class of others is told."""
+        if not (isinstance(self.detector, type) and issubclass(self.detector, Core)):
+            return opened(self.setting, self.detector)
+        with self._guarded(lambda: ()):
+            return opened(self.setting, self.detector)
 
     def _taken_feeds(self, feeds: Iterable[Sequence[int]]) -> list[tuple[int, int]]:
         """Feeds as the edges and the numbers of chips; what cannot be fed is refused."""
@@ -148,23 +238,65 @@ class _Search:
         return found
 
     def result(self) -> Explored:
-        """Searches, and plays what was found once more."""
-        early, stuck = self._searched()
-        self.known = [*self.numbers]
-        self._play_again()
-        is_whole = self.is_whole and early is None
-        ends = early, stuck, self._lost() if is_whole else None
-        schedule, stays, never = (None if at is None else self._way(at) for at in ends)
-        left: tuple[str, ...] = ()
+        """Searches, plays what was found once more, and judges what the root knew."""
+        with self._guarded(self._trail):
+            early, stuck = self._searched()
+            if early is None:
+                self._require_closed_stays()
+            self._play_again()
+        schedule = self._way_or_none(early)
         if schedule is not None:
             core = played(self.setting, self.detector, schedule)
             if not is_early(core):
-                raise self._other(len(schedule), "end")
+                raise self._other(schedule, "end")
             left = tuple(core.left())
-        for way in (stays, never):
+            return Explored(
+                len(self.order),
+                schedule,
+                left,
+                self._way_or_none(stuck),
+                is_whole=False,
+                **self.options,
+            )
+        found = self._endings(stuck)
+        if found.status in (RIGHT, UNDECIDED):
+            return replace(found, **self._knowledge())
+        return found
+
+    def _endings(self, stuck: int | None) -> Explored:
+        """Whether the root can always be closed, and is once nothing is forgotten."""
+        found = Explored(
+            len(self.order), stuck=self._way_or_none(stuck), is_whole=self.is_whole, **self.options
+        )
+        if self.is_whole:
+            moves = self._all_moves()
+            found = replace(found, lost=self._way_or_none(moves.lost()), **self._round(moves))
+        for way in (found.stuck, found.lost, found.endless):
             if way is not None and played(self.setting, self.detector, way).is_closed():
-                raise self._other(len(way), "end")
-        return Explored(len(self.order), schedule, left, stays, never, is_whole)
+                raise self._other(way, "end")
+        return found
+
+    def _round(self, moves: Moves) -> dict[str, Any]:
+        """A schedule with a round at its end that can go on for ever, and how many events that has."""
+        found = moves.round(self._is_due, self._is_outside)
+        if found is None:
+            return {}
+        at, steps = found
+        events = [event for step in steps for event in self.steps[step]]
+        return {"endless": Schedule([*self._way(at), *events]), "round": len(events)}
+
+    def _is_due(self, step: int) -> bool:
+        """Whether a step is the game's, which goes on as long as it can."""
+        return self.steps[step][0].kind in GAME_EVENTS and not self._is_outside(step)
+
+    def _is_outside(self, step: int) -> bool:
+        """Whether a step is a feed or a seal, which need never come."""
+        kinds = {event.kind for event in self.steps[step]}
+        return bool(kinds & {"feed", "seal"})
+
+    def _all_moves(self) -> Moves:
+        steps = array("i", [self.known[move][0] for move in self.moves])
+        return Moves(self.closed, self.firsts, steps, self.heads)
 
     def _searched(self) -> tuple[int | None, int | None]:
         """The first state in which the root is closed too early, and the first in which nothing can happen."""
@@ -172,6 +304,7 @@ class _Search:
         core = self.core
         states = self.states
         for at, state in enumerate(self.order):
+            self.trail = at, -1
             states.load(state)
             self.closed[at] = bool(core.is_closed())
             if self.closed[at] and core.left():
@@ -179,11 +312,12 @@ class _Search:
             if self.is_whole:
                 steps = self._steps(core)
                 if states.noted() != state:
-                    raise ValueError(
-                        f"{detector_name(self.detector)} changes {', '.join(states.changed(state))} when it is only "
-                        "asked what may happen: only an event may change its state, or it is named in not_state"
+                    changed = ", ".join(states.changed(state))
+                    raise self._error(
+                        f"it changes {changed} when it is only asked what may happen: only an event may change its "
+                        "state, or it is named in not_state"
                     )
-                if not steps and not self.closed[at] and stuck is None:
+                if not steps and not self.closed[at] and stuck is None and self.is_whole:
                     stuck = at
                 self._go_on(at, state, steps)
         return None, stuck
@@ -195,36 +329,81 @@ class _Search:
         step_of = self.core.step
         places = self.places
         for step in steps:
+            self.trail = at, step
             load(state)
             replies = tuple([step_of(*event) for event in self.steps[step]])
             reached = noted()
-            head = len(self.order)
+            beside = self._beside(at, step, replies)
             move = self.numbers.setdefault((step, replies), len(self.numbers))
+            if move == len(self.known):
+                self.known.append((step, replies))
             found = places.get(reached)
             if found is None:
-                if head == self.most:
+                found = len(self.order)
+                if found == self.most:
                     self.is_whole = False
                     return
-                found = places[reached] = head
+                self._require_same_game(beside)
+                places[reached] = found
                 self.order.append(reached)
                 self.came.append((at, move))
                 self.closed.append(False)
+                self.shadows.append(beside)
+            elif self.shadows[found] != beside:
+                self._require_same_game(beside)
             self.moves.append(move)
             self.heads.append(found)
-        self.firsts.append(len(self.moves))
+        if self.is_whole:
+            self.firsts.append(len(self.moves))
+
+    def _beside(self, at: int, step: int, replies: tuple[str, ...]) -> int:
+        """The state of the shadow after a step, whose replies have to be those of the game's events."""
+        if self.steps[step][0].kind not in GAME_EVENTS:
+            return self.shadows[at]
+        reached, wanted = self.shadow.after(self.shadows[at], self.steps[step])
+        for event, said, right in zip(self.steps[step], replies, wanted):
+            if said != right and event.kind != "end":  # (that settles too, which is the detector's)
+                raise self._error(
+                    f"{event.kind} {event.at} answers {said!r}, and in the game {right!r}"
+                )
+        return reached
+
+    def _require_same_game(self, beside: int) -> None:
+        """Refuses a detector that changed the game."""
+        if other := self.shadow.difference(beside, self.core):
+            raise self._error(
+                f"it changes {other}, which is the game's: of the model's it may write acked, settled and parent"
+            )
+
+    def _require_closed_stays(self) -> None:
+        """Refuses a root that is open again after it was closed."""
+        for at in range(len(self.firsts) - 1):
+            if self.closed[at]:
+                for place in range(self.firsts[at], self.firsts[at + 1]):
+                    if not self.closed[self.heads[place]]:
+                        self.trail = at, self.known[self.moves[place]][0]
+                        raise self._error(
+                            "the root is open again, and it was closed before this event"
+                        )
 
     def _steps(self, core: Core) -> list[int]:
         """The numbers of the steps that may happen next."""
-        events = core.enabled()
+        try:
+            events = core.enabled(self.most)
+        except TooManyEvents:
+            self.is_whole = False
+            return []
         if self.feeds or self.seals:
             events += self._outside(core)
         try:
             return [self.places_of_steps[event] for event in events]
-        except KeyError:  # (there are others than ever before)
+        except (KeyError, TypeError):  # (there are others than ever before)
             return [self._number(*event) for event in events]
 
     def _number(self, kind: str, at: int, count: int = 0) -> int:
         """The number of the step that begins with an event."""
+        if not callable(getattr(self.core, kind, None)):
+            raise ValueError(f"there is an event {kind!r}, and no method of that name")
         step: Step = (Event(kind, at, count),)
         if kind == "clear" and self.whole_sends:
             middle = Event("claim", at) if at < self.core.graph_edges else Event("feed", at, count)
@@ -245,21 +424,6 @@ class _Search:
                 yield "clear", at, count if self.whole_sends else 0
         yield from (("seal", at, 0) for at in self.seals if not core.edges[at].sealed)
 
-    def _lost(self) -> int | None:
-        """The first state from which no closed one can be reached."""
-        able = bytearray(self.closed)
-        firsts = self.firsts
-        heads = self.heads
-        waiting = [at for at in reversed(range(len(able))) if not able[at]]
-        before = -1
-        # (most moves lead to later states, so that a few rounds from the last one back do)
-        while waiting and len(waiting) != before:
-            before = len(waiting)
-            for at in waiting:
-                able[at] = any([able[head] for head in heads[firsts[at] : firsts[at + 1]]])
-            waiting = [at for at in waiting if not able[at]]
-        return waiting[-1] if waiting else None
-
     def _way(self, at: int) -> Schedule:
         """The events that led to a state."""
         steps = []
@@ -268,11 +432,37 @@ class _Search:
             steps.append(self.steps[self.known[move][0]])
         return Schedule(event for step in reversed(steps) for event in step)
 
-    def _other(self, count: int, what: str) -> ValueError:
-        return ValueError(
-            f"{detector_name(self.detector)} does not do the same again: after {with_unit(count, 'event')} it comes to "
-            f"another {what} than in the search. What it keeps has to stand in attributes of the game, and not in "
-            "those of a class or in globals; and it may not ask chance or the clock"
+    def _way_or_none(self, at: int | None) -> Schedule | None:
+        return None if at is None else self._way(at)
+
+    def _trail(self) -> Schedule:
+        """The events that led to where the search is."""
+        at, step = self.trail
+        return Schedule([*self._way(at), *(self.steps[step] if step >= 0 else ())])
+
+    @contextlib.contextmanager
+    def _guarded(self, events: Callable[[], Iterable[Event]]) -> Iterator[None]:
+        """Says of an exception in a class where it was raised, and after which events."""
+        try:
+            yield
+        except (DetectorError, NameTaken, TooManyFirings):
+            raise
+        except Exception as error:  # (whatever a class does)
+            raise self._error(_said(error), events()) from error
+
+    def _error(self, reason: str, events: Iterable[Event] | None = None) -> DetectorError:
+        """A refusal, with the events that led there: those to where the search is, if no others are given."""
+        schedule = Schedule(self._trail() if events is None else events)
+        after = f"after {with_unit(len(schedule), 'event')}" if schedule else "at the start"
+        return DetectorError(f"{self.name}, {after}: {reason}", schedule)
+
+    def _other(self, events: Iterable[Event], what: str) -> DetectorError:
+        schedule = Schedule(events)
+        return DetectorError(
+            f"{self.name} does not do the same again: after {with_unit(len(schedule), 'event')} it comes to another "
+            f"{what} than in the search. What it keeps has to stand in attributes of the game, and not in those of a "
+            "class or in globals; and it may not ask chance or the clock",
+            schedule,
         )
 
     def _play_again(self) -> None:
@@ -280,7 +470,13 @@ class _Search:
         self.states.check()
         for name, value in _shared(self.core, self.setting).items():
             if self.shared.get(name) != value:
-                raise ValueError(f"{name}, and changed: keep it in an attribute of the game")
+                raise DetectorError(
+                    f"{name}, and changed: keep it in an attribute of the game", Schedule()
+                )
+        if random.getstate() != self.chance:
+            raise DetectorError(
+                f"{self.name} does not do the same again: it asks chance", Schedule()
+            )
         draw = random.Random(0)
         most = 2 * len(self._way(len(self.order) - 1)) + 10
         for _ in range(REPLAYS):
@@ -289,9 +485,10 @@ class _Search:
 
     def _walk(self, core: Core, states: States, draw: random.Random, most: int) -> None:
         """Plays one random schedule of at most `most` steps, and compares all that comes with the search."""
-        at = made = 0
+        at = 0
+        made: list[Event] = []
         if states.noted() != self.order[0]:
-            raise self._other(0, "state")
+            raise self._other(made, "state")
         while at < len(self.firsts) - 1 and most:
             moves = self.moves[self.firsts[at] : self.firsts[at + 1]]
             if bool(core.is_closed()) != self.closed[at]:
@@ -304,12 +501,65 @@ class _Search:
             number, replies = self.known[moves[place]]
             step = self.steps[number]
             at = self.heads[self.firsts[at] + place]
-            made = made + len(step)
+            made += step
             most = most - 1
             if tuple(core.step(*event) for event in step) != replies:
                 raise self._other(made, "reply")
             if states.noted() != self.order[at]:
                 raise self._other(made, "state")
+
+    def _knowledge(self) -> dict[str, Any]:
+        """A schedule after which the root is closed and does not know all, and what it does not know then."""
+        root = len(self.core.vertices)
+        for schedule in self._closings():
+            with self._guarded(lambda: schedule):
+                log = model_log(self.setting, self.detector, schedule)
+            if (found := unknown(log)) is not None:
+                process, words = found
+                who = "it" if process == root else f"vertex {process}"
+                return {"not_local": schedule, "unknown": f"{who} {words}"}
+        return {}
+
+    def _closings(self) -> Iterator[Schedule]:
+        """A shortest schedule to each state in which the root has just been closed, and random schedules to others."""
+        for at, is_closed in enumerate(self.closed):
+            if is_closed and not self.closed[self.came[at][0]]:
+                yield self._way(at)
+        draw = random.Random(1)
+        most = 10 * len(self._way(len(self.order) - 1)) + 100
+        for _ in range(LOGS):
+            schedule = self._drawn(draw, most)
+            if schedule is not None:
+                yield schedule
+
+    def _drawn(self, draw: random.Random, most: int) -> Schedule | None:
+        """A random schedule of at most `most` steps to a closed root, if it comes to one."""
+        at = 0
+        made: list[Event] = []
+        for _ in range(most):
+            if self.closed[at]:
+                return Schedule(made)
+            if at >= len(self.firsts) - 1 or self.firsts[at] == self.firsts[at + 1]:
+                return None
+            place = draw.randrange(self.firsts[at], self.firsts[at + 1])
+            made += self.steps[self.known[self.moves[place]][0]]
+            at = self.heads[place]
+        return None
+
+
+def _said(error: BaseException) -> str:
+    """An exception in words, with the last line of a class of others that led there."""
+    said = f"{type(error).__name__}: {error}"
+    package = os.path.dirname(os.path.dirname(os.path.abspath(__file__)))
+    frames = [
+        frame
+        for frame in traceback.extract_tb(error.__traceback__)
+        if not os.path.abspath(frame.filename).startswith(package + os.sep)
+    ]
+    if not frames:
+        return said
+    last = frames[-1]
+    return f"{said}, in {last.name} ({os.path.basename(last.filename)}, line {last.lineno})"
 
 
 def _shared(core: Core, setting: Game) -> dict[str, Any]:
@@ -324,5 +574,5 @@ def _shared(core: Core, setting: Game) -> dict[str, Any]:
         for name, value in vars(holder).items():
             if not name.startswith("__") and not callable(value) and not isinstance(value, Graph):
                 with contextlib.suppress(TypeError, RecursionError):
-                    found[says.format(name)] = frozen(value, lambda _: None)
+                    found[says.format(name)] = frozen(value)
     return found

@@ -13,6 +13,7 @@ from __future__ import annotations
 
 import argparse
 import csv
+import itertools
 import json
 from collections.abc import Iterable, Iterator, Mapping, Sequence
 from typing import Any, Union
@@ -38,11 +39,27 @@ RULES = {
     "TooMuch": 18,
 }
 
+#: What a detector may have in another way than `Core`; every other name of the model is the game's.
+HOOKS = (
+    "__init__",
+    "on_send",
+    "on_take",
+    "may_let_go",
+    "may_ack",
+    "ack",
+    "settle",
+    "is_closed",
+    "own_events",
+    "tells",
+    "not_state",
+)
+
 #: The events that have a count.
 COUNTED = ("fire", "feed", "work")
 
-#: How many firings at a time are listed at most.
+#: How many firings at a time are listed at most, and how many events of a detector's own.
 MOST_FIRINGS = 1_000_000
+MOST_EVENTS = 1_000_000
 
 #: A kind of event, the edge or vertex that it is at, and a count.
 Event = tuple[str, int, int]
@@ -50,6 +67,14 @@ Event = tuple[str, int, int]
 
 class NotNow(Exception):
     """A rule is not met: its name."""
+
+
+class TooManyFirings(ValueError):
+    """A vertex may fire more often at a time than is listed."""
+
+
+class TooManyEvents(ValueError):
+    """A detector has more events of its own at a time than are listed."""
 
 
 class Edge:
@@ -81,8 +106,9 @@ class Vertex:
 class Core:
     """A game, with the detector of Dijkstra and Scholten.
 
-    What a detector of your own keeps stands in attributes of the game, of its edges or of its vertices, under any name:
-    they are the state that `chipfire.explore` tells from others. Classes, globals, chance and the clock are not.
+    A detector of your own has other `HOOKS`. What it keeps stands in attributes of the game, of its edges or of its
+    vertices, under any name that the model has not: they are the state that `chipfire.explore` tells from others.
+    Classes, globals, chance and the clock are not. It may write `acked`, `settled` and `parent` of the model's.
     """
 
     #: Attributes that say nothing of what will happen, such as a count of polls: they are no part of the state.
@@ -194,15 +220,17 @@ class Core:
         return iter(())
 
     def tells(self, kind: str, at: int) -> Iterable[tuple[int, int]]:
-        """Who tells whom in such an event, for `chipfire.model_log`; the root is the part behind the vertices."""
+        """Who tells whom in such an event, as pairs; the root is the part after the vertices. `chipfire.explore` and
+        `chipfire.model_log` ask it. An event is at one part or between two."""
         raise ValueError(
             f"{kind} is an event of {type(self).__name__}, whose `tells` does not say who tells whom"
         )
 
     # What may happen, and what is left.
 
-    def enabled(self) -> list[Event]:
-        """The events that would do something now; nothing is sealed or fed by itself."""
+    def enabled(self, most: int = MOST_EVENTS) -> list[Event]:
+        """The events that would do something now, at most so many of the detector's own; nothing is sealed or fed by
+        itself."""
         found: list[Event] = [] if self.ended else [("end", 0, 0)]
         for e in self.edges:
             number = e.number
@@ -221,7 +249,10 @@ class Core:
                     found.append(("claim", number, 0))
             if e.put < sent:
                 found.append(("put", number, 0))
-        return [*found, *self.works(), *self.own_events()]
+        own = list(itertools.islice(self.own_events(), most + 1))
+        if len(own) > most:
+            raise TooManyEvents(f"{type(self).__name__}.own_events lists more than {most} events")
+        return [*found, *self.works(), *own]
 
     def works(self) -> list[Event]:
         """The events in which vertices go on of themselves."""
@@ -232,7 +263,7 @@ class Core:
             if vertex.chips >= self._degrees[v] and not self.is_pending(v):
                 most = min(vertex.chips // self._degrees[v], self.limit - vertex.fired)
                 if most > MOST_FIRINGS:
-                    raise ValueError(
+                    raise TooManyFirings(
                         f"vertex {v} may fire any number of times up to {most}, which are too many to list"
                     )
                 found += [("fire", v, count) for count in range(1, most + 1)]
@@ -282,7 +313,7 @@ class Core:
             )
         except NotNow as unmet:
             return f"not-now {RULES[unmet.args[0]]}"
-        return made
+        return made or "done"
 
     def need(self, rule: str, is_met: bool) -> None:
         if not is_met:

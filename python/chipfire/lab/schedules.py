@@ -11,10 +11,10 @@ from collections.abc import Callable, Iterable, Sequence
 from dataclasses import dataclass
 from typing import Any, Union
 
-from chipfire.lab.computations import Computation
+from chipfire.lab.computations import Computation, Computed
 from chipfire.lab.detectors import known_detector
 from chipfire.lab.machine import Event, Reply, Schedule, Setting
-from chipfire.lab.model import Core
+from chipfire.lab.model import Core, HOOKS
 from chipfire.utils import as_int, random_generator
 
 Game = Union[Setting, Computation]
@@ -37,6 +37,14 @@ EVENTS = (
 )
 WORK = "work"
 
+#: What a detector may not have in another way, as an attribute of its class or of the game.
+FROZEN = frozenset(
+    name
+    for made in (Core, Computed)
+    for name in (*dir(made), "ended")
+    if not name.startswith("__") and name not in HOOKS
+) | {"__setattr__", "__getattribute__", "__delattr__"}
+
 #: Rows of a log: process, kind, channel.
 _Acts = list[tuple[int, str, int]]
 
@@ -48,8 +56,37 @@ def detector_name(detector: Detector) -> str:
 
 def opened(setting: Game, detector: Detector = "right") -> Any:
     """A game at its start, on the model: a `Core` of the detector's class."""
+    make = known_detector(detector).make
+    require_hooks(make)
+    core = _made(setting, make)
+    if taken := [name for name in vars(core) if name in FROZEN and name != "ended"]:
+        raise _taken(make, taken[0], "keeps something as")
+    return core
+
+
+class NameTaken(ValueError):
+    """A detector has something of its own under a name that is the game's."""
+
+
+def require_hooks(make: type[Core]) -> None:
+    """Refuses a detector that has another thing under a name of the model that is no hook."""
+    for made in make.__mro__:
+        taken = [name for name in vars(made) if name in FROZEN]
+        if taken and made not in (Core, object):
+            raise _taken(made, taken[0], "has its own")
+
+
+def _taken(made: type[Core], name: str, does: str) -> NameTaken:
+    return NameTaken(
+        f"{made.__name__} {does} {name!r}, which is the game's: choose another name. A detector may have its own "
+        f"{', '.join(HOOKS)}"
+    )
+
+
+def _made(setting: Game, make: type[Core]) -> Any:
+    """A game at its start."""
     if isinstance(setting, Computation):
-        return setting.opened(known_detector(detector).make)
+        return setting.opened(make)
     if not isinstance(setting, Setting):
         known = "a chipfire.Setting of graph and chips, or a Computation"
         raise TypeError(f"a game is {known}, and no {type(setting).__name__}")
@@ -58,9 +95,7 @@ def opened(setting: Game, detector: Detector = "right") -> Any:
         "sink": setting.graph.sink,
         "edges": setting.graph.edges,
     }
-    return known_detector(detector).make(
-        graph, setting.chips, setting.limit, setting.ring, setting.fed
-    )
+    return make(graph, setting.chips, setting.limit, setting.ring, setting.fed)
 
 
 def is_early(core: Core) -> bool:
@@ -222,13 +257,26 @@ def model_log(
     return [act for acts in log for act in acts]
 
 
+def _told(core: Any, kind: str, at: int) -> list[tuple[int, int]]:
+    """Who tells whom in an event of a detector's own, which is at one part or between two."""
+    told = [(int(teller), int(hearer)) for teller, hearer in core.tells(kind, at)]
+    if len({part for pair in told for part in pair}) > 2:
+        raise ValueError(
+            f"{kind} {at} is one event of {type(core).__name__} in which more than two parts tell and hear something: "
+            "make an event of each"
+        )
+    return told
+
+
 def _acts(core: Any, event: Event, seen: dict[tuple[str, int, int], _Acts]) -> _Acts:
     """What an event adds to a log. A take or a seal is told if a tail sees it: until then its acts are in `seen`."""
     (kind, at, _) = event
     root = len(core.vertices)
     many = len(core.edges)
-    own = [] if kind in (*EVENTS, WORK) else core.tells(kind, at)
-    said, *numbers = core.step(*event).split() or ["done"]
+    own = [] if kind in (*EVENTS, WORK) else _told(core, kind, at)
+    e = core.edges[core.graph_edges if kind == "end" or at >= len(core.edges) else at]
+    before = e.acked + e.settled
+    said, *_ = core.step(*event).split() or ["done"]
     if said in ("not-now", "empty", "full") or kind in ("fire", "halt", "read", "feed", WORK):
         return []
     if kind not in EVENTS:
@@ -238,15 +286,13 @@ def _acts(core: Any, event: Event, seen: dict[tuple[str, int, int], _Acts]) -> _
             for teller, hearer, it in told
             for act in ((teller, "tell", it), (hearer, "hear", it))
         ]
-    e = core.edges[core.graph_edges if kind == "end" else at]
     tail = root if e.tail < 0 else e.tail
     if kind in ("take", "seal"):
         new = (kind, at, e.delivered) if kind == "take" else (kind, at, 0)
         return seen.setdefault(new, [(e.head, "receive", at)] if kind == "take" else [])
     if kind in ("ack", "settle", "end"):
-        return [(e.head, "tell", at) if kind == "ack" else (tail, "hear", e.number)] * int(
-            numbers[0]
-        )
+        count = e.acked + e.settled - before
+        return [(e.head, "tell", at) if kind == "ack" else (tail, "hear", e.number)] * count
     old = ("seal", at, 0) if said == "sealed" else ("take", at, len(e.sent) - core.ring + 1)
     acts = seen.pop(old, None) if kind == "clear" or said == "sealed" else None
     if acts is None:

@@ -1,6 +1,6 @@
 """The state of a game on the model as a short tuple of numbers, and back; `explore` tells what belongs to it.
 
-What is copied is copied deeply, and what cannot be compared is refused by its name.
+What can be changed is copied with all that shares it, and what cannot be compared is refused by its name.
 """
 
 from __future__ import annotations
@@ -8,10 +8,10 @@ from __future__ import annotations
 import copy
 import enum
 import operator
-from collections.abc import Callable, Iterator
+from collections.abc import Iterator
 from fractions import Fraction
 from types import FunctionType, MethodType
-from typing import Any
+from typing import Any, Union
 
 from chipfire.lab.model import Core
 
@@ -21,63 +21,92 @@ _FIXED = (*_PLAIN, complex, bytes, enum.Enum, type)
 
 #: What has no value of its own to compare.
 _CODE = (FunctionType, MethodType)
+#: A value that can be changed: the number of its part, its name, and the value.
+_Moving = tuple[int, str, Any]
 
 
-def frozen(value: Any, is_part: Callable[[int], Any]) -> Any:
-    """A value that can be compared, equal for equal values: the value itself exactly if it cannot be changed. `is_part`
-    names parts by their `id` that are not gone into; what cannot be compared is a TypeError."""
-    made = type(value)
-    if made in _PLAIN or isinstance(value, _FIXED):
-        return value
-    if (name := is_part(id(value))) is not None:
-        return "part", name
-    if isinstance(value, _CODE):
-        raise TypeError("a function")
-    if isinstance(value, (tuple, frozenset, list, set, dict)):
-        items = [
-            frozen(item, is_part) for item in (value.items() if isinstance(value, dict) else value)
-        ]
-        if isinstance(value, (tuple, frozenset)) and all(
-            item is it for item, it in zip(items, value)
-        ):
+class Freezer:
+    """Makes values comparable. What can be changed and is met again is the same object again, and not an equal one."""
+
+    def __init__(self, parts: Union[dict[int, Any], None] = None) -> None:
+        #: Names of objects that are not gone into, by their `id`.
+        self.parts: dict[int, Any] = {} if parts is None else parts
+        #: What was met, by its `id`: its number, and the object, which has to stay alive as long as its `id` is kept.
+        self.met: dict[int, tuple[int, Any]] = {}
+
+    def frozen(self, value: Any) -> Any:
+        """A value that can be compared, equal for equal values: the value itself exactly if it cannot be changed. What
+        cannot be compared is a TypeError."""
+        made = type(value)
+        if made in _PLAIN or isinstance(value, _FIXED):
             return value
-        return made, tuple(items) if isinstance(value, (tuple, list)) else frozenset(items)
-    reduced = value.__reduce_ex__(4)
-    if isinstance(reduced, str):
-        return value
-    parts = [list(part) if isinstance(part, Iterator) else part for part in reduced[1:]]
-    return made, tuple(frozen(part, is_part) for part in parts)
+        if (name := self.parts.get(id(value))) is not None:
+            return "part", name
+        if isinstance(value, _CODE):
+            raise TypeError("a function")
+        if isinstance(value, (tuple, frozenset)):
+            items = list(map(self.frozen, value))
+            if all(map(operator.is_, items, value)):
+                return value
+            return made, tuple(items) if isinstance(value, tuple) else frozenset(items)
+        if (before := self.met.get(id(value))) is not None:
+            return "again", before[0]
+        self.met[id(value)] = len(self.met), value
+        return self._gone_into(value)
+
+    def _gone_into(self, value: Any) -> Any:
+        """The same of what can be changed; the order of a dictionary counts."""
+        made = type(value)
+        if isinstance(value, (list, dict)):
+            items = value.items() if isinstance(value, dict) else value
+            return made, tuple(map(self.frozen, items))
+        if isinstance(value, set):
+            return made, frozenset(map(self.frozen, value))
+        reduced = value.__reduce_ex__(4)
+        if isinstance(reduced, str):
+            return value
+        self.met[id(reduced)] = len(self.met), reduced
+        parts = [list(part) if isinstance(part, Iterator) else part for part in reduced[1:]]
+        self.met[id(parts)] = len(self.met), parts
+        return made, tuple(map(self.frozen, parts))
+
+
+def frozen(value: Any) -> Any:
+    """A value of its own that can be compared."""
+    return Freezer().frozen(value)
 
 
 class States:
     """The states of one game: `noted` tells the present one, `load` goes to another that was noted.
 
-    A state has a number for each edge, each vertex and the rest of the game; `like` makes two games have the same.
+    A state has a number for what cannot be changed in each edge, each vertex and the rest of the game, and one for all
+    that can. `like` makes two games have the same.
     """
 
-    def __init__(self, core: Core, like: States | None = None) -> None:
+    def __init__(self, core: Core, like: Union[States, None] = None) -> None:
         self.parts: list[Any] = [*core.edges, *core.vertices, core]
         if isinstance(core.not_state, str):
             raise ValueError(f"not_state is a tuple of names: not_state = ({core.not_state!r},)")
         #: What the detector leaves out; what the parts have for good; and what is not gone into, by its `id`.
         self.left_out = {*core.not_state}
         self.good = [
-            (part, name, getattr(part, name))
+            (part, name, getattr(part, name), _content(getattr(part, name)))
             for part in self.parts
             for name in getattr(part, "HELD", ())
         ]
+        of_core = [(name, value) for part, name, value, _ in self.good if part is core]
         self.kept: dict[int, Any] = {id(part): index for index, part in enumerate(self.parts)}
-        self.kept |= {id(value): name for part, name, value in self.good if part is core}
-        self.same = {
-            id(it): it
-            for it in [*self.parts, *(value for part, _, value in self.good if part is core)]
-        }
-        #: Of each part the numbers of its values; and by number the values that cannot be changed, the others, and
-        #: whether they are those of the start.
+        self.kept |= {id(value): name for name, value in of_core}
+        self.same = {id(it): it for it in [*self.parts, *(value for _, value in of_core)]}
+        #: Of each part the numbers of its values; and by number the values that cannot be changed, and whether their
+        #: names are those of the start.
         self.numbers: list[dict[Any, int]] = like.numbers if like else [{} for _ in self.parts]
-        self.values: list[list[tuple[dict[str, Any], dict[str, Any], bool]]] = (
+        self.values: list[list[tuple[dict[str, Any], bool]]] = (
             like.values if like else [[] for _ in self.parts]
         )
+        #: The numbers of what can be changed, with 0 for nothing; by number the values as they are compared, and to copy.
+        self.groups: dict[Any, int] = like.groups if like else {(): 0}
+        self.copies: list[list[_Moving]] = like.copies if like else [[]]
         #: Where the values of each part stand, and their names at the start.
         self.held = [vars(part) for part in self.parts]
         self.names: list[list[str]] = (
@@ -96,12 +125,15 @@ class States:
             found = [number_of(tuple(values)) for number_of, values in self.readers]
         except TypeError:  # (some value can be changed)
             found = [None for _ in self.parts]
+        group = 0
         if None in found:
+            moving: list[_Moving] = []
             found = [
-                self._number(index) if number is None else number
+                self._number(index, moving) if number is None else number
                 for index, number in enumerate(found)
             ]
-        self.now = tuple(found)  # type: ignore[arg-type]
+            group = self._group(moving)
+        self.now = (*found, group)  # type: ignore[arg-type]
         return self.now
 
     def _values(self, held: dict[str, Any]) -> dict[str, Any]:
@@ -112,47 +144,67 @@ class States:
             else held
         )
 
-    def _number(self, index: int) -> int:
-        """The number of what stands in a part, which is read with care."""
-        part = self.parts[index]
+    def _number(self, index: int, moving: list[_Moving]) -> int:
+        """The number of what stands in a part, which is read with care; what can be changed is added to `moving`."""
         numbers = self.numbers[index]
         values = self._values(self.held[index])
         is_usual = [*values] == self.names[index]
-        if not is_usual or len(values) != len(self.held[index]):
+        plain = {
+            name: value for name, value in values.items() if self._is_plain(index, name, value)
+        }
+        if not is_usual or len(plain) != len(self.held[index]):
             self.readers[index] = numbers.get, ()
+        others = tuple(name for name in values if name not in plain)
+        moving += [(index, name, values[name]) for name in others]
+        key: Any = tuple(values.values())
+        if not is_usual or others:
+            key = "attributes", frozenset(plain.items()), frozenset(others)
+        if key not in numbers:
+            numbers[key] = len(self.values[index])
+            self.values[index].append((plain, is_usual))
+        return numbers[key]
+
+    def _is_plain(self, index: int, name: str, value: Any) -> bool:
+        """Whether a value cannot be changed."""
+        if type(value) in _PLAIN:
+            return True
+        return self._frozen(Freezer(self.kept), index, name, value) is value
+
+    def _frozen(self, freezer: Freezer, index: int, name: str, value: Any) -> Any:
+        """A value that can be compared; one that has none is refused by its name."""
         try:
-            key: Any = (
-                tuple(values.values()) if is_usual else ("attributes", frozenset(values.items()))
-            )
-            if key in numbers:
-                return numbers[key]
-        except TypeError:
-            self.readers[index] = numbers.get, ()
-        said: dict[str, Any] = {}
-        try:
-            for name, value in values.items():
-                said[name] = frozen(value, self.kept.get)
-                hash(said[name])
+            said = freezer.frozen(value)
+            hash(said)
         except (TypeError, RecursionError):
             raise ValueError(
-                f"{type(part).__name__}.{name}, of type {type(value).__name__}, cannot be compared, so no state can be "
-                f"told from another: leave it out by not_state = ({name!r},), or keep what stands in it in plain values"
+                f"{type(self.parts[index]).__name__}.{name}, of type {type(value).__name__}, cannot be compared, so no "
+                f"state can be told from another: leave it out by not_state = ({name!r},), or keep what stands in it in "
+                "plain values"
             ) from None
-        if not all(map(operator.is_, said.values(), values.values())):
-            key = "attributes", frozenset(said.items())
-        if key not in numbers:
-            plain = {name: value for name, value in values.items() if said[name] is value}
-            moving = {name: value for name, value in values.items() if name not in plain}
-            numbers[key] = len(self.values[index])
-            self.values[index].append((plain, copy.deepcopy(moving, dict(self.same)), is_usual))
-        return numbers[key]
+        return said
+
+    def _group(self, moving: list[_Moving]) -> int:
+        """The number of all that can be changed."""
+        freezer = Freezer(self.kept)
+        key = tuple(
+            [
+                (index, name, self._frozen(freezer, index, name, value))
+                for index, name, value in moving
+            ]
+        )
+        if key not in self.groups:
+            self.groups[key] = len(self.copies)
+            self.copies.append(copy.deepcopy(moving, dict(self.same)))
+        return self.groups[key]
 
     def load(self, state: tuple[int, ...]) -> None:
         """Makes the game that of a state that was noted."""
         if state == self.now:
             return
-        for index in [index for index, number in enumerate(state) if number != self.now[index]]:
-            plain, moving, is_usual = self.values[index][state[index]]
+        for index in [
+            index for index, number in enumerate(state[:-1]) if number != self.now[index]
+        ]:
+            plain, is_usual = self.values[index][state[index]]
             held = self.held[index]
             if not is_usual or len(held) != len(self.names[index]):
                 for name in self._values(
@@ -160,14 +212,15 @@ class States:
                 ).copy():  # (those of the start have to stand in their order)
                     del held[name]
             held.update(plain)
-            if moving:
-                held.update(copy.deepcopy(moving, dict(self.same)))
+        if state[-1]:
+            for index, name, value in copy.deepcopy(self.copies[state[-1]], dict(self.same)):
+                self.held[index][name] = value
         self.now = state
 
     def check(self) -> None:
         """Checks that each part still has what it has for good."""
-        for part, name, value in self.good:
-            if getattr(part, name) is not value:
+        for part, name, value, content in self.good:
+            if getattr(part, name) is not value or _content(value) != content:
                 of = type(part).__name__
                 raise ValueError(
                     f"{of}.{name} changed, which a game has for good: keep yours elsewhere"
@@ -175,15 +228,27 @@ class States:
 
     def changed(self, before: tuple[int, ...]) -> list[str]:
         """The attributes in which the present state is another than one before."""
-        found = []
-        for index, (was, now) in enumerate(zip(before, self.now)):
-            old, new = (
-                {**plain, **moving}
-                for plain, moving, _ in map(self.values[index].__getitem__, (was, now))
-            )
-            found += [
-                name
-                for name in {**old, **new}
-                if name not in old or name not in new or old[name] != new[name]
-            ]
-        return found
+        groups = {number: key for key, number in self.groups.items()}
+        old, new = (
+            {
+                **{
+                    (index, name): value
+                    for index, number in enumerate(state[:-1])
+                    for name, value in self.values[index][number][0].items()
+                },
+                **{(index, name): value for index, name, value in groups[state[-1]]},
+            }
+            for state in (before, self.now)
+        )
+        return [
+            name
+            for index, name in {**old, **new}
+            if old.get((index, name), self) != new.get((index, name), self)
+        ]
+
+
+def _content(value: Any) -> Any:
+    """What stands in a list of lists, by the objects."""
+    if isinstance(value, list):
+        return tuple(map(_content, value))
+    return value if isinstance(value, int) else id(value)

@@ -657,7 +657,7 @@ class WrongDetectors(unittest.TestCase):
         self.assertEqual(end, {"text": early.replace("3", "0"), "isWrong": True})
 
     def test_what_is_not_wrong_has_no_page(self):
-        for name, said in [("right", "in no schedule of this game, which has 1,405 states"),
+        for name, said in [("right", "in no schedule of this game, which has 3,755 states"),
                            ("hasty", "no detector 'hasty'"), ("any-order", "in no schedule")]:
             with self.assertRaisesRegex(ValueError, said):
                 wrong.wrong_page_text(name)
@@ -760,7 +760,7 @@ class CommandLine(unittest.TestCase):
         ran = self.ask("wrong", "without-deficit", *game, "--title", "Two edges")
         self.assertEqual(data_of(ran.stdout)["sink"], 1)
         self.assertIn("<h1>Two edges</h1>", ran.stdout)
-        for words, said in [(["any-order"], "in no schedule of this game, which has 1,697 states"),
+        for words, said in [(["any-order"], "in no schedule of this game, which has 4,331 states"),
                             (["at-once", "graph.json"], "GRAPH and CHIPS")]:
             ran = self.ask("wrong", *words)
             self.assertEqual((ran.returncode, ran.stdout), (1, ""))

@@ -12,6 +12,7 @@ import tempfile
 import threading
 import time
 import unittest
+from unittest import mock
 
 import chipfire
 import second_search
@@ -54,15 +55,9 @@ def slow_game(setting):
     return second_search.Game(setting.graph.vertices, setting.graph.sink, setting.graph.edges, setting.chips)
 
 
-class Once(model.Core):
-    """A vertex fires once at a time."""
-
-    def enabled(self):
-        return [event for event in super().enabled() if event[0] != "fire" or event[2] == 1]
-
-
-class OnceAnyOrder(Once, detectors.AnyOrder):
-    pass
+def firing_once(core, works=model.Core.works):
+    """In place of `works`: a vertex fires once at a time."""
+    return [event for event in works(core) if event[0] != "fire" or event[2] == 1]
 
 
 class Shy(model.Core):
@@ -268,6 +263,9 @@ class SaysLittle(model.Core):
     def look(self, at):
         return "done"
 
+    def tells(self, kind, at):
+        return ()
+
 
 class IgnoresTheEnd(model.Core):
     """A root that is fed, and closes whenever it waits for nothing."""
@@ -285,7 +283,7 @@ REFUSED = {
     Clock: "Clock does not do the same again",
     WithALock: r"WithALock.lock, of type lock, cannot be compared.*not_state = \('lock',\)",
     ChangesTheLimit: "ChangesTheLimit.limit changed, which a game has for good: keep yours elsewhere",
-    Asked: "Asked changes polls when it is only asked what may happen",
+    Asked: "Asked, after 1 event: it changes polls when it is only asked what may happen",
 }
 
 
@@ -317,7 +315,7 @@ class Explorer(unittest.TestCase):
         for setting in games:
             for name, rule in second_search.RULES.items():
                 states, least = second_search.searched(slow_game(setting), rule)
-                found = chipfire.explore(setting, name)
+                found = chipfire.explore(setting, name, whole_sends=True)
                 with self.subTest(name, setting=setting):
                     if found.schedule is None:
                         self.assertEqual((found.states, None), (states, least))
@@ -327,16 +325,18 @@ class Explorer(unittest.TestCase):
 
     def test_the_states_are_those_that_a_third_search_found(self):
         # Somebody else's search on these two games, with firings one at a time, found so many.
-        self.assertEqual([chipfire.explore(TWO, name).states for name in ("right", "any-order")], [30, 34])
-        self.assertEqual(chipfire.explore(FOUR, OnceAnyOrder).states, 1518)
+        found = [chipfire.explore(TWO, name, whole_sends=True).states for name in ("right", "any-order")]
+        self.assertEqual(found, [30, 34])
+        with mock.patch.object(model.Core, "works", firing_once):
+            self.assertEqual(chipfire.explore(FOUR, "any-order", whole_sends=True).states, 1518)
         self.assertEqual(second_search.searched(slow_game(FOUR), second_search.RULES["any-order"], True)[0], 1518)
 
     def test_single_events_find_the_same(self):
         for name in ("right", "any-order", "at-once", "without-deficit"):
-            found = chipfire.explore(TWO, name, whole_sends=False)
-            whole = chipfire.explore(TWO, name)
+            found = chipfire.explore(TWO, name)
+            whole = chipfire.explore(TWO, name, whole_sends=True)
             self.assertEqual((found.left, found.schedule is None), (whole.left, whole.schedule is None))
-        self.assertGreater(chipfire.explore(TWO, whole_sends=False).states, chipfire.explore(TWO).states)
+        self.assertGreater(chipfire.explore(TWO).states, chipfire.explore(TWO, whole_sends=True).states)
 
     def test_where_nothing_can_happen_and_the_root_is_open(self):
         class Never(model.Core):
@@ -366,17 +366,17 @@ class Explorer(unittest.TestCase):
 
     def test_what_follows_from_the_state_adds_none(self):
         for detector in (AskedAndSaysSo, ComesAndGoes, SaysLittle):
-            found = chipfire.explore(FOUR, detector)
+            found = chipfire.explore(FOUR, detector, whole_sends=True)
             self.assertEqual((found.states, found.schedule, found.lost), (1405, None, None))
 
     def test_where_the_root_can_never_be_closed(self):
         for setting in (TWO, FOUR, chipfire.Setting(chipfire.path(3), (0, 2, 0, 0))):
-            found = chipfire.explore(setting, Shy)
+            found = chipfire.explore(setting, Shy, whole_sends=True)
             sends = sum(event.kind == "put" for event in found.lost)
             self.assertEqual(len(found.lost) - 2 * sends, second_search.lost(slow_game(setting), second_search.SHY))
         polls = chipfire.explore(TWO, Polls)
         self.assertEqual((polls.schedule, polls.stuck, polls.lost, polls.is_whole), (None, None, [], True))
-        self.assertIn("after 0 events the root can never be closed", str(polls))
+        self.assertIn("the root can never be closed: after", str(polls))
         loses = chipfire.explore(FOUR, LosesOne)
         self.assertIsNone(loses.schedule)
         self.assertFalse(schedules.played(FOUR, LosesOne, loses.lost).is_closed())
@@ -391,7 +391,7 @@ class Explorer(unittest.TestCase):
             found = chipfire.explore(FOUR, detector, most=100)
             self.assertEqual((found.states, found.schedule, found.lost, found.is_whole), (100, None, None, False))
             self.assertIn("the others are not tried, nor whether the root can always be closed", str(found))
-        self.assertTrue(chipfire.explore(FOUR, most=1405).is_whole)
+        self.assertTrue(chipfire.explore(FOUR, most=1405, whole_sends=True).is_whole)
         # (a state that was reached and not gone on from is looked at too)
         self.assertEqual(chipfire.explore(FOUR, "at-once", most=12).left, ("vertex 0 can fire",))
 
@@ -400,11 +400,11 @@ class Explorer(unittest.TestCase):
         for feeds in ((), ((4, 2),), ((4, 2), (5, 1)), ((4, 1), (4, 2))):
             for name in ("right", "any-order"):
                 states, early = second_search.searched(slow_game(fed), second_search.RULES[name], feeds=feeds)
-                found = chipfire.explore(fed, name, feeds=feeds)
+                found = chipfire.explore(fed, name, feeds=feeds, whole_sends=True)
                 self.assertEqual((found.states, found.schedule, early, found.lost), (states, None, None, None))
             for name in ("at-once", "without-deficit"):
                 _, early = second_search.searched(slow_game(fed), second_search.RULES[name], feeds=feeds)
-                found = chipfire.explore(fed, name, feeds=feeds).schedule
+                found = chipfire.explore(fed, name, feeds=feeds, whole_sends=True).schedule
                 longer = found and sum(2 * (event.kind == "put") for event in found)
                 self.assertEqual(found and len(found) - longer, early)
             found = chipfire.explore(fed, IgnoresTheEnd, feeds=feeds)
@@ -415,8 +415,8 @@ class Explorer(unittest.TestCase):
 
     def test_seals(self):
         class NotHalted(model.Core):
-            def is_passive(self, v):
-                return super().is_passive(v) and self.vertices[v].halt is None
+            def may_let_go(self, e):
+                return super().may_let_go(e) and self.vertices[e.head].halt is None
 
         class HaltedLetsGo(model.Core):
             def may_let_go(self, e):
@@ -753,7 +753,7 @@ class AtTheShell(unittest.TestCase):
         environment = {**os.environ, **without.environment(package)}
         ran = subprocess.run([sys.executable, "-m", "chipfire", *words], env=environment, encoding="utf-8",
                              stdout=subprocess.PIPE, stderr=subprocess.PIPE)
-        return ran.returncode, ran.stdout or ran.stderr
+        return ran.returncode, ran.stdout + ran.stderr
 
     def test_the_status_of_explore(self):
         with tempfile.TemporaryDirectory(prefix="chipfire-python-") as folder:

@@ -12,6 +12,7 @@ from dataclasses import dataclass, replace
 from typing import Any
 
 from chipfire.graphs.graph import Graph
+from chipfire.lab.detectors import known_detector
 from chipfire.lab.endings import Moves
 from chipfire.lab.locality import unknown
 from chipfire.lab.machine import Event, Schedule, Setting
@@ -175,6 +176,7 @@ class _Search:
     ) -> None:
         self.setting = setting
         self.detector = detector
+        known_detector(detector)
         self.name = detector_name(detector)
         self.whole_sends = bool(whole_sends)
         self.options: dict[str, Any] = {"whole_sends": self.whole_sends}
@@ -210,7 +212,7 @@ class _Search:
 
     def _opened(self) -> Any:
         """The game at its start; an exception in a class of others is told."""
-        if not (isinstance(self.detector, type) and issubclass(self.detector, Core)):
+        if isinstance(self.detector, str):
             return opened(self.setting, self.detector)
         with self._guarded(lambda: ()):
             return opened(self.setting, self.detector)
@@ -363,6 +365,7 @@ class _Search:
         reached, wanted = self.shadow.after(self.shadows[at], self.steps[step])
         for event, said, right in zip(self.steps[step], replies, wanted):
             if said != right and event.kind != "end":  # (that settles too, which is the detector's)
+                self._require_shared()
                 raise self._error(
                     f"{event.kind} {event.at} answers {said!r}, and in the game {right!r}"
                 )
@@ -371,9 +374,17 @@ class _Search:
     def _require_same_game(self, beside: int) -> None:
         """Refuses a detector that changed the game."""
         if other := self.shadow.difference(beside, self.core):
+            self._require_shared()
             raise self._error(
                 f"it changes {other}, which is the game's: of the model's it may write acked, settled and parent"
             )
+
+    def _require_shared(self) -> None:
+        """Refuses what changed in a class or in a computation, which all games share."""
+        for name, value in _shared(self.core, self.setting).items():
+            if self.shared.get(name) != value:
+                reason = f"{name}, and changed: keep it in an attribute of the game"
+                raise DetectorError(reason, Schedule())
 
     def _require_closed_stays(self) -> None:
         """Refuses a root that is open again after it was closed."""
@@ -468,11 +479,7 @@ class _Search:
     def _play_again(self) -> None:
         """Plays random schedules of the search from the start, each on a game of its own."""
         self.states.check()
-        for name, value in _shared(self.core, self.setting).items():
-            if self.shared.get(name) != value:
-                raise DetectorError(
-                    f"{name}, and changed: keep it in an attribute of the game", Schedule()
-                )
+        self._require_shared()
         if random.getstate() != self.chance:
             raise DetectorError(
                 f"{self.name} does not do the same again: it asks chance", Schedule()

@@ -201,21 +201,25 @@ class States:
         """Makes the game that of a state that was noted."""
         if state == self.now:
             return
-        for index in [
-            index for index, number in enumerate(state[:-1]) if number != self.now[index]
-        ]:
-            plain, is_usual = self.values[index][state[index]]
-            held = self.held[index]
-            if not is_usual or len(held) != len(self.names[index]):
-                for name in self._values(
-                    held
-                ).copy():  # (those of the start have to stand in their order)
-                    del held[name]
-            held.update(plain)
-        if state[-1]:
+        changed = [index for index, number in enumerate(state[:-1]) if number != self.now[index]]
+        is_cleared = any([self._load_plain(index, state[index]) for index in changed])
+        if state[-1] and (is_cleared or state[-1] != self.now[-1]):
             for index, name, value in copy.deepcopy(self.copies[state[-1]], dict(self.same)):
                 self.held[index][name] = value
         self.now = state
+
+    def _load_plain(self, index: int, number: int) -> bool:
+        """Puts what cannot be changed into a part, and says whether all else was taken out first."""
+        plain, is_usual = self.values[index][number]
+        held = self.held[index]
+        is_cleared = not is_usual or len(held) != len(self.names[index])
+        if is_cleared:
+            for name in self._values(
+                held
+            ).copy():  # (those of the start have to stand in their order)
+                del held[name]
+        held.update(plain)
+        return is_cleared
 
     def check(self) -> None:
         """Checks that each part still has what it has for good."""

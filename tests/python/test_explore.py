@@ -11,11 +11,11 @@ import subprocess
 import sys
 import tempfile
 import unittest
-from unittest import mock
 
 import chipfire
 import students
-from chipfire.lab import explorer
+from chipfire.lab import detectors
+from chipfire.lab import explored as found_by
 from chipfire.lab import locality
 from chipfire.lab import model
 from chipfire.lab import schedules
@@ -118,6 +118,17 @@ class Searched:
         return min((self.far[at] for at in range(self.states) if at not in able), default=None)
 
 
+def small_games():
+    """All graphs of up to three vertices and four edges, the last vertex the sink, with two chips on a vertex, or one on
+    each."""
+    for graph in directed_graphs():
+        inner = graph.vertices - 1
+        edges = sum(mult for _, _, mult in graph.edges)
+        if graph.sink == inner and edges <= 4:
+            piles = [tuple(2 * (at == vertex) for at in range(graph.vertices)) for vertex in range(inner)]
+            yield from (chipfire.Setting(graph, chips) for chips in [*piles, (1,) * inner + (0,)])
+
+
 def explored(setting, make, **options):
     """What `explore` finds, or the refusal."""
     try:
@@ -127,12 +138,6 @@ def explored(setting, make, **options):
 
 
 class Verdicts(unittest.TestCase):
-    def setUp(self):
-        # (a thousand random logs of each small game take longer than the search)
-        fewer = mock.patch.object(explorer, "LOGS", explorer.LOGS if SOAK else 50)
-        fewer.start()
-        self.addCleanup(fewer.stop)
-
     def test_each_class_has_its_verdict(self):
         for make, verdict, game in STUDENTS:
             # (those that many states make slow are tried on a smaller game here)
@@ -177,7 +182,7 @@ class Verdicts(unittest.TestCase):
             return False
         found = explored(setting, make, most=CAP)
         named = f"{make.__name__} {setting}: {found}"
-        self.assertIsInstance(found, explorer.Explored, named)
+        self.assertIsInstance(found, found_by.Explored, named)
         early = None if found.schedule is None else len(found.schedule)
         self.assertEqual(early, searched.early, named)
         if early is None:
@@ -188,14 +193,11 @@ class Verdicts(unittest.TestCase):
     @unittest.skipUnless(SOAK, "CHIPFIRE_SOAK is not set")
     def test_all_small_graphs(self):
         beyond = []
-        for graph in directed_graphs():
-            if sum(many for _, _, *rest in graph.edges for many in rest or [1]) > 4:
-                continue
-            for chips in itertools.product(range(3), repeat=graph.vertices):
-                setting = chipfire.Setting(graph, chips)
-                for make, verdict, _ in STUDENTS:
-                    if verdict != REFUSED and not self.compare(setting, make):
-                        beyond.append((make.__name__, setting))
+        makes = [it.make for it in STUDENTS if it.verdict != REFUSED]
+        makes += [known.make for known in detectors.DETECTORS.values()]
+        for setting, make in itertools.product(small_games(), makes):
+            if not self.compare(setting, make):
+                beyond.append((make.__name__, setting))
         print("beyond the cap:", *beyond, sep="\n")
 
     def test_no_random_schedule_of_a_right_class_is_early(self):
@@ -327,7 +329,7 @@ class Names(unittest.TestCase):
                         value = getattr(part, name)
                         setattr(part, name, (*value, 1) if name == "sent" else (value or 0) + 1)
 
-                with self.assertRaisesRegex(explorer.DetectorError, f"it changes {name} of {where} [02], which is"):
+                with self.assertRaisesRegex(found_by.DetectorError, f"it changes {name} of {where} [02], which is"):
                     chipfire.explore(PAIR, Writes)
 
 

@@ -6,17 +6,18 @@ import contextlib
 import os
 import random
 import traceback
-from array import array
 from collections.abc import Callable, Iterable, Iterator, Sequence
-from dataclasses import dataclass, replace
+from dataclasses import replace
 from typing import Any
 
 from chipfire.graphs.graph import Graph
 from chipfire.lab.detectors import known_detector
 from chipfire.lab.endings import Moves
+from chipfire.lab.explored import DetectorError as DetectorError, Explored, RIGHT, UNDECIDED
 from chipfire.lab.locality import unknown
 from chipfire.lab.machine import Event, Schedule, Setting
 from chipfire.lab.model import Core, TooManyEvents, TooManyFirings
+from chipfire.lab.reached import Reached, Step
 from chipfire.lab.schedules import (
     Detector,
     detector_name,
@@ -31,102 +32,10 @@ from chipfire.lab.shadow import GAME_EVENTS, Shadow
 from chipfire.lab.states import frozen, States
 from chipfire.utils import as_int, with_unit
 
-#: How many random schedules of each search are played once more, and of how many the logs are judged.
+#: How many random schedules of each search are played once more, and of how many the logs are looked at, if there are as
+#: many states.
 REPLAYS = 200
 LOGS = 1000
-#: The statuses with which the command `explore` ends.
-RIGHT, EARLY, MISSED, UNDECIDED, NOT_LOCAL = 0, 2, 3, 4, 5
-Step = tuple[Event, ...]
-
-
-class DetectorError(ValueError):
-    """A detector cannot be tried: why, and the schedule after which that shows."""
-
-    def __init__(self, reason: str, schedule: Schedule) -> None:
-        super().__init__(reason)
-        self.schedule = schedule
-
-
-@dataclass(frozen=True)
-class Explored:
-    """What all schedules of a game come to.
-
-    states       how many states the game has, or had until a schedule was found, or `most`
-    schedule     a shortest schedule after which the root is closed and something is left; None if none was found
-    left         what is left then
-    stuck        a shortest schedule after which the root is open and nothing can happen; None if none was found
-    lost         a shortest schedule after which the root is open and stays so, be it that nothing can happen or that
-                 events go on for ever; None if there is none, or if that was not tried
-    is_whole     whether these are all states; else a schedule was found, or there are more than `most`, and no `lost`
-    endless      a schedule whose last events, `round` many, can go round for ever, none forgotten that is possible, while
-                 the root is open; None if there is none, or if that was not tried
-    round        how many these are
-    not_local    a schedule after which the root is closed, and no message told it of what happened; None if none was
-                 found among the shortest to each closed root and 1,000 random ones, or if that was not tried
-    unknown      what no message told it then
-    whole_sends  whether a send was one step
-    """
-
-    states: int
-    schedule: Schedule | None = None
-    left: tuple[str, ...] = ()
-    stuck: Schedule | None = None
-    lost: Schedule | None = None
-    is_whole: bool = True
-    endless: Schedule | None = None
-    round: int = 0
-    not_local: Schedule | None = None
-    unknown: str = ""
-    whole_sends: bool = False
-
-    @property
-    def status(self) -> int:
-        """The status of the command: 0 right, 2 too early, 3 can miss the end, 4 too many states, 5 not local."""
-        if self.schedule is not None:
-            return EARLY
-        if self.lost is not None or self.endless is not None or self.stuck is not None:
-            return MISSED
-        if self.not_local is not None:
-            return NOT_LOCAL
-        return RIGHT if self.is_whole else UNDECIDED
-
-    @property
-    def shown(self) -> Schedule | None:
-        """The schedule that shows what is wrong. Where the root can never be closed, it is one to the end of a run."""
-        if self.schedule is not None:
-            return self.schedule
-        missed = (self.lost or None, self.stuck, self.endless, self.not_local)
-        return next((found for found in missed if found is not None), None)
-
-    def __str__(self) -> str:
-        sends = ", with each send as one step" if self.whole_sends else ""
-        among = f"among {with_unit(self.states, 'state')}{sends}"
-        status = self.status
-        after = f"after {with_unit(len(self.shown or ()), 'event')}"
-        if status == UNDECIDED:
-            return f"not too early {among}; the others are not tried, nor whether the root can always be closed"
-        if status == EARLY:
-            return f"too early: {after} the root is closed, and left are: {'; '.join(self.left)} ({among})"
-        if status == MISSED:
-            return f"{self._missed(after)} ({among}{'' if self.is_whole else '; the others are not tried'})"
-        if status == NOT_LOCAL:
-            return f"not local: {after} the root is closed, and no message told it that {self.unknown} ({among})"
-        right = "never too early in any schedule of this game, and the root can always be closed"
-        return f"{right}; no look at others was found ({among})"
-
-    def _missed(self, after: str) -> str:
-        """How the end is missed."""
-        if not self.is_whole:
-            return f"stuck: {after} the root is open and nothing can happen"
-        if self.lost:
-            return f"never too early, but {after} the root can never be closed"
-        rounds = f"it is open, and their end, a round of {with_unit(self.round, 'event')}, can go on for ever"
-        if self.lost is None:
-            return (
-                f"never too early, but only a favourable schedule closes the root: {after} {rounds}"
-            )
-        goes = rounds if self.stuck is None else "nothing can happen, and it is open"
-        return f"never too early, but the root can never be closed: {after} {goes}"
 
 
 def explore(
@@ -149,9 +58,9 @@ def explore(
            any time, and feeds no more after that
     seals  edges of the graph that may be sealed, each at any time
 
-    Not tried are other chips, feeds, seals, limits and rings, and messages that are lost, come twice, or overtake. That
-    each part knows what messages told it, and no more, is looked for in the logs of the shortest schedule to each closed
-    root and of 1,000 random ones: a look at others that never helps to close the root is not found.
+    Not tried are other chips, feeds, seals, limits and rings, and messages that are lost, come twice, or overtake. A
+    look at others is looked for in the logs of the shortest schedule to each closed root and of random ones, up to 1,000
+    and as many as there are states. One that never helps to close the root is not found.
 
     The state is all that stands in attributes of the game, its edges and its vertices, but for those that the class of
     the detector names in `not_state`. An attribute that cannot be compared is a ValueError. So is a detector that does
@@ -179,7 +88,6 @@ class _Search:
         known_detector(detector)
         self.name = detector_name(detector)
         self.whole_sends = bool(whole_sends)
-        self.options: dict[str, Any] = {"whole_sends": self.whole_sends}
         self.most = as_int(most, "most", 1)
         self.chance = random.getstate()
         self.core: Core = self._opened()
@@ -189,22 +97,8 @@ class _Search:
         self.opening = sum(len(e.sent) for e in self.core.outs(-1))
         self.states = States(self.core)
         self.shadow = Shadow(setting)
-        start = self.states.noted()
-        #: The states in their order, their numbers, from which one and by which move the search came to each, which are
-        #: closed, and the state of the shadow beside each.
-        self.order = [start]
-        self.places = {start: 0}
-        self.came = [(-1, -1)]
-        self.closed = [False]
-        self.shadows = array("i", [0])
-        #: The moves from each state and where they lead, one state after the other, and where those of each begin.
-        self.moves = array("i")
-        self.heads = array("i")
-        self.firsts = array("q", [0])
-        self.numbers: dict[tuple[int, tuple[str, ...]], int] = {}
-        self.known: list[tuple[int, tuple[str, ...]]] = []
-        #: The steps, and their numbers by their first events.
-        self.steps: list[Step] = []
+        self.reached = Reached(self.states.noted())
+        #: The numbers of steps by their first events.
         self.places_of_steps: dict[tuple[str, int, int], int] = {}
         self.is_whole = True
         #: Where the search is: a state, and the step that it takes from there, or -1.
@@ -245,34 +139,30 @@ class _Search:
             early, stuck = self._searched()
             if early is None:
                 self._require_closed_stays()
-            self._play_again()
-        schedule = self._way_or_none(early)
-        if schedule is not None:
-            core = played(self.setting, self.detector, schedule)
-            if not is_early(core):
-                raise self._other(schedule, "end")
-            left = tuple(core.left())
-            return Explored(
-                len(self.order),
-                schedule,
-                left,
-                self._way_or_none(stuck),
-                is_whole=False,
-                **self.options,
-            )
-        found = self._endings(stuck)
+        self._play_again()
+        options = {"stuck": self.reached.way_or_none(stuck), "whole_sends": self.whole_sends}
+        if early is not None:
+            return self._early(self.reached.way(early), options)
+        found = self._endings(options)
         if found.status in (RIGHT, UNDECIDED):
             return replace(found, **self._knowledge())
         return found
 
-    def _endings(self, stuck: int | None) -> Explored:
+    def _early(self, schedule: Schedule, options: dict[str, Any]) -> Explored:
+        """A root that is closed too early, also on a game of its own."""
+        core = played(self.setting, self.detector, schedule)
+        if not is_early(core):
+            raise self._other(schedule, "end")
+        states = len(self.reached.order)
+        return Explored(states, schedule, tuple(core.left()), is_whole=False, **options)
+
+    def _endings(self, options: dict[str, Any]) -> Explored:
         """Whether the root can always be closed, and is once nothing is forgotten."""
-        found = Explored(
-            len(self.order), stuck=self._way_or_none(stuck), is_whole=self.is_whole, **self.options
-        )
+        found = Explored(len(self.reached.order), is_whole=self.is_whole, **options)
         if self.is_whole:
-            moves = self._all_moves()
-            found = replace(found, lost=self._way_or_none(moves.lost()), **self._round(moves))
+            moves = self.reached.graph()
+            lost = self.reached.way_or_none(moves.lost())
+            found = replace(found, lost=lost, **self._round(moves))
         for way in (found.stuck, found.lost, found.endless):
             if way is not None and played(self.setting, self.detector, way).is_closed():
                 raise self._other(way, "end")
@@ -284,42 +174,33 @@ class _Search:
         if found is None:
             return {}
         at, steps = found
-        events = [event for step in steps for event in self.steps[step]]
-        return {"endless": Schedule([*self._way(at), *events]), "round": len(events)}
+        events = [event for step in steps for event in self.reached.steps[step]]
+        return {"endless": Schedule([*self.reached.way(at), *events]), "round": len(events)}
 
     def _is_due(self, step: int) -> bool:
         """Whether a step is the game's, which goes on as long as it can."""
-        return self.steps[step][0].kind in GAME_EVENTS and not self._is_outside(step)
+        return self.reached.steps[step][0].kind in GAME_EVENTS and not self._is_outside(step)
 
     def _is_outside(self, step: int) -> bool:
         """Whether a step is a feed or a seal, which need never come."""
-        kinds = {event.kind for event in self.steps[step]}
+        kinds = {event.kind for event in self.reached.steps[step]}
         return bool(kinds & {"feed", "seal"})
-
-    def _all_moves(self) -> Moves:
-        steps = array("i", [self.known[move][0] for move in self.moves])
-        return Moves(self.closed, self.firsts, steps, self.heads)
 
     def _searched(self) -> tuple[int | None, int | None]:
         """The first state in which the root is closed too early, and the first in which nothing can happen."""
         stuck = None
         core = self.core
-        states = self.states
-        for at, state in enumerate(self.order):
+        closed = self.reached.closed
+        for at, state in enumerate(self.reached.order):
             self.trail = at, -1
-            states.load(state)
-            self.closed[at] = bool(core.is_closed())
-            if self.closed[at] and core.left():
+            self.states.load(state)
+            closed[at] = bool(core.is_closed())
+            if closed[at] and core.left():
                 return at, stuck
             if self.is_whole:
                 steps = self._steps(core)
-                if states.noted() != state:
-                    changed = ", ".join(states.changed(state))
-                    raise self._error(
-                        f"it changes {changed} when it is only asked what may happen: only an event may change its "
-                        "state, or it is named in not_state"
-                    )
-                if not steps and not self.closed[at] and stuck is None and self.is_whole:
+                self._require_unchanged(state)
+                if not steps and not closed[at] and stuck is None and self.is_whole:
                     stuck = at
                 self._go_on(at, state, steps)
         return None, stuck
@@ -329,47 +210,52 @@ class _Search:
         load = self.states.load
         noted = self.states.noted
         step_of = self.core.step
-        places = self.places
+        reached = self.reached
         for step in steps:
             self.trail = at, step
             load(state)
-            replies = tuple([step_of(*event) for event in self.steps[step]])
-            reached = noted()
+            replies = tuple([step_of(*event) for event in reached.steps[step]])
+            head = noted()
             beside = self._beside(at, step, replies)
-            move = self.numbers.setdefault((step, replies), len(self.numbers))
-            if move == len(self.known):
-                self.known.append((step, replies))
-            found = places.get(reached)
+            move = reached.move(step, replies)
+            found = reached.places.get(head)
             if found is None:
-                found = len(self.order)
+                found = len(reached.order)
                 if found == self.most:
                     self.is_whole = False
                     return
                 self._require_same_game(beside)
-                places[reached] = found
-                self.order.append(reached)
-                self.came.append((at, move))
-                self.closed.append(False)
-                self.shadows.append(beside)
-            elif self.shadows[found] != beside:
+                reached.add(head, at, move, beside)
+            elif reached.beside[found] != beside:
                 self._require_same_game(beside)
-            self.moves.append(move)
-            self.heads.append(found)
+            reached.moves.append(move)
+            reached.heads.append(found)
         if self.is_whole:
-            self.firsts.append(len(self.moves))
+            reached.firsts.append(len(reached.moves))
 
     def _beside(self, at: int, step: int, replies: tuple[str, ...]) -> int:
         """The state of the shadow after a step, whose replies have to be those of the game's events."""
-        if self.steps[step][0].kind not in GAME_EVENTS:
-            return self.shadows[at]
-        reached, wanted = self.shadow.after(self.shadows[at], self.steps[step])
-        for event, said, right in zip(self.steps[step], replies, wanted):
+        events = self.reached.steps[step]
+        before = self.reached.beside[at]
+        if events[0].kind not in GAME_EVENTS:
+            return before
+        after, wanted = self.shadow.after(before, events)
+        for event, said, right in zip(events, replies, wanted):
             if said != right and event.kind != "end":  # (that settles too, which is the detector's)
                 self._require_shared()
                 raise self._error(
                     f"{event.kind} {event.at} answers {said!r}, and in the game {right!r}"
                 )
-        return reached
+        return after
+
+    def _require_unchanged(self, state: tuple[int, ...]) -> None:
+        """Refuses a detector that another state has after it was asked."""
+        if self.states.noted() != state:
+            changed = ", ".join(self.states.changed(state))
+            raise self._error(
+                f"it changes {changed} when it is only asked what may happen: only an event may change its state, or "
+                "it is named in not_state"
+            )
 
     def _require_same_game(self, beside: int) -> None:
         """Refuses a detector that changed the game."""
@@ -388,14 +274,9 @@ class _Search:
 
     def _require_closed_stays(self) -> None:
         """Refuses a root that is open again after it was closed."""
-        for at in range(len(self.firsts) - 1):
-            if self.closed[at]:
-                for place in range(self.firsts[at], self.firsts[at + 1]):
-                    if not self.closed[self.heads[place]]:
-                        self.trail = at, self.known[self.moves[place]][0]
-                        raise self._error(
-                            "the root is open again, and it was closed before this event"
-                        )
+        if (found := self.reached.reopened()) is not None:
+            self.trail = found
+            raise self._error("the root is open again, and it was closed before this event")
 
     def _steps(self, core: Core) -> list[int]:
         """The numbers of the steps that may happen next."""
@@ -419,8 +300,9 @@ class _Search:
         if kind == "clear" and self.whole_sends:
             middle = Event("claim", at) if at < self.core.graph_edges else Event("feed", at, count)
             step = Event("clear", at), middle, Event("put", at)
-        number = self.places_of_steps.setdefault((kind, at, count), len(self.steps))
-        self.steps += [step] if number == len(self.steps) else []
+        steps = self.reached.steps
+        number = self.places_of_steps.setdefault((kind, at, count), len(steps))
+        steps += [step] if number == len(steps) else []
         return number
 
     def _outside(self, core: Core) -> Iterator[tuple[str, int, int]]:
@@ -435,21 +317,11 @@ class _Search:
                 yield "clear", at, count if self.whole_sends else 0
         yield from (("seal", at, 0) for at in self.seals if not core.edges[at].sealed)
 
-    def _way(self, at: int) -> Schedule:
-        """The events that led to a state."""
-        steps = []
-        while at:
-            at, move = self.came[at]
-            steps.append(self.steps[self.known[move][0]])
-        return Schedule(event for step in reversed(steps) for event in step)
-
-    def _way_or_none(self, at: int | None) -> Schedule | None:
-        return None if at is None else self._way(at)
-
     def _trail(self) -> Schedule:
         """The events that led to where the search is."""
         at, step = self.trail
-        return Schedule([*self._way(at), *(self.steps[step] if step >= 0 else ())])
+        last = self.reached.steps[step] if step >= 0 else ()
+        return Schedule([*self.reached.way(at), *last])
 
     @contextlib.contextmanager
     def _guarded(self, events: Callable[[], Iterable[Event]]) -> Iterator[None]:
@@ -485,40 +357,43 @@ class _Search:
                 f"{self.name} does not do the same again: it asks chance", Schedule()
             )
         draw = random.Random(0)
-        most = 2 * len(self._way(len(self.order) - 1)) + 10
+        most = 2 * self.reached.length() + 10
         for _ in range(REPLAYS):
-            core = opened(self.setting, self.detector)
-            self._walk(core, States(core, self.states), draw, most)
+            made: list[Event] = []
+            with self._guarded(made.copy):
+                core = opened(self.setting, self.detector)
+                self._walk(core, States(core, self.states), draw, most, made)
 
-    def _walk(self, core: Core, states: States, draw: random.Random, most: int) -> None:
+    def _walk(
+        self, core: Core, states: States, draw: random.Random, most: int, made: list[Event]
+    ) -> None:
         """Plays one random schedule of at most `most` steps, and compares all that comes with the search."""
         at = 0
-        made: list[Event] = []
-        if states.noted() != self.order[0]:
+        reached = self.reached
+        if states.noted() != reached.order[0]:
             raise self._other(made, "state")
-        while at < len(self.firsts) - 1 and most:
-            moves = self.moves[self.firsts[at] : self.firsts[at + 1]]
-            if bool(core.is_closed()) != self.closed[at]:
+        while reached.is_left(at) and most:
+            places = reached.after(at)
+            if bool(core.is_closed()) != reached.closed[at]:
                 raise self._other(made, "end")
-            if self._steps(core) != [self.known[move][0] for move in moves]:
+            if self._steps(core) != list(map(reached.step, places)):
                 raise self._other(made, "choice of events")
-            if not moves:
+            if not places:
                 return
-            place = draw.randrange(len(moves))
-            number, replies = self.known[moves[place]]
-            step = self.steps[number]
-            at = self.heads[self.firsts[at] + place]
-            made += step
+            place = draw.choice(places)
+            number, replies = reached.known[reached.moves[place]]
+            at = reached.heads[place]
+            made += reached.steps[number]
             most = most - 1
-            if tuple(core.step(*event) for event in step) != replies:
+            if tuple(core.step(*event) for event in reached.steps[number]) != replies:
                 raise self._other(made, "reply")
-            if states.noted() != self.order[at]:
+            if states.noted() != reached.order[at]:
                 raise self._other(made, "state")
 
     def _knowledge(self) -> dict[str, Any]:
         """A schedule after which the root is closed and does not know all, and what it does not know then."""
         root = len(self.core.vertices)
-        for schedule in self._closings():
+        for schedule in self.reached.closings(min(LOGS, len(self.reached.order))):
             with self._guarded(lambda: schedule):
                 log = model_log(self.setting, self.detector, schedule)
             if (found := unknown(log)) is not None:
@@ -526,32 +401,6 @@ class _Search:
                 who = "it" if process == root else f"vertex {process}"
                 return {"not_local": schedule, "unknown": f"{who} {words}"}
         return {}
-
-    def _closings(self) -> Iterator[Schedule]:
-        """A shortest schedule to each state in which the root has just been closed, and random schedules to others."""
-        for at, is_closed in enumerate(self.closed):
-            if is_closed and not self.closed[self.came[at][0]]:
-                yield self._way(at)
-        draw = random.Random(1)
-        most = 10 * len(self._way(len(self.order) - 1)) + 100
-        for _ in range(LOGS):
-            schedule = self._drawn(draw, most)
-            if schedule is not None:
-                yield schedule
-
-    def _drawn(self, draw: random.Random, most: int) -> Schedule | None:
-        """A random schedule of at most `most` steps to a closed root, if it comes to one."""
-        at = 0
-        made: list[Event] = []
-        for _ in range(most):
-            if self.closed[at]:
-                return Schedule(made)
-            if at >= len(self.firsts) - 1 or self.firsts[at] == self.firsts[at + 1]:
-                return None
-            place = draw.randrange(self.firsts[at], self.firsts[at + 1])
-            made += self.steps[self.known[self.moves[place]][0]]
-            at = self.heads[place]
-        return None
 
 
 def _said(error: BaseException) -> str:

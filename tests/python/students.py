@@ -8,8 +8,8 @@
     NOT_LOCAL  the root closes with knowledge that no message carried: 5
     REFUSED    it cannot be tried, and an error says why: 1
 
-`game` is the name of a game in `GAMES` on which a wrong one shows; a right one is right on all. The verdicts were worked
-out by hand from what the classes do; test_explore.py compares them with a search of its own.
+`game` is the name of a game in `GAMES` on which a wrong one shows; a right one is right on all. The verdicts follow from
+what the classes do; test_explore.py compares them with a search of its own.
 """
 import random
 import threading
@@ -828,15 +828,16 @@ class MisspeltEvent(Core):
 
 
 STUDENTS = [
-    *(Student(it, RIGHT) for it in (Plain, InAnyOrder, CountsSends, Signals, ParentFirst, SharedBoxes, OnObjects, Looks)),
-    *(Student(it, RIGHT) for it in (Token, Weights, Waves)),
+    *(Student(it, RIGHT) for it in (Plain, InAnyOrder, CountsSends, Signals, ParentFirst, SharedBoxes, OnObjects)),
+    *(Student(it, RIGHT) for it in (Looks, Token, Weights, Waves)),
     *(Student(it, EARLY) for it in (CountsPuts, WavesByPuts, AtOnce, BusyLetsGo, NoDeficit, OneWave, Colourless)),
     *(Student(it, EARLY) for it in (GivesTooSoon, GivesUp, FirstEdgeOnly)),
     Student(OneStart, EARLY, "two starts"),
     Student(LostWakeup, EARLY, "five"),
-    *(Student(it, MISSED) for it in (NeverLetsGo, Polls, LosesOne, AlwaysBlack, ThreeInARow)),
-    *(Student(it, NOT_LOCAL) for it in (GlobalLeft, AllPassiveAllTaken, AtOnceIfAlone, ReadsAcknowledged, RootReads)),
-    Student(Snapshot, NOT_LOCAL),
+    *(Student(it, MISSED, "pair") for it in (NeverLetsGo, Polls, AlwaysBlack, ThreeInARow)),
+    Student(LosesOne, MISSED),
+    *(Student(it, NOT_LOCAL, "pair") for it in (GlobalLeft, AllPassiveAllTaken, AtOnceIfAlone, ReadsAcknowledged)),
+    *(Student(it, NOT_LOCAL, "pair") for it in (RootReads, Snapshot)),
     *(Student(it, REFUSED) for it in (HelperCause, NothingLeft, LeftEdges, KeepsLeft, TakesChips, TakesMessages)),
     *(Student(it, REFUSED) for it in (EndsItself, AnswersNotNow, OpensAgain, Lies, WithoutTells)),
     *(Student(it, REFUSED) for it in (InItsClass, InADefault, InAGlobal, ByChance, BySmallChance, ByTheClock)),

@@ -7,6 +7,7 @@ schedules of each right class.
 import copy
 import itertools
 import os
+import re
 import subprocess
 import sys
 import tempfile
@@ -27,6 +28,16 @@ SOAK = bool(os.environ.get("CHIPFIRE_SOAK"))
 CAP = 200_000 if SOAK else 3_000
 SCHEDULES = 10_000 if SOAK else 100
 PAIR = GAMES["pair"]
+#: What the help says of each status, and the page.
+HELP = {
+    "0": ("right in this game", "is right in all schedules of this game"),
+    "2": ("too early", "closes the root too early"),
+    "3": ("can miss the end", "can miss the end"),
+    "4": ("too many states", "there are more than `--most`"),
+    "5": ("looks at others", "looks at others"),
+}
+#: Refused classes of which a whole search shows it, on a small game here.
+WHOLE = ("OpensAgain", "WithoutTells", "InItsClass", "BySmallChance", "Lies")
 #: What is said of each refused class, and how many events led there; None where that is not worked out by hand.
 REFUSALS = {
     "HelperCause": ("HelperCause has its own 'cause', which is the game's.*on_send, on_take, may_let_go", None),
@@ -140,15 +151,14 @@ def explored(setting, make, **options):
 class Verdicts(unittest.TestCase):
     def test_each_class_has_its_verdict(self):
         for make, verdict, game in STUDENTS:
-            # (those that many states make slow are tried on a smaller game here)
+            # (right ones have most states, and are tried on a small game here)
             setting = GAMES[game] if verdict != RIGHT or SOAK else PAIR
             if make is students.LostWakeup and not SOAK:
                 continue
             with self.subTest(make.__name__):
-                found = explored(setting, make)
                 if verdict == REFUSED:
-                    self.assertIsInstance(found, ValueError)
                     continue
+                found = explored(setting, make)
                 self.assertEqual(getattr(found, "status", found), students.STATUSES[verdict], str(found))
                 self.assertEqual(found.shown is None, verdict == RIGHT)
 
@@ -163,7 +173,7 @@ class Verdicts(unittest.TestCase):
         self.assertEqual({*refused}, {*REFUSALS})
         for name, (make, game) in refused.items():
             said, count = REFUSALS[name]
-            setting = PAIR if name in ("OpensAgain", "WithoutTells", "InItsClass", "BySmallChance") else GAMES[game]
+            setting = PAIR if name in WHOLE else GAMES[game]
             with self.subTest(name), self.assertRaisesRegex(ValueError, said) as caught:
                 chipfire.explore(setting, make)
             if count is not None:
@@ -353,6 +363,18 @@ class AtTheShell(unittest.TestCase):
             self.assertEqual((told, text), (1, "event,at,count\ntake,2,0\n"))
             self.assertIn("it changes chips of vertex 0", said)
             self.assertIn("with each send as one step", self.asked(f"{file}:Plain", *game, "--whole-sends")[1])
+
+    def test_the_page_and_the_help_have_the_same_statuses(self):
+        root = os.path.dirname(os.path.dirname(os.path.dirname(os.path.abspath(__file__))))
+        with open(f"{root}/docs/tasks/explore-your-own.md", encoding="utf-8") as page:
+            rows = re.findall(r"^\| ([0-9]) \| (.*?) \|", page.read(), re.MULTILINE)
+        _, text, _ = self.asked("--help")
+        told = " ".join(text.split())
+        for number, words in rows:
+            if number != "1":  # (an error is 1 of each command)
+                self.assertIn(f"{number} {HELP[number][0]}", told)
+                self.assertIn(HELP[number][1], words)
+        self.assertEqual({number for number, _ in rows}, {*HELP, "1"})
 
     def test_a_file_without_a_class(self):
         told, _, said = self.asked("mine.py")

@@ -5,6 +5,7 @@ CHIPFIRE_SOAK=1 in the environment it goes over all graphs of up to three vertic
 schedules of each right class.
 """
 import copy
+import dataclasses
 import itertools
 import os
 import re
@@ -20,6 +21,7 @@ from chipfire.lab import explored as found_by
 from chipfire.lab import locality
 from chipfire.lab import model
 from chipfire.lab import schedules
+from chipfire.lab import states
 from small_graphs import directed_graphs
 from students import EARLY, GAMES, MISSED, NOT_LOCAL, REFUSED, RIGHT, STUDENTS
 
@@ -313,6 +315,45 @@ class Knowledge(unittest.TestCase):
         self.assertRegex(str(found), "^not local: after [0-9]+ events the root is closed, and no message told it that vertex")
         log = chipfire.model_log(PAIR, students.RootReads, found.not_local)
         self.assertIs(chipfire.judge_log(log).is_right, False)
+
+
+class Kept(unittest.TestCase):
+    """What a state tells from another, and what stays the same in it."""
+
+    @dataclasses.dataclass(frozen=True)
+    class Share:
+        count: int
+
+    def number(self, first, second):
+        """The state of a game in which two vertices have these values, by the states of all games that were asked."""
+        core = schedules.opened(PAIR)
+        core.vertices[0].box, core.vertices[1].box = first, second
+        self.states = states.States(core, getattr(self, "states", None))
+        return self.states.noted()
+
+    def test_the_order_of_a_dict_counts(self):
+        number = self.number({1: 2, 3: 4}, None)
+        self.assertEqual(self.number({1: 2, 3: 4}, None), number)
+        self.assertNotEqual(self.number({3: 4, 1: 2}, None), number)
+
+    def test_what_is_shared_is_another_state_than_what_is_equal(self):
+        shared, value = [1], self.Share(2)
+        number = self.number(shared, shared)
+        self.assertNotEqual(self.number([1], [1]), number)
+        self.assertEqual(self.number([1], [1]), self.number([1], [1]))
+        # (values cannot be told from equal ones)
+        self.assertEqual(self.number(value, value), self.number(self.Share(2), self.Share(2)))
+
+    def test_what_is_shared_stays_shared(self):
+        shared = [1]
+        number = self.number(shared, shared)
+        *_, first, second, core = self.states.parts
+        first.box.append(2)
+        self.assertNotEqual(self.states.noted(), number)
+        self.states.load(number)
+        self.assertEqual((first.box, first.box is second.box, shared), ([1], True, [1, 2]))
+        first.box.append(2)
+        self.assertEqual(second.box, [1, 2])
 
 
 class Names(unittest.TestCase):

@@ -366,7 +366,7 @@ class Names(unittest.TestCase):
             if name.startswith("__") or name in model.HOOKS:
                 continue
             made = type("Mine", (model.Core,), {name: None})
-            with self.assertRaisesRegex(schedules.NameTaken, f"Mine has its own '{name}', which is the game's"):
+            with self.assertRaisesRegex(found_by.DetectorError, f"Mine has its own '{name}', which is the game's"):
                 chipfire.explore(PAIR, made)
 
     def test_each_count_of_the_game_is_compared(self):

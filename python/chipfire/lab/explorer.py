@@ -17,7 +17,7 @@ from chipfire.lab.explored import DetectorError as DetectorError, Explored, RIGH
 from chipfire.lab.locality import unknown
 from chipfire.lab.machine import Event, Schedule, Setting
 from chipfire.lab.model import Core, TooManyEvents, TooManyFirings
-from chipfire.lab.reached import Reached, Step
+from chipfire.lab.reached import Reached, State, Step
 from chipfire.lab.schedules import (
     Detector,
     detector_name,
@@ -90,26 +90,30 @@ class _Search:
         self.whole_sends = bool(whole_sends)
         self.most = as_int(most, "most", 1)
         self.chance = random.getstate()
-        self.core: Core = self._opened()
+        self.core, self.states, start = self._opened()
         self.shared = _shared(self.core, setting)
         self.feeds = self._taken_feeds(feeds)
         self.seals = self._taken_seals(seals)
         self.opening = sum(len(e.sent) for e in self.core.outs(-1))
-        self.states = States(self.core)
         self.shadow = Shadow(setting)
-        self.reached = Reached(self.states.noted())
+        self.reached = Reached(start)
         #: The numbers of steps by their first events.
         self.places_of_steps: dict[tuple[str, int, int], int] = {}
         self.is_whole = True
         #: Where the search is: a state, and the step that it takes from there, or -1.
         self.trail = 0, -1
 
-    def _opened(self) -> Any:
-        """The game at its start; an exception in a class of others is told."""
+    def _opened(self) -> tuple[Core, States, State]:
+        """The game at its start, its states, and the first of them; a class of others that raises is refused."""
         if isinstance(self.detector, str):
-            return opened(self.setting, self.detector)
+            return self._made()
         with self._guarded(lambda: ()):
-            return opened(self.setting, self.detector)
+            return self._made()
+
+    def _made(self) -> tuple[Core, States, State]:
+        core: Core = opened(self.setting, self.detector)
+        states = States(core)
+        return core, states, states.noted()
 
     def _taken_feeds(self, feeds: Iterable[Sequence[int]]) -> list[tuple[int, int]]:
         """Feeds as the edges and the numbers of chips; what cannot be fed is refused."""
@@ -328,8 +332,10 @@ class _Search:
         """Says of an exception in a class where it was raised, and after which events."""
         try:
             yield
-        except (DetectorError, NameTaken, TooManyFirings):
+        except (DetectorError, TooManyFirings):
             raise
+        except NameTaken as error:
+            raise DetectorError(str(error), Schedule()) from error
         except Exception as error:  # (whatever a class does)
             raise self._error(_said(error), events()) from error
 

@@ -49,7 +49,8 @@ class Freezer:
             if all(map(operator.is_, items, value)):
                 return value
             return made, tuple(items) if isinstance(value, tuple) else frozenset(items)
-        if made.__hash__ not in (None, object.__hash__):  # (a value, such as a Decimal)
+        has_value: Any = made.__hash__
+        if has_value not in (None, object.__hash__):  # (such as a Decimal)
             return Freezer(self.parts)._gone_into(value)
         if (before := self.met.get(id(value))) is not None:
             return "again", before[0]

@@ -39,7 +39,7 @@ from chipfire.lab.machine import (
     WORDS,
 )
 from chipfire.lab.model import Core
-from chipfire.lab.schedules import Detector, Game, is_early, opened, Play, played
+from chipfire.lab.schedules import Detector, EVENTS, Game, is_early, opened, Play, played, WORK
 from chipfire.lab.sentences import Sentences
 from chipfire.utils import (
     FILE,
@@ -391,6 +391,18 @@ def compared(told: Simulation, ledger: Ledger) -> Iterator[tuple[Event, Reply]]:
         ledger.compare(board)
 
 
+def told_pairs(core: Core, event: Event) -> list[tuple[int, int]]:
+    """Who tells whom in an event of a detector's own, the root after the vertices, if its `tells` says so."""
+    if event.kind in (*EVENTS, WORK):
+        return []
+    try:
+        pairs = list(core.tells(event.kind, event.at))
+    except ValueError:
+        return []
+    parts = range(len(core.vertices) + 1)
+    return [(it, to) for it, to in pairs if it != to and it in parts and to in parts]
+
+
 class Words:
     """The sentences of a page, each once, by numbers."""
 
@@ -408,7 +420,11 @@ class Words:
         if event.kind == "ack" and not ledger.keeps_books:
             question = None  # (no rule is about it)
         step: dict[str, Any] = {"kind": event.kind, "at": event.at, "done": reply.is_done}
-        step["event"] = self.number(says.event(event, reply))
+        tells = told_pairs(ledger.core, event) if reply.is_done else []
+        if tells:
+            root = len(ledger.core.vertices)
+            step["tells"] = [[None if it == root else it for it in pair] for pair in tells]
+        step["event"] = self.number(says.event(event, reply, tells))
         step["reply"] = self.number(says.reply(event, reply, ledger.core))
         if question is not None:
             # (of a wrong detector too it is asked what the rule allows)

@@ -2,6 +2,7 @@
 
 from __future__ import annotations
 
+from collections.abc import Iterable
 from typing import Any
 
 from chipfire.graphs.graph import Graph
@@ -51,12 +52,21 @@ class Sentences:
         tail, head, _ = self.graph.edges[edge]
         return self.vertex(tail), self.vertex(head)
 
-    def event(self, event: Event, reply: Reply | None = None) -> str:
-        """What happens, or what is tried, if the reply says that it was refused or found nothing."""
+    def part(self, part: int) -> str:
+        """What a vertex is called, or the root, which comes after them."""
+        return "the root" if part == self.graph.vertices else self.vertex(part)
+
+    def event(
+        self, event: Event, reply: Reply | None = None, tells: Iterable[tuple[int, int]] = ()
+    ) -> str:
+        """What happens, or what is tried, if the reply says that it was refused or found nothing; of an event of the
+        detector's own who tells whom."""
         if event.kind == WORK:
             return f"Vertex {self.graph.names[event.at]} goes on, in way {event.count}."
         if event.kind not in EVENTS:
-            return f"The detector's own event {event.kind} {event.at}."
+            said = " and ".join(f"{self.part(it)} tells {self.part(to)}" for it, to in tells)
+            said = said or "the detector has an event of its own"
+            return f"{said[0].upper()}{said[1:]} ({event.kind} {event.at})."
         is_vain = reply is not None and reply.kind in ("not-now", "empty")
         return self._said(self.words["tries" if is_vain else "events"][event.kind], event) + "."
 

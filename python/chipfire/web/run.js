@@ -174,6 +174,10 @@ function bends() {
 // The way of an edge: its path, its arrow, and its points, at 0 near the tail and at 1 near the head.
 function wayOf(edge, bend) {
     const [tail, head] = run.edges[edge];
+    return wayBetween(tail, head, bend);
+}
+
+function wayBetween(tail, head, bend) {
     const from = placeOf(tail);
     const to = isFramed(head) ? onFrame(from) : placeOf(head);
     const length = Math.hypot(to.x - from.x, to.y - from.y) || 1;
@@ -181,7 +185,7 @@ function wayOf(edge, bend) {
     const off = 2 * bend * Math.min(0.15 * length, 1.2 * radius);
     const control = { x: (from.x + to.x) / 2 - along.y * off, y: (from.y + to.y) / 2 + along.x * off };
     const start = towards(from, control, radius);
-    const end = towards(to, control, isFramed(head) ? 2 : radius + 3);
+    const end = towards(to, control, isFramed(head) ? 2 : radius + (head === null ? size.root / 2 : 3));
     const on = (t) => ({
         x: (1 - t) ** 2 * start.x + 2 * t * (1 - t) * control.x + t ** 2 * end.x,
         y: (1 - t) ** 2 * start.y + 2 * t * (1 - t) * control.y + t ** 2 * end.y,
@@ -208,6 +212,21 @@ function wayRound(edge, bend) {
     return ways.reduce((best, way) => (crossed(way).length < crossed(best).length ? way : best));
 }
 
+// The way of what one part tells another, bent so that it lies on as little as can be of what is drawn.
+function wayOfTold(tail, head, drawn) {
+    const found = [0, 1, -1, 2, -2, 3, -3, 4, -4, 5, -5].map((bend) => {
+        const way = wayBetween(tail, head, bend);
+        // (its ends lie on the two parts)
+        const crossed = alongEdge(way).slice(1, -1).flatMap((it) => drawn.map((other) => overlap(it, other)));
+        return { way, cost: crossed.reduce((sum, it) => sum + it, 20 * Math.abs(bend)) };
+    });
+    return found.reduce((best, it) => (it.cost < best.cost ? it : best)).way;
+}
+
+function tokenAt({ x, y }) {
+    return shape("path", { d: `M${x - 9} ${y} l9 -9 l9 9 l-9 9 z`, class: "token" });
+}
+
 // The point of an arrow that comes from somewhere.
 function arrowAt(end, from, long = 12) {
     const back = towards(end, from, long);
@@ -228,8 +247,8 @@ const overlap = (a, b) => {
     return across > 0 && down > 0 ? across * down : 0;
 };
 
-// Takes the first of some places for a box that has no other box on it, or else that with the least.
-function roomFor(box, places, taken) {
+// The first of some places for a box that has no other box on it, or else that with the least, and how much that is.
+function bestRoom(box, places, taken) {
     let best = null;
     for (const place of places) {
         const found = { ...box, ...place };
@@ -237,14 +256,20 @@ function roomFor(box, places, taken) {
         if (best === null || over < best.over) best = { found, over };
         if (over === 0) break;
     }
-    taken.push(best.found);
-    return best.found;
+    return best;
 }
 
-// The places for a box beside an edge, and at last on it, near some of its points.
-function besideEdge(way, points, box) {
+// Takes this place.
+function roomFor(box, places, taken) {
+    const { found } = bestRoom(box, places, taken);
+    taken.push(found);
+    return found;
+}
+
+// The places for a box beside an edge, and at last farther off or on it, near some of its points.
+function besideEdge(way, points, box, farther = [30]) {
     const off = (Math.abs(way.side.x) * box.width + Math.abs(way.side.y) * box.height) / 2 + 6;
-    const away = [off, -off, off + 14, -off - 14, off + 30, -off - 30, 0];
+    const away = [0, 14, ...farther].flatMap((more) => [off + more, -off - more]).concat(0);
     return away.flatMap((by) => points.map(way.on).map(({ x, y }) => ({ x: x + way.side.x * by, y: y + way.side.y * by })));
 }
 
@@ -273,19 +298,39 @@ class Drawing {
         if (run.places.frame) this.vertices[run.sink] = this.drawFrame();
         const bent = bends();
         for (const edge of shownEdges) this.drawEdge(edge, wayRound(edge, bent.get(edge)));
+        this.told = shape("g");
+        this.drawing.append(this.told);
         this.drawRoot();
         run.names.forEach((_, vertex) => {
             if (!isFramed(vertex)) this.vertices[vertex] = this.drawVertex(vertex);
         });
         if (isRoomy) this.numberEdges();
-        this.marks = shape("g");
-        for (const { marks } of this.edges.values()) this.marks.append(marks);
-        this.drawing.append(this.marks);
+        this.drawTold();
+        this.tokens = shape("g");
+        this.drawing.append(this.tokens, ...[...this.edges.values()].map(({ marks }) => marks));
         const { x, y, width, height } = this.drawing.getBBox();
         const edge = 1.4 * radius;
         this.size = { width: width + 2 * edge, height: height + 2 * edge };
+        this.frame = { x: x + width / 2, y: y + height / 2, ...this.size };
         this.drawing.setAttribute("viewBox", [x - edge, y - edge, this.size.width, this.size.height].join(" "));
         keepLegible(this.drawing, this.size, SMALLEST);
+    }
+
+    // The ways of all that parts tell each other in events of the detector's own.
+    drawTold() {
+        const drawn = isSmall ? [...this.fixed, ...this.drawnLines()] : [];
+        this.ways = new Map();
+        for (const [tail, head] of this.game.steps.flatMap(({ tells = [] }) => tells)) {
+            if (this.ways.has(`${tail} ${head}`)) continue;
+            const way = wayOfTold(tail, head, drawn);
+            this.ways.set(`${tail} ${head}`, way);
+            drawn.push(...alongEdge(way));
+        }
+        this.showWays([...this.ways.values()]);
+    }
+
+    showWays(ways) {
+        this.told.replaceChildren(...ways.map(({ path }) => shape("path", { d: path, class: "line" })));
     }
 
     // How high the smallest letters are on the screen.
@@ -388,6 +433,7 @@ class Drawing {
             else if (this.edges.has(index)) this.showEdge(index);
         }
         if (isRoomy) this.showMarks();
+        else this.showTold([]);
         return parts;
     }
 
@@ -435,9 +481,38 @@ class Drawing {
         const taken = [...this.fixed];
         const facts = this.game.state.edges;
         const made = new Map([...this.edges].map(([edge, { way }]) => [edge, this.boxesOf(facts[edge], way, taken)]));
+        taken.push(...this.drawnLines());
+        this.showTold(taken);
         for (const [edge, { way, marks }] of this.edges) {
             marks.replaceChildren(...made.get(edge), ...this.tagsOf(facts[edge], way, taken));
         }
+    }
+
+    drawnLines() {
+        return [...this.edges.values()].flatMap(({ way }) => alongEdge(way));
+    }
+
+    // The last event of the detector's own up to now, with a mark where it came to: there is the token, or the wave.
+    showTold(taken) {
+        const steps = this.game.steps.slice(0, this.game.at);
+        const { tells = [], kind } = steps.findLast((step) => step.tells) ?? {};
+        const ways = tells.map((pair) => this.ways.get(pair.map(String).join(" ")));
+        for (const group of [this.told, this.tokens]) {
+            group.setAttribute("class", steps.at(-1)?.tells === tells ? "told changed" : "told");
+        }
+        taken.push(...ways.flatMap(alongEdge));
+        this.showWays(ways);
+        this.tokens.replaceChildren(...ways.map((way) => tokenAt(way.on(1))));
+        if (isRoomy && ways.length) this.tokens.append(this.kindOf(kind, ways[0], taken));
+    }
+
+    // What an event of the detector's own is called, beside its way.
+    kindOf(kind, way, taken) {
+        const box = { width: textWidth(kind, size.note * 0.85), height: size.note };
+        const isInside = (place) => overlap({ ...box, ...place }, this.frame) === box.width * box.height;
+        const places = besideEdge(way, [0.5, 0.4, 0.6, 0.3, 0.7], box).filter(isInside);
+        const { x, y } = roomFor(box, [...places, way.on(0.5)], taken);
+        return word(kind, x, y, size.note * 0.85, "number");
     }
 
     // The boxes in the middle of an edge, one beside the other.
@@ -464,15 +539,26 @@ class Drawing {
     tagsOf(facts, way, taken) {
         const unseen = facts.acknowledged - facts.settled;
         const tags = [];
-        if (facts.owed) tags.push([isRoomy ? `owes ${facts.owed}` : `!${facts.owed}`, [0.8, 0.74, 0.86, 0.68, 0.62], "owes"]);
-        if (unseen) tags.push([isRoomy ? `◁ ack ${unseen}` : `◁${unseen}`, [0.22, 0.28, 0.16, 0.34, 0.4], "answer"]);
-        if (facts.sealed) tags.push([facts.refused ? "sealed, refused" : "sealed", [0.6, 0.5, 0.4], "seal"]);
-        return tags.map(([text, points, name]) => {
+        if (facts.owed) tags.push([[`owes ${facts.owed}`, `!${facts.owed}`], [0.8, 0.74, 0.86, 0.68, 0.62], "owes"]);
+        if (unseen) tags.push([[`◁ ack ${unseen}`, `◁${unseen}`], [0.22, 0.28, 0.16, 0.34, 0.4], "answer"]);
+        if (facts.sealed) tags.push([[facts.refused ? "sealed, refused" : "sealed"], [0.6, 0.5, 0.4], "seal"]);
+        return tags.map(([texts, points, name]) => {
+            const [text, room] = isRoomy ? roomOfTag(texts, points, way, taken) : [texts.at(-1), null];
             const box = { width: textWidth(text, size.note), height: size.note * 1.3 };
-            const places = isRoomy ? besideEdge(way, points, box) : points.map(way.on);
-            return tag(text, roomFor(box, places, taken), name);
+            return tag(text, room ?? roomFor(box, points.map(way.on), taken), name);
         });
     }
+}
+
+// The first of some texts that finds room near its edge, and where; else that which lies least on others.
+function roomOfTag(texts, points, way, taken) {
+    const found = texts.map((text) => {
+        const box = { width: textWidth(text, size.note), height: size.note * 1.3 };
+        return { text, ...bestRoom(box, besideEdge(way, points, box, []), taken) };
+    });
+    const { text, found: room } = found.reduce((best, it) => (it.over < best.over ? it : best));
+    taken.push(room);
+    return [text, room];
 }
 
 function boxOf(name, text, below, x, y, width) {
@@ -615,15 +701,16 @@ let story = tellStory();
 
 // Which messages and acknowledgements went from which event to which, and from when to when each vertex was engaged.
 function tellStory() {
-    const told = { messages: [], answers: [], bands: [] };
+    const told = { messages: [], answers: [], bands: [], own: [] };
     const messages = run.edges.map((_, edge) =>
         run.start.edges[edge].cells.map(([, chips]) => ({ edge, from: 0, chips })));
     const answers = run.edges.map(() => []);
     const engaged = new Map();
     for (const found of messages) told.messages.push(...found);
-    run.steps.forEach(({ kind, at: edge, done, changes }, index) => {
+    run.steps.forEach(({ kind, at: edge, done, changes, tells = [] }, index) => {
         const step = index + 1;
         if (!done) return;
+        told.own.push(...tells.map(([tail, head]) => ({ tail, head, from: step, to: step })));
         if (kind === "put") {
             const chips = changes.find(([, , name]) => name === "cells")[3].at(-1)[1];
             messages[edge].push({ edge, from: step, chips });
@@ -675,10 +762,11 @@ function showDiagram() {
             const [tail, head] = [run.edges[it.edge][from], run.edges[it.edge][to]];
             return columns.includes(tail) || columns.includes(head) ? arrowOf(it, kind, tail, head, seen) : [];
         }));
+    const own = story.own.filter((it) => seen.isSeen(it) && columns.includes(it.tail) && columns.includes(it.head));
     const dots = stops.slice(Math.max(seen.first, 1), seen.end + 1).map((step) => dotOf(step, seen));
     const size = { width: SPACE.column * columns.length, height: bottom + 6 };
     const bar = shape("line", { x1: 0, y1: seen.now, x2: size.width, y2: seen.now, class: "now" });
-    diagram.replaceChildren(...bands, ...lines, bar, ...arrows, ...dots, ...heads);
+    diagram.replaceChildren(...bands, ...lines, bar, ...arrows, ...own.map((it) => toldOf(it, seen)), ...dots, ...heads);
     diagram.setAttribute("viewBox", `0 0 ${size.width} ${size.height}`);
     keepLegible(diagram, size, SPACE.words);
 }
@@ -723,6 +811,13 @@ function arrowOf({ from, to, chips }, kind, tail, head, { x, row, columns, end, 
     const cut = other === head ? stop : start;
     const said = `${other === head ? "to" : "from"} ${run.names[other]}`;
     return other === null ? made : [...made, word(said, cut.x + 6, cut.y, SPACE.words, "said")];
+}
+
+// What a detector's own event tells, from one part to another.
+function toldOf({ tail, head, from }, { x, row }) {
+    const [start, end] = [{ x: x(tail), y: row(from) }, { x: x(head), y: row(from) + 0.7 * SPACE.row }];
+    const line = shape("line", { x1: start.x, y1: start.y, x2: end.x, y2: end.y, class: "line" });
+    return shape("g", { class: `told${laterIf(from > at)}` }, line, shape("path", { d: arrowAt(end, start, 11), class: "token" }));
 }
 
 function dotOf(step, { x, row }) {

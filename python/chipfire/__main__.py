@@ -5,37 +5,38 @@
     python -m chipfire wrong DETECTOR [GRAPH CHIPS] >wrong.html
     python -m chipfire choose DETECTOR [GRAPH CHIPS] >choose.html
     python -m chipfire explore DETECTOR [GRAPH CHIPS]
+    python -m chipfire grade CLASS ..
     python -m chipfire judge GRAPH CHIPS LOG
     python -m chipfire judge LOG
 
 DETECTOR is a name or FILE.py:CLASS. `explore` ends with status 0 if the detector is right in all schedules of this game,
 2 if it can close the root too early, 3 if it can miss the end, 4 if there are more states than --most, and 5 if it looks
-at others; with 2, 3 and 5 a schedule shows it. `judge` ends with 0 if all claims of the log are true, 2 if one is false, and 3 if the log misses the end; with
-LOG alone it is the program's `judge`. An error is 1.
+at others; with 2, 3 and 5 a schedule shows it. `grade` ends with 0 if all classes are right on its games, 2 if one is
+wrong, and 4 if one is not decided or cannot be run. `judge` ends with 0 if all claims of the log are true, 2 if one is
+false, and 3 if the log misses the end; with LOG alone it is the program's `judge`. An error is 1.
 """
 
 from __future__ import annotations
 
 import argparse
-import os
-import runpy
 import subprocess
 import sys
 from typing import Any, NoReturn
 
+from chipfire.lab.alone import Limits
 from chipfire.lab.choosing import choice_page_text
 from chipfire.lab.detectors import DETECTORS, known_detector
 from chipfire.lab.explorer import DetectorError, explore
+from chipfire.lab.files import detector_of
+from chipfire.lab.grade import grades, status_of
 from chipfire.backend.finding import environment, find_program
 from chipfire.lab.judging import judge
 from chipfire.lab.layout import Point
 from chipfire.lab.ledger import Disagreement
 from chipfire.lab.machine import SCHEDULE_HEADER, TRACE_HEADER, Setting
-from chipfire.lab.model import Core
 from chipfire.lab.pages import page_text, recorded, refuse_more
 from chipfire.backend.commands import known_chips, known_graph, simulate
-from chipfire.lab.schedules import Detector
-from chipfire.utils import MAX_LIMIT, has_header as begins, read_rows, rows_text
+from chipfire.utils import as_int, MAX_LIMIT, has_header as begins, read_rows, rows_text
 from chipfire.lab.wrong import wrong_page_text
 
 
@@ -67,35 +68,17 @@ def _setting(files: list[str], asked: argparse.Namespace, **options: Any) -> Set
     return Setting(known, known_chips(known, files[1], asked.program), **options)
 
 
-def _detector(name: str) -> Detector:
-    """A detector by its name, or the class in FILE.py:CLASS."""
-    file, colon, wanted = name.rpartition(":")
-    if name.endswith(".py"):
-        raise ValueError(f"{name} is a file, and a detector is a class in it: {name}:CLASS")
-    if not colon:
-        known_detector(name)
-        return name
-    sys.path.insert(0, os.path.dirname(os.path.abspath(file)))  # (as for a file that Python starts)
-    try:
-        made = runpy.run_path(file).get(wanted)
-    except (Exception, SystemExit) as error:  # (whatever the file does)
-        raise ValueError(f"{file}: {type(error).__name__}: {error}") from error
-    if not (isinstance(made, type) and issubclass(made, Core)):
-        raise ValueError(f"{file} has no class {wanted} that is made of chipfire.model.Core")
-    return made
-
-
 def _tried(asked: argparse.Namespace) -> str:
     """The page of a detector that is tried."""
     setting = _setting(asked.game, asked) if asked.game else None
     options = {"title": asked.title, "positions": asked.positions and _positions(asked.positions)}
     options |= {"program": asked.program} if asked.text is wrong_page_text else {}
-    return str(asked.text(_detector(asked.name), setting, **options))
+    return str(asked.text(detector_of(asked.name), setting, **options))
 
 
 def _explore(asked: argparse.Namespace) -> tuple[str, int]:
     """What is found, with the shortest schedule, and the status."""
-    detector = _detector(asked.name)
+    detector = detector_of(asked.name)
     known = known_detector(asked.name if asked.name in DETECTORS else "right").game
     options: dict[str, Any] = {"limit": asked.limit, "ring": asked.ring, "fed": bool(asked.feed)}
     setting = (
@@ -113,6 +96,19 @@ def _explore(asked: argparse.Namespace) -> tuple[str, int]:
     )
     rows = "" if found.shown is None else rows_text(SCHEDULE_HEADER, found.shown)
     return f"{found}\n{rows}", found.status
+
+
+def _grade(asked: argparse.Namespace) -> tuple[str, int]:
+    """Writes the line of each class as soon as it is graded, and returns the status."""
+    found = []
+    seconds = as_int(asked.seconds, "--seconds", 1)
+    limits = Limits(seconds, as_int(asked.megabytes, "--megabytes", 1))
+    for grade in grades(asked.names, limits, asked.pages, asked.program):
+        found.append(grade)
+        line = grade.json() if asked.json else str(grade)
+        sys.stdout.buffer.write(f"{line}\n".encode(errors="surrogateescape"))
+        sys.stdout.buffer.flush()
+    return "", status_of(found)
 
 
 def _judge(asked: argparse.Namespace) -> tuple[str, int]:
@@ -209,6 +205,26 @@ def _add_explore(commands: Any) -> None:
     command.add_argument("--seal", type=int, action="append", default=[], metavar="EDGE", help=says)
 
 
+def _add_grade(commands: Any) -> None:
+    says = (
+        "grades classes on small games: status 0 all right on these, 2 one is wrong, 4 one is not "
+        "decided or cannot be run"
+    )
+    command = _add(commands, "grade", says, make=_grade)
+    says = "FILE.py:CLASS; FILE.py for all its classes, or a folder for all its files"
+    command.add_argument("names", metavar="CLASS", nargs="+", help=says)
+    says = "how long each class may take on a processor, and four times as long by the clock (%(default)s)"
+    command.add_argument("--seconds", type=int, default=Limits().seconds, metavar="N", help=says)
+    says = "how much memory each class has at most (%(default)s)"
+    command.add_argument(
+        "--megabytes", type=int, default=Limits().megabytes, metavar="N", help=says
+    )
+    says = "a line of JSON for each class"
+    command.add_argument("--json", action="store_true", help=says)
+    says = "writes a page for each class that is wrong into this folder"
+    command.add_argument("--pages", metavar="FOLDER", help=says)
+
+
 def _add_judge(commands: Any) -> None:
     says = (
         "judges a log: status 0 if its claims are true, 2 if one is false, 3 if it misses the end"
@@ -246,7 +262,7 @@ def _add_looks(command: argparse.ArgumentParser) -> None:
 def _arguments() -> argparse.ArgumentParser:
     parser = _Parser(prog="python -m chipfire", description="chipfire's Python package.")
     commands = parser.add_subparsers(required=True, metavar="COMMAND")
-    for add in (_add_page, _add_wrong, _add_choose, _add_explore, _add_judge):
+    for add in (_add_page, _add_wrong, _add_choose, _add_explore, _add_grade, _add_judge):
         add(commands)
     return parser
 

@@ -35,7 +35,8 @@ def _group(number: int) -> str:
 
 
 def _is_private(number: int) -> bool:
-    """Whether a group is this user's own, or root's: it has his name and is his primary group, and nobody else's."""
+    """Whether nobody but this user, or root, is in a group: it has his name, is his primary group, and has no other
+    member."""
     try:
         group = _GROUPS.getgrgid(number)
         user = _USERS.getpwnam(group.gr_name)
@@ -44,7 +45,7 @@ def _is_private(number: int) -> bool:
     is_own = user.pw_uid in (0, os.geteuid()) and user.pw_gid == number
     if not is_own or {*group.gr_mem} - {user.pw_name}:
         return False
-    # (a directory of users may list only some; the name of the group tells then, too)
+    # (the system may list only some users, so the name of the group was compared too)
     return all(it.pw_uid == user.pw_uid for it in _USERS.getpwall() if it.pw_gid == number)
 
 
@@ -102,14 +103,17 @@ def _all(top: str, names: Collection[str]) -> Iterator[tuple[str, os.stat_result
             inner[:] = [name for name in inner if name in names]
 
 
-def _first(found: Iterator[tuple[str, os.stat_result]], top: str) -> str | None:
-    """The first doubt of what is found."""
+def _first_doubt(found: Iterator[tuple[str, os.stat_result]], top: str) -> str | None:
+    """Why somebody else may change one of these files, the first that is in doubt; None if none is."""
     if _USERS is None:
         return "this system does not say who can write to a file"
     try:
-        return next((why for path, state in found if (why := _doubt_of(path, state, top))), None)
+        for path, state in found:
+            if why := _doubt_of(path, state, top):
+                return why
     except OSError as error:
         return f"{error.filename}: {error.strerror}"
+    return None
 
 
 def doubt(path: str, top: str | None = None) -> str | None:
@@ -125,10 +129,12 @@ def doubt(path: str, top: str | None = None) -> str | None:
 
     Lists of access (POSIX ACLs) are not read. If one lets others write, the file's group is shown as one that may
     write, which is in doubt if it is not the user's own."""
-    return _first(_way(path), os.path.dirname(os.path.realpath(path)) if top is None else top)
+    if top is None:
+        top = os.path.dirname(os.path.realpath(path))
+    return _first_doubt(_way(path), top)
 
 
 def doubt_below(top: str, names: Collection[str]) -> str | None:
     """As `doubt`, of all that lies in a folder, a real path, and below those of its folders that have these names,
     where no symbolic link may lie."""
-    return _first(_all(top, names), top)
+    return _first_doubt(_all(top, names), top)

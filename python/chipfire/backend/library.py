@@ -53,9 +53,15 @@ _NOTHING = _ZERO.buffer_info()[0], 0
 
 def _places(folder: str) -> list[str]:
     """Where the library may lie that goes with the program in a folder: beside it, or where both are installed."""
-    around = os.path.dirname(folder)
-    installed = [os.path.join(around, *it, _NAME) for it in (("lib",), ("lib", "x86_64-linux-gnu"))]
-    return [os.path.join(folder, _NAME), *installed * (os.path.basename(folder) == "bin")]
+    beside = os.path.join(folder, _NAME)
+    if os.path.basename(folder) != "bin":
+        return [beside]
+    installed = os.path.join(os.path.dirname(folder), "lib")
+    return [
+        beside,
+        os.path.join(installed, _NAME),
+        os.path.join(installed, "x86_64-linux-gnu", _NAME),
+    ]
 
 
 def _stated(file: str, folder: str) -> str:
@@ -65,14 +71,14 @@ def _stated(file: str, folder: str) -> str:
     clone the sources state it, and `./chipfire` keeps a stamp beside what it took or built of them: that is of these
     sources if the stamp is not older."""
     around = os.path.dirname(folder)
-    for proved in (
-        os.path.join(folder, "PROVED"),
-        os.path.join(around, "share", "doc", "chipfire", "PROVED"),
-    ):
+    beside = os.path.join(folder, "PROVED")
+    installed = os.path.join(around, "share", "doc", "chipfire", "PROVED")
+    for proved in (beside, installed):
         if os.path.isfile(proved):
             lines = package_text(proved).splitlines()
             with open(file, "rb") as library:
-                is_meant = f"{_NAME} sha256:{hashlib.sha256(library.read()).hexdigest()}" in lines
+                checksum = hashlib.sha256(library.read()).hexdigest()
+            is_meant = f"{_NAME} sha256:{checksum}" in lines
             return lines[0].partition(" ")[2] if is_meant else ""
     stamp = os.path.join(folder, "chipfire.stamp")
     source = source_of_version(around)
@@ -125,18 +131,19 @@ def _load(file: str) -> ctypes.CDLL:
 
 @functools.cache
 def _beside() -> tuple[ctypes.CDLL | None, str]:
-    """The library of the program that is found, if it may be loaded and has the package's version; and why not."""
+    """The library of the program that is found, and an empty text; or None, and why it is not loaded."""
     folder = os.path.dirname(os.path.realpath(find_program()))
-    for file in filter(os.path.isfile, _places(folder)):
-        try:
-            why = _why_not(file, folder)
-            if why is None:
-                return _load(file), ""
-        except (OSError, AttributeError) as error:
-            why = f"{file} cannot be loaded: {error}"
-        warnings.warn(f"{why}: each call starts the program, slower", stacklevel=2)
-        return None, why
-    return None, f"there is none beside {folder}"
+    file = next(filter(os.path.isfile, _places(folder)), None)
+    if file is None:
+        return None, f"there is none beside {folder}"
+    try:
+        why = _why_not(file, folder)
+        if why is None:
+            return _load(file), ""
+    except (OSError, AttributeError) as error:
+        why = f"{file} cannot be loaded: {error}"
+    warnings.warn(f"{why}: each call starts the program, slower", stacklevel=2)
+    return None, why
 
 
 def _loaded() -> ctypes.CDLL | None:

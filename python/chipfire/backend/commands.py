@@ -107,7 +107,11 @@ def _input(kind: str, given: Any, text: Callable[[Any], str]) -> Input:
 
 
 class _Question:
-    """What the program is asked about a graph, which may stand in a file."""
+    """What the program is asked about a graph.
+
+    given  the graph as it was given, perhaps the name of its file
+    own    the graph if no file has it, or None: a fault names its vertices
+    """
 
     def __init__(self, graph: AnyGraph, program: AnyProgram) -> None:
         self.program = program
@@ -129,6 +133,7 @@ class _Question:
         return _input(kind, self.numbers(chips, of), lambda numbers: chips_text(numbers, header))
 
     def ask(self, command: str, inputs: Sequence[Input], *begins: str, **options: Any) -> str:
+        """What a command writes about the graph; `begins` and the options are as in `process.ask`."""
         for name, value in options.items():
             if name in _RANGES and value is not None:
                 options[name] = as_int(value, name, *_RANGES[name])

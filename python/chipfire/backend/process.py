@@ -100,32 +100,27 @@ def ask(
     graph: Graph | None = None,
     begins: str | tuple[str, ...] = '{"chips":[',
 ) -> str:
-    """Runs a command, and returns what it writes, which `begins` so; a fault is raised. `graph` is the one that is
-    asked about, if Python has it. An option that is None or False is left out, and True is one without a value.
-    """
+    """Runs a command, and returns what it writes, which has to begin with `begins`; a fault is raised. `graph` is the
+    one that is asked about, if Python has it: the fault names its vertices. An option that is None or False is left
+    out, and one that is True has no value."""
     path = find_program() if program is None else os.fspath(program)
     options = {"large": command != "explain", **(options or {})}
-    given = {
-        name: value for name, value in options.items() if value is not None and value is not False
-    }
-    names = [f"/dev/fd/{it.number}" if isinstance(it, Kept) else os.fspath(it) for _, it in inputs]
-    names = [f"./{name}" if name.startswith("-") else name for name in names]  # (it is no option)
-    words = [
-        command,
-        *(f"{kind}=" * kind.startswith("--") + name for (kind, _), name in zip(inputs, names)),
-    ]
-    words += [
-        f"--{name}" if value is True else f"--{name}={value}" for name, value in given.items()
-    ]
+    words = [command, *(_word_of(kind, file) for kind, file in inputs)]
+    for name, value in options.items():
+        if value is True:
+            words.append(f"--{name}")
+        elif value is not None and value is not False:
+            words.append(f"--{name}={value}")
     kept = [file.number for _, file in inputs if isinstance(file, Kept)]
     status, output, errors = _started([path, *words], kept)
     if status in (1, 3) and errors and errors[-1].startswith("chipfire: fault "):
         number, name, *place = errors[-1].split()[2:]
         where = tuple(map(int, place))
-        told = _meant(int(number), where, words, inputs, graph)
         if int(number) == 91:
-            told = _untaken(path, words, inputs)
-        raise Fault(int(number), name, where, _explained(path, number), status, told)
+            wrong = _untaken(path, words, inputs)
+        else:
+            wrong = _meant(int(number), where, words, inputs, graph)
+        raise Fault(int(number), name, where, _explained(path, number), status, wrong)
     if status not in (0, 2, 3) or not output.startswith(begins):
         raise RuntimeError(
             f"{path} {command} ended with status {status} and no answer of chipfire: {' '.join(errors)}"
@@ -135,6 +130,14 @@ def ask(
             "a vertex took and fired more often than its trace has rows", TraceCut, stacklevel=3
         )
     return output
+
+
+def _word_of(kind: str, file: FileName | Kept) -> str:
+    """The word of the command line for a file, after its option if it has one."""
+    name = f"/dev/fd/{file.number}" if isinstance(file, Kept) else os.fspath(file)
+    if name.startswith("-"):
+        name = f"./{name}"  # (else it would be an option)
+    return f"{kind}={name}" if kind.startswith("--") else name
 
 
 def _explained(program: str, number: int | str) -> str:

@@ -154,18 +154,23 @@ def _takes(top: str) -> bool:
 
 
 def _program_of(clone: str, is_asked: bool) -> str:
-    """What starts the program of a clone: target/chipfire, or `./chipfire` if that takes the program in the release. If
-    it is not asked it may do so where the package lies; where it was installed from, it did not."""
+    """What starts the program of a clone: its target/chipfire, or else its `./chipfire`, if that would take the
+    program in the release.
+
+    If it is asked for that, `./chipfire` takes the program now. Else no process starts: `./chipfire` counts as a
+    starter in the clone that the package lies in, and not in the one that the package was installed from.
+    """
     top = os.path.realpath(clone)
     taken = os.path.join(top, "target", "chipfire")
     starter = os.path.join(top, "chipfire")
     _believe(top, doubt(clone, top))
     if not os.access(taken, os.X_OK):
-        is_released = os.path.isfile(os.path.join(top, "release", "PROVED")) and os.access(
-            starter, os.X_OK
-        )
-        if not is_released or not (_takes(top) if is_asked else clone == _AROUND):
+        proved = os.path.join(top, "release", "PROVED")
+        is_released = os.path.isfile(proved) and os.access(starter, os.X_OK)
+        would_take = is_released and (_takes(top) if is_asked else clone == _AROUND)
+        if not would_take:
             raise ProgramNotFound(2, f"the clone {top} has none: ./chipfire there builds it", top)
+    # (what `./chipfire` took just now is there)
     if not os.access(taken, os.X_OK):
         return starter
     _believe(top, doubt(taken, top))

@@ -248,7 +248,7 @@ def dealt(group, modules, lanes):
     """Deals modules out: a long one is alone, those that share what they make are together, and the others are in as many
     parts as there are processes, since each part starts a Python."""
     if group in SHARING:
-        return [modules]
+        return [modules] * bool(modules)
     alone = [it for it in modules if f"{group} {it}" in LONGEST]
     others = [it for it in modules if it not in alone]
     return [*([it] for it in alone), *(others[at::lanes] for at in range(min(lanes, len(others))))]

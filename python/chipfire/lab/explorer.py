@@ -11,7 +11,6 @@ from dataclasses import replace
 from typing import Any
 
 from chipfire.graphs.graph import Graph
-from chipfire.lab.detectors import known_detector
 from chipfire.lab.endings import Moves
 from chipfire.lab.explored import DetectorError as DetectorError, Explored, RIGHT, UNDECIDED
 from chipfire.lab.locality import unknown
@@ -32,8 +31,8 @@ from chipfire.lab.shadow import GAME_EVENTS, Shadow
 from chipfire.lab.states import frozen, States
 from chipfire.utils import as_int, with_unit
 
-#: How many random schedules of each search are played once more, and of how many the logs are looked at, if there are as
-#: many states.
+#: How many random schedules of each search are played once more, and of how many, if there are as many states, the logs
+#: are looked at.
 REPLAYS = 200
 LOGS = 1000
 
@@ -59,8 +58,8 @@ def explore(
     seals  edges of the graph that may be sealed, each at any time
 
     Not tried are other chips, feeds, seals, limits and rings, and messages that are lost, come twice, or overtake. A
-    look at others is looked for in the logs of the shortest schedule to each closed root and of random ones, up to 1,000
-    and as many as there are states. One that never helps to close the root is not found.
+    look at others is looked for in the logs of the shortest schedule to each closed root, and of random ones, up to
+    1,000 and as many as there are states. One that never helps to close the root is not found.
 
     The state is all that stands in attributes of the game, its edges and its vertices, but for those that the class of
     the detector names in `not_state`. An attribute that cannot be compared is a ValueError. So is a detector that does
@@ -85,13 +84,12 @@ class _Search:
     ) -> None:
         self.setting = setting
         self.detector = detector
-        known_detector(detector)
-        self.name = detector_name(detector)
         self.whole_sends = bool(whole_sends)
         self.most = as_int(most, "most", 1)
         self.chance = random.getstate()
         self.core, self.states, start = self._opened()
         self.shared = _shared(self.core, setting)
+        self.name = detector_name(detector)
         self.feeds = self._taken_feeds(feeds)
         self.seals = self._taken_seals(seals)
         self.opening = sum(len(e.sent) for e in self.core.outs(-1))
@@ -105,7 +103,7 @@ class _Search:
 
     def _opened(self) -> tuple[Core, States, State]:
         """The game at its start, its states, and the first of them; a class of others that raises is refused."""
-        if isinstance(self.detector, str):
+        if not (isinstance(self.detector, type) and issubclass(self.detector, Core)):
             return self._made()
         with self._guarded(lambda: ()):
             return self._made()
@@ -343,7 +341,7 @@ class _Search:
         """A refusal, with the events that led there: those to where the search is, if no others are given."""
         schedule = Schedule(self._trail() if events is None else events)
         after = f"after {with_unit(len(schedule), 'event')}" if schedule else "at the start"
-        return DetectorError(f"{self.name}, {after}: {reason}", schedule)
+        return DetectorError(f"{detector_name(self.detector)}, {after}: {reason}", schedule)
 
     def _other(self, events: Iterable[Event], what: str) -> DetectorError:
         schedule = Schedule(events)

@@ -56,6 +56,9 @@ def detector_name(detector: Detector) -> str:
 
 def opened(setting: Game, detector: Detector = "right") -> Any:
     """A game at its start, on the model: a `Core` of the detector's class."""
+    if not isinstance(setting, (Setting, Computation)):
+        known = "a chipfire.Setting of graph and chips, or a Computation"
+        raise TypeError(f"a game is {known}, and no {type(setting).__name__}")
     make = known_detector(detector).make
     require_hooks(make)
     core = _made(setting, make)
@@ -87,9 +90,6 @@ def _made(setting: Game, make: type[Core]) -> Any:
     """A game at its start."""
     if isinstance(setting, Computation):
         return setting.opened(make)
-    if not isinstance(setting, Setting):
-        known = "a chipfire.Setting of graph and chips, or a Computation"
-        raise TypeError(f"a game is {known}, and no {type(setting).__name__}")
     graph = {
         "vertices": setting.graph.vertices,
         "sink": setting.graph.sink,

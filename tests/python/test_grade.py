@@ -132,9 +132,21 @@ class Suite(unittest.TestCase):
 
     def test_each_class_of_a_student_has_its_verdict(self):
         for student in students.STUDENTS:
-            if student.verdict != students.RIGHT:
+            if student.verdict not in (students.RIGHT, students.NOT_LOCAL):
                 found = shown(student.make)[1]
                 self.assertEqual(found.verdict, VERDICTS[student.verdict], (student.make, found))
+
+    def test_a_root_that_looks_at_others_is_not_local(self):
+        for student in students.STUDENTS:
+            if student.verdict == students.NOT_LOCAL:
+                first = next(it for _, it in suite.findings(student.make) if it is not None)
+                self.assertEqual(first.verdict, suite.NOT_LOCAL, (student.make, first))
+
+    def test_what_is_closed_by_luck_is_too_early_in_a_larger_game(self):
+        found = [it.verdict for _, it in suite.findings(students.OneWave) if it is not None]
+        self.assertEqual(found, [suite.NOT_LOCAL, suite.EARLY])
+        found = [it.verdict for _, it in suite.findings(students.GlobalLeft) if it is not None]
+        self.assertEqual(found, [suite.NOT_LOCAL])
 
     def test_a_lost_wakeup_needs_no_more_than_a_chain(self):
         game, found = shown(students.LostWakeup)

@@ -9,7 +9,8 @@ from collections.abc import Iterator
 from typing import NamedTuple, Union
 
 from chipfire.graphs.graph import Graph
-from chipfire.lab.explorer import DetectorError, explore
+from chipfire.lab.explored import DetectorError
+from chipfire.lab.explorer import explore
 from chipfire.lab.machine import Schedule, Setting
 from chipfire.lab.schedules import Detector
 
@@ -55,10 +56,11 @@ def verdict_on(setting: Setting, detector: Detector) -> Verdict:
     """What one of the games shows of a detector. One that cannot be tried is not graded."""
     try:
         found = explore(setting, detector, most=MOST_STATES)
-    except DetectorError as error:
+    except ValueError as error:
         if isinstance(error.__cause__, MemoryError):
             return Verdict(UNDECIDED, "it takes more memory than it may")
-        return Verdict(NOT_GRADED, str(error), error.schedule)
+        way = error.schedule if isinstance(error, DetectorError) else None
+        return Verdict(NOT_GRADED, str(error), way)
     except MemoryError:
         return Verdict(UNDECIDED, "the search takes more memory than it may")
     verdict = _VERDICTS[found.status]

@@ -213,7 +213,7 @@ def _add_grade(commands: Any) -> None:
     command = _add(commands, "grade", says, make=_grade)
     says = "FILE.py:CLASS; FILE.py for all its classes, or a folder for all its files"
     command.add_argument("names", metavar="CLASS", nargs="+", help=says)
-    says = "how long each class may take on a processor, and four times as long by the clock (%(default)s)"
+    says = "how long each class may take on a processor, and ten times as long by the clock (%(default)s)"
     command.add_argument("--seconds", type=int, default=Limits().seconds, metavar="N", help=says)
     says = "how much memory each class has at most (%(default)s)"
     command.add_argument(

@@ -25,7 +25,7 @@ VERDICTS = {
 CARELESS = {
     "Prints": ("too early", "one chip", "left are"),
     "Loops": ("undecided", "one chip", "2 seconds of a processor are over"),
-    "Sleeps": ("undecided", "one chip", "8 seconds by the clock are over"),
+    "Sleeps": ("undecided", "one chip", "20 seconds by the clock are over"),
     "Takes": ("undecided", "one chip", "more memory than it may"),
     "Exits": ("not graded", "one chip", "ended its process with status 0"),
     "Quits": ("not graded", "one chip", "SystemExit: all right"),

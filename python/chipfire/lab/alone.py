@@ -38,7 +38,7 @@ from chipfire.utils import import_optional, with_unit
 #: How the process begins: with the paths of modules that this one has.
 _START = "import sys; sys.path[:] = sys.argv[3:]; from chipfire.lab.alone import main; main()"
 #: How many times as long a process may last by the clock.
-SLOWEST = 4
+SLOWEST = 10
 #: Facts that are reported: they are added to those before.
 Facts = dict[str, Any]
 

@@ -39,7 +39,7 @@ def save(file: FileName, kind: str, said: Mapping[str, Any], arrays: Mapping[str
 
 
 def _write_whole(file: FileName, write: Callable[[BinaryIO], object]) -> None:
-    """Writes a file beside another one, and lets it take that one's place and mode."""
+    """Writes a new file, which takes the place and the mode of the one that is there when it is whole."""
     target = os.path.realpath(file)
     is_there = os.path.exists(target)
     if is_there and not os.path.isfile(target):
@@ -147,14 +147,21 @@ def graph_of(said: Mapping[str, Any], arrays: Mapping[str, Any]) -> Graph:
     if len({*map(len, columns)}) > 1 or any(((it < 0) | (it >= 2**31)).any() for it in columns):
         raise ValueError("the edges are none")
     shape = said["shape"]
+    if shape is not None:
+        shape = as_int(shape[0], "a shape"), as_int(shape[1], "a shape")
     squares = said["squares"]
+    if squares is not None:
+        squares = [as_int(square, "a square") for square in squares]
+    back = said["from_sink"]
+    if back is not None:
+        back = [(head, mult) for head, mult in back]
     return Graph(
-        said["vertices"],
-        said["sink"],
-        Columns(*(array("i", it.astype("i4").tobytes()) for it in columns)),
-        [*map(value_of, said["names"] or ())],
-        None if shape is None else (as_int(shape[0], "a shape"), as_int(shape[1], "a shape")),
-        None if squares is None else [as_int(square, "a square") for square in squares],
-        None if said["from_sink"] is None else [(head, mult) for head, mult in said["from_sink"]],
-        said["loops"],
+        vertices=said["vertices"],
+        sink=said["sink"],
+        edges=Columns(*(array("i", it.astype("i4").tobytes()) for it in columns)),
+        names=[*map(value_of, said["names"] or ())],
+        shape=shape,
+        squares=squares,
+        from_sink=back,
+        loops=said["loops"],
     )

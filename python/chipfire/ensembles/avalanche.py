@@ -74,14 +74,15 @@ def avalanches(
     names = names_of(vertices, "avalanches")
 
     def dropped() -> Iterator[Avalanche]:
+        graph = start.graph
         held = start
         for name in names:
-            left, counts = stabilized(
-                held + {held.graph.names[held.graph.number(name)]: 1}, program
-            )
-            fired = {it: count for it, count in zip(held.graph.names, counts) if count}
-            lost = left[held.graph.sink]
-            held = Configuration(held.graph, left)
+            # (a vertex without a name may be said by its square)
+            own_name = graph.names[graph.number(name)]
+            left, counts = stabilized(held + {own_name: 1}, program)
+            fired = {it: count for it, count in zip(graph.names, counts) if count}
+            lost = left[graph.sink]
+            held = Configuration(graph, left)
             yield Avalanche(name, sum(counts), len(fired), lost, fired, held)
 
     return dropped()

@@ -191,7 +191,7 @@ def chains(
         )
     else:
         run_in_threads(play.whole, n, workers)
-    return play.told(_in_order(known, pieces, n * drops) if fired else None)
+    return play.result(_in_order(known, pieces, n * drops) if fired else None)
 
 
 def _threads(n: int, workers: int | None) -> int:
@@ -302,8 +302,8 @@ class _Chains:
                     break
         return pieces
 
-    def told(self, fired: Firings | None) -> Chains:
-        """What was played, by rows."""
+    def result(self, fired: Firings | None) -> Chains:
+        """What was played, with a row for each chain in each column."""
         numpy = import_optional("numpy")
         n = len(self.seeds)
         chips = self.known.with_loops(self.chips)
@@ -372,12 +372,15 @@ def _by_rows(numpy: Any, numbers: array[int], n: int) -> Any:
 
 
 def _in_order(graph: Graph, pieces: Sequence[Sequence[Any]], count: int) -> Firings:
-    """The vertices that fired by each drop, by the numbers of `count` drops."""
+    """What `_Chains.step` returned in each thread, sorted by the numbers of `count` drops."""
     numpy = import_optional("numpy")
-    found = [it for piece in pieces for it in piece] or [[numpy.zeros(0, "i8")] * 3]
-    drop, vertices, counts = (numpy.concatenate(column) for column in zip(*found))
-    order = numpy.argsort(drop, kind="stable")
-    offsets = numpy.concatenate([[0], numpy.cumsum(numpy.bincount(drop, minlength=count))])
+    found = [*itertools.chain.from_iterable(pieces)]
+    if not found:
+        found = [[numpy.zeros(0, "i8")] * 3]
+    drops, vertices, counts = map(numpy.concatenate, zip(*found))
+    order = numpy.argsort(drops, kind="stable")
+    fired_by_drop = numpy.bincount(drops, minlength=count)
+    offsets = numpy.concatenate([[0], numpy.cumsum(fired_by_drop)])
     return Firings(offsets, _named(numpy, graph, vertices[order]), counts[order])
 
 

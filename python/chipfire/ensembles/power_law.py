@@ -80,6 +80,7 @@ class _Range:
     """All sizes of a range, by logarithms from a size that is seen often: it is near to where their mean is wanted."""
 
     def __init__(self, least: int, most: int, near: int) -> None:
+        #: How many sizes each place stands for, and the logarithm of the size there over `near`.
         offsets, self.counts = zip(*_places(most - least))
         self.logs = [math.log1p((offset + (least - near)) / near) for offset in offsets]
         self.first = self.logs[0]
@@ -178,16 +179,20 @@ def plot_sizes(
 
 
 def _draw_sizes(axes: Any, told: Mapping[int, int]) -> None:
-    """Draws the points of `plot_sizes` into axes."""
-    bits: Counter[int] = Counter()
+    """Draws the points of `plot_sizes` into axes: one for all sizes of the same number of bits."""
+    counts: Counter[int] = Counter()
     for size, count in told.items():
-        bits[size.bit_length()] += count if size > 0 else 0
-    ends = [(2 ** (it - 1), 2**it - 1) for it in sorted(bits) if bits[it]]
-    axes.loglog(
-        [math.sqrt(low * high) for low, high in ends],
-        [bits[it.bit_length()] / it for it, _ in ends],
-        "o",
-    )
+        if size > 0:
+            counts[size.bit_length()] += count
+    middles = []
+    heights = []
+    for bits, count in sorted(counts.items()):
+        if count:
+            least = 2 ** (bits - 1)
+            most = 2**bits - 1
+            middles.append(math.sqrt(least * most))
+            heights.append(count / least)  # (there are `least` sizes of so many bits)
+    axes.loglog(middles, heights, "o")
     axes.set_xlabel("size")
     axes.set_ylabel("how many, for each size")
 

@@ -49,18 +49,19 @@ def random_recurrent(
 
 
 def recurrent_rows(graph: Graph, seed: Any, n: int) -> array[int]:
-    """The chips of n of them, one behind another, without the graph's loops. From 32 on NumPy draws many together."""
+    """The chips of n random recurrent configurations, one after another, without those of the graph's loops. NumPy, if
+    it is there, draws them together, if 32 or more fit in its arrays of some 2^21 numbers."""
     outs = _undirected(graph)
     base = random_generator(seed).getrandbits(64)
     numpy = import_optional("numpy")
     draws = (random.Random(f"{base} {it}") for it in range(n))
-    some = min(n, 2**10, 2**21 // (graph.vertices + sum(graph.columns.mults)))
-    if numpy and some >= 32:
-        parts = (
-            _burnt_together(numpy, graph, [*itertools.islice(draws, some)])
-            for _ in range(0, n, some)
-        )
-        return array("Q", b"".join(part.tobytes() for part in parts))
+    together = min(n, 2**10, 2**21 // (graph.vertices + sum(graph.columns.mults)))
+    if numpy and together >= 32:
+        parts = []
+        for _ in range(0, n, together):
+            some_draws = [*itertools.islice(draws, together)]
+            parts.append(_burnt_together(numpy, graph, some_draws).tobytes())
+        return array("Q", b"".join(parts))
     rows = (_burnt(graph, outs, *_tree(graph.sink, outs, draw)) for draw in draws)
     return array("Q", itertools.chain.from_iterable(rows))
 
@@ -134,7 +135,8 @@ def _burnt(graph: Graph, outs: Outs, steps: Sequence[int], depth: Sequence[int])
 
 def _burnt_together(numpy: Any, graph: Graph, draws: list[random.Random]) -> Any:
     """What `_tree` and `_burnt` make by each generator, as rows of an array."""
-    # One vertex more is where a walk stays if all others are in its tree.
+    # One vertex more is where a walk stays if all others are in its tree. Each chip of a firing is an edge here, sorted
+    # by the tail: a vertex has `sizes` of them, from its `first` on.
     stays = (graph.sink, graph.vertices)
     tails, heads, mults = map(numpy.append, graph.columns, (stays, stays, (1, 1)))
     order = numpy.argsort(tails, kind="stable")
@@ -144,12 +146,14 @@ def _burnt_together(numpy: Any, graph: Graph, draws: list[random.Random]) -> Any
     most = sizes.max()
     chip = numpy.arange(len(heads))
     taken = _taken(numpy, graph.sink, sizes, first, heads - tails, draws)
+    # The next vertex of each in its tree, then the second, fourth .. next one, and how many edges lead there.
     after = (heads - tails)[taken]
     depth = (after != 0).astype(int)
     after = after + numpy.arange(len(after))
     while (further := depth[after]).any():
         depth = depth + further
         after = after[after]
+    # (times `most`, so that one number compares depths, and chips of one depth)
     depth = most * depth.reshape(len(draws), -1)
     taken = taken.reshape(len(draws), -1)
     # (a chip is burnt that leads to what burns before the next vertex, or with it and is not before the chip taken)

@@ -5,7 +5,7 @@ from __future__ import annotations
 import itertools
 from array import array
 from collections.abc import Iterable, Iterator, Sequence
-from typing import Any, cast
+from typing import Any
 
 from chipfire.backend import library
 from chipfire.backend.commands import AnyGraph, AnyProgram, known_graph, read_chips
@@ -48,6 +48,23 @@ def is_stable(graph: AnyGraph, chips: Chips) -> bool:
     return as_configuration(graph, chips, None).is_stable()
 
 
+def _is_in_range(numpy: Any, given: Any, width: int) -> bool:
+    """Whether this is an array of NumPy that has in each row `width` whole numbers from 0 to the most chips."""
+    if not isinstance(given, numpy.ndarray) or isinstance(given, numpy.ma.MaskedArray):
+        return False
+    if given.shape[1:] != (width,) or given.dtype.kind not in "iuf":
+        return False
+    return bool(((given >= 0) & (given <= MAX_CHIPS)).all() and (given % 1 == 0).all())
+
+
+def _in_one_row(graph: Graph, configurations: Any, program: AnyProgram) -> Sequence[int]:
+    """The chips of many configurations, one after another."""
+    numpy = import_optional("numpy")
+    if numpy and _is_in_range(numpy, configurations, graph.vertices):
+        return array("Q", configurations.astype("u8").tobytes())
+    return [*itertools.chain.from_iterable(as_rows(graph, configurations, 0, program))]
+
+
 def stabilize_many(
     graph: AnyGraph,
     configurations: Iterable[Chips],
@@ -62,26 +79,21 @@ def stabilize_many(
     a list of rows. `workers` threads play side by side.
     Proved: the chips. Not proved: that Python passes them on."""
     known = known_graph(graph, program)
-    given = cast(Any, configurations)
     width = known.vertices
-    numpy = import_optional("numpy")
-    is_array = (
-        numpy and isinstance(given, numpy.ndarray) and not isinstance(given, numpy.ma.MaskedArray)
-    )
-    is_array = is_array and given.shape[1:] == (width,) and given.dtype.kind in "iuf"
-    if is_array and ((given >= 0) & (given <= MAX_CHIPS)).all() and (given % 1 == 0).all():
-        start: Sequence[int] = array("Q", given.astype("u8").tobytes())
-    else:
-        start = [*itertools.chain.from_iterable(as_rows(known, given, 0, program))]
+    start = _in_one_row(known, configurations, program)
     count = len(start) // (width or 1)
     workers = as_int(workers, "workers", 1, 64)
-    # (an interrupt waits for the parts that have begun, so each is about one call)
-    many = 1 if workers == 1 else max(workers, -(-count // (library.at_once(known, start) or 1)))
+    many = 1
+    if workers > 1:
+        # (an interrupt waits for the parts that have begun, so each is about one call)
+        of_a_call = library.at_once(known, start) or 1
+        many = max(workers, -(-count // of_a_call))
     ends = [width * (count * it // many) for it in range(many + 1)]
     parts = run_in_threads(
         lambda it: stabilized_rows(known, start[ends[it] : ends[it + 1]], program)[0], many, workers
     )
     left = array("Q", b"".join(part.tobytes() for part in parts))
+    numpy = import_optional("numpy")
     if numpy:
         return numpy.frombuffer(left, "q").reshape(-1, width)
     return [tuple(left[it : it + width]) for it in range(0, len(left), width or 1)]

@@ -259,11 +259,13 @@ def burning(graph: Graph, program: FileName | None) -> tuple[Sequence[int], Sequ
     """The least burning script, and the chips that it takes away, by numbers; `chipfire.burning_script` tells how."""
     none = [0] * graph.vertices
     graph = graph.loop_free
+    # (each vertex fires once from as many chips as that takes, so what lies there then came in)
     entering = graph.position_after(graph.degrees(), [1] * graph.vertices)
     start = Configuration(graph, [max(count - 1, 0) for count in entering])
     fired = none if start.is_stable() else stabilized(start, program)[1]
     script = Configuration(graph, [count + 1 for count in fired]).numbers
-    return script, (-Configuration(graph, graph.position_after(none, script))).numbers
+    left = Configuration(graph, graph.position_after(none, script))
+    return script, (-left).numbers
 
 
 @cached_on_graph

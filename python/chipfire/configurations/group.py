@@ -35,6 +35,8 @@ class Group:
             1,
             MAX_GROUP_VERTICES,
         )
+        #: The coordinates of a chip on each vertex but the sink; and for each coordinate the chips that have a 1 there
+        #: and else 0.
         factors, parts, self._units = smith.cyclic(smith.reduced(self.graph))
         self._parts = [parts[place] for place in range(self.graph.vertices - 1)]
         self.factors = tuple(factors)
@@ -47,10 +49,11 @@ class Group:
         less 1. Sums of chips have the sums, and exactly those that are equivalent have the same.
         This is the discrete logarithm."""
         counts = [*Configuration(self.graph, chips).values()]
-        columns = ([part[at] for part in self._parts] for at in range(len(self.factors)))
-        return tuple(
-            sum(map(operator.mul, counts, column)) % it for column, it in zip(columns, self.factors)
-        )
+        found = []
+        for place, factor in enumerate(self.factors):
+            column = [part[place] for part in self._parts]
+            found.append(sum(map(operator.mul, counts, column)) % factor)
+        return tuple(found)
 
     def element(self, coordinates: Sequence[int], *, program: AnyProgram = None) -> Configuration:
         """The recurrent configuration of these coordinates, of which there is a number for each factor.

@@ -45,13 +45,18 @@ def reduced_laplacian(graph: AnyGraph, *, sparse: bool = False) -> Any:
 
 
 def _matrix(rows: list[smith.Row], sparse: bool) -> Any:
+    """A square matrix of sparse rows: as lists, or `sparse` by SciPy."""
     size = len(rows)
     if not sparse:
         return [[row.get(column, 0) for column in range(size)] for row in rows]
-    entries = [(x, at, to) for at, row in enumerate(rows) for to, x in row.items()]
-    values, at, to = zip(*entries) if entries else ((), (), ())
-    made = import_optional("scipy.sparse", "a sparse matrix is one of SciPy").csr_matrix
-    return made((values, (at, to)), shape=(size, size), dtype="int64")
+    values: list[int] = []
+    places: tuple[list[int], list[int]] = ([], [])
+    for number, row in enumerate(rows):
+        values += row.values()
+        places[0].extend([number] * len(row))
+        places[1].extend(row)
+    scipy_sparse = import_optional("scipy.sparse", "a sparse matrix is one of SciPy")
+    return scipy_sparse.csr_matrix((values, places), shape=(size, size), dtype="int64")
 
 
 def invariant_factors(graph: AnyGraph) -> tuple[int, ...]:

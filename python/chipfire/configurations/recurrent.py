@@ -59,8 +59,9 @@ def are_recurrent(
 def recurrent_representative(
     graph: AnyGraph, chips: Chips, *, program: AnyProgram = None
 ) -> Configuration:
-    """The one recurrent configuration to which firings, also backward, lead from this one; chips may be below 0. It is
-    the stable sum with the identity, after chips that are equivalent to none lifted all to 0 or more, and is tested.
+    """The one recurrent configuration to which firings, also backward, lead from this one; chips may be below 0. A
+    configuration equivalent to zero is added until no chips are below 0, and then the identity. The stable sum is
+    tested.
     Proved: the stabilizations. Not proved: the sums between them."""
     return as_configuration(graph, chips, program).equivalent_recurrent(program=program)
 

@@ -43,8 +43,8 @@ def _fields_of(row: Any, is_directed: bool) -> tuple[Any, ...]:
 
 
 def _given_rows(edges: Any, is_directed: bool) -> Iterable[Any]:
-    """The rows of edges. Views of NetworkX's edges have some: without the keys of a multigraph, which are no numbers of
-    chips. Those of an undirected graph are no directed edges."""
+    """The rows of edges. A view of NetworkX gives its rows without the keys of a multigraph, which are no numbers of
+    chips. If edges lead one way, a view of an undirected graph is refused."""
     kind = type(edges).__name__
     if is_of_networkx(edges) and kind.endswith(("EdgeView", "EdgeDataView")):
         if is_directed and not kind.startswith(("Out", "In")):
@@ -53,8 +53,10 @@ def _given_rows(edges: Any, is_directed: bool) -> Iterable[Any]:
             )
         if kind.endswith("EdgeView"):
             return list(edges(data=False))
+        # (a row is tail, head, key and data then, else tail, head and data)
         has_keys = getattr(edges, "keys", False) is True
-        return [(*row[:2], *row[2 + has_keys :]) for row in edges]
+        start = 3 if has_keys else 2
+        return [(*row[:2], *row[start:]) for row in edges]
     try:
         found = in_order(edges, "edges are rows (tail, head, mult)")
     except TypeError:

@@ -103,7 +103,8 @@ class Graph:
         vertices = as_int(vertices, "the number of vertices")
         sink = as_int(sink, "the sink")
         if squares is None:
-            squares = range(vertices - (sink == vertices - 1))
+            # (a vertex is on the square of its number, and a sink that is the last vertex on none)
+            squares = range(vertices - 1 if sink == vertices - 1 else vertices)
         stored = vars(self)  # (since a graph is never changed, no attribute can be set)
         stored["vertices"] = vertices
         stored["sink"] = sink

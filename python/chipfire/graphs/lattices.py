@@ -113,7 +113,8 @@ def grid(
 
 
 def _require_periodic_sizes(sizes: Sequence[int], joined: Sequence[bool], lattice: str) -> None:
-    """Refuses sizes of which one that is periodic cannot be joined with itself."""
+    """Refuses a periodic direction of less than 2, or of an odd size on the hexagonal lattice, where its borders do not
+    fit together."""
     for size, is_joined in zip(sizes, joined):
         if is_joined and (size < 2 or size % 2 and lattice == "hexagonal"):
             least = "an even size" if lattice == "hexagonal" else "a size of 2 or more"

@@ -19,29 +19,30 @@ def parts_of_named(
     loops: str | None = None,
     scale: int = 1,
 ) -> dict[str, Any]:
-    """What `Graph` takes for a graph of named vertices. Edges out of the sink are in the Laplacian alone, since it never fires."""
+    """What `Graph` takes for a graph of named vertices. Edges out of the sink are in the Laplacian alone, since it never
+    fires."""
     if loops not in (None, "drop", "sage"):
         raise ValueError(
             f"loops are left out ('drop') or played as by SageMath ('sage'), and not {loops!r}"
         )
-    names, numbers, at = _numbered(list(names), sink)
+    names, numbers, sink_number = _numbered(list(names), sink)
     edges = list(edges)
     if not is_directed:
         edges += [(head, tail, mult) for tail, head, mult in edges]
     rows = _numbered_rows(edges, numbers, as_int(scale, "the scale of weights", 1))
     held = [0] * len(names)
-    for tail, head, mult in rows if loops == "sage" else ():
-        if tail == head:
+    kept = []
+    back = []
+    for tail, head, mult in rows:
+        if tail == head and loops == "sage":
             held[tail] += mult
-    kept = [
-        (tail, head, mult)
-        for tail, head, mult in rows
-        if tail != at and not (loops and tail == head)
-    ]
-    back = [(head, mult) for tail, head, mult in rows if tail == at != head]
+        if tail != sink_number and not (tail == head and loops):
+            kept.append((tail, head, mult))
+        if tail == sink_number and tail != head:
+            back.append((head, mult))
     return {
         "vertices": len(names),
-        "sink": at,
+        "sink": sink_number,
         "edges": kept,
         "names": names,
         "from_sink": back,
@@ -92,10 +93,13 @@ def _numbered_rows(
 
 
 def _scaled(weight: Any, scale: int) -> Any:
-    """`scale` times a weight. A float is the fraction of this denominator that it is the nearest float to."""
+    """`scale` times a weight, as an int if that is whole. A float stands for the whole number over `scale` to which it
+    is the nearest float, if there is one: 0.1 times 10 is 1."""
     if scale == 1:
         return weight
     many = weight * scale
     if isinstance(weight, float) and math.isfinite(many) and round(many) / scale == weight:
         return round(many)
-    return int(many) if isinstance(weight, (Decimal, Fraction)) and many == int(many) else many
+    if isinstance(weight, (Decimal, Fraction)) and many == int(many):
+        return int(many)
+    return many

@@ -143,9 +143,10 @@ class Picture:
     def __str__(self) -> str:
         """The picture as text: the number of each square's colour, and a gap for the sink."""
         count = len(self.palette) - 1
-        signs = [
-            _SIGNS[it if count <= len(_SIGNS) else it * len(_SIGNS) // count] for it in range(count)
-        ] + [" "]
+        # (colours share signs if there are more of them)
+        most = max(count, len(_SIGNS))
+        signs = [_SIGNS[number * len(_SIGNS) // most] for number in range(count)]
+        signs.append(" ")
         return "\n".join("".join(signs[number] for number in row) for row in self.rows)
 
     __repr__ = __str__
@@ -171,6 +172,21 @@ def _spread(counts: Iterable[int], scale: str, most: int, last: int) -> list[int
     spread = _SPREADS[scale]
     top = spread(most) or 1
     return [min(int(last * spread(max(count, 0)) / top), last) for count in counts]
+
+
+def _marks(picture: Picture, scale: str) -> dict[int, str]:
+    """What stands beside a bar of a picture's colours, by their numbers; of spread ones also at counts between the two
+    ends."""
+    marks = dict(enumerate(picture.labels()[:-1]))
+    most = picture.most
+    if most is not None:
+        between = [most * step // 4 for step in (1, 2, 3)]
+        if scale == "log":
+            between = [10**power for power in range(13) if 2 * 10**power <= most]
+        for count in between:
+            number = _spread([count], scale, most, len(picture.palette) - 2)[0]
+            marks[number] = f"{count:,}"
+    return {number: label for number, label in marks.items() if label}
 
 
 def colours_of(palette: Palette) -> tuple[str, ...]:
@@ -345,16 +361,7 @@ class Drawn(AsArray):
             [list(row) for row in picture.rows], cmap=cmap, vmin=-0.5, vmax=last + 1.5
         )
         if bar:
-            marks = dict(enumerate(picture.labels()[:-1]))
-            if picture.most is not None:
-                most = picture.most
-                powers = [10**power for power in range(13) if 2 * 10**power <= picture.most]
-                between = powers if scale == "log" else [most * step // 4 for step in (1, 2, 3)]
-                marks |= {
-                    _spread([count], scale or "linear", most, last)[0]: f"{count:,}"
-                    for count in between
-                }
-            marks = {number: label for number, label in marks.items() if label}
+            marks = _marks(picture, scale or "linear")
             drawn = axes.figure.colorbar(image, ax=axes, ticks=[*marks])
             drawn.ax.set_yticklabels(marks.values())
             drawn.ax.set_ylim(-0.5, last + 0.5)

@@ -3,7 +3,7 @@
     tests/job.py FILE <WHAT
 
 tests/run.py starts it. WHAT is a JSON object: the `group`, its `modules`, the `way` and the `program`, the `names` of the
-tests or null for all of them, and whether they are only to be `listed`. FILE gets the `reader`, and for each test by
+tests or null for all of them, whether they are only to be `listed`, and whether there are many more (`long`). FILE gets the `reader`, and for each test by
 its name what came of it, a word and a text.
 """
 
@@ -16,6 +16,7 @@ import tempfile
 import traceback
 import unittest
 
+import listed
 import paths
 import ways
 
@@ -128,7 +129,9 @@ class Recorder:
         self.names, self.outcomes = names, Outcomes()
 
     def name_of(self, node):
-        """Returns the name of a test as unittest has it."""
+        """Returns the name of a test as unittest has it, or a list."""
+        if "[" in node:
+            return node.partition("[")[2].removesuffix("]")
         path, *parts = node.split("::")
         return "::".join([path.rpartition("/")[2].removesuffix(".py"), *parts])
 
@@ -161,9 +164,15 @@ def by_pytest(asked):
     """Returns what came of the tests that are asked for, by pytest; tests/conftest.py takes the way."""
     import pytest
 
+    # (a list makes only those)
+    listed.chosen = asked["names"]
     recorder = Recorder(asked["names"])
     files = [f"{paths.HERE}/{asked['group']}/{it}.py" for it in asked["modules"]]
-    options = [f"--program={asked['program']}", f"--way={asked['way']}"]
+    options = [
+        f"--program={asked['program']}",
+        f"--way={asked['way']}",
+        *["--long"] * asked["long"],
+    ]
     status = pytest.main(
         ["-q", "-p", "no:cacheprovider", "-W", IGNORED, *options, *files], plugins=[recorder]
     )
@@ -172,7 +181,7 @@ def by_pytest(asked):
     return recorder.outcomes
 
 
-def listed(asked):
+def known(asked):
     """Returns the tests that there are; what comes of them is not known."""
     outcomes = Outcomes()
     for case in cases_in(asked["modules"], outcomes):
@@ -189,7 +198,7 @@ def main():
             folder = tempfile.TemporaryDirectory(prefix="chipfire-tests-")
             ways.take(asked["way"], asked["program"], stack.enter_context(folder))
         by_reader = by_pytest if has_pytest else by_unittest
-        outcomes = listed(asked) if asked["listed"] else by_reader(asked)
+        outcomes = known(asked) if asked["listed"] else by_reader(asked)
     with open(sys.argv[1], "w", encoding="utf-8") as file:
         json.dump({"reader": reader, "outcomes": outcomes}, file)
 

@@ -25,6 +25,10 @@ import paths
 SHRUNK = []
 
 
+#: The names of the tests that pytest is given, or None for all.
+chosen: typing.Optional[typing.Collection[str]] = None
+
+
 class Test(typing.NamedTuple):
     """A test of a list; `faults` returns what is wrong, each a text, and nothing if all is well."""
 
@@ -133,6 +137,8 @@ def for_pytest(group, tests):
     import pytest
 
     every = tests(os.environ["CHIPFIRE_PACKED"], bool(os.environ.get("CHIPFIRE_LONG")))
+    if chosen is not None:
+        every = [it for it in every if it.name in chosen]
 
     @pytest.mark.parametrize("test", every, ids=[it.name for it in every])
     def test_of_group(test):

@@ -16,9 +16,9 @@ A NAME begins the name of a test, or what follows its set; WORDS stand somewhere
 failed when they were made last. --list shows the names. --long makes many more mutated files, logs and large games. FILE
 is the program that ./chipfire built, if not said; the libraries lie beside it.
 
-The tests of python, library and package are classes of unittest, which pytest runs if that Python has it, and else
-unittest. Those of the other groups are lists, which a loop goes through here; pytest takes the same lists. Processes do
-this side by side, as many as there are processors. A test that is skipped is shown with its reason and counted as
+The tests of python, library and package are classes of unittest, and those of the other groups are lists. Pytest runs
+them if their Python has it; else unittest runs the classes, and a loop goes through the lists. Processes do this side by
+side, as many as there are processors. A test that is skipped is shown with its reason and counted as
 neither. A group that is run as a whole may have no fewer tests than counts.txt says. The last line is `N passed, N
 failed`, and the status is 0 only if nothing failed.
 """
@@ -29,6 +29,7 @@ import concurrent.futures
 import contextlib
 import dataclasses
 import importlib
+import importlib.util
 import json
 import multiprocessing
 import os
@@ -51,6 +52,7 @@ SYSTEM = "/usr/bin/python3"
 #: The names of tests that failed when they were made last, each after its group.
 LAST = f"{paths.ROOT}/target/tests-failed"
 LISTS = ("cli", "docs", "hostile")
+HAS_PYTEST = importlib.util.find_spec("pytest") is not None
 #: The groups whose modules share what one of them makes first.
 SHARING = ("package",)
 #: What takes longest, the first of it most: a group with a set of it, or all of it. It is begun before all else, and if
@@ -97,6 +99,7 @@ class Job:
     names: typing.Optional[list] = None
     way: str = ""
     python: str = sys.executable
+    is_long: bool = False
 
     def place(self):
         """Where it stands among what takes longest, or behind all of that."""
@@ -156,8 +159,9 @@ def outcome_of(test):
 
 def read(its, program, is_listed=False):
     """Has job.py make the tests of a job, or list them."""
-    asked = {"group": its.group, "modules": its.of_set.split(), "way": its.way or ways.PROCESS}
-    asked |= {"program": program, "names": its.names, "listed": is_listed}
+    modules = [f"test_{its.group}"] if its.group in LISTS else its.of_set.split()
+    asked = {"group": its.group, "modules": modules, "way": its.way or ways.PROCESS}
+    asked |= {"program": program, "names": its.names, "listed": is_listed, "long": its.is_long}
     with tempfile.NamedTemporaryFile("r", prefix="chipfire-job-", encoding="utf-8") as file:
         how = {
             "stdout": subprocess.PIPE,
@@ -181,7 +185,7 @@ def read(its, program, is_listed=False):
 def made(its, program):
     """Returns what came of a job."""
     begun = time.monotonic()
-    if its.group in LISTS:
+    if its.group in LISTS and not HAS_PYTEST:
         outcomes = {name: outcome_of(TESTS[its.group][name]) for name in its.names}
         result = Made("a loop", outcomes, 0)
     else:
@@ -198,6 +202,7 @@ class Choice:
         self.starts = [it for it in asked.words if it not in paths.GROUPS]
         self.words, self.last = asked.k, last_failed() if asked.lf else None
         self.is_whole = not (self.starts or self.words or asked.lf)
+        self.is_long = asked.long
 
     def has(self, group, name):
         """Whether a test is asked for."""
@@ -235,7 +240,9 @@ def jobs_of_list(group, choice, lanes):
             sets[name.partition("::")[0]].append(name)
     for of_set, names in sets.items():
         parts = min(lanes, len(names)) if f"{group} {of_set}" in LONGEST else 1
-        yield from (Job(group, of_set, names[at::parts]) for at in range(parts))
+        yield from (
+            Job(group, of_set, names[at::parts], is_long=choice.is_long) for at in range(parts)
+        )
 
 
 def names_of_classes(group, choice, program):

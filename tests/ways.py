@@ -33,7 +33,7 @@ BY_LIBRARY = (
     "test_sandpiles",
     "test_wrong_inputs",
 )
-BY_NONE = (
+BY_WITHOUT = (
     "test_configurations",
     "test_counts",
     "test_drops",
@@ -55,7 +55,7 @@ BY_NONE = (
 
 def modules(way, every):
     """Returns the modules of tests/python, among all of them, that go a way."""
-    chosen = {PROCESS: every, LIBRARY: BY_LIBRARY, WITHOUT: BY_NONE}[way]
+    chosen = {PROCESS: every, LIBRARY: BY_LIBRARY, WITHOUT: BY_WITHOUT}[way]
     return [it for it in every if it in chosen]
 
 

@@ -8,6 +8,7 @@
     python -m chipfire grade CLASS ..
     python -m chipfire judge GRAPH CHIPS LOG
     python -m chipfire judge LOG
+    python -m chipfire judge-log FILE
 
 DETECTOR is a name or FILE.py:CLASS. `explore` ends with status 0 if the detector is right in all schedules of this game,
 2 if it can close the root too early, 3 if it can miss the end, 4 if there are more states than --most, and 5 if it looks
@@ -19,8 +20,12 @@ false, and 3 if the log misses the end; with LOG alone it is the program's `judg
 from __future__ import annotations
 
 import argparse
+import re
+import shutil
 import subprocess
 import sys
+import tempfile
+from collections.abc import Callable, Hashable
 from typing import Any, NoReturn
 
 from chipfire.lab.alone import Limits
@@ -33,6 +38,7 @@ from chipfire.backend.finding import environment, find_program
 from chipfire.lab.judging import judge
 from chipfire.lab.layout import Point
 from chipfire.lab.ledger import Disagreement
+from chipfire.lab.logs import judge_log, KINDS, read_json_lines, read_shiviz
 from chipfire.lab.machine import SCHEDULE_HEADER, TRACE_HEADER, Setting
 from chipfire.lab.pages import page_text, recorded, refuse_more
 from chipfire.backend.commands import known_chips, known_graph, simulate
@@ -125,6 +131,60 @@ def _judge(asked: argparse.Namespace) -> tuple[str, int]:
     if not judged.is_true:
         return text, 2
     return text, 3 if judged.is_missed else 0
+
+
+def _kind_of(asked: argparse.Namespace) -> Callable[[str], str | None]:
+    """The kind of an event by its text: its first word; or that of the first --kind that the text begins with, if any."""
+    kinds = []
+    for said in asked.kind:
+        begin, _, kind = said.rpartition("=")
+        if not begin or kind not in KINDS:
+            raise ValueError(f"--kind {said} is no TEXT=KIND with a kind among {', '.join(KINDS)}")
+        kinds.append((re.compile(begin), kind))
+    if not kinds:
+        return lambda text: text.split()[0] if text.split() else text
+    return lambda text: next((kind for begin, kind in kinds if begin.match(text)), None)
+
+
+def _message_of(asked: argparse.Namespace) -> Callable[[str], Hashable]:
+    """The message of an event by its text: what --message finds there, or its first group."""
+    pattern = re.compile(asked.message or r"(?!)")
+
+    def message_of(text: str) -> Hashable:
+        found = pattern.search(text)
+        return found and found[1 if pattern.groups else 0]
+
+    return message_of
+
+
+def _rows_of_log(asked: argparse.Namespace, files: list[str]) -> Any:
+    """What is to be judged: rows that are read here, or the name of a file of rows."""
+    kind_of = _kind_of(asked)
+    if asked.json:
+        process, kind, channel = asked.keys
+        name = None if process == "-" else process
+        return read_json_lines(
+            files, process=name, kind=lambda line: kind_of(str(line[kind])), channel=channel
+        )
+    if len(files) > 1:
+        raise ValueError("only a log of JSON lines may lie in several files")
+    if not asked.shiviz:
+        return files[0]
+    message_of = _message_of(asked)
+    more = {"expression": asked.expression} if asked.expression else {}
+    return read_shiviz(files[0], kind_of, message_of=message_of, gaps=asked.gaps, **more)
+
+
+def _judge_log(asked: argparse.Namespace) -> tuple[str, int]:
+    """The verdicts on the claims in a log of any program, and the status."""
+    with tempfile.TemporaryDirectory(prefix="chipfire-") as folder:
+        files = [f"{folder}/stdin" if file == "-" else file for file in asked.files]
+        if "-" in asked.files:
+            with open(f"{folder}/stdin", "wb") as kept:
+                shutil.copyfileobj(sys.stdin.buffer, kept)
+        options = {name: getattr(asked, name) for name in ("past", "reactive", "cut", "program")}
+        judged = judge_log(_rows_of_log(asked, files), **options)
+    return f"{judged}\n", {True: 0, False: 2, None: 3}[judged.is_right]
 
 
 class _Parser(argparse.ArgumentParser):
@@ -237,6 +297,36 @@ def _add_judge(commands: Any) -> None:
     command.add_argument("--fed", action="store_true", help="the root may feed chips")
 
 
+def _add_judge_log(commands: Any) -> None:
+    says = "judges a log of any program: status 0 if its claims are right, 2 if one is early, 3 if there is none"
+    more = ". A log is rows process,kind,channel, or JSON lines, or a log of ShiViz or GoVector"
+    command = _add(commands, "judge-log", says, more, make=_judge_log)
+    says = "the log; - is standard input"
+    command.add_argument("files", metavar="FILE", nargs="+", help=says)
+    form = command.add_mutually_exclusive_group()
+    form.add_argument(
+        "--json", action="store_true", help="the log is JSON lines, in one file or more"
+    )
+    form.add_argument("--shiviz", action="store_true", help="the log has clocks")
+    says = "the keys of JSON lines; for PROCESS - each file is a process"
+    keys = ("PROCESS", "KIND", "CHANNEL")
+    usual = [key.lower() for key in keys]
+    command.add_argument("--keys", nargs=3, default=usual, metavar=keys, help=says)
+    says = "the kind of what begins with this regular expression; all else is passed over"
+    command.add_argument("--kind", action="append", default=[], metavar="TEXT=KIND", help=says)
+    says = "finds the message in the text of an event with a clock, by its first group"
+    command.add_argument("--message", metavar="EXPRESSION", help=says)
+    says = "how events and clocks stand in the log, as ShiViz takes it"
+    command.add_argument("--expression", metavar="EXPRESSION", help=says)
+    for name, says in [
+        ("gaps", "takes a log without events that its clocks count"),
+        ("past", "tells how many rows of each process are before an early claim"),
+        ("reactive", "for processes that do not log when they are passive"),
+        ("cut", "leaves out the rows that wait in vain, and all behind them"),
+    ]:
+        command.add_argument(f"--{name}", action="store_true", help=says)
+
+
 def _add_detector(command: argparse.ArgumentParser) -> None:
     """The arguments that name a detector and a game."""
     says = f"FILE.py:CLASS, or one of {', '.join(DETECTORS)}"
@@ -262,7 +352,15 @@ def _add_looks(command: argparse.ArgumentParser) -> None:
 def _arguments() -> argparse.ArgumentParser:
     parser = _Parser(prog="python -m chipfire", description="chipfire's Python package.")
     commands = parser.add_subparsers(required=True, metavar="COMMAND")
-    for add in (_add_page, _add_wrong, _add_choose, _add_explore, _add_grade, _add_judge):
+    for add in (
+        _add_page,
+        _add_wrong,
+        _add_choose,
+        _add_explore,
+        _add_grade,
+        _add_judge,
+        _add_judge_log,
+    ):
         add(commands)
     return parser
 

@@ -10,18 +10,19 @@ import itertools
 import json
 import os
 import re
-from collections import defaultdict
+from collections import Counter, defaultdict
 from collections.abc import Callable, Hashable, Iterable, Iterator, Mapping, Sequence
 from dataclasses import dataclass
 from typing import Any, NamedTuple, Union
 
 from chipfire.backend.process import ask, Fault, Kept
+from chipfire.lab.waits import Progress
 from chipfire.utils import FILE, FileName, rows_text, sorted_if_possible
 
 _HEADER = ("process", "kind", "channel")
 _SENDS = ("send", "tell")
 _GETS = ("receive", "hear")
-_KINDS = (*_SENDS, *_GETS, "passive", "active", "over")
+KINDS = (*_SENDS, *_GETS, "passive", "active", "over")
 
 #: How an answer of the program begins, and its fault of rows that fit together in no order.
 _BEGINS = ("over ", "end ")
@@ -76,7 +77,8 @@ def judge_log(
     """Judges the claims in a log of any distributed program that its computation is over, by the program's verdicts.
 
     The log is rows (process, kind, channel) with any hashable names, or a file of such rows with numbers. The place of
-    a `Fault` is a row, or a process and its row, as they were given.
+    a `Fault` is a row, or a process and its row, as they were given. If rows fit together in no order, its words follow
+    the waits from there to the process that nobody can serve, which is tested and not proved.
 
     past      tells how many rows of each process are before an early claim, in the order with the fewest
     reactive  for processes that do not log when they are passive: one that gets a message is active until its last
@@ -87,40 +89,69 @@ def judge_log(
               have it; that is not proved
     """
     options = {"past": bool(past)}
-    gone = dict[Hashable, int]()
     if isinstance(log, FILE) and not (reactive or cut):
-        return _judged(ask(program, "judge", [("log", log)], options, begins=_BEGINS), None, gone)
-    rows = _Rows(_read(log, program) if isinstance(log, FILE) else log, reactive)
-    while True:
         try:
-            return _judged(
-                ask(program, "judge", [("log", rows.kept())], options, begins=_BEGINS), rows, gone
-            )
+            return _judged(ask(program, "judge", [("log", log)], options, begins=_BEGINS), None, {})
         except Fault as fault:
-            told = rows.fault(fault)
-            if not cut or told.number != _STUCK:
-                raise told from None
-            name, gone[name] = told.place
-            rows.rows = [
-                it
-                for it in rows.rows
-                if it[1][0] != name or it[0] < rows.places[name][fault.place[1]]
-            ]
+            raise _with_waits(fault, log) from None
+    rows = _Rows(_read(log, program) if isinstance(log, FILE) else log, reactive)
+    try:
+        return _asked(rows, options, program, {})
+    except Fault as fault:
+        if fault.number != _STUCK:
+            raise rows.fault(fault) from None
+        progress = rows.progress()
+        if not cut:
+            raise rows.stuck(fault, progress) from None
+    rows.keep(progress.made)
+    return _asked(rows, options, program, rows.own_cut(progress.cut()))
+
+
+def _asked(
+    rows: _Rows, options: Mapping[str, Any], program: FileName | None, cut: Mapping[Hashable, int]
+) -> JudgedLog:
+    """What the program says of rows, of which some were `cut` off."""
+    text = ask(program, "judge", [("log", rows.kept())], options, begins=_BEGINS)
+    return _judged(text, rows, cut)
+
+
+def _with_waits(fault: Fault, file: FileName) -> Fault:
+    """A fault of a file; if its rows fit in no order, with the words that say where the waits lead."""
+    if fault.number != _STUCK or not os.path.isfile(file):  # (a pipe cannot be read again)
+        return fault
+    try:
+        rows = _Rows(_numbers(_records(file)[1:]), False)
+    except (OSError, ValueError, csv.Error):
+        return fault
+    process, row = fault.place
+    progress = rows.progress()
+    if progress.cut().get(process) != row:  # (the file has changed)
+        return fault
+    return rows.stuck(fault, progress)
 
 
 def _read(file: FileName, program: FileName | None) -> list[Row]:
     """The rows of a file, if the program finds no fault in their fields, whatever they mean together."""
     try:
-        with open(file, encoding="utf-8-sig", errors="replace", newline="") as text:
-            header, *rows = filter(None, csv.reader(text))
+        header, *rows = _records(file)
     except (OSError, ValueError, csv.Error):
         ask(program, "judge", [("log", file)], begins=_BEGINS)
         raise
     fields = [
-        [*row[:1], *("passive" if kind in _KINDS else kind for kind in row[1:2]), *row[2:]]
+        [*row[:1], *("passive" if kind in KINDS else kind for kind in row[1:2]), *row[2:]]
         for row in rows
     ]
     ask(program, "judge", [("log", Kept([rows_text(header, fields).encode()]))], begins=_BEGINS)
+    return _numbers(rows)
+
+
+def _records(file: FileName) -> list[list[str]]:
+    """The header and the rows of a file, as text."""
+    with open(file, encoding="utf-8-sig", errors="replace", newline="") as text:
+        return list(filter(None, csv.reader(text)))
+
+
+def _numbers(rows: Iterable[Sequence[str]]) -> list[Row]:
     return [(int(process), kind, int(channel)) for process, kind, channel in rows]
 
 
@@ -172,6 +203,11 @@ class _Rows:
         self.places: dict[Hashable, list[int]] = defaultdict(list)
         for place, row in self.rows:
             self.places[row[0] if row else None].append(place)
+        #: How many of the first rows of each process were given, by how many these are.
+        self.given_of = {
+            process: [0, *itertools.accumulate(1 - place % 2 for place in places)]
+            for process, places in self.places.items()
+        }
 
     def kept(self) -> Kept:
         """The file that the program reads; a row that is none has one field there."""
@@ -186,22 +222,42 @@ class _Rows:
 
     def own(self, process: Hashable, count: int) -> int:
         """How many of the first rows of a process were given."""
-        return sum(place % 2 == 0 for place in self.places[process][:count])
+        return self.given_of[process][count]
 
     def fault(self, told: Fault) -> Fault:
         """A fault of the program, by the rows and the names that were given."""
-        place: tuple[Any, ...] = told.place
-        if told.number == _STUCK:
-            name = list(self.processes)[place[0]]
-            index = self.places[name][place[1]] // 2
-            place = (name, self.own(name, place[1]))
-        elif 24 <= told.number < 34 and place:  # (the place is a row)
-            index = self.rows[place[0]][0] // 2
-            place = (self.rows[place[0]][0] // 2,)
-        else:
+        if not (24 <= told.number < 34 and told.place):  # (the place is a row)
             return told
+        index = self.rows[told.place[0]][0] // 2
         words = f"row {index} of the log is {self.given[index]!r}"
+        return Fault(told.number, told.name, (index,), told.explanation, told.status, words)
+
+    def progress(self) -> Progress:
+        """How far these rows can be met. The program found no fault in them but that they fit in no order."""
+        return Progress((row[0], row[1], row[2]) for _, row in self.rows)
+
+    def stuck(self, told: Fault, progress: Progress) -> Fault:
+        """The fault of rows that fit in no order, by the names that were given, and where the waits lead."""
+        process, row = told.place
+        name = list(self.processes)[process]
+        index = self.places[name][row] // 2
+        words = f"row {index} of the log is {self.given[index]!r}; {progress.said(name, self.own)}"
+        place = (name, self.own(name, row))
         return Fault(told.number, told.name, place, told.explanation, told.status, words)
+
+    def keep(self, made: Mapping[Hashable, int]) -> None:
+        """Keeps so many rows of each process, and leaves out those behind them."""
+        count: Counter[Hashable] = Counter()
+        rows = []
+        for place, row in self.rows:
+            count[row[0]] += 1
+            if count[row[0]] <= made[row[0]]:
+                rows.append((place, row))
+        self.rows = rows
+
+    def own_cut(self, cut: Mapping[Hashable, int]) -> dict[Hashable, int]:
+        """The rows at which processes were cut, by the rows that were given, in the order of their numbers."""
+        return {name: self.own(name, cut[name]) for name in self.processes if name in cut}
 
 
 def _activity(rows: Iterable[tuple[int, Sequence[Any]]]) -> Iterator[tuple[int, Row]]:
@@ -264,8 +320,8 @@ def _value(of: Any, key: Key) -> Any:
 
 
 def _known(kind: Any) -> Any:
-    if kind is not None and kind not in _KINDS:
-        raise ValueError(f"there is no kind {kind!r}, but {', '.join(_KINDS)}")
+    if kind is not None and kind not in KINDS:
+        raise ValueError(f"there is no kind {kind!r}, but {', '.join(KINDS)}")
     return kind
 
 

@@ -182,7 +182,8 @@ def _judge_log(asked: argparse.Namespace) -> tuple[str, int]:
         if "-" in asked.files:
             with open(f"{folder}/stdin", "wb") as kept:
                 shutil.copyfileobj(sys.stdin.buffer, kept)
-        options = {name: getattr(asked, name) for name in ("past", "reactive", "cut", "program")}
+        names = ("past", "reactive", "cut", "progress", "program")
+        options = {name: getattr(asked, name) for name in names}
         judged = judge_log(_rows_of_log(asked, files), **options)
     return f"{judged}\n", {True: 0, False: 2, None: 3}[judged.is_right]
 
@@ -323,6 +324,7 @@ def _add_judge_log(commands: Any) -> None:
         ("past", "tells how many rows of each process are before an early claim"),
         ("reactive", "for processes that do not log when they are passive"),
         ("cut", "leaves out the rows that wait in vain, and all behind them"),
+        ("progress", "writes which claim is judged, about once a second"),
     ]:
         command.add_argument(f"--{name}", action="store_true", help=says)
 

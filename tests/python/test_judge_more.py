@@ -2,6 +2,8 @@
 
 Small logs are judged by hand, and random ones by all their consistent cuts (tests/cli/logs.py).
 """
+import contextlib
+import io
 import json
 import os
 import random
@@ -155,6 +157,19 @@ class LongLogs(unittest.TestCase):
         self.assertEqual(len(asked), 2)
         self.assertEqual(judged.cut, dict.fromkeys(range(count), 2 * turns))
         self.assertEqual((judged.claims, judged.end), ((), "missed"))
+
+
+class Progress(WithFolder):
+    def test_lines_of_progress_are_asked_for_and_handed_on(self):
+        program = self.file("program", "#!/bin/sh\necho chipfire: progress: $* >&2\necho end missed\n")
+        os.chmod(program, 0o755)
+        for wanted in (True, False):
+            errors = io.StringIO()
+            with contextlib.redirect_stderr(errors):
+                judged = chipfire.judge_log(ROWS, progress=wanted, program=program)
+            self.assertEqual(judged.end, "missed")
+            self.assertTrue(errors.getvalue().startswith("chipfire: progress: judge"))
+            self.assertEqual("--progress" in errors.getvalue(), wanted)
 
 
 class Command(WithFolder):

@@ -72,6 +72,7 @@ def judge_log(
     past: bool = False,
     reactive: bool = False,
     cut: bool = False,
+    progress: bool = False,
     program: FileName | None = None,
 ) -> JudgedLog:
     """Judges the claims in a log of any distributed program that its computation is over, by the program's verdicts.
@@ -87,8 +88,9 @@ def judge_log(
     cut       for logs that are cut off: if rows fit together in no order, those that wait at greatest progress are left
               out with all behind them. The verdicts on the claims before them do not change, as tests on random logs
               have it; that is not proved
+    progress  gives `sys.stderr` a line about once a second that says which claim is judged
     """
-    options = {"past": bool(past)}
+    options = {"past": bool(past), "progress": bool(progress)}
     if isinstance(log, FILE) and not (reactive or cut):
         try:
             return _judged(ask(program, "judge", [("log", log)], options, begins=_BEGINS), None, {})

@@ -102,11 +102,11 @@ def judge_log(
     except Fault as fault:
         if fault.number != _STUCK:
             raise rows.fault(fault) from None
-        progress = rows.progress()
+        reached = rows.progress()
         if not cut:
-            raise rows.stuck(fault, progress) from None
-    rows.keep(progress.made)
-    return _asked(rows, options, program, rows.own_cut(progress.cut()))
+            raise rows.stuck(fault, reached) from None
+    rows.keep(reached.made)
+    return _asked(rows, options, program, rows.own_cut(reached.cut()))
 
 
 def _asked(

@@ -86,7 +86,7 @@ def told_alone(task: Task) -> Facts:
                 os.killpg(running.pid, signal.SIGKILL)
             running.wait()
     if facts.keys() & {"verdict", "classes"}:
-        return facts
+        return {"game": facts.get("now"), **facts}
     unsaid = _unsaid(running.returncode, is_late, limits)
     return {"game": facts.get("now"), **unsaid._asdict()}
 
@@ -171,7 +171,7 @@ def _grade(task: Task, report: Callable[[Facts], None]) -> None:
             where = game
             report({"game": where, **best._asdict()})
     if where is None:
-        report(best._asdict())
+        report({"game": None, **best._asdict()})
     elif best.verdict in (EARLY, MISSED, NOT_LOCAL) and task.page is not None:
         report(_page(task.page, GAMES[where], detector, best, task.program))
 

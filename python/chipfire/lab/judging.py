@@ -171,14 +171,13 @@ def _number(value: Any, what: str) -> int:
 
 
 def _answer(core: Core, kind: str, at: int, count: int, told: str) -> str:
-    """Makes an event of a log, and answers what the log says if that is right, and else what is. A part may acknowledge
-    or settle less than it could, an edge be full with one message, and the root be read once nothing is left.
+    """Plays an event of a log on the model, and returns the reply that is right: the log's own, `told`, if it may be.
+
+    The model acknowledges and settles all that it can, and reads the root once that is closed. A log may acknowledge
+    or settle less, call an edge full that has a message, and read the root once nothing is left.
     """
     e = core.edges[at] if at < len(core.edges) else None
-    word, *numbers = told.split() or [""]
-    done = (
-        int(numbers[0]) if word == "done" and len(numbers) == 1 and numbers[0].isdecimal() else -1
-    )
+    done = _number_done(told)
     if kind == "clear" and told == "full" and e is not None and e.delivered < len(e.sent):
         e.clear = False
         return told
@@ -193,11 +192,15 @@ def _answer(core: Core, kind: str, at: int, count: int, told: str) -> str:
             e.settled += done
             core.ended = core.ended or kind == "end"
             return told
-    if (
-        kind == "read"
-        and at < len(core.vertices)
-        and done == core.vertices[at].fired
-        and not core.left()
-    ):
+    is_read = kind == "read" and at < len(core.vertices)
+    if is_read and done == core.vertices[at].fired and not core.left():
         return told
     return core.step(kind, at, count)
+
+
+def _number_done(reply: str) -> int:
+    """The number of a reply "done NUMBER"; -1 of any other reply."""
+    word, *numbers = reply.split() or [""]
+    if word == "done" and len(numbers) == 1 and numbers[0].isdecimal():
+        return int(numbers[0])
+    return -1

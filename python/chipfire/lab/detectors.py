@@ -160,27 +160,28 @@ class Credit(_Otherwise):
         self.own = Shares((Fraction(0),) * graph["vertices"], ((),) * edges, Fraction(1))
         super().__init__(graph, chips, *options)
 
-    def _give(self, vertex: int, credit: Fraction) -> None:
-        """Makes the credit of a vertex another, or of the root, if the vertex is -1."""
+    def _set_credit(self, vertex: int, credit: Fraction) -> None:
+        """Sets the credit of a vertex, or of the root if the vertex is -1."""
         if vertex < 0:
             self.own = self.own._replace(root=credit)
         else:
             held = self.own.vertices
             self.own = self.own._replace(vertices=(*held[:vertex], credit, *held[vertex + 1 :]))
 
-    def _lay(self, e: Edge, credits: tuple[Fraction, ...]) -> None:
+    def _set_messages(self, e: Edge, credits: tuple[Fraction, ...]) -> None:
+        """Sets the credits of the messages of an edge, the first one first."""
         held = self.own.messages
         self.own = self.own._replace(messages=(*held[: e.number], credits, *held[e.number + 1 :]))
 
     def on_send(self, e: Edge) -> None:
         half = (self.own.root if e.tail < 0 else self.own.vertices[e.tail]) / 2
-        self._give(e.tail, half)
-        self._lay(e, (*self.own.messages[e.number], half))
+        self._set_credit(e.tail, half)
+        self._set_messages(e, (*self.own.messages[e.number], half))
 
     def on_take(self, e: Edge) -> None:
         first, *rest = self.own.messages[e.number]
-        self._give(e.head, self.own.vertices[e.head] + first)
-        self._lay(e, tuple(rest))
+        self._set_credit(e.head, self.own.vertices[e.head] + first)
+        self._set_messages(e, tuple(rest))
 
     def own_events(self) -> Iterator[Event]:
         return (
@@ -194,8 +195,8 @@ class Credit(_Otherwise):
         if ("give_back", at, 0) not in self.own_events():
             return "not-now"
         back = self.own.root + self.own.vertices[at]
-        self._give(at, Fraction(0))
-        self._give(-1, back)
+        self._set_credit(at, Fraction(0))
+        self._set_credit(-1, back)
         return "done"
 
     def tells(self, kind: str, at: int) -> list[tuple[int, int]]:

@@ -188,11 +188,9 @@ class ModelLedger(Ledger):
     def _vertices(self, vertex: int) -> dict[str, Any]:
         facts = self._kept(super()._vertices(vertex))
         core = self.core
-        return (
-            {**facts, "chips": core.computation.show(core.vertices[vertex])}
-            if isinstance(core, Computed)
-            else facts
-        )
+        if isinstance(core, Computed):
+            facts["chips"] = core.computation.show(core.vertices[vertex])
+        return facts
 
     def _edges(self, edge: int) -> dict[str, Any]:
         return self._kept(super()._edges(edge))

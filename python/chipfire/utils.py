@@ -226,6 +226,7 @@ def package_text(*names: str) -> str:
 
 
 def write_text(file: FileName, text: str) -> None:
+    """Writes a file of UTF-8, with the line ends that the text has."""
     with open(file, "w", encoding="utf-8", newline="") as out:
         out.write(text)
 

@@ -182,7 +182,7 @@ def _judge_log(asked: argparse.Namespace) -> tuple[str, int]:
         if "-" in asked.files:
             with open(f"{folder}/stdin", "wb") as kept:
                 shutil.copyfileobj(sys.stdin.buffer, kept)
-        names = ("past", "reactive", "cut", "progress", "program")
+        names = ("past", "first", "processes", "reactive", "cut", "progress", "program")
         options = {name: getattr(asked, name) for name in names}
         judged = judge_log(_rows_of_log(asked, files), **options)
     return f"{judged}\n", {True: 0, False: 2, None: 3}[judged.is_right]
@@ -319,9 +319,12 @@ def _add_judge_log(commands: Any) -> None:
     command.add_argument("--message", metavar="EXPRESSION", help=says)
     says = "how events and clocks stand in the log, as ShiViz takes it"
     command.add_argument("--expression", metavar="EXPRESSION", help=says)
+    says = "expects a row of each process from 0 to below N"
+    command.add_argument("--processes", type=int, default=0, metavar="N", help=says)
     for name, says in [
         ("gaps", "takes a log without events that its clocks count"),
         ("past", "tells how many rows of each process are before an early claim"),
+        ("first", "ends at the first early claim, by process and row"),
         ("reactive", "for processes that do not log when they are passive"),
         ("cut", "leaves out the rows that wait in vain, and all behind them"),
         ("progress", "writes which claim is judged, about once a second"),

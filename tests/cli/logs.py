@@ -14,7 +14,7 @@ import listed
 LOGS = 1000
 BASIC = {"send": 1, "receive": -1}
 CONTROL = {"tell": 1, "hear": -1}
-NAMES = {31: "End", 32: "Passive", 33: "Woken", 70: "Stuck"}
+NAMES = {31: "End", 32: "Passive", 33: "Woken", 34: "Absent", 70: "Stuck"}
 SECONDS = 60
 
 
@@ -92,6 +92,12 @@ class Log:
                 if delta(kind) >= 0 or flight[stream(kind, channel)] > 0:
                     yield at, cut[:at] + (count + 1,) + cut[at + 1:]
 
+    def expect(self, processes):
+        """Raises the fault of a log in which one of the first processes has no row."""
+        for p in range(processes):
+            if p not in self.steps:
+                raise Fault(34, p)
+
     def reached(self, furthest):
         """Raises the fault of a log whose greatest progress is this cut, where that is not the whole."""
         for p, count in zip(self.processes, furthest):
@@ -109,24 +115,29 @@ class Log:
         return seen
 
 
-def lines_of(log, least_of, with_past):
-    """The lines and the status; `least_of` finds the least cut before a claim, of a process at a place and its row."""
+def lines_of(log, least_of, with_past, first=False):
+    """The lines and the status; `least_of` finds the least cut before a claim, of a process at a place and its row. With
+    `first` those of the first early claim alone, if there is one."""
     lines, early, right = [], 0, 0
     for at, p in enumerate(log.processes):
         for row in [it for it, (kind, _) in enumerate(log.steps[p]) if kind == "over"]:
             least = least_of(at, row)
             left = log.left(least)
-            lines.append(f"over {p} {row} " + (f"early: {left}" if left else "right"))
+            own = [f"over {p} {row} " + (f"early: {left}" if left else "right")]
             early, right = early + bool(left), right + (not left)
             if left and with_past:
-                lines += [f"past {q} {count}" for q, count in zip(log.processes, least) if count]
+                own += [f"past {q} {count}" for q, count in zip(log.processes, least) if count]
+            if left and first:
+                return [*own, "end early"], 2
+            lines += own
     heard, left = not any(log.flight(log.whole).values()), log.left(log.whole)
     lines.append("end claimed" if right else f"end open: {left}" if left else "end missed" if heard else "end unclaimed")
     return lines, 2 if early else 0 if right else 3
 
 
-def judged(log, with_past):
+def judged(log, with_past, first=False, processes=0):
     """The lines and the status by all cuts, or the fault that is raised."""
+    log.expect(processes)
     cuts = log.cuts(log.empty)
     furthest = max(cuts, key=sum)
     assert all(all(map(int.__ge__, furthest, cut)) for cut in cuts)
@@ -141,7 +152,7 @@ def judged(log, with_past):
         assert bool(log.left(least)) == any(log.left(cut) for cut in [*moments, *behind])
         return least
 
-    return lines_of(log, least_of, with_past)
+    return lines_of(log, least_of, with_past, first)
 
 
 def random_log(draw, most=9, slips=0.05):
@@ -181,20 +192,21 @@ def mixed(draw, rows):
     return [next(each[p]) for p in owners]
 
 
-def answer(program, room, rows, with_past):
+def answer(program, room, rows, with_past, first=False, processes=0):
     """What the program writes of a log: the lines, the status and the line of its fault."""
     with open(f"{room}/log.csv", "w", encoding="ascii") as file:
         file.write("process,kind,channel\n" + "".join(f"{p},{kind},{channel}\n" for p, kind, channel in rows))
-    words = [program, "judge", f"{room}/log.csv", *["--past"] * with_past]
+    words = [program, "judge", f"{room}/log.csv", *["--past"] * with_past, *["--first"] * first]
+    words += [f"--processes={processes}"] * (processes > 0)
     ran = subprocess.run(words, capture_output=True, text=True, timeout=SECONDS)
     return ran.stdout.splitlines(), ran.returncode, ran.stderr
 
 
-def expected(rows, with_past):
+def expected(rows, with_past, first=False, processes=0):
     """What it must write."""
     try:
         row_faults(rows)
-        return *judged(Log(rows), with_past), ""
+        return *judged(Log(rows), with_past, first, processes), ""
     except Fault as fault:
         number, *place = fault.args
         return [], 1, f"chipfire: fault {number} {NAMES[number]} {' '.join(map(str, place))}\n"
@@ -202,13 +214,14 @@ def expected(rows, with_past):
 
 def faults_of(draw, program):
     """What is wrong with the answers to a random log, and to it mixed in another way."""
-    rows, with_past = random_log(draw), draw.random() < 0.5
+    rows = random_log(draw)
+    options = draw.random() < 0.5, draw.random() < 0.3, draw.choice([0, 0, 0, 1, 2, 3, 4, 5])
     faults = []
     with tempfile.TemporaryDirectory(prefix="chipfire-log-") as room:
         for them in (rows, mixed(draw, rows)):
-            must, came = expected(them, with_past), answer(program, room, them, with_past)
+            must, came = expected(them, *options), answer(program, room, them, *options)
             if must != came:
-                faults.append(f"{them}: expected {must}, came {came}")
+                faults.append(f"{them} with {options}: expected {must}, came {came}")
     return faults
 
 

@@ -80,11 +80,11 @@ class Model:
     def __init__(self, play, simulate, logs):
         self.play, self.simulate_script, self.logs = play, simulate, logs
 
-    def judged(self, text, past, limits):
+    def judged(self, text, past, first, processes, limits):
         """What `judge` must answer to a text."""
         try:
             log = self.logs.Log(read_log(text, self.logs.row_faults, limits))
-            lines, status = verdicts(self.logs, log, past)
+            lines, status = verdicts(self.logs, log, past, first, processes)
             return Answer("".join(f"{it}\n" for it in lines).encode(), status=status)
         except Fault as fault:
             return Answer(fault=str(fault), status=1)
@@ -93,14 +93,14 @@ class Model:
             return Answer(fault=f"{number} {self.logs.NAMES[number]} {' '.join(map(str, place))}", status=1)
 
     def answer(self, command, files, limit=MAX_CHIPS, large=False, ring=1, rounds=0, fed=False, complete=False, past=False,
-               **_):
+               first=False, processes=0, **_):
         """What the program must answer to a command and its files, each some bytes; threads change nothing.
 
         A third file of `run` is the one of its feeds, and one of `plain` a guess, which changes nothing either.
         """
         limits = LARGE if large else STANDARD
         if command == "judge":
-            return self.judged(files[0], past, limits)
+            return self.judged(files[0], past, first, processes, limits)
         try:
             graph = read_graph(files[0], limits)
             if command == "check":
@@ -427,15 +427,16 @@ def least_cut(log, at, row):
     return tuple(cut)
 
 
-def verdicts(logs, log, with_past):
+def verdicts(logs, log, with_past, first=False, processes=0):
     """The lines and the status for a log without faults in its rows."""
     if math.prod(count + 1 for count in log.whole) <= MAX_CUTS:
-        return logs.judged(log, with_past)
+        return logs.judged(log, with_past, first, processes)
+    log.expect(processes)
     cut = log.empty
     while step := next(log.nexts(cut), None):
         cut = step[1]
     log.reached(cut)
-    return logs.lines_of(log, lambda at, row: least_cut(log, at, row), with_past)
+    return logs.lines_of(log, lambda at, row: least_cut(log, at, row), with_past, first)
 
 
 def degrees(graph):

@@ -65,8 +65,12 @@ def run_of(program, seed):
     """What is wrong with the answer to the log of this seed."""
     draw = random.Random(seed)
     text = spoilt(logs.random_log(draw, *draw.choice([(), (LONG, 0)])), draw)
-    options = {"past": draw.random() < 0.5, "large": draw.random() < 0.05}
-    ran = judged(program, text, [f"--{name}" for name, value in options.items() if value])
+    options = {"past": draw.random() < 0.5, "large": draw.random() < 0.05, "first": draw.random() < 0.3}
+    words = [f"--{name}" for name, value in options.items() if value]
+    if draw.random() < 0.3:
+        options["processes"] = draw.randint(1, 5)
+        words.append(f"--processes={options['processes']}")
+    ran = judged(program, text, words)
     found = expected.reference().answer("judge", [text], **options).differences(ran.out, ran.err, ran.status)
     return [f"chipfire judge - {options} on {text}", *found] if found else []
 

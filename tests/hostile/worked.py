@@ -60,7 +60,7 @@ class Worked:
         """The options of the run that a model takes, by their names: numbers, `complete` and `past`."""
         pairs = zip(self.words, self.words[1:])
         numbers = {word[2:]: int(value) for word, value in pairs if word.startswith("--") and value.isdigit()}
-        return numbers | {name: f"--{name}" in self.words for name in ("complete", "past")}
+        return numbers | {name: f"--{name}" in self.words for name in ("complete", "past", "first")}
 
     def line(self):
         return line_of(self.fault) if self.fault else b""

@@ -142,6 +142,70 @@ class Waits(WithFolder):
         return "no row" if senders else "nobody"
 
 
+class FirstAndExpected(WithFolder):
+    """`first` and `processes`."""
+
+    TWO = [(1, "active", 0), (1, "over", 0), (1, "over", 0), (3, "over", 0)]
+
+    def test_the_first_early_claim(self):
+        judged = chipfire.judge_log(self.TWO, first=True, past=True)
+        self.assertEqual(judged.claims, ((1, 1, "process 1 is active", {1: 1}),))
+        self.assertEqual((judged.end, judged.is_right), ("early", False))
+        self.assertEqual(str(judged), "over 1 1 early: process 1 is active\npast 1 1\nend early")
+        file = self.file("log.csv", csv_of(self.TWO))
+        self.assertEqual(chipfire.judge_log(file, first=True, past=True), judged)
+        self.assertEqual(str(chipfire.judge_log(ROWS, first=True)), "over 0 4 right\nend claimed")
+
+    def test_processes_that_are_expected(self):
+        named = [("a", "over", 0), ("b", "passive", 0)]
+        for rows, processes, absent in [
+            (self.TWO, 1, 0), (self.TWO, [1, 3], None), (self.TWO, [3, 2, 1], 2), (named, ["b", "a"], None),
+            (named, ["c", "b", "a"], "c"), (named, "aa", None), (named, 2, 0), ([], [None], None),
+            (ROWS, 3, None), (ROWS, 4, 3),
+        ]:
+            for options in [{}, {"cut": True}, {"reactive": True}]:
+                if absent is None and rows:
+                    chipfire.judge_log(rows, processes=processes, **options)
+                    continue
+                with self.assertRaises(chipfire.Fault) as raised:
+                    chipfire.judge_log(rows, processes=processes, **options)
+                fault = raised.exception
+                self.assertEqual((fault.number, fault.name, fault.place), (34, "Absent", (absent,)))
+                self.assertIn(f"process {absent!r} has no row in the log", str(fault))
+
+    def test_files_and_processes(self):
+        file = self.file("log.csv", csv_of(self.TWO))
+        for processes in (3, range(3)):
+            with self.assertRaises(chipfire.Fault) as raised:
+                chipfire.judge_log(file, processes=processes)
+            self.assertEqual((raised.exception.number, raised.exception.place), (34, (0,)))
+        for processes in (-1, 2**22 + 1):
+            with self.assertRaises(chipfire.Fault) as raised:
+                chipfire.judge_log(file, processes=processes)
+            self.assertEqual(raised.exception.number, 91)
+
+    def test_a_process_whose_rows_are_cut_off_is_there(self):
+        judged = chipfire.judge_log([("a", "over", 0), ("b", "hear", 0)], cut=True, processes="ab")
+        self.assertEqual(str(judged), "cut b 0\nover a 0 right\nend claimed")
+
+    def test_random_logs(self):
+        draw, found = random.Random(2), Counter()
+        for _ in range(300):
+            rows, options = logs.random_log(draw), (draw.random() < 0.5, draw.random() < 0.5, draw.choice([0, 0, 2, 3, 4]))
+            try:
+                logs.row_faults(rows)
+                must = logs.judged(logs.Log(rows), *options)[0]
+            except logs.Fault as fault:
+                must = list(fault.args)
+            try:
+                came = str(chipfire.judge_log(rows, **dict(zip(("past", "first", "processes"), options)))).split("\n")
+            except chipfire.Fault as fault:
+                came = [fault.number, *fault.place]
+            self.assertEqual(came, must, (rows, options))
+            found[must[0] if isinstance(must[0], int) else must[-1]] += 1
+        self.assertGreater(min(found[it] for it in (34, "end early", "end claimed")), 3, found)
+
+
 class LongLogs(unittest.TestCase):
     def test_the_program_is_started_twice_for_any_number_of_cuts(self):
         # Each process hears of the one before it as often as that tells, and once more: by hand each is cut at its row 20.
@@ -188,6 +252,10 @@ class Command(WithFolder):
         self.assertEqual(self.ran("-", input=csv_of(ROWS)), (right, 0, ""))
         lines = ["over 0 4 early: process 1 is active", "past 0 4", "past 1 2", "end missed"]
         self.assertEqual(self.ran(self.file("log", csv_of(EARLY)), "--past"), (lines, 2, ""))
+        lines = ["over 0 4 early: process 1 is active", "end early"]
+        self.assertEqual(self.ran(self.file("log", csv_of(EARLY)), "--first", "--processes", "2"), (lines, 2, ""))
+        lines, status, errors = self.ran(self.file("log"), "--processes=3")
+        self.assertEqual((lines, status, errors.split(":")[1]), ([], 1, " fault 34 Absent 2"))
         self.assertEqual(self.ran(self.file("log", csv_of(ROWS[:1]))), (["end open: process 0 is active"], 3, ""))
         rows = without((0, "passive", 0), (1, "passive", 0), (2, "passive", 0))
         self.assertEqual(self.ran(self.file("log", csv_of(rows)), "--reactive"), (["over 0 3 right", "end claimed"], 0, ""))

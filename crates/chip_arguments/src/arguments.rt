@@ -6,7 +6,7 @@ ghost use Rattle.chip_arguments.specs.Progress.{asks_progress};
 
 use crate::commands::{
     Argument, ArgumentRow, BOOKS, CHIPS, CLAIM_PROGRESS, COMPLETE, CommandRow, DEALT, DROPS,
-    FAULT_NUMBER, FED, FEED, GRAPH, GUESS, LARGE, LARGE_LOG, LIMIT, LOG, PAST, PROGRESS, REPORT,
+    FAULT_NUMBER, FED, FEED, FIRST, GRAPH, GUESS, LARGE, LARGE_LOG, LIMIT, LOG, PAST, PROCESSES, PROGRESS, REPORT,
     RING, ROUNDS, RULE_NUMBER, SCHEDULE, TRACE, TRACE_FILE, TRACE_ROWS, TURNS, WORKERS,
     WRITTEN_REPORT, commands,
 };
@@ -122,6 +122,10 @@ pub struct JudgeArguments<'a> {
     pub log: FileArgument<'a>,
     /// Whether to list the past of each early claim.
     pub past: bool,
+    /// Whether to end at the first early claim.
+    pub first: bool,
+    /// How many processes have to have a row, 0 to 2^22.
+    pub processes: u64,
     pub large: bool,
     pub progress: bool,
 }
@@ -293,6 +297,8 @@ impl<'m, 'a> Found<'m, 'a> {
         Some(Request::Judge(JudgeArguments {
             log: self.file(LOG),
             past: self.matches.get_flag(PAST.name),
+            first: self.matches.get_flag(FIRST.name),
+            processes: self.number_or(PROCESSES, 0),
             large: self.matches.get_flag(LARGE_LOG.name),
             progress: self.matches.get_flag(CLAIM_PROGRESS.name),
         }))

@@ -1,6 +1,6 @@
 //! The commands of the program: a table of their operands, their options and what the help says of them.
 
-use crate::limits::{MAX_LIMIT, MAX_RING, MAX_ROUNDS, MAX_TRACE_ROWS, MAX_TURNS, MAX_WORKERS};
+use crate::limits::{MAX_LIMIT, MAX_PROCESSES, MAX_RING, MAX_ROUNDS, MAX_TRACE_ROWS, MAX_TURNS, MAX_WORKERS};
 
 /// A command.
 pub struct CommandRow {
@@ -113,6 +113,18 @@ pub const PAST: &ArgumentRow = &ArgumentRow {
     name: "past",
     help: "Lists behind each early claim how many rows of each process were before it",
     is: Argument::Flag,
+};
+
+pub const FIRST: &ArgumentRow = &ArgumentRow {
+    name: "first",
+    help: "Ends at the first early claim, by process and row",
+    is: Argument::Flag,
+};
+
+pub const PROCESSES: &ArgumentRow = &ArgumentRow {
+    name: "processes",
+    help: "Expects a row of each process from 0 to below N, 1 to 2^22 [default: of none]",
+    is: Argument::NumberOption("N", 1, MAX_PROCESSES),
 };
 
 pub const GUESS: &ArgumentRow = &ArgumentRow {
@@ -358,11 +370,14 @@ with the fewest rows before it. `end missed` says that all is over and no claim 
 The rows of each process are in its order, and may be mixed with those of others. The answer
 does not depend on how they are mixed.
 
+With --first the lines of the first early claim are the only ones, and the last line is `end
+early`. If no claim is early, all are listed.
+
 Exit status: 0 a claim is right, and none is early; 2 a claim is early; 3 there is no claim; 1 a
 fault, which `chipfire explain N` explains: 70 if the rows do not fit.
 
 Example: (echo process,kind,channel; cat process-*.rows) | chipfire judge -",
-    arguments: &[LOG, PAST, LARGE_LOG, CLAIM_PROGRESS],
+    arguments: &[LOG, PAST, FIRST, PROCESSES, LARGE_LOG, CLAIM_PROGRESS],
 };
 
 static EXPLAIN: CommandRow = CommandRow {

@@ -11,3 +11,5 @@ pub const MAX_WORKERS: u64 = 64;
 pub const MAX_TURNS: u64 = 1 << 40;
 
 pub const MAX_TRACE_ROWS: u64 = 1 << 20;
+
+pub const MAX_PROCESSES: u64 = 1 << 22;

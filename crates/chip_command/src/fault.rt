@@ -40,6 +40,8 @@ pub enum Fault {
     /// The recorded runs of a trace, or the rows of a log, do not fit together, and this row of this vertex, or of this
     /// process, is to blame.
     Stuck { vertex: u64, row: u64 },
+    /// This process is expected, and a log has no row of it.
+    Absent(u64),
     /// The file of `--trace` or `--report` could not be written to its end.
     WriteFile,
     /// The output could not be written to its end.
@@ -277,6 +279,7 @@ impl Fault {
             Fault::Game(fault) => (fault.number(), Location::Nowhere),
             Fault::NotReport => (ReportFault::NotReport.number(), Location::Nowhere),
             Fault::Resume(fault) => (fault.number(), Location::of(fault.place())),
+            Fault::Absent(process) => (34, Location::At(*process)),
             Fault::Differs(vertex) => (53, Location::At(*vertex)),
             Fault::Plan => (60, Location::Nowhere),
             Fault::Unfinished(deficit) => (61, Location::At(*deficit)),

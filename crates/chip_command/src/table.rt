@@ -32,6 +32,14 @@ v is a vertex: a number from 0 on.
 ",
     };
 
+    /// A process of a log.
+    pub const PROCESS: Place = Place {
+        letters: " p",
+        reading: "\
+p is a process: a number from 0 on.
+",
+    };
+
     /// A row of a file of rows, from 0 after the header.
     pub const ROW: Place = Place {
         letters: " i",
@@ -272,6 +280,12 @@ A process begins active, or only a basic message makes it active. Log what woke 
 send and a receive. If the row begins another computation, give that a log of its own.
 ");
 
+static ABSENT: Explanation = row!(34 Absent PROCESS: "process p is expected, and has no row", "\
+With `--processes N` each of the processes 0 to N - 1 has a row. If the log of p is lost, and p
+began active, a claim that is early might be called right. If p did nothing, give it the row
+passive.
+");
+
 static NOT_LEGAL: Explanation = row!(40 NotLegal NOWHERE: "a vertex may not fire this often", "\
 Only callers of the library chip_sequence meet this. The vertex is the sink, or has too few
 chips for these firings, or is to fire 0 times.
@@ -409,7 +423,7 @@ report was written, or the file of `--report`, and all rows were.
 ");
 
 /// All faults, by their numbers.
-pub fn explanations() -> [&'static Explanation; 50] {
+pub fn explanations() -> [&'static Explanation; 51] {
     [
         &VERTICES,
         &SINK,
@@ -438,6 +452,7 @@ pub fn explanations() -> [&'static Explanation; 50] {
         &END,
         &PASSIVE,
         &WOKEN,
+        &ABSENT,
         &NOT_LEGAL,
         &NEGATIVE,
         &NOT_CLOSED,

@@ -21,7 +21,12 @@ play_options asked = record { limits = limits_of asked.large; limit = asked.limi
 
 -- how a log is judged
 abbrev pub judge_options : JudgeArguments → JudgeOptions
-judge_options asked = record { limits = limits_of asked.large; past = asked.past }
+judge_options asked = record {
+  limits = limits_of asked.large;
+  past = asked.past;
+  first = asked.first;
+  processes = asked.processes;
+}
 
 -- how a recorded run is replayed
 abbrev pub replay_options : ReplayArguments → ReplayOptions

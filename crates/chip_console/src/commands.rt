@@ -251,6 +251,8 @@ fn judge_options(asked: &JudgeArguments<'_>) -> JudgeOptions
     JudgeOptions {
         limits: limits_of(asked.large),
         past: asked.past,
+        first: asked.first,
+        processes: asked.processes,
     }
 }
 

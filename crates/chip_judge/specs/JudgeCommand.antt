@@ -1,5 +1,6 @@
 -- From the bytes of a log to the lines of its claims and its end.
-use Rattle.std.specs.Prelude.{◌≡◌, ℕ, List, ◌++◌, codes, flat_map, Bool, if◌then◌else◌, Option, Some, Result}
+use Rattle.std.specs.Prelude.{◌≡◌, ◌⊎◌, ℕ, List, ◌++◌, codes, flat_map, Bool, true, false, if◌then◌else◌}
+use Rattle.std.specs.Prelude.{Option, Some, None, Result}
 use Rattle.std.specs.Fmt.{decimal}
 use Rattle.std.specs.List.{list_any}
 use Rattle.chip_log.specs.declared.row.LogRow.{LogRow}
@@ -11,6 +12,7 @@ use Rattle.chip_log.specs.declared.judged.LogEnd.{LogEnd}
 use Rattle.chip_log.specs.declared.judged.LogEnd.TheVariants as end
 use Rattle.chip_log.specs.declared.judged.JudgedLog.{JudgedLog}
 use Rattle.chip_log.specs.Judged.{is_early, IsJudgedLog}
+use Rattle.chip_log.specs.First.{IsFirstEarly, IsFirstAbsent}
 use Rattle.chip_log.specs.Order.{IsStuck}
 use Rattle.chip_file.specs.LogText.{log_of_text, log_text_fault}
 use Rattle.chip_judge.specs.declared.judge.JudgeOptions.{JudgeOptions}
@@ -19,7 +21,7 @@ use Rattle.chip_command.specs.Inputs.{reading}
 use Rattle.chip_command.specs.Statuses.{number_of_status}
 use Rattle.chip_command.specs.declared.ended.Ended.{Ended}
 use Rattle.chip_command.specs.declared.fault.Fault.{Fault}
-use Rattle.chip_command.specs.declared.fault.Fault.TheVariants.{Stuck}
+use Rattle.chip_command.specs.declared.fault.Fault.TheVariants.{Absent, Stuck}
 use Rattle.chip_command.specs.declared.status.Status.{Status}
 use Rattle.chip_command.specs.declared.status.Status.TheVariants.{Done, Halted, Unfinished}
 
@@ -65,18 +67,39 @@ pub record Judges (past : Bool) (log : List LogRow) (text : List ℕ) (status : 
   pub lines : text ≡ flat_map claim_text judged.claims.items ++ end_text judged.end
   pub status_is : status ≡ number_of_status (status_of_judged judged)
 
--- judging a log tells its verdicts; or it has no order in which each row is met, or there is no memory
-abbrev pub judging : Bool → List LogRow → Spec (List ℕ × ℕ)
-judging past log = record {
-  gives = λ (text, status). Judges past log text status;
-  refuses = OrMemory (λ fault. (process : ℕ) × (row : ℕ) × (fault ≡ Stuck process row) × IsStuck log process row);
+-- a text and a status tell the first early claim alone
+pub record JudgesFirst (past : Bool) (log : List LogRow) (text : List ℕ) (status : ℕ) : Type 0 where
+  pub claim : ClaimVerdict
+  pub is_first : IsFirstEarly past log (Some claim)
+  pub lines : text ≡ claim_text claim ++ codes "end early\n"
+  pub status_is : status ≡ number_of_status Halted
+
+-- all claims; or if the first early one is asked for that one, and all if none is early
+abbrev pub JudgesBy : Bool → Bool → List LogRow → List ℕ → ℕ → Type 0
+JudgesBy false past log text status = Judges past log text status
+JudgesBy true past log text status = JudgesFirst past log text status
+    ⊎ (IsFirstEarly past log None × Judges past log text status)
+
+-- the rows have no order in which each is met
+abbrev pub IsUnordered : List LogRow → Fault → Type 0
+IsUnordered log fault = (process : ℕ) × (row : ℕ) × (fault ≡ Stuck process row) × IsStuck log process row
+
+-- judging a log tells its verdicts; or a process that is expected has no row, or the rows have no order, or there is no
+-- memory
+abbrev pub judging : JudgeOptions → List LogRow → Spec (List ℕ × ℕ)
+judging options log = record {
+  gives = λ (text, status). IsFirstAbsent log options.processes None
+      × JudgesBy options.first options.past log text status;
+  refuses = OrMemory (λ fault.
+      ((process : ℕ) × (fault ≡ Absent process) × IsFirstAbsent log options.processes (Some process))
+      ⊎ (IsFirstAbsent log options.processes None × IsUnordered log fault));
 }
 
 -- the same of the log of a reader
 abbrev pub judging_from : JudgeOptions → Option (List ℕ) → Spec (List ℕ × ℕ)
 judging_from options log =
     bind (reading options.limits (λ text log. log_of_text options.limits text ≡ Some log)
-    (λ text f. log_text_fault options.limits text ≡ Some f) log) (λ (rows, _). judging options.past rows)
+    (λ text f. log_text_fault options.limits text ≡ Some f) log) (λ (rows, _). judging options rows)
 
 -- what `judge` answers: the verdict on each claim, and the end
 abbrev pub JudgeAnswers : Option (List ℕ) → JudgeOptions → Option (List ℕ) → Option (List ℕ) → Result Ended Fault → Type 0

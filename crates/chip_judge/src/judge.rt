@@ -1,18 +1,20 @@
 //! The engine.
 
-ghost use Rattle.std.specs.Prelude.{◌≡◌, ◌++◌, false, IfOk, flat_map, string_bytes};
+ghost use Rattle.std.specs.Prelude.{◌≡◌, ◌++◌, ◌^◌, ◌<◌, false, IfOk, codes, flat_map, length, string_bytes};
 ghost use Rattle.std.specs.List.{list_any};
 ghost use Rattle.chip_graph.specs.Limits.{standard};
 ghost use Rattle.chip_command.specs.CommandAnswers.{Gives};
 ghost use Rattle.chip_log.specs.Judged.{is_early};
-ghost use Rattle.chip_judge.specs.JudgeCommand.{JudgeAnswers, judging_from, claim_text, verdict_text, past_text, end_text};
+ghost use Rattle.chip_log.specs.Order.{IsWellFormed};
+ghost use Rattle.chip_judge.specs.JudgeCommand.{JudgeAnswers, judging, judging_from, claim_text, verdict_text, past_text, end_text};
 ghost use Rattle.chip_judge.specs.JudgeCommand.{status_of_judged};
 
 use chip_command::{Answer, Ended, Fault, Status, deliver};
 use chip_file::read_log_within;
 use chip_graph::Limits;
 use chip_log::{
-    ClaimVerdict, ClaimWatch, JudgedLog, LogEnd, PastRows, Unwatched, Verdict, judge_log,
+    ClaimVerdict, ClaimWatch, JudgedLog, LogEnd, LogRow, PastRows, Sizes, Unwatched,
+    Verdict, first_absent, first_early, judge_log,
 };
 use std::alloc::{AllocError, Global};
 use std::io::{Read, Write};
@@ -24,6 +26,10 @@ pub struct JudgeOptions {
     pub limits: Limits,
     /// Whether each early claim says how many rows of each process are in its least past.
     pub past: bool,
+    /// Whether the first early claim alone is told, if there is one.
+    pub first: bool,
+    /// How many processes, from 0 on, have to have a row.
+    pub processes: u64,
 }
 
 /// Judges the claims of a log within the standard limits, and writes a line for each, by process and row, and one for its
@@ -33,12 +39,14 @@ pub fn judge_engine<L: Read, W: Write>(
     log: &mut L,
     output: &mut W,
 ) -> Result<Ended, Fault>
-    ensures { JudgeAnswers (L.remaining log.old) (record { limits = standard; past = false })
+    ensures { JudgeAnswers (L.remaining log.old) (record { limits = standard; past = false; first = false; processes = 0 })
         (W.contents output.old) (W.contents output.new) result }
 {
     let options = JudgeOptions {
         limits: Limits::standard(),
         past: false,
+        first: false,
+        processes: 0,
     };
     judge_engine_with(alloc, log, options, &mut Unwatched, output)
 }
@@ -68,12 +76,48 @@ fn judge<L: Read, P: ClaimWatch>(
     ensures { Gives (judging_from options (L.remaining log.old)) result }
 {
     let log = read_log_within(alloc, options.limits, log)?;
-    let judged = judge_log(alloc, log.sizes, &log.rows, options.past, watch)?;
+    judge_rows(alloc, log.sizes, &log.rows, options, watch)
+}
+
+/// What there is to say of the claims of these rows, if each process that is expected has one.
+fn judge_rows<P: ClaimWatch>(
+    alloc: Global,
+    sizes: Sizes,
+    rows: &[LogRow],
+    options: JudgeOptions,
+    watch: &mut P,
+) -> Result<Answer, Fault>
+    requires well_formed { IsWellFormed sizes rows.now }
+    requires few { length rows.now < 2 ^ 32 }
+    ensures { Gives (judging options rows.now) result }
+{
+    if let Some(process) = first_absent(alloc, sizes, rows, options.processes)? {
+        return Err(Fault::Absent(process));
+    }
+    if options.first {
+        if let Some(claim) = first_early(alloc, sizes, rows, options.past, watch)? {
+            return Ok(Answer {
+                text: text_of_early(alloc, &claim)?.into_bytes(),
+                status: Status::Halted,
+            });
+        }
+    }
+    let judged = judge_log(alloc, sizes, rows, options.past, watch)?;
     let text = text_of(alloc, &judged)?;
     Ok(Answer {
         text: text.into_bytes(),
         status: status_of_judged(&judged),
     })
+}
+
+/// The lines of the first early claim, behind which no claim was judged.
+fn text_of_early(alloc: Global, claim: &ClaimVerdict) -> Result<String, AllocError>
+    ensures { IfOk result (λ text. string_bytes text ≡ claim_text claim.now ++ codes "end early\n") }
+{
+    let mut lines = String::new(alloc);
+    push_claim(&mut lines, claim)?;
+    write!(lines, "end early\n")?;
+    Ok(lines)
 }
 
 /// The lines of a judged log.

@@ -16,3 +16,4 @@ mod QueuesLemmas
 mod OrderingLemmas
 mod OrderLemmas
 mod OneLemmas
+mod FirstLemmas

@@ -19,6 +19,7 @@ pub use Rattle.std.specs.List.{list_any}
 pub use Rattle.std.specs.List.Sorted.{IsNonDecreasingBy}
 pub use Rattle.std.specs.Option.{ForSome}
 pub use Rattle.std.specs.Prelude.{◌||◌, nat_lt, slice_index_or, ◌&&◌, not, slice_set, Option, Some, None, MatchBool}
+pub use Rattle.std.specs.Prelude.{option_map, is_some}
 pub use Rattle.std.specs.Prelude.{All, ◌⊎◌, AllPairs, ◌==◌, count_by, sum_by, slice_get, IsPermutation}
 pub use mathlib.Core.Logic.{dite}
 pub use native.Mathlib.Decide.{ℕ_discrete, dec_lt}
@@ -28,10 +29,11 @@ pub use Rattle.chip_log.specs.Books.{Keeps, IsOf, said_by, HasMakeRoom, HasFligh
 pub use Rattle.chip_log.specs.Books.{HasKeepRoom, HasRoom}
 pub use Rattle.chip_log.specs.Claims.{basic, IsQuiet, IsPast, IsVerdict, IsOnItsWay, IsBusy, IsSilent, IsBefore, IsRight}
 pub use Rattle.chip_log.specs.Judge.{stream_of, NoWay, IsFirstWay, first_step, begins_with, AreBeginners, busy_at}
-pub use Rattle.chip_log.specs.Judge.{is_busy, IsLeft, AreCounts, place_at, ArePlaces, IsKnown, Judges}
+pub use Rattle.chip_log.specs.Judge.{is_busy, IsLeft, AreCounts, place_at, ArePlaces, IsKnown, Judges, has_row_at}
 pub use Rattle.chip_log.specs.Judged.{AreRowsOf, IsOpenEnd, is_over, is_over_at, is_claim, RowPlace, is_at, IsNoLater}
 pub use Rattle.chip_log.specs.Judged.{is_early, IsJudged, NoneRight, IsEnd, place_of, AreClaims, AreJudged, control}
 pub use Rattle.chip_log.specs.Judged.{IsJudgedLog, rows_for, told_of, AreShown}
+pub use Rattle.chip_log.specs.First.{IsSooner, IsFirst, IsFirstEarly, IsFirstAbsent}
 pub use Rattle.chip_log.specs.Log.{steps_of, is_out, outs, ins, HasEnds, same_stream, sends, gets, count_steps}
 pub use Rattle.chip_log.specs.Log.{count_rows}
 pub use Rattle.std.proofs.lemmas.Bool.Decides.{nat_tests}

@@ -1,10 +1,11 @@
 -- Serves Judged.antt.
 -- What is judged of a log is one.
 use Rattle.chip_log.proofs.Names.{◌≡◌, ℕ, ◌<◌, Bool, true, false, List, [], ◌∷◌, get_or, refl, sym, ap, ◌∙◌}
-use Rattle.chip_log.proofs.Names.{subst, arith, cond, suc, inl, inr, map, All-head, All-tail, All-cons, sum_by-le}
+use Rattle.chip_log.proofs.Names.{Option, Some, None, subst, arith, cond, suc, inl, inr, map, All-head, All-tail, All-cons, sum_by-le}
 use Rattle.chip_log.proofs.Names.{sum_by-cons, ◌&&◌, All, ◌⊎◌, AllPairs, ◌==◌, sum_by, dite, dec_lt, AreRowsOf}
 use Rattle.chip_log.proofs.Names.{IsOpenEnd, RowPlace, is_at, IsNoLater, is_early, IsJudged, NoneRight, IsEnd, place_of}
 use Rattle.chip_log.proofs.Names.{AreClaims, IsJudgedLog, rows_for, told_of, AreShown, steps_of, HasEnds, nat_tests}
+use Rattle.chip_log.proofs.Names.{IsSooner, IsFirst, IsFirstEarly, option_map}
 use Rattle.chip_log.proofs.Names.{ClaimVerdict, JudgedLog, LogEnd, PastRows, LogRow, Verdict}
 use Rattle.chip_log.proofs.MetLemmas.{count_yes}
 use Rattle.chip_log.proofs.LeftLemmas.{one_number, IsLeftBehind, one_left}
@@ -94,19 +95,16 @@ one_past m n xs ys same are other = same_list rows_if IsEarlier no_rows IsEarlie
 
 -- ---- the places of claims
 
-abbrev IsBeforePlace : RowPlace → RowPlace → Type 0
-IsBeforePlace x y = (x.process < y.process) ⊎ ((x.process ≡ y.process) × (x.row < y.row))
-
-later_place : (x y z : RowPlace) → IsBeforePlace x y → IsNoLater y z → IsBeforePlace x z
+later_place : (x y z : RowPlace) → IsSooner x y → IsNoLater y z → IsSooner x z
 later_place x y z (inl less) next = let a = next.process in inl (omega arith)
 later_place x y z (inr (e, less)) next = dite (dec_lt x.process z.process) (λ l. inl l) (λ no.
     let a = next.process in let b = next.row (omega arith) in inr (omega arith, omega arith))
 
-not_there : (x y : RowPlace) → IsBeforePlace x y → one_at x.process x.row y ≡ 0
+not_there : (x y : RowPlace) → IsSooner x y → one_at x.process x.row y ≡ 0
 not_there x y (inl less) = grind (arith, nat_tests)
 not_there x y (inr (e, less)) = grind (arith, nat_tests)
 
-one_place : (x y : RowPlace) (xs ys : List RowPlace) → (IsBeforePlace x y → ⊥) → (IsBeforePlace y x → ⊥)
+one_place : (x y : RowPlace) (xs ys : List RowPlace) → (IsSooner x y → ⊥) → (IsSooner y x → ⊥)
     → All (IsNoLater x) xs → All (IsNoLater y) ys
     → sum_by (one_at x.process x.row) (x ∷ xs) ≡ sum_by (one_at x.process x.row) (y ∷ ys) → x ≡ y
 one_place x y xs ys not_less not_more later others same = λ j. record { process = e j; row = row j }
@@ -118,7 +116,7 @@ one_place x y xs ys not_less not_more later others same = λ j. record { process
     row = one_number x.row y.row (λ l. not_less (inr (e, l))) (λ l. not_more (inr (sym e, l)))
 
 one_order : (log : List LogRow) (xs ys : List RowPlace) → AreClaims log xs → AreClaims log ys → xs ≡ ys
-one_order log xs ys are other = same_list (λ x y. one_at x.process x.row y) IsBeforePlace not_there IsNoLater later_place
+one_order log xs ys are other = same_list (λ x y. one_at x.process x.row y) IsSooner not_there IsNoLater later_place
     one_place xs ys are.sorted other.sorted (here xs) (here ys)
     (λ x. rw (are.once x.process x.row, other.once x.process x.row))
   where
@@ -206,3 +204,37 @@ one_judgment w log one two ends a b = (
       a.claims.each b.claims.each,
   one_end log one.end two.end a.end b.end,
 )
+
+-- ---- the first early claim
+
+module _ (w : Bool) (log : List LogRow) (ends : HasEnds log) where
+  -- the first early claim is not behind another one
+  not_behind : (c d : ClaimVerdict) → IsFirst w log c → IsFirst w log d → IsSooner (place_of d) (place_of c) → ⊥
+  not_behind c d first other sooner =
+      let right = first.before d.process d.row other.claim sooner in
+      let e = one_verdict log ends d.process d.row d.verdict verdict.Right other.judged.verdict right in
+      let f = other.early in cc
+
+  one_early : (c d : ClaimVerdict) → IsFirst w log c → IsFirst w log d → place_of c ≡ place_of d
+  one_early c d first other = λ j. record { process = e j; row = row j }
+    where
+      e : c.process ≡ d.process
+      e = one_number c.process d.process (λ l. not_behind d c other first (inl l)) (λ l. not_behind c d first other (inl l))
+
+      row : c.row ≡ d.row
+      row = one_number c.row d.row (λ l. not_behind d c other first (inr (e, l)))
+          (λ l. not_behind c d first other (inr (sym e, l)))
+
+  none_early : (c : ClaimVerdict) → IsFirst w log c → IsFirstEarly w log None → ⊥
+  none_early c first all =
+      let e = one_verdict log ends c.process c.row c.verdict verdict.Right first.judged.verdict
+          (all c.process c.row first.claim) in
+      let f = first.early in cc
+
+pub one_first : (w : Bool) (log : List LogRow) (one two : Option ClaimVerdict) → HasEnds log → IsFirstEarly w log one
+    → IsFirstEarly w log two → option_map told_of one ≡ option_map told_of two
+one_first w log None None ends a b = refl
+one_first w log None (Some d) ends a b = absurd (none_early w log ends d b a)
+one_first w log (Some c) None ends a b = absurd (none_early w log ends c a b)
+one_first w log (Some c) (Some d) ends a b =
+    ap Some (one_told log ends w c d (one_early w log ends c d a b) a.judged b.judged)

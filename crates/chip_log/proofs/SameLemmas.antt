@@ -3,7 +3,7 @@
 use Rattle.chip_log.proofs.Names.{◌≡◌, ℕ, Bool, true, false, List, [], ◌∷◌, ◌++◌, refl, sym, ◌∙◌}
 use Rattle.chip_log.proofs.Names.{All-weaker, ◌&&◌, IsPast, IsVerdict, IsSilent, IsBefore, IsRight, IsOpenEnd}
 use Rattle.chip_log.proofs.Names.{is_claim, is_early, IsJudged, NoneRight, IsEnd, control, IsJudgedLog}
-use Rattle.chip_log.proofs.Names.{AreShown, steps_of, is_out, HasEnds}
+use Rattle.chip_log.proofs.Names.{AreShown, steps_of, is_out, HasEnds, IsFirstEarly, Option, Some, None}
 use Rattle.chip_log.proofs.Names.{is_active, is_in, is_met, AreMet, IsInterleaving, IsLog, ClaimVerdict}
 use Rattle.chip_log.proofs.Names.{JudgedLog, LogEnd, LogRow, Step, Out, Over, Verdict, count_rows, count_steps}
 use Rattle.chip_log.proofs.CountLemmas.{all_own}
@@ -141,6 +141,21 @@ module _ (log other : List LogRow) (same : SameRows log other) where
       };
       end = end_as judged.end is.end;
     }
+
+-- ---- the first early claim
+
+module _ (w : Bool) (log other : List LogRow) (same : SameRows log other) where
+  all_right_as : (p i : ℕ) → (is_claim log p i ≡ true → IsRight log p i) → is_claim other p i ≡ true → IsRight other p i
+  all_right_as p i right is = right_as log other same p i (right (rw (← claim_as log other same p i) at is))
+
+  pub first_as : (found : Option ClaimVerdict) → IsFirstEarly w log found → IsFirstEarly w other found
+  first_as None all = λ p i. all_right_as p i (all p i)
+  first_as (Some c) first = record {
+    claim = rw (claim_as log other same c.process c.row) at first.claim;
+    judged = judged_as log other same w c first.judged;
+    early = first.early;
+    before = λ p i is sooner. all_right_as p i (λ claim. first.before p i claim sooner) is;
+  }
 
 -- ---- rows in order
 

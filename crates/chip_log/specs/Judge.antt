@@ -1,6 +1,6 @@
 -- What a judge looks for.
 use Rattle.std.specs.Prelude.{◌≡◌, ℕ, ◌<◌, ◌≤◌, Bool, true, false, List, [], ◌∷◌, length, map, slice_index_or, All, AllPairs}
-use Rattle.std.specs.Prelude.{Option, Some, None}
+use Rattle.std.specs.Prelude.{Option, Some, None, is_some}
 use Rattle.chip_log.specs.declared.row.LogRow.{LogRow}
 use Rattle.chip_log.specs.declared.row.Step.{Step}
 use Rattle.chip_log.specs.declared.row.Step.TheVariants.{Active}
@@ -102,3 +102,9 @@ pub record IsKnown (log : List LogRow) (claim earlier : ClaimPlace) : Type 0 whe
   pub place : IsPlace log earlier
   pub right : IsRight log earlier.process earlier.row
   pub before : earlier.process ≡ claim.process → earlier.row ≤ claim.row
+
+-- ---- rows
+
+-- whether a process has a row, by what the processes with rows begin with
+abbrev pub has_row_at : List (Option Bool) → ℕ → Bool
+has_row_at beginners p = is_some (slice_index_or beginners p None)

@@ -1,10 +1,12 @@
 -- The laws of claims.
-use Rattle.std.specs.Prelude.{◌≡◌, ℕ, ◌≤◌, Bool, List, length, map}
+use Rattle.std.specs.Prelude.{◌≡◌, ℕ, ◌≤◌, Bool, List, length, map, Option, option_map}
 use Rattle.chip_log.specs.Log.{steps_of, IsInterleaving, HasEnds}
 use Rattle.chip_log.specs.Order.{IsProgress, IsGreatest, IsStuck}
 use Rattle.chip_log.specs.Claims.{IsBefore, IsPast, IsSilent, IsVerdict}
 use Rattle.chip_log.specs.Judged.{IsJudgedLog, told_of}
+use Rattle.chip_log.specs.First.{IsFirstEarly, IsFirstAbsent}
 use Rattle.chip_log.specs.declared.row.LogRow.{LogRow}
+use Rattle.chip_log.specs.declared.judged.ClaimVerdict.{ClaimVerdict}
 use Rattle.chip_log.specs.declared.judged.JudgedLog.{JudgedLog}
 use Rattle.chip_log.specs.declared.verdict.Verdict.{Verdict}
 use Rattle.chip_log.specs.declared.verdict.Verdict.TheVariants as verdict
@@ -46,3 +48,18 @@ abbrev pub OneJudgment : Type 0
 OneJudgment = (with_past : Bool) (log : List LogRow) (one two : JudgedLog) → HasEnds log
     → IsJudgedLog with_past log one → IsJudgedLog with_past log two
     → (map told_of one.claims.items ≡ map told_of two.claims.items) × (one.end ≡ two.end)
+
+-- nor does its first early claim
+abbrev pub SameFirst : Type 0
+SameFirst = (with_past : Bool) (log other : List LogRow) (found : Option ClaimVerdict)
+    → ((p : ℕ) → steps_of p log ≡ steps_of p other) → IsFirstEarly with_past log found → IsFirstEarly with_past other found
+
+-- and there is one
+abbrev pub OneFirst : Type 0
+OneFirst = (with_past : Bool) (log : List LogRow) (one two : Option ClaimVerdict) → HasEnds log
+    → IsFirstEarly with_past log one → IsFirstEarly with_past log two → option_map told_of one ≡ option_map told_of two
+
+-- a log has one first process without a row, however its rows are mixed
+abbrev pub OneAbsent : Type 0
+OneAbsent = (log other : List LogRow) (n : ℕ) (one two : Option ℕ) → ((p : ℕ) → steps_of p log ≡ steps_of p other)
+    → IsFirstAbsent log n one → IsFirstAbsent other n two → one ≡ two

@@ -12,3 +12,4 @@ pub mod Queues
 pub mod Agenda
 pub mod Order
 pub mod Ordering
+pub mod First

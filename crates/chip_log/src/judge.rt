@@ -93,7 +93,7 @@ fn judge_all<W: ClaimWatch>(
 }
 
 /// The verdict on a claim, where the last right one before it is known: behind that, a claim of its process is right.
-fn judge_next(
+pub(crate) fn judge_next(
     alloc: Global,
     sizes: Sizes,
     rows: &[LogRow],
@@ -262,7 +262,7 @@ fn is_busy(said: Said, begins: Option<bool>) -> bool
 }
 
 /// Whether each process begins active, if it has a row.
-fn beginners(alloc: Global, sizes: Sizes, rows: &[LogRow]) -> Result<Vec<Option<bool>>, AllocError>
+pub(crate) fn beginners(alloc: Global, sizes: Sizes, rows: &[LogRow]) -> Result<Vec<Option<bool>>, AllocError>
     requires { Fits sizes rows.now }
     ensures { IfOk result (λ beginners. AreBeginners sizes rows.now beginners.items) }
 {

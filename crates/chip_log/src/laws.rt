@@ -1,7 +1,7 @@
 //! The laws of logs.
 
-ghost use Rattle.chip_log.specs.Laws.{LeastPast, MostProgress, OneJudgment, OnePlace, OneVerdict};
-ghost use Rattle.chip_log.specs.Laws.{SameJudgment, SilentPast, StuckOrder};
+ghost use Rattle.chip_log.specs.Laws.{LeastPast, MostProgress, OneAbsent, OneFirst, OneJudgment, OnePlace, OneVerdict};
+ghost use Rattle.chip_log.specs.Laws.{SameFirst, SameJudgment, SilentPast, StuckOrder};
 ghost use Rattle.chip_log.specs.Worked.{WorkedLog};
 
 /// Who is active in a small log, by the definitions.
@@ -47,4 +47,19 @@ pub fn same_judgment()
 /// A log has one judgment: the same is told of its claims, in one order, and of its end.
 pub fn one_judgment()
     ensures { OneJudgment }
+{}
+
+/// The first early claim does not depend on how the rows of processes are mixed.
+pub fn same_first()
+    ensures { SameFirst }
+{}
+
+/// A log has one first early claim: the same is told of it.
+pub fn one_first()
+    ensures { OneFirst }
+{}
+
+/// A log has one first process without a row, however its rows are mixed.
+pub fn one_absent()
+    ensures { OneAbsent }
 {}

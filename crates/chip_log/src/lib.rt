@@ -1,7 +1,9 @@
 //! Logs of a distributed program, and whether its claims that it is over are right.
 #![tactic(auto)]
 
+pub use absent::first_absent;
 pub use fault::OrderFault;
+pub use first::first_early;
 pub use judge::judge_log;
 pub use judged::{ClaimVerdict, JudgedLog, LogEnd, PastRows};
 pub use order::ordered;
@@ -10,10 +12,12 @@ pub use row::{LogRow, Step, Stream};
 pub use verdict::Verdict;
 pub use watch::{ClaimWatch, Unwatched};
 
+mod absent;
 mod agenda;
 mod books;
 mod claims;
 mod fault;
+mod first;
 mod judge;
 mod judged;
 pub mod laws;

@@ -1,6 +1,6 @@
 //! All claims of a log, their pasts, and how logs end.
 
-use crate::play::{SIZES, end, hear, judged, receive, row, send, stream, tell};
+use crate::play::{SIZES, absent, end, first, hear, judged, receive, row, send, stream, tell};
 use chip_log::{
     ClaimVerdict, ClaimWatch, LogEnd, LogRow, PastRows, Step, Stream, Unwatched, Verdict,
 };
@@ -135,4 +135,30 @@ fn ends(rt: HostRuntime) {
             }
     );
     assert!(rt; end(&rt, SIZES, &ACTIVE) == LogEnd::Active { process: 1 });
+}
+
+/// Process 0 is active at its first claim. Where nobody claims, and where each claim is right, there is none.
+#[test]
+fn first_early_claim(rt: HostRuntime) {
+    let found = first(&rt, SIZES, &CLAIMS).ok().expect(&rt, "an order");
+    assert!(rt; found.as_ref().map(seen) == Some((0, 1, Verdict::Active { process: 0 })));
+    let past = [PastRows {
+        process: 0,
+        rows: 1,
+    }];
+    assert!(rt; found.map(|claim| claim.past.as_slice() == past.as_slice()) == Some(true));
+    let none = first(&rt, SIZES, &NO_CLAIM).ok().expect(&rt, "an order");
+    assert!(rt; none.is_none());
+    let silent = first(&rt, SIZES, &[row!(1, Step::Over)]).ok().expect(&rt, "an order");
+    assert!(rt; silent.is_none());
+}
+
+/// Processes 0 and 1 have rows.
+#[test]
+fn absent_processes(rt: HostRuntime) {
+    assert!(rt; absent(&rt, SIZES, &NO_CLAIM, 0) == None);
+    assert!(rt; absent(&rt, SIZES, &NO_CLAIM, 2) == None);
+    assert!(rt; absent(&rt, SIZES, &NO_CLAIM, 3) == Some(2));
+    assert!(rt; absent(&rt, SIZES, &NO_CLAIM, 1 << 22) == Some(2));
+    assert!(rt; absent(&rt, SIZES, &[row!(1, Step::Over)], 2) == Some(0));
 }

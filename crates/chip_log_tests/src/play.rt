@@ -4,8 +4,8 @@ ghost use Rattle.std.specs.Prelude.{◌^◌, ◌<◌, IsTrue, length};
 ghost use Rattle.chip_log_tests.specs.Checks.{may_order};
 
 use chip_log::{
-    ClaimWatch, JudgedLog, LogEnd, LogRow, OrderFault, Sizes, Step, Stream, Unwatched, Verdict,
-    judge_log,
+    ClaimVerdict, ClaimWatch, JudgedLog, LogEnd, LogRow, OrderFault, Sizes, Step, Stream, Unwatched,
+    Verdict, first_absent, first_early, judge_log,
 };
 use std::process::Abort;
 
@@ -77,6 +77,32 @@ pub(crate) fn judged<W: ClaimWatch>(
     requires few { length rows.now < 2 ^ 32 }
 {
     judge_log(rt.alloc(), sizes, rows, true, watch)
+}
+
+/// The first early claim of a log, with its least past, if there is one.
+pub(crate) fn first(
+    rt: &impl AllocGlobal,
+    sizes: Sizes,
+    rows: &[LogRow],
+) -> Result<Option<ClaimVerdict>, OrderFault>
+    requires well_formed { IsTrue (may_order sizes rows.now) }
+    requires few { length rows.now < 2 ^ 32 }
+{
+    first_early(rt.alloc(), sizes, rows, true, &mut Unwatched)
+}
+
+/// The least of the first `expected` processes without a row, if there is one.
+pub(crate) fn absent(
+    rt: &(impl AllocGlobal + Abort),
+    sizes: Sizes,
+    rows: &[LogRow],
+    expected: u64,
+) -> Option<u64>
+    requires well_formed { IsTrue (may_order sizes rows.now) }
+{
+    first_absent(rt.alloc(), sizes, rows, expected)
+        .ok()
+        .expect(rt, "memory")
 }
 
 /// The verdict on the last claim of a log, if there is a claim.

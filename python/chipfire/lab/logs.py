@@ -28,6 +28,9 @@ KINDS = (*_SENDS, *_GETS, "passive", "active", "over")
 _BEGINS = ("over ", "end ")
 _STUCK = 70
 
+#: Its fault of a process that is expected; those of rows have lesser numbers.
+_ABSENT = 34
+
 Row = tuple[Any, Any, Any]
 
 #: The key of a value in an object, its place in a list, or a function that finds the value there.
@@ -47,7 +50,8 @@ class LogClaim(NamedTuple):
 @dataclass(frozen=True)
 class JudgedLog:
     """What the program says of a log: its claims, by process and row; "claimed", "missed", "unclaimed", or "open: "
-    with what is left, as the end; and the first row of each process that was left out."""
+    with what is left, as the end, or "early" if the first early claim alone was asked for; and the first row of each
+    process that was left out."""
 
     claims: tuple[LogClaim, ...]
     end: str
@@ -70,6 +74,8 @@ def judge_log(
     log: Iterable[Iterable[Any]] | FileName,
     *,
     past: bool = False,
+    first: bool = False,
+    processes: int | Iterable[Hashable] = 0,
     reactive: bool = False,
     cut: bool = False,
     progress: bool = False,
@@ -82,6 +88,9 @@ def judge_log(
     the waits from there to the process that nobody can serve, which is tested and not proved.
 
     past      tells how many rows of each process are before an early claim, in the order with the fewest
+    first     judges up to the first early claim, by process and row, and tells that one alone, if there is one
+    processes the names of processes that have to have a row, or how many, from 0 on. If a process began active and all
+              of its rows are lost, an early claim might else be called right
     reactive  for processes that do not log when they are passive: one that gets a message is active until its last
               `send` before it gets the next, and one that sends before it gets any begins active. If it is active for
               longer, this can acquit: in a trial 2 of 90 early claims were called right
@@ -90,15 +99,21 @@ def judge_log(
               have it; that is not proved
     progress  gives `sys.stderr` a line about once a second that says which claim is judged
     """
-    options = {"past": bool(past), "progress": bool(progress)}
-    if isinstance(log, FILE) and not (reactive or cut):
+    options: dict[str, Any] = {
+        "past": bool(past),
+        "first": bool(first),
+        "progress": bool(progress),
+    }
+    if isinstance(log, FILE) and not (reactive or cut) and isinstance(processes, int):
+        options["processes"] = processes or None
         try:
             return _judged(ask(program, "judge", [("log", log)], options, begins=_BEGINS), None, {})
         except Fault as fault:
             raise _with_waits(fault, log) from None
-    rows = _Rows(_read(log, program) if isinstance(log, FILE) else log, reactive)
+    expected = range(processes) if isinstance(processes, int) else processes
+    rows = _Rows(_read(log, program) if isinstance(log, FILE) else log, reactive, expected)
     try:
-        return _asked(rows, options, program, {})
+        return _asked(rows, {**options, "processes": rows.expected or None}, program, {})
     except Fault as fault:
         if fault.number != _STUCK:
             raise rows.fault(fault) from None
@@ -122,7 +137,7 @@ def _with_waits(fault: Fault, file: FileName) -> Fault:
     if fault.number != _STUCK or not os.path.isfile(file):  # (a pipe cannot be read again)
         return fault
     try:
-        rows = _Rows(_numbers(_records(file)[1:]), False)
+        rows = _Rows(_as_rows(_records(file)[1:]))
     except (OSError, ValueError, csv.Error):
         return fault
     process, row = fault.place
@@ -144,7 +159,7 @@ def _read(file: FileName, program: FileName | None) -> list[Row]:
         for row in rows
     ]
     ask(program, "judge", [("log", Kept([rows_text(header, fields).encode()]))], begins=_BEGINS)
-    return _numbers(rows)
+    return _as_rows(rows)
 
 
 def _records(file: FileName) -> list[list[str]]:
@@ -153,7 +168,7 @@ def _records(file: FileName) -> list[list[str]]:
         return list(filter(None, csv.reader(text)))
 
 
-def _numbers(rows: Iterable[Sequence[str]]) -> list[Row]:
+def _as_rows(rows: Iterable[Sequence[str]]) -> list[Row]:
     return [(int(process), kind, int(channel)) for process, kind, channel in rows]
 
 
@@ -182,10 +197,17 @@ def _judged(text: str, rows: _Rows | None, gone: Mapping[Hashable, int]) -> Judg
     return JudgedLog(tuple(claims), named(end.partition(" ")[2]), gone)
 
 
+def _numbered(names: Iterable[Hashable]) -> dict[Hashable, int]:
+    """The numbers of names, from 0, in their order, if they have one."""
+    return dict(zip(sorted_if_possible(names), itertools.count()))
+
+
 class _Rows:
     """Rows with any names. Row `i` of those that were given has place 2i, one that is put in an odd one."""
 
-    def __init__(self, log: Iterable[Any], is_reactive: bool) -> None:
+    def __init__(
+        self, log: Iterable[Any], is_reactive: bool = False, expected: Iterable[Hashable] = ()
+    ) -> None:
         self.given = list(log)
         rows = [
             tuple(it) if isinstance(it, Iterable) and not isinstance(it, (str, bytes)) else ()
@@ -198,10 +220,13 @@ class _Rows:
             self.rows = sorted([*self.rows, *_activity(self.rows)], key=lambda it: it[0])
         processes = dict.fromkeys(row[0] for _, row in self.rows if row)
         channels = dict.fromkeys(row[2] for _, row in self.rows if row and row[1] in _SENDS + _GETS)
-        #: The numbers of names.
-        self.processes, self.channels = (
-            dict(zip(sorted_if_possible(it), itertools.count())) for it in (processes, channels)
-        )
+        #: The numbers of names. The processes that are expected have the least.
+        self.processes = _numbered(dict.fromkeys(expected))
+        #: How many processes are expected.
+        self.expected = len(self.processes)
+        others = _numbered(name for name in processes if name not in self.processes)
+        self.processes |= {name: self.expected + number for name, number in others.items()}
+        self.channels = _numbered(channels)
         self.places: dict[Hashable, list[int]] = defaultdict(list)
         for place, row in self.rows:
             self.places[row[0] if row else None].append(place)
@@ -213,10 +238,10 @@ class _Rows:
 
     def kept(self) -> Kept:
         """The file that the program reads; a row that is none has one field there."""
-        rows = [self._numbered(row) if row else ("",) for _, row in self.rows]
+        rows = [self._by_numbers(row) if row else ("",) for _, row in self.rows]
         return Kept([rows_text(_HEADER, rows).encode(errors="replace")])
 
-    def _numbered(self, row: Sequence[Any]) -> tuple[Any, ...]:
+    def _by_numbers(self, row: Sequence[Any]) -> tuple[Any, ...]:
         """A row by the numbers of its process and its channel."""
         process, kind, channel = row
         has_channel = kind in _SENDS + _GETS
@@ -228,7 +253,11 @@ class _Rows:
 
     def fault(self, told: Fault) -> Fault:
         """A fault of the program, by the rows and the names that were given."""
-        if not (24 <= told.number < 34 and told.place):  # (the place is a row)
+        if told.number == _ABSENT:
+            name = list(self.processes)[told.place[0]]
+            words = f"process {name!r} has no row in the log"
+            return Fault(told.number, told.name, (name,), told.explanation, told.status, words)
+        if not (24 <= told.number < _ABSENT and told.place):  # (the place is a row)
             return told
         index = self.rows[told.place[0]][0] // 2
         words = f"row {index} of the log is {self.given[index]!r}"

@@ -1,5 +1,5 @@
 use Rattle.std.proofs.Common.{◌≡◌, ℕ, ◌++◌, ◌∙◌, ◌||◌, if◌then◌else◌, Bool, List, [], ◌∷◌, refl, sym, ap, map, codes}
-use Rattle.std.proofs.Common.{flat_map}
+use Rattle.std.proofs.Common.{flat_map, true, false, inl, inr, Option, Some, None}
 use Rattle.std.specs.Fmt.{decimal}
 use Rattle.std.specs.List.{list_any}
 use Rattle.chip_log.specs.declared.row.LogRow.{LogRow}
@@ -8,10 +8,12 @@ use Rattle.chip_log.specs.declared.judged.LogEnd.{LogEnd}
 use Rattle.chip_log.specs.declared.judged.PastRows.{PastRows}
 use Rattle.chip_log.specs.declared.verdict.Verdict.{Verdict}
 use Rattle.chip_log.specs.Judged.{RowPlace, is_early, told_of}
-use Rattle.chip_log.specs.Log.{gets, sends, HasEnds}
+use Rattle.chip_log.specs.Log.{gets, sends, steps_of, HasEnds}
+use Rattle.chip_log.specs.First.{IsFirstEarly}
+use Rattle.chip_log.specs.Laws.{SameJudgment, OneJudgment, SameFirst, OneFirst}
 use Rattle.chip_command.specs.Statuses.{number_of_status}
 use Rattle.chip_command.specs.declared.status.Status.TheVariants.{Halted}
-use Rattle.chip_judge.specs.JudgeCommand.{Judges, claim_text, end_text, past_text, status_of_end, verdict_text}
+use Rattle.chip_judge.specs.JudgeCommand.{Judges, JudgesBy, JudgesFirst, claim_text, end_text, past_text, status_of_end, verdict_text}
 use Rattle.chip_judge.proofs.laws.one_answer.Goals as goal
 
 abbrev Told : Type 0
@@ -49,18 +51,52 @@ module _ (past : Bool) (log : List LogRow) (text : List ℕ) (status : ℕ) (is 
       ∙ ap (λ (b : Bool). number_of_status (if b then Halted else status_of_end is.judged.end))
       (early_told is.judged.claims.items)
 
+module _ (same_judgment : SameJudgment) (one_judgment : OneJudgment) (same_first : SameFirst) (one_first : OneFirst)
+    (past : Bool) (log other : List LogRow) (text again : List ℕ) (status exit : ℕ) (ends : HasEnds log)
+    (same : (p : ℕ) → steps_of p log ≡ steps_of p other) where
+  abbrev IsOne : Type 0
+  IsOne = (text ≡ again) × (status ≡ exit)
+
+  ends_too : HasEnds other
+  ends_too = record {
+    sender = ends.sender;
+    receiver = ends.receiver;
+    sends = λ s p far. ap (sends s) (sym (same p)) ∙ ends.sends s p far;
+    gets = λ s p far. ap (gets s) (sym (same p)) ∙ ends.gets s p far;
+  }
+
+  all_claims : Judges past log text status → Judges past other again exit → IsOne
+  all_claims one two =
+      let mixed = same_judgment past log other one.judged ends same one.is_judged in
+      let (claims, end) = one_judgment past other one.judged two.judged ends_too mixed two.is_judged in (
+        text_told past log text status one ∙ ap (λ (ts : List Told). all_lines ts one.judged.end) claims
+            ∙ ap (all_lines (map told_of two.judged.claims.items)) end ∙ sym (text_told past other again exit two),
+        answer_told past log text status one ∙ ap (λ (ts : List Told). status_told ts one.judged.end) claims
+            ∙ ap (status_told (map told_of two.judged.claims.items)) end ∙ sym (answer_told past other again exit two),
+      )
+
+  first_as : (found : Option ClaimVerdict) → IsFirstEarly past log found → IsFirstEarly past other found
+  first_as found is = same_first past log other found same is
+
+  first_claim : JudgesFirst past log text status → JudgesFirst past other again exit → IsOne
+  first_claim one two =
+      let found = one_first past other (Some one.claim) (Some two.claim) ends_too (first_as (Some one.claim) one.is_first)
+      two.is_first in
+      let told : told_of one.claim ≡ told_of two.claim = cc found in (
+        one.lines ∙ ap (λ (t : Told). claim_lines t ++ codes "end early\n") told ∙ sym two.lines,
+        one.status_is ∙ sym two.status_is,
+      )
+
+  by_first : (first : Bool) → JudgesBy first past log text status → JudgesBy first past other again exit → IsOne
+  by_first false one two = all_claims one two
+  by_first true (inl one) (inl two) = first_claim one two
+  by_first true (inl one) (inr two) = absurd (cc (one_first past other (Some one.claim) None ends_too
+      (first_as (Some one.claim) one.is_first) two.0))
+  by_first true (inr one) (inl two) = absurd (cc (one_first past other None (Some two.claim) ends_too
+      (first_as None one.0) two.is_first))
+  by_first true (inr one) (inr two) = all_claims one.1 two.1
+
 pub returns : goal.returns
-returns c = λ past log other text again status exit ends same one two.
-    let ends_too : HasEnds other = record {
-      sender = ends.sender;
-      receiver = ends.receiver;
-      sends = λ s p far. ap (sends s) (sym (same p)) ∙ ends.sends s p far;
-      gets = λ s p far. ap (gets s) (sym (same p)) ∙ ends.gets s p far;
-    } in
-    let mixed = c.same_judgment.ensures past log other one.judged ends same one.is_judged in
-    let (claims, end) = c.one_judgment.ensures past other one.judged two.judged ends_too mixed two.is_judged in (
-      text_told past log text status one ∙ ap (λ (ts : List Told). all_lines ts one.judged.end) claims
-          ∙ ap (all_lines (map told_of two.judged.claims.items)) end ∙ sym (text_told past other again exit two),
-      answer_told past log text status one ∙ ap (λ (ts : List Told). status_told ts one.judged.end) claims
-          ∙ ap (status_told (map told_of two.judged.claims.items)) end ∙ sym (answer_told past other again exit two),
-    )
+returns c = λ first past log other text again status exit ends same one two.
+    by_first c.same_judgment.ensures c.one_judgment.ensures c.same_first.ensures c.one_first.ensures past log other text
+    again status exit ends same first one two

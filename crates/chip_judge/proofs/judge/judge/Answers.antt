@@ -3,6 +3,7 @@ use Rattle.chip_command.specs.CommandAnswers.{Spec, bind, Gives}
 use Rattle.chip_command.specs.declared.answer.Answer.{Answer}
 use Rattle.chip_command.specs.declared.fault.Fault.{Fault}
 use Rattle.chip_command.proofs.InputLemmas.{at_some}
+use Rattle.chip_judge.specs.JudgeCommand.{judging}
 use Rattle.chip_judge.proofs.judge.judge.Goals as goal
 
 -- what follows what a computation gave
@@ -12,5 +13,6 @@ follows first a next (Ok answer) given gives = (a, given, gives)
 follows first a next (Err fault) given gives = inr (a, given, gives)
 
 pub returns : goal.returns
-returns g c = follows _ (c.in_ok-log.log.rows.items, c.in_ok-log.log.sizes) _ c.judge_rows.result
+returns g c = follows _ (c.in_ok-log.log.rows.items, c.in_ok-log.log.sizes) (λ (rows, _). judging c.args.options rows)
+    c.judge_rows.result
     (λ text is. at_some _ _ text is c.in_ok-log.ensures.reads.means) (rw c.deref.ensures.value at c.judge_rows.ensures)

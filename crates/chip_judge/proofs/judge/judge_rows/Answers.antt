@@ -1,18 +1,35 @@
-use Rattle.std.proofs.Common.{◌∙◌, ℕ, Bool, List, inl, inr, refl, ap, Vec, Global}
-use Rattle.chip_log.specs.declared.row.LogRow.{LogRow}
-use Rattle.chip_log.specs.declared.fault.OrderFault.{OrderFault}
-use Rattle.chip_log.specs.declared.fault.OrderFault.TheVariants as order
-use Rattle.chip_log.specs.First.{IsFirstAbsent}
-use Rattle.chip_log.specs.Order.{IsOrderFault}
-use Rattle.chip_command.specs.Faults.{fault_of_order}
+use Rattle.std.proofs.Common.{◌∙◌, ℕ, inl, inr, refl, ap, Vec, Global}
 use Rattle.chip_command.specs.Statuses.{number_of_status}
-use Rattle.chip_command.proofs.CommandLemmas.{handed_on}
-use Rattle.chip_judge.specs.declared.judge.JudgeOptions.{JudgeOptions}
-use Rattle.chip_judge.specs.JudgeCommand.{judging}
+use Rattle.chip_judge.specs.JudgeCommand.{Judges}
+use Rattle.chip_judge.proofs.judge.judge_rows.Goals.{then-options+in_ok-claim+in_default-2, else-options}
 use Rattle.chip_judge.proofs.judge.judge_rows.Goals as goal
 
--- why a log is not judged
-not_judged : (options : JudgeOptions) (log : List LogRow) (f : OrderFault) → IsFirstAbsent log options.processes None
-    → IsOrderFault log f → (judging options log).refuses (fault_of_order f)
-not_judged options log (order.Stuck process row) none stuck = inl (inr (none, process, row, refl, stuck))
-not_judged options log order.NoMemory none stuck = inr refl
+pub returns-in-Some-2 : goal.returns-in-Some-2
+returns-in-Some-2 g c = (
+  rw c.in_default.is at c.in_ok-process.ensures,
+  rw c.if-options.true (inl (record {
+    claim = c.in-Some-2.claim;
+    is_first = rw c.in-Some-2.is at c.in_ok-claim.ensures;
+    lines = ap (λ (bytes : Vec ℕ Global). bytes.items) c.into_bytes.ensures.value ∙ c.in_ok-text_of_early.ensures;
+    status_is = refl;
+  })),
+)
+
+pub returns : goal.returns
+returns g c =
+    let all : Judges c.args.options.past c.args.rows.now c.into_bytes-2.result.items
+    (number_of_status c.status_of_judged.result) = record {
+      judged = c.in_ok-judged.judged;
+      is_judged = c.in_ok-judged.ensures;
+      lines = ap (λ (bytes : Vec ℕ Global). bytes.items) c.into_bytes-2.ensures.value ∙ c.in_ok-text.ensures;
+      status_is = ap number_of_status c.status_of_judged.ensures;
+    } in (
+      rw c.in_default.is at c.in_ok-process.ensures,
+      elim c.if-options.branch [
+        | then-options+in_ok-claim+in_default-2 w ↦ rw w.if-options.true (inr (
+          rw w.in_default-2.is at w.in_ok-claim.ensures,
+          all,
+        ))
+        | else-options w ↦ rw w.if-options.false all
+      ],
+    )

@@ -6,9 +6,9 @@ ghost use Rattle.chip_arguments.specs.Progress.{asks_progress};
 
 use crate::commands::{
     Argument, ArgumentRow, BOOKS, CHIPS, CLAIM_PROGRESS, COMPLETE, CommandRow, DEALT, DROPS,
-    FAULT_NUMBER, FED, FEED, FIRST, GRAPH, GUESS, LARGE, LARGE_LOG, LIMIT, LOG, PAST, PROCESSES, PROGRESS, REPORT,
-    RING, ROUNDS, RULE_NUMBER, SCHEDULE, TRACE, TRACE_FILE, TRACE_ROWS, TURNS, WORKERS,
-    WRITTEN_REPORT, commands,
+    FAULT_NUMBER, FED, FEED, FIRST, GRAPH, GUESS, LARGE, LARGE_LOG, LIMIT, LOG, PAST, PROCESSES,
+    PROGRESS, REPORT, RING, ROUNDS, RULE_NUMBER, SCHEDULE, TRACE, TRACE_FILE, TRACE_ROWS, TURNS,
+    WORKERS, WRITTEN_REPORT, commands,
 };
 use crate::fault::ArgumentsFault;
 use crate::help_texts as texts;

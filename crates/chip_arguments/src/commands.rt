@@ -1,6 +1,8 @@
 //! The commands of the program: a table of their operands, their options and what the help says of them.
 
-use crate::limits::{MAX_LIMIT, MAX_PROCESSES, MAX_RING, MAX_ROUNDS, MAX_TRACE_ROWS, MAX_TURNS, MAX_WORKERS};
+use crate::limits::{
+    MAX_LIMIT, MAX_PROCESSES, MAX_RING, MAX_ROUNDS, MAX_TRACE_ROWS, MAX_TURNS, MAX_WORKERS,
+};
 
 /// A command.
 pub struct CommandRow {

@@ -13,8 +13,8 @@ use chip_command::{Answer, Ended, Fault, Status, deliver};
 use chip_file::read_log_within;
 use chip_graph::Limits;
 use chip_log::{
-    ClaimVerdict, ClaimWatch, JudgedLog, LogEnd, LogRow, PastRows, Sizes, Unwatched,
-    Verdict, first_absent, first_early, judge_log,
+    ClaimVerdict, ClaimWatch, JudgedLog, LogEnd, LogRow, PastRows, Sizes, Unwatched, Verdict,
+    first_absent, first_early, judge_log,
 };
 use std::alloc::{AllocError, Global};
 use std::io::{Read, Write};

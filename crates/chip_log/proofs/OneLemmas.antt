@@ -228,7 +228,7 @@ module _ (w : Bool) (log : List LogRow) (ends : HasEnds log) where
   none_early : (c : ClaimVerdict) → IsFirst w log c → IsFirstEarly w log None → ⊥
   none_early c first all =
       let e = one_verdict log ends c.process c.row c.verdict verdict.Right first.judged.verdict
-          (all c.process c.row first.claim) in
+      (all c.process c.row first.claim) in
       let f = first.early in cc
 
 pub one_first : (w : Bool) (log : List LogRow) (one two : Option ClaimVerdict) → HasEnds log → IsFirstEarly w log one

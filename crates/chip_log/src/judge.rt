@@ -262,7 +262,11 @@ fn is_busy(said: Said, begins: Option<bool>) -> bool
 }
 
 /// Whether each process begins active, if it has a row.
-pub(crate) fn beginners(alloc: Global, sizes: Sizes, rows: &[LogRow]) -> Result<Vec<Option<bool>>, AllocError>
+pub(crate) fn beginners(
+    alloc: Global,
+    sizes: Sizes,
+    rows: &[LogRow],
+) -> Result<Vec<Option<bool>>, AllocError>
     requires { Fits sizes rows.now }
     ensures { IfOk result (λ beginners. AreBeginners sizes rows.now beginners.items) }
 {

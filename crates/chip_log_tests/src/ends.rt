@@ -149,7 +149,9 @@ fn first_early_claim(rt: HostRuntime) {
     assert!(rt; found.map(|claim| claim.past.as_slice() == past.as_slice()) == Some(true));
     let none = first(&rt, SIZES, &NO_CLAIM).ok().expect(&rt, "an order");
     assert!(rt; none.is_none());
-    let silent = first(&rt, SIZES, &[row!(1, Step::Over)]).ok().expect(&rt, "an order");
+    let silent = first(&rt, SIZES, &[row!(1, Step::Over)])
+        .ok()
+        .expect(&rt, "an order");
     assert!(rt; silent.is_none());
 }
 

@@ -4,8 +4,8 @@ ghost use Rattle.std.specs.Prelude.{◌^◌, ◌<◌, IsTrue, length};
 ghost use Rattle.chip_log_tests.specs.Checks.{may_order};
 
 use chip_log::{
-    ClaimVerdict, ClaimWatch, JudgedLog, LogEnd, LogRow, OrderFault, Sizes, Step, Stream, Unwatched,
-    Verdict, first_absent, first_early, judge_log,
+    ClaimVerdict, ClaimWatch, JudgedLog, LogEnd, LogRow, OrderFault, Sizes, Step, Stream,
+    Unwatched, Verdict, first_absent, first_early, judge_log,
 };
 use std::process::Abort;
 

@@ -10,7 +10,7 @@ judge_next-requires-clause-right g c =
     let inside : c.loop-next.next < length c.in_ok-places.places.items =
     (let a = c.loop-next-test.true in let b = c.len.ensures in omega arith) in
     λ x is. rw c.index-place.ensures (known c.args.rows.now c.in_ok-places.places.items c.loop-next.next
-        c.index-place.result.now x inside (c.loop-next.invariant.right x is))
+    c.index-place.result.now x inside (c.loop-next.invariant.right x is))
 
 pub returns-then-is_early : goal.returns-then-is_early
 returns-then-is_early g c =

@@ -1,16 +1,16 @@
 -- Serves First.antt.
 -- The first early claim among all, and the first process without a row.
 use Rattle.chip_log.proofs.Names.{◌≡◌, ℕ, ◌+◌, ◌≤◌, ◌<◌, Bool, true, false, List, [], length, get_or, refl, ap, sym, subst}
-use Rattle.chip_log.proofs.Names.{◌∷◌, get_or_default, IsLog, ◌⊎◌}
-use Rattle.chip_log.proofs.Names.{arith, map, length-map, get_or-map, take_all, Any-from_list_any, list_any_at, sum_by-le}
+use Rattle.chip_log.proofs.Names.{◌∷◌, get_or_default, IsLog}
+use Rattle.chip_log.proofs.Names.{arith, map, length-map, get_or-map, Any-from_list_any, list_any_at, sum_by-le}
 use Rattle.chip_log.proofs.Names.{list_any, Option, Some, None, dite, dec_lt, inl, inr, IsRight, place_at, ArePlaces}
 use Rattle.chip_log.proofs.Names.{begins_with, has_row_at, AreBeginners, is_claim, RowPlace, is_at, IsNoLater, is_some}
-use Rattle.chip_log.proofs.Names.{IsSooner, IsFirst, IsFirstEarly, IsFirstAbsent, is_early, Judges, slice_index_or, first_step}
+use Rattle.chip_log.proofs.Names.{IsSooner, IsFirst, IsFirstAbsent, is_early, Judges, first_step}
 use Rattle.chip_log.proofs.Names.{steps_of, ClaimPlace, ClaimVerdict, LogRow, Step, Sizes, Active}
 use Rattle.chip_log.proofs.MetLemmas.{count_yes}
 use Rattle.chip_log.proofs.LeftLemmas.{one_number}
 use Rattle.chip_log.proofs.RightLemmas.{place_claim}
-use Rattle.chip_log.proofs.PlacesLemmas.{one_at, at_is, IsRightBefore, in_order}
+use Rattle.chip_log.proofs.PlacesLemmas.{one_at, at_is, in_order}
 
 -- ---- claims among their places
 

@@ -1,5 +1,5 @@
-use Rattle.chip_log.proofs.Names.{◌≡◌, ◌+◌, ◌<◌, [], length, get_or, refl, sym, ◌∙◌, arith, Some, Judges}
-use Rattle.chip_log.proofs.PlacesLemmas.{known, IsRightBefore}
+use Rattle.chip_log.proofs.Names.{◌≡◌, ◌<◌, [], length, get_or, refl, sym, ◌∙◌, arith, Some, Judges}
+use Rattle.chip_log.proofs.PlacesLemmas.{known}
 use Rattle.chip_log.proofs.RightLemmas.{right_now}
 use Rattle.chip_log.proofs.FirstLemmas.{is_first, right_next, all_right}
 use Rattle.chip_log.proofs.first.first_in_order.Goals as goal

@@ -22,6 +22,7 @@
  *     10 more than 2^40 chips, 11 limit                                  the game or the drop, from 0
  *     12 slices that belong together have other lengths                  no place
  *     13 the limit stopped the play of a drop, or of the game before it  the drop, or 0
+ *     14 there is no pile                                                no place
  *     26 a drop on no vertex                                             the drop
  *     53 what was claimed is not how the game ends                       the least vertex that differs
  *     90 memory ran out                                                  no place
@@ -33,8 +34,8 @@
  * The caller sees to this, which no call can check:
  *
  *   - Each slice has its length, and what is written overlaps nothing else. Only a slice of length 0 may be null.
- *   - One call at a time writes to one memory. Apart from that calls may run on any threads at once: nothing is kept
- *     from one to the next.
+ *   - One call at a time writes to one memory. Apart from that calls may run on any threads at once: nothing but piles is
+ *     kept from one to the next.
  *   - No call from a signal handler, nor in the forked child of a process that has threads. */
 #ifndef CHIPFIRE_H
 #define CHIPFIRE_H
@@ -103,6 +104,64 @@ uint64_t chipfire_verify(uint64_t vertices, uint64_t sink,
                          const uint64_t *fired, size_t fired_len,
                          const uint64_t *ends, size_t ends_len,
                          uint64_t *place);
+
+/* ---- Piles that are kept
+ *
+ * A pile is a game that is kept from one call to the next, and on which chips are dropped. Its graph is made once. What
+ * drops set off is what those of one chipfire_avalanches do.
+ *
+ *     struct chipfire_pile pile = {0};        no pile yet
+ *     chipfire_pile_new(&pile, ..);           makes one
+ *     chipfire_pile_drop(&pile, ..);          as often as you like
+ *     chipfire_pile_free(&pile);              no pile any more
+ *
+ * The most chips, 2^40, those on the sink too, and the limit are for the game and all its drops together, from
+ * chipfire_pile_new or chipfire_pile_put on.
+ *
+ * Each call returns 0 or the number of the first fault: 14 is the first of all. On a fault the pile and all slices stay as
+ * they were, but for 13. That comes of drops alone: then the limit has stopped a play. Graph and limit stay, chips and
+ * counts are those with which the play has stopped, and each later drop with no other fault has this one, until
+ * chipfire_pile_put.
+ *
+ * The caller sees to this too, which no call can check:
+ *
+ *   - The struct is zeros at first, and then only these calls write it. A copy is not used once the struct was passed to
+ *     a call. On another struct calls do anything.
+ *   - One call at a time works on a pile, also to read it. It may go from thread to thread, if a lock, a start or a join
+ *     orders the calls.
+ *   - Each pile is freed, or its memory is lost. */
+struct chipfire_pile {
+    uint64_t has_pile;  /* only these calls read and write both */
+    void *pile;
+};
+
+/* Makes a pile in place of the one that is there, if there is one: a graph, and chips on it, one number for each vertex. It
+ * plays nothing. */
+uint64_t chipfire_pile_new(struct chipfire_pile *pile,
+                           uint64_t vertices, uint64_t sink,
+                           const uint64_t *tails, size_t tails_len,
+                           const uint64_t *heads, size_t heads_len,
+                           const uint64_t *mults, size_t mults_len,
+                           uint64_t limit,
+                           const uint64_t *chips, size_t chips_len,
+                           uint64_t *place);
+
+/* Puts other chips there, in place of all that are there, and sets the limit. All counts are 0 again. It plays nothing. */
+uint64_t chipfire_pile_put(struct chipfire_pile *pile, uint64_t limit, const uint64_t *chips, size_t chips_len);
+
+/* Plays what is still to be played, then drops amount chips on a vertex, and plays on to the end. The three numbers are
+ * those of chipfire_avalanches for this drop. */
+uint64_t chipfire_pile_drop(struct chipfire_pile *pile, uint64_t vertex, uint64_t amount,
+                            uint64_t *size, uint64_t *extent, uint64_t *lost);
+
+/* Copies the chips of each vertex: before the first play those that were put there. */
+uint64_t chipfire_pile_chips(struct chipfire_pile *pile, uint64_t *chips, size_t chips_len);
+
+/* Copies how often each vertex has fired, in all plays since chipfire_pile_new or chipfire_pile_put. */
+uint64_t chipfire_pile_fired(struct chipfire_pile *pile, uint64_t *fired, size_t fired_len);
+
+/* Frees the pile, if there is one, and leaves zeros: once more is harmless. */
+void chipfire_pile_free(struct chipfire_pile *pile);
 
 /* ---- The end of your own computation
  *

@@ -156,6 +156,110 @@ static void try_drops(void)
     FAULT(avalanches, (c.at[1] = 3, c.amounts[0] = UINT64_MAX), 10, 0);
 }
 
+static uint64_t pile_new(struct chipfire_pile *pile, struct call *c)
+{
+    return chipfire_pile_new(pile, c->vertices, c->sink, c->tails, c->edges, c->heads, c->heads_len, c->mults, c->edges,
+                             c->limit, c->chips, c->chips_len, &c->place);
+}
+
+/* The pile on which faults are tried: it has 1, 0, 3 chips, and has fired 2, 1, 0. */
+static struct chipfire_pile kept = {0};
+
+static uint64_t pile_new_in_place(struct call *c)
+{
+    return pile_new(&kept, c);
+}
+
+/* Looks that a pile has these chips and counts. */
+static void expect_pile(struct chipfire_pile *pile, const uint64_t *chips, const uint64_t *fired, int line)
+{
+    uint64_t now[N] = {GUARD, GUARD, GUARD};
+    expect(chipfire_pile_chips(pile, now, N) == 0 && are(now, N, chips), line);
+    expect(chipfire_pile_fired(pile, now, N) == 0 && are(now, N, fired), line);
+}
+
+#define EXPECT_PILE(pile, chips, fired) expect_pile(pile, chips, fired, __LINE__)
+
+/* What there is no pile for. */
+static void try_no_pile(void)
+{
+    struct chipfire_pile pile = {0};
+    uint64_t size = GUARD, extent = GUARD, lost = GUARD, chips[N] = {GUARD, GUARD, GUARD};
+    EXPECT(chipfire_pile_put(&pile, 9, chips, N) == 14);
+    EXPECT(chipfire_pile_drop(&pile, 0, 1, &size, &extent, &lost) == 14);
+    EXPECT(chipfire_pile_chips(&pile, chips, N) == 14 && chipfire_pile_fired(&pile, chips, N) == 14);
+    EXPECT(size == GUARD && extent == GUARD && lost == GUARD && are(chips, N, NUMBERS(GUARD, GUARD, GUARD)));
+    chipfire_pile_free(&pile);
+    EXPECT(pile.has_pile == 0 && pile.pile == NULL);
+}
+
+/* The drops of try_drops, one call after another. */
+static void try_piles(void)
+{
+    struct call c = begin();
+    uint64_t size = GUARD, extent = GUARD, lost = GUARD;
+    c.chips_len = N;
+    EXPECT(pile_new(&kept, &c) == 0 && c.place == 0);
+    EXPECT_PILE(&kept, NUMBERS(4, 0, 0), NUMBERS(0, 0, 0));
+    EXPECT(chipfire_pile_drop(&kept, 2, 1, &size, &extent, &lost) == 0 && size == 0 && extent == 0 && lost == 0);
+    EXPECT_PILE(&kept, NUMBERS(1, 0, 4), NUMBERS(2, 1, 0));
+    EXPECT(chipfire_pile_drop(&kept, 0, 1, &size, &extent, &lost) == 0 && size == 1 && extent == 1 && lost == 1);
+    EXPECT_PILE(&kept, NUMBERS(0, 1, 5), NUMBERS(3, 1, 0));
+    EXPECT(chipfire_pile_drop(&kept, 1, 2, &size, &extent, &lost) == 0 && size == 1 && extent == 1 && lost == 1);
+    EXPECT_PILE(&kept, NUMBERS(1, 1, 6), NUMBERS(3, 2, 0));
+    EXPECT(chipfire_pile_put(&kept, c.limit, NUMBERS(4, 0, 0), N) == 0);
+    EXPECT_PILE(&kept, NUMBERS(4, 0, 0), NUMBERS(0, 0, 0));
+    EXPECT(chipfire_pile_drop(&kept, 2, 0, &size, &extent, &lost) == 0 && size == 0);
+    EXPECT_PILE(&kept, NUMBERS(1, 0, 3), NUMBERS(2, 1, 0));
+}
+
+/* Faults leave the pile as it was. */
+static void try_faults_of_piles(void)
+{
+    struct call start = begin();
+    uint64_t size = GUARD, extent = GUARD, lost = GUARD, few[2] = {GUARD, GUARD};
+    start.chips_len = N;
+    try_graphs(pile_new_in_place, start);
+    FAULT(pile_new_in_place, c.chips_len = 2, 9, 0);
+    FAULT(pile_new_in_place, (c.chips[2] = UINT64_C(1) << 40), 10, 0);
+    FAULT(pile_new_in_place, (c.limit = (UINT64_C(1) << 40) + 1), 11, 0);
+    EXPECT(chipfire_pile_put(&kept, 9, NUMBERS(4, 0), 2) == 9);
+    EXPECT(chipfire_pile_put(&kept, 9, NUMBERS(4, 0, UINT64_C(1) << 40), N) == 10);
+    EXPECT(chipfire_pile_put(&kept, (UINT64_C(1) << 40) + 1, NUMBERS(4, 0, 0), N) == 11);
+    EXPECT(chipfire_pile_drop(&kept, 3, UINT64_MAX, &size, &extent, &lost) == 26);
+    EXPECT(chipfire_pile_drop(&kept, 2, UINT64_MAX, &size, &extent, &lost) == 10);
+    EXPECT(chipfire_pile_drop(&kept, 2, (UINT64_C(1) << 40) - 3, &size, &extent, &lost) == 10);
+    EXPECT(chipfire_pile_chips(&kept, few, 2) == 12 && chipfire_pile_fired(&kept, few, 2) == 12);
+    EXPECT(size == GUARD && extent == GUARD && lost == GUARD && are(few, 2, NUMBERS(GUARD, GUARD)));
+    EXPECT_PILE(&kept, NUMBERS(1, 0, 3), NUMBERS(2, 1, 0));
+    EXPECT(chipfire_pile_drop(&kept, 2, (UINT64_C(1) << 40) - 4, &size, &extent, &lost) == 0 && size == 0);
+    EXPECT(chipfire_pile_drop(&kept, 2, 1, &size, &extent, &lost) == 10);
+}
+
+/* The limit stops the play of the game, and then that of a drop. Then a pile is put there anew, and freed twice. */
+static void try_stopped_piles(void)
+{
+    uint64_t size = GUARD, extent = GUARD, lost = GUARD;
+    EXPECT(chipfire_pile_put(&kept, 1, NUMBERS(4, 0, 0), N) == 0);
+    EXPECT(chipfire_pile_drop(&kept, 2, 1, &size, &extent, &lost) == 13);
+    EXPECT_PILE(&kept, NUMBERS(2, 1, 1), NUMBERS(1, 0, 0));
+    EXPECT(chipfire_pile_put(&kept, 2, NUMBERS(4, 0, 0), N) == 0);
+    EXPECT(chipfire_pile_drop(&kept, 2, 1, &size, &extent, &lost) == 0 && size == 0 && extent == 0 && lost == 0);
+    size = extent = lost = GUARD;
+    EXPECT(chipfire_pile_drop(&kept, 0, 1, &size, &extent, &lost) == 13);
+    EXPECT_PILE(&kept, NUMBERS(2, 0, 4), NUMBERS(2, 1, 0));
+    EXPECT(chipfire_pile_drop(&kept, 2, 0, &size, &extent, &lost) == 13);
+    EXPECT(chipfire_pile_drop(&kept, 3, 0, &size, &extent, &lost) == 26);
+    EXPECT(size == GUARD && extent == GUARD && lost == GUARD);
+    EXPECT_PILE(&kept, NUMBERS(2, 0, 4), NUMBERS(2, 1, 0));
+    EXPECT(chipfire_pile_put(&kept, 2, NUMBERS(4, 0, 0), N) == 0);
+    EXPECT(chipfire_pile_drop(&kept, 2, 1, &size, &extent, &lost) == 0);
+    chipfire_pile_free(&kept);
+    EXPECT(kept.has_pile == 0 && kept.pile == NULL);
+    chipfire_pile_free(&kept);
+    EXPECT(chipfire_pile_put(&kept, 2, NUMBERS(4, 0, 0), N) == 14);
+}
+
 /* The end of the first game, as a claim. */
 static struct call claim(void)
 {
@@ -230,6 +334,12 @@ static void try_nulls(void)
     EXPECT(chipfire_avalanches(1, 0, NULL, 0, NULL, 0, NULL, 0, 9, NUMBERS(0), 1, NUMBERS(2), 1, c.chips, 1, c.sizes, 1,
                                c.extents, 1, c.losts, 1, &place) == 0);
     EXPECT(c.chips[0] == 3 && c.sizes[0] == 0 && c.extents[0] == 0 && c.losts[0] == 0);
+    struct chipfire_pile pile = {0};
+    EXPECT(chipfire_pile_new(&pile, 1, 0, NULL, 0, NULL, 0, NULL, 0, 9, NULL, 0, &place) == 9);
+    EXPECT(chipfire_pile_new(&pile, 1, 0, NULL, 0, NULL, 0, NULL, 0, 9, NUMBERS(4), 1, &place) == 0);
+    EXPECT(chipfire_pile_put(&pile, 9, NULL, 0) == 9 && chipfire_pile_chips(&pile, NULL, 0) == 12);
+    EXPECT(chipfire_pile_chips(&pile, c.chips, 1) == 0 && c.chips[0] == 4);
+    chipfire_pile_free(&pile);
     EXPECT(chipfire_verify(1, 0, NULL, 0, NULL, 0, NULL, 0, 9, NULL, 0, NULL, 0, NULL, 0, &place) == 9);
     EXPECT(chipfire_verify(1, 0, NULL, 0, NULL, 0, NULL, 0, 9, NUMBERS(4), 1, NUMBERS(0), 1, NUMBERS(4), 1, &place) == 0);
     EXPECT(chipfire_sent(NULL, 0, 0) == 46 && chipfire_got(NULL, 0, &parent, 0) == 46);
@@ -261,6 +371,10 @@ int main(void)
     try_one_side();
     try_games();
     try_drops();
+    try_no_pile();
+    try_piles();
+    try_faults_of_piles();
+    try_stopped_piles();
     try_claims();
     try_detector();
     return wrong;

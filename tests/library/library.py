@@ -19,21 +19,21 @@ WORD = ctypes.c_uint64
 
 
 def declared():
-    """Returns the functions that the header declares, each with its parameters' types."""
+    """Returns the functions that the header declares, each with what it returns and its parameters' types."""
     with open(HEADER, encoding="ascii") as file:
         text = re.sub(r"/\*.*?\*/", "", file.read(), flags=re.DOTALL)
-    found = re.findall(r"^uint64_t (chipfire_\w+)\(([^)]*)\);", text, re.MULTILINE)
-    return {name: [" ".join(it.split()[:-1]) + "*" * it.count("*") for it in of.split(",") if it.strip() != "void"]
-            for name, of in found}
+    found = re.findall(r"^(uint64_t|void) (chipfire_\w+)\(([^)]*)\);", text, re.MULTILINE)
+    return {name: (kind, [" ".join(it.split()[:-1]) + "*" * it.count("*") for it in of.split(",") if it.strip() != "void"])
+            for kind, name, of in found}
 
 
 def loaded(path=SHARED):
     """Returns the library in this process, its functions declared as the header does."""
     kinds = {"uint64_t": WORD, "size_t": ctypes.c_size_t}
     library = ctypes.CDLL(path)
-    for name, parameters in declared().items():
+    for name, (kind, parameters) in declared().items():
         function = getattr(library, name)
-        function.restype = WORD
+        function.restype = kinds.get(kind)
         function.argtypes = [ctypes.c_void_p if "*" in it else kinds[it] for it in parameters]
     return library
 

@@ -188,6 +188,11 @@ before instead. Allow more firings, or leave out this drop and all that follow. 
 before the first drop was stopped, i is 0 too.
 ");
 
+static NO_PILE: Explanation = row!(14 NoPile NOWHERE: "there is no pile", "\
+Only callers of libchipfire meet this. `chipfire_pile_new` makes a pile in a struct of zeros,
+and there is none any more after `chipfire_pile_free`.
+");
+
 static NOT_JSON: Explanation = row!(20 NotJson NOWHERE: "the graph file is no JSON", "\
 The bytes are not UTF-8, or not one JSON value. Perhaps the file is empty or was cut off, a
 comma or a bracket is missing, something follows the value, or a byte-order mark begins it.
@@ -423,7 +428,7 @@ report was written, or the file of `--report`, and all rows were.
 ");
 
 /// All faults, by their numbers.
-pub fn explanations() -> [&'static Explanation; 51] {
+pub fn explanations() -> [&'static Explanation; 52] {
     [
         &VERTICES,
         &SINK,
@@ -438,6 +443,7 @@ pub fn explanations() -> [&'static Explanation; 51] {
         &LIMIT,
         &LENGTHS,
         &STOPPED,
+        &NO_PILE,
         &NOT_JSON,
         &SHAPE,
         &VERSION,

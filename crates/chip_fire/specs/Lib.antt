@@ -13,3 +13,4 @@ pub mod Search
 pub mod Avalanches
 pub mod Pile
 pub mod Worked
+pub mod BegunPile

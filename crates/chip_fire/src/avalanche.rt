@@ -123,7 +123,7 @@ fn list_all(support: &mut Vec<u64>)
 }
 
 /// Whether no vertex is legal.
-fn is_stable(graph: &Graph, chips: &[u64]) -> bool
+pub(crate) fn is_stable(graph: &Graph, chips: &[u64]) -> bool
     requires { length chips.now ≡ graph.now.vertices }
     ensures { (result ≡ true) ↔ IsStable graph.now (slice_index chips.now) }
 {

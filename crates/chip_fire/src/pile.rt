@@ -1,6 +1,6 @@
 //! A pile: a game that has ended, on which chips are dropped.
 
-ghost use Rattle.std.specs.Prelude.{◌≡◌, ℕ, ◌+◌, ◌<◌, ◌≤◌, List, [], ◌∷◌, sum, slice_index, is_none, IfOk};
+ghost use Rattle.std.specs.Prelude.{◌≡◌, ◌↔◌, ℕ, ◌+◌, ◌<◌, ◌≤◌, true, List, [], ◌∷◌, sum, slice_index, is_none, IfOk};
 ghost use Rattle.chip_graph.specs.Limits.{max_total};
 ghost use Rattle.chip_graph.specs.ChipGame.{ChipGame, IsGame};
 ghost use Rattle.chip_graph.specs.More.{HasMore};
@@ -9,11 +9,12 @@ ghost use Rattle.chip_fire.specs.Player.{PlaysOut};
 ghost use Rattle.chip_fire.specs.Avalanches.{dropped, TellsAvalanche};
 ghost use Rattle.chip_fire.specs.Pile.{IsPile, IsBegunDrop};
 ghost use Rattle.chip_sequence.specs.Firing.{IsStable};
+ghost use Rattle.chip_fire.specs.BegunPile.{IsBegunPile, IsAtStart};
 
-use crate::avalanche::{Avalanche, Room, play_out, tally, work_from};
+use crate::avalanche::{Avalanche, Room, is_stable, play_out, tally, work_from};
 use crate::play::Play;
 use crate::watch::{Unwatched, Watch};
-use chip_graph::Game;
+use chip_graph::{Game, Graph};
 use chip_sequence::Outcome;
 use std::alloc::{AllocError, Global};
 
@@ -48,6 +49,80 @@ impl Pile {
             fired,
             room,
         })
+    }
+
+    /// A pile at the start of a game, which is still to be played.
+    pub fn begin(alloc: Global, game: Game) -> Result<Pile, AllocError>
+        requires { IsGame game }
+        ensures begun { IfOk result IsBegunPile }
+        ensures start { IfOk result (IsAtStart game) }
+    {
+        let vertices = game.graph().vertices() as usize;
+        let chips = Vec::from_slice(alloc, game.start())?;
+        let fired = vec![in alloc; 0; vertices]?;
+        let room = Room::new(alloc, vertices, &fired)?;
+        Ok(Pile {
+            game,
+            chips,
+            fired,
+            room,
+        })
+    }
+
+    /// The pile at the start of another game on its graph, which is still to be played. This takes no memory.
+    pub fn put(self, start: Vec<u64>, limit: u64) -> Pile
+        requires begun { IsBegunPile self }
+        requires game { IsGame (record { graph = self.game.graph; start = start.items; limit = limit }) }
+        ensures begun { IsBegunPile result }
+        ensures start { IsAtStart (record { graph = self.game.graph; start = start.items; limit = limit }) result }
+    {
+        let Pile {
+            game,
+            mut chips,
+            mut fired,
+            mut room,
+        } = self;
+        chips.copy_from_slice(&start);
+        fired.fill(0);
+        room.before.fill(0);
+        Pile {
+            game: game_on(game.into_graph(), start, limit),
+            chips,
+            fired,
+            room,
+        }
+    }
+
+    /// Plays to the end within the limit; whether no vertex is legal there.
+    pub fn play(self, alloc: Global) -> (Pile, bool)
+        requires { IsBegunPile self }
+        ensures pile { IsPile result.0 }
+        ensures game { result.0.game ≡ self.game }
+        ensures stable { (result.1 ≡ true) ↔ IsStable self.game.graph (slice_index result.0.chips.items) }
+    {
+        let Pile {
+            game,
+            chips,
+            fired,
+            mut room,
+        } = self;
+        let mut play = Play {
+            game: &game,
+            chips,
+            fired,
+        };
+        play.play_few(alloc, &mut Unwatched);
+        play.play_on(alloc, &mut Unwatched);
+        let Play { chips, fired, .. } = play;
+        let stable = is_stable(game.graph(), &chips);
+        room.before.copy_from_slice(&fired);
+        let pile = Pile {
+            game,
+            chips,
+            fired,
+            room,
+        };
+        (pile, stable)
     }
 
     /// Drops `count` chips on a vertex and plays to the end: the avalanche, or `None` if the limit has stopped it.
@@ -93,6 +168,27 @@ impl Pile {
             arrived,
             worked,
         }
+    }
+
+    /// The game, with all chips at its start that were dropped.
+    pub fn game(&self) -> &Game
+        ensures { result.now ≡ self.now.game }
+    {
+        &self.game
+    }
+
+    /// How many chips each vertex has.
+    pub fn chips(&self) -> &[u64]
+        ensures { result.now ≡ self.now.chips.items }
+    {
+        &self.chips
+    }
+
+    /// How often each vertex has fired, from the start of the game on.
+    pub fn fired(&self) -> &[u64]
+        ensures { result.now ≡ self.now.fired.items }
+    {
+        &self.fired
     }
 
     /// The outcome of the game that has all chips at its start.
@@ -171,6 +267,17 @@ impl BegunDrop {
         } else {
             (pile, None)
         }
+    }
+}
+
+/// The game that begins with these chips.
+fn game_on(graph: Graph, start: Vec<u64>, limit: u64) -> Game
+    requires { IsGame (record { graph = graph; start = start.items; limit = limit }) }
+    ensures { result ≡ record { graph = graph; start = start.items; limit = limit } }
+{
+    match Game::new(graph, start, limit) {
+        Ok(game) => game,
+        Err(_) => unreachable!(),
     }
 }
 

@@ -1,4 +1,5 @@
 pub mod BatchLemmas
 pub mod DropLemmas
+pub mod KeptLemmas
 pub mod BooksLemmas
 pub mod EdgesLemmas

@@ -6,7 +6,7 @@ use Rattle.chip_graph.specs.Multigraph.{Multigraph}
 use Rattle.chip_graph.specs.Faults.{MakesGraph, fault_of_sizes, fault_of_game}
 use Rattle.chip_graph.specs.ChipGame.{ChipGame}
 use Rattle.chip_library.specs.declared.fault.CallFault.{CallFault}
-use Rattle.chip_library.specs.declared.fault.CallFault.TheVariants.{Lengths, Graph, Game, Vertex, Total, Stopped, Differs, NoMemory}
+use Rattle.chip_library.specs.declared.fault.CallFault.TheVariants.{Lengths, Graph, Game, Vertex, Total, Stopped, Differs, NoPile, NoMemory}
 
 -- the number of a fault in the table of faults
 abbrev pub call_fault_number : CallFault → ℕ
@@ -17,6 +17,7 @@ call_fault_number (Vertex drop) = 26
 call_fault_number (Total drop) = 10
 call_fault_number (Stopped drop) = 13
 call_fault_number (Differs vertex) = 53
+call_fault_number NoPile = 14
 call_fault_number NoMemory = 90
 
 -- the edge, vertex, game or drop that it names, or 0
@@ -28,6 +29,7 @@ place_of (Vertex drop) = drop
 place_of (Total drop) = drop
 place_of (Stopped drop) = drop
 place_of (Differs vertex) = vertex
+place_of NoPile = 0
 place_of NoMemory = 0
 
 -- the first fault of a graph; or want of memory, if there are not too many vertices and edges and the sink is a vertex

@@ -5,3 +5,4 @@ pub mod Claims
 pub mod Drops
 pub mod PartBooks
 pub mod Worked
+pub mod KeptGames

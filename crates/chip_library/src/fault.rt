@@ -18,6 +18,8 @@ pub enum CallFault {
     Stopped(u64),
     /// This vertex is the least of which another outcome is claimed.
     Differs(u64),
+    /// There is no pile.
+    NoPile,
     /// Memory ran out.
     NoMemory,
 }
@@ -38,6 +40,7 @@ impl CallFault {
             CallFault::Total(_) => 10,
             CallFault::Stopped(_) => 13,
             CallFault::Differs(_) => 53,
+            CallFault::NoPile => 14,
             CallFault::NoMemory => 90,
         }
     }
@@ -53,7 +56,7 @@ impl CallFault {
             | CallFault::Total(place)
             | CallFault::Stopped(place)
             | CallFault::Differs(place) => *place,
-            CallFault::Lengths | CallFault::NoMemory => 0,
+            CallFault::Lengths | CallFault::NoPile | CallFault::NoMemory => 0,
         }
     }
 }

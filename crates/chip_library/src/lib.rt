@@ -7,6 +7,7 @@ pub use claims::{verify, verify_watched};
 pub use drops::avalanches;
 pub use edges::EdgeLists;
 pub use fault::CallFault;
+pub use kept::KeptPile;
 pub use stabilize::{stabilize_all, stabilize_all_watched};
 
 mod claims;
@@ -15,8 +16,9 @@ mod drops;
 pub mod edges;
 mod fault;
 mod game;
+mod kept;
 pub mod laws;
 mod stabilize;
 
 /// The version of the library: 1,000,000 for each of the first number, 1,000 for each of the second, and the third.
-pub const VERSION: u64 = 7_000;
+pub const VERSION: u64 = 8_000;

@@ -12,4 +12,6 @@ mod graphs;
 #[cfg(test)]
 mod guesses;
 #[cfg(test)]
+mod kept;
+#[cfg(test)]
 mod stabilize;

@@ -1,0 +1,19 @@
+-- What a call on a pile returns to C.
+use Rattle.std.specs.Prelude.{◌≡◌, ℕ, Result, Ok, Err}
+use Rattle.chip_fire.specs.declared.avalanche.Avalanche.{Avalanche}
+use Rattle.chip_library.specs.declared.fault.CallFault.{CallFault}
+use Rattle.chip_library.specs.CallFaults.{call_fault_number}
+
+-- the number of a fault, or 0
+abbrev pub call_status_of : {T : Type 0} → Result T CallFault → ℕ
+call_status_of (Ok told) = 0
+call_status_of (Err fault) = call_fault_number fault
+
+-- the status is that of a result of which the promise holds
+abbrev pub CallStatus : {T : Type 0} → ℕ → (Result T CallFault → Type 0) → Type 0
+CallStatus {T} status promise = (told : Result T CallFault) × promise told × (status ≡ call_status_of told)
+
+-- the size, the extent and the loss that are written, if `old` were written before
+abbrev pub written_of : Result Avalanche CallFault → ℕ × ℕ × ℕ → ℕ × ℕ × ℕ
+written_of (Ok a) old = (a.size, a.extent, a.lost)
+written_of (Err fault) old = old

@@ -1,0 +1,119 @@
+//! A pile that is kept from one call to the next (`chip_handle`).
+
+ghost use Rattle.std.specs.Prelude.{◌≡◌, None};
+ghost use Rattle.chip_fire.specs.declared.avalanche.Avalanche.{Avalanche};
+ghost use Rattle.chip_library.specs.declared.fault.CallFault.{CallFault};
+ghost use Rattle.chip_library.specs.KeptGames.{PutsChips, Drops};
+ghost use Rattle.chip_handle.specs.Handles.{MakesNew, OnPile, CopiesOf, chips_on, firings_on};
+ghost use Rattle.chip_exports.specs.Answers.{Answers, answer_of};
+ghost use Rattle.chip_exports.specs.Piles.{CallStatus, call_status_of, written_of};
+
+use crate::answer;
+use chip_handle::{Handle, chips_of, drop_on, fired_of, make, put, release};
+use chip_library::{CallFault, EdgeLists};
+use std::alloc::Global;
+
+/// Makes a pile (`chip_handle::make`).
+#[unsafe(no_mangle)]
+pub extern "C" fn chipfire_pile_new(
+    alloc: Global,
+    pile: &mut Handle,
+    vertices: u64,
+    sink: u64,
+    tails: &[u64],
+    heads: &[u64],
+    mults: &[u64],
+    limit: u64,
+    chips: &[u64],
+    place: &mut u64,
+) -> u64
+    ensures { Answers result place.new (MakesNew
+        (record { vertices = vertices; sink = sink; tails = tails.entry; heads = heads.entry; mults = mults.entry })
+        limit chips.now pile.old.raw.value pile.new.raw.value) }
+{
+    let edges = EdgeLists {
+        vertices,
+        sink,
+        tails,
+        heads,
+        mults,
+    };
+    let done = make(alloc, pile, edges, limit, chips);
+    answer(done, place)
+}
+
+/// Puts other chips on a pile (`chip_handle::put`).
+#[unsafe(no_mangle)]
+pub extern "C" fn chipfire_pile_put(
+    alloc: Global,
+    pile: &mut Handle,
+    limit: u64,
+    chips: &[u64],
+) -> u64
+    ensures { CallStatus {T = Unit {0}} result (OnPile (λ old new told. PutsChips old new limit chips.now told)
+        pile.old.raw.value pile.new.raw.value) }
+{
+    call_status(put(alloc, pile, limit, chips))
+}
+
+/// Drops chips on a pile, and plays to its end (`chip_handle::drop_on`).
+#[unsafe(no_mangle)]
+pub extern "C" fn chipfire_pile_drop(
+    alloc: Global,
+    pile: &mut Handle,
+    vertex: u64,
+    amount: u64,
+    size: &mut u64,
+    extent: &mut u64,
+    lost: &mut u64,
+) -> u64
+    ensures { CallStatus {T = Avalanche} result (λ told. OnPile (λ old new told. Drops old new vertex amount told)
+        pile.old.raw.value pile.new.raw.value told
+        × ((size.new, extent.new, lost.new) ≡ written_of told (size.old, extent.old, lost.old))) }
+{
+    match drop_on(alloc, pile, vertex, amount) {
+        Ok(avalanche) => {
+            *size = avalanche.size;
+            *extent = avalanche.extent;
+            *lost = avalanche.lost;
+            0
+        }
+        Err(fault) => fault.number(),
+    }
+}
+
+/// Copies the chips of a pile (`chip_handle::chips_of`).
+#[unsafe(no_mangle)]
+pub extern "C" fn chipfire_pile_chips(alloc: Global, pile: &mut Handle, chips: &mut [u64]) -> u64
+    ensures { CallStatus {T = Unit {0}} result
+        (CopiesOf chips_on pile.old.raw.value pile.new.raw.value chips.old chips.new) }
+{
+    call_status(chips_of(alloc, pile, chips))
+}
+
+/// Copies how often each vertex of a pile has fired (`chip_handle::fired_of`).
+#[unsafe(no_mangle)]
+pub extern "C" fn chipfire_pile_fired(alloc: Global, pile: &mut Handle, fired: &mut [u64]) -> u64
+    ensures { CallStatus {T = Unit {0}} result
+        (CopiesOf firings_on pile.old.raw.value pile.new.raw.value fired.old fired.new) }
+{
+    call_status(fired_of(alloc, pile, fired))
+}
+
+/// Frees a pile, if there is one (`chip_handle::release`).
+#[unsafe(no_mangle)]
+pub extern "C" fn chipfire_pile_free(alloc: Global, pile: &mut Handle)
+    ensures { pile.new.raw.value ≡ None }
+{
+    release(alloc, pile);
+}
+
+/// The number of a fault, or 0.
+fn call_status(done: Result<(), CallFault>) -> u64
+    ensures { result ≡ call_status_of done }
+{
+    match done {
+        Ok(()) => 0,
+        Err(fault) => fault.number(),
+    }
+}

@@ -1,0 +1,42 @@
+-- What calls on a handle return.
+use Rattle.std.specs.Prelude.{◌≡◌, ℕ, List, length, Option, Some, None, Result, Ok, Err}
+use Rattle.chip_library.specs.declared.edges.EdgeLists.{EdgeLists}
+use Rattle.chip_library.specs.declared.fault.CallFault.{CallFault}
+use Rattle.chip_library.specs.declared.fault.CallFault.TheVariants.{Lengths, NoPile}
+use Rattle.chip_library.specs.KeptGames.{KeptGame, MakesPile}
+
+-- 1 if there is a pile
+abbrev pub number_of_piles : Option KeptGame → ℕ
+number_of_piles None = 0
+number_of_piles (Some k) = 1
+
+-- what making a pile returns: there is one at the start of the game, in place of what was there; or the first fault, and
+-- all is as it was
+abbrev pub MakesNew : EdgeLists → ℕ → List ℕ → (old new : Option KeptGame) → Result (Unit {0}) CallFault → Type 0
+MakesNew lists limit chips old new (Ok done) = (k : KeptGame) × (new ≡ Some k) × MakesPile lists limit chips (Ok k)
+MakesNew lists limit chips old new (Err fault) = (new ≡ old) × MakesPile lists limit chips (Err fault)
+
+-- what a call on a pile returns: that there is none, and it stays so; or what it does to the pile that is there
+abbrev pub OnPile : {T : Type 0} → (KeptGame → KeptGame → Result T CallFault → Type 0) → (old new : Option KeptGame)
+    → Result T CallFault → Type 0
+OnPile does None new told = (new ≡ None) × (told ≡ Err NoPile)
+OnPile does (Some k) new told = (k' : KeptGame) × (new ≡ Some k') × does k k' told
+
+-- what a copy returns: these numbers, if there is room for just as many, and else nothing is written
+abbrev pub Copies : List ℕ → (old new : List ℕ) → Result (Unit {0}) CallFault → Type 0
+Copies numbers old new (Ok done) = new ≡ numbers
+Copies numbers old new (Err fault) = (new ≡ old) × (fault ≡ Lengths) × (length old ≡ length numbers → ⊥)
+
+-- what a copy of a pile's numbers returns, which stays as it was: these numbers, or that there is no pile
+abbrev pub CopiesOf : (KeptGame → List ℕ) → (handle handle' : Option KeptGame) → (old new : List ℕ)
+    → Result (Unit {0}) CallFault → Type 0
+CopiesOf numbers None handle' old new told = (handle' ≡ None) × (new ≡ old) × (told ≡ Err NoPile)
+CopiesOf numbers (Some k) handle' old new told = (handle' ≡ Some k) × Copies (numbers k) old new told
+
+-- its chips, by vertex
+abbrev pub chips_on : KeptGame → List ℕ
+chips_on k = k.pile.chips.items
+
+-- how often each vertex has fired, by vertex
+abbrev pub firings_on : KeptGame → List ℕ
+firings_on k = k.pile.fired.items

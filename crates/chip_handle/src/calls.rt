@@ -1,0 +1,121 @@
+//! The calls on a pile that C keeps.
+
+ghost use Rattle.std.specs.Prelude.{◌≡◌, None};
+ghost use Rattle.chip_library.specs.KeptGames.{PutsChips, Drops};
+ghost use Rattle.chip_handle.specs.Handles.{MakesNew, OnPile, Copies, CopiesOf, chips_on, firings_on};
+
+use crate::handle::Handle;
+use chip_fire::Avalanche;
+use chip_library::{CallFault, EdgeLists, KeptPile};
+use core::mem::replace_with;
+use std::alloc::Global;
+
+/// Makes the pile at the start of a game, whose limit is 2^40 at most, in place of what was there.
+///
+/// The first fault is returned: of the lengths, of the graph, or of the game. Then what was there stays as it was.
+pub fn make(
+    alloc: Global,
+    handle: &mut Handle,
+    edges: EdgeLists<'_>,
+    limit: u64,
+    chips: &[u64],
+) -> Result<(), CallFault>
+    ensures { MakesNew edges.entry limit chips.now handle.old.raw.value handle.new.raw.value result }
+{
+    let kept = KeptPile::new(alloc, edges, limit, chips)?;
+    let boxed = Box::new(alloc, kept)?;
+    let _before = handle.take(alloc);
+    *handle = Handle::of(boxed);
+    Ok(())
+}
+
+/// Puts other chips on a pile (`KeptPile::put`).
+pub fn put(alloc: Global, handle: &mut Handle, limit: u64, chips: &[u64]) -> Result<(), CallFault>
+    ensures { OnPile (λ old new told. PutsChips old new limit chips.now told)
+        handle.old.raw.value handle.new.raw.value result }
+{
+    let Some(mut boxed) = handle.take(alloc) else {
+        return Err(CallFault::NoPile);
+    };
+    let kept: &mut KeptPile = &mut boxed;
+    let told = replace_with(kept, (alloc, limit, chips), one_put);
+    *handle = Handle::of(boxed);
+    told
+}
+
+/// A pile with other chips.
+fn one_put(kept: KeptPile, given: (Global, u64, &[u64])) -> (KeptPile, Result<(), CallFault>)
+    ensures { PutsChips kept result.0 given.entry.1 given.entry.2.now result.1 }
+{
+    let (alloc, limit, chips) = given;
+    kept.put(alloc, limit, chips)
+}
+
+/// Drops chips on a vertex of a pile (`KeptPile::drop_chips`).
+pub fn drop_on(
+    alloc: Global,
+    handle: &mut Handle,
+    vertex: u64,
+    count: u64,
+) -> Result<Avalanche, CallFault>
+    ensures { OnPile (λ old new told. Drops old new vertex count told)
+        handle.old.raw.value handle.new.raw.value result }
+{
+    let Some(mut boxed) = handle.take(alloc) else {
+        return Err(CallFault::NoPile);
+    };
+    let kept: &mut KeptPile = &mut boxed;
+    let told = replace_with(kept, (alloc, vertex, count), one_drop);
+    *handle = Handle::of(boxed);
+    told
+}
+
+/// A pile with one drop more.
+fn one_drop(kept: KeptPile, drop: (Global, u64, u64)) -> (KeptPile, Result<Avalanche, CallFault>)
+    ensures { Drops kept result.0 drop.1 drop.2 result.1 }
+{
+    let (alloc, vertex, count) = drop;
+    kept.drop_chips(alloc, vertex, count)
+}
+
+/// Copies how many chips each vertex of a pile has.
+pub fn chips_of(alloc: Global, handle: &mut Handle, chips: &mut [u64]) -> Result<(), CallFault>
+    ensures { CopiesOf chips_on handle.old.raw.value handle.new.raw.value chips.old chips.new result }
+{
+    let Some(boxed) = handle.take(alloc) else {
+        return Err(CallFault::NoPile);
+    };
+    let told = copy(boxed.chips(), chips);
+    *handle = Handle::of(boxed);
+    told
+}
+
+/// Copies how often each vertex of a pile has fired, from the start of its game on.
+pub fn fired_of(alloc: Global, handle: &mut Handle, fired: &mut [u64]) -> Result<(), CallFault>
+    ensures { CopiesOf firings_on handle.old.raw.value handle.new.raw.value fired.old fired.new result }
+{
+    let Some(boxed) = handle.take(alloc) else {
+        return Err(CallFault::NoPile);
+    };
+    let told = copy(boxed.fired(), fired);
+    *handle = Handle::of(boxed);
+    told
+}
+
+/// Copies numbers, if there is room for just as many.
+fn copy(numbers: &[u64], room: &mut [u64]) -> Result<(), CallFault>
+    ensures { Copies numbers.now room.old room.new result }
+{
+    if room.len() != numbers.len() {
+        return Err(CallFault::Lengths);
+    }
+    room.copy_from_slice(numbers);
+    Ok(())
+}
+
+/// Frees a pile, if there is one.
+pub fn release(alloc: Global, handle: &mut Handle)
+    ensures { handle.new.raw.value ≡ None }
+{
+    let _old = handle.take(alloc);
+}

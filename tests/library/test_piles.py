@@ -1,0 +1,244 @@
+"""Piles that are kept from one call to the next: beside firing one vertex at a time, beside one call for all drops, without
+memory, and on threads."""
+import ctypes
+import itertools
+import os
+import random
+import resource
+import threading
+import unittest
+
+from library import LARGEST, LIBRARY, WORD, Graph, Slice, avalanches, stabilize_all
+from test_games import TRIANGLE, drawn, grid, stepped
+
+GUARD = 0x5A5A5A5A
+MALLOC = ctypes.CDLL(None).malloc
+MALLOC.restype, MALLOC.argtypes = ctypes.c_void_p, [ctypes.c_size_t]
+
+
+class Struct(ctypes.Structure):
+    """What C has of a pile."""
+
+    _fields_ = [("has_pile", WORD), ("pile", ctypes.c_void_p)]
+
+
+class Pile:
+    """A pile of the library: each method returns a status, and what the call has written if that is 0."""
+
+    def __init__(self, graph):
+        self.graph, self.struct = graph, Struct()
+        self.at = ctypes.addressof(self.struct)
+
+    def new(self, chips, limit=LARGEST):
+        return self.new_on(self.graph, chips, limit)
+
+    def new_on(self, graph, chips, limit=LARGEST):
+        chips, place = Slice(chips), Slice([7])
+        status = LIBRARY.chipfire_pile_new(self.at, *graph.words(), limit, *chips.words(), place.words()[0])
+        return status, place.now()[0]
+
+    def put(self, chips, limit=LARGEST):
+        chips = Slice(chips)
+        return LIBRARY.chipfire_pile_put(self.at, limit, *chips.words())
+
+    def drop(self, vertex, amount):
+        told = [Slice([GUARD]) for _ in range(3)]
+        status = LIBRARY.chipfire_pile_drop(self.at, vertex, amount, *(it.words()[0] for it in told))
+        return self.answer(status, tuple(it.now()[0] for it in told), (GUARD,) * 3)
+
+    def copy(self, function):
+        numbers = Slice([GUARD] * self.graph.vertices)
+        status = function(self.at, *numbers.words())
+        return self.answer(status, numbers.now(), numbers.numbers)
+
+    def now(self):
+        """Returns chips and counts."""
+        return [self.copy(it)[1] for it in (LIBRARY.chipfire_pile_chips, LIBRARY.chipfire_pile_fired)]
+
+    def free(self):
+        LIBRARY.chipfire_pile_free(self.at)
+        return self.struct.has_pile, self.struct.pile
+
+    def answer(self, status, written, before):
+        assert status == 0 or written == before, "a fault that has written"
+        return (0, written) if status == 0 else (status, None)
+
+
+class Piles(unittest.TestCase):
+    def pile(self, graph):
+        pile = Pile(graph)
+        self.addCleanup(pile.free)
+        return pile
+
+    def expect_drops(self, pile, chips, drops, limit):
+        """Looks that a pile that was just begun has the chips, the counts and the avalanches of firing one by one."""
+        graph = pile.graph
+        self.assertEqual(pile.now(), [chips, [0] * graph.vertices])
+        chips, fired, stopped, _ = stepped(graph, chips, limit)
+        for vertex, amount in drops:
+            before = fired
+            if not stopped:
+                chips[vertex] += amount
+                chips, fired, stopped, lost = stepped(graph, chips, limit, fired)
+            many = [now - then for now, then in zip(fired, before)]
+            wanted = (13, None) if stopped else (0, (sum(many), sum(map(bool, many)), lost))
+            self.assertEqual(pile.drop(vertex, amount), wanted)
+            self.assertEqual(pile.now(), [chips, fired])
+
+    def expect_nothing_new(self, pile, fault, call, *words):
+        """Looks that a call has a fault and leaves the pile as it was."""
+        before = pile.now()
+        found = call(*words)
+        self.assertEqual(found[0] if isinstance(found, tuple) else found, fault)
+        self.assertEqual(pile.now(), before)
+
+
+class Small(Piles):
+    def test_all_pairs_of_drops_on_the_triangle(self):
+        pile = self.pile(TRIANGLE)
+        self.assertEqual(pile.new([0, 0, 0]), (0, 0))
+        for limit in (0, 1, 3, LARGEST):
+            for chips in itertools.product(range(3), range(3), range(2)):
+                for drops in itertools.product(itertools.product(range(3), range(3)), repeat=2):
+                    self.assertEqual(pile.put(chips, limit), 0)
+                    self.expect_drops(pile, list(chips), drops, limit)
+
+    def test_the_sink_alone(self):
+        pile = self.pile(Graph(1, 0, []))
+        self.assertEqual(pile.new([5], 0), (0, 0))
+        self.expect_drops(pile, [5], [(0, 3), (0, 0)], 0)
+        self.assertEqual(pile.drop(0, LARGEST - 7), (10, None))
+        self.assertEqual(pile.drop(0, LARGEST - 8), (0, (0, 0, 0)))
+
+    def test_every_fault_changes_nothing(self):
+        pile = self.pile(TRIANGLE)
+        pile.new([4, 0, 0], 2)
+        for drops in ([], [(2, 0)], [(2, 0), (0, 1)]):
+            self.assertEqual(pile.put([4, 0, 0], 2), 0)
+            for drop in drops:
+                pile.drop(*drop)
+            for chips, limit, fault in [
+                ([0, 0], LARGEST + 1, 9), ([0, 0, LARGEST + 1], LARGEST + 1, 10), ([2**64 - 1, 2, 0], 0, 10),
+                ([0, 0, 0], LARGEST + 1, 11),
+            ]:
+                self.expect_nothing_new(pile, fault, pile.put, chips, limit)
+                self.expect_nothing_new(pile, fault, pile.new, chips, limit)
+            for vertex, amount, fault in [(3, LARGEST, 26), (2**64 - 1, 0, 26), (2, LARGEST - 3, 10), (0, 2**64 - 1, 10)]:
+                self.expect_nothing_new(pile, fault, pile.drop, vertex, amount)
+            for wrong, fault in (Graph(3, 2, []), 8), (Graph(3, 3, TRIANGLE.edges), 2), (Graph(3, 2, [(0, 0, 1)]), 6):
+                self.expect_nothing_new(pile, fault, pile.new_on, wrong, [4, 0, 0])
+
+    def test_no_pile(self):
+        pile = self.pile(TRIANGLE)
+        for _ in range(2):
+            self.assertEqual((pile.put([0, 0, 0]), pile.drop(0, 1)), (14, (14, None)))
+            self.assertEqual(pile.now(), [None, None])
+            self.assertEqual(pile.free(), (0, None))
+
+
+class Random(Piles):
+    def test_beside_firing_one_by_one(self):
+        draw = random.Random("piles: drops")
+        for _ in range(300):
+            graph = drawn(draw)
+            pile = self.pile(graph)
+            for number in range(3):
+                limit = draw.choice([0, 2, 5, LARGEST, LARGEST])
+                chips = [draw.randint(0, 4) for _ in range(graph.vertices)]
+                drops = [(draw.randrange(graph.vertices), draw.randint(0, 5)) for _ in range(draw.randint(0, 6))]
+                self.assertEqual(pile.put(chips, limit) if number else pile.new(chips, limit), 0 if number else (0, 0))
+                self.expect_drops(pile, chips, drops, limit)
+
+    def test_beside_one_call_on_a_grid(self):
+        draw, graph = random.Random("piles: grid"), grid(20)
+        chips = [draw.randint(0, 7) for _ in range(graph.vertices)]
+        drops = [(draw.randrange(400), draw.choice([0, 1, 1, 2, 40])) for _ in range(400)]
+        pile = self.pile(graph)
+        pile.new(chips)
+        rows = [pile.drop(*it) for it in drops]
+        status, place, (ends, wanted) = avalanches(graph, chips, drops)
+        self.assertEqual((status, place, rows), (0, 0, [(0, row) for row in wanted]))
+        started = list(chips)
+        for vertex, amount in drops:
+            started[vertex] += amount
+        ((at_once, fired, _),) = stabilize_all(graph, [started])[2]
+        self.assertEqual((ends, pile.now()), (at_once, [at_once, fired]))
+
+
+class Memory(Piles):
+    def within(self, room, call, look):
+        """Returns what look makes of a call's status in a process that may take so many bytes more in the call."""
+        child = os.fork()
+        if child == 0:
+            try:
+                with open("/proc/self/statm", encoding="ascii") as file:
+                    taken = int(file.read().split()[0]) * resource.getpagesize()
+                unlimited = resource.getrlimit(resource.RLIMIT_AS)
+                resource.setrlimit(resource.RLIMIT_AS, (taken, unlimited[1]))
+                # (what was freed before, in pieces that would do for the call)
+                while MALLOC(100_000):
+                    pass
+                resource.setrlimit(resource.RLIMIT_AS, (taken + room, unlimited[1]))
+                status = call()
+                resource.setrlimit(resource.RLIMIT_AS, unlimited)
+                os._exit(look(status))
+            finally:
+                os._exit(254)
+        return os.waitstatus_to_exitcode(os.waitpid(child, 0)[1])
+
+    def test_refused(self):
+        """A call returns 90 and changes nothing, and with enough memory it does not. A drop takes none."""
+        graph = grid(120)
+        chips, pile = [2] * graph.vertices, self.pile(graph)
+        numbers, place, told = Slice(chips), Slice([7]), [Slice([7]) for _ in range(3)]
+        self.assertEqual(pile.new([1] * graph.vertices, 9), (0, 0))
+        new = (pile.at, *graph.words(), LARGEST, *numbers.words(), place.words()[0])
+        before = pile.now()
+
+        def look(status):
+            return status if (pile.now() == before) == (status != 0) else 255
+        for call in (lambda: LIBRARY.chipfire_pile_new(*new), lambda: LIBRARY.chipfire_pile_put(pile.at, 9, *numbers.words())):
+            found = [self.within(size << 18, call, look) for size in range(20)]
+            enough = found.index(0)
+            self.assertGreater(enough, 0)
+            self.assertEqual(found, [90] * enough + [0] * (len(found) - enough))
+        drop = (pile.at, 0, 5, *(it.words()[0] for it in told))
+        self.assertEqual(self.within(0, lambda: LIBRARY.chipfire_pile_drop(*drop), lambda status: status), 0)
+
+    def test_given_back(self):
+        """A thousand piles of more than a megabyte, freed or made in the place of one another, take few megabytes."""
+        graph = grid(120)
+        chips, pile = [2] * graph.vertices, self.pile(graph)
+
+        def work():
+            before = resource.getrusage(resource.RUSAGE_SELF).ru_maxrss
+            for number in range(1000):
+                pile.new(chips)
+                if number % 2:
+                    pile.free()
+            return int(resource.getrusage(resource.RUSAGE_SELF).ru_maxrss - before > 100_000)
+        self.assertEqual(self.within(2**40, work, lambda status: status), 0)
+
+
+class Threads(Piles):
+    def on_threads(self, works):
+        threads = [threading.Thread(target=it) for it in works]
+        for it in threads:
+            it.start()
+        for it in threads:
+            it.join()
+
+    def test_four_piles_at_once_and_one_from_thread_to_thread(self):
+        draw, graph = random.Random("piles: threads"), grid(12)
+        chips = [draw.randint(0, 7) for _ in range(graph.vertices)]
+        drops = [(draw.randrange(144), 1) for _ in range(500)]
+        wanted = [(0, row) for row in avalanches(graph, chips, drops)[2][1]]
+        piles = [self.pile(graph) for _ in range(4)]
+        found = [[] for _ in piles]
+        for pile in piles:
+            pile.new(chips)
+        for part in range(0, len(drops), 50):
+            def work(number, part=part):
+                found[number] += [piles[number].drop(*it) for it in drops[part:part + 50]]
+            self.on_threads([lambda number=number: work(number) for number in range(4)])
+        self.assertEqual(found, [wanted] * 4)

@@ -52,13 +52,15 @@ def choice_page_text(
         )
     data = page_data(Simulation((), None, setting=setting), positions)
     choices = _Choices(setting, detector, Ledger(setting, detector))
-    found = choices.data()
-    if not keeps_books(detector, {step["kind"] for step in found["steps"]}):
+    moves = choices.data()
+    kinds = {step["kind"] for step in moves["steps"]}
+    # The moves of all states show whether the detector keeps books. If it keeps none, they are written again without.
+    if not keeps_books(detector, kinds):
         choices = _Choices(setting, detector, ModelLedger(setting, detector, keeps_books=False))
-        found = choices.data()
+        moves = choices.data()
         data["start"] = choices.start
         data["hidden"] = WORDS["books"]
-    data |= {"steps": [], "choices": found, "words": list(choices.words.numbers), "end": None}
+    data |= {"steps": [], "choices": moves, "words": list(choices.words.numbers), "end": None}
     says = known.says if name in DETECTORS else f"the class <code>{name}</code>"
     parts = {"says": says, "states": with_unit(len(choices.states), "state")}
     return filled(
@@ -75,10 +77,12 @@ class _Choices:
         self.ledger = ledger
         self.core = ledger.core
         self.start = ledger.state()
+        #: What goes from one state of the game to another, and notes the present one.
         self.known = States(self.core)
+        #: The states by number, and the number of each.
         self.states = [self.known.noted()]
         self.places = {self.states[0]: 0}
-        #: The steps, each once, as JSON.
+        #: The number of each step, which is a text of JSON.
         self.steps: dict[str, int] = {}
 
     def data(self) -> dict[str, Any]:
@@ -99,31 +103,38 @@ class _Choices:
         }
 
     def _move(self, state: tuple[int, ...], event: Event) -> tuple[list[int], int]:
+        """The numbers of the steps that an event from a state has on the page, and of the state to which they lead."""
         if event.kind not in EVENTS:
             raise ValueError(
                 f"{self.name} has events of its own, which no page shows; chipfire.explore tries them"
             )
         kinds = ("clear", "claim", "put") if event.kind == "clear" else (event.kind,)
         events = [event._replace(kind=kind) for kind in kinds]
+        # The game plays the events once for their replies, and once more from the same state for their words.
         self.known.load(state)
-        told = Simulation.parse("\n".join([*(self.core.step(*it) for it in events), "root open"]))
+        lines = [self.core.step(*played) for played in events]
+        replies = Simulation.parse("\n".join([*lines, "root open"])).replies
         reached = self.known.noted()
         self.known.load(state)
         self.ledger.look()
-        steps = [
-            json.dumps(self.words.step(self.ledger, *row)) for row in zip(events, told.replies)
-        ]
+        steps = []
+        for played, reply in zip(events, replies):
+            steps.append(json.dumps(self.words.step(self.ledger, played, reply)))
+        # (the next `load` has to know that the game has gone on)
         self.known.noted()
-        if reached not in self.places:
+        numbers = [self.steps.setdefault(step, len(self.steps)) for step in steps]
+        return numbers, self._place(reached)
+
+    def _place(self, state: tuple[int, ...]) -> int:
+        """The number of a state, which is added if it is new."""
+        if state not in self.places:
             if len(self.states) == MOST_STATES:
                 raise ValueError(
                     f"this game has more than {MOST_STATES:,} states: take fewer chips"
                 )
-            self.places[reached] = len(self.states)
-            self.states.append(reached)
-        return [self.steps.setdefault(step, len(self.steps)) for step in steps], self.places[
-            reached
-        ]
+            self.places[state] = len(self.states)
+            self.states.append(state)
+        return self.places[state]
 
     def _end(self, goes_on: bool) -> dict[str, Any] | None:
         """The last word of the present state."""

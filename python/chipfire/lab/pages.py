@@ -236,7 +236,7 @@ def recorded(
 
     No trace tells when a vertex sent and acknowledged, nor how the rows of different vertices lie beside each other:
     such events are made up, as early as they can be. Rows that do not fit together are fault 70. The ring is that of
-    the run; if it is not told, the least of 1, 2, 4 and so on that plays all rows."""
+    the run; if it is not given, the least of 1, 2, 4 and so on that plays all rows."""
     if isinstance(trace, FILE):
         refuse_more(trace)
     rows = read_trace(trace) if isinstance(trace, FILE) else [TraceRow(*row) for row in trace]
@@ -245,16 +245,18 @@ def recorded(
     start = known_chips(known, chips, program)
     replay(known, start, rows, limit=limit, program=program)
     setting = Setting(known, start, MAX_LIMIT if limit is None else limit)
-    for cells in RINGS if ring is None else [ring]:
+    rings = RINGS if ring is None else [ring]
+    for cells in rings:
         events = spell_trace(replace(setting, ring=cells), rows)
-        if events is not None:
-            told = simulate(
-                known, start, events, limit=limit, ring=cells, books=True, program=program
-            )
-            sizes = {"rows": with_unit(len(rows), "row"), "cells": with_unit(cells, "cell")}
-            return replace(told, made_up=_SAYS["recorded"].format(**sizes))
+        if events is None:
+            continue
+        simulation = simulate(
+            known, start, events, limit=limit, ring=cells, books=True, program=program
+        )
+        sizes = {"rows": with_unit(len(rows), "row"), "cells": with_unit(cells, "cell")}
+        return replace(simulation, made_up=_SAYS["recorded"].format(**sizes))
     raise ValueError(
-        f"the rows of the trace cannot be played over rings of {cells} cells: which ring had the run?"
+        f"the rows of the trace cannot be played over rings of {rings[-1]} cells: which ring had the run?"
     )
 
 

@@ -16,10 +16,10 @@ _COUNTED = ("chip", "firing", "message", "acknowledgement")
 
 
 def _numbers(count: Any) -> dict[str, str]:
-    """A number as it is said of each thing that is counted."""
-    return (
-        {f"{word}s": with_unit(count, word) for word in _COUNTED} if isinstance(count, int) else {}
-    )
+    """A number with the name of each thing that is counted: "3 chips" by "chips", and so on. Other values have none."""
+    if not isinstance(count, int):
+        return {}
+    return {f"{word}s": with_unit(count, word) for word in _COUNTED}
 
 
 class Sentences:

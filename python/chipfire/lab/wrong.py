@@ -64,22 +64,26 @@ def wrong_page_text(
 
 
 def _beside(setting: Game, schedule: Schedule, words: Words, program: AnyProgram) -> dict[str, Any]:
-    """The start and the steps of the right detector, which the program plays if it can. The other's own events are none
-    of it."""
-    shared = Schedule(event for event in schedule if event.kind in (*EVENTS, WORK))
+    """The start of the right detector, and a step for each event of a schedule, which the program plays if it can. In an
+    event that the wrong detector alone has the right one does nothing."""
+    shared_kinds = (*EVENTS, WORK)
+    shared = Schedule(event for event in schedule if event.kind in shared_kinds)
     ledger = Ledger(setting) if isinstance(setting, Setting) else ModelLedger(setting)
     start = ledger.state()
     if isinstance(setting, Setting):
         right = asked(setting, shared, program)
-        made = [words.step(ledger, *row) for row in compared(right, ledger)]
+        right_steps = [words.step(ledger, *row) for row in compared(right, ledger)]
         ledger.close(right.report)
     else:
-        made = [words.step(ledger, *row) for row in zip(shared, play(setting, shared).replies)]
-    said = words.number("This is an event of the other detector.")
-    left = iter(made)
-    own = {"done": True, "isOwn": True, "event": said, "reply": said, "changes": []}
-    steps = [
-        next(left) if kind in (*EVENTS, WORK) else {"kind": kind, "at": at, **own}
-        for kind, at, _ in schedule
-    ]
+        replies = play(setting, shared).replies
+        right_steps = [words.step(ledger, *row) for row in zip(shared, replies)]
+    sentence = words.number("This is an event of the other detector.")
+    own = {"done": True, "isOwn": True, "event": sentence, "reply": sentence, "changes": []}
+    next_right_steps = iter(right_steps)
+    steps = []
+    for event in schedule:
+        if event.kind in shared_kinds:
+            steps.append(next(next_right_steps))
+        else:
+            steps.append({"kind": event.kind, "at": event.at, **own})
     return {"start": start, "steps": steps}

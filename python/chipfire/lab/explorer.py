@@ -86,17 +86,23 @@ class _Search:
         self.detector = detector
         self.whole_sends = bool(whole_sends)
         self.most = as_int(most, "most", 1)
+        #: The state of Python's random numbers, which a detector may not change.
         self.chance = random.getstate()
+        #: The game, which `states` brings from one state to another.
         self.core, self.states, start = self._opened()
+        #: What stands in classes and in the setting, which a detector may not change.
         self.shared = _shared(self.core, setting)
         self.name = detector_name(detector)
         self.feeds = self._taken_feeds(feeds)
         self.seals = self._taken_seals(seals)
+        #: How many messages the root sends before it feeds any.
         self.opening = sum(len(e.sent) for e in self.core.outs(-1))
+        #: The game without a detector, which says what each event of the game does.
         self.shadow = Shadow(setting)
         self.reached = Reached(start)
-        #: The numbers of steps by their first events.
-        self.places_of_steps: dict[tuple[str, int, int], int] = {}
+        #: The number of each step by its first event.
+        self.step_numbers: dict[tuple[str, int, int], int] = {}
+        #: Whether the search has found all states so far, and no more than `most`.
         self.is_whole = True
         #: Where the search is: a state, and the step that it takes from there, or -1.
         self.trail = 0, -1
@@ -290,7 +296,7 @@ class _Search:
         if self.feeds or self.seals:
             events += self._outside(core)
         try:
-            return [self.places_of_steps[event] for event in events]
+            return [self.step_numbers[event] for event in events]
         except (KeyError, TypeError):  # (there are others than ever before)
             return [self._number(*event) for event in events]
 
@@ -303,7 +309,7 @@ class _Search:
             middle = Event("claim", at) if at < self.core.graph_edges else Event("feed", at, count)
             step = Event("clear", at), middle, Event("put", at)
         steps = self.reached.steps
-        number = self.places_of_steps.setdefault((kind, at, count), len(steps))
+        number = self.step_numbers.setdefault((kind, at, count), len(steps))
         steps += [step] if number == len(steps) else []
         return number
 
@@ -363,36 +369,38 @@ class _Search:
         draw = random.Random(0)
         most = 2 * self.reached.length() + 10
         for _ in range(REPLAYS):
-            made: list[Event] = []
-            with self._guarded(made.copy):
+            schedule: list[Event] = []
+            with self._guarded(schedule.copy):
                 core = opened(self.setting, self.detector)
-                self._walk(core, States(core, self.states), draw, most, made)
+                self._walk(core, States(core, self.states), draw, most, schedule)
 
     def _walk(
-        self, core: Core, states: States, draw: random.Random, most: int, made: list[Event]
+        self, core: Core, states: States, draw: random.Random, most: int, schedule: list[Event]
     ) -> None:
-        """Plays one random schedule of at most `most` steps, and compares all that comes with the search."""
-        at = 0
+        """Plays a random schedule of at most `most` steps, and adds its events to `schedule`. In each state the game has
+        to be the one of the search: its state, its end, what may happen, and the replies."""
         reached = self.reached
-        if states.noted() != reached.order[0]:
-            raise self._other(made, "state")
-        while reached.is_left(at) and most:
-            places = reached.after(at)
-            if bool(core.is_closed()) != reached.closed[at]:
-                raise self._other(made, "end")
-            if self._steps(core) != list(map(reached.step, places)):
-                raise self._other(made, "choice of events")
+        number = 0
+        if states.noted() != reached.order[number]:
+            raise self._other(schedule, "state")
+        while reached.is_left(number) and most:
+            places = reached.after(number)
+            if bool(core.is_closed()) != reached.closed[number]:
+                raise self._other(schedule, "end")
+            if self._steps(core) != [reached.step(place) for place in places]:
+                raise self._other(schedule, "choice of events")
             if not places:
                 return
             place = draw.choice(places)
-            number, replies = reached.known[reached.moves[place]]
-            at = reached.heads[place]
-            made += reached.steps[number]
+            step, replies = reached.known[reached.moves[place]]
+            events = reached.steps[step]
+            schedule += events
             most = most - 1
-            if tuple(core.step(*event) for event in reached.steps[number]) != replies:
-                raise self._other(made, "reply")
-            if states.noted() != reached.order[at]:
-                raise self._other(made, "state")
+            if tuple(core.step(*event) for event in events) != replies:
+                raise self._other(schedule, "reply")
+            number = reached.heads[place]
+            if states.noted() != reached.order[number]:
+                raise self._other(schedule, "state")
 
     def _knowledge(self) -> dict[str, Any]:
         """A schedule after which the root is closed and does not know all, and what it does not know then."""

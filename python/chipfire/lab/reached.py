@@ -19,20 +19,23 @@ class Reached:
     """States by number in their order, from the start on. A move is a step with its replies, and has a number too."""
 
     def __init__(self, start: State) -> None:
-        #: The states, their numbers, from which one and by which move the search came to each, which are closed, and the
-        #: state of the game without a detector beside each.
+        #: The states by number, and the number of each.
         self.order = [start]
         self.places = {start: 0}
+        #: By the number of a state: from which state the search came to it, and by which move.
         self.came = [(-1, -1)]
+        #: By the number of a state: whether the root is closed, and the state of the game without a detector.
         self.closed = [False]
         self.beside = array("i", [0])
-        #: The moves from each state and where they lead, one state after the other, and where those of each begin.
+        #: The numbers of the moves from state 0, then of those from state 1, and so on, and the states to which they lead.
         self.moves = array("i")
         self.heads = array("i")
+        #: By the number of a state: where its moves begin in `moves` and `heads`. Those of the last state end at the end.
         self.firsts = array("q", [0])
-        #: The numbers of moves, and by number their steps and replies; the events of each step.
-        self.numbers: dict[tuple[int, tuple[str, ...]], int] = {}
+        #: The moves by number, each a step's number and the replies, and the number of each.
         self.known: list[tuple[int, tuple[str, ...]]] = []
+        self.numbers: dict[tuple[int, tuple[str, ...]], int] = {}
+        #: The steps by number.
         self.steps: list[Step] = []
 
     def add(self, state: State, at: int, move: int, beside: int) -> None:

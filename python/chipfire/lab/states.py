@@ -122,21 +122,21 @@ class States:
         self.now: tuple[int, ...] = ()
 
     def noted(self) -> tuple[int, ...]:
-        """The present state."""
-        found: list[int | None]
+        """The present state: the number of each part's values that cannot be changed, and that of all that can."""
+        numbers: list[int | None]
         try:
-            found = [number_of(tuple(values)) for number_of, values in self.readers]
+            # (most parts have values that were met before: their readers know the numbers)
+            numbers = [number_of(tuple(values)) for number_of, values in self.readers]
         except TypeError:  # (some value can be changed)
-            found = [None for _ in self.parts]
+            numbers = [None for _ in self.parts]
         group = 0
-        if None in found:
+        if None in numbers:
             moving: list[_Moving] = []
-            found = [
-                self._number(index, moving) if number is None else number
-                for index, number in enumerate(found)
-            ]
+            for index, number in enumerate(numbers):
+                if number is None:
+                    numbers[index] = self._number(index, moving)
             group = self._group(moving)
-        self.now = (*found, group)  # type: ignore[arg-type]
+        self.now = (*numbers, group)  # type: ignore[arg-type]
         return self.now
 
     def _values(self, held: dict[str, Any]) -> dict[str, Any]:
@@ -201,13 +201,16 @@ class States:
         return self.groups[key]
 
     def load(self, state: tuple[int, ...]) -> None:
-        """Makes the game that of a state that was noted."""
+        """Makes the game that of a state that was noted, from the one that was noted or loaded last."""
         if state == self.now:
             return
         changed = [index for index, number in enumerate(state[:-1]) if number != self.now[index]]
+        # (a list: all parts are loaded, also those after a part that lost what can be changed)
         is_cleared = any([self._load_plain(index, state[index]) for index in changed])
-        if state[-1] and (is_cleared or state[-1] != self.now[-1]):
-            for index, name, value in copy.deepcopy(self.copies[state[-1]], dict(self.same)):
+        group = state[-1]
+        if group and (is_cleared or group != self.now[-1]):
+            moving = copy.deepcopy(self.copies[group], dict(self.same))
+            for index, name, value in moving:
                 self.held[index][name] = value
         self.now = state
 
@@ -217,9 +220,8 @@ class States:
         held = self.held[index]
         is_cleared = not is_usual or len(held) != len(self.names[index])
         if is_cleared:
-            for name in self._values(
-                held
-            ).copy():  # (those of the start have to stand in their order)
+            # (all go, so that those of the start stand in their order again)
+            for name in [*self._values(held)]:
                 del held[name]
         held.update(plain)
         return is_cleared

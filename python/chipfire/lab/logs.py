@@ -22,6 +22,8 @@ from chipfire.utils import FILE, FileName, rows_text, sorted_if_possible
 _HEADER = ("process", "kind", "channel")
 _SENDS = ("send", "tell")
 _GETS = ("receive", "hear")
+#: How a message that was sent so is got.
+_GOT_BY = dict(zip(_SENDS, _GETS))
 KINDS = (*_SENDS, *_GETS, "passive", "active", "over")
 
 #: How an answer of the program begins, and its fault of rows that fit together in no order.
@@ -152,14 +154,21 @@ def _read(file: FileName, program: FileName | None) -> list[Row]:
     try:
         header, *rows = _records(file)
     except (OSError, ValueError, csv.Error):
+        # (the program says first what is wrong with the file)
         ask(program, "judge", [("log", file)], begins=_BEGINS)
         raise
-    fields = [
-        [*row[:1], *("passive" if kind in KINDS else kind for kind in row[1:2]), *row[2:]]
-        for row in rows
-    ]
-    ask(program, "judge", [("log", Kept([rows_text(header, fields).encode()]))], begins=_BEGINS)
+    # Rows of `passive` alone always fit together, so that a fault is one of a field.
+    passive_rows = [_as_passive(row) for row in rows]
+    text = rows_text(header, passive_rows)
+    ask(program, "judge", [("log", Kept([text.encode()]))], begins=_BEGINS)
     return _as_rows(rows)
+
+
+def _as_passive(row: list[str]) -> list[str]:
+    """A row of the kind `passive` in place of another kind; a kind that there is not stays."""
+    if len(row) > 1 and row[1] in KINDS:
+        return [row[0], "passive", *row[2:]]
+    return row
 
 
 def _records(file: FileName) -> list[list[str]]:
@@ -202,22 +211,27 @@ def _numbered(names: Iterable[Hashable]) -> dict[Hashable, int]:
     return dict(zip(sorted_if_possible(names), itertools.count()))
 
 
+def _fields(row: Any) -> tuple[Any, ...]:
+    """The fields of a row that was given, or none if it is not a row of three."""
+    if isinstance(row, (str, bytes)) or not isinstance(row, Iterable):
+        return ()
+    fields = tuple(row)
+    return fields if len(fields) == len(_HEADER) else ()
+
+
 class _Rows:
-    """Rows with any names. Row `i` of those that were given has place 2i, one that is put in an odd one."""
+    """Rows with any names. Row `i` of those that were given has place 2i, so that one can be put in before it, at 2i - 1,
+    and after it, at 2i + 1."""
 
     def __init__(
         self, log: Iterable[Any], is_reactive: bool = False, expected: Iterable[Hashable] = ()
     ) -> None:
         self.given = list(log)
-        rows = [
-            tuple(it) if isinstance(it, Iterable) and not isinstance(it, (str, bytes)) else ()
-            for it in self.given
-        ]
-        self.rows = [
-            (2 * index, row if len(row) == len(_HEADER) else ()) for index, row in enumerate(rows)
-        ]
+        #: The place and the fields of each row; a row that is none has no fields.
+        self.rows = [(2 * index, _fields(row)) for index, row in enumerate(self.given)]
         if is_reactive:
-            self.rows = sorted([*self.rows, *_activity(self.rows)], key=lambda it: it[0])
+            self.rows += list(_activity(self.rows))
+            self.rows.sort(key=lambda placed: placed[0])
         processes = dict.fromkeys(row[0] for _, row in self.rows if row)
         channels = dict.fromkeys(row[2] for _, row in self.rows if row and row[1] in _SENDS + _GETS)
         #: The numbers of names. The processes that are expected have the least.
@@ -227,10 +241,11 @@ class _Rows:
         others = _numbered(name for name in processes if name not in self.processes)
         self.processes |= {name: self.expected + number for name, number in others.items()}
         self.channels = _numbered(channels)
+        #: The places of the rows of each process.
         self.places: dict[Hashable, list[int]] = defaultdict(list)
         for place, row in self.rows:
             self.places[row[0] if row else None].append(place)
-        #: How many of the first rows of each process were given, by how many these are.
+        #: Of each process: entry `k` says how many of its first `k` rows were given.
         self.given_of = {
             process: [0, *itertools.accumulate(1 - place % 2 for place in places)]
             for process, places in self.places.items()
@@ -387,32 +402,42 @@ def read_shiviz(
     A message has a channel for each process that gets it; no others are seen. A ValueError names a wrong line, and one
     whose clock counts an event that is not there.
     """
-    events = sorted(
-        _events(log, kind_of, message_of, expression), key=lambda it: sum(it.clock.values())
-    )
+    events = list(_events(log, kind_of, message_of, expression))
+    # (the clock of an event counts more than that of one that it depends on)
+    events.sort(key=lambda event: sum(event.clock.values()))
     if not gaps:
         _require_all(events)
+    events = list(_with_messages(events))
+    #: The hosts that get each message, as the keys of a dictionary in the order of the events.
+    receivers: dict[tuple[str, Hashable], dict[str, None]] = defaultdict(dict)
+    for event in events:
+        if event.kind in _GETS:
+            receivers[event.kind, event.message][event.host] = None
+    rows: list[Row] = []
+    for event in events:
+        hosts: list[str | None] = [event.host]
+        if event.kind in _SENDS:
+            hosts = [*receivers[_GOT_BY[event.kind], event.message]] or [None]
+        if event.kind is not None:
+            rows += [(event.host, event.kind, (event.message, host)) for host in hosts]
+    return rows
+
+
+def _with_messages(events: Iterable[_Event]) -> Iterator[_Event]:
+    """The events, each that gets a message with that message; one whose clock does not go on is refused."""
     places: dict[tuple[str, int], _Event] = {}
     clocks: dict[str, Mapping[str, int]] = defaultdict(dict)
-    hosts: dict[tuple[bool, Hashable], dict[str | None, None]] = defaultdict(dict)
-    for number, it in enumerate(events):
-        if it.clock[it.host] <= clocks[it.host].get(it.host, 0):
-            raise ValueError(f"line {it.line}: the clock is no further than in an event before it")
-        if it.kind in _GETS:
-            message = _sent(it, clocks[it.host], places) if it.message is None else it.message
-            events[number] = it = it._replace(message=message)
-            hosts[it.kind == "hear", message][it.host] = None
-        clocks[it.host] = it.clock
-        places[it.host, it.clock[it.host]] = it
-    rows: list[Row] = []
-    for it in events:
-        its = (
-            hosts[it.kind == "tell", it.message] or {None: None}
-            if it.kind in _SENDS
-            else {it.host: None}
-        )
-        rows += [(it.host, it.kind, (it.message, host)) for host in its if it.kind]
-    return rows
+    for event in events:
+        host = event.host
+        count = event.clock[host]
+        if count <= clocks[host].get(host, 0):
+            words = "the clock is no further than in an event before it"
+            raise ValueError(f"line {event.line}: {words}")
+        if event.kind in _GETS and event.message is None:
+            event = event._replace(message=_sent(event, clocks[host], places))
+        clocks[host] = event.clock
+        places[host, count] = event
+        yield event
 
 
 def _require_all(events: Iterable[_Event]) -> None:

@@ -212,34 +212,37 @@ class _Chains:
         self.seeds = [f"{seed} {chain}" for chain in range(n)]
         self.inner = array("Q", (it for it in range(graph.vertices) if it != graph.sink))
         self.made = array("Q", [drops]) * n
-        self.ones = array("Q", [1]) * drops
-        self.some = 1
-        # (what each thread has for itself)
-        self.here = threading.local()
+        #: Each drop is one chip.
+        self.amounts = array("Q", [1]) * drops
+        #: How many drops the first call of the next chain makes.
+        self.drops_of_call = 1
+        #: What each thread has for itself.
+        self.of_thread = threading.local()
         numpy = import_optional("numpy")
         self.columns = [
             numpy.zeros(n * drops, "u8") if numpy else array("Q", bytes(8 * n * drops))
             for _ in range(3)
         ]
-        if chips is None:
-            self.chips = recurrent_rows(graph, seed, n)
-            return
-        found = (
-            in_order(chips, "chips are rows, or those of all chains")
-            if getattr(chips, "ndim", 1) > 1
-            else chips
-        )
-        rows = (
-            [graph.chips(row) for row in found]
-            if _are_rows(graph, found)
-            else [graph.chips(chips)] * n
-        )
+        self.chips = recurrent_rows(graph, seed, n) if chips is None else self._begun(chips)
+
+    def _begun(self, chips: Any) -> array[int]:
+        """The stable chips from which the chains begin, of the rows that were given, or of one form for all."""
+        graph = self.known
+        n = len(self.seeds)
+        found = chips
+        if getattr(chips, "ndim", 1) > 1:
+            found = in_order(chips, "chips are rows, or those of all chains")
+        if _are_rows(graph, found):
+            rows = [graph.chips(row) for row in found]
+        else:
+            rows = [graph.chips(chips)] * n
         if len(rows) != n:
             raise ValueError(f"there are chips for {len(rows)} chains, and {n} chains")
-        self.chips = array("Q", graph.without_loops([*itertools.chain.from_iterable(rows)]))
-        _stabilize(
-            self.graph, self.chips, array("Q", bytes(8 * len(self.chips))), array("Q", bytes(8 * n))
-        )
+        begun = array("Q", graph.without_loops([*itertools.chain.from_iterable(rows)]))
+        fired = array("Q", bytes(8 * len(begun)))
+        stopped = array("Q", bytes(8 * n))
+        _stabilize(self.graph, begun, fired, stopped)
+        return begun
 
     def drawn(self, chain: int) -> Any:
         """The vertices of a chain, as `random_drops` draws them; by NumPy's twister, which is Python's."""
@@ -247,11 +250,11 @@ class _Chains:
         numpy = import_optional("numpy")
         if not numpy:
             return array("Q", draw.choices(self.inner, k=self.drops))
-        if not hasattr(self.here, "twister"):
-            self.here.twister = numpy.random.RandomState(0)
+        if not hasattr(self.of_thread, "twister"):
+            self.of_thread.twister = numpy.random.RandomState(0)
         state = draw.getstate()[1]
-        self.here.twister.set_state(("MT19937", state[:-1], state[-1]))
-        places = (self.here.twister.random_sample(self.drops) * len(self.inner)).astype("i8")
+        self.of_thread.twister.set_state(("MT19937", state[:-1], state[-1]))
+        places = (self.of_thread.twister.random_sample(self.drops) * len(self.inner)).astype("i8")
         return numpy.frombuffer(self.inner, "u8")[places]
 
     def whole(self, chain: int) -> None:
@@ -260,40 +263,39 @@ class _Chains:
         drops = self.drops
         left = memoryview(self.chips)[chain * width : (chain + 1) * width]
         rows = [memoryview(column)[chain * drops : (chain + 1) * drops] for column in self.columns]
-        self.some = in_calls(self.graph, left, self.drawn(chain), self.ones, rows, some=self.some)
+        self.drops_of_call = in_calls(
+            self.graph, left, self.drawn(chain), self.amounts, rows, some=self.drops_of_call
+        )
 
     def step(self, group: range, until: str | None, wants_fired: bool) -> list[Any]:
-        """Plays some chains, one drop of each after the other; gets the drop, vertex and count of each that fired."""
+        """Plays the chains of a group, a drop on each that goes on, and then the next. If it `wants_fired`, a piece of each
+        drop is returned, with three arrays: the numbers of drops, the vertices that fired, and how often.
+        """
         numpy = import_optional("numpy")
-        width = self.graph.vertices
         drops = self.drops
+        sink = self.graph.sink
+        spans = _spans(self.graph) if until == "spans" else None
+        chips = numpy.frombuffer(self.chips, "u8").reshape(-1, self.graph.vertices)
+        made = numpy.frombuffer(self.made, "u8")
+        columns = [numpy.frombuffer(column, "u8") for column in self.columns]
+        drawn = numpy.array([self.drawn(chain) for chain in group])
+        # The chains that go on. In what follows row `i` is that of chain `live[i]`.
         live = numpy.array(group)
         pieces = []
-        spans = _spans(self.graph) if until == "spans" else None
-        chips, made, *columns = (
-            numpy.frombuffer(it, "u8") for it in (self.chips, self.made, *self.columns)
-        )
-        chips = chips.reshape(-1, width)
-        at = numpy.array([self.drawn(chain) for chain in group])
         for drop in range(drops if len(live) else 0):
-            there = chips[live]
-            there[numpy.arange(len(live)), at[live - group.start, drop]] += 1
-            fired = numpy.zeros_like(there)
-            stopped = numpy.zeros(len(live), "u8")
-            _stabilize(self.graph, there, fired, stopped)
-            lost = there[:, self.graph.sink] - chips[live, self.graph.sink]
+            numbers = live * drops + drop
+            after = chips[live]
+            after[numpy.arange(len(live)), drawn[live - group.start, drop]] += 1
+            fired = numpy.zeros_like(after)
+            _stabilize(self.graph, after, fired, numpy.zeros(len(live), "u8"))
+            lost = after[:, sink] - chips[live, sink]
             for column, values in zip(columns, (fired.sum(1), (fired > 0).sum(1), lost)):
-                column[live * drops + drop] = values
-            chips[live] = there
+                column[numbers] = values
+            chips[live] = after
             if wants_fired:
-                chain, vertex = numpy.nonzero(fired)
-                pieces.append(
-                    (
-                        live[chain] * drops + drop,
-                        vertex.astype("i4"),
-                        fired[chain, vertex].astype("i8"),
-                    )
-                )
+                row, vertex = numpy.nonzero(fired)
+                counts = fired[row, vertex].astype("i8")
+                pieces.append((numbers[row], vertex.astype("i4"), counts))
             if until:
                 ended = spans(fired) if spans else lost > 0
                 made[live[ended]] = drop + 1

@@ -39,7 +39,7 @@ from chipfire.lab.machine import (
     WORDS,
 )
 from chipfire.lab.model import Core
-from chipfire.lab.schedules import Detector, EVENTS, Game, is_early, opened, Play, played, WORK
+from chipfire.lab.schedules import Detector, EVENTS, Game, game_of, is_early, Play, WORK
 from chipfire.lab.sentences import Sentences
 from chipfire.utils import (
     FILE,
@@ -276,7 +276,9 @@ class _Spelled(Core):
 
 def spell_rounds(setting: Setting, schedule: Sequence[Event], rounds: int) -> tuple[Event, ...]:
     """A schedule, and after it the events of `rounds` rounds of turns, or of those until the root is closed."""
-    core = played(setting, _Spelled, schedule)
+    core = game_of(setting, _Spelled)
+    for event in schedule:
+        core.step(*event)
     core.events = Schedule()
     before = -1
     while rounds and len(core.events) > before:
@@ -320,7 +322,7 @@ class _Recorded(_Spelled):
 
 def spell_trace(setting: Setting, trace: Sequence[TraceRow]) -> tuple[Event, ...] | None:
     """Events in which each vertex takes and fires what its rows in a trace say; None if the rings are too small."""
-    core = opened(setting, _Recorded)
+    core = game_of(setting, _Recorded)
     made = -1
     core.rows = [deque() for _ in core.vertices]
     for row in trace:

@@ -61,7 +61,7 @@ def opened(setting: Game, detector: Detector = "right") -> Any:
         raise TypeError(f"a game is {known}, and no {type(setting).__name__}")
     make = known_detector(detector).make
     require_hooks(make)
-    core = _made(setting, make)
+    core = game_of(setting, make)
     if taken := [name for name in vars(core) if name in FROZEN and name != "ended"]:
         raise _taken(make, taken[0], "keeps something as")
     return core
@@ -86,8 +86,8 @@ def _taken(made: type[Core], name: str, does: str) -> NameTaken:
     )
 
 
-def _made(setting: Game, make: type[Core]) -> Any:
-    """A game at its start."""
+def game_of(setting: Game, make: type[Core]) -> Any:
+    """A game at its start, of a class that is not tried: it may have any of the model's names for itself."""
     if isinstance(setting, Computation):
         return setting.opened(make)
     graph = {

@@ -165,6 +165,8 @@ def faults_of(page):
     made = [it for it in commands if it.block not in left_out]
     found = [f"{name}: {fault}" for name, faults in wrong_commands(made, top) for fault in faults]
     found += faults_of_page(page, top)
+    # (a process that is forked leaves its folders to the runner, which takes them away one by one in the end)
+    shutil.rmtree(top, ignore_errors=True)
     if left_out and not found:
         raise unittest.SkipTest("all but " + ", ".join(f"{block}, for want of {it}" for block, it in left_out.items()))
     return found

@@ -7,7 +7,7 @@ use Rattle.chip_sequence.proofs.Names.{Multigraph, edge_at, edges_in, sum_in, de
 use Rattle.chip_sequence.proofs.Names.{tested_add, tested_scale, position_after, counts, IsFiringSequence, IsWithin}
 use Rattle.chip_sequence.proofs.Names.{inflow, AreForced, fired_once, nat_tests, ltb, ◌&&◌}
 use Rattle.std.proofs.Common.{false, le-leb, ◌||◌}
-use Rattle.chip_sequence.specs.Certificate.{in_degree, late_in_degree, IsBurnt, AreBurnt}
+use Rattle.chip_sequence.specs.Certificate.{in_degree, HasFewIn, late_in_degree, IsBurnt, AreBurnt}
 use Rattle.chip_sequence.proofs.FiringLemmas.{inflow_le, position_is, counts_here, counts_else, counts_outside}
 use Rattle.chip_sequence.proofs.FiringLemmas.{sink_never, inflow_more, counts_more, fired_is}
 use Rattle.chip_sequence.proofs.AfterLemmas.{sum_small}
@@ -197,8 +197,7 @@ module _ (G : Multigraph) where
       omega (arith, ap (λ (n : ℕ). degree G w * n) one, came (v ∷ vs) w some))
 
 -- so they burn
-pub fired_burn : (G : Multigraph) (x : ℕ → ℕ) (limit : ℕ)
-    → ((v : ℕ) → v < G.vertices → v ≢ G.sink → in_degree G v ≤ degree G v) → (vs : List ℕ) → IsFiringSequence G x vs
+pub fired_burn : (G : Multigraph) (x : ℕ → ℕ) (limit : ℕ) → HasFewIn G → (vs : List ℕ) → IsFiringSequence G x vs
     → IsWithin limit vs → (rank : ℕ → ℕ) × AreBurnt G x limit (λ v. 0) (counts vs) rank
 fired_burn G x limit few vs ok within = (
   last_of vs,

@@ -2,6 +2,7 @@ mod Names
 pub mod FiringLemmas
 pub mod EndLemmas
 pub mod BoundLemmas
+pub mod FewLemmas
 pub mod CertificateLemmas
 pub mod BurningLemmas
 pub mod LegalLemmas

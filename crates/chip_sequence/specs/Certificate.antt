@@ -24,7 +24,11 @@ IsCertified G x limit f g = (v : ℕ) → f v < g v → IsEarned G x limit g v
 abbrev pub in_degree : Multigraph → ℕ → ℕ
 in_degree G v = sum_in G v (λ e. (edge_at G e).mult)
 
--- the same from the tails whose rank is not below that of v
+-- no in-degree but the sink's is above the degree, as on every undirected graph
+abbrev pub HasFewIn : Multigraph → Type 0
+HasFewIn G = (v : ℕ) → v < G.vertices → v ≢ G.sink → in_degree G v ≤ degree G v
+
+-- the in-degree from the tails whose rank is not below that of v alone
 abbrev pub late_in_degree : Multigraph → (ℕ → ℕ) → ℕ → ℕ
 late_in_degree G rank v = sum_in G v (λ e. if nat_le (rank v) (rank (edge_at G e).tail) then (edge_at G e).mult else 0)
 

@@ -6,7 +6,7 @@ use Rattle.chip_sequence.specs.Firing.{IsLegal, legal_vertices, fired_once}
 use Rattle.chip_sequence.specs.Sequence.{position_after, IsFiringSequence, counts, HasEnded, IsWithin, HasEndedWithin}
 use Rattle.chip_sequence.specs.Sequence.{IsWholePlay}
 use Rattle.chip_sequence.specs.Counted.{position_by_counts, IsBelowZero}
-use Rattle.chip_sequence.specs.Certificate.{AreForced, IsCertified, in_degree, AreBurnt, IsScript, IsOnTheWay}
+use Rattle.chip_sequence.specs.Certificate.{AreForced, IsCertified, HasFewIn, AreBurnt, IsScript, IsOnTheWay}
 use Rattle.chip_sequence.specs.Bound.{greatest_degree, IsGreatestDistance, firing_bound}
 
 -- the listed vertices are the legal ones
@@ -62,6 +62,12 @@ Enough = (G : Multigraph) (x : ℕ → ℕ) → IsGraph G → (distance limit : 
     → firing_bound (sum_below G.vertices x) (greatest_degree G) distance ≤ limit → (vs : List ℕ)
     → IsWholePlay G x limit vs → HasEnded G x vs
 
+-- if no in-degree is above the degree, no firing sequence fires a vertex more often than there are chips, times its
+-- distance from the sink
+abbrev pub FewFirings : Type 0
+FewFirings = (G : Multigraph) (x : ℕ → ℕ) → IsGraph G → HasFewIn G → (v distance : ℕ) → IsDistance G v distance
+    → (vs : List ℕ) → IsFiringSequence G x vs → counts vs v ≤ sum_below G.vertices x * distance
+
 -- without a limit: every firing sequence can be continued to one that has ended, and two that have ended have equal
 -- counts and end at the same position
 abbrev pub AbelianProperty : Type 0
@@ -89,8 +95,7 @@ BurntCounts = (G : Multigraph) (x : ℕ → ℕ) (limit : ℕ) → IsGraph G →
 -- if no in-degree is above the degree, the counts of every firing sequence within the limit burn in the order of
 -- some ranks
 abbrev pub FiredBurn : Type 0
-FiredBurn = (G : Multigraph) (x : ℕ → ℕ) (limit : ℕ)
-    → ((v : ℕ) → v < G.vertices → v ≢ G.sink → in_degree G v ≤ degree G v) → (vs : List ℕ) → IsFiringSequence G x vs
+FiredBurn = (G : Multigraph) (x : ℕ → ℕ) (limit : ℕ) → HasFewIn G → (vs : List ℕ) → IsFiringSequence G x vs
     → IsWithin limit vs → (rank : ℕ → ℕ) × AreBurnt G x limit (λ v. 0) (counts vs) rank
 
 -- on top of forced counts, counts with a script are forced

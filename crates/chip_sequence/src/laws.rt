@@ -5,8 +5,9 @@
 
 ghost use Rattle.chip_sequence.specs.Worked.{SmallTriangle, OneChipShort};
 ghost use Rattle.chip_sequence.specs.Laws.{LegalVertices, PositionByCounts, Batch, Diamond, LeastAction, OneEnd};
-ghost use Rattle.chip_sequence.specs.Laws.{Continuation, ChipsAreKept, FiringBound, Enough, AbelianProperty, MoreChips};
-ghost use Rattle.chip_sequence.specs.Laws.{CertifiedCounts, BurntCounts, FiredBurn, ScriptCounts, PlayingOn, EndOfTheWay};
+ghost use Rattle.chip_sequence.specs.Laws.{Continuation, ChipsAreKept, FiringBound, Enough, FewFirings, AbelianProperty};
+ghost use Rattle.chip_sequence.specs.Laws.{MoreChips, CertifiedCounts, BurntCounts, FiredBurn, ScriptCounts, PlayingOn};
+ghost use Rattle.chip_sequence.specs.Laws.{EndOfTheWay};
 ghost use Rattle.chip_sequence.specs.Sittings.{SittingsAddUp, PlayedIsSitting};
 
 /// The game on the smallest graph on which a vertex sends chips back, played by hand.
@@ -63,6 +64,12 @@ pub fn firing_bound()
 /// A limit of at least the bound at the greatest distance stops no vertex.
 pub fn enough_limit()
     ensures { Enough }
+{}
+
+/// If no in-degree is above the degree, a vertex fires at most as often as there are chips, times its distance from the
+/// sink.
+pub fn few_firings()
+    ensures { FewFirings }
 {}
 
 /// The game without a limit: each sequence can be played to an end, and all ends agree.

@@ -1,0 +1,89 @@
+-- Serves Laws.antt.
+-- The tail of an edge fires at most as many times more than its head as there are chips, so a vertex at most as often
+-- as there are chips, times its distance.
+use Rattle.chip_sequence.proofs.Names.{◌≡◌, ◌≢◌, ℕ, ◌+◌, ◌-◌, ◌*◌, ◌<◌, ◌≤◌, Bool, cond, eqb, List, [], ◌∷◌, length}
+use Rattle.chip_sequence.proofs.Names.{refl, sym, ap, arith, eq-eqb, mul-le-mul_left, mul-le-mul_right, dite, dec_lt}
+use Rattle.chip_sequence.proofs.Names.{ℕ_discrete, Multigraph, edge_at, degree, IsWalk, IsGraph, sum_below, cond_yes}
+use Rattle.chip_sequence.proofs.Names.{tested_le, tested_add, tested_scale, tested_term, inflow, counts}
+use Rattle.chip_sequence.proofs.Names.{IsFiringSequence}
+use Rattle.std.proofs.Common.{mul-add, add-mul}
+use Rattle.chip_graph.specs.Multigraph.{IsDistance}
+use Rattle.chip_graph.proofs.SumLemmas.{cond_no, sum_below_add, sum_below_le, sum_below_one}
+use Rattle.chip_sequence.specs.Certificate.{in_degree, HasFewIn}
+use Rattle.chip_sequence.proofs.FiringLemmas.{position_is, sink_never}
+use Rattle.chip_sequence.proofs.BoundLemmas.{flows_through}
+
+module _ (G : Multigraph) where
+  -- what flows in by f is at most what flows in by the firings above t, and the in-degree for each of t firings
+  inflow_above : (f : ℕ → ℕ) (t u : ℕ) → inflow G f u ≤ inflow G (λ v. f v - t) u + in_degree G u * t
+  inflow_above f t u =
+      let n : ℕ = length G.edges in
+      let test : ℕ → Bool = λ e. eqb (edge_at G e).head u in
+      let mine : ℕ → ℕ = λ e. (edge_at G e).mult * f (edge_at G e).tail in
+      let above : ℕ → ℕ = λ e. (edge_at G e).mult * (f (edge_at G e).tail - t) in
+      let level : ℕ → ℕ = λ e. (edge_at G e).mult * t in
+      let a = tested_le n test mine (λ e. above e + level e) (λ e l on.
+      let low : f (edge_at G e).tail ≤ (f (edge_at G e).tail - t) + t = omega arith in
+      let b = mul-le-mul_left (edge_at G e).mult low in
+      omega (arith, mul-add (edge_at G e).mult (f (edge_at G e).tail - t) t)) in
+      let b = tested_add n test above level in
+      let c = tested_scale n test t (λ e. (edge_at G e).mult) in
+      omega arith
+
+module _ (G : Multigraph) (good : IsGraph G) (few_in : HasFewIn G) (x : ℕ → ℕ) (vs : List ℕ)
+    (ok : IsFiringSequence G x vs) where
+  -- a vertex that fires more than t times sends out above t at most its chips and what flows in above t
+  sent_above : (t u : ℕ) → u < G.vertices → t < counts vs u
+      → degree G u * (counts vs u - t) ≤ x u + inflow G (λ v. counts vs v - t) u
+  sent_above t u l more =
+      let other : u ≢ G.sink = (λ same. let none = ap (counts vs) same in absurd (omega (arith, sink_never G vs x ok))) in
+      let a = inflow_above G (counts vs) t u in
+      let b = mul-le-mul_right t (few_in u l other) in
+      let c = position_is G vs x ok u in
+      let d = mul-add (degree G u) (counts vs u - t) t in
+      let e = ap (λ (n : ℕ). degree G u * n) (let z : (counts vs u - t) + t ≡ counts vs u = omega arith in z) in
+      omega arith
+
+  -- what flows into w by the firings above its own is at most all chips
+  flow_above : (w : ℕ) → w < G.vertices → inflow G (λ v. counts vs v - counts vs w) w ≤ sum_below G.vertices x
+  flow_above w l =
+      let t : ℕ = counts vs w in
+      let g : ℕ → ℕ = λ v. counts vs v - t in
+      let kept : ℕ → ℕ = λ u. cond (eqb w u) (inflow G g w) 0 in
+      let each = sum_below_le G.vertices (λ u. degree G u * g u + kept u) (λ u. x u + inflow G g u)
+      (λ u m. dite (dec_lt t (counts vs u))
+      (λ more. let other : w ≢ u = (λ same. let level = ap (counts vs) same in absurd (omega arith)) in
+      omega (arith, sent_above t u m more, cond_no w u (inflow G g w) 0 other))
+      (λ few. let none = ap (λ (n : ℕ). degree G u * n) (let z : g u ≡ 0 = omega arith in z) in
+      dite (ℕ_discrete w u)
+      (λ same. omega (arith, cond_yes w u (inflow G g w) 0 same, ap (inflow G g) same))
+      (λ other. omega (arith, cond_no w u (inflow G g w) 0 other)))) in
+      let a = sum_below_add G.vertices (λ u. degree G u * g u) kept in
+      let b = sum_below_add G.vertices x (inflow G g) in
+      let c = sum_below_one G.vertices kept w l (λ u m ne. cond_no w u (inflow G g w) 0 (λ e. ne (sym e))) in
+      let d = cond_yes w w (inflow G g w) 0 refl in
+      omega (arith, flows_through G good g)
+
+  -- the tail of an edge fires at most as often as its head, and as many times more as there are chips
+  pub along_edge : (e : ℕ) → e < length G.edges
+      → counts vs (edge_at G e).tail ≤ counts vs (edge_at G e).head + sum_below G.vertices x
+  along_edge e l =
+      let inside = good.edges_fit e l in
+      let w : ℕ = (edge_at G e).head in
+      let u : ℕ = (edge_at G e).tail in
+      let all = flow_above w inside.head_is_vertex in
+      let here = tested_term (length G.edges) (λ i. eqb (edge_at G i).head w)
+      (λ i. (edge_at G i).mult * (counts vs (edge_at G i).tail - counts vs w)) e l (eq-eqb w w refl) in
+      let once = mul-le-mul_right (counts vs u - counts vs w) inside.some_chips in
+      omega arith
+
+  -- along a walk to the sink
+  pub along_walk : (es : List ℕ) (v : ℕ) → IsWalk G v es G.sink → counts vs v ≤ sum_below G.vertices x * length es
+  along_walk [] v is = rw is (omega (arith, sink_never G vs x ok))
+  along_walk (e ∷ es) v way =
+      let rest = along_walk es (edge_at G e).head way.2 in
+      omega (arith, along_edge e way.0, ap (counts vs) way.1, add-mul 1 (length es) (sum_below G.vertices x))
+
+  -- the law: along a shortest walk
+  pub few_firings : (v distance : ℕ) → IsDistance G v distance → counts vs v ≤ sum_below G.vertices x * distance
+  few_firings v distance is = let way = is.reached in rw (← way.2) (along_walk way.0 v way.1)

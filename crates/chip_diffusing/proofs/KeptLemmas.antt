@@ -1,6 +1,6 @@
 -- Serves Computation.antt, Laws.antt.
 -- What every legal log keeps of the books, and that its events may be noted in them.
-use Rattle.std.proofs.Common.{◌≡◌, ◌⊎◌, ℕ, ◌-◌, ◌<◌, ◌≤◌, Bool, true, false, List, [], ◌∷◌, is_some}
+use Rattle.std.proofs.Common.{◌≡◌, ℕ, ◌-◌, ◌<◌, ◌≤◌, Bool, true, false, List, [], ◌∷◌, is_some}
 use Rattle.std.proofs.Common.{Option, Some, None, refl, sym, ap, ◌∙◌, subst, arith, ⊎_elim, true≢false, rules}
 use Rattle.std.specs.List.{Contains, sum_by}
 use Rattle.std.specs.Option.{IfSome}

@@ -4,4 +4,5 @@ pub mod OrderLemmas
 pub mod SilentLemmas
 pub mod DepthLemmas
 pub mod DueLemmas
+pub mod WasteLemmas
 pub mod CountedLemmas

@@ -12,8 +12,8 @@ use Rattle.chip_detect.specs.Acknowledging.{or_else}
 use Rattle.chip_detect.proofs.ChangesLemmas.{open_within_total}
 use Rattle.chip_diffusing.specs.Network.{Network, IsNetwork, IsInto}
 use Rattle.chip_diffusing.specs.Computation.{Part, World, Event, Send, Get, Ack, Settle, Work, Log, Happens, Leads}
-use Rattle.chip_diffusing.specs.Computation.{IsLegalLog, IsSilent, IsClosed, sent_on, acked_on}
-use Rattle.chip_diffusing.specs.Ending.{IsTree, IsDetectionOrder}
+use Rattle.chip_diffusing.specs.Computation.{IsLegalLog, IsSilent, IsClosed, sent_on, acked_on, settled_on}
+use Rattle.chip_diffusing.specs.Ending.{IsTree, IsDetectionOrder, IsSettledUp}
 use Rattle.chip_diffusing.specs.Laws.{IsOver}
 use Rattle.chip_diffusing.proofs.KeptLemmas.{IsKept, acked_most, kept_on, legal_kept}
 use Rattle.chip_diffusing.proofs.KeptLemmas.{opens_kept, stays, was_parent}
@@ -195,11 +195,10 @@ module _ (net : Network) (is : IsNetwork net) where
     kept = legal_kept net is log w legal
 
     -- the root waits for nothing
-    root_settled : (e : ℕ) → e < net.edges → net.tail e ≡ net.root → sent_on net w e ≤ acked_on net w e
+    root_settled : (e : ℕ) → e < net.edges → net.tail e ≡ net.root → sent_on net w e ≤ settled_on net w e
     root_settled e l at =
         let none : deficit (w (net.tail e)).books ≡ 0 = ap (λ (p : ℕ). deficit (w p).books) at ∙ closed.settled in
-        let a = open_within_total (w (net.tail e)).books.outs e in
-        let b = kept.heard e l in omega arith
+        let a = open_within_total (w (net.tail e)).books.outs e in omega arith
 
     none_below : (k p : ℕ) → p < net.parts → (ranks log w legal).0 p < k → parents w p ≡ None
     none_below zero p l low = absurd (omega arith)
@@ -209,6 +208,7 @@ module _ (net : Network) (is : IsNetwork net) where
         let up = (ranks log w legal).1 p some.0 l some.1 in
         let more = edge.2 in
         let none = none_below k (net.tail some.0) (is.tails some.0 edge.0.0) (omega arith) in
+        let heard = kept.heard some.0 edge.0.0 in
         let all = root_settled some.0 edge.0.0 (busy_tail w kept some.0 edge.0.0 none edge.2) in
         absurd (omega arith))
         (cases_option (parents w p))
@@ -216,13 +216,20 @@ module _ (net : Network) (is : IsNetwork net) where
     no_parents : (p : ℕ) → p < net.parts → parents w p ≡ None
     no_parents p l = none_below (suc ((ranks log w legal).0 p)) p l (omega arith)
 
+    pub settled_up : (e : ℕ) → e < net.edges → IsSettledUp net w e
+    settled_up e l =
+        let got = kept.got e l in
+        let acked = acked_most net is w kept e l in
+        let heard = kept.heard e l in
+        let all : sent_on net w e ≤ settled_on net w e = dite (ℕ_discrete (net.tail e) net.root)
+        (root_settled e l)
+        (λ other. let rest = kept.neutral (net.tail e) (is.tails e l) other (no_parents (net.tail e) (is.tails e l)) in
+        let a = rest.1 in let b = open_within_total (w (net.tail e)).books.outs e in omega arith) in
+        record { got = omega arith; acked = omega arith; settled = omega arith }
+
     pub closed_silent : IsSilent net w
     closed_silent = record {
-      delivered = λ e l. dite (ℕ_discrete (net.tail e) net.root)
-          (λ root. let a = root_settled e l root in let b = acked_most net is w kept e l in omega arith)
-          (λ other. let rest = kept.neutral (net.tail e) (is.tails e l) other (no_parents (net.tail e) (is.tails e l)) in
-          let a = rest.1 in let b = open_within_total (w (net.tail e)).books.outs e in let c = kept.heard e l in
-          let d = acked_most net is w kept e l in omega arith);
+      delivered = λ e l. (let a = (settled_up e l).got in omega arith);
       passive = λ p l. dite (ℕ_discrete p net.root)
           (λ root. ap (λ (q : ℕ). (w q).passive) root ∙ closed.ended)
           (λ other. (kept.neutral p l other (no_parents p l)).0);

@@ -1,10 +1,11 @@
 -- The tree of Dijkstra and Scholten, and how a computation that is over is seen to be over.
-use Rattle.std.specs.Prelude.{◌≡◌, ◌⊎◌, ℕ, zero, suc, ◌≤◌, ◌+◌, ◌-◌, ◌<◌, true, List, [], ◌∷◌, Contains, Some, None}
+use Rattle.std.specs.Prelude.{◌≡◌, ◌⊎◌, ℕ, zero, suc, ◌≤◌, ◌+◌, ◌-◌, ◌<◌, nat_lt, Bool, true, false, if◌then◌else◌}
+use Rattle.std.specs.Prelude.{List, [], ◌∷◌, Contains, Some, None, IsTrue}
 use Rattle.chip_detect.specs.Books.{owed, all_owed, deficit}
 use Rattle.chip_detect.specs.Acknowledging.{may_ack}
 use Rattle.chip_diffusing.specs.Network.{Network, IsInto, IsOutOf}
-use Rattle.chip_diffusing.specs.Computation.{Part, World, Event, Ack, Settle, Log, May, Leads, Happens}
-use Rattle.chip_diffusing.specs.Computation.{sent_on, acked_on, settled_on}
+use Rattle.chip_diffusing.specs.Computation.{Part, World, Event, Send, Get, Ack, Settle, Log, May, Leads, Happens}
+use Rattle.chip_diffusing.specs.Computation.{sent_on, got_on, acked_on, settled_on}
 
 -- the edge e engaged p: it comes from the root or from one of these parts, and p owes something on it
 pub record IsParentFrom (net : Network) (w : World) (ps : List ℕ) (p e : ℕ) : Type 0 where
@@ -31,14 +32,14 @@ pub record IsDetectionOrder (net : Network) (w : World) (ps : List ℕ) : Type 0
   pub others : (p : ℕ) → p < net.parts → (p ≡ net.root → ⊥) → (Contains ps p → ⊥) → IsNeutral (w p)
 
 -- an acknowledgement of one message or more, or a settle that hears of a new one
-abbrev pub Tells : Network → World → Event → Type 0
-Tells net w (Ack e n) = 0 < n
-Tells net w (Settle e word) = settled_on net w e < word
-Tells net w _ = ⊥
+abbrev pub tells : Network → World → Event → Bool
+tells net w (Ack e n) = nat_lt 0 n
+tells net w (Settle e word) = nat_lt (settled_on net w e) word
+tells net w _ = false
 
 -- the event may be done, and tells
 abbrev pub IsDue : Network → World → Event → Type 0
-IsDue net w x = May net w x × Tells net w x
+IsDue net w x = May net w x × IsTrue (tells net w x)
 
 -- f 0 + .. + f (n - 1)
 abbrev pub sum_below : ℕ → (ℕ → ℕ) → ℕ
@@ -53,6 +54,29 @@ left net w = sum_below net.edges (λ e. (sent_on net w e - acked_on net w e) + (
 abbrev pub LeadsDue : Network → World → Log → World → Type 0
 LeadsDue net old [] new = old ≡ new
 LeadsDue net old (x ∷ log) new = (w : World) × LeadsDue net old log w × IsDue net w x × Happens net w x new
+
+-- what was sent on an edge was got and acknowledged, and its tail has heard of that
+pub record IsSettledUp (net : Network) (w : World) (e : ℕ) : Type 0 where
+  pub got : got_on net w e ≡ sent_on net w e
+  pub acked : acked_on net w e ≡ sent_on net w e
+  pub settled : settled_on net w e ≡ sent_on net w e
+
+-- ---- events that advance
+
+-- the event gets a message, or tells
+abbrev pub advances : Network → World → Event → Bool
+advances net w (Get e) = true
+advances net w x = tells net w x
+
+-- the number of those that advance among the events that lead from the one world to the other
+abbrev pub advancing : (net : Network) (old : World) (log : Log) (new : World) → Leads net old log new → ℕ
+advancing net old [] new way = 0
+advancing net old (x ∷ log) new way =
+    advancing net old log way.0 way.1 + (if advances net way.0 x then 1 else 0)
+
+abbrev pub is_send : Event → Bool
+is_send (Send e) = true
+is_send _ = false
 
 -- ---- rounds
 

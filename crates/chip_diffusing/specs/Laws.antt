@@ -1,5 +1,5 @@
 -- The theorem of Dijkstra and Scholten, of every diffusing computation.
-use Rattle.std.specs.Prelude.{◌≡◌, ◌⊎◌, ℕ, Bool, false, suc, ◌<◌, ◌≤◌, List, length}
+use Rattle.std.specs.Prelude.{◌≡◌, ◌⊎◌, ℕ, Bool, true, false, suc, ◌*◌, ◌<◌, ◌≤◌, List, length, count_by}
 use Rattle.chip_detect.specs.Books.{Books, IsSound}
 use Rattle.std.specs.Option.{IfSome}
 use Rattle.chip_detect.specs.Steps.{MayBeMade}
@@ -7,6 +7,7 @@ use Rattle.chip_diffusing.specs.Network.{Network, IsNetwork, IsOutOf}
 use Rattle.chip_diffusing.specs.Computation.{World, Event, Get, Log, May, part_of, call_of}
 use Rattle.chip_diffusing.specs.Computation.{Leads, IsLegalLog, IsSilent, IsClosed, acked_on, settled_on}
 use Rattle.chip_diffusing.specs.Ending.{IsDetectionOrder, IsDue, left, LeadsDue, Goes, HasRounds, IsAtMostDeep}
+use Rattle.chip_diffusing.specs.Ending.{IsSettledUp, advances, advancing, is_send}
 
 -- what holds of every network, every legal log and the world that it leaves
 abbrev pub ForEveryLog : (Network → World → Type 0) → Type 0
@@ -20,6 +21,10 @@ ClosedIsSilent = ForEveryLog (λ net w. IsClosed net w → IsSilent net w)
 abbrev pub ClosedForGood : Type 0
 ClosedForGood = ForEveryLog (λ net w. IsClosed net w → (xs : Log) (later : World) → Leads net w xs later
     → IsClosed net later × IsSilent net later)
+
+-- and nothing is open on any edge
+abbrev pub ClosedIsSettled : Type 0
+ClosedIsSettled = ForEveryLog (λ net w. IsClosed net w → (e : ℕ) → e < net.edges → IsSettledUp net w e)
 
 -- what the root's books tell: whatever network they are of and whatever was done there, it is over
 abbrev pub IsOver : Books → Bool → Type 0
@@ -42,6 +47,14 @@ NotOverYet = ForEveryLog (λ net w. (IsClosed net w → ⊥)
 abbrev pub FewAreLeft : Type 0
 FewAreLeft = ForEveryLog (λ net w. IsSilent net w → (xs : Log) (later : World) → LeadsDue net w xs later
     → (length xs ≤ left net w) × (((x : Event) → IsDue net later x → ⊥) → IsClosed net later))
+
+-- at most three events advance for each message that is sent; and if all parts are passive and no event that may be done
+-- advances, the root is closed
+abbrev pub NoWasteCloses : Type 0
+NoWasteCloses = (net : Network) → IsNetwork net → (log : Log) (w : World) (legal : IsLegalLog net log w)
+    → (advancing net legal.first log w legal.leads ≤ 3 * count_by is_send log)
+    × (((p : ℕ) → p < net.parts → (w p).passive ≡ true) → ((x : Event) → May net w x → advances net w x ≡ false)
+    → IsClosed net w)
 
 -- one round more than the tree is deep closes the root, once it has heard what was acknowledged until then
 abbrev pub DepthCloses : Type 0

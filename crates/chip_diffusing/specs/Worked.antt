@@ -1,10 +1,11 @@
 -- A worked run: the root, part 1, sends one message to part 0 on edge 0.
 use Rattle.std.specs.Prelude.{◌≡◌, ℕ, ◌==◌, Bool, true, false, if◌then◌else◌, [], ◌∷◌, Option, Some, None}
+use Rattle.std.specs.Prelude.{count_by}
 use Rattle.chip_detect.specs.Acknowledging.{may_ack}
 use Rattle.chip_diffusing.specs.Network.{Network, IsNetwork}
 use Rattle.chip_diffusing.specs.Computation.{Part, World, Send, Get, Ack, Settle, Work, Log, IsLegalLog}
 use Rattle.chip_diffusing.specs.Computation.{acked_on, settled_on, IsSilent, IsClosed}
-use Rattle.chip_diffusing.specs.Ending.{IsDetectionOrder, left, IsAtMostDeep, HasRounds, Goes}
+use Rattle.chip_diffusing.specs.Ending.{IsDetectionOrder, left, IsAtMostDeep, HasRounds, Goes, IsSettledUp, advancing, is_send}
 
 abbrev pub pair : Network
 pair = record { parts = 2; edges = 1; tail = λ e. 1; head = λ e. 0; root = 1 }
@@ -55,6 +56,11 @@ AtWork = IsNetwork pair × IsLegalLog pair to_work at_work × IsDetectionOrder p
 abbrev pub ToTheEnd : Type 0
 ToTheEnd = IsLegalLog pair whole closed × IsSilent pair acknowledged × (IsClosed pair acknowledged → ⊥)
     × (left pair acknowledged ≡ 1) × IsClosed pair closed × (left pair closed ≡ 0)
+
+-- one message, and three events that advance, the most that can: it was got, acknowledged and settled
+abbrev pub ThreeAdvance : Type 0
+ThreeAdvance = ((legal : IsLegalLog pair whole closed) × (advancing pair legal.first whole closed legal.leads ≡ 3))
+    × (count_by is_send whole ≡ 1) × IsSettledUp pair closed 0
 
 -- it stands one deep in the tree: two rounds, in the first of which it acknowledges
 abbrev pub InTwoRounds : Type 0

@@ -1,15 +1,16 @@
 //! What holds of every diffusing computation, as the contracts of functions that do nothing.
 
-ghost use Rattle.chip_diffusing.specs.Worked.{AtWork, ToTheEnd, InTwoRounds};
+ghost use Rattle.chip_diffusing.specs.Worked.{AtWork, ToTheEnd, ThreeAdvance, InTwoRounds};
 
 /// A small run, as the definitions compute it.
 pub fn worked()
     ensures at_work { AtWork }
     ensures to_the_end { ToTheEnd }
+    ensures three_advance { ThreeAdvance }
     ensures in_two_rounds { InTwoRounds }
 {}
 
-ghost use Rattle.chip_diffusing.specs.Laws.{DepthCloses, DepthIsCounted};
+ghost use Rattle.chip_diffusing.specs.Laws.{ClosedIsSettled, DepthCloses, DepthIsCounted, NoWasteCloses};
 ghost use Rattle.chip_diffusing.specs.Laws.{CallsMayBeMade, ClosedIsSilent, ClosedForGood, EngagedIsATree, NeverStuck, NotOverYet, FewAreLeft};
 
 /// Whoever does an event may make the call of `Detect` that notes it.
@@ -18,10 +19,11 @@ pub fn calls()
 {}
 
 /// The theorem of Dijkstra and Scholten: if the root is closed, nothing is on its way and every part is passive,
-/// now and ever after.
+/// now and ever after, and on each edge all is settled.
 pub fn closed_roots()
     ensures silent { ClosedIsSilent }
     ensures for_good { ClosedForGood }
+    ensures settled { ClosedIsSettled }
 {}
 
 /// The engaged parts form a tree below the root, and all other parts are neutral.
@@ -35,6 +37,12 @@ pub fn endings()
     ensures never_stuck { NeverStuck }
     ensures not_over_yet { NotOverYet }
     ensures few_are_left { FewAreLeft }
+{}
+
+/// At most three events advance for each message that is sent: it is got, acknowledged and settled. Once none is left and
+/// all parts are passive, the root is closed.
+pub fn no_waste()
+    ensures { NoWasteCloses }
 {}
 
 /// If it is over, as many rounds as the tree is deep and one more close the root, once it has heard what was

@@ -1,8 +1,8 @@
 use Rattle.std.proofs.Common.{◌≡◌, ℕ, zero, suc, ◌<◌, ◌≤◌, refl, arith, [], ◌∷◌, Contains, Some, None, true, false, cond, eqb, rules}
 use Rattle.std.proofs.lemmas.Bool.Decides.{nat_tests}
-use Rattle.chip_diffusing.specs.Computation.{World, Ack, Settle, Happens, OpensPart, Leads}
+use Rattle.chip_diffusing.specs.Computation.{World, Ack, Settle, Work, Happens, OpensPart, Leads, IsLegalLog}
 use Rattle.chip_diffusing.specs.Ending.{HasTurn, Goes}
-use Rattle.chip_diffusing.specs.Worked.{pair, root_part, other_part, both, at_work, at_rest, acknowledged, closed, to_work}
+use Rattle.chip_diffusing.specs.Worked.{pair, root_part, other_part, both, at_work, at_rest, acknowledged, closed, to_work, whole}
 use Rattle.chip_diffusing.proofs.laws.worked.Goals as goal
 
 abbrev opening : World
@@ -45,6 +45,9 @@ leads_to_work = (
   search (rules, arith, nat_tests),
 )
 
+rests : Happens pair at_work (Work 0) at_rest
+rests = search (rules, arith, nat_tests)
+
 acks : Happens pair at_rest (Ack 0 1) acknowledged
 acks = search (rules, arith, nat_tests)
 
@@ -61,13 +64,21 @@ returns-clause-at_work c = (
   (λ z. search (rules, arith)),
 )
 
+whole_run : IsLegalLog pair whole closed
+whole_run = record {
+  first = opening;
+  opens = opens;
+  leads = (acknowledged, (at_rest, (at_work, leads_to_work, rests), acks), settles);
+}
+
+pub returns-clause-three_advance : goal.returns-clause-three_advance
+unfolding whole_run leads_to_work
+returns-clause-three_advance c =
+    ((whole_run, refl), refl, record { got = refl; acked = refl; settled = refl })
+
 pub returns-clause-to_the_end : goal.returns-clause-to_the_end
 returns-clause-to_the_end c = (
-  record {
-    first = opening;
-    opens = opens;
-    leads = (acknowledged, (at_rest, (at_work, leads_to_work, search (rules, arith, nat_tests)), acks), settles);
-  },
+  whole_run,
   search (rules, arith, nat_tests),
   (λ z. search (rules, arith)),
   refl,

@@ -17,3 +17,4 @@ mod OrderingLemmas
 mod OrderLemmas
 mod OneLemmas
 mod FirstLemmas
+mod MissingLemmas

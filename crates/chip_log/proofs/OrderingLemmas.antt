@@ -13,7 +13,7 @@ use Rattle.chip_log.proofs.BooksLemmas.{make_flight}
 use Rattle.chip_log.proofs.QueuesLemmas.{set_at, total-set, total_le}
 
 -- a step behind others is sent as they leave the process
-sent_at : (was : Bool) (before : List Step) (step : Step) (later : List Step) → AreSent was (before ++ step ∷ later)
+pub sent_at : (was : Bool) (before : List Step) (step : Step) (later : List Step) → AreSent was (before ++ step ∷ later)
     → may_send (active_after was before) step ≡ true
 sent_at was [] step later sent = sent.0
 sent_at was (first ∷ before) step later sent =

@@ -13,3 +13,4 @@ pub mod Agenda
 pub mod Order
 pub mod Ordering
 pub mod First
+pub mod Missing

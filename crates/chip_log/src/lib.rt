@@ -21,6 +21,7 @@ mod first;
 mod judge;
 mod judged;
 pub mod laws;
+pub mod missing;
 mod order;
 mod past;
 mod queues;

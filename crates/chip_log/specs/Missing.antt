@@ -1,0 +1,43 @@
+-- Logs in which rows are missing. A claim that is right without them is right with them.
+use Rattle.std.specs.Prelude.{◌≡◌, ℕ, zero, suc, ◌+◌, Bool, true, false, if◌then◌else◌, List, [], ◌∷◌, ◌++◌, length}
+use Rattle.chip_log.specs.Log.{steps_of, gets, begins_active, IsInterleaving}
+use Rattle.chip_log.specs.Claims.{IsRight}
+use Rattle.chip_log.specs.Order.{AreSent}
+use Rattle.chip_log.specs.declared.row.LogRow.{LogRow}
+use Rattle.chip_log.specs.declared.row.Step.{Step}
+use Rattle.chip_log.specs.declared.row.Step.TheVariants.{Out, Active}
+
+-- those of these steps that stay; the first is step n of its process
+abbrev pub staying : (ℕ → Bool) → ℕ → List Step → List Step
+staying stays n [] = []
+staying stays n (step ∷ steps) =
+    if stays n then step ∷ staying stays (n + 1) steps else staying stays (n + 1) steps
+
+-- how many of the first n steps stay
+abbrev pub stay_below : (ℕ → Bool) → ℕ → ℕ
+stay_below stays zero = 0
+stay_below stays (suc n) = stay_below stays n + (if stays n then 1 else 0)
+
+-- what may be missing: a receive, a hear, a Passive, a claim, and a tell of a stream of which the log has no hear
+abbrev pub MayMiss : List LogRow → Step → Type 0
+MayMiss log (Out s) = (s.is_control ≡ true) × ((p : ℕ) → gets s (steps_of p log) ≡ 0)
+MayMiss log Active = ⊥
+MayMiss log _ = Unit {0}
+
+-- `left` is the log without the steps that don't stay, and in it too each basic message is sent while active, as it is in
+-- every log with an interleaving
+pub record IsWithout (stays : ℕ → ℕ → Bool) (log left : List LogRow) : Type 0 where
+  pub rows : (p : ℕ) → steps_of p left ≡ staying (stays p) 0 (steps_of p log)
+  pub missing : (p : ℕ) (before : List Step) (step : Step) (behind : List Step)
+      → before ++ step ∷ behind ≡ steps_of p log → stays p (length before) ≡ false → MayMiss left step
+  pub sent : (p : ℕ) → AreSent (begins_active (steps_of p left)) (steps_of p left)
+
+-- a claim that stays and is right without the missing rows is right with them
+abbrev pub RightWithoutRows : Type 0
+RightWithoutRows = (stays : ℕ → ℕ → Bool) (log left : List LogRow) (p i : ℕ) → IsWithout stays log left
+    → stays p i ≡ true → IsRight left p (stay_below (stays p) i) → IsRight log p i
+
+-- in a log with an interleaving each basic message is sent while active
+abbrev pub SentWhileActive : Type 0
+SentWhileActive = (log xs : List LogRow) → IsInterleaving log xs
+    → (p : ℕ) → AreSent (begins_active (steps_of p log)) (steps_of p log)

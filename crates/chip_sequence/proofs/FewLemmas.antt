@@ -1,16 +1,17 @@
 -- Serves Laws.antt.
 -- The tail of an edge fires at most as many times more than its head as there are chips, so a vertex at most as often
 -- as there are chips, times its distance.
-use Rattle.chip_sequence.proofs.Names.{◌≡◌, ◌≢◌, ℕ, ◌+◌, ◌-◌, ◌*◌, ◌<◌, ◌≤◌, Bool, cond, eqb, List, [], ◌∷◌, length}
+use Rattle.chip_sequence.proofs.Names.{◌≡◌, ◌≢◌, ℕ, ◌+◌, ◌-◌, ◌*◌, ◌<◌, ◌≤◌, Bool, cond, eqb, List, [], ◌∷◌, ◌++◌}
 use Rattle.chip_sequence.proofs.Names.{refl, sym, ap, arith, eq-eqb, mul-le-mul_left, mul-le-mul_right, dite, dec_lt}
 use Rattle.chip_sequence.proofs.Names.{ℕ_discrete, Multigraph, edge_at, degree, IsWalk, IsGraph, sum_below, cond_yes}
 use Rattle.chip_sequence.proofs.Names.{tested_le, tested_add, tested_scale, tested_term, inflow, counts}
-use Rattle.chip_sequence.proofs.Names.{IsFiringSequence}
+use Rattle.chip_sequence.proofs.Names.{IsFiringSequence, length}
 use Rattle.std.proofs.Common.{mul-add, add-mul}
 use Rattle.chip_graph.specs.Multigraph.{IsDistance}
 use Rattle.chip_graph.proofs.SumLemmas.{cond_no, sum_below_add, sum_below_le, sum_below_one}
 use Rattle.chip_sequence.specs.Certificate.{in_degree, HasFewIn}
-use Rattle.chip_sequence.proofs.FiringLemmas.{position_is, sink_never}
+use Rattle.chip_sequence.specs.Laws.{EnoughByDistance}
+use Rattle.chip_sequence.proofs.FiringLemmas.{position_is, sink_never, sequence-append, counts-append, counts_here}
 use Rattle.chip_sequence.proofs.BoundLemmas.{flows_through}
 
 module _ (G : Multigraph) where
@@ -87,3 +88,12 @@ module _ (G : Multigraph) (good : IsGraph G) (few_in : HasFewIn G) (x : ℕ → 
   -- the law: along a shortest walk
   pub few_firings : (v distance : ℕ) → IsDistance G v distance → counts vs v ≤ sum_below G.vertices x * distance
   few_firings v distance is = let way = is.reached in rw (← way.2) (along_walk way.0 v way.1)
+
+-- who is still legal at the end has fired less often than that
+pub enough_by_distance : EnoughByDistance
+enough_by_distance G x good few distance limit far low vs play v can =
+    let ok = sequence-append G vs (v ∷ []) x play.sequence (can, tt) in
+    let way = far.greatest v can.is_vertex in
+    let once = along_walk G good few x (vs ++ v ∷ []) ok way.0 v way.1 in
+    let near = mul-le-mul_left (sum_below G.vertices x) way.2 in
+    absurd (omega (arith, counts-append vs (v ∷ []) v, counts_here v v [] refl, play.ended v can))

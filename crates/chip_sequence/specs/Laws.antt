@@ -68,6 +68,12 @@ abbrev pub FewFirings : Type 0
 FewFirings = (G : Multigraph) (x : ℕ → ℕ) → IsGraph G → HasFewIn G → (v distance : ℕ) → IsDistance G v distance
     → (vs : List ℕ) → IsFiringSequence G x vs → counts vs v ≤ sum_below G.vertices x * distance
 
+-- so a limit of all chips, times the greatest distance, stops no vertex
+abbrev pub EnoughByDistance : Type 0
+EnoughByDistance = (G : Multigraph) (x : ℕ → ℕ) → IsGraph G → HasFewIn G → (distance limit : ℕ)
+    → IsGreatestDistance G distance → sum_below G.vertices x * distance ≤ limit → (vs : List ℕ)
+    → IsWholePlay G x limit vs → HasEnded G x vs
+
 -- without a limit: every firing sequence can be continued to one that has ended, and two that have ended have equal
 -- counts and end at the same position
 abbrev pub AbelianProperty : Type 0

@@ -1,6 +1,7 @@
-ghost use Rattle.std.specs.Prelude.{◌≡◌, ℕ, ◌+◌, ◌*◌, ◌<◌, ◌≤◌, SomeIff};
+ghost use Rattle.std.specs.Prelude.{◌≡◌, ℕ, ◌+◌, ◌*◌, ◌<◌, ◌≤◌, ◌↔◌, SomeIff, IsTrue};
 ghost use Rattle.chip_graph.specs.Limits.{max_total, max_limit};
 ghost use Rattle.chip_sequence.specs.Bound.{greatest_degree, IsGreatestDistance, firing_bound};
+ghost use Rattle.chip_sequence.specs.Certificate.{in_degree, HasFewIn};
 
 use chip_graph::Graph;
 use chip_graph::game::MAX_LIMIT;
@@ -19,6 +20,46 @@ pub fn enough(graph: &Graph, total: u64) -> Option<u64>
         bound = next_bound(total, degree, bound)?;
     }
     Some(bound)
+}
+
+/// The same by the distance alone: all chips, times the greatest distance from the sink. `None` if some in-degree but the
+/// sink's is above the degree, since a vertex may fire more often then, or if it is above 2^40.
+pub fn enough_by_distance(graph: &Graph, total: u64) -> Option<u64>
+    requires { total ≤ max_total }
+    ensures { (distance : ℕ) × IsGreatestDistance graph.now distance
+        × SomeIff result (HasFewIn graph.now × (total * distance ≤ max_limit)) (total * distance) }
+{
+    let distance = furthest(graph);
+    if !has_few_in(graph) {
+        return None;
+    }
+    let bound = total.checked_mul(distance)?;
+    if bound <= MAX_LIMIT { Some(bound) } else { None }
+}
+
+/// Whether no in-degree but the sink's is above the degree.
+fn has_few_in(graph: &Graph) -> bool
+    ensures { IsTrue result ↔ HasFewIn graph.now }
+{
+    for vertex in 0..graph.vertices() {
+        if vertex != graph.sink() && graph.out_degree(vertex) < in_degree(graph, vertex) {
+            return false;
+        }
+    }
+    true
+}
+
+/// The in-degree of a vertex.
+fn in_degree(graph: &Graph, vertex: u64) -> u64
+    requires { vertex < graph.now.vertices }
+    ensures { result ≡ in_degree graph.now vertex }
+{
+    let edges = graph.edges();
+    let mut all = 0u64;
+    for e in graph.ins(vertex) {
+        all += edges[*e as usize].mult;
+    }
+    all
 }
 
 /// The bound one edge further from the sink, up to the greatest limit.

@@ -5,9 +5,9 @@
 
 ghost use Rattle.chip_sequence.specs.Worked.{SmallTriangle, OneChipShort};
 ghost use Rattle.chip_sequence.specs.Laws.{LegalVertices, PositionByCounts, Batch, Diamond, LeastAction, OneEnd};
-ghost use Rattle.chip_sequence.specs.Laws.{Continuation, ChipsAreKept, FiringBound, Enough, FewFirings, AbelianProperty};
-ghost use Rattle.chip_sequence.specs.Laws.{MoreChips, CertifiedCounts, BurntCounts, FiredBurn, ScriptCounts, PlayingOn};
-ghost use Rattle.chip_sequence.specs.Laws.{EndOfTheWay};
+ghost use Rattle.chip_sequence.specs.Laws.{Continuation, ChipsAreKept, FiringBound, Enough, FewFirings, EnoughByDistance};
+ghost use Rattle.chip_sequence.specs.Laws.{AbelianProperty, MoreChips, CertifiedCounts, BurntCounts, FiredBurn, ScriptCounts};
+ghost use Rattle.chip_sequence.specs.Laws.{PlayingOn, EndOfTheWay};
 ghost use Rattle.chip_sequence.specs.Sittings.{SittingsAddUp, PlayedIsSitting};
 
 /// The game on the smallest graph on which a vertex sends chips back, played by hand.
@@ -67,9 +67,10 @@ pub fn enough_limit()
 {}
 
 /// If no in-degree is above the degree, a vertex fires at most as often as there are chips, times its distance from the
-/// sink.
+/// sink. So a limit of all chips, times the greatest distance, stops no vertex.
 pub fn few_firings()
-    ensures { FewFirings }
+    ensures bound { FewFirings }
+    ensures enough { EnoughByDistance }
 {}
 
 /// The game without a limit: each sequence can be played to an end, and all ends agree.

@@ -4,7 +4,7 @@
 //! reach. A player proves its outcome from them, whatever its order or guess.
 #![tactic(auto)]
 
-pub use bound::enough;
+pub use bound::{enough, enough_by_distance};
 pub use counted::{AfterFault, after, after_from, after_into};
 pub use firing::{NotLegal, fire, fire_batch};
 pub use outcome::Outcome;

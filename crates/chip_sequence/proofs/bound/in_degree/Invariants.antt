@@ -1,0 +1,5 @@
+use Rattle.chip_sequence.proofs.Names.{◌≡◌, take, sum_by, edge_at, edges_in}
+use Rattle.chip_sequence.proofs.bound.in_degree.Given as goal
+
+abbrev pub invariant-loop-e : goal.invariant-loop-e
+invariant-loop-e l = l.all ≡ sum_by (λ e. (edge_at l.graph e).mult) (take l.e-index (edges_in l.graph l.vertex))

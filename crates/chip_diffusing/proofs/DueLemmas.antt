@@ -1,8 +1,7 @@
 -- Serves Ending.antt, Laws.antt. Once it is over, an acknowledgement or a settle is due until the root is closed, and
 -- few of them are left.
 use Rattle.std.proofs.Common.{◌≡◌, ◌⊎◌, ℕ, zero, suc, ◌+◌, ◌-◌, ◌<◌, ◌≤◌, Bool, true, false, [], ◌∷◌, ◌++◌}
-use Rattle.std.proofs.Common.{refl, ap, ◌∙◌, subst, arith, inl, inr, ⊎_elim, length, cond, lt-ltb}
-use Rattle.std.proofs.lemmas.Bool.{ltb-true}
+use Rattle.std.proofs.Common.{refl, ap, ◌∙◌, subst, arith, inl, inr, ⊎_elim, length, cond}
 use Rattle.std.proofs.lemmas.Bool.Decides.{nat_tests}
 use mathlib.Core.Logic.{dite}
 use native.Mathlib.Decide.{ℕ_discrete}
@@ -66,11 +65,9 @@ module _ (net : Network) (is : IsNetwork net) where
       → ((x : Event) × IsDue net w x) ⊎ IsClosed net w
   due_or_closed log w legal silent = let kept = legal_kept net is log w legal in ⊎_elim
       (λ t. let more = t.2 in let least = kept.heard t.0 t.1 in
-      inl (Settle t.0 (acked_on net w t.0),
-      ((t.1, least, omega arith), lt-ltb (settled_on net w t.0) (acked_on net w t.0) (omega arith))))
+      inl (Settle t.0 (acked_on net w t.0), ((t.1, least, omega arith), omega arith)))
       (λ no_settle. ⊎_elim
-      (λ t. inl (Ack t.0 (may_ack (w (net.head t.0)).books t.0 (w (net.head t.0)).passive),
-      ((t.1, omega arith), lt-ltb 0 (may_ack (w (net.head t.0)).books t.0 (w (net.head t.0)).passive) t.2)))
+      (λ t. inl (Ack t.0 (may_ack (w (net.head t.0)).books t.0 (w (net.head t.0)).passive), ((t.1, omega arith), t.2)))
       (λ no_ack. inr (quiet_closes w
       record { heard = λ e l. (let a = no_settle e l in omega arith); given = no_ack } log legal silent))
       (find net.edges (λ e. may_ack (w (net.head e)).books e (w (net.head e)).passive)))
@@ -113,18 +110,18 @@ module _ (net : Network) (is : IsNetwork net) where
         let most = within_owed e b.parent (owed b e) (all_owed b) (deficit b) (old (net.head e)).passive in
         let allowed = step.may.1 in
         let g = kept.got e step.may.0 in
-        let some : 0 < n = ltb-true 0 n due.1 in
+        let some : 0 < n = due.1 in
         falls (one_later net is old kept silent new (Ack e n) step) e step.may.0 (grind (arith, nat_tests))
     due_falls (Settle e word) due step =
         let k = counted net old new (Settle e word) step e in
         let g = kept.got e step.may.0 in
         let h = acked_most net is old kept e step.may.0 in
         let most = step.may.2 in
-        let some : settled_on net old e < word = ltb-true (settled_on net old e) word due.1 in
+        let some : settled_on net old e < word = due.1 in
         falls (one_later net is old kept silent new (Settle e word) step) e step.may.0 (grind (arith, nat_tests))
-    due_falls (Send e) due step = absurd (cc)
-    due_falls (Get e) due step = absurd (cc)
-    due_falls (Work p) due step = absurd (cc)
+    due_falls (Send e) due step = absurd due.1
+    due_falls (Get e) due step = absurd due.1
+    due_falls (Work p) due step = absurd due.1
 
   leads_due : (w : World) (xs : Log) (new : World) → LeadsDue net w xs new → Leads net w xs new
   leads_due w [] new same = same

@@ -1,7 +1,7 @@
 -- Serves Ending.antt, Laws.antt. Each event that advances makes a sum over all edges greater, which is at most three times
 -- the number of messages.
 use Rattle.std.proofs.Common.{◌≡◌, ℕ, zero, suc, ◌+◌, ◌-◌, ◌*◌, ◌<◌, ◌≤◌, Bool, true, false, cond, eqb, [], ◌∷◌, ap}
-use Rattle.std.proofs.Common.{refl, arith, ⊎_elim, true≢false}
+use Rattle.std.proofs.Common.{refl, sym, ◌∙◌, arith, ⊎_elim, true≢false, lt-ltb}
 use Rattle.std.specs.List.{count_by}
 use Rattle.std.proofs.lemmas.Bool.{ltb-true}
 use Rattle.std.proofs.lemmas.List.Sums.{sum_by-cons}
@@ -11,7 +11,7 @@ use native.Mathlib.Decide.{dec_lt}
 use Rattle.chip_diffusing.specs.Network.{Network, IsNetwork}
 use Rattle.chip_diffusing.specs.Computation.{World, Event, Send, Get, Ack, Settle, Work, Log, Happens, Leads}
 use Rattle.chip_diffusing.specs.Computation.{IsLegalLog, sent_on, got_on, acked_on, settled_on}
-use Rattle.chip_diffusing.specs.Ending.{sum_below, tells, advances, advancing, is_send}
+use Rattle.chip_diffusing.specs.Ending.{sum_below, Tells, advances, advancing, is_send}
 use Rattle.chip_diffusing.specs.Laws.{NoWasteCloses}
 use Rattle.chip_diffusing.proofs.EdgesLemmas.{counted, less_at, less_sum}
 use Rattle.chip_diffusing.proofs.KeptLemmas.{IsKept, acked_most, legal_kept, grows, opens_kept, kept_on}
@@ -133,9 +133,9 @@ no_waste net is log w legal = (
       (due_or_closed net is log w legal (record { delivered = got; passive = rest })),
 )
   where
-    told : (x : Event) → tells net w x ≡ true → advances net w x ≡ false → ⊥
-    told (Send e) on off = absurd (cc)
-    told (Get e) on off = absurd (cc)
-    told (Ack e n) on off = absurd (cc)
-    told (Settle e word) on off = absurd (cc)
-    told (Work p) on off = absurd (cc)
+    told : (x : Event) → Tells net w x → advances net w x ≡ false → ⊥
+    told (Ack e n) some off = true≢false (sym (lt-ltb 0 n some) ∙ off)
+    told (Settle e word) some off = true≢false (sym (lt-ltb (settled_on net w e) word some) ∙ off)
+    told (Send e) some off = some
+    told (Get e) some off = some
+    told (Work p) some off = some

@@ -1,6 +1,6 @@
 -- The tree of Dijkstra and Scholten, and how a computation that is over is seen to be over.
 use Rattle.std.specs.Prelude.{◌≡◌, ◌⊎◌, ℕ, zero, suc, ◌≤◌, ◌+◌, ◌-◌, ◌<◌, nat_lt, Bool, true, false, if◌then◌else◌}
-use Rattle.std.specs.Prelude.{List, [], ◌∷◌, Contains, Some, None, IsTrue}
+use Rattle.std.specs.Prelude.{List, [], ◌∷◌, Contains, Some, None}
 use Rattle.chip_detect.specs.Books.{owed, all_owed, deficit}
 use Rattle.chip_detect.specs.Acknowledging.{may_ack}
 use Rattle.chip_diffusing.specs.Network.{Network, IsInto, IsOutOf}
@@ -32,14 +32,14 @@ pub record IsDetectionOrder (net : Network) (w : World) (ps : List ℕ) : Type 0
   pub others : (p : ℕ) → p < net.parts → (p ≡ net.root → ⊥) → (Contains ps p → ⊥) → IsNeutral (w p)
 
 -- an acknowledgement of one message or more, or a settle that hears of a new one
-abbrev pub tells : Network → World → Event → Bool
-tells net w (Ack e n) = nat_lt 0 n
-tells net w (Settle e word) = nat_lt (settled_on net w e) word
-tells net w _ = false
+abbrev pub Tells : Network → World → Event → Type 0
+Tells net w (Ack e n) = 0 < n
+Tells net w (Settle e word) = settled_on net w e < word
+Tells net w _ = ⊥
 
 -- the event may be done, and tells
 abbrev pub IsDue : Network → World → Event → Type 0
-IsDue net w x = May net w x × IsTrue (tells net w x)
+IsDue net w x = May net w x × Tells net w x
 
 -- f 0 + .. + f (n - 1)
 abbrev pub sum_below : ℕ → (ℕ → ℕ) → ℕ
@@ -63,10 +63,12 @@ pub record IsSettledUp (net : Network) (w : World) (e : ℕ) : Type 0 where
 
 -- ---- events that advance
 
--- the event gets a message, or tells
+-- whether an event gets a message, acknowledges one or more, or hears of a new acknowledgement
 abbrev pub advances : Network → World → Event → Bool
 advances net w (Get e) = true
-advances net w x = tells net w x
+advances net w (Ack e n) = nat_lt 0 n
+advances net w (Settle e word) = nat_lt (settled_on net w e) word
+advances net w _ = false
 
 -- the number of those that advance among the events that lead from the one world to the other
 abbrev pub advancing : (net : Network) (old : World) (log : Log) (new : World) → Leads net old log new → ℕ

@@ -1,4 +1,4 @@
--- Serves Laws.antt.
+-- Serves Laws.antt, Bound.antt.
 -- The tail of an edge fires at most as many times more than its head as there are chips, so a vertex at most as often
 -- as there are chips, times its distance.
 use Rattle.chip_sequence.proofs.Names.{◌≡◌, ◌≢◌, ℕ, ◌+◌, ◌-◌, ◌*◌, ◌<◌, ◌≤◌, Bool, cond, eqb, List, [], ◌∷◌, ◌++◌}
@@ -6,13 +6,16 @@ use Rattle.chip_sequence.proofs.Names.{refl, sym, ap, arith, eq-eqb, mul-le-mul_
 use Rattle.chip_sequence.proofs.Names.{ℕ_discrete, Multigraph, edge_at, degree, IsWalk, IsGraph, sum_below, cond_yes}
 use Rattle.chip_sequence.proofs.Names.{tested_le, tested_add, tested_scale, tested_term, inflow, counts}
 use Rattle.chip_sequence.proofs.Names.{IsFiringSequence, length}
-use Rattle.std.proofs.Common.{mul-add, add-mul}
+use Rattle.chip_sequence.proofs.Names.{true, false, ltb, not, ◌&&◌, picked_has}
+use Rattle.std.proofs.Common.{mul-add, add-mul, eqb-true, lt-ltb}
+use Rattle.std.proofs.lemmas.Bool.{ne_eqb}
 use Rattle.chip_graph.specs.Multigraph.{IsDistance}
 use Rattle.chip_graph.proofs.SumLemmas.{cond_no, sum_below_add, sum_below_le, sum_below_one}
 use Rattle.chip_sequence.specs.Certificate.{in_degree, HasFewIn}
 use Rattle.chip_sequence.specs.Laws.{EnoughByDistance}
 use Rattle.chip_sequence.proofs.FiringLemmas.{position_is, sink_never, sequence-append, counts-append, counts_here}
-use Rattle.chip_sequence.proofs.BoundLemmas.{flows_through}
+use Rattle.chip_sequence.proofs.BoundLemmas.{flows_through, bound_of_walk, bound_more}
+use Rattle.chip_sequence.specs.Bound.{has_few_in, fires_at_distance, greatest_degree, IsGreatestDistance}
 
 module _ (G : Multigraph) where
   -- what flows in by f is at most what flows in by the firings above t, and the in-degree for each of t firings
@@ -97,3 +100,43 @@ enough_by_distance G x good few distance limit far low vs play v can =
     let once = along_walk G good few x (vs ++ v ∷ []) ok way.0 v way.1 in
     let near = mul-le-mul_left (sum_below G.vertices x) way.2 in
     absurd (omega (arith, counts-append vs (v ∷ []) v, counts_here v v [] refl, play.ended v can))
+
+-- ---- the bound of any graph
+
+-- a graph that passes the test
+few_tested : (G : Multigraph) → has_few_in G ≡ true → HasFewIn G
+few_tested G none v l other = dite (dec_lt (degree G v) (in_degree G v))
+    (λ more.
+    let picked = picked_has (λ u. not (eqb u G.sink) && ltb (degree G u) (in_degree G u)) G.vertices v l
+    (rw (ne_eqb v G.sink other, lt-ltb (degree G v) (in_degree G v) more) refl) in
+    let at = picked.1 in
+    absurd (omega (arith, eqb-true _ _ none)))
+    (λ few. omega arith)
+
+module _ (G : Multigraph) (good : IsGraph G) (x : ℕ → ℕ) where
+  -- a walk to the sink that is at most so long
+  fires_by_walk : (vs : List ℕ) → IsFiringSequence G x vs → (distance : ℕ) (es : List ℕ) (v : ℕ) → IsWalk G v es G.sink
+      → length es ≤ distance → counts vs v ≤ fires_at_distance G (sum_below G.vertices x) distance
+  fires_by_walk vs ok distance es v way near = by (has_few_in G) refl
+    where
+      by : (b : Bool) → has_few_in G ≡ b → counts vs v ≤ fires_at_distance G (sum_below G.vertices x) distance
+      by true few = rw few (omega (
+        arith,
+        along_walk G good (few_tested G few) x vs ok es v way,
+        mul-le-mul_left (sum_below G.vertices x) near,
+      ))
+      by false many = rw many (omega (
+        arith,
+        bound_of_walk G good x vs ok es v way,
+        bound_more (sum_below G.vertices x) (greatest_degree G) (length es) distance near,
+      ))
+
+  pub fires_at : (v distance : ℕ) → IsDistance G v distance → (vs : List ℕ) → IsFiringSequence G x vs
+      → counts vs v ≤ fires_at_distance G (sum_below G.vertices x) distance
+  fires_at v distance is vs ok = let way = is.reached in
+      fires_by_walk vs ok distance way.0 v way.1 (let a = way.2 in omega arith)
+
+  -- one number for all, if no vertex is further from the sink
+  pub fires_below : (distance : ℕ) → IsGreatestDistance G distance → (vs : List ℕ) → IsFiringSequence G x vs → (v : ℕ)
+      → v < G.vertices → counts vs v ≤ fires_at_distance G (sum_below G.vertices x) distance
+  fires_below distance far vs ok v l = let way = far.greatest v l in fires_by_walk vs ok distance way.0 v way.1 way.2

@@ -2,7 +2,7 @@
 pub use Rattle.std.proofs.Common.{◌≡◌, ◌<◌, ℕ, arith, ap, ◌≤◌, ◌+◌, eqb, refl, List, sym, ◌*◌, length, slice_index, []}
 pub use Rattle.std.proofs.Common.{◌∷◌, ◌∙◌, Bool, get_or, ◌^◌, mul-le-mul_left, rules, cond, ◌-◌, zero, suc, take}
 pub use Rattle.std.proofs.Common.{sum_by, ◌++◌, ◌&&◌, ◌≢◌, leb, not, mul-le-mul_right, ltb, inr, subst, eq-eqb, sum}
-pub use Rattle.std.proofs.Common.{inl, All, replicate, mul-le-mul, true, Contains, ◌/◌}
+pub use Rattle.std.proofs.Common.{inl, All, replicate, mul-le-mul, true, false, Contains, ◌/◌}
 pub use Rattle.std.proofs.lemmas.Bool.Decides.{nat_tests}
 pub use Rattle.std.proofs.lemmas.List.Sums.{get_or-le-sum_by, sum_by_more_le}
 pub use mathlib.Core.Logic.{dite}

@@ -1,6 +1,9 @@
 -- How often a vertex can fire, by its distance from the sink.
-use Rattle.std.specs.Prelude.{ℕ, zero, suc, ◌+◌, ◌*◌, ◌<◌, ◌≤◌, max, List, length}
+use Rattle.std.specs.Prelude.{ℕ, zero, suc, ◌+◌, ◌*◌, ◌<◌, ◌≤◌, ◌==◌, nat_lt, Bool, not, ◌&&◌, if◌then◌else◌, max}
+use Rattle.std.specs.Prelude.{List, length}
+use Rattle.chip_graph.specs.Sums.{filter_below}
 use Rattle.chip_graph.specs.Multigraph.{Multigraph, degree, IsWalk, IsDistance}
+use Rattle.chip_sequence.specs.Certificate.{in_degree}
 
 -- the greatest of f 0 to f (n - 1), or 0
 abbrev pub greatest_below : ℕ → (ℕ → ℕ) → ℕ
@@ -20,3 +23,12 @@ pub record IsGreatestDistance (G : Multigraph) (distance : ℕ) : Type 0 where
 abbrev pub firing_bound : ℕ → ℕ → ℕ → ℕ
 firing_bound total degree zero = 0
 firing_bound total degree (suc distance) = total + degree * firing_bound total degree distance
+
+-- whether no in-degree but the sink's is above the degree
+abbrev pub has_few_in : Multigraph → Bool
+has_few_in G = length (filter_below (λ v. not (v == G.sink) && nat_lt (degree G v) (in_degree G v)) G.vertices) == 0
+
+-- how often a vertex fires at most at a distance, if there are `total` chips
+abbrev pub fires_at_distance : Multigraph → ℕ → ℕ → ℕ
+fires_at_distance G total distance =
+    if has_few_in G then total * distance else firing_bound total (greatest_degree G) distance

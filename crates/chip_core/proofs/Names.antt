@@ -28,13 +28,14 @@ pub use Rattle.chip_graph.specs.Limits.{max_total, max_limit}
 pub use Rattle.chip_graph.specs.More.{brought_to, all_brought, HasMore}
 pub use Rattle.chip_graph.specs.Multigraph.{degree, edge_at, IsDistance, IsEdge, IsGraph, ReachesSink}
 pub use Rattle.chip_graph.specs.Sums.{filter_below, sum_below}
-pub use Rattle.chip_sequence.proofs.BoundLemmas.{same_ends, chips_are_kept, bound_law, below_top}
+pub use Rattle.chip_sequence.proofs.BoundLemmas.{same_ends, chips_are_kept}
 pub use Rattle.chip_sequence.proofs.CertificateLemmas.{inflow_outside}
 pub use Rattle.chip_sequence.proofs.EndLemmas.{one_end, least_action, continued}
+pub use Rattle.chip_sequence.proofs.FewLemmas.{fires_at, fires_below}
 pub use Rattle.chip_sequence.proofs.FiringLemmas.{counts_outside, counts-append, counts-replicate, inflow_ext}
 pub use Rattle.chip_sequence.proofs.FiringLemmas.{position_is, sequence-append, batch, position_by_counts_law}
 pub use Rattle.chip_sequence.proofs.FiringLemmas.{more_chips}
-pub use Rattle.chip_sequence.specs.Bound.{greatest_degree, firing_bound, IsGreatestDistance}
+pub use Rattle.chip_sequence.specs.Bound.{fires_at_distance, IsGreatestDistance}
 pub use Rattle.chip_sequence.specs.Counted.{position_by_counts, IsBelowZero, inflow}
 pub use Rattle.chip_sequence.specs.Firing.{IsLegal, legal_vertices}
 pub use Rattle.chip_sequence.specs.Outcomes.{IsOutcome}

@@ -2,8 +2,8 @@
 -- How many steps of a legal log count as work, and how many of its claims are refused.
 use Rattle.chip_core.proofs.Names.{◌≡◌, ℕ, zero, suc, ◌+◌, ◌-◌, ◌*◌, ◌<◌, ◌≤◌, true, cond, eqb, List, [], ◌∷◌, length}
 use Rattle.chip_core.proofs.Names.{None, is_some, refl, sym, ap, ◌∙◌, arith, length-append, min, sum, IsGame, sum_below}
-use Rattle.chip_core.proofs.Names.{edge_at, IsDistance, greatest_degree, firing_bound, IsGreatestDistance, least_action}
-use Rattle.chip_core.proofs.Names.{continued, bound_law, below_top, cond_yes, cond_no, sum_below_le, sum_below_ext}
+use Rattle.chip_core.proofs.Names.{edge_at, IsDistance, fires_at_distance, IsGreatestDistance, least_action}
+use Rattle.chip_core.proofs.Names.{continued, fires_at, fires_below, cond_yes, cond_no, sum_below_le, sum_below_ext}
 use Rattle.chip_core.proofs.Names.{sum_below_add, sum_below_split, sum_below_scale, sum_below_one, sum_below_none}
 use Rattle.chip_core.proofs.Names.{one_at_most, Tail, claims_of, sent_counts, none_held, one_held, length-sent_counts}
 use Rattle.chip_core.proofs.Names.{Setting, first_put, start_of, Met, saw, link_after, settled_after, got_after}
@@ -305,11 +305,10 @@ module _ (g : Setting) where
     -- one number for all, if no vertex is further from the sink
     pub distance_bounds : (log : Log) → IsLegalLog g log → (distance : ℕ) → IsGreatestDistance g.game.graph distance
         → AreFiringBounds g log (λ v. min g.game.limit
-        (firing_bound (sum (played_game g log).start) (greatest_degree g.game.graph) distance))
+        (fires_at_distance g.game.graph (sum (played_game g log).start) distance))
     distance_bounds log legal distance is = bounds_by log legal _ (λ vs ok v l.
-        let a = below_top g.game.graph game.graph_fits (chips_given g log) distance is.greatest vs ok v in
-        let h = given_sum g game some_ring log in
-        grind (arith, nat_tests))
+        let a = fires_below g.game.graph game.graph_fits (chips_given g log) distance is vs ok v l in
+        rw (← given_sum g game some_ring log) at a)
 
     pub few_steps : (log : Log) → IsLegalLog g log → (fired : ℕ → ℕ) → AreFiringBounds g log fired
         → work_in g log ≤ steps_at_most g.game (length (recorded g game some_ring log)) fired
@@ -322,7 +321,7 @@ module _ (g : Setting) where
         → ((v : ℕ) → v < g.game.graph.vertices → IsDistance g.game.graph v (distance v))
         → AreFiringBounds g log (fires_at_most g.game (recorded g game some_ring log) distance)
     distances_bound log legal distance are = bounds_by log legal _ (λ vs ok v l.
-        let a = bound_law g.game.graph game.graph_fits (chips_given g log) v (distance v) (are v l) vs ok in
-        let h = ap (λ (n : ℕ). firing_bound n (greatest_degree g.game.graph) (distance v))
+        let a = fires_at g.game.graph game.graph_fits (chips_given g log) v (distance v) (are v l) vs ok in
+        let h = ap (λ (n : ℕ). fires_at_distance g.game.graph n (distance v))
         (sym (given_sum g game some_ring log) ∙ (played_has_more g game some_ring log legal).total) in
         omega arith)

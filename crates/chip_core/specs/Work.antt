@@ -5,7 +5,7 @@ use Rattle.chip_graph.specs.ChipGame.{ChipGame}
 use Rattle.chip_graph.specs.Multigraph.{edge_at, IsDistance}
 use Rattle.chip_graph.specs.More.{all_brought}
 use Rattle.chip_graph.specs.Sums.{sum_below}
-use Rattle.chip_sequence.specs.Bound.{greatest_degree, firing_bound}
+use Rattle.chip_sequence.specs.Bound.{fires_at_distance}
 use Rattle.chip_sequence.specs.Sequence.{counts, IsWholePlay}
 use Rattle.chip_part.specs.Setting.{Setting}
 use Rattle.chip_part.specs.Acting.{act_of}
@@ -57,7 +57,7 @@ steps_at_most game feeds fired =
 -- how often each vertex can fire, if these chips are fed, by its distance from the sink
 abbrev pub fires_at_most : ChipGame → List (ℕ × ℕ) → (ℕ → ℕ) → ℕ → ℕ
 fires_at_most game fed distance v =
-    min game.limit (firing_bound (sum game.start + all_brought fed) (greatest_degree game.graph) (distance v))
+    min game.limit (fires_at_distance game.graph (sum game.start + all_brought fed) (distance v))
 
 -- what the root fed so far, by its own record
 abbrev pub fed_so_far : Setting → Log → List (ℕ × ℕ)

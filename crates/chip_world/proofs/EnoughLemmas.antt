@@ -1,7 +1,7 @@
 -- Serves Enough.antt.
 -- The rounds that surely close a game are more than its steps that count.
 use Rattle.chip_world.proofs.Names.{◌≡◌, ℕ, zero, suc, ◌+◌, ◌*◌, ◌<◌, length, sum, min, arith, add-mul, suc-mul}
-use Rattle.chip_world.proofs.Names.{IsGame, sum_below, greatest_degree, firing_bound, Setting, Log, IsLegalLog}
+use Rattle.chip_world.proofs.Names.{IsGame, sum_below, fires_at_distance, Setting, Log, IsLegalLog}
 use Rattle.chip_world.proofs.Names.{played_game, steps_at_most, fed_so_far, feeds_fit, distance_bounds, WorldState}
 use Rattle.chip_world.proofs.Names.{ClosesBy, rounds_to_close, ClosesIn, Drive}
 
@@ -15,10 +15,10 @@ factor n m c k is = let a = add-mul n (5 * m) c in let b : (5 * m) * c ≡ 5 * (
 
 more_than_steps : (g : Setting) → IsGame g.game → 0 < g.ring → (log : Log) → IsLegalLog g log → (distance : ℕ)
     → steps_at_most g.game (length (fed_so_far g log)) (λ v. min g.game.limit
-    (firing_bound (sum (played_game g log).start) (greatest_degree g.game.graph) distance))
+    (fires_at_distance g.game.graph (sum (played_game g log).start) distance))
     < rounds_to_close (played_game g log) distance
 more_than_steps g game some_ring log legal distance =
-    let c : ℕ = min g.game.limit (firing_bound (sum (played_game g log).start) (greatest_degree g.game.graph) distance) in
+    let c : ℕ = min g.game.limit (fires_at_distance g.game.graph (sum (played_game g log).start) distance) in
     let n : ℕ = g.game.graph.vertices in
     let m : ℕ = length g.game.graph.edges in
     let a = alike n c in let b = alike m c in

@@ -25,7 +25,7 @@ pub use Rattle.chip_graph.proofs.SumLemmas.{cond_no, cond_yes, by_test}
 pub use Rattle.chip_graph.specs.ChipGame.{IsGame}
 pub use Rattle.chip_graph.specs.Sums.{sum_below}
 pub use Rattle.chip_sequence.proofs.AfterLemmas.{no_fault}
-pub use Rattle.chip_sequence.specs.Bound.{greatest_degree, firing_bound}
+pub use Rattle.chip_sequence.specs.Bound.{fires_at_distance}
 pub use Rattle.chip_sequence.specs.Counted.{IsBelowZero, game_from}
 pub use Rattle.chip_link.proofs.ShownLemmas.{fresh_shows, first_shows}
 pub use Rattle.chip_link.proofs.SoundsLemmas.{none_held, one_held, length-sent_counts}

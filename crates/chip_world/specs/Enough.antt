@@ -1,7 +1,7 @@
 -- How many rounds surely close a game.
 use Rattle.std.specs.Prelude.{◌≡◌, ℕ, ◌+◌, ◌*◌, ◌≤◌, length, sum, min}
 use Rattle.chip_graph.specs.ChipGame.{ChipGame}
-use Rattle.chip_sequence.specs.Bound.{greatest_degree, firing_bound, IsGreatestDistance}
+use Rattle.chip_sequence.specs.Bound.{fires_at_distance, IsGreatestDistance}
 use Rattle.chip_part.specs.Setting.{Setting}
 use Rattle.chip_part.specs.declared.reply.Reply.TheVariants.{Done}
 use Rattle.chip_core.specs.Core.{Log, End, step}
@@ -12,12 +12,12 @@ use Rattle.chip_world.specs.declared.world.driving.Drive.{Drive}
 use Rattle.chip_world.specs.declared.world.driving.Drive.TheVariants.{Closed}
 
 -- one more than the steps that can count, if no vertex is further than so from the sink: each vertex fires no more
--- often than the limit and the firing bound allow, each firing makes one message an edge, with five steps, and so does
+-- often than the limit and its distance allow, each firing makes one message an edge, with five steps, and so does
 -- each chip that the root sends; each vertex may halt
 abbrev pub rounds_to_close : ChipGame → ℕ → ℕ
 rounds_to_close game distance =
     (game.graph.vertices + 5 * length game.graph.edges)
-    * min game.limit (firing_bound (sum game.start) (greatest_degree game.graph) distance)
+    * min game.limit (fires_at_distance game.graph (sum game.start) distance)
     + 5 * sum game.start + game.graph.vertices + 1
 
 -- once the end is noted and no message of the root is claimed and not put, as many rounds as `rounds_to_close` of the

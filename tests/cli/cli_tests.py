@@ -25,6 +25,7 @@ import largest
 import listed
 import logs
 import long_logs
+import missing_rows
 import paced
 import progress
 import seals
@@ -34,8 +35,8 @@ import written
 
 #: Those whose tests take the program.
 MODULES = (
-    chains, boards, closing, feeds, crews, seals, verdicts, guesses, logs, detectors, long_logs, drops, largest,
-    diffusing, terminal, written, paced, progress, estimates, busy,
+    chains, boards, closing, feeds, crews, seals, verdicts, guesses, logs, detectors, long_logs, missing_rows, drops,
+    largest, diffusing, terminal, written, paced, progress, estimates, busy,
 )  # fmt: skip
 
 

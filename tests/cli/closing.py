@@ -218,14 +218,15 @@ def wrong_chain(program, stretches, wanted):
 def rounds_to_close(graph, chips):
     """How many rounds of turns surely close a game, by the distance of its vertices from the sink."""
     edges, vertices, total = graph["edges"], graph["vertices"], sum(chips)
-    degrees = [sum(mult for tail, _, mult in edges if tail == vertex) for vertex in range(vertices)]
+    degrees, in_degrees = ([sum(edge[2] for edge in edges if edge[end] == it) for it in range(vertices)] for end in (0, 1))
+    has_few_in = all(map(int.__ge__, degrees, in_degrees[: graph["sink"]] + [0] + in_degrees[graph["sink"] + 1 :]))
     near, distance = {graph["sink"]}, 0
     while len(near) < vertices:
         near |= {tail for tail, head, _ in edges if head in near}
         distance += 1
     most = 0
     for _ in range(distance):
-        most = total + max(degrees) * most
+        most = total + (most if has_few_in else max(degrees) * most)
     return (vertices + 5 * len(edges)) * min(NO_LIMIT, most) + 5 * total + vertices + 1
 
 

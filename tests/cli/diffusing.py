@@ -6,6 +6,10 @@ and none is stuck (silent and not closed, with nothing due), nor where A sends t
 lead to such a world: those that stand beside the change, and no fewer. The numbers of worlds were found by a search
 that shares nothing with this.
 
+No event is wasted: whatever was done until a world, at most three events advanced for each message sent, and so many
+can. If all parts are passive and no event advances, the world is closed. In a closed world what was sent on each edge
+was got, acknowledged and settled.
+
 A message that is got wakes its part here: where it is passive again at once, that is a rest more.
 """
 import collections
@@ -113,6 +117,16 @@ class Computation:
                     left.append((events + 1, new))
         return len(met), None, None
 
+    def worlds(self):
+        """Returns all worlds, each after those from which an event leads to it."""
+        left, met = [self.start()], {key_of(self.start()): self.start()}
+        while left:
+            for _, new in self.events(left.pop()):
+                if key_of(new) not in met:
+                    met[key_of(new)] = new
+                    left.append(new)
+        return sorted(met.values(), key=lambda it: (sum(map(sum, it.edges.values())), sum(it.passive.values())))
+
     def told(self, story):
         """Returns what is wrong with the world to which these events lead; each has to be one that may be done."""
         world = self.start()
@@ -146,6 +160,37 @@ def wrong_search(edges, worlds):
     return [] if found == (worlds, None, None) else [f"{found}, not {worlds} worlds"]
 
 
+def advances(event):
+    """Whether an event gets a message, or acknowledges or settles one or more."""
+    return event.split()[0] in ("get", "ack", "settle")
+
+
+def is_settled(world):
+    """Whether what was sent on each edge was got, acknowledged and settled."""
+    return all(it == Edge(*[it.sent] * 4) for it in world.edges.values())
+
+
+def wrong_waste(edges):
+    """What is wrong with the events that advance, in a computation by the rules as they are."""
+    computation, found, is_most = Computation(edges), [], False
+    most = collections.Counter()
+    for world in computation.worlds():
+        here, sent = most[key_of(world)], sum(it.sent for it in world.edges.values())
+        is_closed = world.passive["root"] and computation.deficit(world, "root") == 0
+        is_due = False
+        for event, new in computation.events(world):
+            is_due |= advances(event)
+            most[key_of(new)] = max(most[key_of(new)], here + advances(event))
+        is_most |= 0 < here == 3 * sent
+        if here > 3 * sent:
+            found.append(f"{here} events advanced until {world}")
+        if is_closed and not is_settled(world):
+            found.append(f"closed, and not settled: {world}")
+        if all(world.passive.values()) and not is_due and not is_closed:
+            found.append(f"nothing is due, and not closed: {world}")
+    return found if is_most else [*found, "never do three events advance for each message"]
+
+
 def wrong_story(changed, edges, wrong, story):
     """What is wrong with a computation one rule of which is changed: these events lead to a wrong world, and no fewer."""
     computation, events = Computation(edges, changed), story.split(", ") if story else []
@@ -157,6 +202,7 @@ def wrong_story(changed, edges, wrong, story):
 def tests(_program):
     for name, edges, worlds in WORLDS:
         yield name, functools.partial(wrong_search, edges, worlds)
+        yield f"{name}, no waste", functools.partial(wrong_waste, edges)
     stories = [(it, BOTH_WAYS, "early", story) for it, story in CHANGES.items()]
     for changed, edges, wrong, story in [*stories, ("edges to the root", TO_THE_ROOT, "stuck", STUCK)]:
         yield changed, functools.partial(wrong_story, changed, edges, wrong, story)

@@ -5,7 +5,7 @@ ghost use Rattle.chip_graph.specs.Limits.{max_total};
 
 use crate::games::{TRIANGLE, game_of, graph_of};
 use chip_graph::{Game, Graph};
-use chip_sequence::{AfterFault, after, after_into, enough, fire};
+use chip_sequence::{AfterFault, after, after_into, enough, enough_by_distance, fire};
 use std::process::Abort;
 
 /// The game on the triangle, whose sink is 2, with four chips on vertex 0.
@@ -64,20 +64,21 @@ fn chain(rt: &(impl AllocGlobal + Abort), vertices: u64, mult: u64) -> Box<Graph
     graph_of(rt, vertices, vertices - 1, &rows)
 }
 
-/// How often a vertex fires at most on such a chain, with `total` chips.
+/// How often a vertex fires at most on such a chain, with `total` chips: by the degrees, and by the distance alone.
 fn expect_enough(
     rt: &(impl AllocGlobal + Abort),
     vertices: u64,
     mult: u64,
     total: u64,
     most: Option<u64>,
+    by_distance: Option<u64>,
 )
     requires vertices { 0 < vertices }
     requires total { total ≤ max_total }
 {
     let graph = chain(rt, vertices, mult);
     assert!(rt;
-        enough(&graph, total) == most,
+        enough(&graph, total) == most && enough_by_distance(&graph, total) == by_distance,
         "{vertices} vertices, {total} chips"
     );
 }
@@ -86,10 +87,16 @@ fn expect_enough(
 fn limits(rt: HostRuntime) {
     let triangle = four_chips(&rt);
     assert!(rt; enough(triangle.graph(), 4) == Some(4));
-    expect_enough(&rt, 3, 1, 3, Some(6));
-    expect_enough(&rt, 41, 2, 1, Some(1_099_511_627_775));
-    expect_enough(&rt, 42, 2, 1, None);
-    expect_enough(&rt, 1, 1, 1 << 40, Some(0));
+    assert!(rt; enough_by_distance(triangle.graph(), 4) == Some(4));
+    expect_enough(&rt, 3, 1, 3, Some(6), Some(6));
+    expect_enough(&rt, 3, 1, 1 << 40, None, None);
+    expect_enough(&rt, 41, 2, 1, Some(1_099_511_627_775), Some(40));
+    expect_enough(&rt, 42, 2, 1, None, Some(41));
+    expect_enough(&rt, 1, 1, 1 << 40, Some(0), Some(0));
+    // more comes into vertex 2 than it sends
+    let two_in_one = graph_of(&rt, 4, 3, &[(0, 2, 1), (1, 2, 1), (2, 3, 1)]);
+    assert!(rt; enough(&two_in_one, 10) == Some(20));
+    assert!(rt; enough_by_distance(&two_in_one, 10) == None);
 }
 
 /// A vertex that may not fire so often, and how often: the sink, no times, and more often than it has chips for.

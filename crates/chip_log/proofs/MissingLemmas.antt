@@ -5,13 +5,14 @@ use Rattle.chip_log.proofs.Names.{refl, sym, ap, subst, arith, append-nil, appen
 use Rattle.chip_log.proofs.Names.{nat_tests, dite, ℕ_discrete, steps_of, is_out, is_in, outs, ins, count_steps}
 use Rattle.chip_log.proofs.Names.{count_rows, active_after, begins_active, is_active, is_met, AreMet, IsInterleaving}
 use Rattle.chip_log.proofs.Names.{basic, IsSilent, IsRight, may_send, AreSent, LogRow, Stream, Step, Out, In, Passive}
-use Rattle.chip_log.proofs.Names.{Active, Over}
+use Rattle.chip_log.proofs.Names.{Active, Over, HasEnds, ◌&&◌, ◌<◌}
 use Rattle.chip_log.proofs.CountLemmas.{count-append, steps_of-append, active_after-append}
-use Rattle.chip_log.proofs.CountLemmas.{steps_own, steps_other, steps_push, steps_push_other, same_stream_is}
-use Rattle.chip_log.proofs.MetLemmas.{count_yes, count_no, same_self}
+use Rattle.chip_log.proofs.CountLemmas.{steps_own, steps_other, steps_push, steps_push_other, same_stream_is, all_own, first_own}
+use Rattle.chip_log.proofs.MetLemmas.{count_yes, count_no, same_self, push_yes}
 use Rattle.chip_log.proofs.OrderingLemmas.{sent_at}
+use Rattle.std.proofs.Common.{lt-ltb, ◌∙◌}
 use Rattle.chip_log.proofs.PastLemmas.{met_le, are_met_first}
-use Rattle.chip_log.specs.Missing.{staying, stay_below, MayMiss, IsWithout, RightWithoutRows, SentWhileActive}
+use Rattle.chip_log.specs.Missing.{staying, stay_below, HearIsMissing, MayMiss, IsWithout, RightWithoutRows, SentWhileActive}
 
 staying_length : (stays : ℕ → Bool) (n : ℕ) (steps : List Step)
     → length (staying stays n steps) + stay_below stays n ≡ stay_below stays (n + length steps)
@@ -28,6 +29,107 @@ staying_length stays n (x ∷ steps) = by (staying_length stays (n + 1) steps) (
         → length (staying stays n (x ∷ steps)) + stay_below stays n ≡ stay_below stays (n + length (x ∷ steps))
     by rest true is = rw is (let a = rest in let b = one in let c = same in let d = count_yes (stays n) is in omega arith)
     by rest false is = rw is (let a = rest in let b = one in let c = same in let d = count_no (stays n) is in omega arith)
+
+-- one step more in front, where it stays or not
+staying_more : (test : Step → Bool) (stays : ℕ → Bool) (n : ℕ) (x : Step) (xs : List Step)
+    → count_steps test (staying stays n (x ∷ xs))
+    ≡ cond (test x && stays n) 1 0 + count_steps test (staying stays (n + 1) xs)
+staying_more test stays n x xs = by (stays n) refl
+  where
+    by : (b : Bool) → stays n ≡ b → count_steps test (staying stays n (x ∷ xs))
+        ≡ cond (test x && stays n) 1 0 + count_steps test (staying stays (n + 1) xs)
+    by true is = rw is (grind (arith, nat_tests))
+    by false is = rw is (grind (arith, nat_tests))
+
+staying_few : (test : Step → Bool) (stays : ℕ → Bool) (n : ℕ) (steps : List Step)
+    → count_steps test (staying stays n steps) ≤ count_steps test steps
+staying_few test stays n [] = omega arith
+staying_few test stays n (x ∷ xs) =
+    let a = staying_few test stays (n + 1) xs in let b = staying_more test stays n x xs in grind (arith, nat_tests)
+
+-- ---- of a stream
+
+-- steps that send, the first of which has the number n, and steps that get: if one that sends does not stay, then
+-- neither does the one that gets with the same number among them
+module _ (s : Stream) (own other : ℕ → Bool) where
+  abbrev Follow : ℕ → ℕ → List Step → List Step → Type 0
+  Follow n m tells hears = (before : List Step) (x : Step) (behind earlier : List Step) (y : Step) (later : List Step)
+      → before ++ x ∷ behind ≡ tells → earlier ++ y ∷ later ≡ hears → is_out s x ≡ true → is_in s y ≡ true
+      → count_steps (is_in s) earlier ≡ count_steps (is_out s) before → own (n + length before) ≡ false
+      → other (m + length earlier) ≡ false
+
+  -- then no more of those that stay get than send
+  follow : (tells : List Step) (n m : ℕ) (hears : List Step) → Follow n m tells hears
+      → count_steps (is_in s) hears ≤ count_steps (is_out s) tells
+      → count_steps (is_in s) (staying other m hears) ≤ count_steps (is_out s) (staying own n tells)
+  follow [] n m hears all few = let a = staying_few (is_in s) other m hears in omega arith
+  follow (x ∷ tells) n m hears all few = by (follow tells) hears m all few (is_out s x) refl
+    where
+      -- a step in front that counts nowhere
+      past : (hears : List Step) (m : ℕ) → Follow n m (x ∷ tells) hears → is_out s x ≡ false → Follow (n + 1) m tells hears
+      past hears m all off before y behind earlier z later at here out got same gone =
+          all (x ∷ before) y behind earlier z later (ap (λ (zs : List Step). x ∷ zs) at) here out got
+          (let a = count_no (is_out s x) off in omega arith)
+          (rw (let z : n + length (x ∷ before) ≡ n + 1 + length before = omega arith in z) gone)
+
+      skip : (y : Step) (hears : List Step) (m : ℕ) → Follow n m (x ∷ tells) (y ∷ hears) → is_in s y ≡ false
+          → Follow n (m + 1) (x ∷ tells) hears
+      skip y hears m all off before w behind earlier z later at here out got same gone =
+          rw (let z : m + 1 + length earlier ≡ m + length (y ∷ earlier) = omega arith in z)
+          (all before w behind (y ∷ earlier) z later at (ap (λ (zs : List Step). y ∷ zs) here) out got
+          (let a = count_no (is_in s y) off in omega arith) gone)
+
+      both : (y : Step) (hears : List Step) (m : ℕ) → Follow n m (x ∷ tells) (y ∷ hears) → is_out s x ≡ true
+          → is_in s y ≡ true → Follow (n + 1) (m + 1) tells hears
+      both y hears m all on also before w behind earlier z later at here out got same gone =
+          rw (let z : m + 1 + length earlier ≡ m + length (y ∷ earlier) = omega arith in z)
+          (all (x ∷ before) w behind (y ∷ earlier) z later (ap (λ (zs : List Step). x ∷ zs) at)
+          (ap (λ (zs : List Step). y ∷ zs) here) out got
+          (let a = count_yes (is_in s y) also in let b = count_yes (is_out s x) on in omega arith)
+          (rw (let z : n + length (x ∷ before) ≡ n + 1 + length before = omega arith in z) gone))
+
+      by : ((n m : ℕ) (hears : List Step) → Follow n m tells hears
+          → count_steps (is_in s) hears ≤ count_steps (is_out s) tells
+          → count_steps (is_in s) (staying other m hears) ≤ count_steps (is_out s) (staying own n tells))
+          → (hears : List Step) (m : ℕ) → Follow n m (x ∷ tells) hears
+          → count_steps (is_in s) hears ≤ count_steps (is_out s) (x ∷ tells) → (b : Bool) → is_out s x ≡ b
+          → count_steps (is_in s) (staying other m hears) ≤ count_steps (is_out s) (staying own n (x ∷ tells))
+      by rest [] m all few b is = omega arith
+      by rest (y ∷ hears) m all few false off =
+          let a = rest (n + 1) m (y ∷ hears) (past (y ∷ hears) m all off)
+          (let c = count_no (is_out s x) off in omega arith) in
+          let d = staying_more (is_out s) own n x tells in omega arith
+      by rest (y ∷ hears) m all few true on = of (by rest hears (m + 1)) (is_in s y) refl
+        where
+          of : (Follow n (m + 1) (x ∷ tells) hears → count_steps (is_in s) hears ≤ count_steps (is_out s) (x ∷ tells)
+              → (b : Bool) → is_out s x ≡ b → count_steps (is_in s) (staying other (m + 1) hears)
+              ≤ count_steps (is_out s) (staying own n (x ∷ tells))) → (b : Bool) → is_in s y ≡ b
+              → count_steps (is_in s) (staying other m (y ∷ hears)) ≤ count_steps (is_out s) (staying own n (x ∷ tells))
+          of later false off =
+              let a = later (skip y hears m all off) (let c = count_no (is_in s y) off in omega arith) true on in
+              let d = staying_more (is_in s) other m y hears in
+              grind (arith, nat_tests)
+          of later true also =
+              let a = rest (n + 1) (m + 1) hears (both y hears m all on also)
+              (let c = count_yes (is_in s y) also in let d = count_yes (is_out s x) on in omega arith) in
+              let c = staying_more (is_in s) other m y hears in
+              let d = staying_more (is_out s) own n x tells in
+              let gone = all [] x tells [] y hears refl refl on also refl in
+              pair a c d (own n) refl
+            where
+              pair : count_steps (is_in s) (staying other (m + 1) hears) ≤ count_steps (is_out s) (staying own (n + 1) tells)
+                  → (count_steps (is_in s) (staying other m (y ∷ hears))
+                  ≡ cond (is_in s y && other m) 1 0 + count_steps (is_in s) (staying other (m + 1) hears))
+                  → (count_steps (is_out s) (staying own n (x ∷ tells))
+                  ≡ cond (is_out s x && own n) 1 0 + count_steps (is_out s) (staying own (n + 1) tells))
+                  → (b : Bool) → own n ≡ b → count_steps (is_in s) (staying other m (y ∷ hears))
+                  ≤ count_steps (is_out s) (staying own n (x ∷ tells))
+              pair a c d true stays = grind (arith, nat_tests)
+              pair a c d false stays =
+                  let off : other m ≡ false = rw (let z : m ≡ m + 0 = omega arith in z)
+                  (all [] x tells [] y hears refl refl on also refl
+                  (rw (let z : n + 0 ≡ n = omega arith in z) stays)) in
+                  grind (arith, nat_tests)
 
 module _ (stays : ℕ → ℕ → Bool) where
   -- those of these rows that stay, behind others
@@ -99,13 +201,13 @@ module _ (stays : ℕ → ℕ → Bool) where
       by rest true is = rw (kept_yes pre x xs is) (let a = rest in omega arith)
       by rest false is = rw (kept_no pre x xs is) (let a = rest in omega arith)
 
-  module _ (log left : List LogRow) (is : IsWithout stays log left) where
+  module _ (log left : List LogRow) (ends : HasEnds log) (is : IsWithout stays log left) where
     -- rows of each process as in the log
     abbrev IsWhole : List LogRow → Type 0
     IsWhole xs = (q : ℕ) → steps_of q xs ≡ steps_of q log
 
     may_miss : (pre : List LogRow) (x : LogRow) (xs : List LogRow) → IsWhole (pre ++ x ∷ xs)
-        → stays x.process (length (steps_of x.process pre)) ≡ false → MayMiss left x.step
+        → stays x.process (length (steps_of x.process pre)) ≡ false → MayMiss stays log (steps_of x.process pre) x.step
     may_miss pre x xs whole off = is.missing x.process (steps_of x.process pre) x.step (steps_of x.process xs)
         (rw (steps_of-append, steps_own x.process x xs refl) at (whole x.process)) off
 
@@ -114,7 +216,7 @@ module _ (stays : ℕ → ℕ → Bool) where
 
     -- a stream of which no message is missing
     abbrev IsThere : Stream → Type 0
-    IsThere s = (step : Step) → is_out s step ≡ true → MayMiss left step → ⊥
+    IsThere s = (before : List Step) (step : Step) → is_out s step ≡ true → MayMiss stays log before step → ⊥
 
     all_outs : (s : Stream) → IsThere s → (pre xs rest : List LogRow) → IsWhole (pre ++ (xs ++ rest))
         → outs s (kept pre xs) ≡ outs s xs
@@ -123,8 +225,8 @@ module _ (stays : ℕ → ℕ → Bool) where
         by (all_outs s there (pre ++ x ∷ []) xs rest (rw append_assoc whole)) (stays x.process (length (steps_of x.process pre)))
         refl
       where
-        not_out : MayMiss left x.step → (b : Bool) → is_out s x.step ≡ b → is_out s x.step ≡ false
-        not_out may true out = absurd (there x.step out may)
+        not_out : MayMiss stays log (steps_of x.process pre) x.step → (b : Bool) → is_out s x.step ≡ b → is_out s x.step ≡ false
+        not_out may true out = absurd (there (steps_of x.process pre) x.step out may)
         not_out may false out = out
 
         by : outs s (kept (pre ++ x ∷ []) xs) ≡ outs s xs → (b : Bool)
@@ -136,32 +238,80 @@ module _ (stays : ℕ → ℕ → Bool) where
             let b = later in omega arith)
 
     basic_there : (c : ℕ) → IsThere (basic c)
-    basic_there c (Out t) out may = let a = same_stream_is (basic c) t out in let b = may.0 in cc
-    basic_there c _ out may = cc
+    basic_there c before (Out t) out may = let a = same_stream_is (basic c) t out in let b = may.0 in cc
+    basic_there c before _ out may = cc
 
-    -- a stream of which a message is got
-    got_there : (s : Stream) (q : ℕ) (before behind : List Step) → before ++ In s ∷ behind ≡ steps_of q left → IsThere s
-    got_there s q before behind rows (Out t) out may =
-        let a = may.1 q in
-        let b = rw (← same_stream_is s t out) at a in
-        let c = ap (count_steps (is_in s)) rows in
-        let d = count-append (is_in s) before (In s ∷ behind) in
-        let e = count_yes (is_in s (In s)) (same_self s) in
+    -- ---- a message that is got in what is left was sent there
+
+    missing_hear : (s : Stream) (before : List Step) (step : Step) → is_out s step ≡ true → MayMiss stays log before step
+        → HearIsMissing stays log s (count_steps (is_out s) before)
+    missing_hear s before (Out t) out may =
+        subst (λ (u : Stream). HearIsMissing stays log u (count_steps (is_out u) before)) (sym (same_stream_is s t out)) may.1
+    missing_hear s before _ out may = absurd (cc)
+
+    in_is : (s : Stream) (step : Step) → is_in s step ≡ true → step ≡ In s
+    in_is s (In t) got = ap In (sym (same_stream_is s t got))
+    in_is s _ got = absurd (cc)
+
+    -- the first rows of a process, and the others
+    rows_of : (xs rest : List LogRow) → IsWhole (xs ++ rest) → (p : ℕ) → steps_of p xs ++ steps_of p rest ≡ steps_of p log
+    rows_of xs rest whole p = rw steps_of-append at (whole p)
+
+    -- what is kept of steps that one process has
+    own_kept : (test : Step → Bool) (owner : ℕ) → ((p : ℕ) → p ≢ owner → count_steps test (steps_of p log) ≡ 0)
+        → (xs rest : List LogRow) → IsWhole (xs ++ rest)
+        → count_rows test (kept [] xs) ≡ count_steps test (staying (stays owner) 0 (steps_of owner xs))
+    own_kept test owner only xs rest whole = all_own test owner (kept [] xs) (λ p ne.
+        let a = ap (count_steps test) (kept_steps p [] xs) in
+        let b = staying_few test (stays p) 0 (steps_of p xs) in
+        let c = ap (count_steps test) (rows_of xs rest whole p) in
+        omega (arith, only p ne, count-append test (steps_of p xs) (steps_of p rest)))
+        ∙ ap (count_steps test) (kept_steps owner [] xs)
+
+    behind_in : (p : ℕ) (xs rest : List LogRow) → IsWhole (xs ++ rest) → (before : List Step) (step : Step) (behind : List Step)
+        → before ++ step ∷ behind ≡ steps_of p xs → before ++ step ∷ (behind ++ steps_of p rest) ≡ steps_of p log
+    behind_in p xs rest whole before step behind at =
+        rw append_assoc at (ap (λ (zs : List Step). zs ++ steps_of p rest) at) ∙ rows_of xs rest whole p
+
+    got_sent : (pre : List LogRow) (x : LogRow) (xs : List LogRow) → IsWhole (pre ++ x ∷ xs)
+        → stays x.process (length (steps_of x.process pre)) ≡ true → (s : Stream) → x.step ≡ In s → ins s pre < outs s pre
+        → ins s (kept [] pre) < outs s (kept [] pre)
+    got_sent pre x xs whole on s same some =
+        let sender : ℕ = ends.sender s in
+        let receiver : ℕ = ends.receiver s in
+        let pushed : IsWhole ((pre ++ x ∷ []) ++ xs) = rw append_assoc whole in
+        let gets_one : is_in s x.step ≡ true = rw same (same_self s) in
+        let out = first_own (is_out s) sender log pre (λ p. steps_of p (x ∷ xs)) (rows_of pre (x ∷ xs) whole) (ends.sends s) in
+        let got = first_own (is_in s) receiver log (pre ++ x ∷ []) (λ p. steps_of p xs) (rows_of (pre ++ x ∷ []) xs pushed)
+        (ends.gets s) in
+        let one = push_yes (is_in s) pre x gets_one in
+        let kept_out = own_kept (is_out s) sender (ends.sends s) pre (x ∷ xs) whole in
+        let kept_got = own_kept (is_in s) receiver (ends.gets s) (pre ++ x ∷ []) xs pushed in
+        let split : kept [] (pre ++ x ∷ []) ≡ kept [] pre ++ x ∷ [] =
+        kept-append [] pre (x ∷ []) ∙ ap (λ (zs : List LogRow). kept [] pre ++ zs) (kept_yes pre x [] on) in
+        let more = ap (ins s) split in
+        let kept_one = push_yes (is_in s) (kept [] pre) x gets_one in
+        let few = follow s (stays sender) (stays receiver) (steps_of sender pre) 0 0 (steps_of receiver (pre ++ x ∷ []))
+        (λ before step behind earlier y later at here sends_s gets_s level gone.
+        let may = is.missing sender before step (behind ++ steps_of sender (x ∷ xs))
+        (behind_in sender pre (x ∷ xs) whole before step behind at)
+        (rw (let z : length before ≡ 0 + length before = omega arith in z) gone) in
+        let z : 0 + length earlier ≡ length earlier = omega arith in
+        rw z (missing_hear s before step sends_s may receiver earlier (later ++ steps_of receiver xs)
+        (rw (in_is s y gets_s) at (behind_in receiver (pre ++ x ∷ []) xs pushed earlier y later here)) level))
+        (omega arith) in
         omega arith
-    got_there s q before behind rows _ out may = cc
 
-    met_here : (pre rest : List LogRow) (q : ℕ) (step : Step) (behind : List Step) → IsWhole (pre ++ rest)
-        → steps_of q (kept [] pre) ++ step ∷ behind ≡ steps_of q left
-        → is_met log pre q step ≡ true → is_met left (kept [] pre) q step ≡ true
-    met_here pre rest q (Out s) behind whole rows met =
-        sent_at (begins_active (steps_of q left)) (steps_of q (kept [] pre)) (Out s) behind
-        (subst (AreSent (begins_active (steps_of q left))) (sym rows) (is.sent q))
-    met_here pre rest q (In s) behind whole rows met =
-        let a = all_outs s (got_there s q (steps_of q (kept [] pre)) behind rows) [] pre rest whole in
-        let b = kept_few (is_in s) [] pre in
-        let c = ltb-true (ins s pre) (outs s pre) met in
-        grind (arith, nat_tests)
-    met_here pre rest q _ behind whole rows met = refl
+    met_here : (pre : List LogRow) (x : LogRow) (xs : List LogRow) (step : Step) (behind : List Step)
+        → IsWhole (pre ++ x ∷ xs) → stays x.process (length (steps_of x.process pre)) ≡ true → x.step ≡ step
+        → steps_of x.process (kept [] pre) ++ step ∷ behind ≡ steps_of x.process left
+        → is_met log pre x.process step ≡ true → is_met left (kept [] pre) x.process step ≡ true
+    met_here pre x xs (Out s) behind whole on same rows met =
+        sent_at (begins_active (steps_of x.process left)) (steps_of x.process (kept [] pre)) (Out s) behind
+        (subst (AreSent (begins_active (steps_of x.process left))) (sym rows) (is.sent x.process))
+    met_here pre x xs (In s) behind whole on same rows met = lt-ltb (ins s (kept [] pre)) (outs s (kept [] pre))
+        (got_sent pre x xs whole on s same (ltb-true (ins s pre) (outs s pre) met))
+    met_here pre x xs _ behind whole on same rows met = refl
 
     are_met : (pre xs : List LogRow) → IsWhole (pre ++ xs) → AreMet log pre xs → AreMet left (kept [] pre) (kept pre xs)
     are_met pre [] whole met = tt
@@ -174,10 +324,11 @@ module _ (stays : ℕ → ℕ → Bool) where
         by : AreMet left (kept [] (pre ++ x ∷ [])) (kept (pre ++ x ∷ []) xs) → (b : Bool)
             → stays x.process (length (steps_of x.process pre)) ≡ b → AreMet left (kept [] pre) (kept pre (x ∷ xs))
         by later true on = rw (kept_yes pre x xs on) (
-            met_here pre (x ∷ xs) x.process x.step (steps_of x.process (kept (pre ++ x ∷ []) xs)) whole
-            (rw (all, kept_yes pre x xs on, steps_of-append, steps_own x.process x (kept (pre ++ x ∷ []) xs) refl) at
-            (kept_whole (pre ++ x ∷ xs) whole x.process)) met.0,
-            rw (kept-append [] pre (x ∷ []), kept_yes pre x [] on) at later)
+          met_here pre x xs x.step (steps_of x.process (kept (pre ++ x ∷ []) xs)) whole on refl
+              (rw (all, kept_yes pre x xs on, steps_of-append, steps_own x.process x (kept (pre ++ x ∷ []) xs) refl) at
+              (kept_whole (pre ++ x ∷ xs) whole x.process)) met.0,
+          rw (kept-append [] pre (x ∷ []), kept_yes pre x [] on) at later,
+        )
         by later false off = rw (kept_no pre x xs off) (rw (kept-append [] pre (x ∷ []), kept_no pre x [] off, append-nil) at later)
 
     kept_interleaving : (xs : List LogRow) → IsInterleaving log xs → IsInterleaving left (kept [] xs)
@@ -210,7 +361,7 @@ module _ (stays : ℕ → ℕ → Bool) where
 
         -- the missing row is no basic receive
         low_missing : stays x.process (length (steps_of x.process pre)) ≡ false → (step : Step) → x.step ≡ step
-            → MayMiss left step → now ≡ false → active_after was (step ∷ []) ≡ false
+            → MayMiss stays log (steps_of x.process pre) step → now ≡ false → active_after was (step ∷ []) ≡ false
         low_missing off (In s) e may f = control s.is_control refl
           where
             control : (b : Bool) → s.is_control ≡ b → cond s.is_control was true ≡ false
@@ -219,7 +370,7 @@ module _ (stays : ℕ → ℕ → Bool) where
                 let same : s ≡ basic s.channel = λ j. record { channel = s.channel; is_control = c j } in
                 let a = rw (kept_no pre x xs off) at (none s.channel) in
                 let g : is_in (basic s.channel) x.step ≡ true =
-                    rw e (subst (λ (t : Stream). is_in t (In s) ≡ true) same (same_self s)) in
+                rw e (subst (λ (t : Stream). is_in t (In s) ≡ true) same (same_self s)) in
                 let b = count_yes (is_in (basic s.channel) x.step) g in
                 let d = fewer s.channel in
                 absurd (omega arith)
@@ -238,8 +389,11 @@ module _ (stays : ℕ → ℕ → Bool) where
             (λ e. rw (steps_own q x xs e, active_after-append was (x.step ∷ []) (steps_of q xs))
             (later (active_after was (x.step ∷ [])) (active_after now (x.step ∷ [])) (low_step x.step)
             less
-            (rw (kept_yes pre x xs on, steps_own q x (kept (pre ++ x ∷ []) xs) e,
-            active_after-append now (x.step ∷ []) (steps_of q (kept (pre ++ x ∷ []) xs))) at passive)))
+            (rw (
+              kept_yes pre x xs on,
+              steps_own q x (kept (pre ++ x ∷ []) xs) e,
+              active_after-append now (x.step ∷ []) (steps_of q (kept (pre ++ x ∷ []) xs)),
+            ) at passive)))
             (λ ne. rw (steps_other q x xs ne) (later was now low less
             (rw (kept_yes pre x xs on, steps_other q x (kept (pre ++ x ∷ []) xs) ne) at passive)))
           where
@@ -327,7 +481,7 @@ module _ (stays : ℕ → ℕ → Bool) where
       }
 
 pub right_without_rows : RightWithoutRows
-right_without_rows stays log left p i is here right = right_here stays log left is p i here right
+right_without_rows stays log left p i ends is here right = right_here stays log left ends is p i here right
 
 -- ---- the steps of each process in an interleaving
 

@@ -34,7 +34,11 @@ pub fn enough_by_distance(graph: &Graph, total: u64) -> Option<u64>
         return None;
     }
     let bound = total.checked_mul(distance)?;
-    if bound <= MAX_LIMIT { Some(bound) } else { None }
+    if bound <= MAX_LIMIT {
+        Some(bound)
+    } else {
+        None
+    }
 }
 
 /// Whether no in-degree but the sink's is above the degree.

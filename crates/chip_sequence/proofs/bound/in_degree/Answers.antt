@@ -35,5 +35,9 @@ returns c =
     let all : c.loop-e.e-index ≡ length (edges_in c.args.graph.now c.args.vertex) =
     (let a = c.loop-e-test.false in let b = c.loop-e.auto.e-index-end in let d = ap length c.ins-e-items.ensures in
     omega arith) in
-    rw (all, take-length, in_sum c.args.graph.now c.edges-edges.ensures.graph c.args.vertex
-    (λ e. (edge_at c.args.graph.now e).mult)) at c.loop-e.invariant
+    rw (
+      all,
+      take-length,
+      in_sum c.args.graph.now c.edges-edges.ensures.graph c.args.vertex
+          (λ e. (edge_at c.args.graph.now e).mult),
+    ) at c.loop-e.invariant

@@ -204,7 +204,7 @@ def uncosted():
     crate, lines, cheaper = found.groups()
     costs = {name: int(cost) for name, cost in (it.split() for it in prove.rows(f"{ROOT}/tools/costs.txt"))}
     true = lines_of_proofs(crate), {name for name in costs if costs[name] < costs[crate]}
-    return [] if true == (lines, set(re.findall(r"\w+", cheaper))) else [str(true)]
+    return [] if true == (lines, set(re.findall(r"`(\w+)`", cheaper))) else [str(true)]
 
 
 def untested_functions():

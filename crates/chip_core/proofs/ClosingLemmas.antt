@@ -1,14 +1,14 @@
 -- Serves Core.antt, Soon.antt. If every vertex is passive and all that was claimed is taken, steps only settle and
 -- acknowledge. If the root is closed nothing changes any more, everything is delivered, and chips and counts are those
 -- of every end.
-use Rattle.chip_core.proofs.Names.{nat_tests, pending_of, owed, is_passive, is_legal, ◌≡◌, ℕ, ◌<◌, ◌≤◌, true, false}
+use Rattle.chip_core.proofs.Names.{nat_tests, pending_of, is_passive, is_legal, ◌≡◌, ℕ, ◌<◌, ◌≤◌, true, false}
 use Rattle.chip_core.proofs.Names.{eqb, ◌∷◌, length, get_or, Option, None, refl, sym, ap, ◌∙◌, arith}
 use Rattle.chip_core.proofs.Names.{⊎_elim, true≢false, ◌≢◌, ◌+◌, ◌-◌, Bool, cond, List, [], sum, Some, get_or_past}
 use Rattle.chip_core.proofs.Names.{drop_all, dite, dec_lt, IsGame, tested_none, claims_of, sent_counts, Setting}
 use Rattle.chip_core.proofs.Names.{IsNeutral, saw, tail_root, at_edge, idle_take, no_fire, no_pending, no_halt}
 use Rattle.chip_core.proofs.Names.{passive_parts, out_zero, none_halt, rules_met, Log, Step, Event, Part, Take, Ack}
 use Rattle.chip_core.proofs.Names.{Fire, Clear, Claim, Put, Halt, Settle, Seal, Read, Feed, End, part_of, does, part_in}
-use Rattle.chip_core.proofs.Names.{out_in, into_in, IsLegalLog, outstanding, tail_of, head_of, root, all_edges}
+use Rattle.chip_core.proofs.Names.{out_in, into_in, IsLegalLog, tail_of, head_of, root, all_edges}
 use Rattle.chip_core.proofs.Names.{graph_edges, Rule, unmet_rule, sees, is_by_limit, answer, step, log_after, IsClosed}
 use Rattle.chip_core.proofs.Names.{stopper, root_edge, filter_below, length-sent_counts, IsLegal, legal_vertices}
 use Rattle.chip_core.proofs.Names.{position_after, IsFiringSequence, HasEnded, HasEndedWithin, IsWholePlay, one_end}
@@ -17,31 +17,11 @@ use Rattle.chip_core.proofs.Names.{in_flight, chips_given, held, chips_at, firin
 use Rattle.chip_core.proofs.Names.{NoneHaltedBySeal, picked_ext}
 use Rattle.chip_core.proofs.LogLemmas.{part_kept, edge_counts, tail_inside, end_stays, tail_cases}
 use Rattle.chip_core.proofs.OrderLemmas.{all_neutral, all_counts}
+use Rattle.chip_core.proofs.SettledLemmas.{settled_up, neutral_up}
 use Rattle.chip_core.proofs.PositionLemmas.{counts_are, leads_to, is_sequence, is_within}
 use Rattle.chip_core.proofs.ReachingLemmas.{step_legal}
 
--- a part as if it owed nothing and waited for nothing
-abbrev pub settled_up : Part → Part
-settled_up s = record s {
-  parent = None;
-  out = λ e. record (s.out e) { settled = claims_of (s.out e).link };
-  into = λ e. record (s.into e) { acked = length (s.into e).got };
-  stop = λ e. None;
-  ended = true;
-}
-
 module _ (g : Setting) where
-  -- a passive part is neutral then
-  pub neutral_up : (v : ℕ) (s : Part) → is_passive g v s ≡ true → IsNeutral g v (settled_up s)
-  neutral_up v s passive = record {
-    no_parent = refl;
-    passive = passive;
-    nothing_owed = tested_none (all_edges g) (λ e. eqb (head_of g e) v) (λ e. owed ((settled_up s).into e))
-        (λ e l on. omega arith);
-    no_deficit = tested_none (all_edges g) (λ e. eqb (tail_of g e) v) (λ e. outstanding ((settled_up s).out e))
-        (λ e l on. omega arith);
-  }
-
   pub record AtRest (log : Log) : Type 0 where
     pub passive : (v : ℕ) → v < g.game.graph.vertices → is_passive g v (part_in g log v) ≡ true
     pub taken : (e : ℕ) → e < all_edges g → claims_of (out_in g log e).link ≤ length (into_in g log e).got
@@ -64,7 +44,7 @@ module _ (g : Setting) where
         true≢false (let a = tail_root g e past in cc)
 
     neutral : (v : ℕ) → v < g.game.graph.vertices → IsNeutral g v (settled_up (part_in g log v))
-    neutral v l = neutral_up v (part_in g log v) (rest.passive v l)
+    neutral v l = neutral_up g v (part_in g log v) (rest.passive v l)
 
     pub rested : (ev : Event) (seen : ℕ) → IsLegalLog g (saw ev seen ∷ log) → Rests ev seen (part_in g log (part_of g ev))
     rested (Take e) seen next =

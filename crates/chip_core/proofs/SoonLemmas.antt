@@ -16,7 +16,8 @@ use Rattle.chip_core.proofs.LogLemmas.{part_kept, settled_step, acked_step, head
 use Rattle.chip_core.proofs.LogLemmas.{settled_grows, legal_before, in_pieces}
 use Rattle.chip_core.proofs.DueLemmas.{parent_below}
 use Rattle.chip_core.proofs.RoundLemmas.{makes_turn, settles_all, own_in}
-use Rattle.chip_core.proofs.ClosingLemmas.{settled_up, AtRest, rested, same_up, rests_on}
+use Rattle.chip_core.proofs.ClosingLemmas.{AtRest, rested, same_up, rests_on}
+use Rattle.chip_core.proofs.SettledLemmas.{settled_up}
 use Rattle.chip_core.proofs.ReachingLemmas.{part_own}
 
 no_messages : (e place : ℕ) (counts : List ℕ) → messages_from e place counts ≡ [] → length counts ≡ 0

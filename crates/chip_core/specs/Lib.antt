@@ -2,6 +2,7 @@ pub mod Core
 pub mod Messages
 pub mod Positions
 pub mod Detection
+pub mod Instance
 pub mod Histories
 pub mod Replies
 pub mod Headline

@@ -17,6 +17,7 @@ ghost use Rattle.chip_core.specs.Replies.{IdleStepsLeave, RunsGoOn};
 ghost use Rattle.chip_core.specs.Words.{OperationsFind, WordsGoOn};
 ghost use Rattle.chip_core.specs.Reached.{ReachedByLegalLogs};
 ghost use Rattle.chip_core.specs.Headline.{CoreTheorem};
+ghost use Rattle.chip_core.specs.Instance.{CoreDiffuses};
 ghost use Rattle.chip_core.specs.Work.{FewSteps, DistancesBound, FewRefusals};
 ghost use Rattle.chip_core.specs.Closing.{NeverStuck, AskedInVain, IdleRoundsClose};
 ghost use Rattle.chip_core.specs.Closing.{FairSchedulesClose, RoundsAreStretches, FairRoundsClose, NothingStirs};
@@ -114,6 +115,11 @@ pub fn given_chips()
     ensures game { GivenIsAGame }
     ensures recorded { GivenByTheRecord }
     ensures unfed_record { UnfedRecordsNone }
+{}
+
+/// The legal logs are legal logs of a diffusing computation.
+pub fn diffuses()
+    ensures { CoreDiffuses }
 {}
 
 /// What holds if the root is closed.

@@ -34,14 +34,14 @@ use Rattle.chip_core.proofs.LogLemmas.{part_here, part_else, part_kept, head_ins
 use Rattle.chip_core.proofs.GivenLemmas.{feed_sees}
 use Rattle.chip_detect.specs.Change.{AddsAnswers}
 use Rattle.chip_core.proofs.NumberLemmas.{claims_most}
-use Rattle.chip_core.proofs.ClosingLemmas.{settled_up, neutral_up}
+use Rattle.chip_core.proofs.SettledLemmas.{settled_up, neutral_up}
 use Rattle.chip_diffusing.specs.Network.{Network, IsNetwork}
 use Rattle.chip_diffusing.specs.Computation as diffusing
 use Rattle.chip_diffusing.specs.Computation.{Happens, Leads, May, Notes, Wakes, Get, Send, Work, OpensPart, World}
 use Rattle.chip_diffusing.proofs.CountedLemmas.{books_by, side, side_same, side_message, side_answers, side_open}
 use Rattle.chip_diffusing.proofs.CountedLemmas.{side_all_open, side_fresh, counts_in}
 use Rattle.chip_diffusing.proofs.SilentLemmas.{leads_on}
-use Rattle.chip_core_diffuses.specs.Instance.{network_of, passive_of, Shows, CoreDiffuses}
+use Rattle.chip_core.specs.Instance.{network_of, passive_of, Shows, CoreDiffuses}
 use Rattle.chip_detect.proofs.ListLemmas.{none_some}
 
 module _ (g : Setting) where

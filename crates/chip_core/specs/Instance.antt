@@ -1,12 +1,11 @@
 -- The core of a running game as a diffusing computation: vertices and root are parts, and what is claimed is sent.
-use Rattle.std.specs.Prelude.{◌≡◌, ℕ, ◌+◌, ◌<◌, ◌==◌, nat_lt, Bool, true, if◌then◌else◌, length, List}
+use Rattle.std.specs.Prelude.{◌≡◌, ℕ, ◌+◌, ◌<◌, ◌==◌, nat_lt, Bool, true, if◌then◌else◌, length}
 use Rattle.chip_graph.specs.ChipGame.{IsGame}
 use Rattle.chip_link.specs.Link.{claims_of}
 use Rattle.chip_part.specs.Setting.{Setting}
 use Rattle.chip_part.specs.Part.{Part, is_passive}
 use Rattle.chip_part.specs.Edges.{tail_of, head_of, all_edges, root, stopper}
-use Rattle.chip_core.specs.Core.{Log, IsLegalLog, part_in, out_in, into_in, IsClosed}
-use Rattle.chip_core.specs.Detection.{IsDetectionOrder}
+use Rattle.chip_core.specs.Core.{Log, IsLegalLog, part_in}
 use Rattle.chip_diffusing.specs.Network.{Network, IsNetwork}
 use Rattle.chip_diffusing.specs.Computation as diffusing
 
@@ -38,13 +37,3 @@ abbrev pub CoreDiffuses : Type 0
 CoreDiffuses = (g : Setting) → IsGame g.game → 0 < g.ring → (log : Log) → IsLegalLog g log
     → IsNetwork (network_of g)
     × ((events : diffusing.Log) × (w : diffusing.World) × diffusing.IsLegalLog (network_of g) events w × Shows g (part_in g log) w)
-
--- so what the core says of its tree, and of a closed root, follows from the theorem
-abbrev pub OrdersFollow : Type 0
-OrdersFollow = (g : Setting) → IsGame g.game → 0 < g.ring → (log : Log) → IsLegalLog g log
-    → (vs : List ℕ) × IsDetectionOrder g log vs
-
-abbrev pub ClosedFollows : Type 0
-ClosedFollows = (g : Setting) → IsGame g.game → 0 < g.ring → (log : Log) → IsLegalLog g log → IsClosed g log
-    → ((v : ℕ) → v < g.game.graph.vertices → is_passive g v (part_in g log v) ≡ true)
-    × ((e : ℕ) → e < all_edges g → length (into_in g log e).got ≡ claims_of (out_in g log e).link)

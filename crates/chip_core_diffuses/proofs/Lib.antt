@@ -1,2 +1,0 @@
-pub mod InstanceLemmas
-pub mod FollowLemmas

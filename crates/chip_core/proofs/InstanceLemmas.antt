@@ -44,6 +44,12 @@ use Rattle.chip_diffusing.proofs.SilentLemmas.{leads_on}
 use Rattle.chip_core.specs.Instance.{network_of, passive_of, Shows, CoreDiffuses}
 use Rattle.chip_detect.proofs.ListLemmas.{none_some}
 
+-- one of two events, by whether two numbers are the same
+chosen : (P : diffusing.Event → Type 0) (a b : ℕ) (y z : diffusing.Event) → (a ≡ b → P y) → (a ≢ b → P z)
+    → P (cond (eqb a b) y z)
+chosen P a b y z first second = dite (ℕ_discrete a b) (λ same. subst P (sym (cond_yes a b y z same)) (first same))
+    (λ other. subst P (sym (cond_no a b y z other)) (second other))
+
 module _ (g : Setting) where
   abbrev pub net : Network
   net = network_of g
@@ -62,8 +68,32 @@ module _ (g : Setting) where
   show p s = record { books = books_of p s; passive = passive_of g p s }
 
   -- the world of these parts
-  abbrev world : (ℕ → Part) → World
+  abbrev pub world : (ℕ → Part) → World
   world parts p = show p (parts p)
+
+  -- the root sends the chips of the start on its edges below n. Where there are none it does something of its own
+  abbrev started_below : ℕ → diffusing.Log
+  started_below zero = []
+  started_below (suc e) = cond (eqb (length (first_put g e)) 0) (Work (root g)) (Send e) ∷ started_below e
+
+  -- what an event of the part s is, if it saw this word
+  abbrev events_by : Event → ℕ → Part → diffusing.Log
+  events_by (Take e) seen s = cond (eqb seen 0) (Work (head_of g e)) (Get e) ∷ []
+  events_by (Ack e) seen s = diffusing.Ack e (part.may_ack g (head_of g e) s e) ∷ []
+  events_by (Claim e) seen s = cond (eqb seen (claims_of (s.out e).link)) (Send e) (Work (tail_of g e)) ∷ []
+  events_by (Settle e) seen s = diffusing.Settle e seen ∷ []
+  events_by (Feed e k) seen s = Send e ∷ []
+  events_by End seen s = Work (root g) ∷ diffusing.Settle (root_edge g 0) seen ∷ []
+  events_by x seen s = Work (part_of g x) ∷ []
+
+  -- what the events of a log are, after the start of the root
+  abbrev pub events_of : Log → diffusing.Log
+  events_of [] = Work (root g) ∷ started_below (all_edges g)
+  events_of (x ∷ log) = events_by x.event x.seen (part_in g log (part_of g x.event)) ++ events_of log
+
+  few_events : (x : Event) (seen : ℕ) (s : Part) → length (events_by x seen s) ≤ 2
+  few_events End seen s = omega arith
+  few_events _ seen s = omega arith
 
   pub in_ins : (e p : ℕ) → e < all_edges g → head_of g e ≡ p → Contains (ins p) e
   in_ins e p l at = picked_has (λ i. eqb (head_of g i) p) (all_edges g) e l (eq-eqb _ _ at)
@@ -135,10 +165,32 @@ module _ (g : Setting) where
   parent_goes None e n owes owes' le h = grind (arith, nat_tests)
   parent_goes (Some q) e n owes owes' le h = let a = h q refl in grind (arith, nat_tests)
 
-  module _ (game : IsGame g.game) (some_ring : 0 < g.ring) where
-    abbrev pub was : Log → World
-    was log = world (part_in g log)
+  abbrev pub was : Log → World
+  was log = world (part_in g log)
 
+  -- it shows the parts
+  module _ (log : Log) where
+    counts_out : (e : ℕ) → e < all_edges g → (diffusing.sent_on net (was log) e ≡ claims_of (out_in g log e).link)
+        × (diffusing.settled_on net (was log) e ≡ (out_in g log e).settled)
+    counts_out e l = let s = part_in g log (tail_of g e) in counts_in (outs (tail_of g e)) (λ i. claims_of (s.out i).link)
+        (λ i. (s.out i).settled) e (in_outs e (tail_of g e) l refl)
+
+    counts_into : (e : ℕ) → e < all_edges g → (diffusing.got_on net (was log) e ≡ length (into_in g log e).got)
+        × (diffusing.acked_on net (was log) e ≡ (into_in g log e).acked)
+    counts_into e l = let s = part_in g log (head_of g e) in counts_in (ins (head_of g e)) (λ i. length (s.into i).got)
+        (λ i. (s.into i).acked) e (in_ins e (head_of g e) l refl)
+
+    pub shows : Shows g (part_in g log) (was log)
+    shows = record {
+      sent = λ e l. (counts_out e l).0;
+      settled = λ e l. (counts_out e l).1;
+      got = λ e l. (counts_into e l).0;
+      acked = λ e l. (counts_into e l).1;
+      parent = λ p. refl;
+      passive = λ p. refl;
+    }
+
+  module _ (game : IsGame g.game) (some_ring : 0 < g.ring) where
     -- one event of a part, by what it does to the part
     by_event : (x : Step) (log : Log) (y : diffusing.Event) → part_of g x.event ≡ diffusing.part_of net y
         → May net (was log) y
@@ -146,23 +198,20 @@ module _ (g : Setting) where
         (books_of (diffusing.part_of net y) (does g x (part_in g log (diffusing.part_of net y))))
         → Wakes (passive_of g (diffusing.part_of net y) (part_in g log (diffusing.part_of net y))) y
         (passive_of g (diffusing.part_of net y) (does g x (part_in g log (diffusing.part_of net y))))
-        → (xs : diffusing.Log) × Leads net (was log) xs (was (x ∷ log))
+        → Leads net (was log) (y ∷ []) (was (x ∷ log))
     by_event x log y at may notes wakes =
         let q : ℕ = diffusing.part_of net y in
         let s : Part = part_in g log q in (
-          y ∷ [],
-          (
-            was log,
-            refl,
-            acts (part_in g log) (part_in g (x ∷ log)) y q s (does g x s) refl refl (part_here g x log q at)
-                (λ p n. part_else g x log p (λ z. n (sym z ∙ at))) may notes wakes,
-          ),
+          was log,
+          refl,
+          acts (part_in g log) (part_in g (x ∷ log)) y q s (does g x s) refl refl (part_here g x log q at)
+              (λ p n. part_else g x log p (λ z. n (sym z ∙ at))) may notes wakes,
         )
 
     works : (x : Step) (log : Log) (q : ℕ) → part_of g x.event ≡ q → q < stopper g + 1
         → books_of q (does g x (part_in g log q)) ≡ books_of q (part_in g log q)
         → (passive_of g q (part_in g log q) ≡ true → passive_of g q (does g x (part_in g log q)) ≡ true)
-        → (xs : diffusing.Log) × Leads net (was log) xs (was (x ∷ log))
+        → Leads net (was log) (Work q ∷ []) (was (x ∷ log))
     works x log q at l books wakes = by_event x log (Work q) at l books wakes
 
     tail_part : (e : ℕ) → tail_of g e < stopper g + 1
@@ -185,26 +234,6 @@ module _ (g : Setting) where
           → (was log (tail_of g e)).passive ≡ false
       active e never = by_test (passive_of g (tail_of g e) (part_in g log (tail_of g e))) (λ on. absurd (never on)) (λ off. off)
 
-      counts_out : (e : ℕ) → e < all_edges g → (diffusing.sent_on net (was log) e ≡ claims_of (out_in g log e).link)
-          × (diffusing.settled_on net (was log) e ≡ (out_in g log e).settled)
-      counts_out e l = let s = part_in g log (tail_of g e) in counts_in (outs (tail_of g e)) (λ i. claims_of (s.out i).link)
-          (λ i. (s.out i).settled) e (in_outs e (tail_of g e) l refl)
-
-      counts_into : (e : ℕ) → e < all_edges g → (diffusing.got_on net (was log) e ≡ length (into_in g log e).got)
-          × (diffusing.acked_on net (was log) e ≡ (into_in g log e).acked)
-      counts_into e l = let s = part_in g log (head_of g e) in counts_in (ins (head_of g e)) (λ i. length (s.into i).got)
-          (λ i. (s.into i).acked) e (in_ins e (head_of g e) l refl)
-
-      pub shows : Shows g (part_in g log) (was log)
-      shows = record {
-        sent = λ e l. (counts_out e l).0;
-        settled = λ e l. (counts_out e l).1;
-        got = λ e l. (counts_into e l).0;
-        acked = λ e l. (counts_into e l).1;
-        parent = λ p. refl;
-        passive = λ p. refl;
-      }
-
     -- a claim that is taken, or a feed, sends
     sends : (log : Log) (x : Step) (e : ℕ) → IsLegalLog g (x ∷ log) → part_of g x.event ≡ tail_of g e → e < all_edges g
         → (passive_of g (tail_of g e) (part_in g log (tail_of g e)) ≡ true → ⊥)
@@ -217,7 +246,7 @@ module _ (g : Setting) where
         → (does g x (part_in g log (tail_of g e))).parent ≡ (part_in g log (tail_of g e)).parent
         → (passive_of g (tail_of g e) (part_in g log (tail_of g e)) ≡ true
         → passive_of g (tail_of g e) (does g x (part_in g log (tail_of g e))) ≡ true)
-        → (xs : diffusing.Log) × Leads net (was log) xs (was (x ∷ log))
+        → Leads net (was log) (Send e ∷ []) (was (x ∷ log))
     sends log x e legal at l never same more settled parent wakes =
         let q : ℕ = tail_of g e in
         let s : Part = part_in g log q in
@@ -226,7 +255,7 @@ module _ (g : Setting) where
         let now : claims_of (out_in g (x ∷ log) e).link ≡ claims_of (t.out e).link =
         ap (λ (u : Part). claims_of (u.out e).link) (part_here g x log q at) in
         let one : claims_of (t.out e).link ≡ claims_of (s.out e).link + 1 = more e ∙ cond_yes e e _ _ refl in
-        let old = (shows log legal.0).sent e l in
+        let old = (shows log).sent e l in
         by_event x log (Send e) at (l, active log legal.0 e never, omega arith)
         (record {
           ins = same;
@@ -275,7 +304,7 @@ module _ (g : Setting) where
 
     -- the end of feeding: the root settles its first edge, and then sends no more
     end_event : (seen : ℕ) (log : Log) → IsLegalLog g (saw End seen ∷ log)
-        → (xs : diffusing.Log) × Leads net (was log) xs (was (saw End seen ∷ log))
+        → Leads net (was log) (Work (root g) ∷ diffusing.Settle (root_edge g 0) seen ∷ []) (was (saw End seen ∷ log))
     end_event seen log legal =
         let r : ℕ = root g in
         let e : ℕ = root_edge g 0 in
@@ -286,8 +315,8 @@ module _ (g : Setting) where
         let t : Part = record (does g (saw End seen) s) { ended = s.ended } in
         let mid : ℕ → Part = (λ p. cond (eqb r p) t (part_in g log p)) in
         let c = edge_counts g game some_ring log legal.0 e in let c0 = c.0 in
-        let a = (shows log legal.0).settled e l in
-        let b = (shows log legal.0).acked e l in
+        let a = (shows log).settled e l in
+        let b = (shows log).acked e l in
         let is : seen ≡ (into_in g log e).acked = legal.1.1 in
         let mid_is : mid r ≡ t = cond_yes r r t s refl in
         let y : diffusing.Event = diffusing.Settle e seen in
@@ -300,23 +329,23 @@ module _ (g : Setting) where
         (part_here g (saw End seen) log r refl)
         (λ p n. part_else g (saw End seen) log p (λ z. n (sym z)) ∙ sym (cond_no r p t (part_in g log p) (λ z. n (sym z))))
         (omega arith) refl (λ on. at_root r (does g (saw End seen) s) refl) in
-        (Work r ∷ y ∷ [], (world mid, (was log, refl, first), second))
+        (world mid, (was log, refl, first), second)
 
     one_event : (ev : Event) (seen : ℕ) (log : Log) → IsLegalLog g (saw ev seen ∷ log)
-        → (xs : diffusing.Log) × Leads net (was log) xs (was (saw ev seen ∷ log))
+        → Leads net (was log) (events_by ev seen (part_in g log (part_of g ev))) (was (saw ev seen ∷ log))
     one_event (Take e) seen log legal =
         let h : ℕ = head_of g e in
         let s : Part = part_in g log h in
         let l : e < all_edges g = rules_met g (Take e) s legal.1.0 in
         let inside = head_inside g game e l in
-        dite (ℕ_discrete seen 0)
+        chosen (λ y. Leads net (was log) (y ∷ []) (was (saw (Take e) seen ∷ log))) seen 0 (Work h) (Get e)
         (λ none. works (saw (Take e) seen) log h refl (omega arith) (ap (books_of h) (idle_take g e seen s none))
         (λ on. ap (passive_of g h) (idle_take g e seen s none) ∙ on))
         (λ some.
         let c = edge_counts g game some_ring log legal.0 e in
         by_event (saw (Take e) seen) log (Get e) refl (
           l,
-          (let a = (shows log legal.0).sent e l in let b = (shows log legal.0).got e l in
+          (let a = (shows log).sent e l in let b = (shows log).got e l in
               let flies : length (s.into e).got < length (out_in g log e).link.put =
               dite (dec_lt (length (s.into e).got) (length (out_in g log e).link.put)) (λ z. z)
               (λ past. absurd (some (legal.1.1 ∙ get_or_past (out_in g log e).link.put (length (s.into e).got) 0 (omega arith)))) in
@@ -378,7 +407,8 @@ module _ (g : Setting) where
         let l = may.0 in
         let pends = ((kept log legal.0 q).outs e refl).clear_pends l may.2 in
         let empty = (edge_sound g game some_ring log legal.0 e).quiet may.2 in
-        dite (ℕ_discrete seen (claims_of (s.out e).link))
+        chosen (λ y. Leads net (was log) (y ∷ []) (was (saw (Claim e) seen ∷ log))) seen (claims_of (s.out e).link) (Send e)
+        (Work q)
         (λ hit. sends log (saw (Claim e) seen) e legal refl (omega arith) (busy log legal.0 e l may.1 pends) refl
         (claims_more e seen (λ i. (s.out i).pending) (λ i. (s.out i).link) empty hit) (λ i. refl) refl
         (λ on. absurd (busy log legal.0 e l may.1 pends on)))
@@ -409,8 +439,8 @@ module _ (g : Setting) where
         let s = part_in g log q in
         let l = rules_met g (Settle e) s legal.1.0 in
         let c = edge_counts g game some_ring log legal.0 e in let c0 = c.0 in
-        let a = (shows log legal.0).settled e l in
-        let b = (shows log legal.0).acked e l in
+        let a = (shows log).settled e l in
+        let b = (shows log).acked e l in
         let is : seen ≡ (into_in g log e).acked = legal.1.1 in
         by_event (saw (Settle e) seen) log (diffusing.Settle e seen) refl (l, omega arith, omega arith)
         (record { ins = refl; outs = settles e seen q s l refl; parent = refl }) (λ z. z)
@@ -464,13 +494,15 @@ module _ (g : Setting) where
     not_passive k on = true≢false (sym on ∙ at_root r (rooted k) refl)
 
     start_step : (k : ℕ) → k < all_edges g
-        → (xs : diffusing.Log) × Leads net (world (starting k)) xs (world (starting (suc k)))
-    start_step k l = ⊎_elim
+        → Happens net (world (starting k)) (cond (eqb (length (first_put g k)) 0) (Work r) (Send k)) (world (starting (suc k)))
+    start_step k l = chosen (λ y. Happens net (world (starting k)) y (world (starting (suc k)))) (length (first_put g k)) 0
+        (Work r) (Send k)
         (λ none. by (Work r) refl (omega arith)
         (books_same r (rooted k) (rooted (suc k)) (λ e. refl) (λ e. refl)
         (λ e m. (let a = claims_start k e in grind (arith, nat_tests))) (λ e. refl) refl)
         (λ on. absurd (not_passive k on)))
-        (λ some.
+        (λ full.
+        let some = ⊎_elim (λ none. absurd (full none)) (λ z. z) (put_cases k) in
         let at : tail_of g k ≡ r = tail_root g k some.0 in
         let here : starting k (tail_of g k) ≡ rooted k = ap (starting k) at ∙ at_start k in
         let zero_sent : claims_of ((rooted k).out k).link ≡ 0 = grind (arith, nat_tests) in
@@ -490,31 +522,17 @@ module _ (g : Setting) where
           parent = refl;
         })
         (λ on. absurd (not_passive k on)))
-        (put_cases k)
       where
         by : (y : diffusing.Event) → diffusing.part_of net y ≡ r → May net (world (starting k)) y
             → Notes (books_of r (rooted k)) y (books_of r (rooted (suc k)))
             → Wakes (passive_of g r (rooted k)) y (passive_of g r (rooted (suc k)))
-            → (xs : diffusing.Log) × Leads net (world (starting k)) xs (world (starting (suc k)))
-        by y at may notes wakes = (
-          y ∷ [],
-          (
-            world (starting k),
-            refl,
-            acts (starting k) (starting (suc k)) y r (rooted k) (rooted (suc k)) at (at_start k) (at_start (suc k))
-                (λ p n. elsewhere (suc k) p n ∙ sym (elsewhere k p n)) may notes wakes,
-          ),
-        )
+            → Happens net (world (starting k)) y (world (starting (suc k)))
+        by y at may notes wakes = acts (starting k) (starting (suc k)) y r (rooted k) (rooted (suc k)) at (at_start k)
+            (at_start (suc k)) (λ p n. elsewhere (suc k) p n ∙ sym (elsewhere k p n)) may notes wakes
 
-    start_leads : (k : ℕ) → k ≤ all_edges g → (xs : diffusing.Log) × Leads net (world (starting 0)) xs (world (starting k))
-    start_leads zero le = ([], refl)
-    start_leads (suc k) le =
-        let before = start_leads k (omega arith) in
-        let now = start_step k (omega arith) in (
-          now.0 ++ before.0,
-          leads_on net is_network (world (starting 0)) (world (starting k)) (world (starting (suc k))) before.0 now.0
-              before.1 now.1,
-        )
+    start_leads : (k : ℕ) → k ≤ all_edges g → Leads net (world (starting 0)) (started_below k) (world (starting k))
+    start_leads zero le = refl
+    start_leads (suc k) le = (world (starting k), start_leads k (omega arith), start_step k (omega arith))
 
     -- the root sends no more, unless it is fed
     opened : Happens net (world (starting (all_edges g))) (Work (root g)) (was [])
@@ -605,33 +623,29 @@ module _ (g : Setting) where
         (λ vertex. at_vertex p (opening_part g) vertex ∙ ((part_kept g game [] tt p).neutral vertex refl).passive)
         (λ past. grind (arith, nat_tests)))))
 
-    opening : (first : World) × (xs : diffusing.Log) × ((p : ℕ) → p < stopper g + 1 → OpensPart net p (first p))
-        × Leads net first xs (was [])
-    opening = let way = start_leads (all_edges g) (omega arith) in
-        (world (starting 0), Work (root g) ∷ way.0, open_parts, (world (starting (all_edges g)), way.1, opened))
-
     -- all events
-    from_log : (log : Log) → IsLegalLog g log → (first : World) → (xs : diffusing.Log) → Leads net first xs (was [])
-        → (ys : diffusing.Log) × Leads net first ys (was log)
-    from_log [] legal first xs way = (xs, way)
-    from_log (x ∷ log) legal first xs way =
-        let before = from_log log legal.0 first xs way in
-        let now = one_event x.event x.seen log legal in
-        (now.0 ++ before.0, leads_on net is_network first (was log) (was (x ∷ log)) before.0 now.0 before.1 now.1)
+    from_log : (log : Log) → IsLegalLog g log → Leads net (world (starting 0)) (events_of log) (was log)
+    from_log [] legal = (world (starting (all_edges g)), start_leads (all_edges g) (omega arith), opened)
+    from_log (x ∷ log) legal = leads_on net is_network (world (starting 0)) (was log) (was (x ∷ log)) (events_of log)
+        (events_by x.event x.seen (part_in g log (part_of g x.event))) (from_log log legal.0)
+        (one_event x.event x.seen log legal)
 
-    -- the log that is legal there
-    pub diffusing_log : (log : Log) → IsLegalLog g log → IsNetwork net × ((events : diffusing.Log) × diffusing.IsLegalLog net events (was log))
-    diffusing_log log legal = let all = from_log log legal opening.0 opening.1 opening.3 in
-        (is_network, (all.0, record { first = opening.0; opens = opening.2; leads = all.1 }))
+    pub legal_there : (log : Log) → IsLegalLog g log → diffusing.IsLegalLog net (events_of log) (was log)
+    legal_there log legal = record { first = world (starting 0); opens = open_parts; leads = from_log log legal }
 
 pub core_diffuses : CoreDiffuses
-core_diffuses g game some_ring log legal =
-    let d = diffusing_log g game some_ring log legal in (
-      d.0,
-      (
-        d.1.0,
-        was g game some_ring log,
-        d.1.1,
-        shows g game some_ring log legal,
-      ),
-    )
+core_diffuses g game some_ring = (
+  is_network g game some_ring,
+  record {
+    events = events_of g;
+    world = was g;
+    shows = shows g;
+    legal = legal_there g game some_ring;
+    goes_on = λ x log legal. (
+      events_by g x.event x.seen (part_in g log (part_of g x.event)),
+      few_events g x.event x.seen (part_in g log (part_of g x.event)),
+      refl,
+      one_event g game some_ring x.event x.seen log legal,
+    );
+  },
+)

@@ -1,29 +1,24 @@
--- The core of a running game as a diffusing computation: vertices and root are parts, and what is claimed is sent.
-use Rattle.std.specs.Prelude.{◌≡◌, ℕ, ◌+◌, ◌<◌, ◌==◌, nat_lt, Bool, true, if◌then◌else◌, length}
+-- The core of a running game as a diffusing computation (`chip_diffusing`).
+use Rattle.std.specs.Prelude.{◌≡◌, ℕ, ◌+◌, ◌<◌, ◌≤◌, ◌==◌, nat_lt, Bool, true, if◌then◌else◌, ◌∷◌, ◌++◌, length}
 use Rattle.chip_graph.specs.ChipGame.{IsGame}
 use Rattle.chip_link.specs.Link.{claims_of}
 use Rattle.chip_part.specs.Setting.{Setting}
 use Rattle.chip_part.specs.Part.{Part, is_passive}
 use Rattle.chip_part.specs.Edges.{tail_of, head_of, all_edges, root, stopper}
-use Rattle.chip_core.specs.Core.{Log, IsLegalLog, part_in}
+use Rattle.chip_core.specs.Core.{Log, Step, IsLegalLog, part_in}
 use Rattle.chip_diffusing.specs.Network.{Network, IsNetwork}
 use Rattle.chip_diffusing.specs.Computation as diffusing
 
--- the stopper is a part without edges
+-- the vertices, the root and the stopper are the parts. The stopper has no edges
 abbrev pub network_of : Setting → Network
-network_of g = record {
-  parts = stopper g + 1;
-  edges = all_edges g;
-  tail = λ e. tail_of g e;
-  head = λ e. head_of g e;
-  root = root g;
-}
+network_of g = record { parts = stopper g + 1; edges = all_edges g; tail = tail_of g; head = head_of g; root = root g }
 
--- a vertex is passive as ever, the root once no more is fed
+-- a vertex is passive as the core says. The root is passive once no more is fed, and the stopper always
 abbrev pub passive_of : Setting → ℕ → Part → Bool
 passive_of g p s = if nat_lt p (root g) then is_passive g p s else if p == root g then s.ended else true
 
--- this world shows these parts: the books of each have the counts of its edges, and its parent
+-- the world shows these parts. The books of each part have its parent, and the counts of its edges. A message counts as
+-- sent once its place is claimed
 pub record Shows (g : Setting) (parts : ℕ → Part) (w : diffusing.World) : Type 0 where
   pub sent : (e : ℕ) → e < all_edges g → diffusing.sent_on (network_of g) w e ≡ claims_of ((parts (tail_of g e)).out e).link
   pub settled : (e : ℕ) → e < all_edges g → diffusing.settled_on (network_of g) w e ≡ ((parts (tail_of g e)).out e).settled
@@ -32,8 +27,16 @@ pub record Shows (g : Setting) (parts : ℕ → Part) (w : diffusing.World) : Ty
   pub parent : (p : ℕ) → (w p).books.parent ≡ (parts p).parent
   pub passive : (p : ℕ) → (w p).passive ≡ passive_of g p (parts p)
 
--- each legal log of the core is a legal log of a diffusing computation
+-- each log of the core is a log of this network, and its world shows the parts. A step adds at most two events, and they
+-- lead from the world before it to the world after it
+pub record Diffuses (g : Setting) : Type 0 where
+  pub events : Log → diffusing.Log
+  pub world : Log → diffusing.World
+  pub shows : (log : Log) → Shows g (part_in g log) (world log)
+  pub legal : (log : Log) → IsLegalLog g log → diffusing.IsLegalLog (network_of g) (events log) (world log)
+  pub goes_on : (x : Step) (log : Log) → IsLegalLog g (x ∷ log) → (now : diffusing.Log) × (length now ≤ 2)
+      × (events (x ∷ log) ≡ now ++ events log) × diffusing.Leads (network_of g) (world log) now (world (x ∷ log))
+
+-- so it is for every game and every ring
 abbrev pub CoreDiffuses : Type 0
-CoreDiffuses = (g : Setting) → IsGame g.game → 0 < g.ring → (log : Log) → IsLegalLog g log
-    → IsNetwork (network_of g)
-    × ((events : diffusing.Log) × (w : diffusing.World) × diffusing.IsLegalLog (network_of g) events w × Shows g (part_in g log) w)
+CoreDiffuses = (g : Setting) → IsGame g.game → 0 < g.ring → IsNetwork (network_of g) × Diffuses g

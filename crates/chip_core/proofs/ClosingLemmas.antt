@@ -107,14 +107,14 @@ module _ (g : Setting) where
 module _ (g : Setting) (game : IsGame g.game) (some_ring : 0 < g.ring) where
   module _ (log : Log) (legal : IsLegalLog g log) (closed : IsClosed g log) where
     resting : (v : ℕ) → v < g.game.graph.vertices → IsNeutral g v (part_in g log v)
-    resting = all_neutral g game some_ring log legal closed.1
+    resting = all_neutral g game some_ring log legal closed
 
     -- ---- no later event changes a part, but the stopper's
 
     pub at_rest : AtRest g log
     at_rest = record {
       passive = λ v l. (resting v l).passive;
-      taken = λ e l. (let c = all_counts g game some_ring log legal closed.1 e l in let c2 = c.2 in let c3 = c.3 in omega arith);
+      taken = λ e l. (let c = all_counts g game some_ring log legal closed e l in let c2 = c.2 in let c3 = c.3 in omega arith);
       end = closed.0;
     }
 
@@ -139,12 +139,12 @@ module _ (g : Setting) (game : IsGame g.game) (some_ring : 0 < g.ring) where
     still_step (Take e) seen next ne = rested g game some_ring log legal at_rest (Take e) seen next
     still_step (Ack e) seen next ne =
         let may = rules_met g (Ack e) (part_in g log (head_of g e)) next.1.0 in
-        let c = all_counts g game some_ring log legal closed.1 e may.0 in
+        let c = all_counts g game some_ring log legal closed e may.0 in
         let c1 = c.1 in let some = may.1 in absurd (omega arith)
     still_step (Settle e) seen next ne =
         let s : Part = part_in g log (tail_of g e) in
         let l = rules_met g (Settle e) s next.1.0 in
-        let c = all_counts g game some_ring log legal closed.1 e l in
+        let c = all_counts g game some_ring log legal closed e l in
         let c0 = c.0 in
         let is : seen ≡ (into_in g log e).acked = next.1.1 in
         settled_still s e seen (omega arith) s.ended refl
@@ -152,7 +152,7 @@ module _ (g : Setting) (game : IsGame g.game) (some_ring : 0 < g.ring) where
         let s : Part = part_in g log (root g) in
         let e : ℕ = root_edge g 0 in
         let some = game.graph_fits.some_vertex in
-        let c = all_counts g game some_ring log legal closed.1 e (omega arith) in
+        let c = all_counts g game some_ring log legal closed e (omega arith) in
         let c0 = c.0 in
         let at : tail_of g e ≡ root g = tail_root g e (omega arith) in
         let mine : (out_in g log e).settled ≡ (s.out e).settled =
@@ -180,7 +180,7 @@ module _ (g : Setting) (game : IsGame g.game) (some_ring : 0 < g.ring) where
 
     none_in_flight : (e : ℕ) → e < all_edges g → counts_in_flight g log e ≡ []
     none_in_flight e l =
-        let c = all_counts g game some_ring log legal closed.1 e l in
+        let c = all_counts g game some_ring log legal closed e l in
         let c2 = c.2 in let c3 = c.3 in
         let long = length-sent_counts (out_in g log e).link in
         drop_all (length (into_in g log e).got) (sent_counts (out_in g log e).link) (omega arith)

@@ -2,22 +2,24 @@
 -- then there is something to do, and if everything is asked for in vain it is closed.
 use Rattle.chip_core.proofs.Names.{nat_tests, rules, ◌≡◌, ◌≢◌, ◌⊎◌, ℕ, ◌+◌, ◌<◌, ◌≤◌, true, false, not, ◌&&◌, eqb}
 use Rattle.chip_core.proofs.Names.{List, [], ◌∷◌, length, Option, Some, None, option_to_list, Contains, refl, sym, ap}
-use Rattle.chip_core.proofs.Names.{◌∙◌, subst, arith, inl, inr, ⊎_elim, eqb-true, eq-eqb, zero, suc, Bool, cond, ltb}
+use Rattle.chip_core.proofs.Names.{◌∙◌, arith, inl, inr, ⊎_elim, eqb-true, eq-eqb, zero, suc, Bool, cond, ltb}
 use Rattle.chip_core.proofs.Names.{is_some, ltb-true, lt-ltb, ◌++◌, append-nil, append_assoc, ltb-false, eqb-false}
 use Rattle.chip_core.proofs.Names.{not-true, and_parts, IsGame, tested_none, cond_yes, cond_no, by_test, tested_term}
-use Rattle.chip_core.proofs.Names.{claims_of, Tail, after_clear, none_held, Setting, Cause, Part, is_running, owed}
-use Rattle.chip_core.proofs.Names.{may_ack, deficit, pending_of, unput_count, is_passive, is_legal, refusals, cause}
-use Rattle.chip_core.proofs.Names.{tail_inside as own_edge, in_zero, may_le, rests, idle_little, Log, Out, part_in}
-use Rattle.chip_core.proofs.Names.{out_in, into_in, IsLegalLog, IsSettled, IsClosed, outstanding, tail_of, head_of}
-use Rattle.chip_core.proofs.Names.{root, all_edges, graph_edges, Event, Part, Take, Ack, Fire, Clear, Claim, Put, Halt}
-use Rattle.chip_core.proofs.Names.{Settle, unmet_rule, fired_by, sees, Rule, Feed, step, log_after, IsTree}
-use Rattle.chip_core.proofs.Names.{IsDetectionOrder, HasEnd, Advances, AsksFor, AsksForEverything, dite}
+use Rattle.chip_core.proofs.Names.{claims_of, Tail, after_clear, none_held, Setting, Cause, Part, is_running}
+use Rattle.chip_core.proofs.Names.{may_ack, pending_of, unput_count, is_passive, is_legal, refusals, cause}
+use Rattle.chip_core.proofs.Names.{tail_inside as own_edge, may_le, Log, Out, part_in}
+use Rattle.chip_core.proofs.Names.{out_in, into_in, IsLegalLog, IsClosed, tail_of, head_of}
+use Rattle.chip_core.proofs.Names.{all_edges, graph_edges, Event, Part, Take, Ack, Fire, Clear, Claim, Put, Halt}
+use Rattle.chip_core.proofs.Names.{Settle, unmet_rule, fired_by, sees, Rule, Feed, step, log_after}
+use Rattle.chip_core.proofs.Names.{HasEnd, Advances, AsksFor, AsksForEverything, dite}
 use Rattle.chip_core.proofs.Names.{ℕ_discrete, dec_lt, SealedEdge, FiringLimit, saw, link_after, tail_graph, met_rules}
 use Rattle.chip_core.proofs.Names.{running, rules_met, some_of, is_none_of, acting_part, counts_as_work, is_refusal}
-use Rattle.chip_core.proofs.Names.{work_in, refusals_in, contains_later, contains_nothing, contained, none_some}
+use Rattle.chip_core.proofs.Names.{work_in, refusals_in}
 use Rattle.chip_core.proofs.Names.{contains_cases}
 use Rattle.chip_core.proofs.LogLemmas.{part_kept, head_inside, edge_counts, tail_inside, link_step}
-use Rattle.chip_core.proofs.OrderLemmas.{detection_order}
+use Rattle.chip_core.proofs.InstanceLemmas.{net, was, events_of, is_network, legal_there, shows, may_same}
+use Rattle.chip_core.proofs.OrderLemmas.{silent_there, closed_here}
+use Rattle.chip_diffusing.proofs.DueLemmas as diffusing
 use Rattle.chip_core.proofs.NumberLemmas.{empty_is}
 use Rattle.chip_core.proofs.ReachingLemmas.{step_legal, run_legal}
 use Rattle.chip_core.proofs.ReplyLemmas.{log_after-append}
@@ -40,97 +42,45 @@ module _ (g : Setting) where
     pub sent : (e : ℕ) → e < graph_edges g → (part_in g log (tail_of g e)).halt ≡ None
         → claims_of (out_in g log e).link ≢ length (into_in g log e).got + g.ring → (out_in g log e).pending ≡ 0
 
-  module _ (log : Log) where
-    -- the parent edge of a member of a tree comes from an earlier one, or from the root
-    first_parent : (v : ℕ) (vs : List ℕ) → IsTree g log (v ∷ vs) → (h q : ℕ) → h ≡ v → (part_in g log h).parent ≡ Some q
-        → (tail_of g q ≡ root g) ⊎ Contains vs (tail_of g q)
-    first_parent v vs tree h q here is =
-        let p = tree.2.1 in
-        let mine = p.parent in
-        let same : tree.2.0 ≡ q = cc in
-        rw (← same) p.from_earlier
-
-    pub parent_below : (v : ℕ) (vs : List ℕ) → IsTree g log (v ∷ vs) → (h q : ℕ) → Contains (v ∷ vs) h
-        → (part_in g log h).parent ≡ Some q → (tail_of g q ≡ root g) ⊎ Contains vs (tail_of g q)
-    parent_below v [] tree h q m is = ⊎_elim (λ here. first_parent v [] tree h q here is)
-        (λ later. absurd (contains_nothing h later)) (contains_cases v [] h m)
-    parent_below v (u ∷ us) tree h q m is = ⊎_elim (λ here. first_parent v (u ∷ us) tree h q here is)
-        (λ later. ⊎_elim (λ r. inl r) (λ c. inr (contains_later u us (tail_of g q) c))
-        (parent_below u us tree.0 h q later is)) (contains_cases v (u ∷ us) h m)
-
   module _ (game : IsGame g.game) (some_ring : 0 < g.ring) (log : Log) (legal : IsLegalLog g log) (quiet : Quiet log) where
-    -- what is outstanding on an edge, its head owes
-    owes_it : (e : ℕ) → e < all_edges g → outstanding (out_in g log e) ≤ owed (into_in g log e)
-    owes_it e l =
-        let a = quiet.taken e l in let b = none_held (out_in g log e).link (quiet.put e l) in let c = quiet.settled e l in
-        omega arith
-
     -- an edge, by the part of its tail
     by_tail : {A : Type 0} (field : Out → A) (e v : ℕ) → tail_of g e ≡ v
         → field ((part_in g log v).out e) ≡ field (out_in g log e)
     by_tail field e v at = cc
 
-    -- the latest vertex of a detection order: what it sent is acknowledged and settled, so it would be done
-    module _ (v : ℕ) (vs : List ℕ) (order : IsDetectionOrder g log (v ∷ vs)) where
-      abbrev s : Part
-      s = part_in g log v
+    no_unput : (v : ℕ) → unput_count g v (part_in g log v) ≡ 0
+    no_unput v = tested_none (all_edges g) (λ i. eqb (tail_of g i) v)
+        (λ i. length (option_to_list ((part_in g log v).out i).link.held))
+        (λ i l on. (let a = by_tail (λ o. length (option_to_list o.link.held)) i v (eqb-true (tail_of g i) v on) in
+        let b = quiet.put i l in cc))
 
-      inside : v < g.game.graph.vertices
-      inside = rw (← order.tree.2.1.head)
-          (head_inside g game order.tree.2.0 order.tree.2.1.is_edge)
+    no_pending : (v : ℕ) → v < g.game.graph.vertices → (part_in g log v).halt ≡ None
+        → pending_of g v (part_in g log v) ≡ 0
+    no_pending v inside runs = tested_none (all_edges g) (λ i. eqb (tail_of g i) v)
+        (λ i. ((part_in g log v).out i).pending)
+        (λ i l on.
+        let at = eqb-true (tail_of g i) v on in
+        let own : i < graph_edges g = own_edge g i (omega arith) in
+        let here = by_tail (λ o. o.pending) i v at in
+        let none = quiet.sent i own (cc) (λ full. (let b = quiet.taken i l in
+        let c = none_held (out_in g log i).link (quiet.put i l) in absurd (omega arith))) in cc)
 
-      no_child : (i : ℕ) → i < all_edges g → tail_of g i ≡ v → (part_in g log (head_of g i)).parent ≡ Some i → ⊥
-      no_child i l at is = ⊎_elim
-          (λ m. ⊎_elim (λ r. absurd (let a = inside in omega arith)) (λ c. order.tree.1 (subst (Contains vs) at c))
-          (parent_below log v vs order.tree (head_of g i) i m is))
-          (λ out. none_some i (part_in g log (head_of g i)).parent
-          (order.others (head_of g i) (head_inside g game i l) out).no_parent is)
-          (contained (v ∷ vs) (head_of g i))
+    all_taken : (e : ℕ) → e < all_edges g → claims_of (out_in g log e).link ≤ length (into_in g log e).got
+    all_taken e l = let a = quiet.taken e l in let b = none_held (out_in g log e).link (quiet.put e l) in omega arith
 
-      none_out : (i : ℕ) → i < all_edges g → tail_of g i ≡ v → outstanding (out_in g log i) ≡ 0
-      none_out i l at = ⊎_elim
-          (λ none. let a = owes_it i l in omega arith)
-          (λ one. absurd (no_child i l at one.0))
-          (idle_little g (head_of g i) i (part_in g log (head_of g i)) (quiet.acked i l))
-
-      no_deficit : deficit g v s ≡ 0
-      no_deficit = tested_none (all_edges g) (λ i. eqb (tail_of g i) v) (λ i. outstanding (s.out i))
-          (λ i l on. let at = eqb-true (tail_of g i) v on in by_tail outstanding i v at ∙ none_out i l at)
-
-      no_unput : unput_count g v s ≡ 0
-      no_unput = tested_none (all_edges g) (λ i. eqb (tail_of g i) v) (λ i. length (option_to_list (s.out i).link.held))
-          (λ i l on. (let a = by_tail (λ o. length (option_to_list o.link.held)) i v (eqb-true (tail_of g i) v on) in
-          let b = quiet.put i l in cc))
-
-      no_pending : s.halt ≡ None → pending_of g v s ≡ 0
-      no_pending runs = tested_none (all_edges g) (λ i. eqb (tail_of g i) v) (λ i. (s.out i).pending)
-          (λ i l on.
-          let at = eqb-true (tail_of g i) v on in
-          let a = inside in
-          let own : i < graph_edges g = own_edge g i (omega arith) in
-          let here = by_tail (λ o. o.pending) i v at in
-          let none = quiet.sent i own (cc) (λ full. (let b = quiet.taken i l in
-          let c = none_held (out_in g log i).link (quiet.put i l) in absurd (omega arith))) in cc)
-
-      passive : is_passive g v s ≡ true
-      passive = idle_passive g v s no_unput no_pending (quiet.fired v inside)
-
-      none_latest : ⊥
-      none_latest = ⊎_elim (λ none. none_some order.tree.2.0 s.parent none order.tree.2.1.parent)
-          (λ more. absurd (let a = no_deficit in omega arith))
-          (rests g v s (part_kept g game log legal v) passive
-          (λ i l at. rw (← at) (quiet.acked i l)))
-
-    all_settled : (vs : List ℕ) → IsDetectionOrder g log vs → IsSettled g log
-    all_settled [] order = λ i l at.
-        let rest = order.others (head_of g i) (head_inside g game i l) (contains_nothing (head_of g i)) in
-        let none : owed (into_in g log i) ≡ 0 = in_zero g (head_of g i)
-        (λ k. owed ((part_in g log (head_of g i)).into k)) rest.nothing_owed i l refl in
-        let a = owes_it i l in omega arith
-    all_settled (v ∷ vs) order = absurd (none_latest v vs order)
-
+    -- so nobody has anything to acknowledge or to settle in the computation that this is
     pub quiet_closes : HasEnd g log → IsClosed g log
-    quiet_closes end = let o = detection_order g game some_ring log legal in (end, all_settled o.0 o.1)
+    quiet_closes end = closed_here g game some_ring log legal (diffusing.quiet_closes (net g)
+        (is_network g game some_ring) (was g log)
+        (record {
+          heard = λ e l. let a = quiet.settled e l in let b = (shows g log).acked e l in
+              let c = (shows g log).settled e l in omega arith;
+          given = λ e l. may_same g e (head_of g e) (part_in g log (head_of g e)) l refl (head_inside g game e l)
+              ∙ quiet.acked e l;
+        })
+        (events_of g log) (legal_there g game some_ring log legal)
+        (silent_there g game some_ring log legal (λ v inside. idle_passive g v (part_in g log v) (no_unput v)
+        (no_pending v inside) (quiet.fired v inside)) all_taken end))
 
 -- the first number that passes a test, or none does
 find : (n : ℕ) (test : ℕ → Bool) → ((k : ℕ) × (k < n) × (test k ≡ true)) ⊎ ((k : ℕ) → k < n → test k ≡ false)

@@ -133,7 +133,7 @@ module _ (g : Setting) where
   pub at_root : (p : ℕ) (s : Part) → p ≡ root g → passive_of g p s ≡ s.ended
   at_root p s at = grind (arith, nat_tests)
 
-  may_same : (e p : ℕ) (s : Part) → e < all_edges g → head_of g e ≡ p → p < root g
+  pub may_same : (e p : ℕ) (s : Part) → e < all_edges g → head_of g e ≡ p → p < root g
       → detect.may_ack (books_of p s) e (passive_of g p s) ≡ part.may_ack g p s e
   may_same e p s l at vertex =
       let here = side_open (ins p) (λ i. length (s.into i).got) (λ i. (s.into i).acked) e (in_ins e p l at) in
@@ -294,7 +294,7 @@ module _ (g : Setting) where
         (seen - Rattle.chip_detect.specs.Books.settled_of (books_of q s) e) (in_outs e q l at) (λ i m. refl)
         (λ i m. grind (arith, nat_tests))
 
-    is_network : IsNetwork net
+    pub is_network : IsNetwork net
     is_network = record {
       root = omega arith;
       tails = λ e l. tail_part e;
@@ -331,7 +331,7 @@ module _ (g : Setting) where
         (omega arith) refl (λ on. at_root r (does g (saw End seen) s) refl) in
         (world mid, (was log, refl, first), second)
 
-    one_event : (ev : Event) (seen : ℕ) (log : Log) → IsLegalLog g (saw ev seen ∷ log)
+    pub one_event : (ev : Event) (seen : ℕ) (log : Log) → IsLegalLog g (saw ev seen ∷ log)
         → Leads net (was log) (events_by ev seen (part_in g log (part_of g ev))) (was (saw ev seen ∷ log))
     one_event (Take e) seen log legal =
         let h : ℕ = head_of g e in

@@ -1,13 +1,13 @@
 mod Names
 pub mod LogLemmas
 pub mod SettledLemmas
-pub mod OrderLemmas
 pub mod GivenLemmas
 pub mod PositionLemmas
 pub mod ReachingLemmas
 pub mod ReplyLemmas
 pub mod NumberLemmas
 pub mod InstanceLemmas
+pub mod OrderLemmas
 pub mod ClosingLemmas
 pub mod ReadLemmas
 pub mod MessageLemmas

@@ -90,7 +90,7 @@ module _ (g : Setting) (game : IsGame g.game) (some_ring : 0 < g.ring) where
           acks = λ e l. (let head = at_head new log is.same e l in let was = shown.acks e l in cc);
           fired = λ v l. (let part = is.same v (no_stopper v (omega arith)) in let was = shown.fired v l in cc);
         };
-        acks = λ e l. (let c = all_counts g game some_ring new legal is.closed.1 e l in
+        acks = λ e l. (let c = all_counts g game some_ring new legal is.closed e l in
             let c1 = c.1 in let c2 = c.2 in let c3 = c.3 in omega arith);
       }
 
@@ -277,7 +277,7 @@ module _ (g : Setting) (game : IsGame g.game) (some_ring : 0 < g.ring) where
     all_asked = record {
       takes = λ e l. inl (let made = take_made g game some_ring before xs round legal none put e l in
           events_have xs (saw (Take e) made.0) made.1);
-      acks = λ e l. inr (unmet (Ack e) (λ may. (let c = (all_counts g game some_ring now legal closed.1 e l).1 in
+      acks = λ e l. inr (unmet (Ack e) (λ may. (let c = (all_counts g game some_ring now legal closed e l).1 in
           let some = (rules_met g (Ack e) (part_in g now (head_of g e)) may).1 in absurd (omega arith))));
       settles = λ e l. inl (let made = settle_made g game some_ring before xs round legal none put e l in
           events_have xs (saw (Settle e) made.0) made.1);

@@ -1,54 +1,33 @@
--- Serves Soon.antt, Detection.antt.
--- Soon after the end each round takes the lowest level off the tree, until the root is closed.
-use Rattle.chip_core.proofs.Names.{◌≡◌, ◌⊎◌, ℕ, zero, suc, ◌+◌, ◌-◌, ◌<◌, ◌≤◌, eqb, List, [], ◌∷◌, ◌++◌, length, Some}
-use Rattle.chip_core.proofs.Names.{None, Contains, refl, sym, ap, ◌∙◌, subst, arith, inl, inr, ⊎_elim, eqb-true}
-use Rattle.chip_core.proofs.Names.{pos_of_ne-zero, append_assoc, length-drop, Contains-append_left}
-use Rattle.chip_core.proofs.Names.{Contains-append_right, dite, ℕ_discrete, dec_lt, IsGame, cond_yes, tested_none}
-use Rattle.chip_core.proofs.Names.{claims_of, sent_counts, length-sent_counts, Setting, owed, may_ack, deficit, saw}
-use Rattle.chip_core.proofs.Names.{settled_after, in_zero, at_edge, rules_met, rests, was_parent, idle_little}
-use Rattle.chip_core.proofs.Names.{nothing_left, Log, Step, Event, Part, Take, Ack, Settle, part_of, does, part_in}
-use Rattle.chip_core.proofs.Names.{out_in, into_in, IsLegalLog, IsClosed, outstanding, tail_of, head_of}
-use Rattle.chip_core.proofs.Names.{all_edges, graph_edges, messages_from, counts_in_flight, IsTree}
-use Rattle.chip_core.proofs.Names.{IsDetectionOrder, done_by, HasTurn, HasRounds, HasTerminated, IsAtMostDeep}
-use Rattle.chip_core.proofs.Names.{HasRoundInOrder, DepthCloses, DepthClosesLater, DepthIsCounted, nat_tests, place_in}
-use Rattle.chip_core.proofs.Names.{few_places, contained, cases_option, none_some, contains_cases}
-use Rattle.chip_core.proofs.LogLemmas.{part_kept, settled_step, acked_step, head_inside, tail_inside, acked_grows}
-use Rattle.chip_core.proofs.LogLemmas.{settled_grows, legal_before, in_pieces}
-use Rattle.chip_core.proofs.DueLemmas.{parent_below}
+-- Serves Soon.antt, Detection.antt. Rounds of the core are rounds of the computation that it is, so soon after the end
+-- they close the root by the theorem on these.
+use Rattle.chip_core.proofs.Names.{◌≡◌, ℕ, zero, suc, ◌+◌, ◌-◌, ◌<◌, ◌≤◌, List, [], ◌∷◌, ◌++◌, length, Some, None}
+use Rattle.chip_core.proofs.Names.{Contains, refl, sym, ap, ◌∙◌, subst, arith, ⊎_elim, append_assoc, length-drop}
+use Rattle.chip_core.proofs.Names.{Contains-append_left, Contains-append_right, dite, dec_lt, IsGame, cond_yes}
+use Rattle.chip_core.proofs.Names.{claims_of, sent_counts, length-sent_counts, Setting, owed, saw, Part}
+use Rattle.chip_core.proofs.Names.{settled_after, nothing_left, Log, Step, Event, Settle, part_in, out_in, into_in}
+use Rattle.chip_core.proofs.Names.{IsLegalLog, IsClosed, tail_of, head_of, root, all_edges, graph_edges, messages_from}
+use Rattle.chip_core.proofs.Names.{counts_in_flight, IsTree, IsDetectionOrder, done_by, HasTurn, HasRounds}
+use Rattle.chip_core.proofs.Names.{HasTerminated, IsAtMostDeep, HasRoundInOrder, DepthCloses, DepthClosesLater}
+use Rattle.chip_core.proofs.Names.{DepthIsCounted, nat_tests, cases_option, contains_cases}
+use Rattle.chip_core.proofs.LogLemmas.{part_kept, settled_step, acked_step, head_inside, tail_inside, tail_cases}
+use Rattle.chip_core.proofs.LogLemmas.{acked_grows, settled_grows, legal_before, in_pieces}
 use Rattle.chip_core.proofs.RoundLemmas.{makes_turn, settles_all, own_in}
-use Rattle.chip_core.proofs.ClosingLemmas.{AtRest, rested, same_up, rests_on}
-use Rattle.chip_core.proofs.SettledLemmas.{settled_up}
 use Rattle.chip_core.proofs.ReachingLemmas.{part_own}
+use Rattle.chip_core.proofs.InstanceLemmas.{net, ins, was, events_of, is_network, legal_there, one_event, in_ins, shows}
+use Rattle.chip_core.proofs.InstanceLemmas.{may_same}
+use Rattle.chip_core.proofs.OrderLemmas.{silent_there, closed_here}
+use Rattle.chip_diffusing.specs.Computation as diffusing
+use Rattle.chip_diffusing.specs.Ending as rounds
+use Rattle.chip_diffusing.proofs.CountedLemmas.{side_open}
+use Rattle.chip_diffusing.proofs.KeptLemmas.{legal_kept}
+use Rattle.chip_diffusing.proofs.SilentLemmas.{leads_on}
+use Rattle.chip_diffusing.proofs.DepthLemmas as theorem
 
 no_messages : (e place : ℕ) (counts : List ℕ) → messages_from e place counts ≡ [] → length counts ≡ 0
 no_messages e place [] is = refl
 no_messages e place (c ∷ cs) is = absurd (grind (arith, nat_tests))
 
--- ---- the place in a detection order as a level
-
 module _ (g : Setting) where
-  module _ (game : IsGame g.game) (log : Log) where
-    places_fall : (vs : List ℕ) → IsTree g log vs → (v e : ℕ) → Contains vs v → (part_in g log v).parent ≡ Some e
-        → place_in vs (tail_of g e) < place_in vs v
-    unfolding place_in
-    places_fall [] tree v e m is = let a = m.1 in absurd (omega arith)
-    places_fall (u ∷ us) tree v e m is =
-        let inside = subst (λ (w : ℕ). w < g.game.graph.vertices) tree.2.1.head (head_inside g game tree.2.0 tree.2.1.is_edge) in
-        let other : tail_of g e ≡ u → ⊥ = (λ z. ⊎_elim (λ r. absurd (omega arith))
-        (λ c. tree.1 (subst (Contains us) z c)) (parent_below g log u us tree v e m is)) in
-        let b = few_places us (tail_of g e) in let m' = contains_cases u us v m in
-        grind (arith, nat_tests, places_fall us tree.0 v e)
-
-    pub places_are_levels : (vs : List ℕ) → IsDetectionOrder g log vs → IsAtMostDeep g log (length vs)
-    places_are_levels vs order = record {
-      level = place_in vs;
-      below = λ v l e is. (
-        places_fall vs order.tree v e (⊎_elim (λ m. m)
-            (λ out. absurd (none_some e (part_in g log v).parent (order.others v l out).no_parent is)) (contained vs v)) is,
-        few_places vs v,
-      );
-    }
-
   -- ---- what is acknowledged and settled is never taken back
 
   acked_on : (xs log : Log) (e : ℕ) → (into_in g log e).acked ≤ (into_in g (xs ++ log) e).acked
@@ -73,251 +52,221 @@ module _ (g : Setting) where
       (contains_cases y ys x has)
 
   module _ (game : IsGame g.game) (some_ring : 0 < g.ring) where
-    at_rest : (log : Log) → HasTerminated g log → AtRest g log
-    at_rest log rest = record {
-      passive = rest.passive;
-      taken = λ e l.
-          let got : ℕ = length (into_in g log e).got in
-          let a = no_messages e got (counts_in_flight g log e) (rest.delivered e l) in
-          let b = length-drop got (sent_counts (out_in g log e).link) in
-          let c = length-sent_counts (out_in g log e).link in omega arith;
-      end = rest.end;
+    -- only a vertex has a parent
+    engaged_inside : (log : Log) → IsLegalLog g log → (p e : ℕ) → (part_in g log p).parent ≡ Some e
+        → p < g.game.graph.vertices
+    engaged_inside log legal p e is = let a = (part_kept g game log legal p).parents e is in
+        subst (λ (q : ℕ). q < g.game.graph.vertices) a.1 (head_inside g game e a.0)
+
+    -- ---- more steps lead on
+
+    abbrev Goes : diffusing.World → diffusing.World → Type 0
+    Goes = rounds.Goes (net g)
+
+    goes_on : (a b c : diffusing.World) → Goes a b → Goes b c → Goes a c
+    goes_on a b c one two = (two.0 ++ one.0, leads_on (net g) (is_network g game some_ring) a b c one.0 two.0 one.1 two.1)
+
+    goes : (xs log : Log) → IsLegalLog g (xs ++ log) → Goes (was g log) (was g (xs ++ log))
+    goes [] log legal = ([], refl)
+    goes (x ∷ xs) log legal = goes_on (was g log) (was g (xs ++ log)) (was g (x ∷ xs ++ log)) (goes xs log legal.0)
+        (_, one_event g game some_ring x.event x.seen (xs ++ log) legal)
+
+    -- ---- turns and rounds
+
+    module _ (before front round : Log) (legal : IsLegalLog g (round ++ (front ++ before))) where
+      abbrev end : Log
+      end = round ++ (front ++ before)
+
+      turn_there : (v : ℕ) → v < g.game.graph.vertices → HasTurn g v (front ++ before) round
+          → rounds.HasTurn (net g) (was g before) (was g end) v
+      turn_there v vertex turn =
+          let base : Log = turn.early ++ (front ++ before) in
+          let made : Log = turn.middle ++ base in
+          let same : end ≡ turn.late ++ made =
+          in_pieces turn.early turn.middle turn.late round (front ++ before) turn.all_are in
+          let all : IsLegalLog g (turn.late ++ made) = subst (IsLegalLog g) same legal in
+          let made_legal = legal_before g turn.late made all in
+          let base_legal = legal_before g turn.middle base made_legal in
+          let first = goes front before (legal_before g turn.early (front ++ before) base_legal) in
+          let second = goes turn.early (front ++ before) base_legal in
+          let third = goes turn.middle base made_legal in
+          let its = makes_turn g v (part_in g base v) (done_by g v turn.middle) turn.are_turn.0 turn.are_turn.1 in
+          record {
+            moment = was g made;
+            before = goes_on (was g before) (was g base) (was g made)
+                (goes_on (was g before) (was g (front ++ before)) (was g base) first second) third;
+            after = subst (λ (l : Log). Goes (was g made) (was g l)) (sym same) (goes turn.late made all);
+            heard = λ e out.
+                let found = settles_all g v (part_in g base v) (done_by g v turn.middle) turn.are_turn.0 turn.are_turn.1
+                vertex e out.1 in
+                let a = settle_seen turn.middle base made_legal (saw (Settle e) found.0)
+                (own_in g v turn.middle (saw (Settle e) found.0) found.1) e refl in
+                let b = acked_on turn.early (front ++ before) e in let c = acked_on front before e in
+                let d = (shows g before).acked e out.0 in let f = (shows g made).settled e out.0 in omega arith;
+            given = λ e into.
+                let own = part_own g v turn.middle base in
+                let none = nothing_left g v (part_in g base v) (done_by g v turn.middle) turn.are_turn.0 turn.are_turn.1 e
+                into.1 in
+                may_same g e v (part_in g made v) into.0 into.1 vertex ∙ (cc);
+          }
+
+      -- the stopper has nothing to do
+      round_there : ((v : ℕ) → v < g.game.graph.vertices → HasTurn g v (front ++ before) round)
+          → rounds.HasRound (net g) (was g before) (was g end)
+      round_there turns =
+          let whole = goes_on (was g before) (was g (front ++ before)) (was g end)
+          (goes front before (legal_before g round (front ++ before) legal)) (goes round (front ++ before) legal) in
+          record {
+            goes = whole;
+            turns = λ p l other. dite (dec_lt p g.game.graph.vertices) (λ v. turn_there p v (turns p v)) (λ past. record {
+              moment = was g end;
+              before = whole;
+              after = ([], refl);
+              heard = λ e out. ⊎_elim (λ z. absurd (other (sym out.1 ∙ z))) (λ z. let a = out.1 in absurd (omega arith))
+                  (tail_cases g game e);
+              given = λ e into. let a = head_inside g game e into.0 in let b = into.1 in absurd (omega arith);
+            });
+          }
+
+    -- n rounds, and then the root hears of what was acknowledged in them
+    record Ends (n : ℕ) (old end : diffusing.World) : Type 0 where
+      later : diffusing.World
+      rounds : rounds.HasRounds (net g) n old later
+      goes : Goes later end
+      heard : (e : ℕ) → e < all_edges g → tail_of g e ≡ root g
+          → diffusing.acked_on (net g) later e ≤ diffusing.settled_on (net g) end e
+
+    first_round : (n : ℕ) (a b c : diffusing.World) → rounds.HasRound (net g) a b → rounds.HasRounds (net g) n b c
+        → rounds.HasRounds (net g) (suc n) a c
+    first_round zero a b c one same = (a, refl, subst (rounds.HasRound (net g) a) same one)
+    first_round (suc n) a b c one (w, more, last) = (w, first_round n a b w one more, last)
+
+    one_more : (n : ℕ) (a b c : diffusing.World) → rounds.HasRound (net g) a b → Ends n b c → Ends (suc n) a c
+    one_more n a b c one ends = record {
+      later = ends.later;
+      rounds = first_round n a b ends.later one ends.rounds;
+      goes = ends.goes;
+      heard = ends.heard;
     }
 
-    -- ---- more steps
+    -- the root settles all its edges
+    settles_end : (xs log : Log) → IsLegalLog g (xs ++ log)
+        → ((e : ℕ) → graph_edges g ≤ e → e < all_edges g → (x : Step) × Contains xs x × (x.event ≡ Settle e))
+        → Ends 0 (was g log) (was g (xs ++ log))
+    settles_end xs log legal settles = record {
+      later = was g log;
+      rounds = refl;
+      goes = goes xs log legal;
+      heard = λ e l at.
+          let past : graph_edges g ≤ e = dite (dec_lt e (graph_edges g))
+          (λ own. absurd (let a = tail_inside g game e own in omega arith)) (λ n. omega arith) in
+          let x = settles e past l in let a = settle_seen xs log legal x.0 x.1 e x.2 in
+          let b = (shows g log).acked e l in let c = (shows g (xs ++ log)).settled e l in omega arith;
+    }
 
-    -- a parent edge was one before
-    step_parent : (log : Log) → IsLegalLog g log → AtRest g log → (ev : Event) (seen : ℕ) → IsLegalLog g (saw ev seen ∷ log)
-        → (e : ℕ) → (does g (saw ev seen) (part_in g log (part_of g ev))).parent ≡ Some e
-        → (part_in g log (part_of g ev)).parent ≡ Some e
-    step_parent log legal rest (Take i) seen next e is =
-        let a = rested g game some_ring log legal rest (Take i) seen next in cc
-    step_parent log legal rest (Ack i) seen next e is =
-        let may = rules_met g (Ack i) (part_in g log (head_of g i)) next.1.0 in
-        was_parent g (part_in g log (head_of g i)) i seen may.2 e is
-    step_parent log legal rest _ seen next e is = is
+    -- after all turns of the last round
+    in_order : (n : ℕ) (xs last log : Log) → IsLegalLog g (last ++ (xs ++ log)) → HasRounds g n log xs
+        → HasRoundInOrder g (xs ++ log) last → Ends (suc n) (was g log) (was g (last ++ (xs ++ log)))
+    in_order zero xs last log legal has round =
+        let turned : Log = round.front ++ (xs ++ log) in
+        let same : last ++ (xs ++ log) ≡ round.back ++ turned =
+        (let a = append_assoc round.back round.front (xs ++ log) in let b = round.all_are in cc) in
+        let all = subst (IsLegalLog g) same legal in
+        one_more 0 (was g log) (was g turned) (was g (last ++ (xs ++ log)))
+        (round_there log xs round.front (legal_before g round.back turned all) round.turns)
+        (subst (λ (l : Log). Ends 0 (was g turned) (was g l)) (sym same) (settles_end round.back turned all round.settles))
+    in_order (suc n) xs last log legal (front, round, back, is, has, more) order =
+        let mid : Log = round ++ (front ++ log) in
+        let same = in_pieces front round back xs log is in
+        let all = subst (λ (l : Log). IsLegalLog g (last ++ l)) same legal in
+        one_more (suc n) (was g log) (was g mid) (was g (last ++ (xs ++ log)))
+        (round_there log front round (legal_before g back mid (legal_before g last (back ++ mid) all)) has.turns)
+        (subst (λ (l : Log). Ends (suc n) (was g mid) (was g (last ++ l))) (sym same)
+        (in_order n back last mid all more (subst (λ (l : Log). HasRoundInOrder g l last) same order)))
 
-    record Later (log xs : Log) : Type 0 where
-      rest : AtRest g (xs ++ log)
-      same : (p : ℕ) → settled_up (part_in g (xs ++ log) p) ≡ settled_up (part_in g log p)
-      parent : (v e : ℕ) → (part_in g (xs ++ log) v).parent ≡ Some e → (part_in g log v).parent ≡ Some e
+    -- wherever in one more round
+    in_any_order : (n : ℕ) (xs log : Log) → IsLegalLog g (xs ++ log) → HasRounds g (suc n) log xs
+        → Ends n (was g log) (was g (xs ++ log))
+    in_any_order zero xs log legal (front, round, back, is, has, more) =
+        settles_end xs log legal (λ e past l. let x = has.settles e past l in (
+          x.0,
+          rw is (Contains-append_right back (round ++ front) x.0 (Contains-append_left round front x.0 x.1)),
+          x.2,
+        ))
+    in_any_order (suc n) xs log legal (front, round, back, is, has, more) =
+        let mid : Log = round ++ (front ++ log) in
+        let same = in_pieces front round back xs log is in
+        let all = subst (IsLegalLog g) same legal in
+        one_more n (was g log) (was g mid) (was g (xs ++ log))
+        (round_there log front round (legal_before g back mid all) has.turns)
+        (subst (λ (l : Log). Ends n (was g mid) (was g l)) (sym same) (in_any_order n back mid all more))
 
-    later : (xs log : Log) → IsLegalLog g (xs ++ log) → AtRest g log → Later log xs
-    later [] log legal rest = record { rest = rest; same = λ p. refl; parent = λ v e is. is }
-    later (x ∷ xs) log legal rest =
-        let old = later xs log legal.0 rest in
-        record {
-          rest = rests_on g game some_ring (xs ++ log) legal.0 old.rest x legal;
-          same = λ p. same_up g game some_ring (xs ++ log) legal.0 old.rest x legal p ∙ old.same p;
-          parent = λ v e is. old.parent v e (at_edge
-              (λ p (s : Part). s.parent ≡ Some e → (part_in g (xs ++ log) p).parent ≡ Some e) (part_of g x.event)
-              (λ p. does g x (part_in g (xs ++ log) p)) (part_in g (xs ++ log))
-              (step_parent (xs ++ log) legal.0 old.rest x.event x.seen legal e) (λ p on. on) v is);
-        }
+    -- ---- by the theorem
 
-    -- a vertex without a parent owes nothing
-    owes_none : (log : Log) → IsLegalLog g log → (e : ℕ) → e < all_edges g → (part_in g log (head_of g e)).parent ≡ None
-        → owed (into_in g log e) ≡ 0
-    owes_none log legal e l none = in_zero g (head_of g e) (λ i. owed ((part_in g log (head_of g e)).into i))
-        ((part_kept g game log legal (head_of g e)).neutral (head_inside g game e l) none).nothing_owed e l refl
+    closes : (log new : Log) → IsLegalLog g log → IsLegalLog g new → HasTerminated g log → (depth : ℕ)
+        → IsAtMostDeep g log depth → Ends (suc depth) (was g log) (was g new) → IsClosed g new
+    closes log new legal new_legal over depth deep ends =
+        let taken : (e : ℕ) → e < all_edges g → claims_of (out_in g log e).link ≤ length (into_in g log e).got = λ e l.
+        let got : ℕ = length (into_in g log e).got in
+        let a = no_messages e got (counts_in_flight g log e) (over.delivered e l) in
+        let b = length-drop got (sent_counts (out_in g log e).link) in
+        let c = length-sent_counts (out_in g log e).link in omega arith in
+        closed_here g game some_ring new new_legal (theorem.depth_closes (net g) (is_network g game some_ring)
+        (events_of g log) (was g log) (legal_there g game some_ring log legal)
+        (silent_there g game some_ring log legal over.passive taken over.end) depth
+        (record { level = deep.level; below = λ p l e is. deep.below p (engaged_inside log legal p e is) e is })
+        ends.later (was g new) ends.rounds ends.goes (λ e out. ends.heard e out.0 out.1))
 
-    -- what is owed on this edge is owed on a parent edge
-    abbrev OwedToParent : Log → ℕ → Type 0
-    OwedToParent log e = 0 < owed (into_in g log e) → (part_in g log (head_of g e)).parent ≡ Some e
+    -- ---- the core's trees are trees there
 
-    owed_on : (xs log : Log) → IsLegalLog g (xs ++ log) → AtRest g log → (e : ℕ) → e < all_edges g → OwedToParent log e
-        → OwedToParent (xs ++ log) e
-    owed_on xs log legal rest e l here some =
-        let on = later xs log legal rest in
-        let a = acked_on xs log e in
-        let b = ap (λ (s : Part). length (s.into e).got) (on.same (head_of g e)) in
-        ⊎_elim (λ none. absurd (let c = owes_none (xs ++ log) legal e l none in omega arith))
-        (λ q. (let d = on.parent (head_of g e) q.0 q.1 in let f = here (omega arith) in cc))
-        (cases_option (part_in g (xs ++ log) (head_of g e)).parent)
-
-    -- ---- a turn of each vertex
-
-    module _ (before xs : Log) (legal : IsLegalLog g (xs ++ before)) (rest : AtRest g before) (turns : (v : ℕ)
-        → v < g.game.graph.vertices → HasTurn g v before xs) where
-      module _ (v : ℕ) (vertex : v < g.game.graph.vertices) where
-        abbrev its : HasTurn g v before xs
-        its = turns v vertex
-
-        abbrev base : Log
-        base = its.early ++ before
-
-        abbrev made : Log
-        made = its.middle ++ base
-
-        all_is : xs ++ before ≡ its.late ++ made
-        all_is = in_pieces its.early its.middle its.late xs before its.all_are
-
-        all_legal : IsLegalLog g (its.late ++ made)
-        all_legal = subst (IsLegalLog g) all_is legal
-
-        made_legal : IsLegalLog g made
-        made_legal = legal_before g its.late made all_legal
-
-        to_base : Later before its.early
-        to_base = later its.early before (legal_before g its.middle base made_legal) rest
-
-        to_made : Later base its.middle
-        to_made = later its.middle base made_legal to_base.rest
-
-        none_left : (e : ℕ) → head_of g e ≡ v → may_ack g v (part_in g made v) e ≡ 0
-        none_left e at =
-            let a = part_own g v its.middle base in
-            let b = makes_turn g v (part_in g base v) (done_by g v its.middle) its.are_turn.0 its.are_turn.1 in
-            let c = nothing_left g v (part_in g base v) (done_by g v its.middle) its.are_turn.0 its.are_turn.1 e at in
-            cc
-
-        -- if nothing was owed to it, it is engaged no more
-        freed : ((e : ℕ) → e < all_edges g → tail_of g e ≡ v → owed (into_in g before e) ≡ 0) → (q : ℕ)
-            → (part_in g (xs ++ before) v).parent ≡ Some q → ⊥
-        freed clean q is =
-            let s : Part = part_in g made v in
-            let engaged = (later its.late made all_legal to_made.rest).parent v q
-            (rw (← all_is) is) in
-            let none : deficit g v s ≡ 0 = tested_none (all_edges g) (λ e. eqb (tail_of g e) v) (λ e. outstanding (s.out e))
-            (λ e l on.
-            let at = eqb-true (tail_of g e) v on in
-            let found = settles_all g v (part_in g base v) (done_by g v its.middle) its.are_turn.0 its.are_turn.1 vertex e at in
-            let a = settle_seen its.middle base made_legal (saw (Settle e) found.0)
-            (own_in g v its.middle (saw (Settle e) found.0) found.1) e refl in
-            let b = acked_on its.early before e in let c = clean e l at in let d = rest.taken e l in
-            let f = ap (λ (p : Part). claims_of (p.out e).link) (to_made.same (tail_of g e) ∙ to_base.same (tail_of g e)) in
-            let zero : outstanding (out_in g made e) ≡ 0 = omega arith in
-            ap (λ (p : ℕ). outstanding ((part_in g made p).out e)) (sym at) ∙ zero) in
-            ⊎_elim (λ free. none_some q s.parent free engaged) (λ more. absurd (omega arith))
-            (rests g v s (part_kept g game made made_legal v) (to_made.rest.passive v vertex) (λ e l at. none_left e at))
-
-      -- what is owed afterwards is owed on parent edges alone
-      owed_left : (e : ℕ) → e < all_edges g → OwedToParent (xs ++ before) e
-      owed_left e l =
-          let v : ℕ = head_of g e in let vertex = head_inside g game e l in
-          rw (all_is v vertex) (owed_on (turns v vertex).late (made v vertex) (all_legal v vertex)
-          (to_made v vertex).rest e l (λ some. ⊎_elim (λ none. absurd (omega arith)) (λ one. one.0)
-          (idle_little g v e (part_in g (made v vertex) v) (none_left v vertex e refl))))
-
-    -- ---- level by level
-
-    module _ (level : ℕ → ℕ) where
-      abbrev Deep : Log → ℕ → Type 0
-      Deep log n = (v : ℕ) → v < g.game.graph.vertices → (e : ℕ) → (part_in g log v).parent ≡ Some e
-          → (level (tail_of g e) < level v) × (level v ≤ n)
-
-      -- at most n rounds free all: the tree is n deep, and what is owed is owed on its edges; or it is one less deep
-      abbrev Left : Log → ℕ → Type 0
-      Left log n = AtRest g log × ((((e : ℕ) → e < all_edges g → OwedToParent log e) × Deep log n)
-          ⊎ ((k : ℕ) × (n ≡ suc k) × Deep log k))
-
-      deep_on : (xs log : Log) → IsLegalLog g (xs ++ log) → AtRest g log → (n : ℕ) → Deep log n → Deep (xs ++ log) n
-      deep_on xs log legal rest n deep v l e is = deep v l e ((later xs log legal rest).parent v e is)
-
-      left_on : (xs log : Log) → IsLegalLog g (xs ++ log) → (n : ℕ) → Left log n → Left (xs ++ log) n
-      left_on xs log legal n (rest, left) = (
-        (later xs log legal rest).rest,
-        ⊎_elim (λ tree. inl (
-          λ e l. owed_on xs log legal rest e l (tree.0 e l),
-          deep_on xs log legal rest n tree.1,
-        )) (λ less. inr (less.0, less.1, deep_on xs log legal rest less.0 less.2)) left,
-      )
-
-      -- a round less, after a turn of each vertex
-      lower : (xs log : Log) → IsLegalLog g (xs ++ log) → (n : ℕ) → Left log (suc n)
-          → ((v : ℕ) → v < g.game.graph.vertices → HasTurn g v log xs) → Left (xs ++ log) n
-      lower xs log legal n (rest, left) turns = (
-        (later xs log legal rest).rest,
-        inl (⊎_elim (λ tree. (
-          λ e l. owed_on xs log legal rest e l (tree.0 e l),
-          λ v vertex e is. (
-            (deep_on xs log legal rest (suc n) tree.1 v vertex e is).0,
-            dite (dec_lt n (level v))
-                (λ lowest. absurd (freed log xs legal rest turns v vertex (λ i l at.
-                dite (ℕ_discrete (owed (into_in g log i)) 0) (λ z. z) (λ some. absurd (
-                let child = tree.1 (head_of g i) (head_inside g game i l) i (tree.0 i l (pos_of_ne-zero some)) in
-                let a = ap level at in let b = child.0 in let c = child.1 in omega arith))) e is))
-                (λ above. omega arith),
-          ),
-        )) (λ less. (
-          owed_left log xs legal rest turns,
-          λ v vertex e is. (let old = deep_on xs log legal rest less.0 less.2 v vertex e is in let a = less.1 in
-              let b = old.1 in (old.0, omega arith)),
-        )) left),
-      )
-
-      flat : (log : Log) → Left log 0 → Deep log 0
-      flat log (rest, left) = ⊎_elim (λ tree. tree.1) (λ less. absurd (let a = less.1 in omega arith)) left
-
-      -- if nobody is engaged, settles of the root close it
-      settles_close : (xs log : Log) → IsLegalLog g (xs ++ log) → AtRest g log → Deep log 0
-          → ((e : ℕ) → graph_edges g ≤ e → e < all_edges g → (x : Step) × Contains xs x × (x.event ≡ Settle e))
-          → IsClosed g (xs ++ log)
-      settles_close xs log legal rest flat settles =
-          let on = later xs log legal rest in (
-            on.rest.end,
-            λ e l at.
-                let past : graph_edges g ≤ e = dite (dec_lt e (graph_edges g))
-                (λ own. absurd (let a = tail_inside g game e own in omega arith)) (λ n. omega arith) in
-                let none : owed (into_in g log e) ≡ 0 = ⊎_elim
-                (λ free. owes_none log (legal_before g xs log legal) e l free)
-                (λ q. absurd (let a = flat (head_of g e) (head_inside g game e l) q.0 q.1 in let b = a.0 in let c = a.1 in
-                omega arith))
-                (cases_option (part_in g log (head_of g e)).parent) in
-                let x = settles e past l in
-                let a = settle_seen xs log legal x.0 x.1 e x.2 in
-                let b = ap (λ (s : Part). claims_of (s.out e).link) (on.same (tail_of g e)) in
-                let c = rest.taken e l in omega arith,
+    module _ (log : Log) (legal : IsLegalLog g log) where
+      tree_there : (vs : List ℕ) → IsTree g log vs → rounds.IsTree (net g) (was g log) vs
+      tree_there [] tree = tt
+      tree_there (v ∷ vs) tree =
+          let e : ℕ = tree.2.0 in
+          let p = tree.2.1 in
+          let s : Part = part_in g log v in
+          let here = side_open (ins g v) (λ i. length (s.into i).got) (λ i. (s.into i).acked) e
+          (in_ins g e v p.is_edge p.head) in
+          let owes : 0 < owed (s.into e) = subst (λ (q : ℕ). 0 < owed ((part_in g log q).into e)) p.head p.owes in (
+            tree_there vs tree.0,
+            tree.1,
+            (
+              e,
+              record { parent = p.parent; into = (p.is_edge, p.head); from_earlier = p.from_earlier; owes = omega arith },
+            ),
           )
 
-      -- ---- rounds
-
-      -- if the root settles after all turns of the last
-      in_order : (n : ℕ) (xs last log : Log) → IsLegalLog g (last ++ (xs ++ log)) → Left log (suc n)
-          → HasRounds g n log xs → HasRoundInOrder g (xs ++ log) last → IsClosed g (last ++ (xs ++ log))
-      in_order zero xs last log legal left has round =
-          let same : last ++ (xs ++ log) ≡ round.back ++ (round.front ++ (xs ++ log)) =
-          (let a = append_assoc round.back round.front (xs ++ log) in cc) in
-          let all = subst (IsLegalLog g) same legal in
-          let turned = legal_before g round.back (round.front ++ (xs ++ log)) all in
-          let low = lower round.front (xs ++ log) turned 0 (left_on xs log (legal_before g last (xs ++ log) legal) 1 left)
-          round.turns in
-          subst (IsClosed g) (sym same) (settles_close round.back (round.front ++ (xs ++ log)) all low.0
-          (flat (round.front ++ (xs ++ log)) low) round.settles)
-      in_order (suc n) xs last log legal left (front, round, back, is, has, more) order =
-          let same = in_pieces front round back xs log is in
-          let all = subst (λ (l : Log). IsLegalLog g (last ++ l)) same legal in
-          let two = legal_before g back (round ++ (front ++ log)) (legal_before g last (back ++ (round ++ (front ++ log))) all) in
-          let low = lower round (front ++ log) two (suc n)
-          (left_on front log (legal_before g round (front ++ log) two) (suc (suc n)) left) has.turns in
-          rw same (in_order n back last (round ++ (front ++ log)) all low more (rw (← same) order))
-
-      -- wherever it settles
-      in_any_order : (n : ℕ) (xs log : Log) → IsLegalLog g (xs ++ log) → Left log n → HasRounds g (suc n) log xs
-          → IsClosed g (xs ++ log)
-      in_any_order zero xs log legal left (front, round, back, is, has, more) =
-          settles_close xs log legal left.0 (flat log left) (λ e past l. let x = has.settles e past l in (
-            x.0,
-            rw is (Contains-append_right back (round ++ front) x.0 (Contains-append_left round front x.0 x.1)),
-            x.2,
-          ))
-      in_any_order (suc n) xs log legal left (front, round, back, is, has, more) =
-          let same = in_pieces front round back xs log is in
-          let all = subst (IsLegalLog g) same legal in
-          let two = legal_before g back (round ++ (front ++ log)) all in
-          let low = lower round (front ++ log) two n (left_on front log (legal_before g round (front ++ log) two) (suc n) left)
-          has.turns in
-          subst (IsClosed g) (sym same) (in_any_order n back (round ++ (front ++ log)) all low more)
+      order_there : (vs : List ℕ) → IsDetectionOrder g log vs → rounds.IsDetectionOrder (net g) (was g log) vs
+      order_there vs order = record {
+        tree = tree_there vs order.tree;
+        others = λ p l other out.
+            let kept = legal_kept (net g) (is_network g game some_ring) (events_of g log) (was g log)
+            (legal_there g game some_ring log legal) in
+            let none : (part_in g log p).parent ≡ None = ⊎_elim (λ z. z)
+            (λ some. (order.others p (engaged_inside log legal p some.0 some.1) out).no_parent)
+            (cases_option (part_in g log p).parent) in
+            let rest = kept.neutral p l other none in
+            record {
+              no_parent = none;
+              passive = rest.0;
+              nothing_owed = (kept.sound p l).neutral none;
+              no_deficit = rest.1;
+            };
+      }
 
 pub depth_closes : DepthCloses
-depth_closes g game some_ring log legal rest depth tree rounds last has order all_legal =
-    in_order g game some_ring tree.level depth rounds last log all_legal
-    (at_rest g game some_ring log rest, inr (depth, refl, tree.below)) has order
+depth_closes g game some_ring log legal over depth tree rounds last has order all_legal =
+    closes g game some_ring log (last ++ (rounds ++ log)) legal all_legal over depth tree
+    (in_order g game some_ring depth rounds last log all_legal has order)
 
 pub depth_closes_later : DepthClosesLater
-depth_closes_later g game some_ring log legal rest depth tree rounds has all_legal =
-    in_any_order g game some_ring tree.level (suc depth) rounds log all_legal
-    (at_rest g game some_ring log rest, inr (depth, refl, tree.below)) has
+depth_closes_later g game some_ring log legal over depth tree rounds has all_legal =
+    closes g game some_ring log (rounds ++ log) legal all_legal over depth tree
+    (in_any_order g game some_ring (suc depth) rounds log all_legal has)
 
 pub depth_is_counted : DepthIsCounted
-depth_is_counted g game some_ring log legal vs order = places_are_levels g game log vs order
+depth_is_counted g game some_ring log legal vs order =
+    let deep = theorem.depth_is_counted (net g) (is_network g game some_ring) (events_of g log) (was g log)
+    (legal_there g game some_ring log legal) vs (order_there g game some_ring log legal vs order) in
+    record { level = deep.level; below = λ v l e is. deep.below v (omega arith) e is }

@@ -213,7 +213,8 @@ module _ (net : Network) (is : IsNetwork net) where
         absurd (omega arith))
         (cases_option (parents w p))
 
-    no_parents : (p : ℕ) → p < net.parts → parents w p ≡ None
+    -- and nobody is engaged
+    pub no_parents : (p : ℕ) → p < net.parts → parents w p ≡ None
     no_parents p l = none_below (suc ((ranks log w legal).0 p)) p l (omega arith)
 
     pub settled_up : (e : ℕ) → e < net.edges → IsSettledUp net w e

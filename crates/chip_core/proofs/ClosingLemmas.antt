@@ -1,13 +1,12 @@
--- Serves Core.antt, Soon.antt. If every vertex is passive and all that was claimed is taken, steps only settle and
--- acknowledge. If the root is closed nothing changes any more, everything is delivered, and chips and counts are those
--- of every end.
-use Rattle.chip_core.proofs.Names.{nat_tests, pending_of, is_passive, is_legal, ◌≡◌, ℕ, ◌<◌, ◌≤◌, true, false}
+-- Serves Core.antt. If the root is closed nothing changes any more, everything is delivered, and chips and counts are
+-- those of every end.
+use Rattle.chip_core.proofs.Names.{nat_tests, pending_of, is_passive, is_legal, ◌≡◌, ℕ, ◌<◌, true}
 use Rattle.chip_core.proofs.Names.{eqb, ◌∷◌, length, get_or, Option, None, refl, sym, ap, ◌∙◌, arith}
-use Rattle.chip_core.proofs.Names.{⊎_elim, true≢false, ◌≢◌, ◌+◌, ◌-◌, Bool, cond, List, [], sum, Some, get_or_past}
-use Rattle.chip_core.proofs.Names.{drop_all, dite, dec_lt, IsGame, tested_none, claims_of, sent_counts, Setting}
-use Rattle.chip_core.proofs.Names.{IsNeutral, saw, tail_root, at_edge, idle_take, no_fire, no_pending, no_halt}
+use Rattle.chip_core.proofs.Names.{⊎_elim, ◌≢◌, ◌+◌, ◌-◌, Bool, cond, List, [], sum, Some, get_or_past}
+use Rattle.chip_core.proofs.Names.{drop_all, dite, dec_lt, IsGame, tested_none, sent_counts, Setting}
+use Rattle.chip_core.proofs.Names.{IsNeutral, saw, tail_root, at_edge, idle_take}
 use Rattle.chip_core.proofs.Names.{passive_parts, out_zero, none_halt, rules_met, Log, Step, Event, Part, Take, Ack}
-use Rattle.chip_core.proofs.Names.{Fire, Clear, Claim, Put, Halt, Settle, Seal, Read, Feed, End, part_of, does, part_in}
+use Rattle.chip_core.proofs.Names.{Put, Settle, Seal, Read, End, part_of, does, part_in}
 use Rattle.chip_core.proofs.Names.{out_in, into_in, IsLegalLog, tail_of, head_of, root, all_edges}
 use Rattle.chip_core.proofs.Names.{graph_edges, Rule, unmet_rule, sees, is_by_limit, answer, step, log_after, IsClosed}
 use Rattle.chip_core.proofs.Names.{stopper, root_edge, filter_below, length-sent_counts, IsLegal, legal_vertices}
@@ -15,94 +14,18 @@ use Rattle.chip_core.proofs.Names.{position_after, IsFiringSequence, HasEnded, H
 use Rattle.chip_core.proofs.Names.{same_ends, SealedEdge, FiringLimit, over_ins, counts_in_flight, messages_from}
 use Rattle.chip_core.proofs.Names.{in_flight, chips_given, held, chips_at, firings, AgreesWith, NoneHalted}
 use Rattle.chip_core.proofs.Names.{NoneHaltedBySeal, picked_ext}
-use Rattle.chip_core.proofs.LogLemmas.{part_kept, edge_counts, tail_inside, end_stays, tail_cases}
+use Rattle.chip_core.proofs.LogLemmas.{part_kept, tail_inside, tail_cases}
 use Rattle.chip_core.proofs.OrderLemmas.{all_neutral, all_counts}
-use Rattle.chip_core.proofs.SettledLemmas.{settled_up, neutral_up}
+use Rattle.chip_core.specs.Instance.{passive_of}
+use Rattle.chip_core.proofs.InstanceLemmas.{IsIdle, idle, at_root}
 use Rattle.chip_core.proofs.PositionLemmas.{counts_are, leads_to, is_sequence, is_within}
 use Rattle.chip_core.proofs.ReachingLemmas.{step_legal}
 
-module _ (g : Setting) where
-  pub record AtRest (log : Log) : Type 0 where
-    pub passive : (v : ℕ) → v < g.game.graph.vertices → is_passive g v (part_in g log v) ≡ true
-    pub taken : (e : ℕ) → e < all_edges g → claims_of (out_in g log e).link ≤ length (into_in g log e).got
-    pub end : (part_in g log (root g)).ended ≡ true
-
-  -- which events may come, and that a take leaves the part as it is
-  abbrev pub Rests : Event → ℕ → Part → Type 0
-  Rests (Take e) seen s = does g (saw (Take e) seen) s ≡ s
-  Rests (Fire v k) seen s = ⊥
-  Rests (Clear e) seen s = ⊥
-  Rests (Claim e) seen s = ⊥
-  Rests (Put e) seen s = ⊥
-  Rests (Halt v) seen s = ⊥
-  Rests (Feed e k) seen s = ⊥
-  Rests _ seen s = Unit {0}
-
-  module _ (game : IsGame g.game) (some_ring : 0 < g.ring) (log : Log) (legal : IsLegalLog g log) (rest : AtRest log) where
-    not_open : (e : ℕ) → graph_edges g ≤ e → (part_in g log (tail_of g e)).ended ≡ false → ⊥
-    not_open e past going =
-        true≢false (let a = tail_root g e past in cc)
-
-    neutral : (v : ℕ) → v < g.game.graph.vertices → IsNeutral g v (settled_up (part_in g log v))
-    neutral v l = neutral_up g v (part_in g log v) (rest.passive v l)
-
-    pub rested : (ev : Event) (seen : ℕ) → IsLegalLog g (saw ev seen ∷ log) → Rests ev seen (part_in g log (part_of g ev))
-    rested (Take e) seen next =
-        let t = rest.taken e (rules_met g (Take e) (part_in g log (head_of g e)) next.1.0) in
-        let c = (edge_counts g game some_ring log legal e).3 in
-        let is : seen ≡ get_or (out_in g log e).link.put (length (into_in g log e).got) 0 = next.1.1 in
-        idle_take g e seen (part_in g log (head_of g e)) (is
-        ∙ get_or_past (out_in g log e).link.put (length (into_in g log e).got) 0 (omega arith))
-    rested (Fire v k) seen next =
-        let may = rules_met g (Fire v k) (part_in g log v) next.1.0 in
-        no_fire g v (settled_up (part_in g log v)) (part_kept g game log legal v).outs (neutral v may.0) v k refl may
-    rested (Clear e) seen next = ⊎_elim
-        (λ v. let l = v.0 in
-        no_pending g (tail_of g e) (settled_up (part_in g log (tail_of g e))) (part_kept g game log legal (tail_of g e)).outs
-        (neutral (tail_of g e) (tail_inside g game e v.0)) e refl (omega arith) v.1 v.3)
-        (λ r. not_open e r.0 r.2)
-        (rules_met g (Clear e) (part_in g log (tail_of g e)) next.1.0)
-    rested (Claim e) seen next =
-        let may = rules_met g (Claim e) (part_in g log (tail_of g e)) next.1.0 in let l = may.0 in
-        let outs = (part_kept g game log legal (tail_of g e)).outs in
-        no_pending g (tail_of g e) (settled_up (part_in g log (tail_of g e))) outs
-        (neutral (tail_of g e) (tail_inside g game e may.0)) e refl (omega arith) may.1
-        ((outs e refl).clear_pends may.0 may.2)
-    rested (Feed e k) seen next = let may = rules_met g (Feed e k) (part_in g log (tail_of g e)) next.1.0 in
-        not_open e may.0 may.2
-    rested (Put e) seen next =
-        let may = rules_met g (Put e) (part_in g log (tail_of g e)) next.1.0 in
-        let t = rest.taken e may.0 in let c = (edge_counts g game some_ring log legal e).2 in
-        let some = may.1.1 in absurd (grind (arith, nat_tests))
-    rested (Halt v) seen next =
-        let may = rules_met g (Halt v) (part_in g log v) next.1.0 in
-        no_halt g v (settled_up (part_in g log v)) (part_kept g game log legal v).outs (neutral v may.0) v refl may
-    rested _ seen next = tt
-
-    step_leaves : (ev : Event) (seen : ℕ) → IsLegalLog g (saw ev seen ∷ log)
-        → settled_up (does g (saw ev seen) (part_in g log (part_of g ev))) ≡ settled_up (part_in g log (part_of g ev))
-    step_leaves (Take e) seen next = ap settled_up (rested (Take e) seen next)
-    step_leaves (Ack e) seen next = refl
-    step_leaves (Settle e) seen next = refl
-    step_leaves (Seal e) seen next = refl
-    step_leaves (Read v) seen next = refl
-    step_leaves End seen next = refl
-    step_leaves ev seen next = absurd (rested ev seen next)
-
-    module _ (x : Step) (next : IsLegalLog g (x ∷ log)) where
-      pub same_up : (p : ℕ) → settled_up (part_in g (x ∷ log) p) ≡ settled_up (part_in g log p)
-      same_up = at_edge (λ p (s : Part). settled_up s ≡ settled_up (part_in g log p)) (part_of g x.event)
-          (λ p. does g x (part_in g log p)) (part_in g log) (step_leaves x.event x.seen next) (λ p. refl)
-
-      pub rests_on : AtRest (x ∷ log)
-      rests_on = record {
-        passive = λ v l. ap (λ (s : Part). is_passive g v s) (same_up v) ∙ rest.passive v l;
-        taken = λ e l.
-            let a = ap (λ (s : Part). claims_of (s.out e).link) (same_up (tail_of g e)) in
-            let b = ap (λ (s : Part). length (s.into e).got) (same_up (head_of g e)) in
-            let t = rest.taken e l in omega arith;
-        end = end_stays g x log rest.end;
-      }
+-- which events may come once the root is closed, and that a take leaves the part as it is
+abbrev pub Rests : Setting → Event → ℕ → Part → Type 0
+Rests g (Take e) seen s = does g (saw (Take e) seen) s ≡ s
+Rests g (Put e) seen s = ⊥
+Rests g ev seen s = IsIdle ev
 
 module _ (g : Setting) (game : IsGame g.game) (some_ring : 0 < g.ring) where
   module _ (log : Log) (legal : IsLegalLog g log) (closed : IsClosed g log) where
@@ -111,12 +34,23 @@ module _ (g : Setting) (game : IsGame g.game) (some_ring : 0 < g.ring) where
 
     -- ---- no later event changes a part, but the stopper's
 
-    pub at_rest : AtRest g log
-    at_rest = record {
-      passive = λ v l. (resting v l).passive;
-      taken = λ e l. (let c = all_counts g game some_ring log legal closed e l in let c2 = c.2 in let c3 = c.3 in omega arith);
-      end = closed.0;
-    }
+    all_passive : (p : ℕ) → passive_of g p (part_in g log p) ≡ true
+    all_passive p =
+        let vertex : p < g.game.graph.vertices → is_passive g p (part_in g log p) ≡ true = (λ l. (resting p l).passive) in
+        let rooted = at_root g p (part_in g log p) in let end = closed.0 in grind (arith, nat_tests)
+
+    pub rested : (ev : Event) (seen : ℕ) → IsLegalLog g (saw ev seen ∷ log)
+        → Rests g ev seen (part_in g log (part_of g ev))
+    rested (Take e) seen next =
+        let c = (all_counts g game some_ring log legal closed e (rules_met g (Take e) (part_in g log (head_of g e)) next.1.0)).2 in
+        let is : seen ≡ get_or (out_in g log e).link.put (length (into_in g log e).got) 0 = next.1.1 in
+        idle_take g e seen (part_in g log (head_of g e)) (is
+        ∙ get_or_past (out_in g log e).link.put (length (into_in g log e).got) 0 (omega arith))
+    rested (Put e) seen next =
+        let may = rules_met g (Put e) (part_in g log (tail_of g e)) next.1.0 in
+        let c = (all_counts g game some_ring log legal closed e may.0).3 in
+        let some = may.1.1 in absurd (grind (arith, nat_tests))
+    rested ev seen next = idle g game some_ring log ev seen next (all_passive (part_of g ev))
 
     -- a settle of nothing new leaves the part
     settled_still : (s : Part) (e seen : ℕ) → (s.out e).settled + (seen - (s.out e).settled) ≡ (s.out e).settled
@@ -136,7 +70,7 @@ module _ (g : Setting) (game : IsGame g.game) (some_ring : 0 < g.ring) where
     still_step : (ev : Event) (seen : ℕ) → IsLegalLog g (saw ev seen ∷ log)
         → part_of g ev ≢ stopper g → does g (saw ev seen) (part_in g log (part_of g ev))
         ≡ part_in g log (part_of g ev)
-    still_step (Take e) seen next ne = rested g game some_ring log legal at_rest (Take e) seen next
+    still_step (Take e) seen next ne = rested (Take e) seen next
     still_step (Ack e) seen next ne =
         let may = rules_met g (Ack e) (part_in g log (head_of g e)) next.1.0 in
         let c = all_counts g game some_ring log legal closed e may.0 in
@@ -161,7 +95,7 @@ module _ (g : Setting) (game : IsGame g.game) (some_ring : 0 < g.ring) where
         settled_still s e seen (omega arith) true (sym closed.0)
     still_step (Seal e) seen next ne = absurd (ne refl)
     still_step (Read v) seen next ne = refl
-    still_step ev seen next ne = absurd (rested g game some_ring log legal at_rest ev seen next)
+    still_step ev seen next ne = absurd (rested ev seen next)
 
     pub still : (x : Step) → IsLegalLog g (x ∷ log) → (p : ℕ) → p ≢ stopper g → part_in g (x ∷ log) p ≡ part_in g log p
     still x next = at_edge (λ p (s : Part). p ≢ stopper g → s ≡ part_in g log p) (part_of g x.event)

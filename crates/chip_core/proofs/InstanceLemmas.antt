@@ -1,48 +1,56 @@
 -- Serves Instance.antt.
 -- The events of the core as events of a diffusing computation.
-use Rattle.std.proofs.Common.{◌≡◌, ◌≢◌, ◌⊎◌, ℕ, zero, suc, ◌+◌, ◌-◌, ◌<◌, ◌≤◌, eqb, ltb, Bool, true, false, List, [], ◌∷◌}
-use Rattle.std.proofs.Common.{Option, Some, None, Contains, refl, sym, ap, ◌∙◌, subst, arith, inl, ⊎_elim, length, cond}
-use Rattle.std.proofs.Common.{length-append, eqb-true, eq-eqb, true≢false, ◌++◌, ◌&&◌}
-use Rattle.std.proofs.lemmas.List.{get_or_past}
-use Rattle.std.proofs.lemmas.Bool.Decides.{nat_tests}
-use mathlib.Core.Logic.{dite}
-use native.Mathlib.Decide.{ℕ_discrete, dec_lt}
-use Rattle.chip_graph.specs.ChipGame.{IsGame}
-use Rattle.chip_graph.specs.Sums.{filter_below}
-use Rattle.chip_graph.proofs.PickLemmas.{All-picked, picked_has, picked_ascends}
-use Rattle.chip_graph.proofs.SumLemmas.{cond_yes, cond_no, by_test, picked_sum, tested_none}
-use Rattle.chip_link.proofs.SoundsLemmas.{none_held, length-sent_counts}
-use Rattle.chip_link.specs.Link.{Tail, claims_of, after_claim}
+use Rattle.chip_core.proofs.Names.{◌≡◌, ◌≢◌, ◌⊎◌, ℕ, zero, suc, ◌+◌, ◌-◌, ◌<◌, ◌≤◌, eqb, ltb, Bool, true, false, List}
+use Rattle.chip_core.proofs.Names.{[], ◌∷◌, Option, Some, None, Contains, refl, sym, ap, ◌∙◌, subst, arith, inl, ⊎_elim}
+use Rattle.chip_core.proofs.Names.{length, cond, length-append, eqb-true, eq-eqb, true≢false, ◌&&◌, get_or_past}
+use Rattle.chip_core.proofs.Names.{nat_tests, dite, ℕ_discrete, dec_lt, IsGame, filter_below, All-picked}
+use Rattle.chip_core.proofs.Names.{picked_ascends, cond_yes, cond_no, by_test, tested_none, none_held}
+use Rattle.chip_core.proofs.Names.{length-sent_counts, Tail, claims_of, after_claim, is_parent, or_else}
+use Rattle.chip_core.proofs.Names.{Setting, Part, opening_part, first_put, is_passive, tail_of, head_of, all_edges}
+use Rattle.chip_core.proofs.Names.{graph_edges, root, root_edge, stopper, part_of, does, saw, got_after, acked_after}
+use Rattle.chip_core.proofs.Names.{KeepsPart, IsNeutral, first_few, tail_root, head_root, idle_take, no_fire}
+use Rattle.chip_core.proofs.Names.{no_pending, no_halt, may_le, rules_met, Log, Step, Event, Take, Ack, Fire, Clear}
+use Rattle.chip_core.proofs.Names.{Claim, Put, Halt, Settle, Seal, Read, Feed, End, part_in, out_in, into_in}
+use Rattle.chip_core.proofs.Names.{IsLegalLog, none_some}
+use Rattle.chip_graph.proofs.PickLemmas.{picked_has}
+use Rattle.chip_graph.proofs.SumLemmas.{picked_sum}
 use Rattle.chip_detect.specs.Books.{Books, owed, all_owed, deficit}
-use Rattle.chip_detect.specs.Acknowledging.{is_parent, or_else, parent_while_owed}
+use Rattle.chip_detect.specs.Acknowledging.{parent_while_owed}
 use Rattle.chip_detect.specs.Acknowledging as detect
-use Rattle.chip_part.specs.Setting.{Setting}
 use Rattle.chip_part.specs.Part as part
-use Rattle.chip_part.specs.Part.{Part, opening_part, first_put, is_passive}
-use Rattle.chip_part.specs.Edges.{tail_of, head_of, all_edges, graph_edges, root, root_edge, stopper}
-use Rattle.chip_part.specs.Steps.{part_of, does, saw, got_after, acked_after}
-use Rattle.chip_part.specs.Kept.{KeepsPart}
-use Rattle.chip_part.proofs.OpeningLemmas.{first_few}
 use Rattle.chip_detect.specs.Tally.{edge_limit}
-use Rattle.chip_part.proofs.EdgeLemmas.{tail_root, head_root}
 use Rattle.chip_part.proofs.PickedLemmas.{picked_passes}
-use Rattle.chip_part.proofs.PartLemmas.{idle_take, took_some, no_fire, no_pending, no_put, no_halt, may_le}
-use Rattle.chip_part.proofs.RuleLemmas.{rules_met}
-use Rattle.chip_core.specs.Core.{Log, Step, Event, Take, Ack, Fire, Clear, Claim, Put, Halt, Settle, Seal, Read, Feed, End}
-use Rattle.chip_core.specs.Core.{part_in, out_in, into_in, IsLegalLog}
-use Rattle.chip_core.proofs.LogLemmas.{part_here, part_else, part_kept, head_inside, tail_inside, tail_cases, edge_counts, edge_sound}
+use Rattle.chip_part.proofs.PartLemmas.{took_some, no_put}
+use Rattle.chip_core.proofs.LogLemmas.{part_here, part_else, part_kept, head_inside, tail_inside, tail_cases}
+use Rattle.chip_core.proofs.LogLemmas.{edge_counts, edge_sound}
 use Rattle.chip_core.proofs.GivenLemmas.{feed_sees}
 use Rattle.chip_detect.specs.Change.{AddsAnswers}
 use Rattle.chip_core.proofs.NumberLemmas.{claims_most}
-use Rattle.chip_core.proofs.SettledLemmas.{settled_up, neutral_up}
 use Rattle.chip_diffusing.specs.Network.{Network, IsNetwork}
 use Rattle.chip_diffusing.specs.Computation as diffusing
 use Rattle.chip_diffusing.specs.Computation.{Happens, Leads, May, Notes, Wakes, Get, Send, Work, OpensPart, World}
 use Rattle.chip_diffusing.proofs.CountedLemmas.{books_by, side, side_same, side_message, side_answers, side_open}
 use Rattle.chip_diffusing.proofs.CountedLemmas.{side_all_open, side_fresh, counts_in}
-use Rattle.chip_diffusing.proofs.SilentLemmas.{leads_on}
 use Rattle.chip_core.specs.Instance.{network_of, passive_of, Shows, CoreDiffuses}
-use Rattle.chip_detect.proofs.ListLemmas.{none_some}
+
+-- a part as if it owed nothing and waited for nothing
+abbrev settled_up : Part → Part
+settled_up s = record s {
+  parent = None;
+  out = λ e. record (s.out e) { settled = claims_of (s.out e).link };
+  into = λ e. record (s.into e) { acked = length (s.into e).got };
+  stop = λ e. None;
+  ended = true;
+}
+
+-- a passive part makes none of these events
+abbrev pub IsIdle : Event → Type 0
+IsIdle (Fire v k) = ⊥
+IsIdle (Clear e) = ⊥
+IsIdle (Claim e) = ⊥
+IsIdle (Halt v) = ⊥
+IsIdle (Feed e k) = ⊥
+IsIdle _ = Unit {0}
 
 -- one of two events, by whether two numbers are the same
 chosen : (P : diffusing.Event → Type 0) (a b : ℕ) (y z : diffusing.Event) → (a ≡ b → P y) → (a ≢ b → P z)
@@ -76,24 +84,20 @@ module _ (g : Setting) where
   started_below zero = []
   started_below (suc e) = cond (eqb (length (first_put g e)) 0) (Work (root g)) (Send e) ∷ started_below e
 
-  -- what an event of the part s is, if it saw this word
-  abbrev events_by : Event → ℕ → Part → diffusing.Log
-  events_by (Take e) seen s = cond (eqb seen 0) (Work (head_of g e)) (Get e) ∷ []
-  events_by (Ack e) seen s = diffusing.Ack e (part.may_ack g (head_of g e) s e) ∷ []
-  events_by (Claim e) seen s = cond (eqb seen (claims_of (s.out e).link)) (Send e) (Work (tail_of g e)) ∷ []
-  events_by (Settle e) seen s = diffusing.Settle e seen ∷ []
-  events_by (Feed e k) seen s = Send e ∷ []
-  events_by End seen s = Work (root g) ∷ diffusing.Settle (root_edge g 0) seen ∷ []
-  events_by x seen s = Work (part_of g x) ∷ []
+  -- what an event of the part s is, if it saw this word. By the end of feeding the root settles, and is passive then
+  abbrev pub event_by : Event → ℕ → Part → diffusing.Event
+  event_by (Take e) seen s = cond (eqb seen 0) (Work (head_of g e)) (Get e)
+  event_by (Ack e) seen s = diffusing.Ack e (part.may_ack g (head_of g e) s e)
+  event_by (Claim e) seen s = cond (eqb seen (claims_of (s.out e).link)) (Send e) (Work (tail_of g e))
+  event_by (Settle e) seen s = diffusing.Settle e seen
+  event_by (Feed e k) seen s = Send e
+  event_by End seen s = diffusing.Settle (root_edge g 0) seen
+  event_by x seen s = Work (part_of g x)
 
   -- what the events of a log are, after the start of the root
   abbrev pub events_of : Log → diffusing.Log
   events_of [] = Work (root g) ∷ started_below (all_edges g)
-  events_of (x ∷ log) = events_by x.event x.seen (part_in g log (part_of g x.event)) ++ events_of log
-
-  few_events : (x : Event) (seen : ℕ) (s : Part) → length (events_by x seen s) ≤ 2
-  few_events End seen s = omega arith
-  few_events _ seen s = omega arith
+  events_of (x ∷ log) = event_by x.event x.seen (part_in g log (part_of g x.event)) ∷ events_of log
 
   pub in_ins : (e p : ℕ) → e < all_edges g → head_of g e ≡ p → Contains (ins p) e
   in_ins e p l at = picked_has (λ i. eqb (head_of g i) p) (all_edges g) e l (eq-eqb _ _ at)
@@ -198,41 +202,64 @@ module _ (g : Setting) where
         (books_of (diffusing.part_of net y) (does g x (part_in g log (diffusing.part_of net y))))
         → Wakes (passive_of g (diffusing.part_of net y) (part_in g log (diffusing.part_of net y))) y
         (passive_of g (diffusing.part_of net y) (does g x (part_in g log (diffusing.part_of net y))))
-        → Leads net (was log) (y ∷ []) (was (x ∷ log))
+        → Happens net (was log) y (was (x ∷ log))
     by_event x log y at may notes wakes =
         let q : ℕ = diffusing.part_of net y in
-        let s : Part = part_in g log q in (
-          was log,
-          refl,
-          acts (part_in g log) (part_in g (x ∷ log)) y q s (does g x s) refl refl (part_here g x log q at)
-              (λ p n. part_else g x log p (λ z. n (sym z ∙ at))) may notes wakes,
-        )
+        let s : Part = part_in g log q in
+        acts (part_in g log) (part_in g (x ∷ log)) y q s (does g x s) refl refl (part_here g x log q at)
+        (λ p n. part_else g x log p (λ z. n (sym z ∙ at))) may notes wakes
 
     works : (x : Step) (log : Log) (q : ℕ) → part_of g x.event ≡ q → q < stopper g + 1
         → books_of q (does g x (part_in g log q)) ≡ books_of q (part_in g log q)
         → (passive_of g q (part_in g log q) ≡ true → passive_of g q (does g x (part_in g log q)) ≡ true)
-        → Leads net (was log) (Work q ∷ []) (was (x ∷ log))
+        → Happens net (was log) (Work q) (was (x ∷ log))
     works x log q at l books wakes = by_event x log (Work q) at l books wakes
 
     tail_part : (e : ℕ) → tail_of g e < stopper g + 1
     tail_part e = ⊎_elim (λ z. omega arith) (λ l. omega arith) (tail_cases g game e)
 
-    -- an edge of the graph with something pending doesn't leave a passive vertex
     module _ (log : Log) (legal : IsLegalLog g log) where
       kept : (p : ℕ) → KeepsPart g p (part_in g log p)
       kept p = part_kept g game log legal p
 
+      -- a passive vertex is neutral but for what it owes and waits for
+      up : (v : ℕ) → v < root g → passive_of g v (part_in g log v) ≡ true → IsNeutral g v (settled_up (part_in g log v))
+      up v l on = record {
+        no_parent = refl;
+        passive = sym (at_vertex v (part_in g log v) l) ∙ on;
+        nothing_owed = tested_none (all_edges g) (λ e. eqb (head_of g e) v)
+            (λ e. part.owed ((settled_up (part_in g log v)).into e)) (λ e m is. omega arith);
+        no_deficit = tested_none (all_edges g) (λ e. eqb (tail_of g e) v)
+            (λ e. part.outstanding ((settled_up (part_in g log v)).out e)) (λ e m is. omega arith);
+      }
+
+      -- an edge of the graph with something pending doesn't leave a passive vertex
       busy : (e : ℕ) → e < graph_edges g → (part_in g log (tail_of g e)).halt ≡ None → 0 < (out_in g log e).pending
           → passive_of g (tail_of g e) (part_in g log (tail_of g e)) ≡ true → ⊥
       busy e l runs pends on =
-          let t = tail_inside g game e l in
-          let s = part_in g log (tail_of g e) in
-          no_pending g (tail_of g e) (settled_up s) (kept (tail_of g e)).outs
-          (neutral_up g (tail_of g e) s (sym (at_vertex (tail_of g e) s t) ∙ on)) e refl (omega arith) runs pends
+          let q : ℕ = tail_of g e in
+          no_pending g q (settled_up (part_in g log q)) (kept q).outs (up q (tail_inside g game e l) on) e refl (omega arith)
+          runs pends
 
-      active : (e : ℕ) → (passive_of g (tail_of g e) (part_in g log (tail_of g e)) ≡ true → ⊥)
-          → (was log (tail_of g e)).passive ≡ false
-      active e never = by_test (passive_of g (tail_of g e) (part_in g log (tail_of g e))) (λ on. absurd (never on)) (λ off. off)
+      -- nor does the root look or feed once the end is noted
+      open_root : (e : ℕ) → graph_edges g ≤ e → (part_in g log (tail_of g e)).ended ≡ false
+          → passive_of g (tail_of g e) (part_in g log (tail_of g e)) ≡ true → ⊥
+      open_root e past going on =
+          true≢false (sym on ∙ at_root (tail_of g e) (part_in g log (tail_of g e)) (tail_root g e past) ∙ going)
+
+    pub idle : (log : Log) (ev : Event) (seen : ℕ) → IsLegalLog g (saw ev seen ∷ log)
+        → passive_of g (part_of g ev) (part_in g log (part_of g ev)) ≡ true → IsIdle ev
+    idle log (Fire v k) seen legal on = let may = rules_met g (Fire v k) (part_in g log v) legal.1.0 in
+        no_fire g v (settled_up (part_in g log v)) (kept log legal.0 v).outs (up log legal.0 v may.0 on) v k refl may
+    idle log (Clear e) seen legal on = ⊎_elim (λ graph. busy log legal.0 e graph.0 graph.1 graph.3 on)
+        (λ r. open_root log legal.0 e r.0 r.2 on) (rules_met g (Clear e) (part_in g log (tail_of g e)) legal.1.0)
+    idle log (Claim e) seen legal on = let may = rules_met g (Claim e) (part_in g log (tail_of g e)) legal.1.0 in
+        busy log legal.0 e may.0 may.1 (((kept log legal.0 (tail_of g e)).outs e refl).clear_pends may.0 may.2) on
+    idle log (Halt v) seen legal on = let may = rules_met g (Halt v) (part_in g log v) legal.1.0 in
+        no_halt g v (settled_up (part_in g log v)) (kept log legal.0 v).outs (up log legal.0 v may.0 on) v refl may
+    idle log (Feed e k) seen legal on = let may = rules_met g (Feed e k) (part_in g log (tail_of g e)) legal.1.0 in
+        open_root log legal.0 e may.0 may.2 on
+    idle log _ seen legal on = tt
 
     -- a claim that is taken, or a feed, sends
     sends : (log : Log) (x : Step) (e : ℕ) → IsLegalLog g (x ∷ log) → part_of g x.event ≡ tail_of g e → e < all_edges g
@@ -244,10 +271,8 @@ module _ (g : Setting) where
         (claims_of ((part_in g log (tail_of g e)).out i).link))
         → ((i : ℕ) → ((does g x (part_in g log (tail_of g e))).out i).settled ≡ ((part_in g log (tail_of g e)).out i).settled)
         → (does g x (part_in g log (tail_of g e))).parent ≡ (part_in g log (tail_of g e)).parent
-        → (passive_of g (tail_of g e) (part_in g log (tail_of g e)) ≡ true
-        → passive_of g (tail_of g e) (does g x (part_in g log (tail_of g e))) ≡ true)
-        → Leads net (was log) (Send e ∷ []) (was (x ∷ log))
-    sends log x e legal at l never same more settled parent wakes =
+        → Happens net (was log) (Send e) (was (x ∷ log))
+    sends log x e legal at l never same more settled parent =
         let q : ℕ = tail_of g e in
         let s : Part = part_in g log q in
         let t : Part = does g x s in
@@ -256,7 +281,8 @@ module _ (g : Setting) where
         ap (λ (u : Part). claims_of (u.out e).link) (part_here g x log q at) in
         let one : claims_of (t.out e).link ≡ claims_of (s.out e).link + 1 = more e ∙ cond_yes e e _ _ refl in
         let old = (shows log).sent e l in
-        by_event x log (Send e) at (l, active log legal.0 e never, omega arith)
+        let active : passive_of g q s ≡ false = by_test (passive_of g q s) (λ on. absurd (never on)) (λ off. off) in
+        by_event x log (Send e) at (l, active, omega arith)
         (record {
           ins = same;
           outs = side_message (outs q) (λ i. claims_of (s.out i).link) (λ i. (s.out i).settled)
@@ -264,7 +290,7 @@ module _ (g : Setting) where
               (λ i m. settled i);
           parent = parent;
         })
-        wakes
+        (λ on. absurd (never on))
 
     -- a claim of this count, if the edge is not sealed
     claims_more : (e seen : ℕ) (count : ℕ → ℕ) (links : ℕ → Tail) → (links e).held ≡ None → seen ≡ claims_of (links e)
@@ -302,43 +328,14 @@ module _ (g : Setting) where
       none_to_root = λ e l z. let a = head_inside g game e l in absurd (omega arith);
     }
 
-    -- the end of feeding: the root settles its first edge, and then sends no more
-    end_event : (seen : ℕ) (log : Log) → IsLegalLog g (saw End seen ∷ log)
-        → Leads net (was log) (Work (root g) ∷ diffusing.Settle (root_edge g 0) seen ∷ []) (was (saw End seen ∷ log))
-    end_event seen log legal =
-        let r : ℕ = root g in
-        let e : ℕ = root_edge g 0 in
-        let s : Part = part_in g log r in
-        let some = game.graph_fits.some_vertex in
-        let l : e < all_edges g = omega arith in
-        let at : tail_of g e ≡ r = tail_root g e (omega arith) in
-        let t : Part = record (does g (saw End seen) s) { ended = s.ended } in
-        let mid : ℕ → Part = (λ p. cond (eqb r p) t (part_in g log p)) in
-        let c = edge_counts g game some_ring log legal.0 e in let c0 = c.0 in
-        let a = (shows log).settled e l in
-        let b = (shows log).acked e l in
-        let is : seen ≡ (into_in g log e).acked = legal.1.1 in
-        let mid_is : mid r ≡ t = cond_yes r r t s refl in
-        let y : diffusing.Event = diffusing.Settle e seen in
-        let first : Happens net (was log) y (world mid) = acts (part_in g log) mid y r s t at refl mid_is
-        (λ p n. cond_no r p t (part_in g log p) (λ z. n (sym z))) (l, omega arith, omega arith)
-        (record { ins = refl; outs = settles e seen r s l at; parent = refl })
-        (λ on. at_root r t refl ∙ sym (at_root r s refl) ∙ on) in
-        let second : Happens net (world mid) (Work r) (was (saw End seen ∷ log)) =
-        acts mid (part_in g (saw End seen ∷ log)) (Work r) r t (does g (saw End seen) s) refl mid_is
-        (part_here g (saw End seen) log r refl)
-        (λ p n. part_else g (saw End seen) log p (λ z. n (sym z)) ∙ sym (cond_no r p t (part_in g log p) (λ z. n (sym z))))
-        (omega arith) refl (λ on. at_root r (does g (saw End seen) s) refl) in
-        (world mid, (was log, refl, first), second)
-
     pub one_event : (ev : Event) (seen : ℕ) (log : Log) → IsLegalLog g (saw ev seen ∷ log)
-        → Leads net (was log) (events_by ev seen (part_in g log (part_of g ev))) (was (saw ev seen ∷ log))
+        → Happens net (was log) (event_by ev seen (part_in g log (part_of g ev))) (was (saw ev seen ∷ log))
     one_event (Take e) seen log legal =
         let h : ℕ = head_of g e in
         let s : Part = part_in g log h in
         let l : e < all_edges g = rules_met g (Take e) s legal.1.0 in
         let inside = head_inside g game e l in
-        chosen (λ y. Leads net (was log) (y ∷ []) (was (saw (Take e) seen ∷ log))) seen 0 (Work h) (Get e)
+        chosen (λ y. Happens net (was log) y (was (saw (Take e) seen ∷ log))) seen 0 (Work h) (Get e)
         (λ none. works (saw (Take e) seen) log h refl (omega arith) (ap (books_of h) (idle_take g e seen s none))
         (λ on. ap (passive_of g h) (idle_take g e seen s none) ∙ on))
         (λ some.
@@ -385,37 +382,29 @@ module _ (g : Setting) where
         })
         (λ z. z)
     one_event (Fire v k) seen log legal =
-        let s = part_in g log v in
-        let may = rules_met g (Fire v k) s legal.1.0 in
-        let l = may.0 in
-        works (saw (Fire v k) seen) log v refl (omega arith) refl
-        (λ on. absurd (no_fire g v (settled_up s) (kept log legal.0 v).outs
-        (neutral_up g v s (sym (at_vertex v s l) ∙ on)) v k refl may))
+        let l = (rules_met g (Fire v k) (part_in g log v) legal.1.0).0 in
+        works (saw (Fire v k) seen) log v refl (omega arith) refl (λ on. absurd (idle log (Fire v k) seen legal on))
     one_event (Clear e) seen log legal =
         let q : ℕ = tail_of g e in
         let s = part_in g log q in
         works (saw (Clear e) seen) log q refl (tail_part e)
         (books_same q s (does g (saw (Clear e) seen) s) (λ i. refl) (λ i. refl)
         (λ i m. grind (arith, nat_tests)) (λ i. refl) refl)
-        (⊎_elim (λ graph on. absurd (busy log legal.0 e graph.0 graph.1 graph.3 on))
-        (λ rooted. root_wakes (saw (Clear e) seen) log q (tail_root g e rooted.0) refl)
-        (rules_met g (Clear e) s legal.1.0))
+        (λ on. absurd (idle log (Clear e) seen legal on))
     one_event (Claim e) seen log legal =
         let q : ℕ = tail_of g e in
         let s = part_in g log q in
         let may = rules_met g (Claim e) s legal.1.0 in
         let l = may.0 in
-        let pends = ((kept log legal.0 q).outs e refl).clear_pends l may.2 in
         let empty = (edge_sound g game some_ring log legal.0 e).quiet may.2 in
-        chosen (λ y. Leads net (was log) (y ∷ []) (was (saw (Claim e) seen ∷ log))) seen (claims_of (s.out e).link) (Send e)
+        chosen (λ y. Happens net (was log) y (was (saw (Claim e) seen ∷ log))) seen (claims_of (s.out e).link) (Send e)
         (Work q)
-        (λ hit. sends log (saw (Claim e) seen) e legal refl (omega arith) (busy log legal.0 e l may.1 pends) refl
-        (claims_more e seen (λ i. (s.out i).pending) (λ i. (s.out i).link) empty hit) (λ i. refl) refl
-        (λ on. absurd (busy log legal.0 e l may.1 pends on)))
+        (λ hit. sends log (saw (Claim e) seen) e legal refl (omega arith) (idle log (Claim e) seen legal) refl
+        (claims_more e seen (λ i. (s.out i).pending) (λ i. (s.out i).link) empty hit) (λ i. refl) refl)
         (λ miss. works (saw (Claim e) seen) log q refl (tail_part e)
         (books_same q s (does g (saw (Claim e) seen) s) (λ i. refl) (λ i. refl)
         (λ i m. refused_same e seen (λ j. (s.out j).pending) (λ j. (s.out j).link) miss i) (λ i. refl) refl)
-        (λ on. absurd (busy log legal.0 e l may.1 pends on)))
+        (λ on. absurd (idle log (Claim e) seen legal on)))
     one_event (Put e) seen log legal =
         let q : ℕ = tail_of g e in
         let s = part_in g log q in
@@ -424,16 +413,12 @@ module _ (g : Setting) where
         (books_same q s (does g (saw (Put e) seen) s) (λ i. refl) (λ i. refl)
         (λ i m. (let a = length-sent_counts (s.out e).link in grind (arith, nat_tests))) (λ i. refl) refl)
         (⊎_elim (λ at. root_wakes (saw (Put e) seen) log q at refl)
-        (λ vertex on. absurd (no_put g q (settled_up s) (kept log legal.0 q).outs
-        (neutral_up g q s (sym (at_vertex q s vertex) ∙ on)) e refl may.0 may.1.0 may.1.1))
+        (λ vertex on. absurd (no_put g q (settled_up s) (kept log legal.0 q).outs (up log legal.0 q vertex on) e refl may.0
+        may.1.0 may.1.1))
         (tail_cases g game e))
     one_event (Halt v) seen log legal =
-        let s = part_in g log v in
-        let may = rules_met g (Halt v) s legal.1.0 in
-        let l = may.0 in
-        works (saw (Halt v) seen) log v refl (omega arith) refl
-        (λ on. absurd (no_halt g v (settled_up s) (kept log legal.0 v).outs
-        (neutral_up g v s (sym (at_vertex v s l) ∙ on)) v refl may))
+        let l = (rules_met g (Halt v) (part_in g log v) legal.1.0).0 in
+        works (saw (Halt v) seen) log v refl (omega arith) refl (λ on. absurd (idle log (Halt v) seen legal on))
     one_event (Settle e) seen log legal =
         let q : ℕ = tail_of g e in
         let s = part_in g log q in
@@ -450,13 +435,23 @@ module _ (g : Setting) where
         let q : ℕ = tail_of g e in
         let s = part_in g log q in
         let may = rules_met g (Feed e k) s legal.1.0 in
-        let at = tail_root g e may.0 in
         let empty = (edge_sound g game some_ring log legal.0 e).quiet may.5 in
-        let never : passive_of g q s ≡ true → ⊥ = (λ on. true≢false (sym on ∙ at_root q s at ∙ may.2)) in
-        sends log (saw (Feed e k) seen) e legal refl may.1 never refl
+        sends log (saw (Feed e k) seen) e legal refl may.1 (idle log (Feed e k) seen legal) refl
         (claims_more e seen (λ i. k) (λ i. (s.out i).link) empty (legal.1.1 ∙ feed_sees g log legal.0 e k may.0)) (λ i. refl)
-        refl (λ on. absurd (never on))
-    one_event End seen log legal = end_event seen log legal
+        refl
+    one_event End seen log legal =
+        let e : ℕ = root_edge g 0 in
+        let s = part_in g log (tail_of g e) in
+        let some = game.graph_fits.some_vertex in
+        let l : e < all_edges g = omega arith in
+        let at = tail_root g e (omega arith) in
+        let c = edge_counts g game some_ring log legal.0 e in let c0 = c.0 in
+        let a = (shows log).settled e l in
+        let b = (shows log).acked e l in
+        let is : seen ≡ (into_in g log e).acked = legal.1.1 in
+        by_event (saw End seen) log (diffusing.Settle e seen) (sym at) (l, omega arith, omega arith)
+        (record { ins = refl; outs = settles e seen (tail_of g e) s l refl; parent = refl })
+        (λ on. at_root (tail_of g e) (does g (saw End seen) s) at)
 
     -- ---- the opening: the root sends what the vertices have at the start
 
@@ -626,9 +621,7 @@ module _ (g : Setting) where
     -- all events
     from_log : (log : Log) → IsLegalLog g log → Leads net (world (starting 0)) (events_of log) (was log)
     from_log [] legal = (world (starting (all_edges g)), start_leads (all_edges g) (omega arith), opened)
-    from_log (x ∷ log) legal = leads_on net is_network (world (starting 0)) (was log) (was (x ∷ log)) (events_of log)
-        (events_by x.event x.seen (part_in g log (part_of g x.event))) (from_log log legal.0)
-        (one_event x.event x.seen log legal)
+    from_log (x ∷ log) legal = (was log, from_log log legal.0, one_event x.event x.seen log legal)
 
     pub legal_there : (log : Log) → IsLegalLog g log → diffusing.IsLegalLog net (events_of log) (was log)
     legal_there log legal = record { first = world (starting 0); opens = open_parts; leads = from_log log legal }
@@ -642,8 +635,7 @@ core_diffuses g game some_ring = (
     shows = shows g;
     legal = legal_there g game some_ring;
     goes_on = λ x log legal. (
-      events_by g x.event x.seen (part_in g log (part_of g x.event)),
-      few_events g x.event x.seen (part_in g log (part_of g x.event)),
+      event_by g x.event x.seen (part_in g log (part_of g x.event)),
       refl,
       one_event g game some_ring x.event x.seen log legal,
     );

@@ -1,6 +1,5 @@
 mod Names
 pub mod LogLemmas
-pub mod SettledLemmas
 pub mod GivenLemmas
 pub mod PositionLemmas
 pub mod ReachingLemmas

@@ -53,18 +53,17 @@ pub use Rattle.chip_link.specs.Link.{claims_of, sent_counts, Tail, after_clear, 
 pub use Rattle.chip_link.specs.Link.{after_seal, Sound, IsSealedAt, word_of, Shows}
 pub use Rattle.chip_link.specs.WordLaws.{ReadsAs, ReadsAsFired}
 pub use Rattle.chip_link.specs.Words.{edge_word, fired_word, word_after_exchange}
-pub use Rattle.chip_detect.proofs.ListLemmas.{contains_later, contains_nothing, contained, none_some, contains_cases}
-pub use Rattle.chip_detect.proofs.ListLemmas.{contains_first, cases_option, few_places}
-unfoldable pub use Rattle.chip_detect.proofs.ListLemmas.{place_in}
+pub use Rattle.chip_detect.proofs.ListLemmas.{contains_nothing, none_some, contains_cases}
+pub use Rattle.chip_detect.proofs.ListLemmas.{cases_option}
 pub use Rattle.chip_detect.specs.Acknowledging.{is_parent, or_else}
 pub use Rattle.chip_part.proofs.EdgeLemmas.{tail_root, tail_graph, head_graph, head_root, over_ins_graph}
 pub use Rattle.chip_part.proofs.OpeningLemmas.{first_sent, first_fed, opening_keeps, first_few, first_is}
 pub use Rattle.chip_part.proofs.PartLemmas.{at_edge, idle_take, no_fire, no_pending, no_halt, passive_parts, out_zero}
-pub use Rattle.chip_part.proofs.PartLemmas.{none_halt, tail_inside, in_zero, may_le, at_other}
+pub use Rattle.chip_part.proofs.PartLemmas.{none_halt, tail_inside, may_le, at_other}
 pub use Rattle.chip_part.proofs.PhaseLemmas.{Spreads, of_takes, of_settles, of_firing, of_puts, of_sending_all}
 pub use Rattle.chip_part.proofs.PhaseLemmas.{of_limit, of_acks, of_turn}
 pub use Rattle.chip_part.proofs.PickedLemmas.{among_new_outs, among_new_ins}
-pub use Rattle.chip_part.proofs.RestingLemmas.{rests, idle_little, nothing_left, was_parent, same_edge}
+pub use Rattle.chip_part.proofs.RestingLemmas.{nothing_left, same_edge}
 pub use Rattle.chip_part.proofs.RuleLemmas.{rules_met, met_rules, running, some_of, is_none_of}
 pub use Rattle.chip_part.proofs.TurnLemmas.{at_most_one}
 pub use Rattle.chip_part.specs.Acting.{FitsSeen, is_of_root, FitsRoot}
@@ -75,7 +74,7 @@ pub use Rattle.chip_part.specs.Part.{pending_of, owed, is_passive, is_legal, is_
 pub use Rattle.chip_part.specs.Part.{refusals, cause, all_fed, AreGiven, first_put}
 pub use Rattle.chip_part.specs.Setting.{Setting}
 pub use Rattle.chip_part.specs.Steps.{saw, link_after, stop_after, message_of, settled_after, got_after, acked_after}
-pub use Rattle.chip_part.specs.Steps.{parent_after, halt_after, fired_after}
+pub use Rattle.chip_part.specs.Steps.{halt_after, fired_after}
 pub use Rattle.chip_part.specs.Turn.{Phase, nothing, either_phase, each_phase, one_step, seeing, ins_of, outs_of}
 pub use Rattle.chip_part.specs.Turn.{may_fire, batch_of, putting, sending, sending_all, after_claim_phase, is_at_limit}
 pub use Rattle.chip_part.specs.Turn.{acknowledging_parent, turn}

@@ -1,7 +1,7 @@
 -- Serves Detection.antt, Core.antt. A detection order exists in every legal log, and nobody is engaged if the root is
 -- closed: both by the theorem on diffusing computations.
-use Rattle.chip_core.proofs.Names.{eqb-true, ◌≡◌, ℕ, ◌<◌, eqb, List, [], ◌∷◌, length, refl, sym, ap, ◌∙◌, subst}
-use Rattle.chip_core.proofs.Names.{arith, ⊎_elim, option_to_list, IsGame, Setting, tested_none, owed, IsNeutral, Part}
+use Rattle.chip_core.proofs.Names.{eqb-true, ◌≡◌, ℕ, ◌<◌, eqb, List, [], ◌∷◌, length, refl, sym, ap, ◌∙◌, subst, arith}
+use Rattle.chip_core.proofs.Names.{⊎_elim, option_to_list, IsGame, Setting, tested_none, owed, IsNeutral, Part}
 use Rattle.chip_core.proofs.Names.{out_zero, Log, part_in, out_in, into_in, IsLegalLog, IsClosed, outstanding}
 use Rattle.chip_core.proofs.Names.{all_edges, tail_of, root, IsTree, IsDetectionOrder, is_passive, true, ◌≤◌, claims_of}
 use Rattle.chip_core.proofs.Names.{nat_tests}

@@ -15,7 +15,7 @@ use Rattle.chip_core.proofs.Names.{ℕ_discrete, Met, saw, link_after, tail_root
 use Rattle.chip_core.proofs.Names.{contains_cases}
 use Rattle.chip_core.proofs.LogLemmas.{link_step, head_inside, tail_cases, legal_before, in_pieces, end_stays, met_here}
 use Rattle.chip_core.proofs.OrderLemmas.{all_counts}
-use Rattle.chip_core.proofs.ClosingLemmas.{still, still_closed, still_run, Rests, rested, at_rest}
+use Rattle.chip_core.proofs.ClosingLemmas.{still, still_closed, still_run, Rests, rested}
 use Rattle.chip_core.proofs.IdleLemmas.{counts_here, work_grows}
 use Rattle.chip_core.proofs.WorkLemmas.{edge_work, vertex_work, refused_on, work_step, refusal_step, few_steps}
 use Rattle.chip_core.proofs.WorkLemmas.{few_refusals}
@@ -270,8 +270,7 @@ module _ (g : Setting) (game : IsGame g.game) (some_ring : 0 < g.ring) where
     unmet x not_met = rw is_now not_met
 
     may_not : (x : Event) → (unmet_rule g x (acting_part g now x) ≡ None) → Rests g x (sees g now x) (part_in g now (part_of g x))
-    may_not x may = rested g game some_ring now legal (at_rest g game some_ring now legal closed) x (sees g now x)
-        (legal, (may, refl))
+    may_not x may = rested g game some_ring now legal closed x (sees g now x) (legal, (may, refl))
 
     all_asked : AsksForEverything g before (events_in xs)
     all_asked = record {

@@ -3,9 +3,9 @@
 use Rattle.chip_core.proofs.Names.{◌≡◌, ℕ, zero, suc, ◌+◌, ◌-◌, ◌<◌, ◌≤◌, List, [], ◌∷◌, ◌++◌, length, Some, None}
 use Rattle.chip_core.proofs.Names.{Contains, refl, sym, ap, ◌∙◌, subst, arith, ⊎_elim, append_assoc, length-drop}
 use Rattle.chip_core.proofs.Names.{Contains-append_left, Contains-append_right, dite, dec_lt, IsGame, cond_yes}
-use Rattle.chip_core.proofs.Names.{claims_of, sent_counts, length-sent_counts, Setting, owed, saw, Part}
-use Rattle.chip_core.proofs.Names.{settled_after, nothing_left, Log, Step, Event, Settle, part_in, out_in, into_in}
-use Rattle.chip_core.proofs.Names.{IsLegalLog, IsClosed, tail_of, head_of, root, all_edges, graph_edges, messages_from}
+use Rattle.chip_core.proofs.Names.{claims_of, sent_counts, length-sent_counts, Setting, owed, saw, Part, settled_after}
+use Rattle.chip_core.proofs.Names.{nothing_left, Log, Step, Event, Settle, part_in, out_in, into_in, IsLegalLog}
+use Rattle.chip_core.proofs.Names.{IsClosed, tail_of, head_of, root, all_edges, graph_edges, messages_from}
 use Rattle.chip_core.proofs.Names.{counts_in_flight, IsTree, IsDetectionOrder, done_by, HasTurn, HasRounds}
 use Rattle.chip_core.proofs.Names.{HasTerminated, IsAtMostDeep, HasRoundInOrder, DepthCloses, DepthClosesLater}
 use Rattle.chip_core.proofs.Names.{DepthIsCounted, nat_tests, cases_option, contains_cases}
@@ -68,8 +68,8 @@ module _ (g : Setting) where
 
     goes : (xs log : Log) → IsLegalLog g (xs ++ log) → Goes (was g log) (was g (xs ++ log))
     goes [] log legal = ([], refl)
-    goes (x ∷ xs) log legal = goes_on (was g log) (was g (xs ++ log)) (was g (x ∷ xs ++ log)) (goes xs log legal.0)
-        (_, one_event g game some_ring x.event x.seen (xs ++ log) legal)
+    goes (x ∷ xs) log legal = let before = goes xs log legal.0 in
+        (_ ∷ before.0, (was g (xs ++ log), before.1, one_event g game some_ring x.event x.seen (xs ++ log) legal))
 
     -- ---- turns and rounds
 

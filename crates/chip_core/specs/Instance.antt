@@ -1,5 +1,5 @@
 -- The core of a running game as a diffusing computation (`chip_diffusing`).
-use Rattle.std.specs.Prelude.{◌≡◌, ℕ, ◌+◌, ◌<◌, ◌≤◌, ◌==◌, nat_lt, Bool, true, if◌then◌else◌, ◌∷◌, ◌++◌, length}
+use Rattle.std.specs.Prelude.{◌≡◌, ℕ, ◌+◌, ◌<◌, ◌==◌, nat_lt, Bool, true, if◌then◌else◌, ◌∷◌, length}
 use Rattle.chip_graph.specs.ChipGame.{IsGame}
 use Rattle.chip_link.specs.Link.{claims_of}
 use Rattle.chip_part.specs.Setting.{Setting}
@@ -27,15 +27,15 @@ pub record Shows (g : Setting) (parts : ℕ → Part) (w : diffusing.World) : Ty
   pub parent : (p : ℕ) → (w p).books.parent ≡ (parts p).parent
   pub passive : (p : ℕ) → (w p).passive ≡ passive_of g p (parts p)
 
--- each log of the core is a log of this network, and its world shows the parts. A step adds at most two events, and they
--- lead from the world before it to the world after it
+-- each log of the core is a log of this network, and its world shows the parts. A step is one event, which leads from the
+-- world before it to the world after it
 pub record Diffuses (g : Setting) : Type 0 where
   pub events : Log → diffusing.Log
   pub world : Log → diffusing.World
   pub shows : (log : Log) → Shows g (part_in g log) (world log)
   pub legal : (log : Log) → IsLegalLog g log → diffusing.IsLegalLog (network_of g) (events log) (world log)
-  pub goes_on : (x : Step) (log : Log) → IsLegalLog g (x ∷ log) → (now : diffusing.Log) × (length now ≤ 2)
-      × (events (x ∷ log) ≡ now ++ events log) × diffusing.Leads (network_of g) (world log) now (world (x ∷ log))
+  pub goes_on : (x : Step) (log : Log) → IsLegalLog g (x ∷ log) → (event : diffusing.Event)
+      × (events (x ∷ log) ≡ event ∷ events log) × diffusing.Happens (network_of g) (world log) event (world (x ∷ log))
 
 -- so it is for every game and every ring
 abbrev pub CoreDiffuses : Type 0

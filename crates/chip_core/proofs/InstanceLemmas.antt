@@ -137,10 +137,14 @@ module _ (g : Setting) where
   pub at_root : (p : ℕ) (s : Part) → p ≡ root g → passive_of g p s ≡ s.ended
   at_root p s at = grind (arith, nat_tests)
 
+  pub owes_same : (e p : ℕ) (s : Part) → e < all_edges g → head_of g e ≡ p
+      → owed (books_of p s) e ≡ part.owed (s.into e)
+  owes_same e p s l at = side_open (ins p) (λ i. length (s.into i).got) (λ i. (s.into i).acked) e (in_ins e p l at)
+
   pub may_same : (e p : ℕ) (s : Part) → e < all_edges g → head_of g e ≡ p → p < root g
       → detect.may_ack (books_of p s) e (passive_of g p s) ≡ part.may_ack g p s e
   may_same e p s l at vertex =
-      let here = side_open (ins p) (λ i. length (s.into i).got) (λ i. (s.into i).acked) e (in_ins e p l at) in
+      let here = owes_same e p s l at in
       let all = owed_same p s in let waits = deficit_same p s in let rests = at_vertex p s vertex in cc
 
   below_all : (test : ℕ → Bool) (e : ℕ) → Contains (filter_below test (all_edges g)) e → e < all_edges g

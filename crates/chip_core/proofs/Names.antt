@@ -103,7 +103,7 @@ pub use Rattle.chip_core.specs.Positions.{chips_given, held, chips_at, firings, 
 pub use Rattle.chip_core.specs.Positions.{full_position, firings_of, LeadsTo, events_in}
 pub use Rattle.chip_core.specs.Reached.{parts_by, IsOneMore, IsReached, at_opening, one_more, ReachedByLegalLogs}
 pub use Rattle.chip_core.specs.Replies.{is_idle, DifferInNotes, IdleStepsLeave, RunsGoOn}
-pub use Rattle.chip_core.specs.Soon.{HasTerminated, IsAtMostDeep, HasRoundInOrder, DepthCloses, DepthClosesLater}
+pub use Rattle.chip_core.specs.Soon.{HasTerminated, IsAtMostDeep, DepthCloses, DepthClosesLater}
 pub use Rattle.chip_core.specs.Soon.{DepthIsCounted}
 pub use Rattle.chip_core.specs.Wasting.{AllAdvance, NoneIsDue, NoWasteCloses}
 pub use Rattle.chip_core.specs.Words.{acting_part, of_edge, of_cell, Word, of_vertex, IsWord, halt_bits, word_of_event}

@@ -6,11 +6,10 @@ use Rattle.chip_core.proofs.Names.{out_zero, Log, part_in, out_in, into_in, IsLe
 use Rattle.chip_core.proofs.Names.{all_edges, tail_of, root, IsTree, IsDetectionOrder, is_passive, true, ◌≤◌, claims_of}
 use Rattle.chip_core.proofs.Names.{nat_tests}
 use Rattle.chip_core.proofs.LogLemmas.{part_kept, edge_counts, tail_cases}
-use Rattle.chip_core.proofs.InstanceLemmas.{net, ins, was, events_of, is_network, legal_there, in_ins, at_root}
-use Rattle.chip_core.proofs.InstanceLemmas.{deficit_same, shows}
+use Rattle.chip_core.proofs.InstanceLemmas.{net, was, events_of, is_network, legal_there, at_root}
+use Rattle.chip_core.proofs.InstanceLemmas.{owes_same, deficit_same, shows}
 use Rattle.chip_diffusing.specs.Computation as diffusing
 use Rattle.chip_diffusing.specs.Ending as diffusing_order
-use Rattle.chip_diffusing.proofs.CountedLemmas.{side_open}
 use Rattle.chip_diffusing.proofs.OrderLemmas as theorem
 
 module _ (g : Setting) (game : IsGame g.game) (some_ring : 0 < g.ring) (log : Log) (legal : IsLegalLog g log) where
@@ -23,8 +22,7 @@ module _ (g : Setting) (game : IsGame g.game) (some_ring : 0 < g.ring) (log : Lo
       let e : ℕ = tree.2.0 in
       let p = tree.2.1 in
       let s : Part = part_in g log v in
-      let here = side_open (ins g v) (λ i. length (s.into i).got) (λ i. (s.into i).acked) e
-      (in_ins g e v p.into.0 p.into.1) in
+      let here = owes_same g e v s p.into.0 p.into.1 in
       let owes = p.owes in
       let mine : 0 < owed (s.into e) = omega arith in (
         tree_is vs tree.0,

@@ -5,20 +5,19 @@ use Rattle.chip_core.proofs.Names.{Contains, refl, sym, ap, ◌∙◌, subst, ar
 use Rattle.chip_core.proofs.Names.{Contains-append_left, Contains-append_right, dite, dec_lt, IsGame, cond_yes}
 use Rattle.chip_core.proofs.Names.{claims_of, sent_counts, length-sent_counts, Setting, owed, saw, Part, settled_after}
 use Rattle.chip_core.proofs.Names.{nothing_left, Log, Step, Event, Settle, part_in, out_in, into_in, IsLegalLog}
-use Rattle.chip_core.proofs.Names.{IsClosed, tail_of, head_of, root, all_edges, graph_edges, messages_from}
+use Rattle.chip_core.proofs.Names.{IsClosed, head_of, all_edges, graph_edges, messages_from}
 use Rattle.chip_core.proofs.Names.{counts_in_flight, IsTree, IsDetectionOrder, done_by, HasTurn, HasRounds}
-use Rattle.chip_core.proofs.Names.{HasTerminated, IsAtMostDeep, HasRoundInOrder, DepthCloses, DepthClosesLater}
+use Rattle.chip_core.proofs.Names.{HasTerminated, IsAtMostDeep, DepthCloses, DepthClosesLater}
 use Rattle.chip_core.proofs.Names.{DepthIsCounted, nat_tests, cases_option, contains_cases}
 use Rattle.chip_core.proofs.LogLemmas.{part_kept, settled_step, acked_step, head_inside, tail_inside, tail_cases}
 use Rattle.chip_core.proofs.LogLemmas.{acked_grows, settled_grows, legal_before, in_pieces}
 use Rattle.chip_core.proofs.RoundLemmas.{makes_turn, settles_all, own_in}
 use Rattle.chip_core.proofs.ReachingLemmas.{part_own}
-use Rattle.chip_core.proofs.InstanceLemmas.{net, ins, was, events_of, is_network, legal_there, one_event, in_ins, shows}
-use Rattle.chip_core.proofs.InstanceLemmas.{may_same}
+use Rattle.chip_core.proofs.InstanceLemmas.{net, was, events_of, is_network, legal_there, one_event, shows}
+use Rattle.chip_core.proofs.InstanceLemmas.{may_same, owes_same}
 use Rattle.chip_core.proofs.OrderLemmas.{silent_there, closed_here}
 use Rattle.chip_diffusing.specs.Computation as diffusing
 use Rattle.chip_diffusing.specs.Ending as rounds
-use Rattle.chip_diffusing.proofs.CountedLemmas.{side_open}
 use Rattle.chip_diffusing.proofs.KeptLemmas.{legal_kept}
 use Rattle.chip_diffusing.proofs.SilentLemmas.{leads_on}
 use Rattle.chip_diffusing.proofs.DepthLemmas as theorem
@@ -128,94 +127,66 @@ module _ (g : Setting) where
             });
           }
 
-    -- n rounds, and then the root hears of what was acknowledged in them
-    record Ends (n : ℕ) (old end : diffusing.World) : Type 0 where
-      later : diffusing.World
-      rounds : rounds.HasRounds (net g) n old later
-      goes : Goes later end
-      heard : (e : ℕ) → e < all_edges g → tail_of g e ≡ root g
-          → diffusing.acked_on (net g) later e ≤ diffusing.settled_on (net g) end e
-
     first_round : (n : ℕ) (a b c : diffusing.World) → rounds.HasRound (net g) a b → rounds.HasRounds (net g) n b c
         → rounds.HasRounds (net g) (suc n) a c
     first_round zero a b c one same = (a, refl, subst (rounds.HasRound (net g) a) same one)
     first_round (suc n) a b c one (w, more, last) = (w, first_round n a b w one more, last)
 
-    one_more : (n : ℕ) (a b c : diffusing.World) → rounds.HasRound (net g) a b → Ends n b c → Ends (suc n) a c
-    one_more n a b c one ends = record {
-      later = ends.later;
-      rounds = first_round n a b ends.later one ends.rounds;
-      goes = ends.goes;
-      heard = ends.heard;
+    -- n rounds at the end of these steps, after k rounds
+    record Parted (k n : ℕ) (xs log : Log) : Type 0 where
+      rest : Log
+      mid : Log
+      all_is : xs ++ log ≡ rest ++ mid
+      before : rounds.HasRounds (net g) k (was g log) (was g mid)
+      left : HasRounds g n mid rest
+
+    parted : (k m n : ℕ) → m ≡ k + n → (xs log : Log) → IsLegalLog g (xs ++ log) → HasRounds g m log xs → Parted k n xs log
+    parted zero m n is xs log legal has = let same : m ≡ n = omega arith in record {
+      rest = xs;
+      mid = log;
+      all_is = refl;
+      before = refl;
+      left = subst (λ (i : ℕ). HasRounds g i log xs) same has;
     }
-
-    -- the root settles all its edges
-    settles_end : (xs log : Log) → IsLegalLog g (xs ++ log)
-        → ((e : ℕ) → graph_edges g ≤ e → e < all_edges g → (x : Step) × Contains xs x × (x.event ≡ Settle e))
-        → Ends 0 (was g log) (was g (xs ++ log))
-    settles_end xs log legal settles = record {
-      later = was g log;
-      rounds = refl;
-      goes = goes xs log legal;
-      heard = λ e l at.
-          let past : graph_edges g ≤ e = dite (dec_lt e (graph_edges g))
-          (λ own. absurd (let a = tail_inside g game e own in omega arith)) (λ n. omega arith) in
-          let x = settles e past l in let a = settle_seen xs log legal x.0 x.1 e x.2 in
-          let b = (shows g log).acked e l in let c = (shows g (xs ++ log)).settled e l in omega arith;
-    }
-
-    -- after all turns of the last round
-    in_order : (n : ℕ) (xs last log : Log) → IsLegalLog g (last ++ (xs ++ log)) → HasRounds g n log xs
-        → HasRoundInOrder g (xs ++ log) last → Ends (suc n) (was g log) (was g (last ++ (xs ++ log)))
-    in_order zero xs last log legal has round =
-        let turned : Log = round.front ++ (xs ++ log) in
-        let same : last ++ (xs ++ log) ≡ round.back ++ turned =
-        (let a = append_assoc round.back round.front (xs ++ log) in let b = round.all_are in cc) in
-        let all = subst (IsLegalLog g) same legal in
-        one_more 0 (was g log) (was g turned) (was g (last ++ (xs ++ log)))
-        (round_there log xs round.front (legal_before g round.back turned all) round.turns)
-        (subst (λ (l : Log). Ends 0 (was g turned) (was g l)) (sym same) (settles_end round.back turned all round.settles))
-    in_order (suc n) xs last log legal (front, round, back, is, has, more) order =
+    parted (suc k) zero n is xs log legal has = absurd (omega arith)
+    parted (suc k) (suc m) n is xs log legal (front, round, back, all_are, has, more) =
         let mid : Log = round ++ (front ++ log) in
-        let same = in_pieces front round back xs log is in
-        let all = subst (λ (l : Log). IsLegalLog g (last ++ l)) same legal in
-        one_more (suc n) (was g log) (was g mid) (was g (last ++ (xs ++ log)))
-        (round_there log front round (legal_before g back mid (legal_before g last (back ++ mid) all)) has.turns)
-        (subst (λ (l : Log). Ends (suc n) (was g mid) (was g (last ++ l))) (sym same)
-        (in_order n back last mid all more (subst (λ (l : Log). HasRoundInOrder g l last) same order)))
-
-    -- wherever in one more round
-    in_any_order : (n : ℕ) (xs log : Log) → IsLegalLog g (xs ++ log) → HasRounds g (suc n) log xs
-        → Ends n (was g log) (was g (xs ++ log))
-    in_any_order zero xs log legal (front, round, back, is, has, more) =
-        settles_end xs log legal (λ e past l. let x = has.settles e past l in (
-          x.0,
-          rw is (Contains-append_right back (round ++ front) x.0 (Contains-append_left round front x.0 x.1)),
-          x.2,
-        ))
-    in_any_order (suc n) xs log legal (front, round, back, is, has, more) =
-        let mid : Log = round ++ (front ++ log) in
-        let same = in_pieces front round back xs log is in
+        let same = in_pieces front round back xs log all_are in
         let all = subst (IsLegalLog g) same legal in
-        one_more n (was g log) (was g mid) (was g (xs ++ log))
-        (round_there log front round (legal_before g back mid all) has.turns)
-        (subst (λ (l : Log). Ends n (was g mid) (was g l)) (sym same) (in_any_order n back mid all more))
+        let later = parted k m n (omega arith) back mid all more in
+        record {
+          rest = later.rest;
+          mid = later.mid;
+          all_is = same ∙ later.all_is;
+          before = first_round k (was g log) (was g mid) (was g later.mid)
+              (round_there log front round (legal_before g back mid all) has.turns) later.before;
+          left = later.left;
+        }
 
     -- ---- by the theorem
 
-    closes : (log new : Log) → IsLegalLog g log → IsLegalLog g new → HasTerminated g log → (depth : ℕ)
-        → IsAtMostDeep g log depth → Ends (suc depth) (was g log) (was g new) → IsClosed g new
-    closes log new legal new_legal over depth deep ends =
+    -- one round more than the tree is deep, after which the root settles all its edges
+    closes : (log : Log) → IsLegalLog g log → HasTerminated g log → (depth : ℕ) → IsAtMostDeep g log depth
+        → (mid xs : Log) → IsLegalLog g (xs ++ mid) → rounds.HasRounds (net g) (suc depth) (was g log) (was g mid)
+        → ((e : ℕ) → graph_edges g ≤ e → e < all_edges g → (x : Step) × Contains xs x × (x.event ≡ Settle e))
+        → IsClosed g (xs ++ mid)
+    closes log legal over depth deep mid xs new has settles =
         let taken : (e : ℕ) → e < all_edges g → claims_of (out_in g log e).link ≤ length (into_in g log e).got = λ e l.
         let got : ℕ = length (into_in g log e).got in
         let a = no_messages e got (counts_in_flight g log e) (over.delivered e l) in
         let b = length-drop got (sent_counts (out_in g log e).link) in
         let c = length-sent_counts (out_in g log e).link in omega arith in
-        closed_here g game some_ring new new_legal (theorem.depth_closes (net g) (is_network g game some_ring)
+        closed_here g game some_ring (xs ++ mid) new (theorem.depth_closes (net g) (is_network g game some_ring)
         (events_of g log) (was g log) (legal_there g game some_ring log legal)
         (silent_there g game some_ring log legal over.passive taken over.end) depth
         (record { level = deep.level; below = λ p l e is. deep.below p (engaged_inside log legal p e is) e is })
-        ends.later (was g new) ends.rounds ends.goes (λ e out. ends.heard e out.0 out.1))
+        (was g mid) (was g (xs ++ mid)) has (goes xs mid new)
+        (λ e out.
+        let root_is = out.1 in
+        let past : graph_edges g ≤ e = dite (dec_lt e (graph_edges g))
+        (λ own. absurd (let a = tail_inside g game e own in omega arith)) (λ n. omega arith) in
+        let x = settles e past out.0 in let a = settle_seen xs mid new x.0 x.1 e x.2 in
+        let b = (shows g mid).acked e out.0 in let c = (shows g (xs ++ mid)).settled e out.0 in omega arith))
 
     -- ---- the core's trees are trees there
 
@@ -226,8 +197,7 @@ module _ (g : Setting) where
           let e : ℕ = tree.2.0 in
           let p = tree.2.1 in
           let s : Part = part_in g log v in
-          let here = side_open (ins g v) (λ i. length (s.into i).got) (λ i. (s.into i).acked) e
-          (in_ins g e v p.is_edge p.head) in
+          let here = owes_same g e v s p.is_edge p.head in
           let owes : 0 < owed (s.into e) = subst (λ (q : ℕ). 0 < owed ((part_in g log q).into e)) p.head p.owes in (
             tree_there vs tree.0,
             tree.1,
@@ -256,14 +226,29 @@ module _ (g : Setting) where
       }
 
 pub depth_closes : DepthCloses
-depth_closes g game some_ring log legal over depth tree rounds last has order all_legal =
-    closes g game some_ring log (last ++ (rounds ++ log)) legal all_legal over depth tree
-    (in_order g game some_ring depth rounds last log all_legal has order)
+depth_closes g game some_ring log legal over depth tree xs last has order all_legal =
+    let p = parted g game some_ring depth depth 0 (omega arith) xs log (legal_before g last (xs ++ log) all_legal) has in
+    let turned : Log = order.front ++ (xs ++ log) in
+    let same : last ++ (xs ++ log) ≡ order.back ++ turned =
+    (let a = append_assoc order.back order.front (xs ++ log) in let b = order.all_are in cc) in
+    let all = subst (IsLegalLog g) same all_legal in
+    let its = p.all_is in
+    let turned_legal = subst (λ (l : Log). IsLegalLog g (order.front ++ l)) its (legal_before g order.back turned all) in
+    subst (IsClosed g) (sym same) (closes g game some_ring log legal over depth tree turned order.back all
+    (was g p.mid, p.before, subst (λ (l : Log). rounds.HasRound (net g) (was g p.mid) (was g (order.front ++ l))) (sym its)
+    (round_there g game some_ring p.mid p.rest order.front turned_legal (λ v l.
+    subst (λ (w : Log). HasTurn g v w order.front) its (order.turns v l)))) order.settles)
 
 pub depth_closes_later : DepthClosesLater
-depth_closes_later g game some_ring log legal over depth tree rounds has all_legal =
-    closes g game some_ring log (rounds ++ log) legal all_legal over depth tree
-    (in_any_order g game some_ring (suc depth) rounds log all_legal has)
+depth_closes_later g game some_ring log legal over depth tree xs has all_legal =
+    let p = parted g game some_ring (suc depth) (suc (suc depth)) 1 (omega arith) xs log all_legal has in
+    let (front, round, back, is, last, more) = p.left in
+    subst (IsClosed g) (sym p.all_is) (closes g game some_ring log legal over depth tree p.mid p.rest
+    (subst (IsLegalLog g) p.all_is all_legal) p.before (λ e past l. let x = last.settles e past l in (
+      x.0,
+      rw is (Contains-append_right back (round ++ front) x.0 (Contains-append_left round front x.0 x.1)),
+      x.2,
+    )))
 
 pub depth_is_counted : DepthIsCounted
 depth_is_counted g game some_ring log legal vs order =

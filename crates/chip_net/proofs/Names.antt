@@ -82,6 +82,7 @@ pub use Rattle.chip_core.proofs.ClosingLemmas.{all_ended}
 pub use Rattle.chip_core.proofs.DueLemmas.{never_stuck}
 pub use Rattle.chip_core.proofs.GivenLemmas.{root_gave, played_has_more, given_is, given_start, given_within}
 pub use Rattle.chip_core.proofs.GivenLemmas.{unfed_played, never_sealed}
+pub use Rattle.chip_core.proofs.InstanceLemmas.{core_diffuses}
 pub use Rattle.chip_core.proofs.LogLemmas.{edge_sound}
 pub use Rattle.chip_core.proofs.NumberLemmas.{fits_seen, words_tell, counts_of_edges, root_fits, claims_most}
 pub use Rattle.chip_core.proofs.NumberLemmas.{seals_stand_law}
@@ -105,7 +106,7 @@ pub use Rattle.chip_core.specs.Words.{IsWord, word_to_note, Word, of_edge, of_ac
 pub use Rattle.chip_core.specs.Words.{word_of_event, left_by, IsShown, IsLeft, acting_part}
 pub use Rattle.chip_net.specs.Finish.{reads_from, IsReadOut, ReadingsState, is_by_limit_at, is_by_seal_at, AreRead}
 pub use Rattle.chip_net.specs.Finish.{IsReading, IsOneEnd, Finishes, ReadsAt, readings_after, no_readings}
-pub use Rattle.chip_net.specs.Laws.{EveryMomentIsReached}
+pub use Rattle.chip_net.specs.Laws.{EveryMomentIsReached, EveryMomentDiffuses}
 pub use Rattle.chip_net.specs.Layout.{index_of, first_cell, first_fired, word_count, value_in}
 pub use Rattle.chip_net.specs.Meeting.{Together, IsRun, SealsTellAll}
 pub use Rattle.chip_net.specs.Opening.{first_value, AreOpening}

@@ -3,7 +3,8 @@
 use Rattle.chip_net.proofs.Names.{◌≡◌, ℕ, List, length, take, drop, take-append-drop, IsPrefix}
 use Rattle.chip_net.proofs.Names.{Step, part_in, done_by, parts_by, never_sealed}
 use Rattle.chip_net.proofs.Names.{counts_of_edges, edge_sound, by_history, reached_by_legal_logs}
-use Rattle.chip_net.proofs.Names.{EveryMomentIsReached}
+use Rattle.chip_net.proofs.Names.{EveryMomentIsReached, EveryMomentDiffuses, Part, core_diffuses, subst}
+use Rattle.chip_core.specs.Instance.{Shows}
 
 -- the front of a list is a prefix of it
 front : (got put : List ℕ) → got ≡ take (length got) put → IsPrefix got put
@@ -35,3 +36,15 @@ every_moment g s kept =
       });
       fired = λ v l. rw (← by_history g kept.log v) (kept.shown.fired v l);
     }
+
+pub every_moment_diffuses : EveryMomentDiffuses
+unfolding every_moment
+every_moment_diffuses g s kept =
+    let d = (core_diffuses g kept.setting.game kept.setting.some_ring).1 in
+    let parts : part_in g kept.log ≡ parts_by g (λ p. done_by g p kept.log) = (λ i p. by_history g kept.log p i) in (
+      every_moment g s kept,
+      d.events kept.log,
+      d.world kept.log,
+      d.legal kept.log kept.legal,
+      subst (λ (ps : ℕ → Part). Shows g ps (d.world kept.log)) parts (d.shows kept.log),
+    )

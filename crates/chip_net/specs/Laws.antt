@@ -12,6 +12,8 @@ use Rattle.chip_net.specs.Layout.{value_in}
 use Rattle.chip_net.specs.Views.{View, find_in}
 use Rattle.chip_core.specs.Core.{Event, IsClosed}
 use Rattle.chip_core.specs.Closing.{HasEnd, Advances}
+use Rattle.chip_core.specs.Instance.{network_of, Shows}
+use Rattle.chip_diffusing.specs.Computation as diffusing
 use Rattle.chip_net.specs.Rule.{Kept}
 
 -- the words of an edge are what the parts have made of them, and what was sent on it arrives in order
@@ -55,3 +57,9 @@ EveryMomentIsReached = (g : Setting) (s : State (Unit {0}) View) → Kept g s �
 abbrev pub AlwaysDue : Type 0
 AlwaysDue = (g : Setting) (s : State (Unit {0}) View) → (kept : Kept g s) → HasEnd g kept.log
     → (IsClosed g kept.log → ⊥) → (x : Event) × Advances g kept.log x
+
+-- in every such state some legal log of a diffusing computation shows what the parts did
+abbrev pub EveryMomentDiffuses : Type 0
+EveryMomentDiffuses = (g : Setting) (s : State (Unit {0}) View) → Kept g s → (table : IsReachedTable g s)
+    × (events : diffusing.Log) × (w : diffusing.World) × diffusing.IsLegalLog (network_of g) events w
+    × Shows g (parts_by g table.did) w

@@ -2,7 +2,7 @@
 
 ghost use Rattle.chip_net.specs.Worked.{TriangleWords, TriangleOpens, PartTakenOut, RowsOfATurn, RootOfTheTriangle};
 ghost use Rattle.chip_net.specs.Worked.{FeedOfTheTriangle};
-ghost use Rattle.chip_net.specs.Laws.{EveryMomentIsReached, AlwaysDue};
+ghost use Rattle.chip_net.specs.Laws.{EveryMomentIsReached, AlwaysDue, EveryMomentDiffuses};
 ghost use Rattle.chip_net.specs.Meeting.{OneRun, SealsTellAll};
 
 /// The small triangle as a net, as the definitions compute it.
@@ -21,6 +21,13 @@ pub fn worked_nets()
 #[tactic(auto, using(crate::proofs::ReachingLemmas::every_moment))]
 pub fn every_moment()
     ensures { EveryMomentIsReached }
+{}
+
+/// In each of these states a legal log of a diffusing computation shows what the parts did. So what holds of the detector in
+/// any computation holds between any two steps of threads.
+#[tactic(auto, using(crate::proofs::ReachingLemmas::every_moment_diffuses))]
+pub fn every_moment_diffuses()
+    ensures { EveryMomentDiffuses }
 {}
 
 /// Once the end of feeding is noted and until the root is closed, some part has an event that advances.

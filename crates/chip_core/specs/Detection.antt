@@ -1,4 +1,5 @@
 -- The tree of Dijkstra and Scholten (Termination detection for diffusing computations, 1980), as a list of its members.
+-- This is in the words of the core what `IsDetectionOrder` of `chip_diffusing` is in any computation.
 use Rattle.std.specs.Prelude.{◌≡◌, ◌⊎◌, ℕ, ◌<◌, List, [], ◌∷◌, Contains, Some}
 use Rattle.chip_part.specs.Setting.{Setting}
 use Rattle.chip_part.specs.Part.{owed}

@@ -37,6 +37,6 @@ pub record Diffuses (g : Setting) : Type 0 where
   pub goes_on : (x : Step) (log : Log) → IsLegalLog g (x ∷ log) → (event : diffusing.Event)
       × (events (x ∷ log) ≡ event ∷ events log) × diffusing.Happens (network_of g) (world log) event (world (x ∷ log))
 
--- so it is for every game and every ring
+-- so it is for every game within the limits and every ring with a cell
 abbrev pub CoreDiffuses : Type 0
 CoreDiffuses = (g : Setting) → IsGame g.game → 0 < g.ring → IsNetwork (network_of g) × Diffuses g

@@ -21,6 +21,8 @@ PROGRAM, SHARED, STATIC = FILES = ("chipfire", "libchipfire.so", "libchipfire.a"
 BUILT = ("program", SHARED, STATIC)
 #: The name under which what was linked with the library asks for it.
 SONAME = "libchipfire.so.0"
+#: The package for browsers and Node, a folder beside them, and the module in it.
+WEB, MODULE = "js", "chipfire.wasm"
 
 #: Places in the folder of the archive, and in the folder usr of the Debian package.
 MANUAL = "share/man/man1/chipfire.1"

@@ -1,0 +1,168 @@
+/** chipfire: chip-firing games (abelian sandpiles), played by proved functions as WebAssembly, in browsers and Node.
+ *
+ * A graph has 1 to 2^21 vertices, numbered from 0, and up to 2^23 edges. No edge is a loop or leaves the sink, and from
+ * each vertex some way leads to the sink. An edge sends 1 to 2^20 chips at each firing of its tail. There are up to
+ * 2^40 chips.
+ *
+ * Each call takes numbers and arrays in any form, and returns those of 64 bits: a BigInt, or a BigUint64Array. It
+ * changes no array that it is given. What is refused throws a ChipfireFault, and what is no whole number from 0 to 2^64
+ * - 1 a TypeError or a RangeError. A call ends only with its play: call from a worker what may take long. */
+
+/** A whole number; above 2^53 a BigInt. */
+export type Whole = number | bigint;
+/** Whole numbers: a BigUint64Array is taken as it is, and others are converted. */
+export type Wholes = ArrayLike<Whole>;
+
+/** The most that a vertex may fire: 2^40. */
+export const MAX_LIMIT: bigint;
+
+/** A call that was refused. `chipfire explain NUMBER` says more of a fault. */
+export class ChipfireFault extends Error {
+  /** The number of the fault. */
+  readonly number: number;
+  /** The edge, the vertex, the game or the drop that it is about, from 0; and 0 if it is about none. */
+  readonly place: number;
+  /** The name of the fault. */
+  readonly kind: string;
+  /** What is wrong. */
+  readonly text: string;
+}
+
+/** A directed multigraph. */
+export class Graph {
+  readonly vertices: Whole;
+  readonly sink: Whole;
+  /** Of each edge its tail, its head, and how many chips one firing of the tail sends along it. */
+  readonly tails: BigUint64Array;
+  readonly heads: BigUint64Array;
+  readonly mults: BigUint64Array;
+  constructor(vertices: Whole, sink: Whole, tails: Wholes, heads: Wholes, mults: Wholes);
+  /** The graph of edges as rows [tail, head] or [tail, head, mult]. */
+  static fromEdges(vertices: Whole, sink: Whole, edges: Iterable<readonly Whole[]>): Graph;
+  /** A lattice of squares: `columns * row + column`, and after them the sink, to which a square sends a chip for each
+   * side without a neighbour. */
+  static grid(rows: number, columns?: number, options?: Lattice): Graph;
+  /** Chips on the graph: none but those of an object by vertices, as `{ 24: 100 }`. */
+  chips(on?: Readonly<Record<number, Whole>>): BigUint64Array;
+}
+
+export interface Lattice {
+  /** "square", if not said; "triangular", with 6 neighbours: also those above to the right and below to the left; or
+   * "hexagonal", with 3: left, right, and below if row and column together are even, else above. */
+  lattice?: "square" | "triangular" | "hexagonal";
+  /** Whether the first and the last row are neighbours, and whether the first and the last column are. */
+  periodic?: readonly [boolean, boolean];
+  /** How many chips more each square sends to the sink. If both directions are periodic, some are needed. */
+  loss?: number;
+}
+
+export interface Limited {
+  /** How often each vertex may fire at most: MAX_LIMIT if not said. */
+  limit?: Whole;
+}
+
+/** How a game ends. */
+export interface Stabilized {
+  /** The chips of each vertex at the end. */
+  chips: BigUint64Array;
+  /** How often each vertex fired: the odometer. */
+  fired: BigUint64Array;
+  /** How many vertices could fire at the end, and had fired as often as the limit allows. */
+  stopped: bigint;
+}
+
+/** How many games end, each game's numbers after those of the one before. */
+export interface AllStabilized {
+  chips: BigUint64Array;
+  fired: BigUint64Array;
+  /** One number for each game. */
+  stopped: BigUint64Array;
+}
+
+/** What one drop set off. */
+export interface Avalanche {
+  /** How often vertices fired. */
+  size: bigint;
+  /** How many different vertices fired. */
+  area: bigint;
+  /** How many chips they brought to the sink. */
+  lost: bigint;
+}
+
+/** The chips after all drops, and the columns of the avalanches: one number for each drop. */
+export interface Avalanches {
+  chips: BigUint64Array;
+  sizes: BigUint64Array;
+  areas: BigUint64Array;
+  losts: BigUint64Array;
+}
+
+/** A game that is kept, and on which chips are dropped. The most chips and the limit are for all drops together. */
+export interface Pile {
+  /** Plays what is still to be played, then drops chips on a vertex, 1 if not said, and plays to the end. */
+  drop(vertex: Whole, amount?: Whole): Avalanche;
+  /** The chips of each vertex; before the first drop those that were put there. */
+  chips(): BigUint64Array;
+  /** How often each vertex has fired. */
+  fired(): BigUint64Array;
+  /** Puts other chips there, in place of all. All counts are 0 again. */
+  put(chips: Wholes, options?: Limited): void;
+  /** Gives its memory back: there is no pile any more. */
+  free(): void;
+}
+
+/** The books of a process, by which it knows when messages may be acknowledged, and a root when all is over (Dijkstra
+ * and Scholten). docs/DETECTOR.md says what a process owes. An edge is a number below 2^64 - 1. */
+export interface Books {
+  /** For each edge into the process its number, how many messages came, and how many of them are acknowledged. */
+  ins: BigUint64Array;
+  /** For each edge out of it its number, how many messages were sent, and how many are known to be acknowledged. */
+  outs: BigUint64Array;
+  /** The edge whose message engages the process, or null. */
+  parent: bigint | null;
+  /** Notes a message that was sent on the edge. */
+  sent(edge: Whole): void;
+  /** Notes a message that came on the edge. It engages a neutral process. */
+  got(edge: Whole): void;
+  /** How many messages of the edge may be acknowledged now. */
+  mayAck(edge: Whole, passive: boolean): bigint;
+  /** Notes that so many messages of the edge are acknowledged. */
+  acked(edge: Whole, passive: boolean, count: Whole): void;
+  /** Notes how many messages of the edge its head has acknowledged from the beginning on; returns how many are new. */
+  settled(edge: Whole, acknowledged: Whole): bigint;
+  /** How many acknowledgements the process waits for. */
+  deficit(): bigint;
+  /** Asked of the root: whether all is over, once it sends no more. */
+  isOver(ended: boolean): boolean;
+  /** Throws a fault if the books are not sound. */
+  check(): void;
+}
+
+/** The proved functions, in one instance of the module. After a trap, as of the engine's stack, it refuses each call,
+ * since its memory may be in the midst of a change: load another. */
+export class Chipfire {
+  /** Takes what an instance of the module exports; `load` makes one. */
+  constructor(exports: WebAssembly.Exports);
+  readonly version: string;
+  /** How many bytes of memory the instance has; it never gives any back. */
+  readonly memory: number;
+  /** Plays a game to its end. A guess of the counts changes no answer; the play is shorter if it is near. */
+  stabilize(graph: Graph, chips: Wholes, options?: Limited & { guess?: Wholes }): Stabilized;
+  /** Plays many games on one graph, whose chips stand one game's after another's. */
+  stabilizeAll(
+    graph: Graph,
+    chips: Wholes,
+    options?: Limited & { guesses?: Wholes; games?: number },
+  ): AllStabilized;
+  /** Plays a game to its end, and then drops `amounts[i]` chips on vertex `at[i]`, each drop played to its end. */
+  avalanches(graph: Graph, chips: Wholes, at: Wholes, amounts: Wholes, options?: Limited): Avalanches;
+  /** Throws fault 53 unless a game that begins with `chips` ends with these counts and `ends`. */
+  verify(graph: Graph, chips: Wholes, fired: Wholes, ends: Wholes, options?: Limited): void;
+  /** Keeps a game. It plays nothing yet. */
+  pile(graph: Graph, chips: Wholes, options?: Limited): Pile;
+  /** New books of a process, by the numbers of its edges, ascending. */
+  books(ins: Iterable<Whole>, outs: Iterable<Whole>): Books;
+}
+
+/** Loads the module: chipfire.wasm beside this file, or from a URL, of bytes, or as WebAssembly has compiled it. */
+export function load(source?: string | URL | BufferSource | WebAssembly.Module): Promise<Chipfire>;

@@ -17,7 +17,7 @@ CITED = re.compile(r"`([^`\n]+)`")
 PATH = re.compile(r"[\w.-]*/[\w./-]*|[\w-]+\.(?:antt|rt|md|py|cases|txt|edit|deb)")
 #: A name of the sources, with what it is in: `laws::sittings`, `Root::poll`, `Cursor.Take`.
 NAME = re.compile(r"[A-Za-z_]\w*(?:(?:::|\.)[A-Za-z_]\w*)*!?")
-SOURCES = (".rt", ".antt", ".py", ".edit", ".cases", ".txt", ".json", ".csv", ".cpp", ".c", ".toml")
+SOURCES = (".rt", ".antt", ".py", ".js", ".ts", ".edit", ".cases", ".txt", ".json", ".csv", ".cpp", ".c", ".toml")
 #: What stands for any name in a path, as in `crates/NAME/src`.
 ANY = re.compile(r"(?<![A-Za-z])(?:NAME|MODULE|FUNCTION|VERSION|FILE)(?![A-Za-z])")
 #: A place of docs/PROVED.md: names of definitions, their file, and how many lines they rest on.

@@ -1,0 +1,270 @@
+"""The package for browsers and Node, beside the native library: random calls, each fault, memory that runs out, a large grid,
+its types, and that the same sources make the same bytes. With CHIPFIRE_SOAK there are so many random calls, else 1,000."""
+import array
+import collections
+import json
+import os
+import random
+import re
+import shutil
+import sys
+import unittest
+
+import chipfire
+import contents
+import library
+from library import BUILT, LARGEST, ROOT, Graph, Room, avalanches, called, need, stabilize_all, verify
+from test_books import NEUTRAL, check, made
+from test_games import drawn, grid, spoilt, stepped
+from test_piles import Pile
+
+WEB = f"{BUILT}/{contents.WEB}"
+TESTS = f"{ROOT}/tests/library/web"
+CALLS = int(os.environ.get("CHIPFIRE_SOAK") or 1000)
+#: The oldest Node that the package takes.
+NODE = 18
+#: The names of the calls on books, in JavaScript and in C.
+BOOKS = {
+    "sent": "sent", "got": "got", "mayAck": "may_ack", "acked": "acked", "settled": "settled", "deficit": "deficit",
+    "isOver": "is_over",
+}
+
+
+def columns_of(graph):
+    return [graph.vertices, graph.sink, [it.numbers for it in graph.columns]]
+
+
+def graph_of(draw):
+    """Draws a graph: small, a grid, or one that may have a fault."""
+    what = draw.randrange(4)
+    if what == 0:
+        return grid(draw.randint(1, 9))
+    return spoilt(draw, drawn(draw)) if what == 1 else drawn(draw)
+
+
+def chips_of(draw, graph, count=1):
+    most = draw.choice([3, 9, 9, 1000])
+    chips = [draw.randint(0, most) for _ in range(graph.vertices * count)]
+    if chips and draw.random() < 0.1:
+        chips[draw.randrange(len(chips))] = draw.choice([LARGEST + 1, 2**63, NEUTRAL])
+    return chips[: len(chips) - (draw.random() < 0.03)]
+
+
+def limit_of(draw):
+    return draw.choice([LARGEST, LARGEST, LARGEST, 2**20, 0, 1, 7, LARGEST + 1, NEUTRAL])
+
+
+def ended(status, place, told):
+    return [status, place, *([] if status else told)]
+
+
+def games(draw):
+    """Draws games on one graph. A case is a name, what is given, and what the native library returns of it."""
+    graph, count, limit = graph_of(draw), draw.choice([0, 1, 1, 2, 4]), limit_of(draw)
+    chips = chips_of(draw, graph, count)
+    guesses = [draw.choice([0, 1, 5, 2**39, NEUTRAL]) for _ in chips] if draw.random() < 0.4 else []
+    outputs = [chips, [0] * len(chips), [0] * count]
+    told = called(library.LIBRARY.chipfire_stabilize_all, graph, limit, [guesses], outputs)
+    return "stabilizeAll", [columns_of(graph), limit, guesses, chips, count], [ended(*told)]
+
+
+def drops_of(draw, graph):
+    vertices = max(1, graph.vertices + (draw.random() < 0.2))
+    return [[draw.randrange(vertices), draw.choice([0, 1, 1, 2, 30])] for _ in range(draw.choice([0, 1, 5, 30]))]
+
+
+def drops(draw):
+    graph, limit = graph_of(draw), limit_of(draw)
+    chips, its = chips_of(draw, graph), drops_of(draw, graph)
+    status, place, told = avalanches(graph, chips, its, limit)
+    columns = [] if status else [told[0], *([row[i] for row in told[1]] for i in range(3))]
+    at, amounts = ([it[i] for it in its] for i in range(2))
+    return "avalanches", [columns_of(graph), limit, at, amounts, chips], [ended(status, place, columns)]
+
+
+def claims(draw):
+    graph, limit = graph_of(draw), limit_of(draw)
+    chips = chips_of(draw, graph)
+    told = stabilize_all(graph, [chips], limit)[2]
+    ends, fired = told[0][:2] if told else (chips, [0] * len(chips))
+    if ends and draw.random() < 0.5:
+        side = draw.choice([ends, fired])
+        side[draw.randrange(len(side))] ^= draw.choice([1, 2**63])
+    return "verify", [columns_of(graph), limit, chips, fired, ends], [[*verify(graph, chips, fired, ends, limit)]]
+
+
+def piles(draw):
+    graph, limit = graph_of(draw), limit_of(draw)
+    chips, pile = chips_of(draw, graph), Pile(graph)
+    status, place = pile.new(chips, limit)
+    steps, found = [], [[status, place]]
+    for at, amount in drops_of(draw, graph) if not status else []:
+        its = chips_of(draw, graph) if draw.random() < 0.1 else None
+        told = (pile.put(its, limit), ()) if its is not None else pile.drop(at, amount)
+        steps.append([at, amount, its])
+        found += [ended(told[0], 0, told[1]), pile.now()]
+    pile.free()
+    return "pile", [columns_of(graph), limit, chips, steps], found
+
+
+def side_of(draw):
+    """Draws tallies, mostly sound ones."""
+    edges = sorted(draw.sample(range(9), draw.choice([0, 1, 1, 2, 3])))
+    counts = [0, 1, 2, 7, LARGEST, LARGEST + 1] if draw.random() < 0.2 else [0, 1, 2, 7]
+    rows = [[edge, *sorted([draw.choice(counts), draw.choice(counts)], reverse=True)] for edge in edges]
+    if draw.random() < 0.1:
+        draw.shuffle(rows)
+    return rows
+
+
+def books(draw):
+    ins, outs = side_of(draw), side_of(draw)
+    call = draw.choice([*BOOKS, "check", "acked", "acked"])
+    edges = [it[0] for it in (outs if call in ("sent", "settled") else ins)] + [4]
+    owing = [edge for edge, messages, answered in ins if answered < messages]
+    parent = draw.choice(owing or [NEUTRAL]) if draw.random() < 0.9 else draw.choice([*edges, NEUTRAL])
+    edge, number, flag = draw.choice(edges), draw.choice([0, 1, 1, 2, 7, LARGEST, NEUTRAL]), draw.random() < 0.5
+    given = [call, sum(ins, []), sum(outs, []), parent, edge, number, flag]
+    if call == "check":
+        told = [check(ins, outs, parent), [], *given[1:4]]
+    else:
+        status, count, *after = made(BOOKS[call], ins, outs, parent, edge, number, flag)
+        sides = [[it for row in side for it in row] for side in after[:2]]
+        writes = call in ("mayAck", "settled", "deficit", "isOver") and not status
+        told = [status, [count] if writes else [], *sides, after[2]]
+    return "books", given, told
+
+
+def grids(draw):
+    """Draws a lattice. Its edges are those that the Python package has, which shares nothing with the other."""
+    lattice, periodic = draw.choice(["square", "triangular", "hexagonal"]), [draw.random() < 0.3 for _ in range(2)]
+    rows, columns = (2 * draw.randint(1, 4) + (not joined and draw.randrange(2)) for joined in periodic)
+    loss = draw.randint(all(periodic), 2)
+    graph = chipfire.grid(rows=rows, columns=columns, lattice=lattice, periodic=periodic[::-1], loss=loss)
+    sums = collections.Counter()
+    for tail, head, mult in graph.edges:
+        sums[tail, head] += mult
+    edges = [[*ends, mult] for ends, mult in sorted(sums.items())]
+    return "grid", [rows, columns, lattice, periodic, loss], [graph.vertices, graph.sink, edges]
+
+
+def texts(it):
+    """Numbers as texts, since a number of JSON has 53 bits in JavaScript; what is true or false stays so."""
+    if isinstance(it, (list, tuple)):
+        return [texts(inner) for inner in it]
+    return str(it) if isinstance(it, int) and not isinstance(it, bool) else it
+
+
+DRAWN = games, drops, claims, piles, books, books, grids
+
+
+@unittest.skipUnless(os.path.isdir(WEB), f"{contents.WEB}/ is not beside the program: tools/webassembly.py makes it")
+class Web(Room):
+    def node(self, name, **given):
+        """Runs a file of tests of Node."""
+        need("node")
+        version = int(self.runs("node", "--version").lstrip("v").partition(".")[0])
+        if version < NODE:
+            self.skipTest(f"Node {version} is older than {NODE}")
+        words = {f"CHIPFIRE_{key}": str(it) for key, it in {"WEB": WEB, **given}.items()}
+        shown = self.runs("node", "--test", f"{TESTS}/{name}.test.mjs", env={**os.environ, **words})
+        self.assertRegex(shown, r"(?m)^. pass [1-9]")
+        for word in ("skipped", "todo"):
+            self.assertRegex(shown, rf"(?m)^. {word} 0$")
+
+    def test_random_calls_beside_the_native_library(self):
+        draw, seen = random.Random("library: web"), set()
+        with open(f"{self.room}/cases", "w", encoding="ascii") as file:
+            for number in range(CALLS):
+                name, given, found = DRAWN[number % len(DRAWN)](draw)
+                if name != "grid":
+                    seen.add(found[0] if name == "books" else found[0][0])
+                file.write(json.dumps([name, *map(texts, (given, found))]) + "\n")
+        self.assertLessEqual({0, 2, 4, 5, 6, 7, 8, 9, 10, 11, 12, 13, 26, 46, 47, 53}, seen)
+        self.node("calls", CASES=f"{self.room}/cases", COUNT=CALLS)
+
+    def test_the_module(self):
+        number = library.LIBRARY.chipfire_version()
+        version = f"{number // 10**6}.{number // 1000 % 1000}.{number % 1000}"
+        self.node("module", DECLARED=" ".join(library.declared()), VERSION=version)
+        with open(f"{WEB}/package.json", encoding="utf-8") as file:
+            self.assertEqual(json.load(file)["version"], version)
+
+    def test_each_fault(self):
+        """Those of the header, of which one has a test by itself: that memory runs out."""
+        self.node("faults")
+        with open(f"{WEB}/faults.js", encoding="utf-8") as file:
+            numbers = {int(it) for it in re.findall(r"(?m)^  (\d+): \[", file.read())}
+        with open(f"{TESTS}/faults.test.mjs", encoding="utf-8") as file:
+            tried = {int(it) for it in re.findall(r"(?m)^  \[(\d+), \d+, \"", file.read())}
+        with open(library.HEADER, encoding="ascii") as file:
+            header = file.read()
+        table = header.partition("stay as they were.")[2].partition("The first fault")[0]
+        listed = re.findall(r"(?<![\^\d])([1-9]\d*) [a-z]", table) + re.findall(r"(?m)^ \*     (4\d)  ", header)
+        self.assertEqual(numbers, {*map(int, listed)})
+        self.assertEqual(tried | {90}, numbers)
+
+    def test_memory_that_runs_out(self):
+        self.node("memory")
+
+    def test_a_large_grid(self):
+        side, chips = 255, 2**17
+        start = [0] * (side * side + 1)
+        start[side * side // 2] = chips
+        status, _, found = stabilize_all(grid(side), [start])
+        self.assertEqual(status, 0)
+        with open(f"{self.room}/large", "wb") as file:
+            array.array("Q", [*found[0][0], *found[0][1]]).tofile(file)
+        self.node("large", LARGE=f"{self.room}/large", SIDE=side, CHIPS=chips)
+
+    def packed(self):
+        """Puts the package where Node and tsc look for it."""
+        os.makedirs(f"{self.room}/node_modules")
+        os.symlink(WEB, f"{self.room}/node_modules/chipfire")
+
+    def test_its_types(self):
+        need("tsc")
+        self.packed()
+        shutil.copy(f"{TESTS}/use.ts", f"{self.room}/use.mts")
+        words = ["--noEmit", "--strict", "--target", "es2020", "--lib", "es2020,dom", "--module", "node16"]
+        self.runs("tsc", *words, "use.mts", cwd=self.room)
+
+    def test_the_example_of_its_page(self):
+        """225 topplings, as firing one vertex after another has them."""
+        need("node")
+        self.packed()
+        with open(f"{WEB}/README.md", encoding="utf-8") as file:
+            code = re.search(r"^```js\n(.*?)^```", file.read(), re.DOTALL | re.MULTILINE)[1]
+        with open(f"{self.room}/example.mjs", "w", encoding="utf-8") as file:
+            file.write(f"{code}console.log(fired.reduce((sum, it) => sum + it, 0n), chips.slice(0, 7).join(''));\n")
+        start = [0] * 50
+        start[24] = 100
+        ends, fired, *_ = stepped(grid(7), start, LARGEST)
+        shown = self.runs("node", "example.mjs", cwd=self.room)
+        self.assertEqual(shown, f"{sum(fired)}n {''.join(map(str, ends[:7]))}\n")
+
+    def test_the_same_sources_make_the_same_bytes(self):
+        need("rt", "wasm-opt")
+        if not os.path.isfile(f"{ROOT}/crates/chip_exports/out/libchip_exports.a"):
+            self.skipTest("nothing was built of chip_exports here")
+        self.runs(sys.executable, f"{ROOT}/tools/webassembly.py", f"{self.room}/again")
+        names = sorted(os.listdir(WEB))
+        self.assertEqual(sorted(os.listdir(f"{self.room}/again")), names)
+        for name in names:
+            made = []
+            for folder in (WEB, f"{self.room}/again"):
+                with open(f"{folder}/{name}", "rb") as file:
+                    made.append(file.read())
+            self.assertTrue(made[0] == made[1], name)
+
+    def test_a_tool_that_is_missing_is_named(self):
+        os.mkdir(f"{self.room}/bin")
+        tool = [sys.executable, f"{ROOT}/tools/webassembly.py", f"{self.room}/js"]
+        ran = library.run(*tool, env={"PATH": f"{self.room}/bin"})
+        self.assertEqual((ran.returncode, ran.stdout), (1, ""))
+        self.assertIn("wasm-opt is not on the PATH: Debian's package binaryen has it", ran.stderr)
+        self.assertFalse(os.path.exists(f"{self.room}/js"))
+
+
+if __name__ == "__main__":
+    unittest.main()

@@ -23,6 +23,8 @@ BUILT = ("program", SHARED, STATIC)
 SONAME = "libchipfire.so.0"
 #: The package for browsers and Node, a folder beside them, and the module in it.
 WEB, MODULE = "js", "chipfire.wasm"
+#: The page in it.
+BOARD = "chipfire.html"
 
 #: Places in the folder of the archive, and in the folder usr of the Debian package.
 MANUAL = "share/man/man1/chipfire.1"

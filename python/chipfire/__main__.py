@@ -9,22 +9,27 @@
     python -m chipfire judge GRAPH CHIPS LOG
     python -m chipfire judge LOG
     python -m chipfire judge-log FILE
+    python -m chipfire board
 
 DETECTOR is a name or FILE.py:CLASS. `explore` ends with status 0 if the detector is right in all schedules of this game,
 2 if it can close the root too early, 3 if it can miss the end, 4 if there are more states than --most, and 5 if it looks
 at others; with 2, 3 and 5 a schedule shows it. `grade` ends with 0 if all classes are right on its games, 2 if one is
 wrong, and 4 if one is not decided or cannot be run. `judge` ends with 0 if all claims of the log are true, 2 if one is
-false, and 3 if the log misses the end; with LOG alone it is the program's `judge`. An error is 1.
+false, and 3 if the log misses the end; with LOG alone it is the program's `judge`. `board` opens the page beside the program
+on which sandpiles are played. An error is 1.
 """
 
 from __future__ import annotations
 
 import argparse
+import os
+import pathlib
 import re
 import shutil
 import subprocess
 import sys
 import tempfile
+import webbrowser
 from collections.abc import Callable, Hashable
 from typing import Any, NoReturn
 
@@ -42,6 +47,7 @@ from chipfire.lab.logs import judge_log, KINDS, read_json_lines, read_shiviz
 from chipfire.lab.machine import SCHEDULE_HEADER, TRACE_HEADER, Setting
 from chipfire.lab.pages import page_text, recorded, refuse_more
 from chipfire.backend.commands import known_chips, known_graph, simulate
+from chipfire.backend.trust import doubt
 from chipfire.utils import as_int, MAX_LIMIT, has_header as begins, read_rows, rows_text
 from chipfire.lab.wrong import wrong_page_text
 
@@ -207,6 +213,21 @@ def _add(
     return command
 
 
+def _board(asked: argparse.Namespace) -> str:
+    """Opens the page of sandpiles in a browser; where it is."""
+    folder = os.path.dirname(os.path.realpath(asked.program or find_program()))
+    page = os.path.join(folder, "js", "chipfire.html")
+    if not os.path.isfile(page):
+        raise ValueError(
+            f"{page} is not there: tools/webassembly.py and tools/board.py of the repository make it"
+        )
+    if why := doubt(page):
+        raise ValueError(f"{page} is not opened, since {why}")
+    if not asked.no_browser:
+        webbrowser.open(pathlib.Path(page).as_uri())
+    return f"{page}\n"
+
+
 def _add_page(commands: Any) -> None:
     says = "writes a page of HTML on which a run can be watched event by event"
     command = _add(commands, "page", says, make=_page)
@@ -332,6 +353,12 @@ def _add_judge_log(commands: Any) -> None:
         command.add_argument(f"--{name}", action="store_true", help=says)
 
 
+def _add_board(commands: Any) -> None:
+    says = "opens the page on which sandpiles are played, and writes where it is"
+    command = _add(commands, "board", says, make=_board)
+    command.add_argument("--no-browser", action="store_true", help="only writes where it is")
+
+
 def _add_detector(command: argparse.ArgumentParser) -> None:
     """The arguments that name a detector and a game."""
     says = f"FILE.py:CLASS, or one of {', '.join(DETECTORS)}"
@@ -365,6 +392,7 @@ def _arguments() -> argparse.ArgumentParser:
         _add_grade,
         _add_judge,
         _add_judge_log,
+        _add_board,
     ):
         add(commands)
     return parser

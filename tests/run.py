@@ -9,7 +9,7 @@ GROUPS are these, all of them if none is named:
     python    python/chipfire and examples/python, by each way of ways.py, on the system's Python if it has one
     docs      what the pages show, in a fresh clone; what they cite; the tables of docs/FORMATS.md
     hostile   mutated files, refused memory, failing reads and writes, the system around the program
-    library   the libraries, from C, by ctypes, and from JavaScript as WebAssembly
+    library   the libraries, from C, by ctypes, and from JavaScript as WebAssembly; the page that is made of that
     package   the packages that ./package makes
 
 A NAME begins the name of a test, or what follows its set; WORDS stand somewhere in it; with --lf the tests are made that
@@ -66,9 +66,11 @@ LONGEST = (
     "hostile system",
     "hostile memory",
     "docs pages",
+    "library test_web",
     "python test_browser",
     "python test_divisors",
     "library test_games",
+    "library test_board",
     "python test_modules",
     "python test_schedules",
     "python test_loops",

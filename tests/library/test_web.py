@@ -1,5 +1,6 @@
-"""The package for browsers and Node, beside the native library: random calls, each fault, memory that runs out, a large grid,
-its types, and that the same sources make the same bytes. With CHIPFIRE_SOAK there are so many random calls, else 1,000."""
+"""The package for browsers and Node, beside the native library: random calls, each fault, memory that runs out, a large
+grid, its types, and that the same sources make the same bytes. With CHIPFIRE_SOAK there are so many random calls, else
+1,000."""
 import array
 import collections
 import json
@@ -247,7 +248,8 @@ class Web(Room):
         need("rt", "wasm-opt")
         if not os.path.isfile(f"{ROOT}/crates/chip_exports/out/libchip_exports.a"):
             self.skipTest("nothing was built of chip_exports here")
-        self.runs(sys.executable, f"{ROOT}/tools/webassembly.py", f"{self.room}/again")
+        for tool in ("webassembly", "board"):
+            self.runs(sys.executable, f"{ROOT}/tools/{tool}.py", f"{self.room}/again")
         names = sorted(os.listdir(WEB))
         self.assertEqual(sorted(os.listdir(f"{self.room}/again")), names)
         for name in names:

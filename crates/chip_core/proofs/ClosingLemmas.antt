@@ -42,7 +42,8 @@ module _ (g : Setting) (game : IsGame g.game) (some_ring : 0 < g.ring) where
     pub rested : (ev : Event) (seen : ℕ) → IsLegalLog g (saw ev seen ∷ log)
         → Rests g ev seen (part_in g log (part_of g ev))
     rested (Take e) seen next =
-        let c = (all_counts g game some_ring log legal closed e (rules_met g (Take e) (part_in g log (head_of g e)) next.1.0)).2 in
+        let may = rules_met g (Take e) (part_in g log (head_of g e)) next.1.0 in
+        let c = (all_counts g game some_ring log legal closed e may).2 in
         let is : seen ≡ get_or (out_in g log e).link.put (length (into_in g log e).got) 0 = next.1.1 in
         idle_take g e seen (part_in g log (head_of g e)) (is
         ∙ get_or_past (out_in g log e).link.put (length (into_in g log e).got) 0 (omega arith))

@@ -234,10 +234,13 @@ depth_closes g game some_ring log legal over depth tree xs last has order all_le
     let all = subst (IsLegalLog g) same all_legal in
     let its = p.all_is in
     let turned_legal = subst (λ (l : Log). IsLegalLog g (order.front ++ l)) its (legal_before g order.back turned all) in
-    subst (IsClosed g) (sym same) (closes g game some_ring log legal over depth tree turned order.back all
-    (was g p.mid, p.before, subst (λ (l : Log). rounds.HasRound (net g) (was g p.mid) (was g (order.front ++ l))) (sym its)
-    (round_there g game some_ring p.mid p.rest order.front turned_legal (λ v l.
-    subst (λ (w : Log). HasTurn g v w order.front) its (order.turns v l)))) order.settles)
+    subst (IsClosed g) (sym same) (closes g game some_ring log legal over depth tree turned order.back all (
+      was g p.mid,
+      p.before,
+      subst (λ (l : Log). rounds.HasRound (net g) (was g p.mid) (was g (order.front ++ l))) (sym its)
+          (round_there g game some_ring p.mid p.rest order.front turned_legal (λ v l.
+          subst (λ (w : Log). HasTurn g v w order.front) its (order.turns v l))),
+    ) order.settles)
 
 pub depth_closes_later : DepthClosesLater
 depth_closes_later g game some_ring log legal over depth tree xs has all_legal =

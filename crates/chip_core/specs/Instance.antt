@@ -27,8 +27,8 @@ pub record Shows (g : Setting) (parts : ℕ → Part) (w : diffusing.World) : Ty
   pub parent : (p : ℕ) → (w p).books.parent ≡ (parts p).parent
   pub passive : (p : ℕ) → (w p).passive ≡ passive_of g p (parts p)
 
--- each log of the core is a log of this network, and its world shows the parts. A step is one event, which leads from the
--- world before it to the world after it
+-- each log of the core is a log of this network, and its world shows the parts. A step is one event, which leads from
+-- the world before it to the world after it
 pub record Diffuses (g : Setting) : Type 0 where
   pub events : Log → diffusing.Log
   pub world : Log → diffusing.World

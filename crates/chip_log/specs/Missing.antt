@@ -1,12 +1,12 @@
 -- Logs in which rows are missing. A claim that is right without them is right with them.
-use Rattle.std.specs.Prelude.{◌≡◌, ℕ, zero, suc, ◌+◌, Bool, true, false, if◌then◌else◌, List, [], ◌∷◌, ◌++◌, length}
+use Rattle.std.specs.Prelude.{◌≡◌, ℕ, zero, suc, ◌+◌, ◌==◌, Bool, true, false, not, if◌then◌else◌, List, [], ◌∷◌, ◌++◌, length}
 use Rattle.chip_log.specs.Log.{steps_of, sends, gets, begins_active, IsInterleaving, HasEnds}
 use Rattle.chip_log.specs.Claims.{IsRight}
 use Rattle.chip_log.specs.Order.{AreSent}
 use Rattle.chip_log.specs.declared.row.LogRow.{LogRow}
 use Rattle.chip_log.specs.declared.row.Step.{Step}
 use Rattle.chip_log.specs.declared.row.Stream.{Stream}
-use Rattle.chip_log.specs.declared.row.Step.TheVariants.{Out, In, Active}
+use Rattle.chip_log.specs.declared.row.Step.TheVariants.{Out, In, Passive, Active, Over}
 
 -- those of these steps that stay; the first is step n of its process
 abbrev pub staying : (ℕ → Bool) → ℕ → List Step → List Step
@@ -48,3 +48,9 @@ RightWithoutRows = (stays : ℕ → ℕ → Bool) (log left : List LogRow) (p i 
 abbrev pub SentWhileActive : Type 0
 SentWhileActive = (log xs : List LogRow) → IsInterleaving log xs
     → (p : ℕ) → AreSent (begins_active (steps_of p log)) (steps_of p log)
+
+-- a tell of process 0 is missing, its second step: the claim is its step 3, and its step 2 without the tell
+pub record WorkedRows : Type 0 where
+  pub rows : staying (λ n. not (n == 1)) 0 (Active ∷ Out (record { channel = 0; is_control = true }) ∷ Passive ∷ Over ∷ [])
+      ≡ Active ∷ Passive ∷ Over ∷ []
+  pub place : stay_below (λ n. not (n == 1)) 3 ≡ 2

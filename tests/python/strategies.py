@@ -1,9 +1,10 @@
 """What tests draw: small graphs, chips and drops, by Hypothesis if it is here, and else by numbered generators.
 
 What makes one takes a generator with the methods of `random.Random`. Hypothesis has such a generator too, which shrinks
-what fails.
+what fails. With CHIPFIRE_SOAK=N in the environment each test gets N of them, if that is more.
 """
 import dataclasses
+import os
 import random
 
 import chipfire
@@ -69,7 +70,8 @@ def drawn(make, rounds):
     """Hands a test what `make` draws, so many times."""
 
     def handed(test):
-        return (by_hypothesis if hypothesis else by_numbers)(test, make, rounds)
+        most = max(rounds, int(os.environ.get("CHIPFIRE_SOAK") or 0))
+        return (by_hypothesis if hypothesis else by_numbers)(test, make, most)
 
     return handed
 

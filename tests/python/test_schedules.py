@@ -491,7 +491,7 @@ class Model(unittest.TestCase):
 
 
 class RandomSchedules(unittest.TestCase):
-    @drawn(lambda numbers: (random_game(numbers, fed=False), numbers.randrange(2**32)), 300)
+    @drawn(lambda numbers: (random_game(numbers, fed=False), numbers.randrange(2**32)), 60)
     def test_they_close_the_root_and_the_program_agrees(self, game):
         setting, seed = game
         events = chipfire.random_schedule(setting, seed)

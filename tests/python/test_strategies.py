@@ -32,11 +32,14 @@ class Drawn(unittest.TestCase):
         self.assertIn("(Graph(2, 0, [(1, 0, 1)]), (7))", said)
 
     def test_numbered_generators_draw_the_same_each_time(self):
-        told = []
-        with mock.patch.object(strategies, "hypothesis", None):
-            test = drawn(random.Random.random, 5)(lambda self, value: told.append(value))
-        self.assertEqual(failures_of(test), [])
-        self.assertEqual(told, [random.Random(number).random() for number in range(5)])
+        for soak, count in (("", 5), ("3", 5), ("7", 7)):
+            told = []
+            with mock.patch.object(strategies, "hypothesis", None), mock.patch.dict(
+                "os.environ", CHIPFIRE_SOAK=soak
+            ):
+                test = drawn(random.Random.random, 5)(lambda self, value: told.append(value))
+            self.assertEqual(failures_of(test), [])
+            self.assertEqual(told, [random.Random(number).random() for number in range(count)])
 
     def test_what_fails_for_some_number_fails(self):
         some = [random.Random(number).randrange(4) for number in range(40)]

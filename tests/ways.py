@@ -2,7 +2,8 @@
 
 By the *process* the environment variable CHIPFIRE names the program, so that each call of the package starts it. By the
 *library* the package lies in a folder with program and library, as in a wheel. *Without* is the same without NumPy and
-the other packages that it can do without: they are hidden (without.py).
+the other packages that it can do without: they are hidden (without.py). A class of tests that plays nothing and asks for
+none of them goes one way alone (`once`).
 """
 
 import hashlib
@@ -53,6 +54,11 @@ BY_WITHOUT = (
 )
 
 
+def once(tests):
+    """A class of tests whose results depend on no way: by the library and without packages there are none of them."""
+    return tests if os.environ.get("CHIPFIRE_WAY", PROCESS) == PROCESS else None
+
+
 def modules(way, every):
     """Returns the modules of tests/python, among all of them, that go a way."""
     chosen = {PROCESS: every, LIBRARY: BY_LIBRARY, WITHOUT: BY_WITHOUT}[way]
@@ -90,6 +96,7 @@ def take(way, program, folder):
     os.environ.update(
         CHIPFIRE_PACKED=program,
         CHIPFIRE_BUILT=os.path.dirname(program),
+        CHIPFIRE_WAY=way,
         PYTHONDONTWRITEBYTECODE="1",
     )
     package = paths.PACKAGE

@@ -7,6 +7,7 @@ import unittest
 
 import chipfire
 import model
+import ways
 from chipfire.divisors import divisor as divisors
 from small_graphs import graphs_of_sage, simple_graphs, undirected
 from test_sandpiles import has
@@ -69,6 +70,7 @@ def small_divisors(graph):
             yield chips
 
 
+@ways.once
 class Ranks(unittest.TestCase):
     def test_there_are_31_graphs(self):
         counts = collections.Counter(vertices for vertices, _ in simple_graphs())
@@ -157,13 +159,26 @@ def losses(vertices, edges, vertex):
     return found
 
 
-class Reduced(unittest.TestCase):
+class OfReduced(unittest.TestCase):
     def assert_reduced(self, chips, edges, vertex):
         """None but one vertex is in debt, and no vertices without it can fire together and stay so."""
         self.assertTrue(all(count >= 0 for it, count in enumerate(chips) if it != vertex))
         for lost in losses(len(chips), edges, vertex):
             self.assertTrue(any(count > chips[it] for it, count in lost), (chips, edges, lost))
 
+
+@ways.once
+class Searched(OfReduced):
+    def test_what_the_search_reduces(self):
+        for classes, (vertices, edges) in zip(all_classes(), simple_graphs()):
+            reduced = divisors._reducer(classes.graph)
+            for chips in itertools.product((-2, 0, 3), repeat=vertices):
+                found = reduced([*chips])
+                self.assertEqual((sum(found), classes.of(found)), (sum(chips), classes.of(chips)))
+                self.assert_reduced(found, edges, 0)
+
+
+class Reduced(OfReduced):
     def test_what_is_reduced_at_each_vertex(self):
         # (a program that is started for each play takes long)
         for classes, (vertices, edges) in zip(all_classes(), simple_graphs(5 if chipfire.find_library() else 3)):
@@ -173,14 +188,6 @@ class Reduced(unittest.TestCase):
                     found = divisor.reduced(vertex)
                     self.assertEqual((found.degree, classes.of(found.numbers)), (sum(chips), classes.of(chips)))
                     self.assert_reduced(found.numbers, edges, vertex)
-
-    def test_what_the_search_reduces(self):
-        for classes, (vertices, edges) in zip(all_classes(), simple_graphs()):
-            reduced = divisors._reducer(classes.graph)
-            for chips in itertools.product((-2, 0, 3), repeat=vertices):
-                found = reduced([*chips])
-                self.assertEqual((sum(found), classes.of(found)), (sum(chips), classes.of(chips)))
-                self.assert_reduced(found, edges, 0)
 
     def test_effective_and_equivalent_ones(self):
         # (a program that is started for each play takes long)

@@ -6,6 +6,7 @@ import unittest
 
 import chipfire
 import model
+import ways
 from small_graphs import directed_graphs, simple_graphs, undirected
 from strategies import random_graph
 
@@ -18,7 +19,8 @@ def small_graphs(directed=3, simple=5):
             yield undirected(vertices, edges, sink)
 
 
-class Groups(unittest.TestCase):
+@ways.once
+class Coordinates(unittest.TestCase):
     def test_the_recurrent_ones_are_the_product_of_cyclic_groups(self):
         for graph in small_graphs():
             group, found = chipfire.Group(graph), model.recurrents(graph)
@@ -45,6 +47,8 @@ class Groups(unittest.TestCase):
             for chips in model.recurrents(graph):
                 self.assertEqual(group.order(chips), model.order_of(of(chips)), (graph.edges, chips))
 
+
+class Groups(unittest.TestCase):
     def test_elements_are_the_recurrent_ones_of_their_coordinates(self):
         # (a program that is started for each play takes long)
         for graph in small_graphs() if chipfire.find_library() else small_graphs(2, 3):

@@ -5,6 +5,7 @@ import unittest
 from collections import Counter
 
 import chipfire
+import ways
 from test_counts import slow_report
 
 
@@ -44,6 +45,7 @@ def counted(graph):
     return found
 
 
+@ways.once
 class Lattices(unittest.TestCase):
     def compared(self, sizes, joined, lattice, loss, losses):
         with self.subTest(sizes=sizes, joined=joined, lattice=lattice, loss=loss):
@@ -83,12 +85,6 @@ class Lattices(unittest.TestCase):
         for loss in ({4: 5}, {(1, 1): 5}, [[0, 0, 0], [0, 5, 0]], [0, 0, 0, 0, 5, 0, 0]):
             self.assertEqual(chipfire.grid(3, 2, periodic=True, loss=loss), wanted)
 
-    def test_pictures(self):
-        report = chipfire.plain(chipfire.grid(3, 2, 2, periodic=(True, False, False)), [*range(12)])
-        self.assertEqual(len(str(report.picture()).splitlines()), 4)
-        torus = chipfire.grid(4, 4, periodic=True, loss=1, lattice="hexagonal")
-        self.assertEqual(str(chipfire.plain(torus, {(1, 2): 3}).picture()).splitlines()[1], "0030")
-
     def test_what_is_refused(self):
         for sizes, options, words in [
             ((3, 3), {"periodic": True}, "takes a loss"), ((1, 3), {"periodic": True, "loss": 1}, "2 or more"),
@@ -103,6 +99,12 @@ class Lattices(unittest.TestCase):
 
 
 class Squares(unittest.TestCase):
+    def test_pictures(self):
+        report = chipfire.plain(chipfire.grid(3, 2, 2, periodic=(True, False, False)), [*range(12)])
+        self.assertEqual(len(str(report.picture()).splitlines()), 4)
+        torus = chipfire.grid(4, 4, periodic=True, loss=1, lattice="hexagonal")
+        self.assertEqual(str(chipfire.plain(torus, {(1, 2): 3}).picture()).splitlines()[1], "0030")
+
     def test_a_vertex_is_called_by_its_row_and_column(self):
         grid, hole = chipfire.grid(4, 3), chipfire.region([[1, 1, 1], [1, 0, 1]])
         self.assertEqual([grid.number((row, column)) for row in range(3) for column in range(4)], [*range(12)])
@@ -127,6 +129,7 @@ class Squares(unittest.TestCase):
             grid.chips({(1, 1): 1, 4: 1})
 
 
+@ways.once
 class GridFor(unittest.TestCase):
     def test_the_largest_pile_for_each_square_stays_in_it(self):
         for half in range(2, 9):

@@ -22,6 +22,7 @@ from unittest import mock
 import browser
 import chipfire
 import play
+import ways
 from chipfire.pictures import raster as rasters
 from test_sandpiles import has
 
@@ -467,6 +468,7 @@ REFUSED = """new Promise((done) => {
 })"""
 
 
+@ways.once
 @unittest.skipUnless(browser.found(), "no browser is here: Debian's package chromium has one")
 class InABrowser(Played):
     """The page in a real browser, by its buttons, its keys, its slider and its address."""

@@ -7,6 +7,7 @@ from unittest import mock
 
 import chipfire
 import model
+import ways
 from small_graphs import directed_graphs, graphs_of_sage, simple_graphs, undirected
 from test_sandpiles import has
 
@@ -46,6 +47,7 @@ def odometers(graph):
     return found
 
 
+@ways.once
 class Tutte(unittest.TestCase):
     def test_sums_over_all_sets_of_edges(self):
         for vertices, edges in simple_graphs():
@@ -75,8 +77,6 @@ class Tutte(unittest.TestCase):
             # (that of Sage takes edges once)
             if {mult for _, _, mult in graph.edges} == {1}:
                 self.assertEqual(found, stored["tutte"], stored["how"])
-            found = chipfire.avalanche_polynomial(graph, multivariable=True)
-            self.assertEqual([[*powers, count] for powers, count in found.items()], stored["avalanches"], stored["how"])
 
     def test_values_that_count_trees_and_sets(self):
         for graph, edges in [(chipfire.grid(3, 2), 7 + 10), (chipfire.wheel(8), 14), (chipfire.complete(6), 15)]:
@@ -115,9 +115,6 @@ class Tutte(unittest.TestCase):
         for word in (chipfire.tutte_polynomial, chipfire.level_polynomial):
             with self.assertRaisesRegex(ValueError, "at least 20. smaller graphs come out, and 200 at most"):
                 word(chipfire.grid(5, 5), most=200)
-        for word in (chipfire.avalanche_polynomial, chipfire.level_polynomial):
-            with self.assertRaisesRegex(ValueError, "at most 2 recurrent configurations .* there are 6"):
-                word(chipfire.Graph(3, 2, [(0, 1), (0, 2), (1, 2, 3)]), most=2)
 
 
 class Plays(unittest.TestCase):
@@ -141,11 +138,21 @@ class Plays(unittest.TestCase):
             self.assertEqual(chipfire.avalanche_polynomial(graph, multivariable=True), wanted, drawn)
             self.assertEqual(chipfire.avalanche_polynomial(graph), sizes)
 
+    def test_avalanches_of_sage(self):
+        for stored, graph in graphs_of_sage():
+            found = chipfire.avalanche_polynomial(graph, multivariable=True)
+            self.assertEqual([[*powers, count] for powers, count in found.items()], stored["avalanches"], stored["how"])
+
     def test_avalanches_by_hand(self):
         # (of a path to the sink, where each chip falls through all vertices before it)
         line = chipfire.Graph(3, 2, [(0, 1), (1, 2)])
         self.assertEqual(chipfire.avalanche_polynomial(line, multivariable=True), {(1, 1): 1, (0, 1): 1})
         self.assertEqual(chipfire.avalanche_polynomial(line), {1: 1, 2: 1})
+
+    def test_too_many_recurrent_ones_are_refused(self):
+        for word in (chipfire.avalanche_polynomial, chipfire.level_polynomial):
+            with self.assertRaisesRegex(ValueError, "at most 2 recurrent configurations .* there are 6"):
+                word(chipfire.Graph(3, 2, [(0, 1), (0, 2), (1, 2, 3)]), most=2)
 
 
 if __name__ == "__main__":

@@ -3,16 +3,18 @@
     tests/job.py FILE <WHAT
 
 tests/run.py starts it. WHAT is a JSON object: the `group`, its `modules`, the `way` and the `program`, the `names` of the
-tests or null for all of them, whether they are only to be `listed`, and whether there are many more (`long`). FILE gets the `reader`, and for each test by
-its name what came of it, a word and a text.
+tests or null for all of them, whether they are only to be `listed`, and whether there are many more (`long`). FILE gets
+the `reader`, for each test by its name what came of it, a word and a text, and how long it took with what was set up for it.
 """
 
+import collections
 import contextlib
 import importlib
 import importlib.util
 import json
 import sys
 import tempfile
+import time
 import traceback
 import unittest
 
@@ -26,7 +28,11 @@ PASSED, FAILED, SKIPPED = "passed", "failed", "skipped"
 
 
 class Outcomes(dict):
-    """What came of each test by its name. What a test or a part of it did wrong is never forgotten."""
+    """What came of each test by its name, and how long it took. What a test or a part of it did wrong is never forgotten."""
+
+    def __init__(self):
+        super().__init__()
+        self.took = collections.Counter()
 
     def add(self, name, word, text=""):
         before, said = self.get(name, (PASSED, ""))
@@ -56,6 +62,12 @@ class Result(unittest.TestResult):
     def __init__(self):
         super().__init__()
         self.outcomes = Outcomes()
+        self.since = time.monotonic()
+
+    def stopTest(self, test):
+        super().stopTest(test)
+        begun, self.since = self.since, time.monotonic()
+        self.outcomes.took[name_of(test)] += self.since - begun
 
     def addSuccess(self, test):
         self.outcomes.add(name_of(test), PASSED)
@@ -150,6 +162,7 @@ class Recorder:
     def note(self, report, is_told):
         """Notes what a report says; that all went well only where it is one of a whole test."""
         name = self.name_of(report.nodeid)
+        self.outcomes.took[name] += getattr(report, "duration", 0)
         if hasattr(report, "wasxfail"):
             self.outcomes.add(name, PASSED)
         elif report.skipped:
@@ -200,7 +213,7 @@ def main():
         by_reader = by_pytest if has_pytest else by_unittest
         outcomes = known(asked) if asked["listed"] else by_reader(asked)
     with open(sys.argv[1], "w", encoding="utf-8") as file:
-        json.dump({"reader": reader, "outcomes": outcomes}, file)
+        json.dump({"reader": reader, "outcomes": outcomes, "took": outcomes.took}, file)
 
 
 if __name__ == "__main__":

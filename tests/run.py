@@ -1,7 +1,7 @@
 #!/usr/bin/env python3
 """Runs the tests of the built program, of its libraries and packages, of the Python package and of the pages.
 
-    tests/run.py [GROUP ..] [NAME ..] [-k WORDS] [--lf] [--list] [--long] [--program FILE]
+    tests/run.py [GROUP ..] [NAME ..] [-k WORDS] [--lf] [--list] [--long] [--durations N] [--program FILE]
 
 GROUPS are these, all of them if none is named:
 
@@ -13,8 +13,9 @@ GROUPS are these, all of them if none is named:
     package   the packages that ./package makes
 
 A NAME begins the name of a test, or what follows its set; WORDS stand somewhere in it; with --lf the tests are made that
-failed when they were made last. --list shows the names. --long makes many more mutated files, logs and large games. FILE
-is the program that ./chipfire built, if not said; the libraries lie beside it.
+failed when they were made last. --list shows the names. --long makes many more mutated files, logs and large games.
+--durations shows the N processes that used most of the processors, and the N tests that took longest. FILE is the
+program that ./chipfire built, if not said; the libraries lie beside it.
 
 The tests of python, library and package are classes of unittest, and those of the other groups are lists. Pytest runs
 them if their Python has it; else unittest runs the classes, and a loop goes through the lists. Processes do this side by
@@ -33,6 +34,7 @@ import importlib.util
 import json
 import multiprocessing
 import os
+import resource
 import subprocess
 import sys
 import tempfile
@@ -116,11 +118,14 @@ class Job:
 
 @dataclasses.dataclass
 class Made:
-    """What came of a job: the reader of its tests, what came of each, how long it took, and what else was shown."""
+    """What came of a job: the reader of its tests, what came of each and how long it took, the seconds of the job and those
+    of processors, and what else was shown."""
 
     reader: str
     outcomes: dict
-    seconds: float
+    took: dict = dataclasses.field(default_factory=dict)
+    seconds: float = 0.0
+    used: float = 0.0
     shown: str = ""
 
     def count(self, word):
@@ -175,24 +180,34 @@ def read(its, program, is_listed=False):
         ran = subprocess.run(words, input=json.dumps(asked), cwd=paths.ROOT, **how)
         text = file.read()
     if text:
-        return Made(**json.loads(text), seconds=0, shown=ran.stdout)
-    return Made(
-        "no reader",
-        {its.of_set: (job.FAILED, f"it ended with status {ran.returncode}")},
-        0,
-        ran.stdout,
-    )
+        return Made(**json.loads(text), shown=ran.stdout)
+    lost = {its.of_set: (job.FAILED, f"it ended with status {ran.returncode}")}
+    return Made("no reader", lost, shown=ran.stdout)
+
+
+def looped(its):
+    """Returns what came of a job of listed tests, made one after another in this process."""
+    result = Made("a loop", {})
+    for name in its.names:
+        begun = time.monotonic()
+        result.outcomes[name] = outcome_of(TESTS[its.group][name])
+        result.took[name] = time.monotonic() - begun
+    return result
+
+
+def used():
+    """Returns the seconds of processors that this process used, and those that it started and that ended."""
+    whose = (resource.RUSAGE_SELF, resource.RUSAGE_CHILDREN)
+    return sum(it.ru_utime + it.ru_stime for it in map(resource.getrusage, whose))
 
 
 def made(its, program):
     """Returns what came of a job."""
-    begun = time.monotonic()
-    if its.group in LISTS and not HAS_PYTEST:
-        outcomes = {name: outcome_of(TESTS[its.group][name]) for name in its.names}
-        result = Made("a loop", outcomes, 0)
-    else:
-        result = read(its, program)
+    begun, used_before = time.monotonic(), used()
+    is_loop = its.group in LISTS and not HAS_PYTEST
+    result = looped(its) if is_loop else read(its, program)
     result.seconds = time.monotonic() - begun
+    result.used = used() - used_before
     return result
 
 
@@ -289,7 +304,8 @@ def show(its, result):
     """Shows what came of a job: what failed as a whole, and what was skipped by name."""
     words = (job.PASSED, job.FAILED, job.SKIPPED)
     said = ", ".join(f"{result.count(word)} {word}" for word in words)
-    print(f"== {its.told()}: {said} by {result.reader} in {result.seconds:.1f} s")
+    time_of_it = f"{result.seconds:.1f} s, {result.used:.1f} s of processors"
+    print(f"== {its.told()}: {said} by {result.reader} in {time_of_it}")
     for name, (word, text) in result.outcomes.items():
         if word == job.SKIPPED:
             print(f"SKIPPED {name}: {text}")
@@ -318,18 +334,35 @@ def run_all(jobs, program, lanes):
             for future in concurrent.futures.as_completed(begun):
                 its, error = begun[future], future.exception()
                 lost = {its.of_set: (job.FAILED, repr(error))}
-                results.append((its, Made("no reader", lost, 0) if error else future.result()))
+                results.append((its, Made("no reader", lost) if error else future.result()))
                 show(*results[-1])
     return results
 
 
+def show_durations(results, count):
+    """Shows the processes that used most of the processors, so many of them, and the tests that took longest."""
+    print(f"== the {count} processes with most seconds of processors")
+    for its, result in sorted(results, key=lambda it: -it[1].used)[:count]:
+        print(f"{result.used:8.1f} s {its.told()}")
+    tests = [
+        (seconds, f"{its.told().partition(' ')[0]} {name}")
+        for its, result in results
+        for name, seconds in result.took.items()
+    ]
+    print(f"== the {count} tests that took longest")
+    for seconds, name in sorted(tests, reverse=True)[:count]:
+        print(f"{seconds:8.1f} s {name}")
+
+
 def too_few(results):
     """Yields what is wrong with the numbers of tests of whole groups."""
-    numbers = collections.Counter()
+    numbers, seconds = collections.Counter(), collections.Counter()
     for its, result in results:
         numbers[its.group, its.way] += len(result.outcomes)
+        seconds[its.group, its.way] += result.used
     for (group, road), count in numbers.items():
-        print(f"== {group} {road}".rstrip() + f": {count} tests")
+        said = f"{count} tests, {seconds[group, road]:.0f} s of processors"
+        print(f"== {group} {road}".rstrip() + f": {said}")
         yield from counts.wrong(group, road, count)
 
 
@@ -344,6 +377,9 @@ def parsed():
     parser.add_argument("--list", action="store_true", help="shows the names of the tests")
     parser.add_argument(
         "--long", action="store_true", help="many more mutated files, logs and large games"
+    )
+    parser.add_argument(
+        "--durations", type=int, default=0, metavar="N", help="shows what took longest, N of it"
     )
     parser.add_argument("words", nargs="*", metavar="GROUP or NAME")
     return parser.parse_intermixed_args()
@@ -380,6 +416,8 @@ def main():
         return 1
     results = run_all(jobs, program, lanes)
     keep_failed(results)
+    if asked.durations:
+        show_durations(results, asked.durations)
     wrong = list(too_few(results)) if choice.is_whole else []
     for line in wrong:
         print(f"FAILED {line}")

@@ -1,7 +1,8 @@
 // Memory that runs out: fault 90, and nothing has changed.
 import assert from "node:assert/strict";
+import { readFileSync } from "node:fs";
 import { test } from "node:test";
-import { Graph, bytesWithMemory, load, outcome } from "./package.mjs";
+import { Graph, URL_OF_MODULE, bytesWithMemory, load, outcome } from "./package.mjs";
 
 const PAGE = 65536;
 const NO_MEMORY = 90n;
@@ -45,6 +46,20 @@ test("a pile that finds no memory for another game stays as it was", async () =>
   assert.equal(outcome(() => [chipfire.pile(Graph.grid(200), new BigUint64Array(40001))])[0], NO_MEMORY);
   assert.deepEqual([pile.chips(), pile.fired()], before);
   pile.free();
+});
+
+test("blocks that are freed side by side are one, in whichever order", async () => {
+  const { instance } = await WebAssembly.instantiate(readFileSync(URL_OF_MODULE));
+  const { chipfire_room: room, chipfire_free: free } = instance.exports;
+  for (const order of [[0, 1, 2], [0, 2, 1], [1, 0, 2], [1, 2, 0], [2, 0, 1], [2, 1, 0]]) {
+    const blocks = [1, 2, 3].map(() => room(1000n));
+    const behind = room(1000n);
+    for (const at of order) free(blocks[at]);
+    const whole = room(3000n);
+    assert.equal(whole, blocks[0], String(order));
+    free(whole);
+    free(behind);
+  }
 });
 
 test("memory that is freed is used again", async () => {

@@ -3,6 +3,7 @@ grid, its types, and that the same sources make the same bytes. With CHIPFIRE_SO
 1,000."""
 import array
 import collections
+import ctypes
 import json
 import os
 import random
@@ -29,6 +30,12 @@ BOOKS = {
     "sent": "sent", "got": "got", "mayAck": "may_ack", "acked": "acked", "settled": "settled", "deficit": "deficit",
     "isOver": "is_over",
 }
+
+
+class Halves(ctypes.Structure):
+    """A number of 128 bits, as C returns it."""
+
+    _fields_ = [("low", library.WORD), ("high", library.WORD)]
 
 
 def columns_of(graph):
@@ -222,6 +229,23 @@ class Web(Room):
         """Puts the package where Node and tsc look for it."""
         os.makedirs(f"{self.room}/node_modules")
         os.symlink(WEB, f"{self.room}/node_modules/chipfire")
+
+    def test_products_of_128_bits(self):
+        """The module's own function for them, compiled for this machine: plays seldom need their upper half."""
+        need("gcc")
+        words = ["-D__multi3=product", "-D__heap_base=base", "-D__builtin_wasm_memory_size(at)=0"]
+        words += ["-D__builtin_wasm_memory_grow(at,pages)=(0*(pages))"]
+        with open(f"{self.room}/base.c", "w", encoding="ascii") as file:
+            file.write("unsigned char base;\n")
+        sources = [f"{ROOT}/tools/heap.c", f"{self.room}/base.c"]
+        self.runs("gcc", "-O1", "-shared", "-fPIC", *words, *sources, "-o", f"{self.room}/product.so")
+        product = ctypes.CDLL(f"{self.room}/product.so").product
+        product.restype, product.argtypes = Halves, [library.WORD] * 4
+        draw = random.Random("library: products")
+        for _ in range(1000):
+            one, other = (draw.getrandbits(draw.choice([1, 32, 64, 65, 128])) for _ in range(2))
+            found = product(*(half for it in (one, other) for half in (it % 2**64, it >> 64)))
+            self.assertEqual((found.high << 64) + found.low, one * other % 2**128, (one, other))
 
     def test_its_types(self):
         need("tsc")

@@ -112,7 +112,8 @@ uint64_t chipfire_verify(uint64_t vertices, uint64_t sink,
  *
  *     struct chipfire_pile pile = {0};        no pile yet
  *     chipfire_pile_new(&pile, ..);           makes one
- *     chipfire_pile_drop(&pile, ..);          as often as you like
+ *     chipfire_pile_drop(&pile, ..);          as often as you like; or many at a time:
+ *     chipfire_pile_drops(&pile, ..);
  *     chipfire_pile_free(&pile);              no pile any more
  *
  * The most chips, 2^40, those on the sink too, and the limit are for the game and all its drops together, from
@@ -154,11 +155,31 @@ uint64_t chipfire_pile_put(struct chipfire_pile *pile, uint64_t limit, const uin
 uint64_t chipfire_pile_drop(struct chipfire_pile *pile, uint64_t vertex, uint64_t amount,
                             uint64_t *size, uint64_t *extent, uint64_t *lost);
 
+/* Plays what is still to be played, then drops amounts[i] chips on vertex at[i], one i after another, and plays on to the
+ * end each time, as a chipfire_pile_drop for each does. The other slices get what those of chipfire_avalanches get, and no
+ * memory is taken but by a play. With no drops it only plays.
+ *
+ * All drops are looked at before the first of them falls: 12, and of the first drop that has a fault 26, 10, with their
+ * place, change nothing. If the limit stops a play, that is 13, and *place is the number of drops that were made: the rows
+ * of these are written, and all others are as they were. */
+uint64_t chipfire_pile_drops(struct chipfire_pile *pile,
+                             const uint64_t *at, size_t at_len,
+                             const uint64_t *amounts, size_t amounts_len,
+                             uint64_t *sizes, size_t sizes_len,
+                             uint64_t *extents, size_t extents_len,
+                             uint64_t *losts, size_t losts_len,
+                             uint64_t *place);
+
 /* Copies the chips of each vertex: before the first play those that were put there. */
 uint64_t chipfire_pile_chips(struct chipfire_pile *pile, uint64_t *chips, size_t chips_len);
 
 /* Copies how often each vertex has fired, in all plays since chipfire_pile_new or chipfire_pile_put. */
 uint64_t chipfire_pile_fired(struct chipfire_pile *pile, uint64_t *fired, size_t fired_len);
+
+/* Returns how many bytes the arrays of the pile take, 0 if there is none: 76 for each vertex (of the graph 20, of the play
+ * 56) and 48 for each edge. Not counted are some hundred bytes beside the arrays, what malloc takes for itself, and what a
+ * long play takes while it lasts. */
+uint64_t chipfire_pile_size(struct chipfire_pile *pile);
 
 /* Frees the pile, if there is one, and leaves zeros: once more is harmless. */
 void chipfire_pile_free(struct chipfire_pile *pile);

@@ -170,6 +170,17 @@ static uint64_t pile_new_in_place(struct call *c)
     return pile_new(&kept, c);
 }
 
+static uint64_t pile_drops(struct chipfire_pile *pile, struct call *c)
+{
+    return chipfire_pile_drops(pile, c->at, c->drops, c->amounts, c->amounts_len, c->sizes, c->sizes_len, c->extents,
+                               c->drops, c->losts, c->drops, &c->place);
+}
+
+static uint64_t pile_drops_in_place(struct call *c)
+{
+    return pile_drops(&kept, c);
+}
+
 /* Looks that a pile has these chips and counts. */
 static void expect_pile(struct chipfire_pile *pile, const uint64_t *chips, const uint64_t *fired, int line)
 {
@@ -188,6 +199,11 @@ static void try_no_pile(void)
     EXPECT(chipfire_pile_put(&pile, 9, chips, N) == 14);
     EXPECT(chipfire_pile_drop(&pile, 0, 1, &size, &extent, &lost) == 14);
     EXPECT(chipfire_pile_chips(&pile, chips, N) == 14 && chipfire_pile_fired(&pile, chips, N) == 14);
+    struct call c = begin();
+    c.at[0] = 3;
+    c.amounts_len = 2;
+    EXPECT(pile_drops(&pile, &c) == 14 && c.place == 0 && are(c.sizes, DROPS, NUMBERS(GUARD, GUARD, GUARD)));
+    EXPECT(chipfire_pile_size(&pile) == 0);
     EXPECT(size == GUARD && extent == GUARD && lost == GUARD && are(chips, N, NUMBERS(GUARD, GUARD, GUARD)));
     chipfire_pile_free(&pile);
     EXPECT(pile.has_pile == 0 && pile.pile == NULL);
@@ -213,6 +229,33 @@ static void try_piles(void)
     EXPECT_PILE(&kept, NUMBERS(1, 0, 3), NUMBERS(2, 1, 0));
 }
 
+/* The same drops by one call, then none, and then one that the limit stops after two. */
+static void try_drops_on_piles(void)
+{
+    struct call c = begin();
+    EXPECT(chipfire_pile_put(&kept, c.limit, NUMBERS(4, 0, 0), N) == 0);
+    EXPECT(pile_drops(&kept, &c) == 0 && c.place == 0);
+    EXPECT(are(c.sizes, DROPS, NUMBERS(0, 1, 1)) && are(c.extents, DROPS, NUMBERS(0, 1, 1)));
+    EXPECT(are(c.losts, DROPS, NUMBERS(0, 1, 1)));
+    EXPECT_PILE(&kept, NUMBERS(1, 1, 6), NUMBERS(3, 2, 0));
+    EXPECT(chipfire_pile_put(&kept, 2, NUMBERS(4, 0, 0), N) == 0);
+    EXPECT(chipfire_pile_drops(&kept, NULL, 0, NULL, 0, NULL, 0, NULL, 0, NULL, 0, &c.place) == 0 && c.place == 0);
+    EXPECT_PILE(&kept, NUMBERS(1, 0, 3), NUMBERS(2, 1, 0));
+    c = begin();
+    c.at[1] = 1;
+    c.at[2] = 0;
+    EXPECT(pile_drops(&kept, &c) == 13 && c.place == 2);
+    EXPECT(are(c.sizes, DROPS, NUMBERS(0, 0, GUARD)) && are(c.extents, DROPS, NUMBERS(0, 0, GUARD)));
+    EXPECT(are(c.losts, DROPS, NUMBERS(0, 0, GUARD)));
+    EXPECT_PILE(&kept, NUMBERS(3, 1, 4), NUMBERS(2, 1, 0));
+    c = begin();
+    EXPECT(pile_drops(&kept, &c) == 13 && c.place == 0 && are(c.sizes, DROPS, NUMBERS(GUARD, GUARD, GUARD)));
+    EXPECT_PILE(&kept, NUMBERS(3, 1, 4), NUMBERS(2, 1, 0));
+    EXPECT(chipfire_pile_put(&kept, c.limit, NUMBERS(4, 0, 0), N) == 0);
+    EXPECT(chipfire_pile_drops(&kept, NULL, 0, NULL, 0, NULL, 0, NULL, 0, NULL, 0, &c.place) == 0);
+    EXPECT(chipfire_pile_size(&kept) == 3 * 76 + 4 * 48);
+}
+
 /* Faults leave the pile as it was. */
 static void try_faults_of_piles(void)
 {
@@ -230,6 +273,13 @@ static void try_faults_of_piles(void)
     EXPECT(chipfire_pile_drop(&kept, 2, UINT64_MAX, &size, &extent, &lost) == 10);
     EXPECT(chipfire_pile_drop(&kept, 2, (UINT64_C(1) << 40) - 3, &size, &extent, &lost) == 10);
     EXPECT(chipfire_pile_chips(&kept, few, 2) == 12 && chipfire_pile_fired(&kept, few, 2) == 12);
+    start = begin();
+    FAULT(pile_drops_in_place, (c.amounts_len = 2, c.at[0] = 3), 12, 0);
+    FAULT(pile_drops_in_place, (c.sizes_len = 2), 12, 0);
+    FAULT(pile_drops_in_place, c.at[2] = 3, 26, 2);
+    FAULT(pile_drops_in_place, (c.at[2] = 3, c.amounts[1] = UINT64_MAX), 10, 1);
+    FAULT(pile_drops_in_place, (c.at[1] = 3, c.amounts[1] = UINT64_MAX), 26, 1);
+    FAULT(pile_drops_in_place, c.amounts[2] = (UINT64_C(1) << 40) - 5, 10, 2);
     EXPECT(size == GUARD && extent == GUARD && lost == GUARD && are(few, 2, NUMBERS(GUARD, GUARD)));
     EXPECT_PILE(&kept, NUMBERS(1, 0, 3), NUMBERS(2, 1, 0));
     EXPECT(chipfire_pile_drop(&kept, 2, (UINT64_C(1) << 40) - 4, &size, &extent, &lost) == 0 && size == 0);
@@ -338,6 +388,7 @@ static void try_nulls(void)
     EXPECT(chipfire_pile_new(&pile, 1, 0, NULL, 0, NULL, 0, NULL, 0, 9, NULL, 0, &place) == 9);
     EXPECT(chipfire_pile_new(&pile, 1, 0, NULL, 0, NULL, 0, NULL, 0, 9, NUMBERS(4), 1, &place) == 0);
     EXPECT(chipfire_pile_put(&pile, 9, NULL, 0) == 9 && chipfire_pile_chips(&pile, NULL, 0) == 12);
+    EXPECT(chipfire_pile_drops(&pile, NULL, 0, NULL, 0, NULL, 0, NULL, 0, NULL, 0, &place) == 0);
     EXPECT(chipfire_pile_chips(&pile, c.chips, 1) == 0 && c.chips[0] == 4);
     chipfire_pile_free(&pile);
     EXPECT(chipfire_verify(1, 0, NULL, 0, NULL, 0, NULL, 0, 9, NULL, 0, NULL, 0, NULL, 0, &place) == 9);
@@ -373,6 +424,7 @@ int main(void)
     try_drops();
     try_no_pile();
     try_piles();
+    try_drops_on_piles();
     try_faults_of_piles();
     try_stopped_piles();
     try_claims();

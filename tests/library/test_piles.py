@@ -12,6 +12,16 @@ from library import LARGEST, LIBRARY, WORD, Graph, Slice, avalanches, stabilize_
 from test_games import TRIANGLE, drawn, grid, stepped
 
 GUARD = 0x5A5A5A5A
+
+
+class Info(ctypes.Structure):
+    """What `mallinfo2` says of blocks: how many bytes those have that are taken, those of pages of their own too."""
+
+    _fields_ = [(it, ctypes.c_size_t) for it in "arena ordblks smblks hblks hblkhd usmblks fsmblks uordblks rest keep".split()]
+
+
+MALLINFO = ctypes.CDLL(None).mallinfo2
+MALLINFO.restype = Info
 MALLOC = ctypes.CDLL(None).malloc
 MALLOC.restype, MALLOC.argtypes = ctypes.c_void_p, [ctypes.c_size_t]
 
@@ -45,6 +55,17 @@ class Pile:
         told = [Slice([GUARD]) for _ in range(3)]
         status = LIBRARY.chipfire_pile_drop(self.at, vertex, amount, *(it.words()[0] for it in told))
         return self.answer(status, tuple(it.now()[0] for it in told), (GUARD,) * 3)
+
+    def drops(self, drops):
+        """Returns the status, the place and all rows, of which those that were not written are guards."""
+        columns = [Slice(it) for it in zip(*drops)] if drops else [Slice([]), Slice([])]
+        rows, place = [Slice([GUARD] * len(drops)) for _ in range(3)], Slice([7])
+        words = [word for it in (*columns, *rows) for word in it.words()]
+        status = LIBRARY.chipfire_pile_drops(self.at, *words, place.words()[0])
+        return status, place.now()[0], list(zip(*(it.now() for it in rows)))
+
+    def size(self):
+        return LIBRARY.chipfire_pile_size(self.at)
 
     def copy(self, function):
         numbers = Slice([GUARD] * self.graph.vertices)
@@ -85,6 +106,24 @@ class Piles(unittest.TestCase):
             self.assertEqual(pile.drop(vertex, amount), wanted)
             self.assertEqual(pile.now(), [chips, fired])
 
+    def expect_one_call(self, pile, chips, drops, limit):
+        """Looks that one call for drops does what firing one by one does, on a pile that was just begun."""
+        chips, fired, stopped, _ = stepped(pile.graph, chips, limit)
+        rows = []
+        for vertex, amount in drops:
+            before = fired
+            if not stopped:
+                chips[vertex] += amount
+                chips, fired, stopped, lost = stepped(pile.graph, chips, limit, fired)
+            if stopped:
+                break
+            many = [now - then for now, then in zip(fired, before)]
+            rows.append((sum(many), sum(map(bool, many)), lost))
+        unwritten = [(GUARD,) * 3] * (len(drops) - len(rows))
+        wanted = (13, len(rows), rows + unwritten) if stopped else (0, 0, rows)
+        self.assertEqual(pile.drops(drops), wanted)
+        self.assertEqual(pile.now(), [chips, fired])
+
     def expect_nothing_new(self, pile, fault, call, *words):
         """Looks that a call has a fault and leaves the pile as it was."""
         before = pile.now()
@@ -102,6 +141,8 @@ class Small(Piles):
                 for drops in itertools.product(itertools.product(range(3), range(3)), repeat=2):
                     self.assertEqual(pile.put(chips, limit), 0)
                     self.expect_drops(pile, list(chips), drops, limit)
+                    self.assertEqual(pile.put(chips, limit), 0)
+                    self.expect_one_call(pile, list(chips), drops, limit)
 
     def test_the_sink_alone(self):
         pile = self.pile(Graph(1, 0, []))
@@ -125,6 +166,9 @@ class Small(Piles):
                 self.expect_nothing_new(pile, fault, pile.new, chips, limit)
             for vertex, amount, fault in [(3, LARGEST, 26), (2**64 - 1, 0, 26), (2, LARGEST - 3, 10), (0, 2**64 - 1, 10)]:
                 self.expect_nothing_new(pile, fault, pile.drop, vertex, amount)
+                before = pile.now()
+                self.assertEqual(pile.drops([(2, 0), (vertex, amount), (4, 0)]), (fault, 1, [(GUARD,) * 3] * 3))
+                self.assertEqual(pile.now(), before)
             for wrong, fault in (Graph(3, 2, []), 8), (Graph(3, 3, TRIANGLE.edges), 2), (Graph(3, 2, [(0, 0, 1)]), 6):
                 self.expect_nothing_new(pile, fault, pile.new_on, wrong, [4, 0, 0])
 
@@ -132,6 +176,7 @@ class Small(Piles):
         pile = self.pile(TRIANGLE)
         for _ in range(2):
             self.assertEqual((pile.put([0, 0, 0]), pile.drop(0, 1)), (14, (14, None)))
+            self.assertEqual((pile.drops([(9, 1)]), pile.size()), ((14, 0, [(GUARD,) * 3]), 0))
             self.assertEqual(pile.now(), [None, None])
             self.assertEqual(pile.free(), (0, None))
 
@@ -148,6 +193,8 @@ class Random(Piles):
                 drops = [(draw.randrange(graph.vertices), draw.randint(0, 5)) for _ in range(draw.randint(0, 6))]
                 self.assertEqual(pile.put(chips, limit) if number else pile.new(chips, limit), 0 if number else (0, 0))
                 self.expect_drops(pile, chips, drops, limit)
+                self.assertEqual(pile.put(chips, limit), 0)
+                self.expect_one_call(pile, chips, drops, limit)
 
     def test_beside_one_call_on_a_grid(self):
         draw, graph = random.Random("piles: grid"), grid(20)
@@ -158,6 +205,12 @@ class Random(Piles):
         rows = [pile.drop(*it) for it in drops]
         status, place, (ends, wanted) = avalanches(graph, chips, drops)
         self.assertEqual((status, place, rows), (0, 0, [(0, row) for row in wanted]))
+        many = self.pile(graph)
+        many.new(chips)
+        self.assertEqual(many.drops(drops[:150]), (0, 0, wanted[:150]))
+        self.assertEqual(many.drop(*drops[150]), (0, wanted[150]))
+        self.assertEqual(many.drops(drops[151:]), (0, 0, wanted[151:]))
+        self.assertEqual(many.now(), pile.now())
         started = list(chips)
         for vertex, amount in drops:
             started[vertex] += amount
@@ -204,6 +257,20 @@ class Memory(Piles):
             self.assertEqual(found, [90] * enough + [0] * (len(found) - enough))
         drop = (pile.at, 0, 5, *(it.words()[0] for it in told))
         self.assertEqual(self.within(0, lambda: LIBRARY.chipfire_pile_drop(*drop), lambda status: status), 0)
+        columns = [Slice([it] * 99) for it in (0, 5, GUARD, GUARD, GUARD)]
+        drops = (pile.at, *(word for it in columns for word in it.words()), place.words()[0])
+        self.assertEqual(self.within(0, lambda: LIBRARY.chipfire_pile_drops(*drops), lambda status: status), 0)
+
+    def test_size(self):
+        """The size is what the C library has taken for the arrays of a pile, but for the ends of their pages."""
+        line = [(at, at + 1, 1) for at in range(20_000)]
+        for graph in grid(120), Graph(20_001, 20_000, line), Graph(20_001, 20_000, 5 * line):
+            pile = self.pile(graph)
+            before = MALLINFO()
+            self.assertEqual(pile.new([1] * graph.vertices), (0, 0))
+            after = MALLINFO()
+            taken = after.uordblks + after.hblkhd - before.uordblks - before.hblkhd
+            self.assertIn(taken - pile.size(), range(15 * 4200))
 
     def test_given_back(self):
         """A thousand piles of more than a megabyte, freed or made in the place of one another, take few megabytes."""

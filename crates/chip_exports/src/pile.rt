@@ -4,12 +4,12 @@ ghost use Rattle.std.specs.Prelude.{◌≡◌, None};
 ghost use Rattle.chip_fire.specs.declared.avalanche.Avalanche.{Avalanche};
 ghost use Rattle.chip_library.specs.declared.fault.CallFault.{CallFault};
 ghost use Rattle.chip_library.specs.KeptGames.{PutsChips, Drops};
-ghost use Rattle.chip_handle.specs.Handles.{MakesNew, OnPile, CopiesOf, chips_on, firings_on};
+ghost use Rattle.chip_handle.specs.Handles.{MakesNew, OnPile, DropsOn, CopiesOf, chips_on, firings_on, bytes_held};
 ghost use Rattle.chip_exports.specs.Answers.{Answers, answer_of};
 ghost use Rattle.chip_exports.specs.Piles.{CallStatus, call_status_of, written_of};
 
 use crate::answer;
-use chip_handle::{Handle, chips_of, drop_on, fired_of, make, put, release};
+use chip_handle::{Handle, bytes_of, chips_of, drop_on, drops_on, fired_of, make, put, release};
 use chip_library::{CallFault, EdgeLists};
 use std::alloc::Global;
 
@@ -82,6 +82,26 @@ pub extern "C" fn chipfire_pile_drop(
     }
 }
 
+/// Drops chips on a pile, one drop after another (`chip_handle::drops_on`).
+#[unsafe(no_mangle)]
+pub extern "C" fn chipfire_pile_drops(
+    alloc: Global,
+    pile: &mut Handle,
+    at: &[u64],
+    amounts: &[u64],
+    sizes: &mut [u64],
+    extents: &mut [u64],
+    losts: &mut [u64],
+    place: &mut u64,
+) -> u64
+    ensures { Answers result place.new (DropsOn pile.old.raw.value pile.new.raw.value at.now amounts.now
+        (record { sizes = sizes.old; extents = extents.old; losts = losts.old })
+        (record { sizes = sizes.new; extents = extents.new; losts = losts.new })) }
+{
+    let done = drops_on(alloc, pile, at, amounts, sizes, extents, losts);
+    answer(done, place)
+}
+
 /// Copies the chips of a pile (`chip_handle::chips_of`).
 #[unsafe(no_mangle)]
 pub extern "C" fn chipfire_pile_chips(alloc: Global, pile: &mut Handle, chips: &mut [u64]) -> u64
@@ -98,6 +118,15 @@ pub extern "C" fn chipfire_pile_fired(alloc: Global, pile: &mut Handle, fired: &
         (CopiesOf firings_on pile.old.raw.value pile.new.raw.value fired.old fired.new) }
 {
     call_status(fired_of(alloc, pile, fired))
+}
+
+/// How many bytes the arrays of a pile take, or 0 (`chip_handle::bytes_of`).
+#[unsafe(no_mangle)]
+pub extern "C" fn chipfire_pile_size(alloc: Global, pile: &mut Handle) -> u64
+    ensures pile { pile.new.raw.value ≡ pile.old.raw.value }
+    ensures bytes { result ≡ bytes_held pile.old.raw.value }
+{
+    bytes_of(alloc, pile)
 }
 
 /// Frees a pile, if there is one (`chip_handle::release`).

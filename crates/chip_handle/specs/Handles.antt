@@ -3,7 +3,7 @@ use Rattle.std.specs.Prelude.{◌≡◌, ℕ, List, length, Option, Some, None, 
 use Rattle.chip_library.specs.declared.edges.EdgeLists.{EdgeLists}
 use Rattle.chip_library.specs.declared.fault.CallFault.{CallFault}
 use Rattle.chip_library.specs.declared.fault.CallFault.TheVariants.{Lengths, NoPile}
-use Rattle.chip_library.specs.KeptGames.{KeptGame, MakesPile}
+use Rattle.chip_library.specs.KeptGames.{KeptGame, MakesPile, Rows, DropsEach, bytes_on}
 
 -- 1 if there is a pile
 abbrev pub number_of_piles : Option KeptGame → ℕ
@@ -21,6 +21,13 @@ abbrev pub OnPile : {T : Type 0} → (KeptGame → KeptGame → Result T CallFau
     → Result T CallFault → Type 0
 OnPile does None new told = (new ≡ None) × (told ≡ Err NoPile)
 OnPile does (Some k) new told = (k' : KeptGame) × (new ≡ Some k') × does k k' told
+
+-- what many drops on a pile return: that there is none, and nothing is written; or what they do to the pile that is there
+abbrev pub DropsOn : (old new : Option KeptGame) → (at amounts : List ℕ) → (before after : Rows)
+    → Result (Unit {0}) CallFault → Type 0
+DropsOn None new at amounts before after told = (new ≡ None) × (after ≡ before) × (told ≡ Err NoPile)
+DropsOn (Some k) new at amounts before after told =
+    (k' : KeptGame) × (new ≡ Some k') × DropsEach k k' at amounts before after told
 
 -- what a copy returns: these numbers, if there is room for just as many, and else nothing is written
 abbrev pub Copies : List ℕ → (old new : List ℕ) → Result (Unit {0}) CallFault → Type 0
@@ -40,3 +47,8 @@ chips_on k = k.pile.chips.items
 -- how often each vertex has fired, by vertex
 abbrev pub firings_on : KeptGame → List ℕ
 firings_on k = k.pile.fired.items
+
+-- how many bytes the arrays of a pile take, if there is one
+abbrev pub bytes_held : Option KeptGame → ℕ
+bytes_held None = 0
+bytes_held (Some k) = bytes_on k.pile.game.graph

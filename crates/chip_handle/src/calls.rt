@@ -2,7 +2,7 @@
 
 ghost use Rattle.std.specs.Prelude.{◌≡◌, None};
 ghost use Rattle.chip_library.specs.KeptGames.{PutsChips, Drops};
-ghost use Rattle.chip_handle.specs.Handles.{MakesNew, OnPile, Copies, CopiesOf, chips_on, firings_on};
+ghost use Rattle.chip_handle.specs.Handles.{MakesNew, OnPile, DropsOn, Copies, CopiesOf, chips_on, firings_on, bytes_held};
 
 use crate::handle::Handle;
 use chip_fire::Avalanche;
@@ -78,6 +78,29 @@ fn one_drop(kept: KeptPile, drop: (Global, u64, u64)) -> (KeptPile, Result<Avala
     kept.drop_chips(alloc, vertex, count)
 }
 
+/// Drops chips on a pile, one drop after another (`KeptPile::drop_each`).
+pub fn drops_on(
+    alloc: Global,
+    handle: &mut Handle,
+    at: &[u64],
+    amounts: &[u64],
+    sizes: &mut [u64],
+    extents: &mut [u64],
+    losts: &mut [u64],
+) -> Result<(), CallFault>
+    ensures { DropsOn handle.old.raw.value handle.new.raw.value at.now amounts.now
+        (record { sizes = sizes.old; extents = extents.old; losts = losts.old })
+        (record { sizes = sizes.new; extents = extents.new; losts = losts.new }) result }
+{
+    let Some(mut boxed) = handle.take(alloc) else {
+        return Err(CallFault::NoPile);
+    };
+    let kept: &mut KeptPile = &mut boxed;
+    let told = kept.drop_each(alloc, at, amounts, sizes, extents, losts);
+    *handle = Handle::of(boxed);
+    told
+}
+
 /// Copies how many chips each vertex of a pile has.
 pub fn chips_of(alloc: Global, handle: &mut Handle, chips: &mut [u64]) -> Result<(), CallFault>
     ensures { CopiesOf chips_on handle.old.raw.value handle.new.raw.value chips.old chips.new result }
@@ -111,6 +134,19 @@ fn copy(numbers: &[u64], room: &mut [u64]) -> Result<(), CallFault>
     }
     room.copy_from_slice(numbers);
     Ok(())
+}
+
+/// How many bytes the arrays of a pile take (`KeptPile::bytes`), or 0 if there is none.
+pub fn bytes_of(alloc: Global, handle: &mut Handle) -> u64
+    ensures pile { handle.new.raw.value ≡ handle.old.raw.value }
+    ensures bytes { result ≡ bytes_held handle.old.raw.value }
+{
+    let Some(boxed) = handle.take(alloc) else {
+        return 0;
+    };
+    let bytes = boxed.bytes();
+    *handle = Handle::of(boxed);
+    bytes
 }
 
 /// Frees a pile, if there is one.

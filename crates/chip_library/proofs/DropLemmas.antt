@@ -89,19 +89,19 @@ leaves_none p is stable = record {
   avalanches = λ v. refl;
 }
 
-module _ (p : Pile) (told : List Told) (p' : Pile) (so_far : Leaves p told p') (v count : ℕ) (g : ChipGame)
-    (more : HasMore p'.game ((v, count) ∷ []) g) where
-  -- one drop more on all before it
-  pub all_more : HasMore p.game (drops_of told ++ (v, count) ∷ []) g
+module _ (p : Pile) (told : List Told) (p' : Pile) (so_far : Leaves p told p') (ds : List (ℕ × ℕ)) (g : ChipGame)
+    (more : HasMore p'.game ds g) where
+  -- more drops on all before them
+  pub all_more : HasMore p.game (drops_of told ++ ds) g
   all_more =
       let before = so_far.game in record {
         same_graph = more.same_graph ∙ before.same_graph;
         same_limit = more.same_limit ∙ before.same_limit;
         start_each = more.start_each ∙ before.start_each;
         start = λ u l. (let a = before.start u l in let b = more.start u (let e = before.start_each in omega arith) in
-            let c = sum_by-append (λ (pair : ℕ × ℕ). cond (eqb pair.0 u) pair.1 0) (drops_of told) ((v, count) ∷ []) in
+            let c = sum_by-append (λ (pair : ℕ × ℕ). cond (eqb pair.0 u) pair.1 0) (drops_of told) ds in
             omega arith);
-        total = (let c = sum_by-append (λ (pair : ℕ × ℕ). pair.1) (drops_of told) ((v, count) ∷ []) in omega arith);
+        total = (let c = sum_by-append (λ (pair : ℕ × ℕ). pair.1) (drops_of told) ds in omega arith);
       }
 
 -- one drop more, with its avalanche
@@ -115,7 +115,7 @@ leaves_more p told p' so_far t inside p'' is more tells =
     record {
       pile = is;
       stable = rw more.same_graph tells.0;
-      game = rw drops (all_more p told p' so_far t.0.0 t.0.1 p''.game more);
+      game = rw drops (all_more p told p' so_far (t.0 ∷ []) p''.game more);
       vertices = rw drops (All-push (λ (pair : ℕ × ℕ). pair.0 < p.game.graph.vertices) (drops_of told) t.0 so_far.vertices inside);
       avalanches = told_more _ _ told _ t _ so_far.avalanches (rw so_far.game.same_graph at tells.1);
     }

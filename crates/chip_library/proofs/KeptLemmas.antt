@@ -1,15 +1,23 @@
 -- Serves KeptGames.antt.
 -- Where the play of a pile ends, and drops on it.
-use Rattle.std.proofs.Common.{◌≡◌, ℕ, ◌-◌, ◌<◌, ◌≤◌, ◌^◌, Bool, true, not, ◌&&◌, eqb, leb, cond, List, [], ◌∷◌, length, sum, slice_index}
-use Rattle.std.proofs.Common.{Result, Ok, Err, ◌+◌, inl, inr, refl, sym, ◌∙◌, subst, arith}
+use Rattle.std.proofs.Common.{◌≡◌, ℕ, ◌+◌, ◌-◌, ◌<◌, ◌≤◌, ◌^◌, Bool, true, not, ◌&&◌, eqb, leb, cond, List, [], ◌∷◌, ◌++◌}
+use Rattle.std.proofs.Common.{length, map, take, drop, set, sum, sum_by, slice_index, Option, Some, None, Result, Ok, Err}
+use Rattle.std.proofs.Common.{inl, inr, refl, sym, ap, ◌∙◌, subst, arith}
 use Rattle.std.proofs.lemmas.Bool.Decides.{nat_tests}
-use Rattle.std.proofs.lemmas.List.Elements.{All-head}
+use Rattle.std.proofs.lemmas.List.{map-append, append_assoc, append-nil, length-map, length_push}
+use Rattle.std.proofs.lemmas.List.{take_all, drop_all, set_at}
+use Rattle.std.proofs.lemmas.Simd.{map-map}
+use Rattle.std.proofs.Math.Numerals.{add-one}
+use Rattle.std.proofs.lemmas.List.Sums.{sum-map, sum_by_more_le}
+use Rattle.std.proofs.Math.Seq.{drop-cons}
+use Rattle.std.proofs.lemmas.List.Elements.{All-append}
+use Rattle.std.specs.Option.{ok_or}
 use Rattle.std.specs.declared.vec.Vec.{Vec}
 use Rattle.std.specs.declared.alloc.Global.{Global}
 use Rattle.chip_graph.specs.Limits.{max_total, max_vertices}
 use Rattle.chip_graph.specs.ChipGame.{ChipGame}
 use Rattle.chip_graph.specs.Multigraph.{Multigraph, degree}
-use Rattle.chip_graph.specs.More.{HasMore}
+use Rattle.chip_graph.specs.More.{HasMore, AreOfVertices, all_brought}
 use Rattle.chip_graph.proofs.SumLemmas.{sum_small}
 use Rattle.chip_graph.proofs.PickLemmas.{length-picked}
 use Rattle.chip_sequence.specs.Firing.{legal_vertices}
@@ -20,14 +28,15 @@ use Rattle.chip_fire.specs.Pile.{IsPile}
 use Rattle.chip_sequence.specs.Firing.{IsStable}
 use Rattle.chip_fire.proofs.PlayLemmas.{game_played}
 use Rattle.chip_fire.specs.declared.avalanche.Avalanche.{Avalanche}
-use Rattle.chip_fire.specs.Avalanches.{dropped, IsAvalanche}
+use Rattle.chip_fire.specs.Avalanches.{dropped, IsAvalanche, AreAvalanches}
 use Rattle.chip_library.specs.declared.fault.CallFault.{CallFault}
-use Rattle.chip_library.specs.declared.fault.CallFault.TheVariants.{Lengths, Graph, Game, Vertex, Total, Stopped, Differs, NoPile, NoMemory}
+use Rattle.chip_library.specs.declared.fault.CallFault.TheVariants.{Stopped}
 use Rattle.chip_library.specs.declared.kept.PileState.TheVariants.{ToPlay, Stable, Halted}
-use Rattle.chip_library.specs.Drops.{BeginsPile}
-use Rattle.chip_library.specs.KeptGames.{KeptGame, IsKept, BeginsGame, IsPlayedOut, Plays, StopsDrop, Drops}
-use Rattle.chip_library.specs.KeptGames.{PilesAreOutcomes, DropsFollow, OneDropMore}
-use Rattle.chip_library.proofs.DropLemmas.{made_all, leaves_none, leaves_more}
+use Rattle.chip_library.specs.Drops.{Told, drops_of, AreOn, AreRows, BeginsPile, CanFall, Leaves}
+use Rattle.chip_library.specs.KeptGames.{KeptGame, IsKept, BeginsGame, IsPlayedOut, Plays, AreDropped, Drops, DropsOnStable}
+use Rattle.chip_library.specs.KeptGames.{Rows, with_first, MakesEach, DropsEach}
+use Rattle.chip_library.specs.KeptGames.{PilesAreOutcomes, DropsFollow, MoreDrops}
+use Rattle.chip_library.proofs.DropLemmas.{made_all, leaves_none, leaves_more, all_more}
 
 -- a list of few numbers in the place of another
 with_few : (v : Vec ℕ Global) (xs : List ℕ) → length xs < 2 ^ 63 → (w : Vec ℕ Global) × (w.items ≡ xs)
@@ -77,14 +86,28 @@ pub drops_follow : DropsFollow
 drops_follow g k played begins plays told p leaves =
     made_all g played.pile (max_total - sum g.start) (begins_pile g k played begins plays) told p leaves
 
-pub one_drop_more : OneDropMore
-one_drop_more p told p' so_far t p'' more =
-    let (z, avalanche, left) = more.avalanches in
-    let same : slice_index p''.chips.items ≡ z = (λ i v. left v i) in
-    let inside : t.0.0 < p'.game.graph.vertices =
-    All-head (λ (pair : ℕ × ℕ). pair.0 < p'.game.graph.vertices) t.0 [] more.vertices in
-    leaves_more p told p' so_far t (rw so_far.game.same_graph at inside) p'' more.pile more.game
-    (rw more.game.same_graph at more.stable, rw (sym same) at avalanche)
+-- avalanches after others are more of them
+avalanches_more : (G : Multigraph) (x : ℕ → ℕ) (told : List Told) (y : ℕ → ℕ) → AreAvalanches G x told y
+    → (more : List Told) (z : ℕ → ℕ) → AreAvalanches G y more z → AreAvalanches G x (told ++ more) z
+avalanches_more G x [] y left more z are =
+    let same : y ≡ x = (λ i v. left v i) in subst (λ (w : ℕ → ℕ). AreAvalanches G w more z) same are
+avalanches_more G x (t ∷ told) y (w, first, later) more z are =
+    (w, first, avalanches_more G w told y later more z are)
+
+pub more_drops : MoreDrops
+more_drops p told p' so_far more p'' later =
+    let drops : drops_of (told ++ more) ≡ drops_of told ++ drops_of more = map-append (λ (t : Told). t.0) told more in
+    let inside : AreOfVertices p.game (drops_of more) = rw (← so_far.game.same_graph) later.vertices in
+    let are : AreAvalanches p.game.graph (slice_index p'.chips.items) more (slice_index p''.chips.items) =
+    rw (← so_far.game.same_graph) later.avalanches in
+    record {
+      pile = later.pile;
+      stable = later.stable;
+      game = rw drops (all_more p told p' so_far (drops_of more) p''.game later.game);
+      vertices = rw drops (All-append (λ (pair : ℕ × ℕ). pair.0 < p.game.graph.vertices) (drops_of told) (drops_of more)
+          so_far.vertices inside);
+      avalanches = avalanches_more p.game.graph _ told _ so_far.avalanches more _ are;
+    }
 
 -- ---- one call after another
 
@@ -98,36 +121,22 @@ played_once old played new first again =
       same = λ before. again.same over ∙ first.0.same before;
     }
 
--- a stop of a drop on a pile that was played out is one of a drop on the pile before
-stops_played : (old played new : KeptGame) (v count : ℕ) → Plays old played (Ok tt) → StopsDrop played new v count
-    → StopsDrop old new v count
-stops_played old played new v count first (inl again) = inl (played_once old played new first again.0, again.1, again.2)
-stops_played old played new v count first (inr (end, again, halted, more)) =
-    inr (end, (played_once old played end first again.0, again.1), halted, more)
-
 -- a drop on a pile that was played out is one on the pile before
 pub drops_played : (old played new : KeptGame) (v count : ℕ) → Plays old played (Ok tt) → v < old.pile.game.graph.vertices
-    → sum old.pile.game.start + count ≤ max_total → (told : Result Avalanche CallFault) → Drops played new v count told
-    → Drops old new v count told
-drops_played old played new v count first inside few (Ok a) (end, again, stable, leaves) =
-    (end, (played_once old played end first again.0, again.1), stable, leaves)
-drops_played old played new v count first inside few (Err (Stopped drop)) (zero, there, stops) =
-    (zero, inside, stops_played old played new v count first stops)
-drops_played old played new v count first inside few (Err (Vertex drop)) (same, is) =
-    let out : old.pile.game.graph.vertices ≤ v = rw (← first.0.same_game) is.1 in absurd (omega arith)
-drops_played old played new v count first inside few (Err (Total drop)) (same, is) =
-    let out : max_total < sum old.pile.game.start + 0 + count = rw (← first.0.same_game) is.2 in absurd (omega arith)
-drops_played old played new v count first inside few (Err Lengths) (same, none) = absurd none
-drops_played old played new v count first inside few (Err (Graph fault)) (same, none) = absurd none
-drops_played old played new v count first inside few (Err (Game fault game)) (same, none) = absurd none
-drops_played old played new v count first inside few (Err (Differs vertex)) (same, none) = absurd none
-drops_played old played new v count first inside few (Err NoPile) (same, none) = absurd none
-drops_played old played new v count first inside few (Err NoMemory) (same, none) = absurd none
+    → (told : Option Avalanche) → DropsOnStable played new v count told → Drops old new v count (ok_or told (Stopped 0))
+drops_played old played new v count first inside (Some a) (stable, leaves) = (played, first, stable, leaves)
+drops_played old played new v count first inside None (halted, more) = (refl, inside, inr (played, first, halted, more))
+
+-- the limit has stopped the play before a drop
+pub stopped_before : (old new : KeptGame) (v count : ℕ) → v < old.pile.game.graph.vertices → (fault : CallFault)
+    → Plays old new (Err fault) → Drops old new v count (Err fault)
+stopped_before old new v count inside fault (played, halted, is) =
+    subst (λ (f : CallFault). Drops old new v count (Err f)) (sym is) (refl, inside, inl (played, halted, refl))
 
 -- ---- a drop on a stable pile
 
 -- a stable pile is played out
-stays_played : (k : KeptGame) → IsKept k.pile k.state → k.state ≡ Stable → Plays k k (Ok tt)
+pub stays_played : (k : KeptGame) → IsKept k.pile k.state → k.state ≡ Stable → Plays k k (Ok tt)
 stays_played k kept stable = (record { kept = kept; same_game = refl; same = λ before. refl }, stable)
 
 -- an avalanche on it
@@ -135,15 +144,72 @@ pub drops_well : (k : KeptGame) → IsKept k.pile k.state → k.state ≡ Stable
     → v < k.pile.game.graph.vertices → (p : Pile) → IsPile p → HasMore k.pile.game ((v, count) ∷ []) p.game
     → IsStable k.pile.game.graph (slice_index p.chips.items)
     × IsAvalanche k.pile.game.graph (dropped (slice_index k.pile.chips.items) v count) a (slice_index p.chips.items)
-    → Drops k (record { pile = p; state = Stable }) v count (Ok a)
+    → Leaves k.pile (((v, count), a) ∷ []) p
 drops_well k kept stable v count a inside p is more tells =
     let rests = kept.stable stable in
     let none = leaves_none k.pile rests.0 rests.1 in
-    (k, stays_played k kept stable, refl, leaves_more k.pile [] k.pile none ((v, count), a) inside p is more tells)
+    leaves_more k.pile [] k.pile none ((v, count), a) inside p is more tells
 
--- a drop on it whose play the limit stops
-pub drops_halted : (k : KeptGame) → IsKept k.pile k.state → k.state ≡ Stable → (v count : ℕ)
-    → v < k.pile.game.graph.vertices → (p : Pile) → HasMore k.pile.game ((v, count) ∷ []) p.game
-    → Drops k (record { pile = p; state = Halted }) v count (Err (Stopped 0))
-drops_halted k kept stable v count inside p more =
-    (refl, inside, inr (k, stays_played k kept stable, refl, more))
+-- ---- many drops
+
+-- the chips of drops on these vertices, of these amounts
+brought : (told : List Told) (at amounts : List ℕ) → AreOn told at amounts → all_brought (drops_of told) ≡ sum amounts
+brought told at amounts on =
+    let a = sum-map (λ (pair : ℕ × ℕ). pair.1) (drops_of told) in
+    let b = map-map (λ (pair : ℕ × ℕ). pair.1) (λ (t : Told). t.0) told in
+    let c = on.chips in cc
+
+-- after the drops before it, the next one can fall
+pub falls : (g : ChipGame) (at amounts : List ℕ) → length amounts ≡ length at → CanFall g at amounts (length at)
+    → (told : List Told) (i : ℕ) → i < length at → AreOn told (take i at) (take i amounts)
+    → (g' : ChipGame) → HasMore g (drops_of told) g'
+    → (slice_index at i < g'.graph.vertices) × (sum g'.start + slice_index amounts i ≤ max_total)
+falls g at amounts each can told i inside on g' more =
+    let here = can.vertices i inside in
+    let chips : sum g.start + sum amounts ≤ max_total = rw (take_all (length at) amounts (omega arith)) at can.chips in
+    let so_far = brought told (take i at) (take i amounts) on in
+    let next = sum_by_more_le (λ x. x) amounts i 0 (omega arith) in
+    let total = more.total in (rw more.same_graph here, omega arith)
+
+-- one number more of a column is written
+pub first_more : (number : Told → ℕ) (told : List Told) (t : Told) (column : List ℕ) (i : ℕ) → length told ≡ i
+    → i < length column
+    → set (with_first number told column) i (number t) ≡ with_first number (told ++ t ∷ []) column
+first_more number told t column i long inside =
+    let rest : drop (length told) column ≡ slice_index column (length told) ∷ drop (length told + 1) column =
+    rw add-one (drop-cons column (length told) 0 (omega arith)) in
+    let first = length-map told number in
+    let written = set_at (map number told) (slice_index column (length told)) (drop (length told + 1) column) (number t)
+        i (omega arith) in
+    let more = map-append number told (t ∷ []) in
+    let longer = length_push told t in
+    rw (rest, longer, more, append_assoc) written
+
+-- all numbers of a column are written
+pub first_all : (number : Told → ℕ) (told : List Told) (column : List ℕ) → length told ≡ length column
+    → map number told ≡ with_first number told column
+first_all number told column long =
+    let none = drop_all (length told) column (omega arith) in rw (none, append-nil) refl
+
+-- drops that were made one after another on a pile that was played out
+pub dropped_more : (old : KeptGame) → Plays old old (Ok tt) → (told : List Told) (k : KeptGame) → k.state ≡ Stable
+    → Leaves old.pile told k.pile → AreDropped old k told
+dropped_more old plays told k stable leaves = (old, plays, stable, leaves)
+
+-- drops on a pile that was played out are those on the pile before
+pub dropped_played : (old played new : KeptGame) (told : List Told) → Plays old played (Ok tt) → AreDropped played new told
+    → AreDropped old new told
+dropped_played old played new told first (end, again, stable, leaves) =
+    (end, (played_once old played end first again.0, again.1), stable, leaves)
+
+-- drops that can fall on a pile that was played out are those on the pile before
+pub each_played : (old played new : KeptGame) (at amounts : List ℕ) (before after : Rows)
+    → AreRows at amounts before.sizes before.extents before.losts → CanFall old.pile.game at amounts (length at)
+    → Plays old played (Ok tt) → (told : Result (Unit {0}) CallFault)
+    → MakesEach played new at amounts before after told → DropsEach old new at amounts before after told
+each_played old played new at amounts before after rows can first (Ok done) (told, on, written, made) =
+    (rows, told, on, written, dropped_played old played new told first made)
+each_played old played new at amounts before after rows can first (Err fault)
+    (i, is, (told, k, made, long, inside, on, written, stopped)) =
+    subst (λ (f : CallFault). DropsEach old new at amounts before after (Err f)) (sym is)
+    (rows, can, inr (told, k, dropped_played old played k told first made, long, inside, on, written, stopped))

@@ -79,19 +79,36 @@ pub record IsFaultAfter (g : ChipGame) (at amounts : List ℕ) (told : List Told
   pub drops : AreOn told (take (length told) at) (take (length told) amounts)
   pub first : IsFaultOfDrop g told (slice_index at (length told)) (slice_index amounts (length told)) fault
 
+-- the drops before the n-th are each on a vertex of the game, and their chips and its own are not too many
+pub record CanFall (g : ChipGame) (at amounts : List ℕ) (n : ℕ) : Type 0 where
+  pub vertices : (i : ℕ) → i < n → slice_index at i < g.graph.vertices
+  pub chips : sum g.start + sum (take n amounts) ≤ max_total
+
+-- the first of these drops that cannot fall has this fault: it is on no vertex, else there are too many chips with it
+abbrev pub IsFaultOfColumns : ChipGame → (at amounts : List ℕ) → CallFault → Type 0
+IsFaultOfColumns g at amounts (Vertex i) =
+    (i < length at) × CanFall g at amounts i × (g.graph.vertices ≤ slice_index at i)
+IsFaultOfColumns g at amounts (Total i) = (i < length at) × CanFall g at amounts i
+    × (slice_index at i < g.graph.vertices) × (max_total < sum g.start + sum (take i amounts) + slice_index amounts i)
+IsFaultOfColumns g at amounts fault = ⊥
+
 -- the first fault of drops on a game: the limit stops its play, or else a first drop has a fault; or there is no memory
 abbrev pub IsFaultOfDrops : ChipGame → (at amounts : List ℕ) → CallFault → Type 0
 IsFaultOfDrops g at amounts fault =
     (fault ≡ NoMemory) ⊎ ((fault ≡ Stopped 0) × IsStopped g)
     ⊎ ((told : List Told) × (y : ℕ → ℕ) × AreMade g told y × IsFaultAfter g at amounts told fault)
 
--- the slices have as many numbers as belong together
-pub record AreDrops (lists : EdgeLists) (at amounts sizes extents losts : List ℕ) : Type 0 where
-  pub edges : HasWholeRows lists
+-- the columns have a number for each drop
+pub record AreRows (at amounts sizes extents losts : List ℕ) : Type 0 where
   pub amounts_each : length amounts ≡ length at
   pub sizes_each : length sizes ≡ length at
   pub extents_each : length extents ≡ length at
   pub losts_each : length losts ≡ length at
+
+-- the slices have as many numbers as belong together
+pub record AreDrops (lists : EdgeLists) (at amounts sizes extents losts : List ℕ) : Type 0 where
+  pub edges : HasWholeRows lists
+  pub rows : AreRows at amounts sizes extents losts
 
 -- the game on which chips are dropped
 abbrev pub game_of : EdgeLists → ℕ → Columns → ChipGame

@@ -1,6 +1,7 @@
 -- Piles that are kept between calls, and what calls on them return.
-use Rattle.std.specs.Prelude.{◌≡◌, ◌⊎◌, ℕ, ◌<◌, List, [], ◌∷◌, ◌++◌, slice_index, Result, Ok, Err}
-use Rattle.chip_graph.specs.Multigraph.{IsGraph}
+use Rattle.std.specs.Prelude.{◌≡◌, ◌⊎◌, ℕ, ◌+◌, ◌*◌, ◌<◌, List, [], ◌∷◌, ◌++◌, length, map, take, drop, slice_index}
+use Rattle.std.specs.Prelude.{Option, Some, None, Result, Ok, Err}
+use Rattle.chip_graph.specs.Multigraph.{Multigraph, IsGraph}
 use Rattle.chip_graph.specs.ChipGame.{ChipGame, IsGame}
 use Rattle.chip_graph.specs.More.{HasMore}
 use Rattle.chip_sequence.specs.Counted.{game_from}
@@ -18,7 +19,7 @@ use Rattle.chip_library.specs.declared.kept.PileState.{PileState}
 use Rattle.chip_library.specs.declared.kept.PileState.TheVariants.{ToPlay, Stable, Halted}
 use Rattle.chip_library.specs.EdgeLists.{HasWholeRows, graph_of}
 use Rattle.chip_library.specs.CallFaults.{IsFaultOfGraph, IsFaultOfGame}
-use Rattle.chip_library.specs.Drops.{Told, AreMade, IsFaultOfDrop, Leaves}
+use Rattle.chip_library.specs.Drops.{Told, AreOn, AreTold, AreRows, AreMade, CanFall, IsFaultOfColumns, Leaves}
 
 -- a pile that is kept, and how far its play has come
 pub record KeptGame : Type 0 where
@@ -67,13 +68,79 @@ StopsDrop old new v count = Plays old new (Err (Stopped 0))
     ⊎ ((played : KeptGame) × Plays old played (Ok tt) × (new.state ≡ Halted)
     × HasMore played.pile.game ((v, count) ∷ []) new.pile.game)
 
+-- these drops were made on the pile that was played out, each until no vertex was legal, and set off these avalanches
+abbrev pub AreDropped : (old new : KeptGame) → List Told → Type 0
+AreDropped old new told =
+    (played : KeptGame) × Plays old played (Ok tt) × (new.state ≡ Stable) × Leaves played.pile told new.pile
+
 -- what one drop on a pile returns: its avalanche on the pile that was played out, after which no vertex is legal; or its
 -- first fault. All is as it was unless the limit stops a play
 abbrev pub Drops : (old new : KeptGame) → (v count : ℕ) → Result Avalanche CallFault → Type 0
-Drops old new v count (Ok a) = (played : KeptGame) × Plays old played (Ok tt) × (new.state ≡ Stable)
-    × Leaves played.pile (((v, count), a) ∷ []) new.pile
+Drops old new v count (Ok a) = AreDropped old new (((v, count), a) ∷ [])
 Drops old new v count (Err (Stopped drop)) = (drop ≡ 0) × (v < old.pile.game.graph.vertices) × StopsDrop old new v count
-Drops old new v count (Err fault) = (new ≡ old) × IsFaultOfDrop old.pile.game [] v count fault
+Drops old new v count (Err fault) = (new ≡ old) × IsFaultOfColumns old.pile.game (v ∷ []) (count ∷ []) fault
+
+-- what a drop on a stable pile returns: its avalanche, after which no vertex is legal; or the limit stops its play
+abbrev pub DropsOnStable : (old new : KeptGame) → (v count : ℕ) → Option Avalanche → Type 0
+DropsOnStable old new v count (Some a) = (new.state ≡ Stable) × Leaves old.pile (((v, count), a) ∷ []) new.pile
+DropsOnStable old new v count None = (new.state ≡ Halted) × HasMore old.pile.game ((v, count) ∷ []) new.pile.game
+
+-- what is written of drops: of the avalanche of each the size, the extent and the loss
+pub record Rows : Type 0 where
+  pub sizes : List ℕ
+  pub extents : List ℕ
+  pub losts : List ℕ
+
+-- the first numbers of a column are those of these drops, and the others are as they were
+abbrev pub with_first : (Told → ℕ) → List Told → List ℕ → List ℕ
+with_first number told column = map number told ++ drop (length told) column
+
+-- the first rows are those of these drops, and the others are as they were
+abbrev pub with_rows : List Told → Rows → Rows
+with_rows told rows = record {
+  sizes = with_first (λ t. t.1.size) told rows.sizes;
+  extents = with_first (λ t. t.1.extent) told rows.extents;
+  losts = with_first (λ t. t.1.lost) told rows.losts;
+}
+
+-- the limit has stopped the play of drop i on a pile, and those before it were made: their rows are written
+abbrev pub StopsAt : (old new : KeptGame) → (at amounts : List ℕ) → (before after : Rows) → ℕ → Type 0
+StopsAt old new at amounts before after i =
+    (told : List Told) × (k : KeptGame) × AreDropped old k told × (length told ≡ i) × (i < length at)
+    × AreOn told (take i at) (take i amounts) × (after ≡ with_rows told before)
+    × DropsOnStable k new (slice_index at i) (slice_index amounts i) None
+
+-- what drops that can fall return on a stable pile: all are made, or the limit stops one
+abbrev pub MakesEach : (old new : KeptGame) → (at amounts : List ℕ) → (before after : Rows)
+    → Result (Unit {0}) CallFault → Type 0
+MakesEach old new at amounts before after (Ok done) = (told : List Told) × AreOn told at amounts
+    × AreTold told after.sizes after.extents after.losts × AreDropped old new told
+MakesEach old new at amounts before after (Err fault) =
+    (i : ℕ) × (fault ≡ Stopped i) × StopsAt old new at amounts before after i
+
+-- the limit has stopped the play before the drops, and nothing was dropped; or that of one of them
+abbrev pub StopsDrops : (old new : KeptGame) → (at amounts : List ℕ) → (before after : Rows) → ℕ → Type 0
+StopsDrops old new at amounts before after i =
+    ((i ≡ 0) × (after ≡ before) × Plays old new (Err (Stopped 0))) ⊎ StopsAt old new at amounts before after i
+
+-- what many drops on a pile return: their avalanches are those of one drop after another, and stand in the rows; or the
+-- first fault: of the lengths, else of the first drop that cannot fall, and then all is as it was; else the limit stops
+abbrev pub DropsEach : (old new : KeptGame) → (at amounts : List ℕ) → (before after : Rows)
+    → Result (Unit {0}) CallFault → Type 0
+DropsEach old new at amounts before after (Ok done) = AreRows at amounts before.sizes before.extents before.losts
+    × (told : List Told) × AreOn told at amounts × AreTold told after.sizes after.extents after.losts
+    × AreDropped old new told
+DropsEach old new at amounts before after (Err Lengths) =
+    (new ≡ old) × (after ≡ before) × (AreRows at amounts before.sizes before.extents before.losts → ⊥)
+DropsEach old new at amounts before after (Err (Stopped i)) =
+    AreRows at amounts before.sizes before.extents before.losts × CanFall old.pile.game at amounts (length at)
+    × StopsDrops old new at amounts before after i
+DropsEach old new at amounts before after (Err fault) = (new ≡ old) × (after ≡ before)
+    × AreRows at amounts before.sizes before.extents before.losts × IsFaultOfColumns old.pile.game at amounts fault
+
+-- how many bytes the arrays of a pile on a graph take
+abbrev pub bytes_on : Multigraph → ℕ
+bytes_on G = 76 * G.vertices + 48 * length G.edges
 
 -- where the play of a pile has ended, it is the outcome of its game
 abbrev pub PilesAreOutcomes : Type 0
@@ -86,8 +153,8 @@ DropsFollow =
     (g : ChipGame) (k played : KeptGame) → BeginsGame g k → Plays k played (Ok tt)
     → (told : List Told) (p : Pile) → Leaves played.pile told p → AreMade g told (slice_index p.chips.items)
 
--- a drop on the pile that drops have left is one more of them
-abbrev pub OneDropMore : Type 0
-OneDropMore =
-    (p : Pile) (told : List Told) (p' : Pile) → Leaves p told p' → (t : Told) (p'' : Pile) → Leaves p' (t ∷ []) p''
-    → Leaves p (told ++ t ∷ []) p''
+-- drops on the pile that drops have left are more of them: those of call after call are those of one call
+abbrev pub MoreDrops : Type 0
+MoreDrops =
+    (p : Pile) (told : List Told) (p' : Pile) → Leaves p told p' → (more : List Told) (p'' : Pile) → Leaves p' more p''
+    → Leaves p (told ++ more) p''

@@ -9,7 +9,7 @@ ghost use Rattle.chip_sequence.specs.Firing.{IsStable};
 ghost use Rattle.chip_fire.specs.declared.pile.Pile.{Pile};
 ghost use Rattle.chip_library.specs.declared.fault.CallFault.TheVariants.{NoMemory};
 ghost use Rattle.chip_library.specs.Drops.{Told, AreOn, AreTold, Avalanches, IsFaultAfter, Leaves};
-ghost use Rattle.chip_library.specs.Drops.{AreDrops, BeginsPile, IsNoPile};
+ghost use Rattle.chip_library.specs.Drops.{AreRows, AreDrops, BeginsPile, IsNoPile};
 
 use crate::edges::EdgeLists;
 use crate::fault::CallFault;
@@ -69,8 +69,20 @@ fn are_drops(
 ) -> bool
     ensures { IsTrue result ↔ AreDrops edges.entry at.now amounts.now sizes.now extents.now losts.now }
 {
-    edges.has_whole_rows()
-        && amounts.len() == at.len()
+    edges.has_whole_rows() && are_rows(at, amounts, sizes, extents, losts)
+}
+
+/// Whether columns have a number for each drop.
+pub(crate) fn are_rows(
+    at: &[u64],
+    amounts: &[u64],
+    sizes: &[u64],
+    extents: &[u64],
+    losts: &[u64],
+) -> bool
+    ensures { IsTrue result ↔ AreRows at.now amounts.now sizes.now extents.now losts.now }
+{
+    amounts.len() == at.len()
         && sizes.len() == at.len()
         && extents.len() == at.len()
         && losts.len() == at.len()

@@ -1,20 +1,30 @@
 //! A pile that is kept from one call to the next.
 
-ghost use Rattle.std.specs.Prelude.{◌≡◌, ℕ, ◌+◌, ◌<◌, ◌≤◌, [], sum, MatchResult, MatchOption};
+ghost use Rattle.std.specs.Prelude.{◌≡◌, ℕ, ◌+◌, ◌<◌, ◌≤◌, length, sum, Some, Ok, MatchResult, MatchOption};
 ghost use Rattle.chip_graph.specs.Limits.{max_total};
 ghost use Rattle.chip_graph.specs.ChipGame.{IsGame};
 ghost use Rattle.chip_sequence.specs.Counted.{game_from};
 ghost use Rattle.chip_library.specs.CallFaults.{IsFaultOfGame};
-ghost use Rattle.chip_library.specs.Drops.{IsFaultOfDrop};
-ghost use Rattle.chip_library.specs.KeptGames.{BeginsGame, MakesPile, PutsChips, Plays, Drops};
+ghost use Rattle.chip_library.specs.Drops.{AreRows, CanFall, IsFaultOfColumns};
+ghost use Rattle.chip_library.specs.KeptGames.{BeginsGame, MakesPile, PutsChips, Plays, Drops, DropsOnStable};
+ghost use Rattle.chip_library.specs.KeptGames.{MakesEach, DropsEach, bytes_on};
 
+use crate::drops::are_rows;
 use crate::edges::EdgeLists;
 use crate::fault::CallFault;
 use crate::game::game_of;
 use chip_fire::{Avalanche, Pile};
 use chip_graph::{Game, GameFault, Graph, MAX_LIMIT, MAX_TOTAL, total_of};
+use core::mem::replace_with;
 use std::alloc::Global;
 use std::marker::Model;
+
+/// The bytes of a vertex in the arrays of a graph, 20 (its degree, its distance, where its edges begin in both orders),
+/// and of a play, 56 (its chips at the start and now, its counts now and before a drop, and work lists).
+const VERTEX_BYTES: u64 = 76;
+
+/// The bytes of an edge in the arrays of a graph: in the order of the lists, by its tail twice, and by its head.
+const EDGE_BYTES: u64 = 48;
 
 /// How far the play of a pile has come.
 #[derive(Clone, Copy)]
@@ -127,40 +137,77 @@ impl KeptPile {
     ) -> (KeptPile, Result<Avalanche, CallFault>)
         ensures { Drops self result.0 vertex count result.1 }
     {
-        if let Some(fault) = fault_of_drop(self.pile.game(), vertex, count) {
+        if let Some(fault) = fault_of_columns(self.pile.game(), &[vertex], &[count]) {
             return (self, Err(fault));
         }
         let (kept, played) = self.play(alloc);
-        match played {
-            Ok(()) => kept.drop_on_stable(alloc, vertex, count),
-            Err(fault) => (kept, Err(fault)),
+        if let Err(fault) = played {
+            return (kept, Err(fault));
         }
+        let (kept, avalanche) = kept.drop_on_stable(alloc, vertex, count);
+        (kept, avalanche.ok_or(CallFault::Stopped(0)))
     }
 
-    /// Drops chips on a pile that is stable, and plays on to the end.
+    /// Drops chips on a pile that is stable, and plays on to the end: the avalanche, or `None` if the limit has stopped
+    /// it.
     fn drop_on_stable(
         self,
         alloc: Global,
         vertex: u64,
         count: u64,
-    ) -> (KeptPile, Result<Avalanche, CallFault>)
+    ) -> (KeptPile, Option<Avalanche>)
         requires stable { self.state ≡ PileState.Stable }
         requires is_vertex { vertex < self.pile.game.graph.vertices }
         requires few_chips { sum self.pile.game.start + count ≤ max_total }
-        ensures { Drops self result.0 vertex count result.1 }
+        ensures { DropsOnStable self result.0 vertex count result.1 }
     {
         let KeptPile { pile, .. } = self;
         let (pile, avalanche) = pile.drop_chips(alloc, vertex, count);
         match avalanche {
             Some(avalanche) => {
                 let state = PileState::Stable;
-                (KeptPile { pile, state }, Ok(avalanche))
+                (KeptPile { pile, state }, Some(avalanche))
             }
             None => {
                 let state = PileState::Halted;
-                (KeptPile { pile, state }, Err(CallFault::Stopped(0)))
+                (KeptPile { pile, state }, None)
             }
         }
+    }
+
+    /// Plays to the end, and then drops `amounts[i]` chips on vertex `at[i]`, one drop after another, and plays on to the
+    /// end each time. The other slices get the size, the extent and the loss of each avalanche.
+    ///
+    /// All drops are looked at before the first of them falls: a fault of their lengths, vertices or chips leaves all as
+    /// it was. If the limit stops a play, that tells how many drops were made, and the rows of these are written.
+    pub fn drop_each(
+        &mut self,
+        alloc: Global,
+        at: &[u64],
+        amounts: &[u64],
+        sizes: &mut [u64],
+        extents: &mut [u64],
+        losts: &mut [u64],
+    ) -> Result<(), CallFault>
+        ensures { DropsEach self.old self.new at.now amounts.now
+            (record { sizes = sizes.old; extents = extents.old; losts = losts.old })
+            (record { sizes = sizes.new; extents = extents.new; losts = losts.new }) result }
+    {
+        if !are_rows(at, amounts, sizes, extents, losts) {
+            return Err(CallFault::Lengths);
+        }
+        if let Some(fault) = fault_of_columns(self.game(), at, amounts) {
+            return Err(fault);
+        }
+        replace_with(self, alloc, KeptPile::play)?;
+        make_each(alloc, self, at, amounts, sizes, extents, losts)
+    }
+
+    /// The game, with all chips at its start that were dropped.
+    fn game(&self) -> &Game
+        ensures { result.now ≡ self.now.pile.game }
+    {
+        self.pile.game()
     }
 
     /// How many chips each vertex has.
@@ -176,6 +223,54 @@ impl KeptPile {
     {
         self.pile.fired()
     }
+
+    /// How many bytes the arrays of its graph and of its play take.
+    pub fn bytes(&self) -> u64
+        ensures { result ≡ bytes_on self.now.pile.game.graph }
+    {
+        let graph = self.pile.game().graph();
+        VERTEX_BYTES * graph.vertices() + EDGE_BYTES * graph.edges().len() as u64
+    }
+}
+
+/// Makes drops that can fall on a stable pile, one after another, until the limit stops one.
+fn make_each(
+    alloc: Global,
+    kept: &mut KeptPile,
+    at: &[u64],
+    amounts: &[u64],
+    sizes: &mut [u64],
+    extents: &mut [u64],
+    losts: &mut [u64],
+) -> Result<(), CallFault>
+    requires played { Plays kept.old kept.old (Ok tt) }
+    requires rows { AreRows at.now amounts.now sizes.old extents.old losts.old }
+    requires can_fall { CanFall kept.old.pile.game at.now amounts.now (length at.now) }
+    ensures { MakesEach kept.old kept.new at.now amounts.now
+        (record { sizes = sizes.old; extents = extents.old; losts = losts.old })
+        (record { sizes = sizes.new; extents = extents.new; losts = losts.new }) result }
+{
+    for drop in 0..at.len() {
+        let falls = (alloc, at[drop], amounts[drop]);
+        let Some(avalanche) = replace_with(kept, falls, one_drop) else {
+            return Err(CallFault::Stopped(drop as u64));
+        };
+        sizes[drop] = avalanche.size;
+        extents[drop] = avalanche.extent;
+        losts[drop] = avalanche.lost;
+    }
+    Ok(())
+}
+
+/// A stable pile with one drop more.
+fn one_drop(kept: KeptPile, falls: (Global, u64, u64)) -> (KeptPile, Option<Avalanche>)
+    requires stable { kept.state ≡ PileState.Stable }
+    requires is_vertex { falls.1 < kept.pile.game.graph.vertices }
+    requires few_chips { sum kept.pile.game.start + falls.2 ≤ max_total }
+    ensures { DropsOnStable kept result.0 falls.1 falls.2 result.1 }
+{
+    let (alloc, vertex, count) = falls;
+    kept.drop_on_stable(alloc, vertex, count)
 }
 
 /// A copy of chips with which a game on this graph begins, or the first reason why none does.
@@ -196,18 +291,24 @@ fn start_of(alloc: Global, graph: &Graph, limit: u64, chips: &[u64]) -> Result<V
     Ok(Vec::from_slice(alloc, chips)?)
 }
 
-/// Why a drop cannot be made on a game: it is on no vertex, or there are too many chips with it.
-fn fault_of_drop(game: &Game, vertex: u64, count: u64) -> Option<CallFault>
-    ensures first { MatchOption result
-        ((vertex < game.now.graph.vertices) × (sum game.now.start + count ≤ max_total))
-        (IsFaultOfDrop game.now [] vertex count) }
+/// Why drops cannot be made on a game: the first that is on no vertex, or brings too many chips.
+fn fault_of_columns(game: &Game, at: &[u64], amounts: &[u64]) -> Option<CallFault>
+    requires { length amounts.now ≡ length at.now }
+    ensures first { MatchOption result (CanFall game.now at.now amounts.now (length at.now))
+        (IsFaultOfColumns game.now at.now amounts.now) }
+    ensures not_lengths { result ≡ Some CallFault.Lengths → ⊥ }
     ensures not_stopped { (drop : ℕ) → result ≡ Some (CallFault.Stopped drop) → ⊥ }
 {
-    if vertex >= game.graph().vertices() {
-        Some(CallFault::Vertex(0))
-    } else if count > MAX_TOTAL - game.total() {
-        Some(CallFault::Total(0))
-    } else {
-        None
+    let vertices = game.graph().vertices();
+    let mut room = MAX_TOTAL - game.total();
+    for drop in 0..at.len() {
+        if at[drop] >= vertices {
+            return Some(CallFault::Vertex(drop as u64));
+        }
+        if amounts[drop] > room {
+            return Some(CallFault::Total(drop as u64));
+        }
+        room -= amounts[drop];
     }
+    None
 }

@@ -1,6 +1,6 @@
 //! Laws of the definitions: functions that do nothing, whose contracts are the laws.
 
-ghost use Rattle.chip_library.specs.KeptGames.{PilesAreOutcomes, DropsFollow, OneDropMore};
+ghost use Rattle.chip_library.specs.KeptGames.{PilesAreOutcomes, DropsFollow, MoreDrops};
 ghost use Rattle.chip_library.specs.Worked.{WorkedCalls};
 
 /// Lists, rows and drops, as the definitions have them.
@@ -18,7 +18,7 @@ pub fn drops_follow()
     ensures { DropsFollow }
 {}
 
-/// A drop after others is one more of them.
-pub fn one_drop_more()
-    ensures { OneDropMore }
+/// Drops after others are more of them.
+pub fn more_drops()
+    ensures { MoreDrops }
 {}

@@ -42,7 +42,7 @@ returns-in_default c =
         sym long,
         omega arith,
         c.drop_chips-next.result.0.game,
-        all_more _ told _ leaves _ _ _ next.game,
+        all_more _ told _ leaves _ _ next.game,
         next.pile.game,
         stopped_there _ _ (pile_ends _ next.pile) legal,
       ),

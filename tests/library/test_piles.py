@@ -257,7 +257,7 @@ class Memory(Piles):
             self.assertEqual(found, [90] * enough + [0] * (len(found) - enough))
         drop = (pile.at, 0, 5, *(it.words()[0] for it in told))
         self.assertEqual(self.within(0, lambda: LIBRARY.chipfire_pile_drop(*drop), lambda status: status), 0)
-        columns = [Slice([it] * 99) for it in (0, 5, GUARD, GUARD, GUARD)]
+        columns = [Slice([0, 7, 9]), *(Slice([it] * 3) for it in (5, GUARD, GUARD, GUARD))]
         drops = (pile.at, *(word for it in columns for word in it.words()), place.words()[0])
         self.assertEqual(self.within(0, lambda: LIBRARY.chipfire_pile_drops(*drops), lambda status: status), 0)
 

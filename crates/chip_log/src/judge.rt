@@ -22,10 +22,10 @@ use std::alloc::{AllocError, Global};
 
 /// The verdicts on all claims of a log, and its end.
 ///
-/// Its time is linear in the rows, the processes and the channels, and so again for each early claim and for the first
-/// right one of each process. With `with_past` each early claim says what is in its least past.
+/// The time is linear in the rows, the processes and the channels. As much is added for each early claim, and for the
+/// first right claim of each process. With `with_past` the rows in the causal past of each early claim are counted.
 ///
-/// It fails exactly if the rows have no order in which each is met, or if memory runs out.
+/// It fails exactly if the rows have no order in which each is enabled, or if memory runs out.
 pub fn judge_log<W: ClaimWatch>(
     alloc: Global,
     sizes: Sizes,
@@ -92,7 +92,7 @@ fn judge_all<W: ClaimWatch>(
     Ok(claims)
 }
 
-/// The verdict on a claim, where the last right one before it is known: behind that, a claim of its process is right.
+/// The verdict on a claim. `right` is the last right claim before it: if that is of the same process, this one is right too.
 pub(crate) fn judge_next(
     alloc: Global,
     sizes: Sizes,
@@ -119,7 +119,7 @@ pub(crate) fn judge_next(
     }
 }
 
-/// The verdict on a claim, by its least past.
+/// The verdict on a claim, by the books of its causal past.
 fn judge_claim(
     alloc: Global,
     sizes: Sizes,
@@ -144,7 +144,7 @@ fn judge_claim(
     })
 }
 
-/// How many rows each process has in the past that the books are of, if that is asked for.
+/// How many rows each process has in the causal past of these books, or nothing if that is not asked for.
 fn counts_of(
     alloc: Global,
     books: &Books,
@@ -175,7 +175,7 @@ fn is_one_right(claims: &[ClaimVerdict]) -> bool
     claims.iter().any(|claim| !claim.verdict.is_early())
 }
 
-/// How a log ends in which no claim is right.
+/// The end of a log in which no claim is right.
 fn open_end(
     alloc: Global,
     sizes: Sizes,
@@ -197,7 +197,8 @@ fn open_end(
     }
 }
 
-/// What is on its way, or else active, behind the rows of these books, or `Right` if nothing is.
+/// What is left after the rows of these books: a basic message in transit, or else an active process, or else nothing. That
+/// is `Right`.
 fn left_of(books: &Books, beginners: &[Option<bool>], sizes: Sizes) -> Verdict
     requires sized { AreSized sizes books.now }
     requires beginners { length beginners.now ≡ sizes.processes }
@@ -219,7 +220,7 @@ fn left_of(books: &Books, beginners: &[Option<bool>], sizes: Sizes) -> Verdict
     }
 }
 
-/// The least channel with a message, a control message or a basic one, that is sent and not got, by the books.
+/// The least channel that has a message in transit by these books: a control message if `is_control`, else a basic one.
 fn first_way(books: &Books, sizes: Sizes, is_control: bool) -> Option<u32>
     requires { AreSized sizes books.now }
     ensures { IsFirstWay is_control sizes.channels books.now result }
@@ -236,7 +237,7 @@ fn first_way(books: &Books, sizes: Sizes, is_control: bool) -> Option<u32>
     None
 }
 
-/// The least process that is active, by the books.
+/// The least process that is active by these books.
 fn first_busy(books: &Books, beginners: &[Option<bool>], sizes: Sizes) -> Option<u32>
     requires sized { AreSized sizes books.now }
     requires beginners { length beginners.now ≡ sizes.processes }
@@ -250,7 +251,7 @@ fn first_busy(books: &Books, beginners: &[Option<bool>], sizes: Sizes) -> Option
     None
 }
 
-/// Whether a process is active whose rows in the past say this, and which begins so.
+/// Whether a process is active: as its rows in the past say, or else as it begins.
 fn is_busy(said: Said, begins: Option<bool>) -> bool
     ensures { result ≡ busy_at said begins }
 {
@@ -261,7 +262,7 @@ fn is_busy(said: Said, begins: Option<bool>) -> bool
     }
 }
 
-/// Whether each process begins active, if it has a row.
+/// Of each process whether it begins active, and `None` if it has no row.
 pub(crate) fn beginners(
     alloc: Global,
     sizes: Sizes,
@@ -278,7 +279,7 @@ pub(crate) fn beginners(
     Ok(beginners)
 }
 
-/// What a process begins with, if it has one more row.
+/// Whether a process begins active, if it has one more row.
 fn first_of(begins: Option<bool>, step: Step) -> Option<bool>
     ensures { result ≡ first_step begins step }
 {

@@ -1,4 +1,4 @@
-//! The rows of a log in an order in which each is met.
+//! An order of the rows of a log in which each is enabled: a message that it gets was sent before.
 
 ghost use Rattle.std.specs.Prelude.{◌≡◌, ◌+◌, ◌^◌, ◌<◌, true, [], length, ℕ, IfOk, MatchOption, MatchResult};
 ghost use Rattle.chip_log.specs.Log.{IsInterleaving, steps_of};
@@ -16,18 +16,18 @@ use crate::row::{LogRow, Step};
 use crate::tally::Tally;
 use std::alloc::{AllocError, Global};
 
-/// Rows that were done in an order in which each is met, and those that wait.
+/// The rows that are done, in an order in which each was enabled, and the rows that are left.
 #[derive(Drop)]
 pub(crate) struct Order {
     pub(crate) done: Vec<LogRow>,
-    /// How many messages of each stream are on their way behind them.
+    /// How many messages of each stream are in transit after the rows that are done.
     pub(crate) flight: Tally,
     pub(crate) queues: Queues,
     pub(crate) agenda: Agenda,
 }
 
 impl Order {
-    /// No row was read.
+    /// Before a row is read.
     fn new(alloc: Global, sizes: Sizes) -> Result<Order, AllocError>
         ensures ready { IfOk result (IsReady sizes) }
         ensures none { IfOk result (λ order. order.done.items ≡ []) }
@@ -41,7 +41,7 @@ impl Order {
         })
     }
 
-    /// Reads one more row.
+    /// Reads one more row, which is the last of its process that is left.
     fn read(&mut self, row: LogRow) -> Result<(), AllocError>
         requires queue { row.process < length self.old.queues }
         requires process { row.process < self.old.agenda.processes }
@@ -51,7 +51,7 @@ impl Order {
         self.agenda.add(row.process)
     }
 
-    /// Whether the message that a step gets is there.
+    /// Whether a step is enabled: if it gets a message, one is in transit.
     fn may(&self, step: Step) -> bool
         requires { IsOf self.now.flight.channels step }
         ensures { result ≡ is_there self.now.flight step }
@@ -62,7 +62,7 @@ impl Order {
         }
     }
 
-    /// Makes the next step of a process.
+    /// Makes the next step of a process. It comes onto the agenda, and so does a process that waits for what it sends.
     fn make(&mut self, sizes: Sizes, process: u32, step: Step) -> Result<(), AllocError>
         requires ready { IsReady sizes self.old }
         requires process { process < sizes.processes }
@@ -84,7 +84,7 @@ impl Order {
         Ok(())
     }
 
-    /// Looks at a process: it makes its next step, or waits.
+    /// Visits a process: makes its next step if that is enabled, and else notes which stream it waits for.
     fn turn(&mut self, sizes: Sizes, process: u32) -> Result<(), AllocError>
         requires ready { IsReady sizes self.old }
         requires process { process < sizes.processes }
@@ -100,7 +100,7 @@ impl Order {
         Ok(())
     }
 
-    /// Looks at all processes on the agenda, and at those that come onto it.
+    /// Visits each process on the agenda, until none is left there.
     fn run(&mut self, sizes: Sizes) -> Result<(), AllocError>
         requires { IsReady sizes self.old }
         ensures { IfOk result (λ _. GoesOn sizes self.old self.new) }
@@ -111,7 +111,7 @@ impl Order {
         Ok(())
     }
 
-    /// The least process that can make its next step, and the step.
+    /// The least process whose next step is enabled, and that step.
     fn first_ready(&self, sizes: Sizes) -> Option<(u32, Step)>
         requires { IsReady sizes self.now }
         ensures { MatchOption result (IsSettled self.now) (λ found. (found.0 < sizes.processes)
@@ -127,9 +127,10 @@ impl Order {
         None
     }
 
-    /// Makes steps until no process can make its next one.
+    /// Makes steps until no next step is enabled.
     ///
-    /// The agenda only saves looks: that no step is left that could be made is seen by a last look at every process.
+    /// The agenda only saves time: no contract says that it has each process whose next step is enabled. So all processes
+    /// are visited once more when it is empty.
     fn settle(&mut self, sizes: Sizes) -> Result<(), AllocError>
         requires { IsReady sizes self.old }
         ensures goes_on { IfOk result (λ _. GoesOn sizes self.old self.new) }
@@ -158,7 +159,7 @@ impl Order {
     }
 }
 
-/// How many rows a process has.
+/// How many of these rows a process has.
 fn rows_of(rows: &[LogRow], process: u32) -> u64
     ensures { result ≡ length (steps_of process rows.now) }
 {
@@ -169,7 +170,7 @@ fn rows_of(rows: &[LogRow], process: u32) -> u64
     count
 }
 
-/// All rows of a log in an order in which each is met, in time linear in the rows, the processes and the channels.
+/// All rows of a log in an order in which each is enabled. The time is linear in the rows, the processes and the channels.
 ///
 /// It fails exactly if there is no such order, or if memory runs out.
 pub fn ordered(alloc: Global, sizes: Sizes, rows: &[LogRow]) -> Result<Vec<LogRow>, OrderFault>

@@ -3,8 +3,8 @@ use crate::row::Stream;
 use std::alloc::{AllocError, Global};
 use std::marker::Model;
 
-/// Which processes are to be looked at, and which waits for a message of which stream, so that a row is looked at again
-/// only where something came for it.
+/// The processes that are to be visited, and a process of each stream, which is to be visited when somebody asks for it: the
+/// one that waits for a message there, so that it is visited again only when one came; or the one that sends there.
 #[derive(Drop)]
 pub(crate) struct Agenda {
     processes: u32,
@@ -60,8 +60,8 @@ impl Agenda {
         self.due.pop()
     }
 
-    /// A process waits for a message of this stream.
-    pub(crate) fn wait_for(&mut self, stream: Stream, process: u32)
+    /// This is the process of this stream.
+    pub(crate) fn note(&mut self, stream: Stream, process: u32)
         requires is_process { process < self.old.processes }
         requires is_stream { stream.channel < self.old.channels }
         ensures { self.new ≡ self.old }
@@ -73,18 +73,18 @@ impl Agenda {
         }
     }
 
-    /// The process that waits for a message of this stream, if there is one, is to be looked at.
+    /// The process of this stream, if there is one, is to be visited.
     pub(crate) fn wake(&mut self, stream: Stream) -> Result<(), AllocError>
         requires { stream.channel < self.old.channels }
         ensures same { IsSame self.old self.new }
         ensures due { self.new.due ≤ self.old.due + 1 }
     {
-        let waiter = if stream.is_control {
+        let noted = if stream.is_control {
             self.control[stream.channel as usize]
         } else {
             self.basic[stream.channel as usize]
         };
-        if let Some(process) = waiter {
+        if let Some(process) = noted {
             self.due.push(process)?;
         }
         Ok(())

@@ -32,7 +32,7 @@ pub fn first_early<W: ClaimWatch>(
     requires few { length rows.now < 2 ^ 32 }
     ensures { MatchResult result (IsFirstEarly with_past rows.now) (IsOrderFault rows.now) }
 {
-    let order = ordered(alloc, sizes, rows)?;
+    let order = ordered(alloc, sizes, rows, watch)?;
     Ok(first_in_order(alloc, sizes, &order, with_past, watch)?)
 }
 

@@ -37,7 +37,7 @@ pub fn judge_log<W: ClaimWatch>(
     requires few { length rows.now < 2 ^ 32 }
     ensures { MatchResult result (IsJudgedLog with_past rows.now) (IsOrderFault rows.now) }
 {
-    let order = ordered(alloc, sizes, rows)?;
+    let order = ordered(alloc, sizes, rows, watch)?;
     Ok(judge_ordered(alloc, sizes, &order, with_past, watch)?)
 }
 

@@ -10,6 +10,7 @@ pub use order::ordered;
 pub use past::Sizes;
 pub use row::{LogRow, Step, Stream};
 pub use verdict::Verdict;
+pub use waits::Waits;
 pub use watch::{ClaimWatch, Unwatched};
 
 mod absent;
@@ -28,4 +29,5 @@ mod queues;
 mod row;
 mod tally;
 mod verdict;
+mod waits;
 mod watch;

@@ -14,6 +14,8 @@ use crate::past::Sizes;
 use crate::queues::Queues;
 use crate::row::{LogRow, Step};
 use crate::tally::Tally;
+use crate::waits::report_waits;
+use crate::watch::ClaimWatch;
 use std::alloc::{AllocError, Global};
 
 /// The rows that are done, in an order in which each was enabled, and the rows that are left.
@@ -94,7 +96,7 @@ impl Order {
             if self.may(step) {
                 self.make(sizes, process, step)?;
             } else if let Step::In(stream) = step {
-                self.agenda.wait_for(stream, process);
+                self.agenda.note(stream, process);
             }
         }
         Ok(())
@@ -160,7 +162,7 @@ impl Order {
 }
 
 /// How many of these rows a process has.
-fn rows_of(rows: &[LogRow], process: u32) -> u64
+pub(crate) fn rows_of(rows: &[LogRow], process: u32) -> u64
     ensures { result ≡ length (steps_of process rows.now) }
 {
     let mut count = 0;
@@ -172,8 +174,14 @@ fn rows_of(rows: &[LogRow], process: u32) -> u64
 
 /// All rows of a log in an order in which each is enabled. The time is linear in the rows, the processes and the channels.
 ///
-/// It fails exactly if there is no such order, or if memory runs out.
-pub fn ordered(alloc: Global, sizes: Sizes, rows: &[LogRow]) -> Result<Vec<LogRow>, OrderFault>
+/// It fails exactly if there is no such order, or if memory runs out. If there is none, the waits are reported to
+/// `watch`, if there is memory for that.
+pub fn ordered<W: ClaimWatch>(
+    alloc: Global,
+    sizes: Sizes,
+    rows: &[LogRow],
+    watch: &mut W,
+) -> Result<Vec<LogRow>, OrderFault>
     requires well_formed { IsWellFormed sizes rows.now }
     requires few { length rows.now < 2 ^ 32 }
     ensures order { MatchResult result (λ ordered. IsInterleaving rows.now ordered.items) (IsOrderFault rows.now) }
@@ -187,10 +195,13 @@ pub fn ordered(alloc: Global, sizes: Sizes, rows: &[LogRow]) -> Result<Vec<LogRo
     }
     order.settle(sizes)?;
     match order.first_left(sizes) {
-        Some(process) => Err(OrderFault::Stuck {
-            process,
-            row: rows_of(&order.done, process),
-        }),
+        Some(process) => {
+            let _ = report_waits(alloc, sizes, rows, &order, process, watch);
+            Err(OrderFault::Stuck {
+                process,
+                row: rows_of(&order.done, process),
+            })
+        }
         None => Ok(order.done),
     }
 }

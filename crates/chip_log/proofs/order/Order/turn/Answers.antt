@@ -6,8 +6,8 @@ pub may-requires : goal.may-requires
 may-requires c = next_in_flight c.args.sizes c.args.self.now c.requires.ready c.args.process c.in-Some.step
     (head_some (queue_of c.args.self.now.queues c.args.process) c.in-Some.step c.in-Some.ensures)
 
-pub wait_for-requires-clause-is_stream : goal.wait_for-requires-clause-is_stream
-wait_for-requires-clause-is_stream c =
+pub note-requires-clause-is_stream : goal.note-requires-clause-is_stream
+note-requires-clause-is_stream c =
     let a = in_channel c.args.sizes c.args.self.now c.requires.ready c.args.process c.in-Some.step
     (head_some (queue_of c.args.self.now.queues c.args.process) c.in-Some.step c.in-Some.ensures) c.in-In.stream c.in-In.is in
     let b = c.requires.ready.channels in

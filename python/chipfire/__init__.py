@@ -35,7 +35,8 @@ The usual words of sandpiles are found under these names:
     polynomials                tutte_polynomial(graph), level_polynomial(graph), avalanche_polynomial(graph)
     Laplacian                  laplacian(graph), reduced_laplacian(graph)
     avalanche                  avalanche(graph, chips, vertex), avalanches(graph, chips, vertices); by the million:
-                               drops(graph, chips, vertices), with random_drops(graph, count, seed)
+                               drops(graph, chips, vertices), with random_drops(graph, count, seed); drops that
+                               depend on one another: Pile(graph, chips).drop(vertex)
     many series of drops       chains(graph, n, drops, seed), from random_recurrent(graph, seed); power_law(sizes)
     tables, files of results   Drops.to_dataframe(), Drops.save(file), Drops.load(file), and those of Chains
 
@@ -106,6 +107,7 @@ from chipfire.divisors.polynomials import avalanche_polynomial, level_polynomial
 from chipfire.ensembles.avalanche import Avalanche, avalanche, avalanches, random_drops
 from chipfire.ensembles.chains import Chains, Firings, chains
 from chipfire.ensembles.drops import Drops
+from chipfire.ensembles.pile import Drop as Drop, Pile
 from chipfire.ensembles.power_law import PowerLaw, plot_sizes, power_law
 from chipfire.ensembles.wilson import random_recurrent
 from chipfire.graphs.convert import from_edges, from_networkx, from_sage, to_networkx, to_scipy
@@ -177,6 +179,7 @@ __all__ = [
     "Group",
     "PALETTES",
     "Picture",
+    "Pile",
     "PowerLaw",
     "Program",
     "ProgramNotFound",

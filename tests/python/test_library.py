@@ -415,7 +415,7 @@ class Arrays(unittest.TestCase):
                 with self.assertRaises(BufferError):
                     it.append(0)
             return 12
-        with mock.patch.object(library, "_loaded", return_value=mock.Mock(chipfire_stabilize_all=grow)):
+        with mock.patch.object(library, "loaded", return_value=mock.Mock(chipfire_stabilize_all=grow)):
             with self.assertRaises(chipfire.Fault) as told:
                 library.stabilize_all(TRIANGLE, *arrays)
         self.assertEqual(told.exception.number, 12)

@@ -115,3 +115,30 @@ fn the_limit_halts_a_pile(rt: HostRuntime) {
     let (kept, put) = kept.put(rt.alloc(), 2, &[4, 0]);
     assert!(&rt; put.is_err() && has(&kept, &[2, 0, 3], &[2, 1, 0]));
 }
+
+/// Three drops by one call, of which the limit stops the last; and drops of which one is on no vertex.
+#[test]
+fn many_drops_on_a_pile(rt: HostRuntime) {
+    let lists = TRIANGLE.edges();
+    let mut kept = KeptPile::new(rt.alloc(), lists, 2, &[4, 0, 0]).expect(&rt, "a pile");
+    let (mut sizes, mut extents, mut losts) = ([7; 3], [7; 3], [7; 3]);
+    let told = kept.drop_each(
+        rt.alloc(),
+        &[2, 1, 0],
+        &[1, 1, 2],
+        &mut sizes,
+        &mut extents,
+        &mut losts,
+    );
+    assert!(&rt; told == Err(CallFault::Stopped(2)) && has(&kept, &[3, 1, 4], &[2, 1, 0]));
+    assert!(&rt; sizes == [0, 0, 7] && extents == [0, 0, 7] && losts == [0, 0, 7]);
+    let told = kept.drop_each(
+        rt.alloc(),
+        &[2, 3, 0],
+        &[1, 1, 2],
+        &mut sizes,
+        &mut extents,
+        &mut losts,
+    );
+    assert!(&rt; told == Err(CallFault::Vertex(1)) && has(&kept, &[3, 1, 4], &[2, 1, 0]));
+}

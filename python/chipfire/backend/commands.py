@@ -277,11 +277,8 @@ def drops(
     if not isinstance(vertices, FILE):
         at, many = dropped_on(question.graph, vertices, amounts)
         if question.own and not progress and not isinstance(start, FILE):
-            if columns := played_drops(question.own, start, at, many, program):
-                together = list(start)
-                for vertex, count in zip(at, many):
-                    together[vertex] += count
-                return Drops(columns[0], columns[1], columns[2], plain(question.own, together))
+            if found := played_drops(question.own, start, at, many, program):
+                return found
         rows = Kept(parts_of(at, many))
     elif amounts is not None:
         raise ValueError("a file of drops says itself how many chips each has")

@@ -8,8 +8,8 @@ overlap, and no other thread writes to one meanwhile. On a fault all stay as the
 
 `plain`, `verify` of a report, and what stands on them go this way if neither the call nor CHIPFIRE names a program, the
 library lies where the program does and has the package's version, and the play is short. Else the program answers, as a
-process. In a forked child of a process with threads set CHIPFIRE, since the library asks for memory. To load a library
-runs code of it, so it is seen before whether somebody else can change it, and which version is stated of it.
+process. So it does in a forked child of a process that had threads of Python, since the library asks for memory. To load
+a library runs code of it, so it is seen before whether somebody else can change it, and which version is stated of it.
 """
 
 from __future__ import annotations
@@ -18,6 +18,7 @@ import ctypes
 import functools
 import hashlib
 import os
+import threading
 import warnings
 from array import array
 from collections.abc import Sequence
@@ -49,6 +50,25 @@ _SLICE = (ctypes.c_void_p, ctypes.c_size_t)
 _NONE = array("Q")
 _ZERO = array("Q", [0])
 _NOTHING = _ZERO.buffer_info()[0], 0
+
+
+class _Fork:
+    """Whether this process was forked beside other threads of Python: then it may take no memory in the library."""
+
+    had_threads = False
+    is_beside_threads = False
+
+    @classmethod
+    def before(cls) -> None:
+        cls.had_threads = threading.active_count() > 1
+
+    @classmethod
+    def in_child(cls) -> None:
+        cls.is_beside_threads |= cls.had_threads
+
+
+if hasattr(os, "register_at_fork"):
+    os.register_at_fork(before=_Fork.before, after_in_child=_Fork.in_child)
 
 
 def _places(folder: str) -> list[str]:
@@ -126,7 +146,27 @@ def _load(file: str) -> ctypes.CDLL:
             *slices * _SLICE,
             ctypes.POINTER(_NUMBER),
         ]
+    _declare_piles(found)
     return found
+
+
+def _declare_piles(found: ctypes.CDLL) -> None:
+    """Says what the calls on piles take."""
+    pile = number_at = ctypes.c_void_p
+    calls = (
+        (found.chipfire_pile_new, (_NUMBER, _NUMBER, *3 * _SLICE, _NUMBER, *_SLICE, number_at)),
+        (found.chipfire_pile_put, (_NUMBER, *_SLICE)),
+        (found.chipfire_pile_drop, (_NUMBER, _NUMBER, number_at, number_at, number_at)),
+        (found.chipfire_pile_drops, (*5 * _SLICE, number_at)),
+        (found.chipfire_pile_chips, _SLICE),
+        (found.chipfire_pile_fired, _SLICE),
+        (found.chipfire_pile_size, ()),
+    )
+    for call, words in calls:
+        call.restype = _NUMBER
+        call.argtypes = [pile, *words]
+    found.chipfire_pile_free.restype = None
+    found.chipfire_pile_free.argtypes = [pile]
 
 
 @functools.cache
@@ -146,14 +186,21 @@ def _beside() -> tuple[ctypes.CDLL | None, str]:
     return None, why
 
 
-def _loaded() -> ctypes.CDLL | None:
-    """The library, if CHIPFIRE does not name a program."""
-    return None if os.environ.get("CHIPFIRE") else _beside()[0]
+def loaded() -> ctypes.CDLL | None:
+    """The library, if CHIPFIRE does not name a program and this process was not forked beside threads."""
+    return None if _why_none() else _beside()[0]
+
+
+def _why_none() -> str:
+    """Why no library is asked for, even if there is one."""
+    if os.environ.get("CHIPFIRE"):
+        return "CHIPFIRE names a program"
+    return "this process was forked beside threads" if _Fork.is_beside_threads else ""
 
 
 def find_library() -> str | None:
     """The library's file, or None if each call starts the program."""
-    return str(found._name) if (found := _loaded()) else None
+    return str(found._name) if (found := loaded()) else None
 
 
 def most(graph: Graph) -> int:
@@ -169,7 +216,7 @@ def at_once(graph: Graph, chips: Sequence[int]) -> int:
     )
 
 
-def _slice(name: str, numbers: Any) -> tuple[int, int]:
+def slice_of(name: str, numbers: Any) -> tuple[int, int]:
     """Where an array begins, and how many numbers it has."""
     if isinstance(numbers, array) and numbers.typecode == "Q":
         return numbers.buffer_info() if numbers else _NOTHING
@@ -194,7 +241,7 @@ def _call(call: Any, graph: Graph, limit: int, *arrays: Any, but: int = 0) -> in
     # As long as there are views no array gets another length.
     views = [memoryview(numbers) for numbers in arrays]
     words = [
-        word for numbers in (*graph.long_columns, *arrays) for word in _slice("numbers", numbers)
+        word for numbers in (*graph.long_columns, *arrays) for word in slice_of("numbers", numbers)
     ]
     number: int = call(*of_graph, *words[:6], limit, *words[6:], place)
     for view in views:
@@ -206,12 +253,12 @@ def _call(call: Any, graph: Graph, limit: int, *arrays: Any, but: int = 0) -> in
 
 def _call_on(call: str, graph: Graph, limit: int, **arrays: Any) -> None:
     """Makes a call on arrays of others, which must not overlap."""
-    found = _loaded()
+    found = loaded()
     if found is None:
-        why = "CHIPFIRE names a program" if os.environ.get("CHIPFIRE") else _beside()[1]
+        why = _why_none() or _beside()[1]
         raise ProgramNotFound(2, f"there is no library to call: {why}", _NAME)
     edges = [("edges", column) for column in graph.long_columns]
-    ends = sorted(_slice(name, numbers) for name, numbers in [*edges, *arrays.items()])
+    ends = sorted(slice_of(name, numbers) for name, numbers in [*edges, *arrays.items()])
     if any(start + 8 * length > other for (start, length), (other, _) in zip(ends, ends[1:])):
         raise ValueError(f"two of the {', '.join(arrays)} overlap")
     _call(getattr(found, call), graph, as_int(limit, "limit", 0, MAX_LIMIT), *arrays.values())
@@ -270,7 +317,7 @@ def play(
 ) -> tuple[array[int], array[int], int] | None:
     """The chips and the counts at the end of one game after another, and how many vertices the limit stopped; or None
     if one of them is the program's."""
-    found = _loaded() if program is None else None
+    found = loaded() if program is None else None
     width = graph.vertices or 1
     at_most = most(graph)
     if not found or not (some := at_once(graph, chips)):
@@ -299,7 +346,7 @@ def is_end(
     limit: int,
 ) -> bool | None:
     """Whether these are the counts and the chips at the end of a game; or None if that is the program's to say."""
-    found = _loaded() if program is None else None
+    found = loaded() if program is None else None
     at_most = most(graph)
     # (a game that is stopped here and not by its limit has a vertex that fires more often)
     if not found or sum(chips) >= at_most or max(fired) >= at_most < limit:

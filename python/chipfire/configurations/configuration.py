@@ -185,13 +185,18 @@ def stabilized(
     chips: Configuration, program: FileName | None = None
 ) -> tuple[Sequence[int], Sequence[int]]:
     """What lies there when no vertex can fire any more, and how often each fired, by numbers."""
-    if any(count < 0 for count in chips.numbers):
+    refuse_below_none(chips)
+    return stabilized_rows(chips.graph, chips.numbers, program)
+
+
+def refuse_below_none(chips: Configuration) -> None:
+    """Refuses chips below 0 where something is to be played."""
+    if min(chips.numbers, default=0) < 0:
         name = next(name for name, count in chips.items() if count < 0)
         others = "recurrent_representative and superstable_representative take such chips"
         raise ValueError(
             f"the chips of vertex {name!r} are below 0, so nothing is played; {others}"
         )
-    return stabilized_rows(chips.graph, chips.numbers, program)
 
 
 def stabilized_rows(

@@ -2,15 +2,19 @@
 
 from __future__ import annotations
 
+import functools
 import itertools
-from collections.abc import Hashable, Iterable, Iterator
+import operator
+from collections.abc import Hashable, Iterable, Iterator, Sequence
 from dataclasses import dataclass, field
 from typing import Any
 
 from chipfire.backend.commands import AnyGraph, AnyProgram, known_graph
-from chipfire.configurations.configuration import Chips, Configuration, stabilized
+from chipfire.configurations.configuration import Chips, Configuration, refuse_below_none
 from chipfire.configurations.stabilization import as_configuration
 from chipfire.ensembles.drops import names_of, PART
+from chipfire.ensembles.pile import Pile
+from chipfire.graphs.graph import Graph
 from chipfire.utils import as_int, random_generator
 
 
@@ -49,15 +53,26 @@ class Avalanche:
     size: int
     extent: int
     lost: int
-    fired: dict[Hashable, int] = field(repr=False)
-    configuration: Configuration = field(repr=False)
+    _graph: Graph = field(repr=False)
+    _left: Sequence[int] = field(repr=False)
+    _counts: tuple[Sequence[int], Sequence[int]] = field(repr=False)
+
+    @functools.cached_property
+    def fired(self) -> dict[Hashable, int]:
+        more = map(operator.sub, self._counts[1], self._counts[0])
+        return {name: count for name, count in zip(self._graph.names, more) if count}
+
+    @functools.cached_property
+    def configuration(self) -> Configuration:
+        return Configuration(self._graph, self._left)
 
 
 def avalanche(
     graph: AnyGraph, chips: Chips, vertex: Hashable, *, program: AnyProgram = None
 ) -> Avalanche:
     """What happens when one chip is dropped on a vertex of a stable configuration.
-    Proved: the play that the chip causes. Not proved: the sums of its numbers."""
+    Proved: the play that the chip causes, and its numbers. Not proved: that Python passes them on.
+    """
     return next(avalanches(graph, chips, [vertex], program=program))
 
 
@@ -66,23 +81,23 @@ def avalanches(
 ) -> Iterator[Avalanche]:
     """The avalanches of chips that are dropped one after another, each on what the one before it left.
 
-    They come one at a time, as they are wanted. `drops` has the numbers of all of them in columns, and much sooner.
-    Proved: the play that each chip causes. Not proved: the sums of its numbers."""
+    They come one at a time, as they are wanted, on a pile that is kept meanwhile. `drops` has the numbers of all of them
+    in columns, and sooner.
+    Proved: the play that each chip causes, and its numbers. Not proved: that Python passes them on.
+    """
     start = as_configuration(graph, chips, program)
     if not start.is_stable():
         raise ValueError("the chips are not stable: stabilize them first")
     names = names_of(vertices, "avalanches")
 
     def dropped() -> Iterator[Avalanche]:
-        graph = start.graph
-        held = start
-        for name in names:
-            # (a vertex without a name may be said by its square)
-            own_name = graph.names[graph.number(name)]
-            left, counts = stabilized(held + {own_name: 1}, program)
-            fired = {it: count for it, count in zip(graph.names, counts) if count}
-            lost = left[graph.sink]
-            held = Configuration(graph, left)
-            yield Avalanche(name, sum(counts), len(fired), lost, fired, held)
+        refuse_below_none(start)
+        with Pile(start.graph, start, program=program) as pile:
+            _, fired = pile.ends()
+            for name in names:
+                size, extent, lost = pile.drop(name)
+                left, later = pile.ends()
+                yield Avalanche(name, size, extent, lost, start.graph, left, (fired, later))
+                fired = later
 
     return dropped()

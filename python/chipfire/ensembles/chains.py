@@ -263,9 +263,13 @@ class _Chains:
         drops = self.drops
         left = memoryview(self.chips)[chain * width : (chain + 1) * width]
         rows = [memoryview(column)[chain * drops : (chain + 1) * drops] for column in self.columns]
-        self.drops_of_call = in_calls(
-            self.graph, left, self.drawn(chain), self.amounts, rows, some=self.drops_of_call
-        )
+
+        def call(where: Any, many: Any, columns: list[Any]) -> bool:
+            library.avalanches(self.graph, where, many, left, columns[0], columns[1], columns[2])
+            return True
+
+        at = self.drawn(chain)
+        self.drops_of_call = in_calls(call, at, self.amounts, rows, self.drops_of_call)
 
     def step(self, group: range, until: str | None, wants_fired: bool) -> list[Any]:
         """Plays the chains of a group, a drop on each that goes on, and then the next. If it `wants_fired`, a piece of each

@@ -2,15 +2,16 @@
 
 from __future__ import annotations
 
+import operator
 import time
 from array import array
 from collections import Counter
-from collections.abc import Iterable, Iterator, Sequence
+from collections.abc import Callable, Iterable, Iterator, Sequence
 from dataclasses import dataclass
 from typing import Any
 
-from chipfire.backend import library
-from chipfire.backend.process import Fault
+from chipfire.backend import kept, library
+from chipfire.backend.process import refused
 from chipfire.backend.report import Report
 from chipfire.configurations.configuration import capped, CHIPS_HEADER, Configuration
 from chipfire.ensembles import archive
@@ -153,40 +154,79 @@ def played_drops(
     at: array[int],
     amounts: array[int],
     program: FileName | None,
-) -> list[Any] | None:
-    """The columns of the drops by the library; None if the program is to be asked, since a limit may stop a vertex."""
-    found = library.play(graph, chips, program)
-    if not found or sum(chips) + max(amounts, default=0) > library.most(graph):
+) -> Drops | None:
+    """The drops on the pile that the graph keeps; None if the program is to be asked, since a limit may stop a vertex."""
+    most = library.most(graph)
+    total = sum(chips)
+    if program is not None or max(total + 1, total + max(amounts, default=0)) > most:
         return None
-    left = found[0]
-    columns = [array("Q", bytes(8 * len(at))) for _ in range(3)]
+    pile = kept.take(graph, array("Q", chips), most)
+    if pile is None:
+        return None
     try:
-        in_calls(graph, left, at, amounts, columns, library.most(graph))
-    except Fault as fault:
-        if fault.number == 13:
-            return None
-        raise
-    return None if sum(found[1]) + sum(columns[0]) > MAX_LIMIT else _shown(columns)
+        columns = [array("Q", bytes(8 * len(at))) for _ in range(3)]
+        fired = _counts_of(pile, at, amounts, columns, most, graph)
+        left = tuple(pile.chips())
+    finally:
+        kept.give_back(graph, pile)
+    if fired is None or sum(fired) > MAX_LIMIT:
+        return None
+    size, extent, lost = shown(columns)
+    return Drops(size, extent, lost, Report(left, tuple(fired), (), graph=graph))
+
+
+def _counts_of(
+    pile: kept.KeptPile,
+    at: array[int],
+    amounts: array[int],
+    columns: Sequence[Any],
+    most: int,
+    graph: Graph,
+) -> Sequence[int] | None:
+    """How often each vertex fires if a pile is played and then these drops are made; None if the limit stops a play.
+
+    The limit is of each call. So the pile begins anew on what lies there, before a vertex can have fired half as often.
+    """
+    before: Sequence[int] = [0] * pile.vertices
+    if pile.play():
+        return None
+    firings = sum(pile.fired())
+
+    def call(where: Any, many: Any, rows: list[Any]) -> bool:
+        nonlocal before, firings
+        if firings > most // 2:
+            before = [*map(operator.add, before, pile.fired())]
+            firings = 0
+            if number := pile.put(pile.chips(), most):
+                raise refused(number, 0, graph)
+        number, drop = pile.drops(where, many, rows)
+        if number not in (0, kept.STOPPED):
+            raise refused(number, drop, graph)
+        firings += sum(rows[0])
+        return number == 0
+
+    if not in_calls(call, at, amounts, columns):
+        return None
+    return [*map(operator.add, before, pile.fired())]
 
 
 def in_calls(
-    graph: Graph,
-    left: Any,
+    call: Callable[[Any, Any, list[Any]], bool],
     at: Any,
     amounts: Any,
     columns: Sequence[Any],
-    limit: int = MAX_LIMIT,
     some: int = 1,
 ) -> int:
-    """Drops on what is left, by calls in each of which a vertex fires `limit` times at most. One drop may be long, so
-    the first call has one if no other number is said; later calls have more, or fewer if one takes a tenth of a second.
-    How many the next one would have is returned."""
+    """Makes drops by calls, each of which says whether all its drops were made. One drop may be long, so the first call has
+    one if no other number is said; later calls have more, or fewer if one takes a tenth of a second. How many the next
+    one would have is returned, 1 at least; 0 if drops were not made."""
     start = 0
     while start < len(at):
         begun = time.monotonic()
         part = slice(start, start + some)
         where, many, *rows = (memoryview(it)[part] for it in (at, amounts, *columns))
-        library.avalanches(graph, where, many, left, rows[0], rows[1], rows[2], limit=limit)
+        if not call(where, many, rows):
+            return 0
         start = part.stop
         took = time.monotonic() - begun
         if took < 0.003:
@@ -216,10 +256,10 @@ def columns_of(text: str) -> list[Any]:
         for place, column in enumerate(columns, 2):
             column.extend(numbers[place::5])
         at = end + 1
-    return _shown(columns)
+    return shown(columns)
 
 
-def _shown(columns: list[array[int]]) -> list[Any]:
+def shown(columns: list[array[int]]) -> list[Any]:
     """Columns as whoever asked gets them."""
     numpy = import_optional("numpy")
     return [numpy.frombuffer(column, "q") if numpy else column for column in columns]

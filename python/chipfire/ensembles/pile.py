@@ -1,0 +1,388 @@
+"""Piles: a graph with chips that is kept, on which chips are dropped one call after another."""
+
+from __future__ import annotations
+
+import contextlib
+import operator
+import os
+import threading
+from array import array
+from collections.abc import Hashable, Iterable, Iterator, Sequence
+from typing import Any, NamedTuple
+
+from chipfire.backend import kept, library
+from chipfire.backend.commands import AnyGraph, AnyProgram, drops, known_graph, plain, read_chips
+from chipfire.backend.process import refused
+from chipfire.backend.report import Report
+from chipfire.configurations.configuration import capped, Chips, Configuration
+from chipfire.ensembles.drops import dropped_on, Drops, in_calls, shown
+from chipfire.graphs.graph import Graph
+from chipfire.utils import as_int, FILE, MAX_CHIPS, MAX_LIMIT
+
+
+class Drop(NamedTuple):
+    """What one drop on a pile caused: how many firings, of how many different vertices, and how many chips these brought
+    to the sink."""
+
+    size: int
+    extent: int
+    lost: int
+
+
+class _Fork:
+    """The lock under which a forked child makes its piles its own."""
+
+    lock = threading.Lock()
+
+    @classmethod
+    def in_child(cls) -> None:
+        cls.lock = threading.Lock()
+
+
+if hasattr(os, "register_at_fork"):
+    os.register_at_fork(after_in_child=_Fork.in_child)
+
+
+class Pile:
+    """A graph with chips, which are played to their end, and on which chips are dropped. The graph is made once, so a
+    drop costs its firings alone.
+
+        with chipfire.Pile(chipfire.grid(64, 64), 3) as pile:
+            size, extent, lost = pile.drop(0)
+
+    graph  the graph, or the name of its file
+    chips  what lies there at the start, in a form of chips, or the name of a file; none, if they are left out
+    limit  how often each vertex may fire in all plays together, 2^40 if it is left out
+
+    If the limit stops a play, `is_stopped` is true, and each later drop is a `Fault` with number 13, until `put`.
+
+    The library keeps the pile in this process, if it is there and the plays are short, and else the program plays each
+    drop, with the same results. Threads may share a pile: one call waits for another. A forked child goes on with a pile
+    of its own, made anew from the graph and all chips. A copy and a pickle have graph, chips, counts and limit. `close`,
+    the end of `with`, or the end of the pile gives its memory back.
+    Proved: the chips, the counts and the numbers of each drop. Not proved: that Python passes them on, and adds.
+    """
+
+    def __init__(
+        self,
+        graph: AnyGraph,
+        chips: Chips | None = None,
+        limit: int | None = None,
+        *,
+        program: AnyProgram = None,
+    ) -> None:
+        self.graph: Graph = known_graph(graph, program)
+        self._program = program
+        self._begin_state(self._start_of(chips), _limit(limit, MAX_LIMIT))
+        self._ready()
+
+    def _begin_state(self, start: array[int], limit: int) -> None:
+        """The state of a pile of which nothing is known but its chips and its limit."""
+        self._lock = threading.Lock()
+        self._process = os.getpid()
+        #: The chips at the start with all that were dropped, and the limit: all else follows from these.
+        self._game = (start, limit)
+        self._is_closed = False
+        self._forget()
+
+    def _forget(self) -> None:
+        """Forgets what follows from the game: the library's pile, or the chips and counts at the end."""
+        self._kept: kept.KeptPile | None = None
+        self._end: tuple[Sequence[int], Sequence[int]] | None = None
+        self._is_stopped = False
+        self._total = sum(self._game[0])
+
+    @property
+    def is_stopped(self) -> bool:
+        """Whether the limit has stopped a play."""
+        with self._alone():
+            self._ready()
+            return self._is_stopped
+
+    @property
+    def chips(self) -> tuple[int, ...]:
+        """The chips that lie there, by the numbers of the vertices."""
+        with self._alone():
+            return tuple(self.graph.with_loops(self._ends()[0]))
+
+    @property
+    def fired(self) -> tuple[int, ...]:
+        """How often each vertex has fired since chips were put there, by their numbers."""
+        with self._alone():
+            return tuple(self._ends()[1])
+
+    @property
+    def configuration(self) -> Configuration:
+        """The chips that lie there, by names."""
+        return Configuration(self.graph, self.chips)
+
+    @property
+    def report(self) -> Report:
+        """The report of the play of all chips together: those at the start, and those that were dropped."""
+        with self._alone():
+            return self._report()
+
+    def put(self, chips: Chips, limit: int | None = None) -> None:
+        """Other chips in place of all that are there, which are played to their end. All counts are 0 before. Without a
+        limit the one before stays. Chips that are refused change nothing."""
+        start = self._start_of(chips)
+        with self._alone():
+            _refuse_more(start, self.graph)
+            old = self._kept
+            self._game = (start, _limit(limit, self._game[1]))
+            self._forget()
+            self._ready(old)
+
+    def drop(self, vertex: Hashable, amount: int = 1) -> Drop:
+        """Drops chips on a vertex, and plays on to the end."""
+        at = self.graph.number(vertex)
+        amount = as_int(amount, "the number of chips")
+        with self._alone():
+            pile = self._before([amount])
+            if pile and self._total + amount <= library.most(self.graph):
+                number = pile.drop(at, amount)
+                if number == 0 or self._is_last_word(number):
+                    self._add(at, amount)
+                    self._is_stopped = number != 0
+                    if number:
+                        raise refused(kept.STOPPED, 0, self.graph)
+                    return Drop(*pile.told)
+                self._let_go(is_whole=False)
+            found = self._by_program(array("Q", [at]), array("Q", [amount]))
+            if not len(found):
+                raise refused(kept.STOPPED, 0, self.graph)
+            return Drop(*(int(column[0]) for column in (found.size, found.extent, found.lost)))
+
+    def drops(self, vertices: Any, *, amounts: Iterable[int] | None = None) -> Drops:
+        """Drops one chip after another on these vertices, or as many at a time as `amounts` say, as `chipfire.drops` does.
+        If the limit stops a play, the drop is the last, and has no row; `report.closed` is false then.
+        """
+        at, many = dropped_on(self.graph, vertices, amounts)
+        with self._alone():
+            pile = self._before(many)
+            if pile and self._total + sum(many) <= library.most(self.graph):
+                found = self._by_library(pile, at, many)
+                if found is not None:
+                    return found
+                self._let_go(is_whole=False)
+            return self._by_program(at, many)
+
+    def close(self) -> None:
+        """Gives the memory back. Nothing can be asked of the pile any more."""
+        with self._alone(is_open=False):
+            self._is_closed = True
+            self._let_go(is_whole=False)
+
+    def __enter__(self) -> Pile:
+        return self
+
+    def __exit__(self, *_: object) -> None:
+        self.close()
+
+    def __getstate__(self) -> tuple[Graph, AnyProgram, array[int], int]:
+        with self._alone():
+            start, limit = self._game
+            return self.graph, self._program, start[:], limit
+
+    def __setstate__(self, state: tuple[Graph, AnyProgram, array[int], int]) -> None:
+        self.graph, self._program, start, limit = state
+        self._begin_state(start, limit)
+
+    def __repr__(self) -> str:
+        kind = "closed" if self._is_closed else f"{self._total:,} chips"
+        return f"<Pile of {self.graph.vertices} vertices: {kind}>"
+
+    @contextlib.contextmanager
+    def _alone(self, is_open: bool = True) -> Iterator[None]:
+        """One thread at a time. In a forked child nobody else has the lock, and the pile of the parent is left alone."""
+        if self._process != os.getpid():
+            with _Fork.lock:
+                if self._process != os.getpid():
+                    self._lock = threading.Lock()
+                    self._forget()
+                    self._process = os.getpid()
+        with self._lock:
+            if self._is_closed and is_open:
+                raise ValueError("the pile is closed")
+            yield
+
+    def _start_of(self, chips: Chips | None) -> array[int]:
+        """Chips as plays of the graph without loops begin."""
+        if isinstance(chips, FILE):
+            chips = read_chips(chips, self.graph, program=self._program)
+        numbers = self.graph.chips(0 if chips is None else chips)
+        return array("Q", capped(self.graph.without_loops(numbers)))
+
+    def _ready(self, old: kept.KeptPile | None = None) -> kept.KeptPile | None:
+        """The library's pile, played to the end. None if the program plays; then chips and counts are known."""
+        if self._kept is None and self._end is None:
+            start, limit = self._game
+            self._kept = self._played(start, limit, old)
+            if self._kept is None:
+                told = plain(self._free, list(start), limit=limit, program=self._program)
+                self._end = told.chips, told.fired
+                self._is_stopped = not told.closed
+        return self._kept
+
+    def _played(
+        self, start: array[int], limit: int, old: kept.KeptPile | None
+    ) -> kept.KeptPile | None:
+        """The library's pile with these chips, played to the end; None if that is the program's to do."""
+        most = library.most(self.graph)
+        found = library.loaded() if self._program is None else None
+        if found is None or self._total >= most:
+            return None
+        own = old if old is not None and old.is_own else None
+        if own is None:
+            own = kept.KeptPile(found, self._free, start, min(limit, most))
+        elif number := own.put(start, min(limit, most)):
+            raise refused(number, 0, self.graph)
+        number = own.play()
+        if number and not self._is_last_word(number):
+            own.free()
+            return None
+        self._is_stopped = number != 0
+        return own
+
+    @property
+    def _free(self) -> Graph:
+        return self.graph.loop_free
+
+    def _is_last_word(self, number: int) -> bool:
+        """Whether the library's pile was stopped by the limit of this one, and not by that of plays in this process."""
+        if number != kept.STOPPED:
+            raise refused(number, 0, self.graph)
+        return self._game[1] <= library.most(self.graph)
+
+    def _before(self, amounts: Sequence[int]) -> kept.KeptPile | None:
+        """The library's pile before drops of these amounts, which are refused if they are too many or the limit has
+        stopped a play."""
+        _refuse_more(amounts, self.graph, self._total)
+        pile = self._ready()
+        if self._is_stopped:
+            raise refused(kept.STOPPED, 0, self.graph)
+        return pile
+
+    def _add(self, vertex: int, amount: int) -> None:
+        """Notes a drop."""
+        self._game[0][vertex] += amount
+        self._total += amount
+
+    def _add_all(self, at: Sequence[int], amounts: Sequence[int]) -> None:
+        """Notes drops, all at once: a fork in between sees none of them."""
+        start, limit = self._game
+        start = start[:]
+        for vertex, amount in zip(at, amounts):
+            start[vertex] += amount
+        self._total += sum(amounts)
+        self._game = (start, limit)
+
+    def ends(self) -> tuple[Sequence[int], Sequence[int]]:
+        """The chips that lie there and the counts, by the numbers of the vertices, as the pile has them: with no call of
+        Python for each."""
+        with self._alone():
+            left, fired = self._ends()
+            return (self.graph.with_loops(left) if self.graph.loops else left), fired
+
+    def _ends(self) -> tuple[Sequence[int], Sequence[int]]:
+        """The chips and the counts at the end, without loops."""
+        pile = self._ready()
+        if pile:
+            return pile.chips(), pile.fired()
+        assert self._end is not None
+        return self._end
+
+    def _report(self) -> Report:
+        left, fired = self._ends()
+        degrees = self._free.degrees()
+        over = [at for at, degree in enumerate(degrees) if 0 < degree <= left[at]]
+        chips = tuple(self.graph.with_loops(left))
+        return Report(chips, tuple(fired), tuple(over), graph=self.graph)
+
+    def _let_go(self, is_whole: bool) -> None:
+        """Frees the library's pile. If it is whole, its chips and counts stay known, and else they are to be found."""
+        pile = self._kept
+        if pile is not None:
+            self._end = (pile.chips(), pile.fired()) if is_whole else None
+            self._kept = None
+            if pile.is_own:
+                pile.free()
+
+    def _by_library(self, pile: kept.KeptPile, at: array[int], amounts: array[int]) -> Drops | None:
+        """Drops on the library's pile; None if they are too long for this process."""
+        columns = [array("Q", bytes(8 * len(at))) for _ in range(3)]
+        made = 0
+        number = 0
+
+        def call(where: Any, many: Any, rows: list[Any]) -> bool:
+            nonlocal made, number
+            number, drop = pile.drops(where, many, rows)
+            made += drop if number else len(where)
+            return number == 0
+
+        in_calls(call, at, amounts, columns)
+        if number and not self._is_last_word(number):
+            return None
+        fallen = made + (number != 0)
+        self._add_all(at[:fallen], amounts[:fallen])
+        self._is_stopped = number != 0
+        size, extent, lost = shown([column[:made] for column in columns])
+        return Drops(size, extent, lost, self._report())
+
+    def _by_program(self, at: array[int], amounts: array[int]) -> Drops:
+        """Drops that the program plays."""
+        if self._kept is not None:
+            self._let_go(is_whole=True)
+        self._ready_by_program()
+        assert self._end is not None
+        (left, fired), (_, limit) = self._end, self._game
+        names = [self._free.names[vertex] for vertex in at]
+        found = drops(self._free, list(left), names, amounts=amounts, program=self._program)
+        counts = [*map(operator.add, fired, found.report.fired)]
+        if found.report.closed and max(counts, default=0) <= limit:
+            self._add_all(at, amounts)
+            self._end = found.report.chips, counts
+            return Drops(found.size, found.extent, found.lost, self._report())
+        return self._one_by_one(at, amounts)
+
+    def _ready_by_program(self) -> None:
+        """Has chips and counts known without the library's pile."""
+        if self._end is None:
+            start, limit = self._game
+            told = plain(self._free, list(start), limit=limit, program=self._program)
+            self._end = told.chips, told.fired
+            self._is_stopped = not told.closed
+
+    def _one_by_one(self, at: array[int], amounts: array[int]) -> Drops:
+        """Drops of which the limit may stop one: the play of all chips together tells of each what it adds."""
+        columns = [array("Q") for _ in range(3)]
+        for vertex, amount in zip(at, amounts):
+            assert self._end is not None
+            left, fired = self._end
+            self._add(vertex, amount)
+            start, limit = self._game
+            told = plain(self._free, list(start), limit=limit, guess=fired, program=self._program)
+            self._end = told.chips, told.fired
+            self._is_stopped = not told.closed
+            if self._is_stopped:
+                break
+            more = [*map(operator.sub, told.fired, fired)]
+            sink = self.graph.sink
+            brought = told.chips[sink] - left[sink] - (amount if vertex == sink else 0)
+            for column, count in zip(columns, (sum(more), sum(map(bool, more)), brought)):
+                column.append(count)
+        size, extent, lost = shown(columns)
+        return Drops(size, extent, lost, self._report())
+
+
+def _limit(limit: int | None, usual: int) -> int:
+    return usual if limit is None else as_int(limit, "limit", 0, MAX_LIMIT)
+
+
+def _refuse_more(amounts: Sequence[int], graph: Graph, total: int = 0) -> None:
+    """Refuses the first of these amounts with which there are too many chips, with those that are there."""
+    if total + sum(amounts) > MAX_CHIPS:
+        for place, amount in enumerate(amounts):
+            total += amount
+            if total > MAX_CHIPS:
+                raise refused(10, place, graph)

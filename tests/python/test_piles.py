@@ -1,0 +1,253 @@
+"""Piles that are kept: against the slow player, by the library and by the program, on threads, in forked children, and
+collected by any thread."""
+import copy
+import gc
+import itertools
+import pickle
+import random
+import subprocess
+import sys
+import threading
+import unittest
+from unittest import mock
+
+import chipfire
+from chipfire.backend import kept, library
+from strategies import drawn
+from test_counts import slow_report
+from test_drops import game_with_drops, rows_of
+from test_library import IS_HERE
+from test_package import CHIPS_FILE, TRIANGLE, TRIANGLE_FILE
+
+
+def stepped(graph, chips, drops, limit=2**40):
+    """The row of each drop that the limit lets end, and the report of all chips until then, by the slow player."""
+    start, report, rows = list(chips), slow_report(graph, chips, limit), []
+    for vertex, amount in drops if report.closed else ():
+        start[vertex] += amount
+        after = slow_report(graph, start, limit)
+        more = [now - before for now, before in zip(after.fired, report.fired)]
+        lost = after.chips[graph.sink] - report.chips[graph.sink] - amount * (vertex == graph.sink)
+        report = after
+        if not report.closed:
+            break
+        rows.append((sum(more), sum(map(bool, more)), lost))
+    return rows, report
+
+
+def dropped(pile, drops):
+    """The rows of drops, one call for each."""
+    return [tuple(pile.drop(*drop)) for drop in drops]
+
+
+class Rows(unittest.TestCase):
+    def test_the_triangle_by_hand(self):
+        for graph, chips in itertools.product((TRIANGLE, TRIANGLE_FILE), ([4, 0, 0], {0: 4}, CHIPS_FILE)):
+            with chipfire.Pile(graph, chips) as pile:
+                self.assertEqual((pile.chips, pile.fired, pile.is_stopped), ((1, 0, 3), (2, 1, 0), False))
+                self.assertEqual(pile.drop(2), (0, 0, 0))
+                self.assertEqual(pile.drop(0), chipfire.Drop(size=1, extent=1, lost=1))
+                self.assertEqual(rows_of(pile.drops([1], amounts=[2])), [(1, 1, 1)])
+                self.assertEqual((pile.chips, pile.fired), ((1, 1, 6), (3, 2, 0)))
+                self.assertEqual((pile.configuration, pile.report.total), ({0: 1, 1: 1}, (3, 2, 0)))
+                pile.put({1: 1})
+                self.assertEqual((pile.chips, pile.fired), ((0, 1, 0), (0, 0, 0)))
+        self.assertEqual(chipfire.Pile(TRIANGLE).chips, (0, 0, 0))
+
+    @drawn(game_with_drops, 12)
+    def test_rows_are_those_of_the_slow_player(self, game):
+        graph, chips, drops = game
+        rows, report = stepped(graph, chips, drops)
+        at, amounts = zip(*drops)
+        with chipfire.Pile(graph, chips) as pile:
+            self.assertEqual(dropped(pile, drops), rows)
+            self.assertEqual((pile.report, pile.chips, pile.fired), (report, report.chips, report.fired))
+            pile.put(chips)
+            found = pile.drops(at, amounts=amounts)
+            self.assertEqual((rows_of(found), found.report), (rows, report))
+
+    @drawn(game_with_drops, 8)
+    def test_a_limit_stops_the_game_or_a_drop(self, game):
+        graph, chips, drops = game
+        for limit in (0, 2, 12):
+            rows, report = stepped(graph, chips, drops, limit)
+            for program in (None, chipfire.find_program()):
+                with chipfire.Pile(graph, chips, limit, program=program) as pile:
+                    self.assertEqual(dropped(pile, drops[: len(rows)]), rows)
+                    for vertex, amount in drops[len(rows) : len(rows) + 2]:
+                        with self.assertRaisesRegex(chipfire.Fault, "fault 13 "):
+                            pile.drop(vertex, amount)
+                    self.assertEqual((pile.report, pile.is_stopped), (report, not report.closed))
+                    pile.put(chips)
+                    if not pile.is_stopped:
+                        at, amounts = zip(*drops)
+                        found = pile.drops(at, amounts=amounts)
+                        self.assertEqual((rows_of(found), found.report), (rows, report))
+
+    def test_what_is_refused_changes_nothing(self):
+        pile = chipfire.Pile(TRIANGLE, [4, 0, 0], 9)
+        before = pile.report
+        for refusal, said, call in [
+            (KeyError, "no vertex 7", lambda: pile.drop(7)), (KeyError, "no vertex 7", lambda: pile.drops([0, 7])),
+            (ValueError, "below 0", lambda: pile.drop(0, -1)), (TypeError, "whole number", lambda: pile.drop(0, 0.5)),
+            (chipfire.Fault, "fault 10 Total", lambda: pile.drop(0, 2**40)),
+            (chipfire.Fault, "fault 10 Total", lambda: pile.drops([0, 2], amounts=[1, 2**40])),
+            (chipfire.Fault, "fault 10 Total", lambda: pile.put([0, 2**40, 1])),
+            (ValueError, "below 0", lambda: pile.put([-1, 0, 0])), (ValueError, "limit is", lambda: pile.put(0, -1)),
+            (ValueError, "2 drops, and 1 amount", lambda: pile.drops([0, 1], amounts=[1])),
+        ]:
+            with self.subTest(said), self.assertRaisesRegex(refusal, said):
+                call()
+            self.assertEqual(pile.report, before)
+        with self.assertRaisesRegex(chipfire.Fault, "fault 8"):
+            chipfire.Pile(chipfire.Graph(3, 2, [(0, 1), (1, 0)]))
+
+    def test_loops(self):
+        graph = chipfire.Graph(3, 2, TRIANGLE.edges, loops=[3, 0, 0])
+        with chipfire.Pile(graph, [7, 0, 0]) as pile:
+            self.assertEqual((pile.chips, pile.drop(0), pile.chips), ((4, 0, 3), (1, 1, 1), (3, 1, 4)))
+
+    def test_a_closed_pile_says_so(self):
+        pile = chipfire.Pile(TRIANGLE, 1)
+        pile.close()
+        pile.close()
+        for call in (lambda: pile.drop(0), lambda: pile.chips, lambda: pile.put(0), lambda: pickle.dumps(pile)):
+            with self.assertRaisesRegex(ValueError, "the pile is closed"):
+                call()
+        self.assertIn("closed", repr(pile))
+
+    def test_copies_and_pickles_go_on_alone(self):
+        for limit in (None, 3):
+            pile = chipfire.Pile(TRIANGLE, [4, 0, 0], limit)
+            pile.drop(1)
+            for other in (copy.copy(pile), copy.deepcopy(pile), pickle.loads(pickle.dumps(pile))):
+                self.assertEqual(other.report, pile.report)
+                before = pile.report
+                self.assertEqual(other.drop(2, 5), (0, 0, 0))
+                self.assertEqual((pile.report, other.chips[2]), (before, before.chips[2] + 5))
+
+    def test_what_is_too_long_for_this_process_the_program_plays(self):
+        drops = [(0, 1), (1, 30), (0, 2), (2, 5), (1, 1)]
+        rows, report = stepped(TRIANGLE, [9, 9, 0], drops)
+        for work in (0, 7 * 20, 7 * 40, 7 * 70, 7 * 200):
+            with mock.patch.object(library, "MOST_WORK", work):
+                pile = chipfire.Pile(TRIANGLE, [9, 9, 0])
+                self.assertEqual((dropped(pile, drops), pile.report), (rows, report))
+                pile.put([9, 9, 0])
+                found = pile.drops([0, 1, 0, 2, 1], amounts=[1, 30, 2, 5, 1])
+                self.assertEqual((rows_of(found), found.report), (rows, report))
+
+
+class Threads(unittest.TestCase):
+    def on_threads(self, works):
+        threads = [threading.Thread(target=it) for it in works]
+        for it in threads:
+            it.start()
+        for it in threads:
+            it.join()
+
+    def test_threads_share_a_pile(self):
+        """In whatever order their drops fall, all chips together leave the same and fire as often."""
+        graph = chipfire.grid(6, 5)
+        pile = chipfire.Pile(graph, 2)
+        part = 40 if IS_HERE else 3
+        self.on_threads([lambda at=at: [pile.drop(at) for _ in range(part)] for at in range(8)])
+        start = [2 + part * (at < 8) for at in range(30)]
+        self.assertEqual(pile.report, slow_report(graph, [*start, 0]))
+
+    def test_threads_drop_on_one_graph(self):
+        graph = chipfire.grid(6, 5)
+        wanted = rows_of(chipfire.drops(graph, 3, range(20)))
+        found = []
+        self.on_threads([lambda: found.append(rows_of(chipfire.drops(graph, 3, range(20)))) for _ in range(6)])
+        self.assertEqual(found, [wanted] * 6)
+
+    @unittest.skipUnless(IS_HERE, "the library is not called")
+    def test_any_thread_closes_or_collects(self):
+        for end in (chipfire.Pile.close, lambda pile: pile.__dict__.clear()):
+            pile = chipfire.Pile(TRIANGLE, 3)
+            free = pile._kept.free
+            pile.circle = [pile]
+            self.assertTrue(free.alive)
+            holder = [pile]
+            del pile
+            self.on_threads([lambda: (end(holder.pop()), gc.collect())])
+            self.assertFalse(free.alive)
+        piles = [chipfire.Pile(TRIANGLE, 3) for _ in range(50)]
+        frees = [pile._kept.free for pile in piles]
+        for pile in piles:
+            pile.circle = pile
+        del pile, piles
+        self.on_threads([gc.collect])
+        self.assertFalse(any(free.alive for free in frees))
+
+
+@unittest.skipUnless(IS_HERE, "the library is not called")
+class Kept(unittest.TestCase):
+    def counted(self, graph, work):
+        """How many piles are made meanwhile."""
+        with mock.patch.object(kept, "KeptPile", side_effect=kept.KeptPile) as made:
+            work(graph)
+        return made.call_count
+
+    def test_a_graph_keeps_a_pile_from_call_to_call(self):
+        graph = chipfire.grid(5, 5)
+        self.assertEqual(self.counted(graph, lambda it: chipfire.drops(it, 3, [0, 1])), 1)
+        self.assertEqual(self.counted(graph, lambda it: [chipfire.drops(it, 3, [0, 1]) for _ in range(3)]), 0)
+        self.assertEqual(self.counted(pickle.loads(pickle.dumps(graph)), lambda it: chipfire.drops(it, 3, [0])), 1)
+        with self.assertRaisesRegex(chipfire.Fault, "fault 10"):
+            chipfire.drops(graph, [2**40] * 26, [0])
+        with mock.patch.object(kept, "_MOST_BYTES", 100):
+            graph = chipfire.grid(5, 5)
+            self.assertEqual(self.counted(graph, lambda it: [chipfire.drops(it, 3, [0]) for _ in range(3)]), 3)
+
+    def test_many_calls_begin_the_counts_anew(self):
+        draw, graph = random.Random(5), chipfire.grid(4, 4)
+        drops = [(draw.randrange(16), draw.randint(0, 3)) for _ in range(300)]
+        rows, report = stepped(graph, [3] * 16 + [0], drops)
+        at, amounts = zip(*drops)
+        for work in (80 * 60, 80 * 150, 2**28):
+            with mock.patch.object(library, "MOST_WORK", work):
+                found = chipfire.drops(graph, 3, at, amounts=amounts)
+            self.assertEqual((rows_of(found), found.report), (rows, report))
+
+
+FORK = """
+import os, sys, threading, chipfire
+grid = chipfire.grid(5, 5)
+pile = chipfire.Pile(grid, 3)
+other = chipfire.Pile(grid, 3)
+pile.drop(7); other.drop(7)
+stop = threading.Event()
+if sys.argv[1] == "threads":
+    threading.Thread(target=stop.wait).start()
+child = os.fork()
+if child == 0:
+    has_library = chipfire.find_library() is not None
+    same = [pile.report == other.report, pile.drop(12, 9) == other.drop(12, 9), pile.report == other.report]
+    same.append(chipfire.drops(grid, 3, [1, 2]).report == chipfire.plain(grid, [3 + (at in (1, 2)) for at in range(25)]))
+    is_own = pile._kept is not None and pile._kept.is_own
+    del pile
+    other.close()
+    print(has_library, is_own, all(same), flush=True)
+    os._exit(0)
+os.waitpid(child, 0)
+stop.set()
+print(pile.report == other.report, pile.drop(12, 9) == other.drop(12, 9), flush=True)
+"""
+
+
+class Forks(unittest.TestCase):
+    def told(self, word):
+        run = [sys.executable, "-c", FORK, word]
+        return subprocess.run(run, stdout=subprocess.PIPE, encoding="ascii", check=True, timeout=100).stdout.split()
+
+    def test_a_child_makes_a_pile_of_its_own(self):
+        self.assertEqual(self.told("none"), [str(IS_HERE)] * 2 + ["True"] * 3)
+
+    def test_a_child_of_a_process_with_threads_asks_the_program(self):
+        self.assertEqual(self.told("threads"), ["False"] * 2 + ["True"] * 3)
+
+
+if __name__ == "__main__":
+    unittest.main()

@@ -182,6 +182,13 @@ def forms():
         yield from some() if library else ()
 
 
+def put_on_a_pile(chips):
+    """A pile with these chips in place of others."""
+    pile = chipfire.Pile(GRID, 5)
+    pile.put(chips)
+    return pile
+
+
 #: Each public function that takes chips, or numbers in the forms of chips, called with one form.
 OF_CHIPS = {
     "Graph.chips": GRID.chips, "Graph.numbers": GRID.numbers,
@@ -192,7 +199,8 @@ OF_CHIPS = {
     "guess": lambda it: chipfire.plain(GRID, 9, guess=GRID.numbers(it) if isinstance(it, chipfire.Report) else it),
     "verify": lambda it: chipfire.verify(GRID, it, [0] * 7),
     "verify, counts": lambda it: chipfire.verify(GRID, 3, GRID.numbers(it) if isinstance(it, chipfire.Report) else it),
-    "drops": lambda it: chipfire.drops(GRID, it, [2, 2]).report, "stabilize": lambda it: chipfire.stabilize(GRID, it),
+    "drops": lambda it: chipfire.drops(GRID, it, [2, 2]).report, "Pile": lambda it: chipfire.Pile(GRID, it).report,
+    "put": lambda it: put_on_a_pile(it).report, "stabilize": lambda it: chipfire.stabilize(GRID, it),
     "add, first": lambda it: chipfire.add(GRID, it, 1), "add, second": lambda it: chipfire.add(GRID, 1, it),
     "is_stable": lambda it: chipfire.is_stable(GRID, it), "is_recurrent": lambda it: chipfire.is_recurrent(GRID, it),
     "is_superstable": lambda it: chipfire.is_superstable(GRID, it),
@@ -216,7 +224,7 @@ OF_GRAPHS = {
     ).split()},
     **{it: lambda graph, it=it: getattr(chipfire, it)(graph, 1) for it in (
         "Configuration Divisor is_recurrent is_stable is_superstable plain recurrent_representative run stabilize"
-        " superstable_representative random_recurrent"
+        " superstable_representative random_recurrent Pile"
     ).split()},
     **{it: lambda graph, it=it: next(iter(getattr(chipfire, it)(graph))) for it in ("recurrents", "superstables")},
     **{it: lambda graph, it=it: getattr(chipfire, it)(graph, 1, []) for it in (
@@ -437,6 +445,7 @@ class Table(unittest.TestCase):
             lambda it: chipfire.drops(GRID, 3, it).size.tolist(), group.element,
             lambda it: chipfire.drops(GRID, 3, [2] * 4, amounts=it).size.tolist(),
             lambda it: [found.size for found in chipfire.avalanches(GRID, 3, it)],
+            lambda it: chipfire.Pile(GRID, 3).drops(it).size.tolist(),
         ):
             wanted = call([0, 1, 1, 4])
             for form, told in values_in_order():

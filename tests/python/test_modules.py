@@ -54,6 +54,9 @@ class Own(chipfire.model.Core):
         return super().is_closed()
 print(chipfire.random_schedule(setting, 1, Own).note("last"), chipfire.judge(setting, []).is_true, found)
 print(chipfire.drops(grid, chips, chipfire.random_drops(grid, 9, 1), amounts=[1] * 9).histogram()[0], setting)
+with chipfire.Pile(grid, chips, 9) as pile:
+    size: int = pile.drop(4, 2).size
+    print(size, pile.drops([1, 2], amounts=[3, 4]).size, pile.chips[0] + pile.fired[0], pile.report, pile.is_stopped)
 print(chipfire.stabilize_many(grid, [chips, 4])[0], chipfire.are_recurrent(grid, [chips])[0], chipfire.find_library())
 print(chipfire.chains(grid, 2, 3, 1).size, chipfire.random_recurrent(grid, 1))
 log = chipfire.model_log(setting, Own, []) + chipfire.read_json_lines([], channel=lambda it: it["to"])

@@ -2,7 +2,7 @@
 import unittest
 
 import chipfire
-from chipfire import Graph, Setting, drops, explain, plain, resume, verify
+from chipfire import Graph, Pile, Setting, drops, explain, plain, resume, verify
 from test_package import TRIANGLE
 
 GRID = chipfire.grid(3, 2)
@@ -90,6 +90,10 @@ CALLS = [
     (lambda: drops(GRID, {}, [[1, 1]]), KeyError, "the graph has no vertex [1, 1]"),
     (lambda: drops(GRID, {}, 3), TypeError, "the vertices of drops are one for each drop, and not 3"),
     (lambda: drops(GRID, {}, [0], amounts=2), TypeError, "the amounts of drops are one for each drop, and not 2"),
+    (lambda: Pile(GRID).drop(7), KeyError, "the graph has no vertex 7"),
+    (lambda: Pile(GRID).drop(0, 0.5), TypeError, "the number of chips is no whole number: 0.5"),
+    (lambda: Pile(GRID, limit=-1), ValueError, "limit is below 0: -1"),
+    (lambda: Pile(GRID, TURNED.max_stable()), ValueError, "the configuration is one of another graph"),
     (lambda: drops(GRID, TURNED.max_stable(), [0]), ValueError, "the configuration is one of another graph"),
     (lambda: chipfire.avalanches(GRID, 3, 4), TypeError, "the vertices of avalanches are one for each drop, and not 4"),
     (lambda: chipfire.avalanche(GRID, 3, [1, 1]), KeyError, "the graph has no vertex [1, 1]"),

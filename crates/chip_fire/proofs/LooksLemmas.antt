@@ -5,7 +5,7 @@ use Rattle.std.proofs.Common.{length, slice_index, sym, ap, subst, arith, eqb-tr
 use Rattle.std.proofs.Math.Nat.{mul-add, add-mul, div-le_self}
 use Rattle.chip_graph.specs.ChipGame.{ChipGame}
 use Rattle.chip_graph.proofs.SumLemmas.{by_test, sum_below_le}
-use Rattle.chip_fire.specs.Rounds.{AreRounds, firings_left}
+use Rattle.chip_fire.specs.Rounds.{AreRounds, GoesRound, firings_left}
 use Rattle.chip_fire.specs.Search.{FewLooks, places}
 
 module _ (g : ChipGame) where
@@ -36,6 +36,33 @@ module _ (g : ChipGame) where
   pub looks_at_end : (fired fired' : List ℕ) (before after : ℕ) → FewLooks g fired fired' before after true
       → FewLooks g fired fired' before after false
   looks_at_end fired fired' before after is = record { more = is.more; few = (let a = is.few in omega arith) }
+
+  -- those of turns in which some vertex fired: each counts for as many as the game has vertices and edges at most
+  pub few_turns : (fired fired' : List ℕ) (turns each before after : ℕ)
+      → firings_left g.graph g.limit fired' + turns ≤ firings_left g.graph g.limit fired → each ≤ places g
+      → before ≤ after → after ≤ before + turns * each → FewLooks g fired fired' before after true
+  few_turns fired fired' turns each before after each_fires few more some = record {
+    more = more;
+    few = (let a = mul-le-mul_left (places g) each_fires in
+        let b = mul-add (places g) (firings_left g.graph g.limit fired') turns in
+        let c = mul-le-mul_left turns few in
+        let d = mul_comm turns (places g) in omega arith);
+  }
+
+  -- a round after some turns
+  pub goes_after : (fired mid chips' fired' : List ℕ) (any : Bool)
+      → firings_left g.graph g.limit mid ≤ firings_left g.graph g.limit fired → GoesRound g mid chips' fired' any
+      → GoesRound g fired chips' fired' any
+  goes_after fired mid chips' fired' true fewer is = record {
+    begun = is.begun;
+    some_fired = (let a = is.some_fired in omega arith);
+    none_fired = is.none_fired;
+  }
+  goes_after fired mid chips' fired' false fewer is = record {
+    begun = is.begun;
+    some_fired = is.some_fired;
+    none_fired = is.none_fired;
+  }
 
   -- those of rounds: at each vertex in each round, and in the one that found the end, and at each edge in each turn
   pub few_rounds : (fired fired' : List ℕ) (n most turns before after v e m p x : ℕ) → AreRounds g fired fired' n 0 turns

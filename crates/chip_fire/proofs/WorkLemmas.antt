@@ -1,15 +1,16 @@
 -- Serves WorkList.antt.
 -- A play by a work list, turn by turn.
 use Rattle.std.proofs.Common.{◌≡◌, ◌≢◌, ℕ, ◌+◌, ◌-◌, ◌*◌, ◌<◌, ◌≤◌, Bool, true, false, eqb, List}
-use Rattle.std.proofs.Common.{[], ◌∷◌, ◌++◌, length, take, sum_by, get_or, set, slice_index, refl, sym, ◌∙◌}
+use Rattle.std.proofs.Common.{[], ◌∷◌, ◌++◌, length, take, drop, suc, ap, sum_by, get_or, set, slice_index, refl, sym, ◌∙◌}
 use Rattle.std.proofs.Common.{subst, arith, ⊎_elim, get_or-set_same, get_or-set_other, length-set}
 use Rattle.std.proofs.Common.{mul-le-mul_left, mul-add, Some}
 use Rattle.std.proofs.lemmas.Bool.{eqb-false}
 use mir.Val.{bool_byte}
+use borrow.Rule.Slice.PartMut.{put_mid, post_of}
 use Rattle.std.specs.Prelude.{All, Contains}
 use Rattle.std.proofs.lemmas.List.{take-set, take_more, take_more_set, take_all, ext_get_or}
 use Rattle.std.proofs.lemmas.List.Sums.{get_or-le-sum_by, sum_by_more_le}
-use Rattle.std.proofs.lemmas.List.Elements.{All-push, All-pop}
+use Rattle.std.proofs.lemmas.List.Elements.{All-push, All-pop, All-head, All-tail, Contains-append_cases}
 use Rattle.std.proofs.lemmas.List.Elements.{All-contains, Contains-push, Contains-push_cases}
 use Rattle.std.proofs.lemmas.List.Elements.{Contains-append_left}
 use mathlib.Core.Logic.{dite}
@@ -23,7 +24,7 @@ use Rattle.chip_sequence.proofs.BatchLemmas.{sent_all}
 use Rattle.chip_fire.specs.Rounds.{IsInRange, StaysOnTheWay}
 use Rattle.chip_fire.proofs.PlayLemmas.{turn_stays}
 use Rattle.chip_fire.specs.WorkList.{AreListed, IsSent, HasSupport}
-use Rattle.std.proofs.lemmas.List.{length-take-le, get_or-take}
+use Rattle.std.proofs.lemmas.List.{length-take-le, get_or-take, length-drop, get_or-drop, drop_more, drop_at, length-append, take-append-le}
 use Rattle.std.proofs.lemmas.List.Elements.{All-from_get_or as all_from_get_or, Contains-get_or as contains_get_or}
 use Rattle.chip_sequence.specs.Firing.{legal_vertices}
 use Rattle.chip_sequence.proofs.LegalLemmas.{legal_vertices_law}
@@ -91,6 +92,55 @@ listed_taken G chips work h has so_far is_vertex each few =
     (All-pop (λ (v : ℕ). v < G.vertices) (work ++ h ∷ []) work (Some h) refl so_far.vertices).0
     (λ u ne is. ⊎_elim (λ has. has) (λ e. absurd (ne e)) (Contains-push_cases work h u is))
     (λ other enough. absurd (omega arith))
+
+-- the first one goes to the end
+listed_turned : (G : Multigraph) (chips : List ℕ) (x : ℕ) (xs : List ℕ) → AreListed G chips (x ∷ xs)
+    → AreListed G chips (xs ++ x ∷ [])
+listed_turned G chips x xs listed = record {
+  vertices = All-push (λ (v : ℕ). v < G.vertices) xs x (All-tail (λ (v : ℕ). v < G.vertices) x xs listed.vertices)
+      (All-head (λ (v : ℕ). v < G.vertices) x xs listed.vertices);
+  legal = λ v can. ⊎_elim
+      (λ here. ⊎_elim (λ none. absurd (let a = none.1 in omega arith)) (λ e. subst (Contains (xs ++ x ∷ [])) e (Contains-push xs x))
+      (Contains-push_cases [] x v here))
+      (λ there. Contains-append_left xs (x ∷ []) v there)
+      (Contains-append_cases (x ∷ []) xs v (listed.legal v can));
+}
+
+-- the first of a queue
+pub queue_first : (G : Multigraph) (chips queue : List ℕ) (first n : ℕ) → AreListed G chips (take n (drop first queue))
+    → 0 < n → first + n ≤ length queue
+    → AreListed G chips (take (n - 1) (drop (first + 1) queue) ++ get_or queue first 0 ∷ [])
+    × (get_or queue first 0 < G.vertices)
+queue_first G chips queue first n listed some room =
+    let e : n ≡ suc (n - 1) = omega arith in
+    let l : first < length queue = omega arith in
+    let x : ℕ = get_or queue first 0 in
+    let xs : List ℕ = drop (first + 1) queue in
+    let turned = listed_turned G chips x (take (n - 1) xs) (subst (AreListed G chips)
+    (ap (take n) (drop_more queue first 0 l) ∙ ap (λ (m : ℕ). take m (x ∷ xs)) e) listed) in
+    (turned, All-contains (λ (v : ℕ). v < G.vertices) _ _ turned.vertices (Contains-push (take (n - 1) xs) x))
+
+-- a queue that is moved to the front is the same
+pub queue_moved : (queue queue' : List ℕ) (first n : ℕ) → first + n ≤ length queue → length queue' ≡ length queue
+    → ((k : ℕ) → k < n → get_or queue' k 0 ≡ get_or queue (first + k) 0) → take n queue' ≡ take n (drop first queue)
+queue_moved queue queue' first n room each moved =
+    let a = length-take-le n queue' (omega arith) in
+    let b = length-drop first queue in
+    let c = length-take-le n (drop first queue) (omega arith) in
+    ext_get_or 0 (take n queue') (take n (drop first queue)) (omega arith)
+    (λ i l. let m : i < n = omega arith in get_or-take n queue' i 0 m ∙ moved i m
+    ∙ sym (get_or-take n (drop first queue) i 0 m ∙ get_or-drop first queue i 0))
+
+-- what is put behind the first a of a queue
+pub queue_put : (a k n : ℕ) (xs ys : List ℕ) → a ≤ length xs → n ≤ length ys
+    → (take n (drop a (put_mid a k xs ys)) ≡ take n ys) × (a + n ≤ length (put_mid a k xs ys))
+queue_put a k n xs ys room few =
+    let each = length-take-le a xs room in
+    let b = length-append (take a xs) (ys ++ post_of a k xs) in
+    let c = length-append ys (post_of a k xs) in (
+      ap (take n) (drop_at (take a xs) (ys ++ post_of a k xs) a each) ∙ take-append-le n ys (post_of a k xs) few,
+      omega arith,
+    )
 
 -- ---- one turn
 

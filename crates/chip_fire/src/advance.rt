@@ -5,7 +5,7 @@ ghost use Rattle.chip_fire.specs.Search.{FewLooks, IsShort};
 
 use crate::play::Play;
 use crate::soon::looks_at_all;
-use crate::tuning::{STRETCH, TURN};
+use crate::tuning::{PART_OF_TURN, STRETCH, TURN};
 use crate::watch::Watch;
 use chip_guess::{AHEAD, Hierarchy, Search};
 use std::alloc::Global;
@@ -17,7 +17,7 @@ impl Play<'_> {
         ensures { self.new.game ≡ self.old.game }
     {
         let mut played = 0u64;
-        if self.ends_soon(&mut played, watch) {
+        if self.ends_soon(alloc, &mut played, watch) {
             return;
         }
         let Ok(before) = Vec::from_slice(alloc, &self.fired) else {
@@ -64,7 +64,8 @@ impl Play<'_> {
                 break;
             }
             watch.searches(&search);
-            if part == due && self.ends_within(all.saturating_mul(TURN), played, watch) {
+            let turn = all.saturating_mul(TURN).max(*played / PART_OF_TURN);
+            if part == due && self.ends_within(alloc, turn, played, watch) {
                 return None;
             }
         }

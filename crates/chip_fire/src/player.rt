@@ -56,6 +56,6 @@ impl Play<'_> {
     {
         self.advance(alloc, watch);
         let mut looks = 0u64;
-        'stretches: while self.rounds(STRETCH, &mut looks, watch) {}
+        'stretches: while self.stretch(alloc, STRETCH, &mut looks, watch) {}
     }
 }

@@ -12,12 +12,14 @@ use crate::tuning::STRETCH;
 use crate::watch::Watch;
 use chip_graph::{Game, Graph};
 use chip_sequence::fire_batch;
+use std::alloc::Global;
 
 impl Play<'_> {
-    /// Makes rounds until one fires no vertex or `most` looks are made; whether one fired none. The looks are added to
+    /// Goes on until a round fires no vertex or `most` looks are made; whether one fired none. The looks are added to
     /// `looks`, up to 2^64 - 1.
     pub(crate) fn ends_within<W: Watch>(
         &mut self,
+        alloc: Global,
         most: u64,
         looks: &mut u64,
         watch: &mut W,
@@ -28,11 +30,31 @@ impl Play<'_> {
         let end = looks.saturating_add(most);
         'stretches: while *looks < end {
             let part = (end - *looks).min(STRETCH);
-            if !self.rounds(part, looks, watch) {
+            if !self.stretch(alloc, part, looks, watch) {
                 return true;
             }
         }
         false
+    }
+
+    /// Goes on by a queue while few vertices are legal, and by rounds for what is left of `most` looks, one round at
+    /// least; whether each round fired a vertex. The looks are added to `looks`, up to 2^64 - 1.
+    #[tactic(auto, using(crate::proofs::LooksLemmas::looks_more, crate::proofs::LooksLemmas::goes_after))]
+    pub(crate) fn stretch<W: Watch>(
+        &mut self,
+        alloc: Global,
+        most: u64,
+        looks: &mut u64,
+        watch: &mut W,
+    ) -> bool
+        ensures same { self.new.game ≡ self.old.game }
+        ensures round { GoesRound self.old.game self.old.fired self.new.chips self.new.fired result }
+        ensures few { FewLooks self.old.game self.old.fired self.new.fired looks.old looks.new result }
+    {
+        let before = *looks;
+        let _ = self.work_off_few(alloc, most, looks);
+        let rest = most.saturating_sub(*looks - before);
+        self.rounds(rest, looks, watch)
     }
 
     /// Makes rounds until one fires no vertex or `most` looks are made, one round at least, and tells `watch` how far

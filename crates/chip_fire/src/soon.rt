@@ -4,7 +4,7 @@ ghost use Rattle.std.specs.Prelude.{◌≡◌, ◌+◌, not, length};
 ghost use Rattle.chip_fire.specs.Search.{FewLooks};
 
 use crate::play::Play;
-use crate::tuning::{FEW_LOOKS, FIRST_LOOKS, LOOKS_OF_FEW, VERTICES_PER_CHIP};
+use crate::tuning::{FEW_LOOKS, FIRST_LOOKS, LOOKS_OF_FEW, LOOKS_OF_LIST, VERTICES_PER_CHIP};
 use crate::watch::Watch;
 use crate::work_list::is_legal;
 use chip_graph::Graph;
@@ -20,19 +20,25 @@ impl Play<'_> {
         if waits == 0 || waits > few {
             return;
         }
-        let _ = self.work_off_all(alloc);
+        let all = looks_at_all(self.game.graph());
+        let _ = self.work_off_few(alloc, all.saturating_mul(LOOKS_OF_LIST), &mut 0);
         let most = if self.waiting_chips() > few {
-            looks_at_all(self.game.graph()).saturating_mul(LOOKS_OF_FEW)
+            all.saturating_mul(LOOKS_OF_FEW)
         } else {
             0
         };
-        self.ends_within(most, &mut 0, watch);
+        self.ends_within(alloc, most, &mut 0, watch);
     }
 
     /// Plays for as long as this takes it soon to an end: each time with twice the work, while that halves the chips that
     /// wait to move or the limit leaves little to do. Whether the play has ended. The looks are added to `looks`, which
     /// are none before.
-    pub(crate) fn ends_soon<W: Watch>(&mut self, looks: &mut u64, watch: &mut W) -> bool
+    pub(crate) fn ends_soon<W: Watch>(
+        &mut self,
+        alloc: Global,
+        looks: &mut u64,
+        watch: &mut W,
+    ) -> bool
         ensures same { self.new.game ≡ self.old.game }
         ensures few { FewLooks self.old.game self.old.fired self.new.fired looks.old looks.new (not result) }
     {
@@ -46,7 +52,7 @@ impl Play<'_> {
                 return false;
             }
             waited = waits;
-            if self.ends_within(work, looks, watch) {
+            if self.ends_within(alloc, work, looks, watch) {
                 return true;
             }
             work = work.saturating_mul(2);

@@ -9,6 +9,15 @@ pub(crate) const FEW_LOOKS: u64 = 480;
 /// How many looks at each vertex and edge the play makes in each of its turns beside a search.
 pub(crate) const TURN: u64 = 4;
 
+/// Which part of its looks the play makes at least in a turn, so that turns grow with the play: ring-one-way.
+pub(crate) const PART_OF_TURN: u64 = 4;
+
+/// How many looks one in a work list counts for, since it lies anywhere: peak-511.
+pub(crate) const LOOKS_OF_LISTED: u64 = 4;
+
+/// How many looks at each vertex and edge are made by a work list, if few chips wait.
+pub(crate) const LOOKS_OF_LIST: u64 = 256;
+
 /// How many looks lie about between two times that it is told how far a play has come: some milliseconds.
 pub(crate) const STRETCH: u64 = 1 << 20;
 

@@ -1,5 +1,7 @@
-use Rattle.std.proofs.Common.{◌<◌, length, arith}
+use Rattle.std.proofs.Common.{◌<◌, get_or, length, arith}
 use Rattle.std.proofs.lemmas.List.{take-set, take_more_set}
+use Rattle.chip_sequence.proofs.BoundLemmas.{some_degree}
+use Rattle.chip_fire.proofs.PlayLemmas.{quotient_some, turn_less}
 use Rattle.chip_fire.proofs.WorkLemmas.{sent_none, sent_room, sent_step, listed_push, listed_same, turned}
 use Rattle.chip_fire.proofs.work_list.turn.Goals as goal
 use Rattle.chip_fire.proofs.work_list.turn.Goals.{then-had-degree+then-degree-has, else-had-degree}
@@ -50,3 +52,16 @@ returns-clause-turned c =
     (let a = c.if-k-limit.false in let b = c.requires.in_range.low_counts c.args.vertex in omega arith)
     _ _ c.loop-link.link-index (rw c.links-links.ensures at c.loop-link-test.false)
     (rw (degree, c.links-links.ensures) at c.loop-link.invariant.sent)
+
+pub returns-clause-fires : goal.returns-clause-fires
+returns-clause-fires c =
+    let degree = c.out_degree-degree.ensures in
+    let can = c.requires.legal in
+    let some = some_degree c.args.graph.now c.requires.in_range.graph_fits c.args.vertex can.is_vertex can.not_sink in
+    let value = c.times_in-k.ensures.value in
+    let enough = can.enough_chips in
+    let one = quotient_some (get_or c.args.chips.now c.args.vertex 0) c.out_degree-degree.result (omega arith) (omega arith) in
+    let low = c.requires.in_range.low_counts c.args.vertex in
+    let room = c.if-k-limit.false in
+    (turn_less c.args.graph.now c.args.limit c.args.chips.now c.args.fired.now c.requires.in_range c.args.vertex
+    c.times_in-k.result can.is_vertex (omega arith) (omega arith)).0

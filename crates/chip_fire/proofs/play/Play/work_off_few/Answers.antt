@@ -1,0 +1,31 @@
+use Rattle.std.proofs.Common.{◌≡◌, ℕ, ◌++◌, ◌≤◌, List, take, drop, length, slice_index, ap, ◌∙◌, arith}
+use Rattle.std.proofs.lemmas.Grind.{common_steps}
+use Rattle.chip_fire.specs.Search.{places}
+use Rattle.chip_fire.proofs.LooksLemmas.{few_turns}
+use Rattle.chip_fire.proofs.WorkLemmas.{listed_front}
+use Rattle.chip_fire.proofs.play.Play.work_off_few.Goals as goal
+
+pub work_off_in_turn-turns-requires-clause-legal : goal.work_off_in_turn-turns-requires-clause-legal
+work_off_in_turn-turns-requires-clause-legal c =
+    let play = c.self.inside in
+    let legal = rw (c.graph-graph.ensures.value, c.deref-2.ensures.value) at c.in_ok-queue.ensures in
+    let listed : c.len-listed.result ≡ length c.in_ok-queue.queue.items =
+    (let a = c.in_ok-queue.queue.ok.0 in let b = c.len-listed.ensures in omega arith) in
+    rw c.deref_mut-2.ensures.value (listed_front play.game.now.graph play.chips.items _ _
+    (listed ∙ ap length legal)
+    (let a = c.deref_mut.ensures.len in let b = c.in_ok-resize.ensures.len in omega arith)
+    (λ i l. ap (λ (xs : List ℕ). slice_index xs i) c.deref_mut.ensures.value
+    ∙ c.in_ok-resize.ensures.by_index.0 i 0 (omega arith) (omega arith)
+    ∙ ap (λ (xs : List ℕ). slice_index xs i) legal))
+
+pub returns-clause-few : goal.returns-clause-few
+returns-clause-few c =
+    let fired = c.work_off_in_turn-turns.new.fired in
+    let fires = rw c.deref_mut-3.ensures.value at c.work_off_in_turn-turns.ensures.each_fires in
+    let all = rw c.graph-graph.ensures.value at c.looks_at_all.ensures in
+    let each : c.min-of_turn.result ≤ places c.self.inside.game.now = (let a = c.min-of_turn.ensures in omega arith) in
+    let few = few_turns c.self.inside.game.now c.self.inside.fired.items fired c.work_off_in_turn-turns.result
+    c.min-of_turn.result c.args.looks.now c.saturating_add.result fires each (omega arith) (omega arith) in
+    let same : take c.self.inside.fired.len (fired ++ drop (length fired) c.self.inside.fired.items) ≡ fired =
+    grind (arith, common_steps) in
+    rw (← c.self.view_is, same) few

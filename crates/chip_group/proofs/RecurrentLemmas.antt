@@ -13,7 +13,7 @@ use Rattle.chip_group.proofs.FiresToLemmas.{stable_below, agree, then_fires, the
 use Rattle.chip_group.proofs.FiresToLemmas.{some_end, one_end, one_odometer, joins, inflow_same, fires_all}
 
 module _ (G : Multigraph) where
-  inflow_add : (f h : ℕ → ℕ) (u : ℕ) → inflow G (λ v. f v + h v) u ≡ inflow G f u + inflow G h u
+  pub inflow_add : (f h : ℕ → ℕ) (u : ℕ) → inflow G (λ v. f v + h v) u ≡ inflow G f u + inflow G h u
   inflow_add f h u = tested_ext _ (λ e. eqb (edge_at G e).head u) _ _
       (λ e l on. mul-add (edge_at G e).mult (f (edge_at G e).tail) (h (edge_at G e).tail))
       ∙ tested_add _ (λ e. eqb (edge_at G e).head u) _ _
@@ -49,7 +49,7 @@ module _ (G : Multigraph) where
         let rest = most_from vs h (fired_once G v y) (led_on G x f y v to can.enough_chips) low' ok.1 u in
         omega (arith, counts_more v u vs)
 
-    most_fired : {y : ℕ → ℕ} (way : FiresTo G x y) (u : ℕ) → counts way.firings u ≤ most u
+    pub most_fired : {y : ℕ → ℕ} (way : FiresTo G x y) (u : ℕ) → counts way.firings u ≤ most u
     most_fired way u =
         let none = inflow_none G (λ z. 0) (λ z. refl) in
         omega (
@@ -322,7 +322,7 @@ module _ (G : Multigraph) where
         }
 
     -- a recurrent configuration that is equivalent to no chips is the identity
-    neutral : (e : ℕ → ℕ) → IsRecurrent G e → AreEquivalent G (λ v. 0) e → IsIdentity G e
+    pub neutral : (e : ℕ → ℕ) → IsRecurrent G e → AreEquivalent G (λ v. 0) e → IsIdentity G e
     neutral e rec (f, g, same) = record {
       recurrent = rec;
       neutral = λ c rec'.

@@ -1,0 +1,6 @@
+mod Names
+pub mod StabilizationLemmas
+pub mod BurningLemmas
+pub mod RowLemmas
+pub mod EquivalentLemmas
+pub mod RecurrentLemmas

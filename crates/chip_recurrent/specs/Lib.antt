@@ -1,0 +1,9 @@
+pub use Rattle.chip_graph.specs.Multigraph
+pub use Rattle.chip_sequence.specs.Sequence
+pub use Rattle.chip_sequence.specs.Certificate
+pub use Rattle.chip_group.specs.Recurrent
+pub mod Stabilizations
+pub mod Burning
+pub mod Rows
+pub mod Recurrents
+pub mod Representatives

@@ -1,0 +1,99 @@
+//! The least burning script of a graph.
+
+ghost use Rattle.std.specs.Prelude.{◌≡◌, ℕ, ◌<◌, ◌+◌, ◌-◌, ◌^◌, length, min, slice_index, IfOk, MatchResult};
+ghost use Rattle.chip_graph.specs.Multigraph.{degree};
+ghost use Rattle.chip_sequence.specs.Certificate.{in_degree};
+ghost use Rattle.chip_group.specs.Recurrent.{EachNonSink};
+ghost use Rattle.chip_recurrent.specs.Stabilizations.{IsFaultOfRow};
+ghost use Rattle.chip_recurrent.specs.Burning.{burning_start, IsBurning};
+
+use crate::fault::RowFault;
+use crate::stabilization::stabilized_sum;
+use chip_graph::Graph;
+use std::alloc::{AllocError, Global};
+
+/// A graph with its least burning script and the chips of that.
+#[derive(Drop)]
+pub struct Burning {
+    pub graph: Graph,
+    /// How often each vertex fires.
+    pub script: Vec<u64>,
+    /// How many chips these firings take from each vertex on balance.
+    pub chips: Vec<u64>,
+}
+
+/// The burning script of which each vertex fires least often (Speer, Asymmetric abelian sandpile models, 1993). It is one
+/// more than the odometer of a stabilization: of one chip less on each vertex than edges lead in.
+pub fn burning_script(alloc: Global, graph: Graph) -> Result<Burning, RowFault>
+    ensures { MatchResult result (λ b. (b.graph ≡ graph) × IsBurning graph b.script.items b.chips.items)
+        (IsFaultOfRow graph (burning_start graph) 0) }
+{
+    let start = start_to_burn(alloc, &graph)?;
+    let end = stabilized_sum(alloc, graph, &start, &[], 0)?;
+    let script = one_more(alloc, &end.graph, &end.fired)?;
+    let chips = burning_chips(alloc, &end.graph, &end.chips)?;
+    Ok(Burning {
+        graph: end.graph,
+        script,
+        chips,
+    })
+}
+
+/// One chip less on each vertex than edges lead in, or none.
+fn start_to_burn(alloc: Global, graph: &Graph) -> Result<Vec<u64>, AllocError>
+    ensures each { IfOk result (λ start. length start.items ≡ graph.now.vertices) }
+    ensures start { IfOk result (λ start. (v : ℕ) → v < graph.now.vertices
+        → slice_index start.items v ≡ burning_start graph.now v) }
+{
+    let mut start = Vec::new(alloc);
+    for vertex in 0..graph.vertices() {
+        start.push(in_degree(graph, vertex).saturating_sub(1))?;
+    }
+    Ok(start)
+}
+
+/// One firing more of each vertex but the sink.
+fn one_more(alloc: Global, graph: &Graph, fired: &[u64]) -> Result<Vec<u64>, AllocError>
+    requires each { length fired.now ≡ graph.now.vertices }
+    requires few { (v : ℕ) → slice_index fired.now v < 2 ^ 63 }
+    ensures each { IfOk result (λ script. length script.items ≡ graph.now.vertices) }
+    ensures script { IfOk result (λ script. EachNonSink graph.now
+        (λ v. slice_index script.items v ≡ slice_index fired.now v + 1)) }
+    ensures sink { IfOk result (λ script. slice_index script.items graph.now.sink ≡ 0) }
+{
+    let mut script = Vec::from_slice(alloc, fired)?;
+    for count in script.iter_mut() {
+        *count += 1;
+    }
+    script[graph.sink() as usize] = 0;
+    Ok(script)
+}
+
+/// The chips of the script, by the end of the stabilization.
+fn burning_chips(alloc: Global, graph: &Graph, ends: &[u64]) -> Result<Vec<u64>, AllocError>
+    requires each { length ends.now ≡ graph.now.vertices }
+    requires few { (v : ℕ) → v < graph.now.vertices → slice_index ends.now v < 2 ^ 63 }
+    ensures each { IfOk result (λ chips. length chips.items ≡ graph.now.vertices) }
+    ensures chips { IfOk result (λ chips. (v : ℕ) → v < graph.now.vertices
+        → slice_index chips.items v ≡ degree graph.now v - (slice_index ends.now v + min (in_degree graph.now v) 1)) }
+{
+    let mut chips = Vec::new(alloc);
+    for vertex in 0..graph.vertices() {
+        let left = ends[vertex as usize] + in_degree(graph, vertex).min(1);
+        chips.push(graph.out_degree(vertex).saturating_sub(left))?;
+    }
+    Ok(chips)
+}
+
+/// How many chips come into a vertex if each tail fires once.
+fn in_degree(graph: &Graph, vertex: u64) -> u64
+    requires { vertex < graph.now.vertices }
+    ensures { result ≡ in_degree graph.now vertex }
+{
+    let edges = graph.edges();
+    let mut all = 0u64;
+    for e in graph.ins(vertex) {
+        all += edges[*e as usize].mult;
+    }
+    all
+}

@@ -1,0 +1,18 @@
+//! Burning scripts, recurrent and superstable configurations, and the identity of the sandpile group, by stabilizations.
+//!
+//! Each call takes a graph and returns it, so that no play checks it again. Chips on the sink do not count, and what is
+//! returned has none there.
+#![tactic(auto)]
+
+pub use burning::{Burning, burning_script};
+pub use classes::{Form, identity, representatives};
+pub use fault::RowFault;
+pub use recurrent::are_recurrent;
+pub use stabilization::{Stabilized, stabilized_sum};
+
+mod burning;
+mod classes;
+mod fault;
+mod recurrent;
+mod rows;
+mod stabilization;
